@@ -16,9 +16,9 @@ use Rattle.fuse_spec.specs.Values.Maps.{Map, get}
 use Rattle.fuse_spec.specs.Kernel.Messages.{WireReply}
 use Rattle.fuse_spec.specs.Values.Numbers.{counter_end, max_transfer}
 use Rattle.fuse_spec.specs.Files.Operations as reply
-use Rattle.fuse_spec.specs.Files.Operations.{Operation, DirentPlus, files_in_reply, files_told}
+use Rattle.fuse_spec.specs.Files.Operations.{Operation, DirentPlus, files_in_reply, files_listed}
 use Rattle.fuse_spec.specs.Kernel.QueueCalls.{waiting, without}
-use Rattle.fuse_spec.specs.Kernel.Replies.{Use, usable, useless, stale, first_use, use_of, counted_more, learnt, judged, reply_received, goes_with, reply_judged, use_of_reply, without_stale, reply_written}
+use Rattle.fuse_spec.specs.Kernel.Replies.{Use, usable, useless, stale, first_use, use_of, counted_more, looked_up, judged, reply_received, goes_with, reply_judged, use_of_reply, without_stale, reply_written}
 use Rattle.fuse_spec.specs.Files.Trees.{pair_length}
 use Rattle.fuse_spec.specs.Calls.Vfs.{CallState, walking, doing, using, asked}
 use Rattle.fuse_spec.proofs.Tables.{get_put_here}
@@ -28,10 +28,10 @@ use Rattle.fuse_spec.specs.Files.AskedOperations.{operation_of}
 use Rattle.fuse_spec.specs.declared.asked.Operation.{Operation as Asked}
 use Rattle.fuse_spec.specs.declared.asked.Operation.TheVariants as asks
 use Rattle.fuse_spec.specs.Kernel.Refusals.{is_counted_out}
-use Rattle.fk_nodes.specs.Learning.{learnt_from, AreBelow, SomeOut}
-use Rattle.fk_nodes.proofs.Judged.{learnt_is}
+use Rattle.fk_nodes.specs.LookedUp.{looked_up_from, AreBelow, SomeOut}
+use Rattle.fk_nodes.proofs.Judged.{looked_up_is}
 use Rattle.fk_nodes.proofs.Outs.{out_below, some_out, none_out, one_below, sorted_from}
-use Rattle.fk_kernel.specs.Entries.{Awaits, IsFew, learnt_by_all, nodes_heard}
+use Rattle.fk_kernel.specs.Entries.{Awaits, IsFew, looked_up_by_all, nodes_heard}
 use Rattle.fk_kernel.proofs.Replied.{goes_is, wrong_is, ended}
 
 -- ---- what leaves the counts as they are
@@ -52,7 +52,7 @@ asking_nodes k call (Some operation) = refl
 -- ---- what a reply makes of them
 
 judged_nodes : (k : Kernel) (call : ℕ) (state : CallState Opened) (wire : WireReply) (u : Use)
-    → (judged k call state wire u).nodes ≡ learnt_by_all k.nodes (files_in_reply wire) u
+    → (judged k call state wire u).nodes ≡ looked_up_by_all k.nodes (files_in_reply wire) u
 judged_nodes k call state wire usable = asking_nodes _ call _
 judged_nodes k call state wire useless = refl
 judged_nodes k call state wire (stale node) = refl
@@ -78,49 +78,49 @@ module _ (k : Kernel) (unique call : ℕ) (even : nat_eq (unique % 2) 1 ≡ fals
 
 -- an entry that can be used
 pub one_out : (nodes : Map Counted) (g : Entry) → T (is_sorted nat_cmp nodes)
-    → T (is_sorted nat_cmp (learnt nodes (g ∷ []))) → AreBelow nodes → (b : Bool)
-    → nat_le counter_end (counted_more g (get nodes g.nodeid)).count ≡ b → is_counted_out (learnt nodes (g ∷ [])) ≡ b
+    → T (is_sorted nat_cmp (looked_up nodes (g ∷ []))) → AreBelow nodes → (b : Bool)
+    → nat_le counter_end (counted_more g (get nodes g.nodeid)).count ≡ b → is_counted_out (looked_up nodes (g ∷ [])) ≡ b
 one_out nodes g sorted after below true out =
     let most : counter_end ≤ (counted_more g (get nodes g.nodeid)).count = at_least counter_end _ out in
-    some_out (learnt nodes (g ∷ [])) g.nodeid (counted_more g (get nodes g.nodeid))
+    some_out (looked_up nodes (g ∷ [])) g.nodeid (counted_more g (get nodes g.nodeid))
     (get_put_here nodes g.nodeid (counted_more g (get nodes g.nodeid))) most
   where
     at_least : (m n : ℕ) → nat_le m n ≡ true → m ≤ n
     at_least m n is = grind (arith, nat_tests)
 one_out nodes g sorted after below false within =
     let less : (counted_more g (get nodes g.nodeid)).count < counter_end = at_most counter_end _ within in
-    none_out (learnt nodes (g ∷ [])) after (one_below nodes g below less)
+    none_out (looked_up nodes (g ∷ [])) after (one_below nodes g below less)
   where
     at_most : (m n : ℕ) → nat_le m n ≡ false → n < m
     at_most m n is = grind (arith, nat_tests)
 
-fits_at : (nodes : Map Counted) (g : Entry) → is_counted_out (learnt nodes (g ∷ [])) ≡ false
+fits_at : (nodes : Map Counted) (g : Entry) → is_counted_out (looked_up nodes (g ∷ [])) ≡ false
     → (counted_more g (get nodes g.nodeid)).count < counter_end
-fits_at nodes g none = (out_below (learnt nodes (g ∷ [])) none).below g.nodeid (counted_more g (get nodes g.nodeid))
+fits_at nodes g none = (out_below (looked_up nodes (g ∷ [])) none).below g.nodeid (counted_more g (get nodes g.nodeid))
     (get_put_here nodes g.nodeid (counted_more g (get nodes g.nodeid)))
 
 -- Where no count comes to its end, one lookup more of the node of a usable entry fits.
 pub entry_fits : (nodes : Map Counted) (g : Entry) → use_of nodes g ≡ usable
-    → is_counted_out (learnt_by_all nodes (g ∷ []) (first_use (use_of nodes g) usable)) ≡ false
+    → is_counted_out (looked_up_by_all nodes (g ∷ []) (first_use (use_of nodes g) usable)) ≡ false
     → (counted_more g (get nodes g.nodeid)).count < counter_end
 entry_fits nodes g is none = fits_at nodes g (subst
-    (λ (u : Use). is_counted_out (learnt_by_all nodes (g ∷ []) (first_use u usable)) ≡ false) is none)
+    (λ (u : Use). is_counted_out (looked_up_by_all nodes (g ∷ []) (first_use u usable)) ≡ false) is none)
 
 -- The names of a list.
 pub pairs_below : (nodes : Map Counted) (pairs : List (DirentPlus Entry))
-    → is_counted_out (nodes_heard nodes (reply.listed_plus pairs)) ≡ false → AreBelow (learnt_from nodes pairs)
-pairs_below nodes pairs none = out_below (learnt_from nodes pairs)
-    (subst (λ (m : Map Counted). is_counted_out m ≡ false) (learnt_is nodes pairs) none)
+    → is_counted_out (nodes_heard nodes (reply.listed_plus pairs)) ≡ false → AreBelow (looked_up_from nodes pairs)
+pairs_below nodes pairs none = out_below (looked_up_from nodes pairs)
+    (subst (λ (m : Map Counted). is_counted_out m ≡ false) (looked_up_is nodes pairs) none)
 
 -- whether one of them brings a count to its end
 pub pairs_out : (nodes : Map Counted) (pairs : List (DirentPlus Entry)) → T (is_sorted nat_cmp nodes) → (b : Bool)
-    → (b ≡ true → SomeOut (learnt_from nodes pairs)) → (b ≡ false → AreBelow (learnt_from nodes pairs))
+    → (b ≡ true → SomeOut (looked_up_from nodes pairs)) → (b ≡ false → AreBelow (looked_up_from nodes pairs))
     → b ≡ is_counted_out (nodes_heard nodes (reply.listed_plus pairs))
 pairs_out nodes pairs sorted true out within =
     let past = out refl in
-    sym (ap is_counted_out (learnt_is nodes pairs) ∙ some_out (learnt_from nodes pairs) past.id past.counted past.at past.out)
+    sym (ap is_counted_out (looked_up_is nodes pairs) ∙ some_out (looked_up_from nodes pairs) past.id past.counted past.at past.out)
 pairs_out nodes pairs sorted false out within = sym
-    (ap is_counted_out (learnt_is nodes pairs) ∙ none_out (learnt_from nodes pairs) (sorted_from pairs nodes sorted)
+    (ap is_counted_out (looked_up_is nodes pairs) ∙ none_out (looked_up_from nodes pairs) (sorted_from pairs nodes sorted)
     (within refl))
 
 -- ---- a list with files has few names

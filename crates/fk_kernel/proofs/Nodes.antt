@@ -11,14 +11,14 @@ use Rattle.fuse_spec.specs.Values.Maps.{Map, get, put, remove}
 use Rattle.fuse_spec.specs.Kernel.Queues.{QueueState}
 use Rattle.fuse_spec.specs.Kernel.QueueCalls.{waiting, after_answer, without}
 use Rattle.fuse_spec.specs.declared.Entry.{Entry as NodeEntry}
-use Rattle.fuse_spec.specs.Kernel.Replies.{counted_more, learnt}
+use Rattle.fuse_spec.specs.Kernel.Replies.{counted_more, looked_up}
 use Rattle.fuse_spec.proofs.Tables.{get_put_here, get_put_there, get_gone_there}
 use Rattle.std.proofs.lemmas.Bool.{cases_eq}
 use Rattle.fk_lookup_count.proofs.NumberMaps.{sorted-filter}
 use Rattle.fk_kernel.proofs.Sound.{length_put}
 use Rattle.fuse_spec.specs.Values.Numbers.{counter_end}
 use Rattle.fuse_spec.specs.Files.Operations.{DirentPlus}
-use Rattle.fk_nodes.specs.Learning.{learnt_from, AreBelow}
+use Rattle.fk_nodes.specs.LookedUp.{looked_up_from, AreBelow}
 use Rattle.fk_nodes.proofs.Outs.{one_below, long_from}
 use Rattle.fk_kernel.specs.Soundness.{AreCounted}
 
@@ -42,17 +42,17 @@ none_counted forgets = record {
 }
 
 -- One lookup more is counted.
-pub learnt_counted : (nodes : Map Counted) (forgets more : ℕ) → AreCounted nodes forgets → length nodes + 1 ≤ more
+pub looked_up_counted : (nodes : Map Counted) (forgets more : ℕ) → AreCounted nodes forgets → length nodes + 1 ≤ more
     → (g : NodeEntry) → (counted_more g (get nodes g.nodeid)).count < counter_end
-    → AreCounted (learnt nodes (g ∷ [])) more
-learnt_counted nodes forgets more counted room g fits =
+    → AreCounted (looked_up nodes (g ∷ [])) more
+looked_up_counted nodes forgets more counted room g fits =
     let long = length_put nodes g.nodeid (counted_more g (get nodes g.nodeid)) in
     record { below = one_below nodes g counted.below fits; room = omega (arith, long, room) }
 
 -- The names of a list are counted.
 pub listed_counted : (nodes : Map Counted) (more : ℕ) (pairs : List (DirentPlus NodeEntry))
-    → AreBelow (learnt_from nodes pairs) → length nodes + length pairs ≤ more
-    → AreCounted (learnt_from nodes pairs) more
+    → AreBelow (looked_up_from nodes pairs) → length nodes + length pairs ≤ more
+    → AreCounted (looked_up_from nodes pairs) more
 listed_counted nodes more pairs below room =
     let long = long_from pairs nodes in
     record { below = below; room = omega (arith, long, room) }

@@ -15,7 +15,7 @@ use Rattle.fuse_spec.specs.Files.Operations as reply
 use Rattle.fuse_spec.specs.Files.Operations.{Operation, lookup, getattr, mkdir, create, unlink, rmdir, rename, link, opening, readdir, readdirplus, read, write, Dirent, DirentPlus}
 use Rattle.fuse_spec.specs.Calls.Paths.{Name}
 use Rattle.fuse_spec.specs.Kernel.QueueCalls.{waiting, without, after_forget}
-use Rattle.fuse_spec.specs.Kernel.Replies.{Use, usable, useless, stale, first_use, use_of, learnt, judged, reply_received, goes_with, kernel_reply, reply_written, request_reply_written, replied_to_call, replied, interrupt_reply_written, write_result_of, is_empty_reply, is_init_reply, is_agreement, made_ready}
+use Rattle.fuse_spec.specs.Kernel.Replies.{Use, usable, useless, stale, first_use, use_of, looked_up, judged, reply_received, goes_with, kernel_reply, reply_written, request_reply_written, replied_to_call, replied, interrupt_reply_written, write_result_of, is_empty_reply, is_init_reply, is_agreement, made_ready}
 use Rattle.fuse_spec.specs.Calls.Vfs.{Vfs, Advance, CallState, walking, doing, using, asked, answered, bound, opened_by, walks_on, no_more}
 use Rattle.fuse_spec.specs.Calls.Walks.{WalkPlan}
 use Rattle.fk_syscalls.specs.States.{StandsAt}
@@ -28,11 +28,11 @@ use Rattle.fk_kernel.proofs.Walking.{asks_past}
 use Rattle.fuse_spec.specs.declared.WriteResult.{WriteResult}
 use Rattle.std.specs.Prelude.{is_some, ◌||◌}
 use Rattle.fuse_spec.specs.Kernel.Replies.{each_forgotten}
-use Rattle.fuse_spec.specs.Calls.CallReplies.{names_told}
+use Rattle.fuse_spec.specs.Calls.CallReplies.{names_listed}
 use Rattle.fuse_spec.specs.Files.Operations.{pair_with}
 use Rattle.fuse_spec.specs.declared.Counted.{Counted}
-use Rattle.fk_nodes.specs.Learning.{learnt_from, stale_by, judged_in}
-use Rattle.fk_nodes.proofs.Judged.{learnt_is, settled, stale_settled, dirents_kept}
+use Rattle.fk_nodes.specs.LookedUp.{looked_up_from, stale_by, judged_in}
+use Rattle.fk_nodes.proofs.Judged.{looked_up_is, settled, stale_settled, dirents_kept}
 use Rattle.fk_kernel.proofs.CallStates.{asked_is, stays, found_unused, done_unused}
 
 -- the call is answered, and its request ends
@@ -216,7 +216,7 @@ module _ (k : Kernel) (unique call : ℕ) (even : nat_eq (unique % 2) 1 ≡ fals
 
   -- the kernel once the entry is counted and the request is ended
   abbrev pub knowing : Entry → Kernel
-  knowing g = record k { queues = without k.queues unique; nodes = learnt k.nodes (g ∷ []) }
+  knowing g = record k { queues = without k.queues unique; nodes = looked_up k.nodes (g ∷ []) }
 
   abbrev judged_so : CallState Opened → WireReply → Use → Kernel
   judged_so state wire outcome = after_use (judged (record k { queues = without k.queues unique }) call state wire
@@ -312,7 +312,7 @@ module _ (k : Kernel) (unique call : ℕ) (even : nat_eq (unique % 2) 1 ≡ fals
     abbrev listing_of : Map Counted → List (DirentPlus Entry) → List ℕ → List Dirent → Kernel
     listing_of nodes names back dirents = record k {
       vfs = answered (record k.vfs {
-        names = names_told k.vfs.clock directory k.vfs.names
+        names = names_listed k.vfs.clock directory k.vfs.names
             (map (pair_with (λ (g : Entry). g.nodeid)) names);
       }) call (answer.listing dirents);
       queues = each_forgotten (without k.queues unique) back;
@@ -320,8 +320,8 @@ module _ (k : Kernel) (unique call : ℕ) (even : nat_eq (unique % 2) 1 ≡ fals
     }
 
     abbrev pub listed_so : Kernel
-    listed_so = listing_of (learnt_from k.nodes pairs) (map (judged_in (learnt_from k.nodes pairs)) pairs)
-        (stale_by (learnt_from k.nodes pairs) pairs) (map (λ (pair : DirentPlus Entry). pair.dirent) pairs)
+    listed_so = listing_of (looked_up_from k.nodes pairs) (map (judged_in (looked_up_from k.nodes pairs)) pairs)
+        (stale_by (looked_up_from k.nodes pairs) pairs) (map (λ (pair : DirentPlus Entry). pair.dirent) pairs)
 
     pub list_done : (after size : ℕ) → get k.vfs.calls call ≡ Some (doing (readdirplus directory after size))
         → goes_with (readdirplus directory after size) (reply.listed_plus pairs) ≡ true
@@ -332,7 +332,7 @@ module _ (k : Kernel) (unique call : ℕ) (even : nat_eq (unique % 2) 1 ≡ fals
         (doing (readdirplus directory after size)) b (reply.listed_plus pairs)) goes
         ∙ (λ i. (
           Accepted,
-          listing_of (learnt_is k.nodes pairs i) (settled k.nodes pairs i)
+          listing_of (looked_up_is k.nodes pairs i) (settled k.nodes pairs i)
               (stale_settled k.nodes pairs i) (dirents_kept k.nodes pairs i),
         ))
 

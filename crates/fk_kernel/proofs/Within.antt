@@ -13,7 +13,7 @@ use Rattle.fuse_spec.specs.Kernel.Messages.{WireReply}
 use Rattle.fuse_spec.specs.Files.Operations as reply
 use Rattle.fuse_spec.specs.Files.Operations.{Operation, lookup, getattr, mkdir, create, unlink, rmdir, rename, link, opening, readdir, readdirplus, read, write, DirentPlus}
 use Rattle.fuse_spec.specs.Kernel.QueueCalls.{waiting, without, after_enqueue}
-use Rattle.fuse_spec.specs.Kernel.Replies.{Use, usable, useless, stale, use_of, goes_with, learnt, reply_written}
+use Rattle.fuse_spec.specs.Kernel.Replies.{Use, usable, useless, stale, use_of, goes_with, looked_up, reply_written}
 use Rattle.fuse_spec.specs.Kernel.Uniques.{numbers_left_from}
 use Rattle.fuse_spec.specs.Calls.Paths.{Name}
 use Rattle.fuse_spec.specs.Calls.Vfs.{CallState, walking, doing, using, asked, Advance, bound, walks_on}
@@ -176,7 +176,7 @@ pub walks_within : (k : Kernel) (unique call directory : ℕ) (word : Name) (wor
     (g : Entry) (valid : ℕ) → k.queues.next ≤ 2 ^ 62 → k.vfs.next_call ≤ 2 ^ 62
     → (is_some (walks_on (bound k.vfs directory word (Some g.nodeid) valid) call g.nodeid words plan).operation ≡ true
     → 0 < numbers_left_from k.queues.next)
-    → is_past_end (advanced (record k { queues = without k.queues unique; nodes = learnt k.nodes (g ∷ []) }) call
+    → is_past_end (advanced (record k { queues = without k.queues unique; nodes = looked_up k.nodes (g ∷ []) }) call
     (walks_on (bound k.vfs directory word (Some g.nodeid) valid) call g.nodeid words plan)) ≡ false
 walks_within k unique call directory word words plan g valid low few left =
     let next : Advance Opened = walks_on (bound k.vfs directory word (Some g.nodeid) valid) call g.nodeid words plan in
@@ -185,7 +185,7 @@ walks_within k unique call directory word words plan g valid low few left =
     asks_within (record k {
       vfs = next.vfs;
       queues = without k.queues unique;
-      nodes = learnt k.nodes (g ∷ []);
+      nodes = looked_up k.nodes (g ∷ []);
     }) call next.operation low (rw same_call few) left
 
 -- An entry finds a number for what the call asks next, where one is left.

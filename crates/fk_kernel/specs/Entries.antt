@@ -8,7 +8,7 @@ use Rattle.fuse_spec.specs.Kernel.Messages.{WireReply}
 use Rattle.fuse_spec.specs.Files.Operations.{Operation, lookup, mkdir, create, link, opening, readdirplus, files_in_reply}
 use Rattle.fuse_spec.specs.Files.Operations as reply
 use Rattle.fuse_spec.specs.Calls.Paths.{Name}
-use Rattle.fuse_spec.specs.Kernel.Replies.{Use, usable, useless, stale, goes_with, learnt, reply_judged, use_of_reply}
+use Rattle.fuse_spec.specs.Kernel.Replies.{Use, usable, useless, stale, goes_with, looked_up, reply_judged, use_of_reply}
 use Rattle.fuse_spec.specs.declared.Counted.{Counted}
 use Rattle.fuse_spec.specs.declared.Entry.{Entry}
 use Rattle.fuse_spec.specs.Values.Numbers.{counter_end}
@@ -92,11 +92,11 @@ IsFew (reply.listed_plus pairs) = length pairs < counter_end
 IsFew wire = Unit {0}
 
 -- The counts after the entries of a reply that are judged so.
-abbrev pub learnt_by_all : Map Counted → List Entry → Use → Map Counted
-learnt_by_all nodes entries usable = learnt nodes entries
-learnt_by_all nodes entries useless = nodes
-learnt_by_all nodes entries (stale node) = nodes
+abbrev pub looked_up_by_all : Map Counted → List Entry → Use → Map Counted
+looked_up_by_all nodes entries usable = looked_up nodes entries
+looked_up_by_all nodes entries useless = nodes
+looked_up_by_all nodes entries (stale node) = nodes
 
 -- The counts after a reply that goes with what a call asked.
 abbrev pub nodes_heard : Map Counted → WireReply → Map Counted
-nodes_heard nodes wire = learnt_by_all nodes (files_in_reply (reply_judged nodes wire)) (use_of_reply nodes wire)
+nodes_heard nodes wire = looked_up_by_all nodes (files_in_reply (reply_judged nodes wire)) (use_of_reply nodes wire)

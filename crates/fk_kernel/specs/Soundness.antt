@@ -11,7 +11,7 @@ use Rattle.fuse_spec.specs.declared.Opened.{Opened}
 use Rattle.fuse_spec.specs.declared.Phase.{Phase}
 use Rattle.fuse_spec.specs.Kernel.Kernel.{is_live}
 use Rattle.fuse_spec.specs.declared.Purpose.{Purpose}
-use Rattle.fk_nodes.specs.Learning.{AreBelow}
+use Rattle.fk_nodes.specs.LookedUp.{AreBelow}
 use Rattle.fk_queues.specs.Room.{Room}
 
 -- No call of the next number or a later one is there, none is both unanswered and answered, and there is room to answer

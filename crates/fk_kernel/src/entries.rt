@@ -9,7 +9,7 @@ ghost use Rattle.fuse_spec.specs.Values.Numbers.{counter_end, max_validity};
 ghost use Rattle.fuse_spec.specs.Files.Operations as reply;
 ghost use Rattle.fuse_spec.specs.Files.Operations.{opening};
 ghost use Rattle.fuse_spec.specs.Calls.Paths.{Name};
-ghost use Rattle.fuse_spec.specs.Kernel.Replies.{usable, use_of, counted_more, learnt, reply_written};
+ghost use Rattle.fuse_spec.specs.Kernel.Replies.{usable, use_of, counted_more, looked_up, reply_written};
 ghost use Rattle.fuse_spec.specs.declared.Opened.{Opened as OpenedFile};
 ghost use Rattle.fuse_spec.specs.Kernel.Refusals.{is_past_end, is_counted_out};
 ghost use Rattle.fuse_spec.specs.Kernel.QueueCalls.{after_forget, waiting, without};
@@ -49,7 +49,7 @@ fn bind_entry<A: Allocator + Copy, C: CountTable>(
     ensures names { OnOk result ((state : State OpenedFile) (place : Place) → get calls.now.entries call ≡ Some state
         → place_of (asked state) ≡ Some place → names.new.names
         ≡ put_name names.old.names place (record { target = Some entry.now.nodeid; until = until })) }
-    ensures nodes { OnOk result (nodes.new ≡ learnt nodes.old (entry.now ∷ [])) }
+    ensures nodes { OnOk result (nodes.new ≡ looked_up nodes.old (entry.now ∷ [])) }
 {
     let Some(waiting) = calls.get(call) else {
         return Ok(());

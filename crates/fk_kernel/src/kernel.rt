@@ -3,7 +3,7 @@
 ghost use Rattle.std.specs.Prelude.{◌≡◌, ◌<◌, ◌+◌, [], None, Ok, OnOk, OnErr, IfOk, IfErr, T, false, map};
 ghost use Rattle.fuse_spec.specs.Kernel.Kernel.{is_live, is_aborted, kernel_mounted};
 ghost use Rattle.fuse_spec.specs.Kernel.Refusals.{is_ready, is_busy, is_counted_out, is_past_end, or_no_memory};
-ghost use Rattle.fk_nodes.specs.Learning.{AreBelow};
+ghost use Rattle.fk_nodes.specs.LookedUp.{AreBelow};
 ghost use Rattle.std.specs.FinMap.{is_sorted};
 ghost use Rattle.std.specs.Ordering.{nat_cmp};
 ghost use Rattle.fuse_spec.specs.World.Worlds.{first_kernel};

@@ -9,11 +9,11 @@ ghost use Rattle.fuse_spec.specs.Kernel.Replies.{reply_written};
 ghost use Rattle.fuse_spec.specs.Calls.Vfs.{doing};
 ghost use Rattle.fk_kernel.specs.Entries.{Awaits, ListsPlus, IsFew, nodes_heard};
 ghost use Rattle.fuse_spec.specs.Kernel.Refusals.{is_counted_out};
-ghost use Rattle.fk_nodes.specs.Told.{pairs_in};
+ghost use Rattle.fk_nodes.specs.ListedFiles.{pairs_in};
 
 use crate::kernel::KernelOf;
 use fk_lookup_count::CountTable;
-use fk_nodes::{forget_stale, learn_and_bind, names_listed, pair_count};
+use fk_nodes::{forget_stale, count_and_bind, names_listed, pair_count};
 use fk_queues::QueueTable;
 use fk_syscalls::Answer;
 use fk_wire::RecordsPlus;
@@ -51,7 +51,7 @@ impl<Q: QueueTable<Purpose> + Drop, C: CountTable<Heap = Q::Heap> + Drop> Kernel
             return Err(Refusal::NoMemory);
         };
         let (names, nodes) = (&mut self.names, &mut self.nodes);
-        let Ok(()) = learn_and_bind(names, nodes, directory, self.clock, pairs) else {
+        let Ok(()) = count_and_bind(names, nodes, directory, self.clock, pairs) else {
             return Err(Refusal::NoMemory);
         };
         forget_stale(&mut self.queues, &self.nodes, pairs);

@@ -9,7 +9,7 @@ ghost use Rattle.fuse_spec.specs.Kernel.QueueCalls.{waiting};
 ghost use Rattle.fuse_spec.specs.Kernel.Uniques.{numbers_left_from};
 ghost use Rattle.fuse_spec.specs.Calls.Vfs.{asked};
 ghost use Rattle.fuse_spec.specs.Kernel.Replies.{usable, first_use, use_of, reply_written};
-ghost use Rattle.fk_kernel.specs.Entries.{Awaits, EndsWithin, LooksUp, IsFew, learnt_by_all, nodes_heard};
+ghost use Rattle.fk_kernel.specs.Entries.{Awaits, EndsWithin, LooksUp, IsFew, looked_up_by_all, nodes_heard};
 ghost use Rattle.fuse_spec.specs.Kernel.Refusals.{is_counted_out, is_past, is_past_end};
 ghost use Rattle.fk_kernel.specs.CallReplies.{IsCallReply, SaysNone};
 ghost use Rattle.fk_kernel.specs.Refused.{PassesEnd, WritePasses};
@@ -160,7 +160,7 @@ impl<Q: QueueTable<Purpose> + Drop, C: CountTable<Heap = Q::Heap> + Drop> Kernel
 
     /// Whether an entry would bring its node's count to the end of counters.
     fn entry_past(&self, entry: &Entry) -> bool
-        ensures { result ≡ is_counted_out (learnt_by_all self.now.nodes (entry.now ∷ [])
+        ensures { result ≡ is_counted_out (looked_up_by_all self.now.nodes (entry.now ∷ [])
             (first_use (use_of self.now.nodes entry.now) usable)) }
     {
         self.counts_within();

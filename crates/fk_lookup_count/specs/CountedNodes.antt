@@ -19,9 +19,9 @@ IsUnlike None generation = ⊥
 IsUnlike (Some node) generation = node.generation ≢ generation
 
 -- One more lookup of a node, the first or another.
-abbrev pub learnt : Map Counted → ℕ → ℕ → Option Counted → Map Counted
-learnt nodes id generation None = put nodes id (record { generation = generation; count = 1 })
-learnt nodes id generation (Some node) = put nodes id (record node { count = node.count + 1 })
+abbrev pub looked_up : Map Counted → ℕ → ℕ → Option Counted → Map Counted
+looked_up nodes id generation None = put nodes id (record { generation = generation; count = 1 })
+looked_up nodes id generation (Some node) = put nodes id (record node { count = node.count + 1 })
 
 -- The forget of a node's whole count, unless it is not counted.
 abbrev pub forget_of : ℕ → Option Counted → Option Forget

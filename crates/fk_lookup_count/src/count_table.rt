@@ -5,7 +5,7 @@ ghost use Rattle.std.specs.Ordering.{nat_cmp};
 ghost use Rattle.std.specs.Option.{ForSome};
 ghost use Rattle.fuse_spec.specs.Values.Maps.{Map, get, remove};
 ghost use Rattle.fuse_spec.specs.declared.Counted.{Counted};
-ghost use Rattle.fk_lookup_count.specs.CountedNodes.{count_at, generation_at, IsUnlike, learnt, forget_of, listed};
+ghost use Rattle.fk_lookup_count.specs.CountedNodes.{count_at, generation_at, IsUnlike, looked_up, forget_of, listed};
 
 use crate::forget::Forget;
 use crate::unlike::Unlike;
@@ -49,7 +49,7 @@ pub trait CountTable {
         requires room { has_room self.old id }
         requires fits { ForSome (get (counted self.old) id) (λ node. node.count + 1 < 2 ^ 64) }
         ensures unlike { IsErr result ↔ IsUnlike (get (counted self.old) id) generation }
-        ensures ok { OnOk result (counted self.new ≡ learnt (counted self.old) id generation
+        ensures ok { OnOk result (counted self.new ≡ looked_up (counted self.old) id generation
             (get (counted self.old) id)) }
         ensures err { OnErr result (counted self.new ≡ counted self.old) }
         ensures kept { (other : ℕ) → has_room self.old other → has_room self.new other };

@@ -1,6 +1,6 @@
 //! The nodes that the kernel counts: each node id with its generation, its lookup count.
 //!
-//! A lookup count says how many entry replies named a node since it was learnt. The server keeps the same count, and
+//! A lookup count says how many entry replies named a node since it was counted. The server keeps the same count, and
 //! takes it back by forgets (libfuse's low-level notes, "forget").
 #![tactic(auto)]
 

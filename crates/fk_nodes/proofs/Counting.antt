@@ -8,10 +8,10 @@ use Rattle.fuse_spec.specs.declared.Counted.{Counted}
 use Rattle.fuse_spec.specs.declared.Entry.{Entry}
 use Rattle.fuse_spec.specs.Values.Maps.{Map, get, put}
 use Rattle.fuse_spec.specs.Values.Numbers.{counter_end}
-use Rattle.fuse_spec.specs.Files.Operations.{DirentPlus, told_by}
+use Rattle.fuse_spec.specs.Files.Operations.{DirentPlus, listed_by}
 use Rattle.fuse_spec.specs.Kernel.Replies.{Use, usable, useless, stale, use_counted, use_of, counted_more}
 use Rattle.fuse_spec.proofs.Tables.{get_put_here, get_put_there}
-use Rattle.fk_nodes.specs.Learning.{learnt_by_use, learnt_told, learnt_from, tells, times_told, LeavesBelow, AreBelow, SomeOut}
+use Rattle.fk_nodes.specs.LookedUp.{looked_up_by_use, looked_up_listed, looked_up_from, tells, times_listed, LeavesBelow, AreBelow, SomeOut}
 
 itself : (n : ℕ) → nat_eq n n ≡ true
 itself n = elim (eqb_tells n n) [ inl h ↦ h.0 | inr h ↦ absurd (h.1 refl) ]
@@ -23,7 +23,7 @@ other m n ne = elim (eqb_tells m n) [ inl h ↦ absurd (ne h.1) | inr h ↦ h.0 
 
 -- of another node
 other_node : (nodes : Map Counted) (g : Entry) (u : Use) (id : ℕ) → id ≢ g.nodeid
-    → get (learnt_by_use nodes g u) id ≡ get nodes id
+    → get (looked_up_by_use nodes g u) id ≡ get nodes id
 other_node nodes g usable id ne = get_put_there nodes g.nodeid (counted_more g (get nodes g.nodeid)) id ne
 other_node nodes g useless id ne = refl
 other_node nodes g (stale node) id ne = refl
@@ -34,7 +34,7 @@ more_if told c = record c { count = cond told (c.count + 1) c.count }
 
 module _ (nodes : Map Counted) (id : ℕ) (c : Counted) (file : nat_lt id 2 ≡ false) (at : get nodes id ≡ Some c) where
   here_by : (g : Entry) → g.nodeid ≡ id → (b : Bool) → nat_eq c.generation g.generation ≡ b
-      → get (learnt_by_use nodes g (cond b usable (stale g.nodeid))) id ≡ Some (more_if b c)
+      → get (looked_up_by_use nodes g (cond b usable (stale g.nodeid))) id ≡ Some (more_if b c)
   here_by g same true is =
       let there : get nodes g.nodeid ≡ Some c = subst (λ (n : ℕ). get nodes n ≡ Some c) (sym same) at in
       let new = counted_more g (get nodes g.nodeid) in
@@ -55,10 +55,10 @@ module _ (nodes : Map Counted) (id : ℕ) (c : Counted) (file : nat_lt id 2 ≡ 
     | inr ne ↦ other m n ne ∙ sym (other n m (λ e. ne (sym e)))
   ]
 
-  told_once : (g : Entry) → get (learnt_told nodes (Some g)) id ≡ Some (more_if (tells id c.generation (Some g)) c)
+  told_once : (g : Entry) → get (looked_up_listed nodes (Some g)) id ≡ Some (more_if (tells id c.generation (Some g)) c)
   told_once g = elim (cases_eq g.nodeid id) [
     | inl same ↦
-        ap (λ (u : Use). get (learnt_by_use nodes g u) id) (use_here g same) ∙ here_by g same
+        ap (λ (u : Use). get (looked_up_by_use nodes g u) id) (use_here g same) ∙ here_by g same
         (nat_eq c.generation g.generation) refl
         ∙ ap (λ (b : Bool). Some (more_if b c)) (swapped c.generation g.generation ∙ sym
         (ap (λ (b : Bool). b && nat_eq g.generation c.generation)
@@ -68,27 +68,27 @@ module _ (nodes : Map Counted) (id : ℕ) (c : Counted) (file : nat_lt id 2 ≡ 
         (λ (b : Bool). Some (more_if (b && nat_eq g.generation c.generation) c)) (sym (other g.nodeid id ne))
   ]
 
-  pub counted_told : (o : Option Entry) → get (learnt_told nodes o) id ≡ Some (more_if (tells id c.generation o) c)
+  pub counted_told : (o : Option Entry) → get (looked_up_listed nodes o) id ≡ Some (more_if (tells id c.generation o) c)
   counted_told None = at
   counted_told (Some g) = told_once g
 
 -- The count of a node after the names of a list: one lookup more for each that tells it under its generation.
 pub counted_times : (pairs : List (DirentPlus Entry)) (nodes : Map Counted) (id : ℕ) (c : Counted)
     → nat_lt id 2 ≡ false → get nodes id ≡ Some c
-    → get (learnt_from nodes pairs) id ≡ Some (record c { count = c.count + times_told id c.generation pairs })
+    → get (looked_up_from nodes pairs) id ≡ Some (record c { count = c.count + times_listed id c.generation pairs })
 counted_times [] nodes id c file at = at ∙ ap (λ (n : ℕ). Some (record c { count = n })) (omega arith)
 counted_times (pair ∷ pairs) nodes id c file at =
-    by (tells id c.generation (told_by pair)) (counted_told nodes id c file at (told_by pair))
-    (λ (d : Counted) here. counted_times pairs (learnt_told nodes (told_by pair)) id d file here)
+    by (tells id c.generation (listed_by pair)) (counted_told nodes id c file at (listed_by pair))
+    (λ (d : Counted) here. counted_times pairs (looked_up_listed nodes (listed_by pair)) id d file here)
   where
-    by : (b : Bool) → get (learnt_told nodes (told_by pair)) id ≡ Some (more_if b c)
-        → ((d : Counted) → get (learnt_told nodes (told_by pair)) id ≡ Some d
-        → get (learnt_from (learnt_told nodes (told_by pair)) pairs) id
-        ≡ Some (record d { count = d.count + times_told id d.generation pairs }))
-        → get (learnt_from (learnt_told nodes (told_by pair)) pairs) id
+    by : (b : Bool) → get (looked_up_listed nodes (listed_by pair)) id ≡ Some (more_if b c)
+        → ((d : Counted) → get (looked_up_listed nodes (listed_by pair)) id ≡ Some d
+        → get (looked_up_from (looked_up_listed nodes (listed_by pair)) pairs) id
+        ≡ Some (record d { count = d.count + times_listed id d.generation pairs }))
+        → get (looked_up_from (looked_up_listed nodes (listed_by pair)) pairs) id
         ≡ Some (record c {
-          count = c.count + cond b (suc (times_told id c.generation pairs))
-              (times_told id c.generation pairs);
+          count = c.count + cond b (suc (times_listed id c.generation pairs))
+              (times_listed id c.generation pairs);
         })
     by true here rest = rest (more_if true c) here ∙ ap (λ (n : ℕ). Some (record c { count = n })) (omega arith)
     by false here rest = rest (more_if false c) here
@@ -96,34 +96,34 @@ counted_times (pair ∷ pairs) nodes id c file at =
 -- ---- the root and no node
 
 low_by : (nodes : Map Counted) (g : Entry) (id : ℕ) → nat_lt id 2 ≡ true
-    → get (learnt_told nodes (Some g)) id ≡ get nodes id
+    → get (looked_up_listed nodes (Some g)) id ≡ get nodes id
 low_by nodes g id low = elim (cases_eq id g.nodeid) [
   | inl same ↦
       let useless_is : use_of nodes g ≡ useless = ap (λ (b : Bool). cond b useless
       (use_counted g (get nodes g.nodeid))) (subst (λ (n : ℕ). nat_lt n 2 ≡ true) same low) in
-      ap (λ (u : Use). get (learnt_by_use nodes g u) id) useless_is
+      ap (λ (u : Use). get (looked_up_by_use nodes g u) id) useless_is
   | inr ne ↦ other_node nodes g (use_of nodes g) id ne
 ]
 
 low_told : (nodes : Map Counted) (o : Option Entry) (id : ℕ) → nat_lt id 2 ≡ true
-    → get (learnt_told nodes o) id ≡ get nodes id
+    → get (looked_up_listed nodes o) id ≡ get nodes id
 low_told nodes None id low = refl
 low_told nodes (Some g) id low = low_by nodes g id low
 
 low_stays : (pairs : List (DirentPlus Entry)) (nodes : Map Counted) (id : ℕ) → nat_lt id 2 ≡ true
-    → get (learnt_from nodes pairs) id ≡ get nodes id
+    → get (looked_up_from nodes pairs) id ≡ get nodes id
 low_stays [] nodes id low = refl
-low_stays (pair ∷ pairs) nodes id low = low_stays pairs (learnt_told nodes (told_by pair)) id low ∙ low_told nodes
-    (told_by pair) id low
+low_stays (pair ∷ pairs) nodes id low = low_stays pairs (looked_up_listed nodes (listed_by pair)) id low ∙ low_told nodes
+    (listed_by pair) id low
 
 -- ---- a node that is new
 
-pub times_few : (id generation : ℕ) (pairs : List (DirentPlus Entry)) → times_told id generation pairs ≤ length pairs
+pub times_few : (id generation : ℕ) (pairs : List (DirentPlus Entry)) → times_listed id generation pairs ≤ length pairs
 times_few id generation [] = omega arith
 times_few id generation (pair ∷ pairs) =
     let rest = times_few id generation pairs in
-    elim (tells id generation (told_by pair)) as (λ b. cond b (suc (times_told id generation pairs))
-    (times_told id generation pairs) ≤ length (pair ∷ pairs)) [ true ↦ omega arith | false ↦ omega arith ]
+    elim (tells id generation (listed_by pair)) as (λ b. cond b (suc (times_listed id generation pairs))
+    (times_listed id generation pairs) ≤ length (pair ∷ pairs)) [ true ↦ omega arith | false ↦ omega arith ]
 
 -- it is counted once, or not at all
 abbrev IsFresh : Option Counted → Type 0
@@ -135,7 +135,7 @@ fresh_more g None none = refl
 fresh_more g (Some c) none = absurd (cc)
 
 fresh_by : (nodes : Map Counted) (g : Entry) (u : Use) (id : ℕ) → get nodes id ≡ None
-    → IsFresh (get (learnt_by_use nodes g u) id)
+    → IsFresh (get (looked_up_by_use nodes g u) id)
 fresh_by nodes g usable id none = elim (cases_eq id g.nodeid) [
   | inl same ↦
       let new = counted_more g (get nodes g.nodeid) in
@@ -149,26 +149,26 @@ fresh_by nodes g useless id none = subst IsFresh (sym none) tt
 fresh_by nodes g (stale node) id none = subst IsFresh (sym none) tt
 
 fresh_told : (nodes : Map Counted) (o : Option Entry) (id : ℕ) → get nodes id ≡ None
-    → IsFresh (get (learnt_told nodes o) id)
+    → IsFresh (get (looked_up_listed nodes o) id)
 fresh_told nodes None id none = subst IsFresh (sym none) tt
 fresh_told nodes (Some g) id none = fresh_by nodes g (use_of nodes g) id none
 
 new_few : (pairs : List (DirentPlus Entry)) (nodes : Map Counted) (id : ℕ) (c : Counted) → nat_lt id 2 ≡ false
-    → get nodes id ≡ None → get (learnt_from nodes pairs) id ≡ Some c → c.count ≤ length pairs
+    → get nodes id ≡ None → get (looked_up_from nodes pairs) id ≡ Some c → c.count ≤ length pairs
 new_few [] nodes id c file none at = absurd (cc (none, at))
 new_few (pair ∷ pairs) nodes id c file none at =
-    by (get (learnt_told nodes (told_by pair)) id) refl (fresh_told nodes (told_by pair) id none)
-    (λ is. new_few pairs (learnt_told nodes (told_by pair)) id c file is at)
+    by (get (looked_up_listed nodes (listed_by pair)) id) refl (fresh_told nodes (listed_by pair) id none)
+    (λ is. new_few pairs (looked_up_listed nodes (listed_by pair)) id c file is at)
   where
-    by : (o : Option Counted) → get (learnt_told nodes (told_by pair)) id ≡ o → IsFresh o
-        → (get (learnt_told nodes (told_by pair)) id ≡ None → c.count ≤ length pairs) → c.count ≤ length (pair ∷ pairs)
+    by : (o : Option Counted) → get (looked_up_listed nodes (listed_by pair)) id ≡ o → IsFresh o
+        → (get (looked_up_listed nodes (listed_by pair)) id ≡ None → c.count ≤ length pairs) → c.count ≤ length (pair ∷ pairs)
     by None is fresh rest =
         let few = rest is in
         omega arith
     by (Some d) is fresh rest =
-        let told = counted_times pairs (learnt_told nodes (told_by pair)) id d file is in
-        let same : record d { count = d.count + times_told id d.generation pairs } ≡ c = cc (told, at) in
-        let count : d.count + times_told id d.generation pairs ≡ c.count = ap (λ (x : Counted). x.count) same in
+        let told = counted_times pairs (looked_up_listed nodes (listed_by pair)) id d file is in
+        let same : record d { count = d.count + times_listed id d.generation pairs } ≡ c = cc (told, at) in
+        let count : d.count + times_listed id d.generation pairs ≡ c.count = ap (λ (x : Counted). x.count) same in
         let few = times_few id d.generation pairs in
         omega arith
 
@@ -177,7 +177,7 @@ new_few (pair ∷ pairs) nodes id c file none at =
 module _ (nodes : Map Counted) (pairs : List (DirentPlus Entry)) (id : ℕ) (c : Counted) (file : nat_lt id 2 ≡ false)
     (at : get nodes id ≡ Some c) where
   abbrev times : ℕ
-  times = times_told id c.generation pairs
+  times = times_listed id c.generation pairs
 
   one_leaves : (o : Option Entry) → tells id c.generation o ≡ true → LeavesBelow nodes pairs o
       → c.count + times < counter_end
@@ -188,8 +188,8 @@ module _ (nodes : Map Counted) (pairs : List (DirentPlus Entry)) (id : ℕ) (c :
           let high : nat_lt g.nodeid 2 ≡ false = subst (λ (n : ℕ). nat_lt n 2 ≡ false) (sym here.1) file in
           let there : get nodes g.nodeid ≡ Some c = subst (λ (n : ℕ). get nodes n ≡ Some c) (sym here.1) at in
           let below = leaves c high there (sym same.1) in
-          subst (λ (n : ℕ). c.count + times_told n c.generation pairs < counter_end) here.1
-          (subst (λ (n : ℕ). c.count + times_told g.nodeid n pairs < counter_end) same.1 below)
+          subst (λ (n : ℕ). c.count + times_listed n c.generation pairs < counter_end) here.1
+          (subst (λ (n : ℕ). c.count + times_listed g.nodeid n pairs < counter_end) same.1 below)
       | inr apart ↦ absurd (true≢false (sym told ∙ ap (λ (b : Bool). nat_eq g.nodeid id && b) apart.0 ∙ never
           (nat_eq g.nodeid id)))
     ]
@@ -201,21 +201,21 @@ module _ (nodes : Map Counted) (pairs : List (DirentPlus Entry)) (id : ℕ) (c :
       never false = refl
 
   some_leaves : (some : List (DirentPlus Entry)) → All
-      (λ (pair : DirentPlus Entry). LeavesBelow nodes pairs (told_by pair)) some
-      → (times_told id c.generation some ≡ 0) ⊎ (c.count + times < counter_end)
+      (λ (pair : DirentPlus Entry). LeavesBelow nodes pairs (listed_by pair)) some
+      → (times_listed id c.generation some ≡ 0) ⊎ (c.count + times < counter_end)
   some_leaves [] leaves = inl refl
-  some_leaves (pair ∷ rest) leaves = by (tells id c.generation (told_by pair)) refl
-      (some_leaves rest (All-tail (λ (x : DirentPlus Entry). LeavesBelow nodes pairs (told_by x)) pair rest leaves))
+  some_leaves (pair ∷ rest) leaves = by (tells id c.generation (listed_by pair)) refl
+      (some_leaves rest (All-tail (λ (x : DirentPlus Entry). LeavesBelow nodes pairs (listed_by x)) pair rest leaves))
     where
-      by : (b : Bool) → tells id c.generation (told_by pair) ≡ b
-          → (times_told id c.generation rest ≡ 0) ⊎ (c.count + times < counter_end)
-          → (cond b (suc (times_told id c.generation rest)) (times_told id c.generation rest) ≡ 0)
+      by : (b : Bool) → tells id c.generation (listed_by pair) ≡ b
+          → (times_listed id c.generation rest ≡ 0) ⊎ (c.count + times < counter_end)
+          → (cond b (suc (times_listed id c.generation rest)) (times_listed id c.generation rest) ≡ 0)
           ⊎ (c.count + times < counter_end)
-      by true is behind = inr (one_leaves (told_by pair) is
-          (All-head (λ (x : DirentPlus Entry). LeavesBelow nodes pairs (told_by x)) pair rest leaves))
+      by true is behind = inr (one_leaves (listed_by pair) is
+          (All-head (λ (x : DirentPlus Entry). LeavesBelow nodes pairs (listed_by x)) pair rest leaves))
       by false is behind = behind
 
-  counted_below : AreBelow nodes → All (λ (pair : DirentPlus Entry). LeavesBelow nodes pairs (told_by pair)) pairs
+  counted_below : AreBelow nodes → All (λ (pair : DirentPlus Entry). LeavesBelow nodes pairs (listed_by pair)) pairs
       → c.count + times < counter_end
   counted_below old leaves = elim (some_leaves pairs leaves) [
     | inl none ↦
@@ -230,45 +230,45 @@ module _ (nodes : Map Counted) (pairs : List (DirentPlus Entry)) (id : ℕ) (c :
 
 -- Where each does, no count comes to the end.
 pub stay_below : (nodes : Map Counted) (pairs : List (DirentPlus Entry)) → AreBelow nodes → length pairs < counter_end
-    → All (λ (pair : DirentPlus Entry). LeavesBelow nodes pairs (told_by pair)) pairs
-    → AreBelow (learnt_from nodes pairs)
+    → All (λ (pair : DirentPlus Entry). LeavesBelow nodes pairs (listed_by pair)) pairs
+    → AreBelow (looked_up_from nodes pairs)
 stay_below nodes pairs old few leaves = record { below = λ id d at. by (nat_lt id 2) id d refl at }
   where
-    known : (id : ℕ) (d : Counted) → nat_lt id 2 ≡ false → get (learnt_from nodes pairs) id ≡ Some d
+    known : (id : ℕ) (d : Counted) → nat_lt id 2 ≡ false → get (looked_up_from nodes pairs) id ≡ Some d
         → (o : Option Counted) → get nodes id ≡ o → d.count < counter_end
     known id d file at None was =
         let less = new_few pairs nodes id d file was at in
         omega (arith, less, few)
     known id d file at (Some c) was =
         let told = counted_times pairs nodes id c file was in
-        let same : record c { count = c.count + times_told id c.generation pairs } ≡ d = cc (told, at) in
+        let same : record c { count = c.count + times_listed id c.generation pairs } ≡ d = cc (told, at) in
         subst (λ (x : Counted). x.count < counter_end) same (counted_below nodes pairs id c file was old leaves)
 
-    by : (b : Bool) (id : ℕ) (d : Counted) → nat_lt id 2 ≡ b → get (learnt_from nodes pairs) id ≡ Some d
+    by : (b : Bool) (id : ℕ) (d : Counted) → nat_lt id 2 ≡ b → get (looked_up_from nodes pairs) id ≡ Some d
         → d.count < counter_end
     by true id d low at = old.below id d (sym (low_stays pairs nodes id low) ∙ at)
     by false id d file at = known id d file at (get nodes id) refl
 
 -- Where one does not, a count comes to the end.
 pub one_out : (nodes : Map Counted) (pairs : List (DirentPlus Entry)) (id : ℕ) (c : Counted) → nat_lt id 2 ≡ false
-    → get nodes id ≡ Some c → counter_end ≤ c.count + times_told id c.generation pairs
-    → SomeOut (learnt_from nodes pairs)
+    → get nodes id ≡ Some c → counter_end ≤ c.count + times_listed id c.generation pairs
+    → SomeOut (looked_up_from nodes pairs)
 one_out nodes pairs id c file at out = record {
   id = id;
-  counted = record c { count = c.count + times_told id c.generation pairs };
+  counted = record c { count = c.count + times_listed id c.generation pairs };
   at =
       counted_times pairs nodes id c file at;
   out = out;
 }
 
 -- Counts never fall.
-pub below_before : (nodes : Map Counted) (pairs : List (DirentPlus Entry)) → AreBelow (learnt_from nodes pairs)
+pub below_before : (nodes : Map Counted) (pairs : List (DirentPlus Entry)) → AreBelow (looked_up_from nodes pairs)
     → AreBelow nodes
 below_before nodes pairs after = record { below = λ id c at. by (nat_lt id 2) id c refl at }
   where
     by : (b : Bool) (id : ℕ) (c : Counted) → nat_lt id 2 ≡ b → get nodes id ≡ Some c → c.count < counter_end
     by true id c low at = after.below id c (low_stays pairs nodes id low ∙ at)
     by false id c file at =
-        let later = after.below id (record c { count = c.count + times_told id c.generation pairs })
+        let later = after.below id (record c { count = c.count + times_listed id c.generation pairs })
         (counted_times pairs nodes id c file at) in
         omega (arith, later)

@@ -10,7 +10,7 @@ use Rattle.fuse_spec.specs.declared.Entry.{Entry}
 use Rattle.fuse_spec.specs.Values.Maps.{Map, get, put, remove}
 use Rattle.fuse_spec.specs.Kernel.Replies as replies
 use Rattle.fk_lookup_count.specs.declared.forget.Forget.{Forget}
-use Rattle.fk_lookup_count.specs.CountedNodes.{IsUnlike, learnt, forget_of, generation_at}
+use Rattle.fk_lookup_count.specs.CountedNodes.{IsUnlike, looked_up, forget_of, generation_at}
 use Rattle.fk_nodes.proofs.Lengths.{length_put, length_gone}
 
 -- the forget of a node has its whole count
@@ -39,13 +39,13 @@ fewer m most id f within is =
         cc
 
 module _ (m : Map Counted) (g : Entry) where
-  learnt_by : (o : Option Counted) → learnt m g.nodeid g.generation o ≡ put m g.nodeid (replies.counted_more g o)
-  learnt_by None = refl
-  learnt_by (Some node) = refl
+  looked_up_by : (o : Option Counted) → looked_up m g.nodeid g.generation o ≡ put m g.nodeid (replies.counted_more g o)
+  looked_up_by None = refl
+  looked_up_by (Some node) = refl
 
   -- one lookup more is counted, of a node that may be new
-  pub learnt_is : learnt m g.nodeid g.generation (get m g.nodeid) ≡ replies.learnt m (g ∷ [])
-  learnt_is = learnt_by (get m g.nodeid)
+  pub looked_up_is : looked_up m g.nodeid g.generation (get m g.nodeid) ≡ replies.looked_up m (g ∷ [])
+  looked_up_is = looked_up_by (get m g.nodeid)
 
   unlike_by : (o : Option Counted) → ((c : Counted) → o ≡ Some c → c.generation ≡ g.generation)
       → IsUnlike o g.generation → ⊥
@@ -57,14 +57,14 @@ module _ (m : Map Counted) (g : Entry) where
       → IsUnlike (get m g.nodeid) g.generation → ⊥
   not_unlike = unlike_by (get m g.nodeid)
 
-  pub one_more : (most : ℕ) → length m ≤ most → length (replies.learnt m (g ∷ [])) ≤ most + 1
+  pub one_more : (most : ℕ) → length m ≤ most → length (replies.looked_up m (g ∷ [])) ≤ most + 1
   one_more most within =
       let long = length_put m g.nodeid (replies.counted_more g (get m g.nodeid)) in
       omega arith
 
   -- of one that is not new
   pub as_many : (most : ℕ) → length m ≤ most → is_some (generation_at (get m g.nodeid)) ≡ true
-      → T (is_sorted nat_cmp m) → length (replies.learnt m (g ∷ [])) ≤ most
+      → T (is_sorted nat_cmp m) → length (replies.looked_up m (g ∷ [])) ≤ most
   as_many most within known sorted =
       let long = length-put nat_cmp nat_cmp_total g.nodeid (replies.counted_more g (get m g.nodeid)) m sorted ∙ ap
       (λ b. cond b (length m) (length m + 1)) (known_there (get m g.nodeid) known) in

@@ -6,11 +6,11 @@ use Rattle.std.proofs.lemmas.Bool.Decides.{eqb_tells}
 use Rattle.fuse_spec.specs.declared.Counted.{Counted}
 use Rattle.fuse_spec.specs.declared.Entry.{Entry}
 use Rattle.fuse_spec.specs.Values.Maps.{Map, get, put}
-use Rattle.fuse_spec.specs.Files.Operations.{DirentPlus, told_by, first_told, files_told, pair_with}
+use Rattle.fuse_spec.specs.Files.Operations.{DirentPlus, listed_by, first_listed, files_listed, pair_with}
 use Rattle.fuse_spec.specs.Calls.Paths.{is_dots}
-use Rattle.fuse_spec.specs.Kernel.Replies.{Use, usable, useless, stale, use_counted, use_of, use_of_told, counted_more, learnt, pair_judged, learnt_by, pairs_judged, stale_in, stale_among}
+use Rattle.fuse_spec.specs.Kernel.Replies.{Use, usable, useless, stale, use_counted, use_of, use_of_listed, counted_more, looked_up, pair_judged, looked_up_by, pairs_judged, stale_in, stale_among}
 use Rattle.fuse_spec.proofs.Tables.{get_put_here, get_put_there}
-use Rattle.fk_nodes.specs.Learning.{learnt_by_use, learnt_told, learnt_from, judged_in, stale_by}
+use Rattle.fk_nodes.specs.LookedUp.{looked_up_by_use, looked_up_listed, looked_up_from, judged_in, stale_by}
 
 -- ---- what a judged name tells
 
@@ -23,40 +23,40 @@ tells_none : (b : Bool) → ◌≡◌ {A = Option Entry} (cond b None None) None
 tells_none true = refl
 tells_none false = refl
 
-told_judged : (pair : DirentPlus Entry) (u : Use) → told_by (pair_judged pair u) ≡ kept_by u (told_by pair)
+told_judged : (pair : DirentPlus Entry) (u : Use) → listed_by (pair_judged pair u) ≡ kept_by u (listed_by pair)
 told_judged pair usable = refl
 told_judged pair useless = tells_none (is_dots pair.dirent.name)
 told_judged pair (stale node) = tells_none (is_dots pair.dirent.name)
 
-learnt_kept : (nodes : Map Counted) (g : Entry) (u : Use)
-    → learnt nodes (first_told (kept_by u (Some g)) []) ≡ learnt_by_use nodes g u
-learnt_kept nodes g usable = refl
-learnt_kept nodes g useless = refl
-learnt_kept nodes g (stale node) = refl
+looked_up_kept : (nodes : Map Counted) (g : Entry) (u : Use)
+    → looked_up nodes (first_listed (kept_by u (Some g)) []) ≡ looked_up_by_use nodes g u
+looked_up_kept nodes g usable = refl
+looked_up_kept nodes g useless = refl
+looked_up_kept nodes g (stale node) = refl
 
 kept_is : (nodes : Map Counted) (o : Option Entry)
-    → learnt nodes (first_told (kept_by (use_of_told nodes o) o) []) ≡ learnt_told nodes o
+    → looked_up nodes (first_listed (kept_by (use_of_listed nodes o) o) []) ≡ looked_up_listed nodes o
 kept_is nodes None = refl
-kept_is nodes (Some g) = learnt_kept nodes g (use_of nodes g)
+kept_is nodes (Some g) = looked_up_kept nodes g (use_of nodes g)
 
-pub learnt_by_is : (nodes : Map Counted) (pair : DirentPlus Entry)
-    → learnt_by nodes pair ≡ learnt_told nodes (told_by pair)
-learnt_by_is nodes pair = ap (λ (o : Option Entry). learnt nodes (first_told o []))
-    (told_judged pair (use_of_told nodes (told_by pair))) ∙ kept_is nodes (told_by pair)
+pub looked_up_by_is : (nodes : Map Counted) (pair : DirentPlus Entry)
+    → looked_up_by nodes pair ≡ looked_up_listed nodes (listed_by pair)
+looked_up_by_is nodes pair = ap (λ (o : Option Entry). looked_up nodes (first_listed o []))
+    (told_judged pair (use_of_listed nodes (listed_by pair))) ∙ kept_is nodes (listed_by pair)
 
 in_turn : (nodes : Map Counted) (o : Option Entry) (files : List Entry)
-    → learnt nodes (first_told o files) ≡ learnt (learnt nodes (first_told o [])) files
+    → looked_up nodes (first_listed o files) ≡ looked_up (looked_up nodes (first_listed o [])) files
 in_turn nodes None files = refl
 in_turn nodes (Some g) files = refl
 
 -- The counts after the names of a list are those of the files that are told once they are judged.
-pub learnt_is : (nodes : Map Counted) (pairs : List (DirentPlus Entry))
-    → learnt nodes (files_told (pairs_judged nodes pairs)) ≡ learnt_from nodes pairs
-learnt_is nodes [] = refl
-learnt_is nodes (pair ∷ pairs) =
-    in_turn nodes (told_by (judged_in nodes pair)) (files_told (pairs_judged (learnt_by nodes pair) pairs))
-    ∙ learnt_is (learnt_by nodes pair) pairs
-    ∙ ap (λ (m : Map Counted). learnt_from m pairs) (learnt_by_is nodes pair)
+pub looked_up_is : (nodes : Map Counted) (pairs : List (DirentPlus Entry))
+    → looked_up nodes (files_listed (pairs_judged nodes pairs)) ≡ looked_up_from nodes pairs
+looked_up_is nodes [] = refl
+looked_up_is nodes (pair ∷ pairs) =
+    in_turn nodes (listed_by (judged_in nodes pair)) (files_listed (pairs_judged (looked_up_by nodes pair) pairs))
+    ∙ looked_up_is (looked_up_by nodes pair) pairs
+    ∙ ap (λ (m : Map Counted). looked_up_from m pairs) (looked_up_by_is nodes pair)
 
 -- ---- a generation stays
 
@@ -69,7 +69,7 @@ more_generation g None generation at = absurd (cc)
 more_generation g (Some c) generation at = cc
 
 stays_by : (nodes : Map Counted) (g : Entry) (u : Use) (id generation : ℕ) → generation_in nodes id ≡ Some generation
-    → generation_in (learnt_by_use nodes g u) id ≡ Some generation
+    → generation_in (looked_up_by_use nodes g u) id ≡ Some generation
 stays_by nodes g usable id generation at = elim (cases_eq id g.nodeid) [
   | inl e ↦
       let new = counted_more g (get nodes g.nodeid) in
@@ -86,15 +86,15 @@ stays_by nodes g useless id generation at = at
 stays_by nodes g (stale node) id generation at = at
 
 stays_told : (nodes : Map Counted) (o : Option Entry) (id generation : ℕ) → generation_in nodes id ≡ Some generation
-    → generation_in (learnt_told nodes o) id ≡ Some generation
+    → generation_in (looked_up_listed nodes o) id ≡ Some generation
 stays_told nodes None id generation at = at
 stays_told nodes (Some g) id generation at = stays_by nodes g (use_of nodes g) id generation at
 
 stays : (pairs : List (DirentPlus Entry)) (nodes : Map Counted) (id generation : ℕ)
-    → generation_in nodes id ≡ Some generation → generation_in (learnt_from nodes pairs) id ≡ Some generation
+    → generation_in nodes id ≡ Some generation → generation_in (looked_up_from nodes pairs) id ≡ Some generation
 stays [] nodes id generation at = at
-stays (pair ∷ pairs) nodes id generation at = stays pairs (learnt_told nodes (told_by pair)) id generation
-    (stays_told nodes (told_by pair) id generation at)
+stays (pair ∷ pairs) nodes id generation at = stays pairs (looked_up_listed nodes (listed_by pair)) id generation
+    (stays_told nodes (listed_by pair) id generation at)
 
 -- ---- an entry is judged alike by any later counts
 
@@ -107,7 +107,7 @@ use_by g (Some c) generation at =
     ap (λ (n : ℕ). cond (nat_eq n g.generation) usable (stale g.nodeid)) same
 
 alike_by : (nodes later : Map Counted) (g : Entry) (o : Option Counted) → get nodes g.nodeid ≡ o
-    → ((generation : ℕ) → generation_in (learnt_by_use nodes g (use_counted g o)) g.nodeid ≡ Some generation
+    → ((generation : ℕ) → generation_in (looked_up_by_use nodes g (use_counted g o)) g.nodeid ≡ Some generation
     → generation_in later g.nodeid ≡ Some generation)
     → use_counted g o ≡ use_counted g (get later g.nodeid)
 alike_by nodes later g None at more =
@@ -127,7 +127,7 @@ alike_by nodes later g (Some c) at more =
     (stays_by nodes g (use_counted g (Some c)) g.nodeid c.generation here)))
 
 alike_low : (b : Bool) (nodes later : Map Counted) (g : Entry)
-    → ((generation : ℕ) → generation_in (learnt_by_use nodes g
+    → ((generation : ℕ) → generation_in (looked_up_by_use nodes g
     (cond b useless (use_counted g (get nodes g.nodeid)))) g.nodeid ≡ Some generation
     → generation_in later g.nodeid ≡ Some generation)
     → cond b useless (use_counted g (get nodes g.nodeid)) ≡ cond b useless (use_counted g (get later g.nodeid))
@@ -135,32 +135,32 @@ alike_low true nodes later g more = refl
 alike_low false nodes later g more = alike_by nodes later g (get nodes g.nodeid) refl more
 
 alike : (nodes : Map Counted) (o : Option Entry) (pairs : List (DirentPlus Entry))
-    → use_of_told nodes o ≡ use_of_told (learnt_from (learnt_told nodes o) pairs) o
+    → use_of_listed nodes o ≡ use_of_listed (looked_up_from (looked_up_listed nodes o) pairs) o
 alike nodes None pairs = refl
 alike nodes (Some g) pairs =
-    alike_low (nat_lt g.nodeid 2) nodes (learnt_from (learnt_told nodes (Some g)) pairs) g
-    (λ generation at. stays pairs (learnt_told nodes (Some g)) g.nodeid generation at)
+    alike_low (nat_lt g.nodeid 2) nodes (looked_up_from (looked_up_listed nodes (Some g)) pairs) g
+    (λ generation at. stays pairs (looked_up_listed nodes (Some g)) g.nodeid generation at)
 
 -- So each name may be judged by the counts after all of them.
 pub settled : (nodes : Map Counted) (pairs : List (DirentPlus Entry))
-    → pairs_judged nodes pairs ≡ map (judged_in (learnt_from nodes pairs)) pairs
+    → pairs_judged nodes pairs ≡ map (judged_in (looked_up_from nodes pairs)) pairs
 settled nodes [] = refl
 settled nodes (pair ∷ pairs) =
-    let next = learnt_told nodes (told_by pair) in
-    let rest : pairs_judged (learnt_by nodes pair) pairs ≡ map (judged_in (learnt_from next pairs)) pairs =
-    ap (λ (m : Map Counted). pairs_judged m pairs) (learnt_by_is nodes pair) ∙ settled next pairs in
-    ap (λ (u : Use). pair_judged pair u ∷ pairs_judged (learnt_by nodes pair) pairs) (alike nodes (told_by pair) pairs)
-    ∙ ap (λ (ps : List (DirentPlus Entry)). judged_in (learnt_from next pairs) pair ∷ ps) rest
+    let next = looked_up_listed nodes (listed_by pair) in
+    let rest : pairs_judged (looked_up_by nodes pair) pairs ≡ map (judged_in (looked_up_from next pairs)) pairs =
+    ap (λ (m : Map Counted). pairs_judged m pairs) (looked_up_by_is nodes pair) ∙ settled next pairs in
+    ap (λ (u : Use). pair_judged pair u ∷ pairs_judged (looked_up_by nodes pair) pairs) (alike nodes (listed_by pair) pairs)
+    ∙ ap (λ (ps : List (DirentPlus Entry)). judged_in (looked_up_from next pairs) pair ∷ ps) rest
 
 pub stale_settled : (nodes : Map Counted) (pairs : List (DirentPlus Entry))
-    → stale_among nodes pairs ≡ stale_by (learnt_from nodes pairs) pairs
+    → stale_among nodes pairs ≡ stale_by (looked_up_from nodes pairs) pairs
 stale_settled nodes [] = refl
 stale_settled nodes (pair ∷ pairs) =
-    let next = learnt_told nodes (told_by pair) in
-    let rest : stale_among (learnt_by nodes pair) pairs ≡ stale_by (learnt_from next pairs) pairs =
-    ap (λ (m : Map Counted). stale_among m pairs) (learnt_by_is nodes pair) ∙ stale_settled next pairs in
-    ap (λ (u : Use). stale_in u ++ stale_among (learnt_by nodes pair) pairs) (alike nodes (told_by pair) pairs)
-    ∙ ap (λ (ns : List ℕ). stale_in (use_of_told (learnt_from next pairs) (told_by pair)) ++ ns) rest
+    let next = looked_up_listed nodes (listed_by pair) in
+    let rest : stale_among (looked_up_by nodes pair) pairs ≡ stale_by (looked_up_from next pairs) pairs =
+    ap (λ (m : Map Counted). stale_among m pairs) (looked_up_by_is nodes pair) ∙ stale_settled next pairs in
+    ap (λ (u : Use). stale_in u ++ stale_among (looked_up_by nodes pair) pairs) (alike nodes (listed_by pair) pairs)
+    ∙ ap (λ (ns : List ℕ). stale_in (use_of_listed (looked_up_from next pairs) (listed_by pair)) ++ ns) rest
 
 -- The names are listed as they were told.
 dirent_kept : (pair : DirentPlus Entry) (u : Use) → (pair_judged pair u).dirent ≡ pair.dirent
@@ -172,5 +172,5 @@ pub dirents_kept : (nodes : Map Counted) (pairs : List (DirentPlus Entry))
     → map (λ (p : DirentPlus ℕ). p.dirent) (map (pair_with (λ (g : Entry). g.nodeid)) (pairs_judged nodes pairs))
     ≡ map (λ (p : DirentPlus Entry). p.dirent) pairs
 dirents_kept nodes [] = refl
-dirents_kept nodes (pair ∷ pairs) = λ i. dirent_kept pair (use_of_told nodes (told_by pair)) i ∷ dirents_kept
-    (learnt_by nodes pair) pairs i
+dirents_kept nodes (pair ∷ pairs) = λ i. dirent_kept pair (use_of_listed nodes (listed_by pair)) i ∷ dirents_kept
+    (looked_up_by nodes pair) pairs i

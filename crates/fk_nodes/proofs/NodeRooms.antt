@@ -1,7 +1,7 @@
 -- Room for the nodes that names of a list tell, made for one after another.
 use Rattle.std.proofs.Common.{◌≡◌, ℕ, List, [], ◌∷◌, ◌++◌, Option, Some, None, append_assoc, append-nil, refl, ap, sym, subst, ◌∙◌}
 use Rattle.fuse_spec.specs.declared.Entry.{Entry}
-use Rattle.fuse_spec.specs.Files.Operations.{DirentPlus, told_by}
+use Rattle.fuse_spec.specs.Files.Operations.{DirentPlus, listed_by}
 use Rattle.fk_nodes.specs.Rooms.{HasNodeRoom, HaveNodeRoom}
 
 -- Those of the names behind which the others are left have room for their nodes.
@@ -21,12 +21,12 @@ pub kept_rooms : (old new : ℕ → Type 0) (pairs : List (DirentPlus Entry)) �
     → HaveNodeRoom new pairs
 kept_rooms old new [] kept rooms = tt
 kept_rooms old new (pair ∷ pairs) kept rooms = (
-  kept_one old new (told_by pair) kept rooms.0,
+  kept_one old new (listed_by pair) kept rooms.0,
   kept_rooms old new pairs kept rooms.1,
 )
 
 one_more : (room_of : ℕ → Type 0) (done : List (DirentPlus Entry)) (pair : DirentPlus Entry)
-    → HaveNodeRoom room_of done → HasNodeRoom room_of (told_by pair) → HaveNodeRoom room_of (done ++ pair ∷ [])
+    → HaveNodeRoom room_of done → HasNodeRoom room_of (listed_by pair) → HaveNodeRoom room_of (done ++ pair ∷ [])
 one_more room_of [] pair rooms room = (room, tt)
 one_more room_of (first ∷ done) pair rooms room = (rooms.0, one_more room_of done pair rooms.1 room)
 
@@ -34,7 +34,7 @@ pub none_behind : (room_of : ℕ → Type 0) (all : List (DirentPlus Entry)) →
 none_behind room_of all = record { done = []; parts = refl; rooms = tt }
 
 pub room_made : (old new : ℕ → Type 0) (all left rest : List (DirentPlus Entry)) (pair : DirentPlus Entry)
-    → RoomBehind old all left → left ≡ pair ∷ rest → Keeps old new → HasNodeRoom new (told_by pair)
+    → RoomBehind old all left → left ≡ pair ∷ rest → Keeps old new → HasNodeRoom new (listed_by pair)
     → RoomBehind new all rest
 room_made old new all left rest pair behind is kept room = record {
   done = behind.done ++ pair ∷ [];

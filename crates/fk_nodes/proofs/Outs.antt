@@ -11,13 +11,13 @@ use Rattle.fuse_spec.specs.declared.Counted.{Counted}
 use Rattle.fuse_spec.specs.declared.Entry.{Entry}
 use Rattle.fuse_spec.specs.Values.Maps.{Map, get, put}
 use Rattle.fuse_spec.specs.Values.Numbers.{counter_end}
-use Rattle.fuse_spec.specs.Files.Operations.{DirentPlus, told_by}
+use Rattle.fuse_spec.specs.Files.Operations.{DirentPlus, listed_by}
 use Rattle.fuse_spec.specs.Kernel.Replies.{Use, usable, useless, stale, use_of, counted_more}
 use Rattle.fuse_spec.proofs.Tables.{cmp_same, tie_no, get_put_here, get_put_there}
 use Rattle.fk_dentry.proofs.SortedEntries.{both_first, both_second, none_below}
 use Rattle.fk_nodes.proofs.Lengths.{length_put}
 use Rattle.fuse_spec.specs.Kernel.Refusals.{is_counted_out}
-use Rattle.fk_nodes.specs.Learning.{learnt_by_use, learnt_told, learnt_from, AreBelow}
+use Rattle.fk_nodes.specs.LookedUp.{looked_up_by_use, looked_up_listed, looked_up_from, AreBelow}
 
 is_le : (m n : ℕ) → m ≤ n → nat_le m n ≡ true
 is_le m n le = grind (arith, nat_tests)
@@ -106,37 +106,37 @@ one_below m g old fits = record {
 -- ---- the order stays
 
 sorted_by : (m : Map Counted) (g : Entry) (u : Use) → T (is_sorted nat_cmp m)
-    → T (is_sorted nat_cmp (learnt_by_use m g u))
+    → T (is_sorted nat_cmp (looked_up_by_use m g u))
 sorted_by m g usable sorted = is_sorted-put nat_cmp nat_cmp_total g.nodeid (counted_more g (get m g.nodeid)) m sorted
 sorted_by m g useless sorted = sorted
 sorted_by m g (stale node) sorted = sorted
 
-sorted_told : (m : Map Counted) (o : Option Entry) → T (is_sorted nat_cmp m) → T (is_sorted nat_cmp (learnt_told m o))
+sorted_told : (m : Map Counted) (o : Option Entry) → T (is_sorted nat_cmp m) → T (is_sorted nat_cmp (looked_up_listed m o))
 sorted_told m None sorted = sorted
 sorted_told m (Some g) sorted = sorted_by m g (use_of m g) sorted
 
 pub sorted_from : (pairs : List (DirentPlus Entry)) (m : Map Counted) → T (is_sorted nat_cmp m)
-    → T (is_sorted nat_cmp (learnt_from m pairs))
+    → T (is_sorted nat_cmp (looked_up_from m pairs))
 sorted_from [] m sorted = sorted
-sorted_from (pair ∷ pairs) m sorted = sorted_from pairs (learnt_told m (told_by pair))
-    (sorted_told m (told_by pair) sorted)
+sorted_from (pair ∷ pairs) m sorted = sorted_from pairs (looked_up_listed m (listed_by pair))
+    (sorted_told m (listed_by pair) sorted)
 
 -- how many nodes there are then
-long_by : (m : Map Counted) (g : Entry) (u : Use) → length (learnt_by_use m g u) ≤ length m + 1
+long_by : (m : Map Counted) (g : Entry) (u : Use) → length (looked_up_by_use m g u) ≤ length m + 1
 long_by m g usable = length_put m g.nodeid (counted_more g (get m g.nodeid))
 long_by m g useless = omega arith
 long_by m g (stale node) = omega arith
 
-long_told : (m : Map Counted) (o : Option Entry) → length (learnt_told m o) ≤ length m + 1
+long_told : (m : Map Counted) (o : Option Entry) → length (looked_up_listed m o) ≤ length m + 1
 long_told m None = omega arith
 long_told m (Some g) = long_by m g (use_of m g)
 
 pub long_from : (pairs : List (DirentPlus Entry)) (m : Map Counted)
-    → length (learnt_from m pairs) ≤ length m + length pairs
+    → length (looked_up_from m pairs) ≤ length m + length pairs
 long_from [] m = omega arith
 long_from (pair ∷ pairs) m =
-    let rest = long_from pairs (learnt_told m (told_by pair)) in
-    let one = long_told m (told_by pair) in
+    let rest = long_from pairs (looked_up_listed m (listed_by pair)) in
+    let one = long_told m (listed_by pair) in
     omega (arith, rest, one)
 
 pub or_none : (a b : Bool) → a ≡ false → b ≡ false → (a || b) ≡ false

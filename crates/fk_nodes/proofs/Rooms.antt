@@ -2,12 +2,12 @@
 use Rattle.std.proofs.Common.{◌≡◌, ℕ, List, [], ◌∷◌, ◌++◌, Option, Some, None, append_assoc, append-nil, refl, ap, sym, subst, ◌∙◌}
 use Rattle.fuse_spec.specs.declared.Entry.{Entry}
 use Rattle.fuse_spec.specs.Values.Maps.{Place}
-use Rattle.fuse_spec.specs.Files.Operations.{DirentPlus, told_by}
+use Rattle.fuse_spec.specs.Files.Operations.{DirentPlus, listed_by}
 use Rattle.fuse_spec.specs.Kernel.Queues.{QueueState}
 use Rattle.fuse_spec.specs.declared.Purpose.{Purpose}
 use Rattle.fuse_spec.specs.Kernel.Replies.{Use, usable, useless, stale, stale_in, each_forgotten}
 use Rattle.fk_dentry.specs.NamesInForce.{NamesInForce, HasRoom}
-use Rattle.fk_nodes.specs.Told.{HasToldRoom, HaveToldRoom}
+use Rattle.fk_nodes.specs.ListedFiles.{HasToldRoom, HaveToldRoom}
 
 -- Those of the names behind which the others are left have room.
 pub record RoomBehind (names : NamesInForce) (directory : ℕ) (all left : List (DirentPlus Entry)) : Type 0 where
@@ -27,10 +27,10 @@ pub kept_rooms : (old new : NamesInForce) (directory : ℕ) (pairs : List (Diren
     → HaveToldRoom old directory pairs → HaveToldRoom new directory pairs
 kept_rooms old new directory [] kept rooms = tt
 kept_rooms old new directory (pair ∷ pairs) kept rooms =
-    (kept_one old new directory pair (told_by pair) kept rooms.0, kept_rooms old new directory pairs kept rooms.1)
+    (kept_one old new directory pair (listed_by pair) kept rooms.0, kept_rooms old new directory pairs kept rooms.1)
 
 one_more : (names : NamesInForce) (directory : ℕ) (done : List (DirentPlus Entry)) (pair : DirentPlus Entry)
-    → HaveToldRoom names directory done → HasToldRoom names directory pair (told_by pair)
+    → HaveToldRoom names directory done → HasToldRoom names directory pair (listed_by pair)
     → HaveToldRoom names directory (done ++ pair ∷ [])
 one_more names directory [] pair rooms room = (room, tt)
 one_more names directory (first ∷ done) pair rooms room = (rooms.0, one_more names directory done pair rooms.1 room)
@@ -41,7 +41,7 @@ none_behind names directory all = record { done = []; parts = refl; rooms = tt }
 
 pub room_made : (old new : NamesInForce) (directory : ℕ) (all left rest : List (DirentPlus Entry))
     (pair : DirentPlus Entry) → RoomBehind old directory all left → left ≡ pair ∷ rest → Keeps old new
-    → HasToldRoom new directory pair (told_by pair)
+    → HasToldRoom new directory pair (listed_by pair)
     → RoomBehind new directory all rest
 room_made old new directory all left rest pair behind is kept room = record {
   done = behind.done ++ pair ∷ [];

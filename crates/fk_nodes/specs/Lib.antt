@@ -1,4 +1,4 @@
-pub mod Learning
+pub mod LookedUp
 pub mod Rooms
-pub mod Told
+pub mod ListedFiles
 pub mod Uses

@@ -4,14 +4,14 @@ ghost use Rattle.std.specs.Prelude.{◌≡◌, ◌≤◌, ◌<◌, ◌+◌, ◌^
 ghost use Rattle.std.specs.Option.{ForSome};
 ghost use Rattle.fuse_spec.specs.Values.Maps.{get, remove};
 ghost use Rattle.fuse_spec.specs.Values.Numbers.{counter_end};
-ghost use Rattle.fuse_spec.specs.Kernel.Replies.{counted_more, learnt, use_of};
+ghost use Rattle.fuse_spec.specs.Kernel.Replies.{counted_more, looked_up, use_of};
 ghost use Rattle.std.specs.FinMap.{is_sorted};
 ghost use Rattle.std.specs.Ordering.{nat_cmp};
 ghost use Rattle.fk_wire.specs.Records.{direntplus_content};
 ghost use Rattle.fuse_frames.specs.ReplyTies.{pair_in};
-ghost use Rattle.fuse_spec.specs.Files.Operations.{told_by};
-ghost use Rattle.fk_nodes.specs.Learning.{learnt_from, LeavesBelow, AreBelow, SomeOut};
-ghost use Rattle.fk_nodes.specs.Told.{pairs_in};
+ghost use Rattle.fuse_spec.specs.Files.Operations.{listed_by};
+ghost use Rattle.fk_nodes.specs.LookedUp.{looked_up_from, LeavesBelow, AreBelow, SomeOut};
+ghost use Rattle.fk_nodes.specs.ListedFiles.{pairs_in};
 ghost use Rattle.fk_nodes.specs.Uses.{use_meant};
 
 use crate::entry_use::EntryUse;
@@ -113,7 +113,7 @@ impl<C: CountTable> CountedNodes<C> {
         requires alike { ForSome (get self.old entry.now.nodeid)
             (λ counted. counted.generation ≡ entry.now.generation) }
         requires fits { ForSome (get self.old entry.now.nodeid) (λ counted. counted.count + 1 < 2 ^ 64) }
-        ensures ok { OnOk result (self.new ≡ learnt self.old (entry.now ∷ [])) }
+        ensures ok { OnOk result (self.new ≡ looked_up self.old (entry.now ∷ [])) }
         ensures err { OnErr result (self.new ≡ self.old) }
     {
         self.table.are_sorted();
@@ -152,9 +152,9 @@ impl<C: CountTable> CountedNodes<C> {
     /// to the end of counters, where it is counted under that generation.
     fn brings_out(&self, pair: &DirentPlus<'_>, pairs: RecordsPlus<'_>) -> bool
         requires { AreBelow self.now }
-        ensures out { result ≡ true → SomeOut (learnt_from self.now (pairs_in pairs.entry)) }
+        ensures out { result ≡ true → SomeOut (looked_up_from self.now (pairs_in pairs.entry)) }
         ensures within { result ≡ false → LeavesBelow self.now (pairs_in pairs.entry)
-            (told_by (pair_in (direntplus_content pair.now))) }
+            (listed_by (pair_in (direntplus_content pair.now))) }
     {
         let Some(entry) = told(pair) else {
             return false;
@@ -177,8 +177,8 @@ impl<C: CountTable> CountedNodes<C> {
     pub fn listed_count_out(&self, pairs: RecordsPlus<'_>) -> bool
         requires below { AreBelow self.now }
         requires few { length (pairs_in pairs) < counter_end }
-        ensures out { result ≡ true → SomeOut (learnt_from self.now (pairs_in pairs.entry)) }
-        ensures within { result ≡ false → AreBelow (learnt_from self.now (pairs_in pairs.entry)) }
+        ensures out { result ≡ true → SomeOut (looked_up_from self.now (pairs_in pairs.entry)) }
+        ensures within { result ≡ false → AreBelow (looked_up_from self.now (pairs_in pairs.entry)) }
     {
         for pair in pairs {
             if self.brings_out(&pair, pairs) {
@@ -195,8 +195,8 @@ impl<C: CountTable> CountedNodes<C> {
     /// Memory was wanting. Nothing changed.
     pub fn learn_listed(&mut self, pairs: RecordsPlus<'_>) -> Result<(), AllocError>
         requires few { length (pairs_in pairs) < counter_end }
-        requires below { AreBelow (learnt_from self.old (pairs_in pairs)) }
-        ensures ok { OnOk result (self.new ≡ learnt_from self.old (pairs_in pairs.entry)) }
+        requires below { AreBelow (looked_up_from self.old (pairs_in pairs)) }
+        ensures ok { OnOk result (self.new ≡ looked_up_from self.old (pairs_in pairs.entry)) }
         ensures err { OnErr result (self.new ≡ self.old) }
     {
         if self.most >= MOST {

@@ -5,11 +5,11 @@ ghost use Rattle.std.specs.Option.{ForSome};
 ghost use Rattle.fk_wire.specs.Records.{direntplus_content};
 ghost use Rattle.fuse_frames.specs.ReplyTies.{pair_in};
 ghost use Rattle.fuse_spec.specs.Values.Maps.{get};
-ghost use Rattle.fuse_spec.specs.Files.Operations.{told_by};
-ghost use Rattle.fuse_spec.specs.Kernel.Replies.{learnt};
-ghost use Rattle.fk_nodes.specs.Learning.{learnt_told, learnt_from, tells, times_told, AreBelow};
+ghost use Rattle.fuse_spec.specs.Files.Operations.{listed_by};
+ghost use Rattle.fuse_spec.specs.Kernel.Replies.{looked_up};
+ghost use Rattle.fk_nodes.specs.LookedUp.{looked_up_listed, looked_up_from, tells, times_listed, AreBelow};
 ghost use Rattle.fk_nodes.specs.Rooms.{HasNodeRoom, HaveNodeRoom};
-ghost use Rattle.fk_nodes.specs.Told.{pairs_in};
+ghost use Rattle.fk_nodes.specs.ListedFiles.{pairs_in};
 
 use crate::told::told;
 use fk_lookup_count::CountTable;
@@ -20,7 +20,7 @@ use std::alloc::AllocError;
 /// Makes room for the node that a name tells.
 fn reserve_node<C: CountTable>(table: &mut C, pair: &DirentPlus<'_>) -> Result<(), AllocError>
     ensures counted { C.counted table.new ≡ C.counted table.old }
-    ensures room { OnOk result (HasNodeRoom (C.has_room table.new) (told_by (pair_in (direntplus_content pair.now)))) }
+    ensures room { OnOk result (HasNodeRoom (C.has_room table.new) (listed_by (pair_in (direntplus_content pair.now)))) }
     ensures kept { (other : ℕ) → C.has_room table.old other → C.has_room table.new other }
 {
     match told(pair) {
@@ -49,7 +49,7 @@ fn count_one<C: CountTable>(table: &mut C, entry: &Entry)
     requires alike { ForSome (get (C.counted table.old) entry.now.nodeid)
         (λ counted. counted.generation ≡ entry.now.generation) }
     requires fits { ForSome (get (C.counted table.old) entry.now.nodeid) (λ counted. counted.count + 1 < 2 ^ 64) }
-    ensures counted { C.counted table.new ≡ learnt (C.counted table.old) (entry.now ∷ []) }
+    ensures counted { C.counted table.new ≡ looked_up (C.counted table.old) (entry.now ∷ []) }
     ensures kept { (other : ℕ) → C.has_room table.old other → C.has_room table.new other }
 {
     match table.learn(entry.nodeid, entry.generation) {
@@ -62,12 +62,12 @@ fn count_one<C: CountTable>(table: &mut C, entry: &Entry)
 /// Counts one lookup more of the node that a name tells, if its entry can be used. Gives a number that is no lower than
 /// that of the counted nodes, as the one that it is given.
 fn count_told<C: CountTable>(table: &mut C, most: usize, pair: &DirentPlus<'_>) -> usize
-    requires room { HasNodeRoom (C.has_room table.old) (told_by (pair_in (direntplus_content pair.now))) }
+    requires room { HasNodeRoom (C.has_room table.old) (listed_by (pair_in (direntplus_content pair.now))) }
     requires below { AreBelow (C.counted table.old) }
     requires within { length (C.counted table.old) ≤ most }
     requires low { most + 1 < 2 ^ 64 }
-    ensures counted { C.counted table.new ≡ learnt_told (C.counted table.old)
-        (told_by (pair_in (direntplus_content pair.now))) }
+    ensures counted { C.counted table.new ≡ looked_up_listed (C.counted table.old)
+        (listed_by (pair_in (direntplus_content pair.now))) }
     ensures kept { (other : ℕ) → C.has_room table.old other → C.has_room table.new other }
     ensures within { length (C.counted table.new) ≤ result }
     ensures more { result ≤ most + 1 }
@@ -97,10 +97,10 @@ fn count_told<C: CountTable>(table: &mut C, most: usize, pair: &DirentPlus<'_>) 
 /// is no lower than that of the counted nodes, as the one that it is given. Takes no memory.
 pub(crate) fn count_all<C: CountTable>(table: &mut C, most: usize, pairs: RecordsPlus<'_>) -> usize
     requires room { HaveNodeRoom (C.has_room table.old) (pairs_in pairs) }
-    requires below { AreBelow (learnt_from (C.counted table.old) (pairs_in pairs)) }
+    requires below { AreBelow (looked_up_from (C.counted table.old) (pairs_in pairs)) }
     requires within { length (C.counted table.old) ≤ most }
     requires low { most + length (pairs_in pairs) < 2 ^ 64 }
-    ensures counted { C.counted table.new ≡ learnt_from (C.counted table.old) (pairs_in pairs.entry) }
+    ensures counted { C.counted table.new ≡ looked_up_from (C.counted table.old) (pairs_in pairs.entry) }
     ensures within { length (C.counted table.new) ≤ result }
 {
     let mut most = most;
@@ -112,7 +112,7 @@ pub(crate) fn count_all<C: CountTable>(table: &mut C, most: usize, pairs: Record
 
 /// Whether a name tells a node under a generation.
 fn tells_node(pair: &DirentPlus<'_>, id: u64, generation: u64) -> bool
-    ensures { result ≡ tells id generation (told_by (pair_in (direntplus_content pair.now))) }
+    ensures { result ≡ tells id generation (listed_by (pair_in (direntplus_content pair.now))) }
 {
     match told(pair) {
         Some(entry) => entry.nodeid == id && entry.generation == generation,
@@ -122,7 +122,7 @@ fn tells_node(pair: &DirentPlus<'_>, id: u64, generation: u64) -> bool
 
 /// Whether more than so many names of a list tell a node under a generation.
 pub(crate) fn tell_more(pairs: RecordsPlus<'_>, id: u64, generation: u64, limit: u64) -> bool
-    ensures { result ≡ nat_lt limit (times_told id generation (pairs_in pairs.entry)) }
+    ensures { result ≡ nat_lt limit (times_listed id generation (pairs_in pairs.entry)) }
 {
     let mut left = limit;
     for pair in pairs {

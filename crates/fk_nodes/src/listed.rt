@@ -3,16 +3,16 @@
 ghost use Rattle.std.specs.Prelude.{◌≡◌, ◌≤◌, ◌<◌, ◌+◌, ◌^◌, ℕ, length, map, None, OnOk, OnErr, IfOk};
 ghost use Rattle.fuse_frames.specs.ReplyTies.{pair_in};
 ghost use Rattle.fk_wire.specs.Records.{direntplus_content};
-ghost use Rattle.fuse_spec.specs.Calls.CallReplies.{name_told};
+ghost use Rattle.fuse_spec.specs.Calls.CallReplies.{name_listed};
 ghost use Rattle.fuse_spec.specs.Values.Maps.{Place};
 ghost use Rattle.fuse_spec.specs.Values.Numbers.{counter_end, max_validity};
-ghost use Rattle.fuse_spec.specs.Files.Operations.{told_by, pair_with};
-ghost use Rattle.fuse_spec.specs.Kernel.Replies.{each_forgotten, stale_in, use_of_told};
+ghost use Rattle.fuse_spec.specs.Files.Operations.{listed_by, pair_with};
+ghost use Rattle.fuse_spec.specs.Kernel.Replies.{each_forgotten, stale_in, use_of_listed};
 ghost use Rattle.fuse_spec.specs.declared.Entry.{Entry as NodeEntry};
 ghost use Rattle.fk_dentry.specs.NamesInForce.{HasRoom};
 ghost use Rattle.fk_syscalls.specs.Values.{dirent_of};
-ghost use Rattle.fk_nodes.specs.Learning.{judged_in, learnt_from, stale_by, AreBelow};
-ghost use Rattle.fk_nodes.specs.Told.{pairs_in, HasToldRoom, HaveToldRoom, names_judged};
+ghost use Rattle.fk_nodes.specs.LookedUp.{judged_in, looked_up_from, stale_by, AreBelow};
+ghost use Rattle.fk_nodes.specs.ListedFiles.{pairs_in, HasToldRoom, HaveToldRoom, names_judged};
 
 use crate::counted_nodes::CountedNodes;
 use crate::entry_use::EntryUse;
@@ -34,7 +34,7 @@ fn reserve_name<A: Allocator + Copy>(
 ) -> Result<(), AllocError>
     ensures names { names.new.names ≡ names.old.names }
     ensures room { OnOk result (HasToldRoom names.new directory (pair_in (direntplus_content pair.now))
-        (told_by (pair_in (direntplus_content pair.now)))) }
+        (listed_by (pair_in (direntplus_content pair.now)))) }
     ensures kept { (other : Place) → HasRoom names.old other → HasRoom names.new other }
 {
     match told(pair) {
@@ -71,11 +71,11 @@ fn bind_name<A: Allocator + Copy, C: CountTable>(
     pair: &DirentPlus<'_>,
 )
     requires room { HasToldRoom names.old directory (pair_in (direntplus_content pair.now))
-        (told_by (pair_in (direntplus_content pair.now))) }
+        (listed_by (pair_in (direntplus_content pair.now))) }
     requires clock { clock + max_validity < 2 ^ 64 }
-    ensures names { names.new.names ≡ name_told clock directory names.old.names
+    ensures names { names.new.names ≡ name_listed clock directory names.old.names
         (pair_with (λ (g : NodeEntry). g.nodeid) (judged_in nodes.now (pair_in (direntplus_content pair.now))))
-        (told_by (pair_with (λ (g : NodeEntry). g.nodeid)
+        (listed_by (pair_with (λ (g : NodeEntry). g.nodeid)
         (judged_in nodes.now (pair_in (direntplus_content pair.now))))) }
     ensures kept { (other : Place) → HasRoom names.old other → HasRoom names.new other }
 {
@@ -117,7 +117,7 @@ fn forget_one<Q: QueueTable<Purpose>, C: CountTable>(
 )
     requires { 0 < (Q.room queues.old).forgets }
     ensures state { Q.state queues.new ≡ each_forgotten (Q.state queues.old)
-        (stale_in (use_of_told nodes.now (told_by (pair_in (direntplus_content pair.now))))) }
+        (stale_in (use_of_listed nodes.now (listed_by (pair_in (direntplus_content pair.now))))) }
     ensures requests { (Q.room queues.old).requests ≤ (Q.room queues.new).requests }
     ensures forgets { (Q.room queues.old).forgets ≤ (Q.room queues.new).forgets + 1 }
 {
@@ -192,7 +192,7 @@ pub fn pair_count(pairs: RecordsPlus<'_>) -> usize
 /// # Errors
 ///
 /// Memory was wanting. Nothing changed.
-pub fn learn_and_bind<A: Allocator + Copy, C: CountTable>(
+pub fn count_and_bind<A: Allocator + Copy, C: CountTable>(
     names: &mut Bindings<A>,
     nodes: &mut CountedNodes<C>,
     directory: u64,
@@ -201,12 +201,12 @@ pub fn learn_and_bind<A: Allocator + Copy, C: CountTable>(
 ) -> Result<(), AllocError>
     requires clock { clock + max_validity < 2 ^ 64 }
     requires few { length (pairs_in pairs) < counter_end }
-    requires below { AreBelow (learnt_from nodes.old (pairs_in pairs)) }
+    requires below { AreBelow (looked_up_from nodes.old (pairs_in pairs)) }
     ensures err_names { OnErr result (names.new.names ≡ names.old.names) }
     ensures err_nodes { OnErr result (nodes.new ≡ nodes.old) }
-    ensures nodes { OnOk result (nodes.new ≡ learnt_from nodes.old (pairs_in pairs.entry)) }
+    ensures nodes { OnOk result (nodes.new ≡ looked_up_from nodes.old (pairs_in pairs.entry)) }
     ensures names { OnOk result (names.new.names ≡ names_judged clock directory
-        (learnt_from nodes.old (pairs_in pairs.entry)) names.old.names (pairs_in pairs.entry)) }
+        (looked_up_from nodes.old (pairs_in pairs.entry)) names.old.names (pairs_in pairs.entry)) }
 {
     reserve_listed(names, directory, pairs)?;
     nodes.learn_listed(pairs)?;

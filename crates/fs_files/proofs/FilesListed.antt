@@ -1,20 +1,20 @@
 -- How many names of a list name a file.
 use Rattle.std.proofs.Common.{ℕ, ◌+◌, ◌≤◌, Option, Some, None, List, [], ◌∷◌, length, arith}
-use Rattle.fuse_spec.specs.Files.Operations.{Dirent, files_told, first_told, told_by}
+use Rattle.fuse_spec.specs.Files.Operations.{Dirent, files_listed, first_listed, listed_by}
 use Rattle.fuse_spec.specs.declared.Entry.{Entry}
 use Rattle.fuse_frames.specs.ReplyTies.{entry_told, pairs_told}
 
-first_few : (file : Option Entry) (files : List Entry) → length (first_told file files) ≤ length files + 1
+first_few : (file : Option Entry) (files : List Entry) → length (first_listed file files) ≤ length files + 1
 first_few None files = omega arith
 first_few (Some e) files = omega arith
 
 -- a list names at most as many files as it has names
 pub few_files : (valid : ℕ) (es : List Entry) (ds : List Dirent)
-    → length (files_told (pairs_told valid es ds)) ≤ length es
+    → length (files_listed (pairs_told valid es ds)) ≤ length es
 few_files valid [] ds = omega arith
 few_files valid (e ∷ es) [] = omega arith
 few_files valid (e ∷ es) (d ∷ ds) =
     let rest = few_files valid es ds in
-    let first = first_few (told_by (record { file = entry_told e; valid = valid; dirent = d }))
-    (files_told (pairs_told valid es ds)) in
+    let first = first_few (listed_by (record { file = entry_told e; valid = valid; dirent = d }))
+    (files_listed (pairs_told valid es ds)) in
     omega (arith, rest, first)

@@ -6,7 +6,7 @@ use Rattle.std.proofs.lemmas.Grind.{common_steps}
 use Rattle.fuse_spec.specs.Values.Maps.{Map, get}
 use Rattle.fuse_spec.proofs.Tables.{get_put_here}
 use Rattle.fuse_spec.specs.Server.Nodes.{HeldNode, NodeTable, IsUnheld, MayChoose, MayName, all_given, given, given_row}
-use Rattle.fuse_spec.specs.Files.Operations.{first_told}
+use Rattle.fuse_spec.specs.Files.Operations.{first_listed}
 use Rattle.fs_nodes.specs.Rows.{IsOf}
 use Rattle.fs_nodes.specs.Sound.{IsSound}
 use Rattle.fs_nodes.proofs.Maps.{first_there, sorted_later, there_later}
@@ -19,7 +19,7 @@ use Rattle.fs_files.proofs.Giving.{generation_left, generations_given, given_fil
 
 -- a generation is left for the file of a name other than `.` and `..`
 pub named_left : (t : NodeTable) (file : ℕ) (dots : Bool) → dots ≡ false → IsSound t
-    → generations_after t (first_told (cond dots None (Some file)) []) ≤ 2 ^ 62 → IsUnheld t file
+    → generations_after t (first_listed (cond dots None (Some file)) []) ≤ 2 ^ 62 → IsUnheld t file
     → t.next_generation < 2 ^ 62
 named_left t file true no_dots sound enough unheld = absurd (true≢false no_dots)
 named_left t file false no_dots sound enough unheld = generation_left t file [] (holds_sorted t sound) enough unheld
@@ -27,13 +27,13 @@ named_left t file false no_dots sound enough unheld = generation_left t file [] 
 module _ (t new : NodeTable) where
   -- a name other than `.` and `..`
   pub named_given : (file id : ℕ) (dots : Bool) → dots ≡ false → GivenEach t (file ∷ []) new
-      → GivenEach t (first_told (cond dots None (Some file)) []) new
+      → GivenEach t (first_listed (cond dots None (Some file)) []) new
   named_given file id true no_dots one = absurd (true≢false no_dots)
   named_given file id false no_dots one = one
 
   pub one_given : (file_named : Option ℕ) (files : List ℕ) (last : NodeTable)
-      → GivenEach t (first_told file_named []) new
-      → GivenEach new files last → GivenEach t (first_told file_named files) last
+      → GivenEach t (first_listed file_named []) new
+      → GivenEach new files last → GivenEach t (first_listed file_named files) last
   one_given None files last one rest = subst (λ (n : NodeTable). GivenEach n files last) one rest
   one_given (Some file) files last one rest = (
     one.0,
@@ -42,14 +42,14 @@ module _ (t new : NodeTable) where
   )
 
   pub one_generations : (file_named : Option ℕ) (files : List ℕ) → IsSound t
-      → GivenEach t (first_told file_named []) new
-      → generations_after new files ≡ generations_after t (first_told file_named files)
+      → GivenEach t (first_listed file_named []) new
+      → generations_after new files ≡ generations_after t (first_listed file_named files)
   one_generations None files sound one = ap (λ (n : NodeTable). generations_after n files) one
   one_generations (Some file) files sound one = ap
       (λ (n : NodeTable). generations_after n files) one.2 ∙ generations_given t file one.0 files
       (holds_sorted t sound) one.1
 
-  pub one_counted : (file_named : Option ℕ) (most : ℕ) → GivenEach t (first_told file_named []) new → AreCounted most t
+  pub one_counted : (file_named : Option ℕ) (most : ℕ) → GivenEach t (first_listed file_named []) new → AreCounted most t
       → AreCounted (most + 1) new
   one_counted None most one low = subst (λ (n : NodeTable). AreCounted (most + 1) n) (sym one)
       (λ id row is. let le = low id row is in omega (arith, le))

@@ -7,7 +7,7 @@ use Rattle.std.proofs.lemmas.List.Sums.{count_by-le-length}
 use Rattle.fuse_spec.specs.Values.Maps.{get}
 use Rattle.fuse_spec.specs.Values.Numbers.{counter_end}
 use Rattle.fuse_spec.specs.Server.Nodes.{HeldNode, NodeTable, IsUnheld, MayChoose, MayName, all_given, counts_out, given, given_row}
-use Rattle.fuse_spec.specs.Files.Operations.{Dirent, files_in_reply, files_told, first_told}
+use Rattle.fuse_spec.specs.Files.Operations.{Dirent, files_in_reply, files_listed, first_listed}
 use Rattle.fuse_spec.specs.Calls.Paths.{is_dots}
 use Rattle.fuse_spec.specs.Files.Trees.{Tree}
 use Rattle.fuse_spec.proofs.QueueCounts.{count_by-cons}
@@ -83,12 +83,12 @@ within_given choice t (file ∷ files) short may old =
 
 -- ---- a reply names few files
 
-few_files : (ms : ℕ) (ds : List Dirent) → length (files_told (map (pair_listed ms) ds)) ≤ length ds
+few_files : (ms : ℕ) (ds : List Dirent) → length (files_listed (map (pair_listed ms) ds)) ≤ length ds
 few_files ms [] = omega arith
 few_files ms (d ∷ ds) = by (is_dots d.name) (few_files ms ds)
   where
-    by : (b : Bool) → length (files_told (map (pair_listed ms) ds)) ≤ length ds
-        → length (first_told (cond b None (Some (d.ino - 1))) (files_told (map (pair_listed ms) ds))) ≤ length (d ∷ ds)
+    by : (b : Bool) → length (files_listed (map (pair_listed ms) ds)) ≤ length ds
+        → length (first_listed (cond b None (Some (d.ino - 1))) (files_listed (map (pair_listed ms) ds))) ≤ length (d ∷ ds)
     by true rest = omega (arith, rest)
     by false rest = omega (arith, rest)
 

@@ -2,7 +2,7 @@
 use Rattle.std.proofs.Common.{◌≡◌, ℕ, ◌-◌, Bool, cond, List, [], ◌∷◌, Some, None, length, map, refl, sym, ap, subst, ◌∙◌, arith}
 use Rattle.fuse_spec.specs.Server.Nodes.{NodeTable}
 use Rattle.fuse_spec.specs.Files.Operations as operation
-use Rattle.fuse_spec.specs.Files.Operations.{Dirent, files_told, first_told, pair_with}
+use Rattle.fuse_spec.specs.Files.Operations.{Dirent, files_listed, first_listed, pair_with}
 use Rattle.fuse_spec.specs.Calls.Paths.{is_dots}
 use Rattle.fuse_spec.specs.Server.Performs.{entry_for}
 use Rattle.fuse_spec.specs.Files.Trees.{Tree}
@@ -28,27 +28,27 @@ module _ (tree : Tree) (nodes : NodeTable) (sound : IsSound nodes) where
   pairs_are ms (d ∷ ds) = λ i. record { file = some_entry d i; valid = ms; dirent = d } ∷ pairs_are ms ds i
 
   -- the entries of names that name a file
-  pub file_entries_are : (ms : ℕ) (ds : List Dirent) → files_told (pairs_told ms (map (entry_named tree nodes) ds) ds)
-      ≡ files_told (entries_named tree nodes ds)
+  pub file_entries_are : (ms : ℕ) (ds : List Dirent) → files_listed (pairs_told ms (map (entry_named tree nodes) ds) ds)
+      ≡ files_listed (entries_named tree nodes ds)
   file_entries_are ms [] = refl
-  file_entries_are ms (d ∷ ds) = λ i. first_told (cond (is_dots d.name) None (some_entry d i))
+  file_entries_are ms (d ∷ ds) = λ i. first_listed (cond (is_dots d.name) None (some_entry d i))
       (file_entries_are ms ds i)
 
 -- the files are the same however long they are valid
-pub same_files : (ms : ℕ) (ds : List Dirent) → files_told (map (pair_listed ms) ds)
-    ≡ files_told (map (pair_listed 0) ds)
+pub same_files : (ms : ℕ) (ds : List Dirent) → files_listed (map (pair_listed ms) ds)
+    ≡ files_listed (map (pair_listed 0) ds)
 same_files ms [] = refl
-same_files ms (d ∷ ds) = ap (λ (files : List ℕ). first_told (cond (is_dots d.name) None (Some (d.ino - 1))) files)
+same_files ms (d ∷ ds) = ap (λ (files : List ℕ). first_listed (cond (is_dots d.name) None (Some (d.ino - 1))) files)
     (same_files ms ds)
 
 pub gives_listed : {A : Type 0} (one two : FilesState) (ms : ℕ) (bytes : List ℕ) (listing : ListedNames A)
-    → GivenEach one.nodes (files_told (map (pair_listed 0) (names_in bytes))) two.nodes → IsSound two.nodes
+    → GivenEach one.nodes (files_listed (map (pair_listed 0) (names_in bytes))) two.nodes → IsSound two.nodes
     → listing.entries.items ≡ map (entry_named two.tree two.nodes) (names_in bytes) → listing.records.items ≡ bytes
     → listing.found_ms ≡ ms → two.tree ≡ one.tree → two.handles ≡ one.handles
     → GivesNumbers {A = A} one (operation.listed_plus (map (pair_listed ms) (names_in bytes))) (ListedPlus listing) two
 gives_listed one two ms bytes listing given sound entries records valid tree handles =
     let names = names_in bytes in
-    let files = files_told (map (pair_listed ms) names) in
+    let files = files_listed (map (pair_listed ms) names) in
     let each : GivenEach one.nodes files two.nodes =
     subst (λ (fs : List ℕ). GivenEach one.nodes fs two.nodes) (sym (same_files ms names)) given in
     record {
@@ -80,8 +80,8 @@ module _ (tree : Tree) (nodes : NodeTable) (bytes view : List ℕ) (same : view 
   one_a_record = one_each ∙ mapped_length dirent_in (dirents_in bytes)
 
   pub file_entries_so : IsSound nodes → (ms : ℕ) (file_entries : List Entry)
-      → file_entries ≡ files_told (entries_named tree nodes (names_in view))
-      → file_entries ≡ files_told (listed_pairs ms entries bytes)
+      → file_entries ≡ files_listed (entries_named tree nodes (names_in view))
+      → file_entries ≡ files_listed (listed_pairs ms entries bytes)
   file_entries_so sound ms file_entries are_files =
       are_files ∙ sym (file_entries_are tree nodes sound ms (names_in view)) ∙
-      (λ i. files_told (pairs_told ms (sym is_entries i) (names_in (same i))))
+      (λ i. files_listed (pairs_told ms (sym is_entries i) (names_in (same i))))

@@ -3,7 +3,7 @@ use Rattle.std.proofs.Common.{◌≡◌, ℕ, ◌-◌, ◌+◌, ◌≤◌, ◌<�
 use Rattle.std.specs.Prelude.{All}
 use Rattle.std.proofs.lemmas.List.Elements.{All-head, All-tail}
 use Rattle.fuse_spec.specs.Server.Nodes.{NodeTable}
-use Rattle.fuse_spec.specs.Files.Operations.{Dirent, files_told, first_told}
+use Rattle.fuse_spec.specs.Files.Operations.{Dirent, files_listed, first_listed}
 use Rattle.fuse_spec.specs.Calls.Paths.{is_dots}
 use Rattle.fuse_spec.specs.Files.Trees.{Tree}
 use Rattle.fs_files.specs.Bounds.{AreCounted, AreHeldBelow}
@@ -20,17 +20,17 @@ file_of_name d = cond (is_dots d.name) None (Some (d.ino - 1))
 -- The files of these names are still to be given nodes, of all that are to get them.
 pub record StillToGive (tree : Tree) (old : NodeTable) (all : List ℕ) (t : NodeTable) (room : ℕ)
     (ds : List Dirent) : Type 0 where
-  pub goes : (last : NodeTable) → GivenEach t (files_told (map (pair_listed 0) ds)) last → GivenEach old all last
+  pub goes : (last : NodeTable) → GivenEach t (files_listed (map (pair_listed 0) ds)) last → GivenEach old all last
   pub listable : All (IsListable tree) ds
   pub few : length ds ≤ 32
   pub roomy : length ds ≤ room
-  pub generations : generations_after t (files_told (map (pair_listed 0) ds)) ≤ 2 ^ 62
+  pub generations : generations_after t (files_listed (map (pair_listed 0) ds)) ≤ 2 ^ 62
   pub counted : AreCounted (2 ^ 63 - length ds) t
 
 pub first_to_give : (tree : Tree) (t : NodeTable) (room : ℕ) (ds : List Dirent) → All (IsListable tree) ds
     → length ds ≤ 32 → length ds ≤ room
-    → generations_after t (files_told (map (pair_listed 0) ds)) ≤ 2 ^ 62 → AreHeldBelow t
-    → StillToGive tree t (files_told (map (pair_listed 0) ds)) t room ds
+    → generations_after t (files_listed (map (pair_listed 0) ds)) ≤ 2 ^ 62 → AreHeldBelow t
+    → StillToGive tree t (files_listed (map (pair_listed 0) ds)) t room ds
 first_to_give tree t room ds listable few roomy generations below = record {
   goes = λ last rest. rest;
   listable = listable;
@@ -42,12 +42,12 @@ first_to_give tree t room ds listable few roomy generations below = record {
 
 module _ (tree : Tree) (old : NodeTable) (all : List ℕ) (t : NodeTable) (room : ℕ) (d : Dirent) (ds : List Dirent)
     (still : StillToGive tree old all t room (d ∷ ds)) where
-  pub given_next : (new : NodeTable) (more : ℕ) → GivenEach t (first_told (file_of_name d) []) new
-      → ((files : List ℕ) → generations_after new files ≡ generations_after t (first_told (file_of_name d) files))
+  pub given_next : (new : NodeTable) (more : ℕ) → GivenEach t (first_listed (file_of_name d) []) new
+      → ((files : List ℕ) → generations_after new files ≡ generations_after t (first_listed (file_of_name d) files))
       → room ≤ more + 1
       → StillToGive tree old all new more ds
   given_next new more one next left =
-      let files = files_told (map (pair_listed 0) ds) in
+      let files = files_listed (map (pair_listed 0) ds) in
       let few = still.few in
       let roomy = still.roomy in
       record {
@@ -71,8 +71,8 @@ module _ (tree : Tree) (old : NodeTable) (all : List ℕ) (t : NodeTable) (room 
 
 -- the first of some files takes no more generations than all
 fewer_first : (t : NodeTable) (file_named : Option ℕ) (files : List ℕ)
-    → generations_after t (first_told file_named files) ≤ 2 ^ 62
-    → generations_after t (first_told file_named []) ≤ 2 ^ 62
+    → generations_after t (first_listed file_named files) ≤ 2 ^ 62
+    → generations_after t (first_listed file_named []) ≤ 2 ^ 62
 fewer_first t None files enough = omega (arith, enough)
 fewer_first t (Some file) files enough = by (has_node t file) refl
   where
@@ -82,6 +82,6 @@ fewer_first t (Some file) files enough = by (has_node t file) refl
 
 pub next_generations : (tree : Tree) (old : NodeTable) (all : List ℕ) (t : NodeTable) (room : ℕ) (d : Dirent)
     (ds : List Dirent) → StillToGive tree old all t room (d ∷ ds)
-    → generations_after t (first_told (file_of_name d) []) ≤ 2 ^ 62
+    → generations_after t (first_listed (file_of_name d) []) ≤ 2 ^ 62
 next_generations tree old all t room d ds still =
-    fewer_first t (file_of_name d) (files_told (map (pair_listed 0) ds)) still.generations
+    fewer_first t (file_of_name d) (files_listed (map (pair_listed 0) ds)) still.generations

@@ -2,7 +2,7 @@
 
 ghost use Rattle.std.specs.Prelude.{◌≡◌, ◌≤◌, ◌+◌, ◌*◌, length};
 ghost use Rattle.fuse_spec.specs.Values.Numbers.{max_transfer, max_validity};
-ghost use Rattle.fuse_spec.specs.Files.Operations.{files_told};
+ghost use Rattle.fuse_spec.specs.Files.Operations.{files_listed};
 ghost use Rattle.fs_files.specs.Listed.{AreRecordBytes, dirents_in, listed_pairs};
 ghost use Rattle.fs_files.specs.Props.{AreRecordBytes-prop};
 
@@ -22,6 +22,6 @@ pub struct ListedNames<A: Allocator> {
     ghost are_records: { AreRecordBytes records.items } by { AreRecordBytes-prop records.items },
     ghost together: { length entries.items ≡ length (dirents_in records.items) },
     ghost most: { 128 * length entries.items + length records.items ≤ max_transfer },
-    ghost are_of_files: { file_entries.items ≡ files_told (listed_pairs found_ms entries.items records.items) },
+    ghost are_of_files: { file_entries.items ≡ files_listed (listed_pairs found_ms entries.items records.items) },
     ghost day: { found_ms ≤ max_validity },
 }

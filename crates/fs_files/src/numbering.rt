@@ -3,7 +3,7 @@
 ghost use Rattle.std.specs.Prelude.{◌≡◌, ◌≢◌, ◌<◌, ◌≤◌, ◌+◌, ◌*◌, ◌^◌, ◌++◌, [], ℕ, All, IsTrue, List, None, Some, cond, length, map, vec_capacity};
 ghost use Rattle.fuse_spec.specs.Server.Nodes.{IsUnheld, handle_opened};
 ghost use Rattle.fuse_spec.specs.Values.Numbers.{max_transfer, max_validity};
-ghost use Rattle.fuse_spec.specs.Files.Operations.{files_in_reply, files_told, first_told, opens_in_reply};
+ghost use Rattle.fuse_spec.specs.Files.Operations.{files_in_reply, files_listed, first_listed, opens_in_reply};
 ghost use Rattle.fuse_spec.specs.Calls.Paths.{is_dots};
 ghost use Rattle.fuse_spec.specs.Server.Performs.{entry_for};
 ghost use Rattle.fs_nodes.specs.Sound.{IsSound};
@@ -85,10 +85,10 @@ impl<S: NodeStore> Files<S> {
         requires room { length (names_in records.items) ≤ self.old.node_room }
         requires spare { HasSpare spare 0 (length (names_in records.items)) }
         requires generations { generations_after self.old.nodes
-            (files_told (map (pair_listed 0) (names_in records.items))) ≤ 2 ^ 62 }
+            (files_listed (map (pair_listed 0) (names_in records.items))) ≤ 2 ^ 62 }
         requires counted { AreHeldBelow self.old.nodes }
         requires day { found_ms ≤ max_validity }
-        ensures given { GivenEach self.old.nodes (files_told
+        ensures given { GivenEach self.old.nodes (files_listed
             (map (pair_listed 0) (names_in records.items))) self.new.nodes }
         ensures entries { result.entries.items ≡ map (entry_named self.new.tree self.new.nodes)
             (names_in records.items) }
@@ -117,9 +117,9 @@ impl<S: NodeStore> Files<S> {
         requires few { length (names_in records.now) ≤ 32 }
         requires room { length (names_in records.now) ≤ self.old.node_room }
         requires generations { generations_after self.old.nodes
-            (files_told (map (pair_listed 0) (names_in records.now))) ≤ 2 ^ 62 }
+            (files_listed (map (pair_listed 0) (names_in records.now))) ≤ 2 ^ 62 }
         requires counted { AreHeldBelow self.old.nodes }
-        ensures given { GivenEach self.old.nodes (files_told
+        ensures given { GivenEach self.old.nodes (files_listed
             (map (pair_listed 0) (names_in records.now))) self.new.nodes }
         ensures tree { self.new.tree ≡ self.old.tree }
         ensures handles { self.new.handles ≡ self.old.handles }
@@ -135,9 +135,9 @@ impl<S: NodeStore> Files<S> {
         requires few { length (listed_in records) ≤ 32 }
         requires room { length (listed_in records) ≤ self.old.node_room }
         requires generations { generations_after self.old.nodes
-            (files_told (map (pair_listed 0) (listed_in records))) ≤ 2 ^ 62 }
+            (files_listed (map (pair_listed 0) (listed_in records))) ≤ 2 ^ 62 }
         requires counted { AreHeldBelow self.old.nodes }
-        ensures given { GivenEach self.old.nodes (files_told
+        ensures given { GivenEach self.old.nodes (files_listed
             (map (pair_listed 0) (listed_in records.entry))) self.new.nodes }
         ensures tree { self.new.tree ≡ self.old.tree }
         ensures handles { self.new.handles ≡ self.old.handles }
@@ -153,15 +153,15 @@ impl<S: NodeStore> Files<S> {
         requires there { IsThere self.old.tree file }
         requires room { 0 < self.old.node_room }
         requires generations { generations_after self.old.nodes
-            (first_told (cond (is_dots name.now) None (Some file)) []) ≤ 2 ^ 62 }
+            (first_listed (cond (is_dots name.now) None (Some file)) []) ≤ 2 ^ 62 }
         requires counted { AreCounted (2 ^ 63) self.old.nodes }
-        ensures given { GivenEach self.old.nodes (first_told
+        ensures given { GivenEach self.old.nodes (first_listed
             (cond (is_dots name.now) None (Some file)) []) self.new.nodes }
         ensures tree { self.new.tree ≡ self.old.tree }
         ensures handles { self.new.handles ≡ self.old.handles }
         ensures room { self.old.node_room ≤ self.new.node_room + 1 }
         ensures generations { (files : List ℕ) → generations_after self.new.nodes files
-            ≡ generations_after self.old.nodes (first_told (cond (is_dots name.now) None (Some file)) files) }
+            ≡ generations_after self.old.nodes (first_listed (cond (is_dots name.now) None (Some file)) files) }
     {
         self.keeps_sound();
         if !is_dots(name) {
@@ -183,7 +183,7 @@ impl<S: NodeStore> Files<S> {
         requires room { length (names_in records.now) ≤ vec_capacity entries.old }
         requires file_room { length (names_in records.now) ≤ vec_capacity file_entries.old }
         ensures entries { entries.new.items ≡ map (entry_named self.now.tree self.now.nodes) (names_in records.now) }
-        ensures file_entries { file_entries.new.items ≡ files_told
+        ensures file_entries { file_entries.new.items ≡ files_listed
             (entries_named self.now.tree self.now.nodes (names_in records.now)) }
     {
         'records: for record in Records::over(records).unwrap() {
@@ -247,7 +247,7 @@ impl<S: NodeStore> Files<S> {
 /// Puts the entry of a name last, unless the name is `.` or `..`.
 fn put_file_entry<A: Allocator>(file_entries: &mut Vec<Entry, A>, name: &[u8], entry: Entry)
     requires { length file_entries.old.items < vec_capacity file_entries.old }
-    ensures items { file_entries.new.items ≡ file_entries.old.items ++ first_told
+    ensures items { file_entries.new.items ≡ file_entries.old.items ++ first_listed
         (cond (is_dots name.now) None (Some entry)) [] }
     ensures capacity { vec_capacity file_entries.new ≡ vec_capacity file_entries.old }
 {

@@ -2,7 +2,7 @@
 
 ghost use Rattle.std.specs.Prelude.{◌≡◌, ◌≤◌, ◌+◌, ◌*◌, length};
 ghost use Rattle.fuse_spec.specs.Files.Operations as reply;
-ghost use Rattle.fuse_spec.specs.Files.Operations.{files_told};
+ghost use Rattle.fuse_spec.specs.Files.Operations.{files_listed};
 
 use crate::listed_names::ListedNames;
 use fk_wire::Records;
@@ -41,7 +41,7 @@ impl<A: Allocator> ListedNames<A> {
 
     /// The entries of the names that name a file: all but `.` and `..`.
     pub fn file_entries(&self) -> &[Entry]
-        ensures { result.now ≡ files_told
+        ensures { result.now ≡ files_listed
             (listed_pairs self.now.found_ms self.now.entries.items self.now.records.items) }
     {
         &self.file_entries

@@ -37,11 +37,11 @@ errno_said ms (outcome.Plain (Failed errno)) = refl
 
 -- ---- names together with their files
 
-abbrev names_told : Reply ℕ ℕ → ℕ
-names_told (operation.listed_plus pairs) = length pairs
-names_told reply = 0
+abbrev names_listed : Reply ℕ ℕ → ℕ
+names_listed (operation.listed_plus pairs) = length pairs
+names_listed reply = 0
 
-names_are : {A : Type 0} (ms : ℕ) (o : Outcome A) → outcome_names o ≡ names_told (outcome_reply ms o)
+names_are : {A : Type 0} (ms : ℕ) (o : Outcome A) → outcome_names o ≡ names_listed (outcome_reply ms o)
 names_are ms (outcome.Found file) = refl
 names_are ms (outcome.Created file) = refl
 names_are ms (outcome.Opened file) = refl
@@ -63,22 +63,22 @@ most_names tree (outcome.ListedPlus records) repliable = let most = repliable.1 
 most_names tree (outcome.Plain reply) repliable = omega arith
 
 module _ (s : Server) where
-  refused : (b : Bool) (r : Option ℕ) (reply : Reply ℕ ℕ) → names_told reply ≡ 0
-      → names_told (cond b (reply_or reply r) (operation.failed ebadf)) ≡ 0
+  refused : (b : Bool) (r : Option ℕ) (reply : Reply ℕ ℕ) → names_listed reply ≡ 0
+      → names_listed (cond b (reply_or reply r) (operation.failed ebadf)) ≡ 0
   refused true None reply none = none
   refused true (Some errno) reply none = refl
   refused false r reply none = refl
 
-  found_none : (o : Option ℕ) → names_told (looked_up s.validity o) ≡ 0
+  found_none : (o : Option ℕ) → names_listed (looked_up s.validity o) ≡ 0
   found_none None = refl
   found_none (Some file) = refl
 
-  said_none : (o : Operation ℕ Opened) → names_told (reply_unrefused s.validity s.tree (file_operation_of s.nodes o))
-      ≡ 0 → (names_of o ≡ 32) ⊎ (names_told (said_by s (asks o)) ≡ 0)
+  said_none : (o : Operation ℕ Opened) → names_listed (reply_unrefused s.validity s.tree (file_operation_of s.nodes o))
+      ≡ 0 → (names_of o ≡ 32) ⊎ (names_listed (said_by s (asks o)) ≡ 0)
   said_none o none = inr (refused (is_open_for s o) (refusal s.tree (file_operation_of s.nodes o))
       (reply_unrefused s.validity s.tree (file_operation_of s.nodes o)) none)
 
-  asked_names : (o : Operation ℕ Opened) → (names_of o ≡ 32) ⊎ (names_told (said_by s (asks o)) ≡ 0)
+  asked_names : (o : Operation ℕ Opened) → (names_of o ≡ 32) ⊎ (names_listed (said_by s (asks o)) ≡ 0)
   asked_names (operation.lookup d name) = said_none (operation.lookup d name)
       (found_none (file_at s.tree (file_of s.nodes d) name))
   asked_names (operation.getattr x) = said_none (operation.getattr x) refl
@@ -94,23 +94,23 @@ module _ (s : Server) where
   asked_names (operation.read o offset size) = said_none (operation.read o offset size) refl
   asked_names (operation.write o offset bytes) = said_none (operation.write o offset bytes) refl
 
-  body_names : (body : RequestBody) → (names_for body ≡ 32) ⊎ (names_told (said_by s body) ≡ 0)
+  body_names : (body : RequestBody) → (names_for body ≡ 32) ⊎ (names_listed (said_by s body) ≡ 0)
   body_names (init flags) = inr refl
   body_names (asks o) = asked_names o
   body_names (release o) = inr (by (is_open s.handles o.fh (file_of s.nodes o.nodeid)))
     where
-      by : (b : Bool) → names_told (cond b operation.done (operation.failed ebadf)) ≡ 0
+      by : (b : Bool) → names_listed (cond b operation.done (operation.failed ebadf)) ≡ 0
       by true = refl
       by false = refl
   body_names (forget f) = inr refl
   body_names (batch_forget fs) = inr refl
   body_names (interrupt original) = inr refl
 
-  held_names : (h : HeldRequest) → (names_for h.body ≡ 32) ⊎ (names_told (said s h) ≡ 0)
+  held_names : (h : HeldRequest) → (names_for h.body ≡ 32) ⊎ (names_listed (said s h) ≡ 0)
   held_names h = by h.marked (is_still_held s.nodes h.generations) (body_names h.body)
     where
-      by : (m b : Bool) → (names_for h.body ≡ 32) ⊎ (names_told (said_by s h.body) ≡ 0)
-          → (names_for h.body ≡ 32) ⊎ (names_told (cond m (operation.failed eintr)
+      by : (m b : Bool) → (names_for h.body ≡ 32) ⊎ (names_listed (said_by s h.body) ≡ 0)
+          → (names_for h.body ≡ 32) ⊎ (names_listed (cond m (operation.failed eintr)
           (cond b (said_by s h.body) (operation.failed eio))) ≡ 0)
       by true b each = inr refl
       by false true each = each
@@ -121,7 +121,7 @@ module _ (s : Server) where
       → IsRepliable tree o → outcome_names o ≤ names_for h.body
   names_fit h tree ms o says repliable = elim (held_names h) [
     | inl room ↦ (let most = most_names tree o repliable in omega (arith, most, room))
-    | inr none ↦ (let are : outcome_names o ≡ 0 = names_are ms o ∙ ap names_told says ∙ none in omega (arith, are))
+    | inr none ↦ (let are : outcome_names o ≡ 0 = names_are ms o ∙ ap names_listed says ∙ none in omega (arith, are))
   ]
 
 -- room for more is room for less

@@ -18,7 +18,7 @@ use Rattle.fs_files.specs.Values.{FilesState}
 use Rattle.fs_server.specs.Values.{server_with}
 use Rattle.fs_server.specs.Steps.{CanPerform}
 use Rattle.fuse_spec.specs.Server.Refusals.{is_past_end}
-use Rattle.fs_server.proofs.Served.{all_generations, bare, ends_live, files_told, end_live, end_lost, lost_is, numbers_of, all_numbers, numbers_said}
+use Rattle.fs_server.proofs.Served.{all_generations, bare, ends_live, files_listed, end_live, end_lost, lost_is, numbers_of, all_numbers, numbers_said}
 
 none_past : (a b c d e : Bool) → a ≡ false → b ≡ false → c ≡ false → d ≡ false → e ≡ false
     → (a || b || c || d || e) ≡ false
@@ -90,7 +90,7 @@ module _ (files : FilesState) (held : Map HeldRequest) (kept : Map Kept) (copies
       numbers_of files held kept copies next v m unique h there false can in
       let next_low = can.copy refl in
       let generations = all_generations choice files.nodes (files_in_reply reply) can.rising
-      (subst (MayChoose choice files.nodes) (files_told files held kept copies next v m unique h there) may) in
+      (subst (MayChoose choice files.nodes) (files_listed files held kept copies next v m unique h there) may) in
       let most = has.generations refl in
       let opens = all_numbers (handles_said (bare files held kept copies next v m unique h there) h)
       (opens_in_reply reply) in

@@ -15,9 +15,9 @@ module _ (s : Server) (unique : ℕ) where
   not_held none = as_judged NoSuch
       (ap (λ (o : Option HeldRequest). refusal_in (held_found s o (λ (held : HeldRequest). accepted))) none)
 
-  pub told_too_often : (held : HeldRequest) → get s.held unique ≡ Some held
+  pub counted_too_often : (held : HeldRequest) → get s.held unique ≡ Some held
       → counts_out s.nodes (files_given s held) ≡ true → RefusesHeld s unique Exhausted
-  told_too_often held there out = as_judged Exhausted
+  counted_too_often held there out = as_judged Exhausted
       (ap (λ (o : Option HeldRequest). refusal_in (held_found s o (λ (held : HeldRequest). accepted))) there
       ∙ ap (λ (b : Bool). refusal_in (unless b Exhausted accepted)) out)
 

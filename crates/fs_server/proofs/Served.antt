@@ -32,7 +32,7 @@ use Rattle.fs_server.specs.Values.{server_with}
 use Rattle.fs_server.specs.Steps.{CanPerform}
 use Rattle.fuse_spec.specs.Server.Refusals.{is_past_end}
 use Rattle.fs_server.specs.Effects.{PerformsHeld, RefusesHeld, exhausted}
-use Rattle.fs_server.proofs.Refused.{told_too_often}
+use Rattle.fs_server.proofs.Refused.{counted_too_often}
 
 -- a server by its parts
 abbrev pub whole : Tree → NodeTable → HandleTable → Map HeldRequest → Map Kept → Map Copy → ℕ → Validity → Minor → Bool
@@ -300,8 +300,8 @@ module _ (files : FilesState) (held : Map HeldRequest) (kept : Map Kept) (copies
       (did files held kept copies next v m unique h choice)
 
   -- the files that get nodes
-  pub files_told : files_given (server_with files held kept copies next v m false) h ≡ files_in_reply (said bare h)
-  files_told = files_are (server_with files held kept copies next v m false) h refl ∙ ap files_in_reply
+  pub files_listed : files_given (server_with files held kept copies next v m false) h ≡ files_in_reply (said bare h)
+  files_listed = files_are (server_with files held kept copies next v m false) h refl ∙ ap files_in_reply
       (same_said bare held kept copies next false h)
 
   lacking_given : T (is_sorted nat_cmp files.nodes.rows)
@@ -312,10 +312,10 @@ module _ (files : FilesState) (held : Map HeldRequest) (kept : Map Kept) (copies
   lacking_given rising lacks = elim lacks [
     | inl generations ↦ exhausted h there (λ choice may.
         let all = all_generations choice files.nodes (files_in_reply (said bare h)) rising
-        (subst (MayChoose choice files.nodes) files_told may) in
+        (subst (MayChoose choice files.nodes) files_listed may) in
         ap is_past_end (ends_live choice) ∙ past (end_live choice) (inr (inr (inl (omega (arith, all, generations))))))
     | inr other ↦ elim other [
-      | inl out ↦ told_too_often _ _ h there (ap (counts_out files.nodes) files_told ∙ out)
+      | inl out ↦ counted_too_often _ _ h there (ap (counts_out files.nodes) files_listed ∙ out)
       | inr numbers ↦ exhausted h there (λ choice may.
           let all = all_numbers (handles_said bare h) (opens_in_reply (said bare h)) in
           let start = numbers_said bare h in
@@ -376,7 +376,7 @@ module _ (files : FilesState) (held : Map HeldRequest) (kept : Map Kept) (copies
       → counts_out files.nodes (files_given (server_with files held kept copies next v m a) h) ≡ false
   counts_given true rising below has = ap (counts_out files.nodes)
       (no_files (server_with files held kept copies next v m true) h refl) ∙ none_out files.nodes [] rising below tt
-  counts_given false rising below has = ap (counts_out files.nodes) files_told ∙ has.counts refl
+  counts_given false rising below has = ap (counts_out files.nodes) files_listed ∙ has.counts refl
 
   -- what the server says of a request is what its files say
   pub can : (a : Bool) → T (is_sorted nat_cmp files.nodes.rows) → AreHeldBelow files.nodes

@@ -1,7 +1,7 @@
 -- Names with their files, as READDIR and as READDIRPLUS list them.
 use Rattle.std.proofs.Common.{◌≡◌, ℕ, ◌+◌, ◌-◌, Bool, true, false, cond, List, [], ◌∷◌, map, Some, refl, sym, ap, ◌∙◌, arith, filter, nat_eq, nat_le, nat_lt}
 use Rattle.fuse_spec.specs.Values.Maps.{Map}
-use Rattle.fuse_spec.specs.Files.Operations.{Dirent, DirentPlus, files_told, first_told, told_by}
+use Rattle.fuse_spec.specs.Files.Operations.{Dirent, DirentPlus, files_listed, first_listed, listed_by}
 use Rattle.fuse_spec.specs.Files.Trees.{Content, Named, fitting, fitting_pairs, record_length}
 use Rattle.fs_tree.specs.Stored.{dirent_in, files_led, fitting_with, lead_in, lead_pair, listed}
 use Rattle.fs_tree.specs.Views.{dirent_of, lead_of, pair_of}
@@ -39,14 +39,14 @@ fitting-pairs valid room (r ∷ records) = by (nat_le (128 + record_length r.1) 
     by true rest = ap (λ l. lead_pair valid r ∷ l) rest
     by false rest = refl
 
-told-either : (valid : ℕ) (r : ℕ × Dirent) → told_by (lead_pair 0 r) ≡ told_by (lead_pair valid r)
+told-either : (valid : ℕ) (r : ℕ × Dirent) → listed_by (lead_pair 0 r) ≡ listed_by (lead_pair valid r)
 told-either valid r = refl
 
 -- they tell the same files however long they are valid
 pub files-either : (valid : ℕ) (records : List (ℕ × Dirent))
-    → files_led records ≡ files_told (map (lead_pair valid) records)
+    → files_led records ≡ files_listed (map (lead_pair valid) records)
 files-either valid [] = refl
-files-either valid (r ∷ records) = ap (first_told (told_by (lead_pair 0 r))) (files-either valid records)
+files-either valid (r ∷ records) = ap (first_listed (listed_by (lead_pair 0 r))) (files-either valid records)
 
 map_map : {A B C : Type 0} (f : A → B) (g : B → C) (xs : List A) → map g (map f xs) ≡ map (λ x. g (f x)) xs
 map_map f g [] = refl
@@ -80,10 +80,10 @@ pairs-listed valid files dir after room names records are =
 -- the files that they tell
 pub files-listed : (valid : ℕ) (files : Map Content) (dir after room : ℕ) (names : List Named)
     → files_led (fitting_with 128 room (listed files dir after names))
-    ≡ files_told (fitting_pairs room (map (pair_in valid files)
+    ≡ files_listed (fitting_pairs room (map (pair_in valid files)
     (filter (λ n. nat_lt after n.serial) (filter (λ n. nat_eq n.directory dir) names))))
 files-listed valid files dir after room names =
-    files-either valid (fitting_with 128 room (listed files dir after names)) ∙ ap files_told
+    files-either valid (fitting_with 128 room (listed files dir after names)) ∙ ap files_listed
     (fitting-pairs valid room (listed files dir after names)
     ∙ ap (fitting_pairs room) (map_map (lead_in files) (lead_pair valid)
     (filter (λ n. nat_lt after n.serial) (filter (λ n. nat_eq n.directory dir) names))))

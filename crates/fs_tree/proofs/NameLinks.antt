@@ -10,7 +10,7 @@ use Rattle.std.specs.Map.{lookup, keys_of, KeepsOthers}
 use Rattle.std.specs.BTreeMap.{insert_entry}
 use Rattle.std.proofs.lemmas.List.{map-append, append-nil, append_assoc}
 use Rattle.std.proofs.lemmas.Grind.{common_steps}
-use Rattle.fuse_spec.specs.Files.Operations.{Dirent, first_told, told_by}
+use Rattle.fuse_spec.specs.Files.Operations.{Dirent, first_listed, listed_by}
 use Rattle.fuse_spec.specs.Files.Trees.{same_name, record_length}
 use Rattle.fs_tree.specs.Stored.{Entry, AreBefore, AreBelow, AreNamedOnce, IsRising, files_led, fitting_with, in_directory, lead_pair, without_key}
 use Rattle.fs_tree.specs.EntryViews.{entry_of, link_of, entry_link, link_in, AreLinked}
@@ -347,7 +347,7 @@ module _ (more : ℕ) (rest : List (ℕ × Dirent)) (r : ℕ × Dirent) (room le
   -- the same of the files that they tell
   pub files-more : (done : List ℕ) → nat_le len room ≡ true
       → done ++ files_led (fitting_with more room (r ∷ rest)) ≡ done
-      ++ first_told (told_by (lead_pair 0 r)) (files_led (fitting_with more (room - len) rest))
+      ++ first_listed (listed_by (lead_pair 0 r)) (files_led (fitting_with more (room - len) rest))
   files-more done fits = rw (is, fits) refl
 
   pub files-end : (done : List ℕ) → nat_le len room ≡ false
@@ -361,6 +361,6 @@ pub under : (len room : ℕ) → len ≤ room → nat_le len room ≡ true
 under len room short = grind (arith, common_steps)
 
 -- one file more
-pub told-append : (o : Option ℕ) (files : List ℕ) → first_told o [] ++ files ≡ first_told o files
+pub told-append : (o : Option ℕ) (files : List ℕ) → first_listed o [] ++ files ≡ first_listed o files
 told-append None files = refl
 told-append (Some file) files = refl

@@ -3,7 +3,7 @@ use Rattle.std.specs.Prelude.{◌≡◌, ℕ, ◌+◌, ◌-◌, ◌<◌, ◌≤�
 use Rattle.std.specs.Map.{lookup}
 use Rattle.std.specs.Option.{unwrap_or}
 use Rattle.fuse_spec.specs.Values.Maps.{Map, get}
-use Rattle.fuse_spec.specs.Files.Operations.{Dirent, DirentPlus, files_told}
+use Rattle.fuse_spec.specs.Files.Operations.{Dirent, DirentPlus, files_listed}
 use Rattle.fuse_spec.specs.Files.Trees.{Content, Named, is_at, kind_of, record_length, same_name}
 
 -- The record of READDIR for a name of one of these files.
@@ -31,7 +31,7 @@ lead_pair valid r = record { file = Some r.0; valid = valid; dirent = r.1 }
 
 -- The files that these names tell.
 abbrev pub files_led : List (ℕ × Dirent) → List ℕ
-files_led records = files_told (map (lead_pair 0) records)
+files_led records = files_listed (map (lead_pair 0) records)
 
 -- Every key is below this number.
 abbrev pub AreBelow : {V : Type 0} → ℕ → List (ℕ × V) → Type 0

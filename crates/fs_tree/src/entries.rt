@@ -6,7 +6,7 @@ ghost use Rattle.fuse_spec.specs.Files.Trees.{Content, same_name};
 ghost use Rattle.std.specs.Ordering.{nat_cmp};
 ghost use Rattle.std.specs.BTreeMap.{IsOrdered};
 ghost use Rattle.arrayvec.specs.ArrayVec.{array_vec_len};
-ghost use Rattle.fuse_spec.specs.Files.Operations.{first_told};
+ghost use Rattle.fuse_spec.specs.Files.Operations.{first_listed};
 ghost use Rattle.fuse_spec.specs.Calls.Paths.{is_dots};
 ghost use Rattle.fs_tree.specs.Stored.{AreBefore, files_led, fitting_with, in_directory, lead_in, without_key};
 ghost use Rattle.fs_tree.specs.Views.{lead_of};
@@ -179,7 +179,7 @@ impl<A: Allocator + Copy> Entries<A> {
 /// Puts the file that a name tells last.
 fn list_file(listed: &mut ArrayVec<u64, MOST_LISTED>, name: &[u8], file: u64)
     requires { array_vec_len listed.old < 26 }
-    ensures items { listed.new.items ≡ listed.old.items ++ first_told (cond (is_dots name.now) None (Some file)) [] }
+    ensures items { listed.new.items ≡ listed.old.items ++ first_listed (cond (is_dots name.now) None (Some file)) [] }
     ensures len { array_vec_len listed.new ≤ array_vec_len listed.old + 1 }
 {
     if !is_dots(name) {

@@ -3,7 +3,7 @@
 ghost use Rattle.std.specs.Prelude.{◌≡◌};
 ghost use Rattle.fk_wire.specs.Entries.{entry_content};
 ghost use Rattle.fk_wire.specs.Records.{direntplus_content};
-ghost use Rattle.fuse_spec.specs.Files.Operations.{told_by as file_told};
+ghost use Rattle.fuse_spec.specs.Files.Operations.{listed_by as file_told};
 ghost use Rattle.fuse_spec.specs.Calls.Paths.{is_dots as are_dots};
 ghost use Rattle.fuse_frames.specs.ReplyTies.{attributes_in, file_in, kind_of_mode, pair_in, valid_in};
 ghost use Rattle.fuse_frames.specs.ReplyTies.{kind_of_type as kind_told};
@@ -88,7 +88,7 @@ fn is_dots(name: &[u8]) -> bool
 
 /// The file that a name in a list tells, and for how many milliseconds the name leads there. `.` and `..` tell none,
 /// nor does an entry of node id 0 (linux/fuse.h, struct fuse_direntplus).
-pub fn told_by(pair: &DirentPlus<'_>) -> (Option<Entry>, u64)
+pub fn listed_by(pair: &DirentPlus<'_>) -> (Option<Entry>, u64)
     ensures file { result.0 ≡ file_told (pair_in (direntplus_content pair.now)) }
     ensures valid { result.1 ≡ (pair_in (direntplus_content pair.now)).valid }
 {

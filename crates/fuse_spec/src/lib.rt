@@ -105,7 +105,7 @@ pub enum Phase {
     Aborted,
 }
 
-/// A node that the kernel counts: its generation, and how often an entry has named it since it was learnt.
+/// A node that the kernel counts: its generation, and how often an entry has named it since it was counted.
 #[derive(Clone, Copy, Debug, PartialEq, Eq)]
 pub struct Counted {
     pub generation: u64,

@@ -19,7 +19,7 @@ pub mod Giving
 pub mod SendingAgain
 pub mod Naming
 pub mod Performing
-pub mod Learning
+pub mod LookedUp
 pub mod Accepting
 pub mod Noting
 pub mod Signalling

@@ -16,7 +16,7 @@ use Rattle.fuse_spec.specs.Server.Nodes.{NodeTable, HandleTable, file_of, is_ope
 use Rattle.std.specs.List.{list_any}
 use Rattle.fuse_spec.specs.Claim.Counts.{opens_of, opens_of_body}
 use Rattle.fuse_spec.specs.Server.Server.{Server, HeldRequest, Kept, nodes_of_body}
-use Rattle.fuse_spec.specs.Kernel.Replies.{goes_with, usable, learnt, reply_judged, use_of_reply, stale_in_reply}
+use Rattle.fuse_spec.specs.Kernel.Replies.{goes_with, usable, looked_up, reply_judged, use_of_reply, stale_in_reply}
 use Rattle.fuse_spec.specs.Server.Performs.{is_still_held}
 use Rattle.fuse_spec.specs.Kernel.Kernel.{Kernel}
 use Rattle.fuse_spec.specs.Kernel.QueueCalls.{waiting}
@@ -81,7 +81,7 @@ pub record IsUsable (nodes : Map Counted) (wire : WireReply) : Type 0 where
   pub judged : reply_judged nodes wire ≡ wire
   pub none_stale : stale_in_reply nodes wire ≡ []
   pub is_usable : use_of_reply nodes wire ≡ usable
-  pub known : All (λ (g : Entry). generation_known (learnt nodes (files_in_reply wire)) g.nodeid ≡ Some g.generation)
+  pub known : All (λ (g : Entry). generation_known (looked_up nodes (files_in_reply wire)) g.nodeid ≡ Some g.generation)
       (files_in_reply wire)
 
 -- A copy that replies to the request of an unanswered call, whose ask was performed: it goes with the operation, and

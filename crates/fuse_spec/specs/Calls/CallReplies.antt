@@ -4,24 +4,24 @@ use Rattle.std.specs.Prelude.{ℕ, ◌+◌, List, [], ◌∷◌, Option, Some, N
 use Rattle.fuse_spec.specs.declared.Binding.{Binding}
 use Rattle.fuse_spec.specs.Values.Maps.{NameMap, put_name}
 use Rattle.fuse_spec.specs.Values.Numbers.{enoent, eio}
-use Rattle.fuse_spec.specs.Files.Operations.{Operation, getattr, mkdir, create, unlink, rmdir, rename, link, opening, readdir, readdirplus, read, write, DirentPlus, told_by, Reply, found, missing, created, opened, attributes, listed, listed_plus, content, written, done, failed}
+use Rattle.fuse_spec.specs.Files.Operations.{Operation, getattr, mkdir, create, unlink, rmdir, rename, link, opening, readdir, readdirplus, read, write, DirentPlus, listed_by, Reply, found, missing, created, opened, attributes, listed, listed_plus, content, written, done, failed}
 use Rattle.fuse_spec.specs.Calls.Answers as answer
 use Rattle.fuse_spec.specs.Calls.Vfs.{CallState, walking, doing, using, Vfs, Advance, no_more, answered, bound, unbound, opened_by, walks_on}
 
--- The next three put the names of a list in force, in order, each that tells its file. (linux/fuse.h, struct
+-- The next three put the names of a list in force, in order, each that has its file. (linux/fuse.h, struct
 -- fuse_direntplus)
-abbrev pub name_told : (now directory : ℕ) → NameMap Binding → DirentPlus ℕ → Option ℕ → NameMap Binding
-name_told now directory names pair None = names
-name_told now directory names pair (Some file) =
+abbrev pub name_listed : (now directory : ℕ) → NameMap Binding → DirentPlus ℕ → Option ℕ → NameMap Binding
+name_listed now directory names pair None = names
+name_listed now directory names pair (Some file) =
     put_name names (directory, pair.dirent.name) (record { target = Some file; until = now + pair.valid })
 
-abbrev pub names_told : (now directory : ℕ) → NameMap Binding → List (DirentPlus ℕ) → NameMap Binding
-names_told now directory names [] = names
-names_told now directory names (pair ∷ pairs) = names_told now directory
-    (name_told now directory names pair (told_by pair)) pairs
+abbrev pub names_listed : (now directory : ℕ) → NameMap Binding → List (DirentPlus ℕ) → NameMap Binding
+names_listed now directory names [] = names
+names_listed now directory names (pair ∷ pairs) = names_listed now directory
+    (name_listed now directory names pair (listed_by pair)) pairs
 
 abbrev pub all_bound : {O : Type 0} → Vfs O → (directory : ℕ) → List (DirentPlus ℕ) → Vfs O
-all_bound c directory pairs = record c { names = names_told c.clock directory c.names pairs }
+all_bound c directory pairs = record c { names = names_listed c.clock directory c.names pairs }
 
 -- The reply to the call's own operation answers the call and puts names in force or takes them out; what doesn't go
 -- with the operation is EIO. (Linux VFS)

@@ -1,7 +1,7 @@
 -- Which file a node denotes, and what is alike once each node is replaced by the file that it denotes.
 use Rattle.std.specs.Prelude.{◌≡◌, ℕ, true, cond, List, [], ◌∷◌, Option, Some, None, nat_eq, option_map}
 use Rattle.fuse_spec.specs.Values.Maps.{Map, get}
-use Rattle.fuse_spec.specs.Files.Operations.{Operation, lookup, getattr, mkdir, create, unlink, rmdir, rename, link, opening, readdir, readdirplus, read, write, DirentPlus, told_by, Reply, found, missing, created, opened, attributes, listed, listed_plus, content, written, agreed, done, failed}
+use Rattle.fuse_spec.specs.Files.Operations.{Operation, lookup, getattr, mkdir, create, unlink, rmdir, rename, link, opening, readdir, readdirplus, read, write, DirentPlus, listed_by, Reply, found, missing, created, opened, attributes, listed, listed_plus, content, written, agreed, done, failed}
 use Rattle.fuse_spec.specs.Calls.Walks.{FinalOperation, WalkPlan, last}
 use Rattle.fuse_spec.specs.Calls.Walks as final
 use Rattle.fuse_spec.specs.Calls.Vfs.{CallState, walking, doing, using}
@@ -77,9 +77,9 @@ OperationAlike R S (read o offset size) (read p offset' size') = S o p × (offse
 OperationAlike R S (write o offset bytes) (write p offset' bytes') = S o p × (offset ≡ offset') × (bytes ≡ bytes')
 OperationAlike R S a b = ⊥
 
--- The same names in a list, each with a file that R says is the same, where it tells one.
+-- The same names in a list, each with a file that R says is the same, where it has one.
 abbrev pub PairAlike : {F G : Type 0} → (F → G → Type 0) → DirentPlus F → DirentPlus G → Type 0
-PairAlike R x y = OptionAlike R (told_by x) (told_by y) × (x.valid ≡ y.valid) × (x.dirent ≡ y.dirent)
+PairAlike R x y = OptionAlike R (listed_by x) (listed_by y) × (x.valid ≡ y.valid) × (x.dirent ≡ y.dirent)
 
 abbrev pub PairsAlike : {F G : Type 0} → (F → G → Type 0) → List (DirentPlus F) → List (DirentPlus G) → Type 0
 PairsAlike R [] [] = Unit {0}

@@ -103,18 +103,18 @@ files_in h (readdirplus d after size) = d ∷ []
 files_in h (read o offset size) = h o
 files_in h (write o offset bytes) = h o
 
--- The next three are the files that names in a list tell, in order; `.` and `..` tell none. (linux/fuse.h, struct
--- fuse_direntplus)
-abbrev pub told_by : {F : Type 0} → DirentPlus F → Option F
-told_by pair = cond (is_dots pair.dirent.name) None pair.file
+-- The next three are the files that are listed with their names, in order; `.` and `..` are listed without.
+-- (linux/fuse.h, struct fuse_direntplus)
+abbrev pub listed_by : {F : Type 0} → DirentPlus F → Option F
+listed_by pair = cond (is_dots pair.dirent.name) None pair.file
 
-abbrev pub first_told : {F : Type 0} → Option F → List F → List F
-first_told None files = files
-first_told (Some file) files = file ∷ files
+abbrev pub first_listed : {F : Type 0} → Option F → List F → List F
+first_listed None files = files
+first_listed (Some file) files = file ∷ files
 
-abbrev pub files_told : {F : Type 0} → List (DirentPlus F) → List F
-files_told [] = []
-files_told (pair ∷ pairs) = first_told (told_by pair) (files_told pairs)
+abbrev pub files_listed : {F : Type 0} → List (DirentPlus F) → List F
+files_listed [] = []
+files_listed (pair ∷ pairs) = first_listed (listed_by pair) (files_listed pairs)
 
 -- The files that the entries of a reply name, as often as they do: each is one lookup more of its node. (libfuse,
 -- low-level: lookup)
@@ -125,7 +125,7 @@ files_in_reply (missing valid) = []
 files_in_reply (opened o) = []
 files_in_reply (attributes a) = []
 files_in_reply (listed records) = []
-files_in_reply (listed_plus pairs) = files_told pairs
+files_in_reply (listed_plus pairs) = files_listed pairs
 files_in_reply (content bytes) = []
 files_in_reply (written size) = []
 files_in_reply (agreed major minor flags) = []

@@ -79,15 +79,15 @@ module _ {A : Type 0} (k : Kernel) where
   abbrev pub when_not_interrupted : Result A Refusal → Result A Refusal
   when_not_interrupted else = unless (not (nat_eq (length k.queues.interrupts) 0)) InterruptFirst else
 
-  -- A mount.
+  -- A mount, which would leave calls without an answer and files open for ever.
   abbrev pub to_mount : Result A Refusal → Result A Refusal
   to_mount else = unless (is_busy k) Busy else
 
-  -- A call.
+  -- A call: before INIT is answered the kernel may ask nothing, and few calls are unanswered at once.
   abbrev pub to_call : Result A Refusal → Result A Refusal
   to_call else = unless (not (is_ready k.phase)) NotReady (unless (nat_le max_calls (length k.vfs.calls)) Full else)
 
-  -- So many milliseconds that pass.
+  -- So many milliseconds that pass: the clock ends so early that a name's end is still a number of 64 bits.
   abbrev pub to_pass : ℕ → Result A Refusal → Result A Refusal
   to_pass ms else = unless (nat_le clock_end (k.vfs.clock + ms)) BadTime else
 

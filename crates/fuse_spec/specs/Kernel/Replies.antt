@@ -3,7 +3,7 @@ use Rattle.std.specs.Prelude.{ℕ, ◌+◌, ◌-◌, ◌%◌, Bool, true, false,
 use Rattle.std.specs.Int.RustNames.{bit_and}
 use Rattle.fuse_spec.specs.Values.Maps.{Map, get, put}
 use Rattle.fuse_spec.specs.Values.Numbers.{eio, eagain, enosys, do_readdirplus}
-use Rattle.fuse_spec.specs.Files.Operations.{Operation, lookup, getattr, mkdir, create, unlink, rmdir, rename, link, opening, readdir, readdirplus, read, write, DirentPlus, told_by, files_told, Reply, found, missing, created, opened, attributes, listed, listed_plus, content, written, agreed, done, failed, reply_with, files_in_reply}
+use Rattle.fuse_spec.specs.Files.Operations.{Operation, lookup, getattr, mkdir, create, unlink, rmdir, rename, link, opening, readdir, readdirplus, read, write, DirentPlus, listed_by, files_listed, Reply, found, missing, created, opened, attributes, listed, listed_plus, content, written, agreed, done, failed, reply_with, files_in_reply}
 use Rattle.fuse_spec.specs.Calls.Answers as answer
 use Rattle.fuse_spec.specs.Files.Trees.{record_length, pair_length}
 use Rattle.fuse_spec.specs.Calls.Vfs.{CallState, asked, answered}
@@ -110,9 +110,9 @@ counted_more g None = record { generation = g.generation; count = 1 }
 counted_more g (Some counted) = record counted { count = counted.count + 1 }
 
 -- The kernel's counts once each of these entries is counted, one lookup each. (libfuse, low-level: lookup)
-abbrev pub learnt : Map Counted → List Entry → Map Counted
-learnt nodes [] = nodes
-learnt nodes (g ∷ gs) = learnt (put nodes g.nodeid (counted_more g (get nodes g.nodeid))) gs
+abbrev pub looked_up : Map Counted → List Entry → Map Counted
+looked_up nodes [] = nodes
+looked_up nodes (g ∷ gs) = looked_up (put nodes g.nodeid (counted_more g (get nodes g.nodeid))) gs
 
 -- The node that is opened: the operation's own, or that of the entry. (linux/fuse.h, FUSE_CREATE)
 abbrev pub node_opened : Operation ℕ Opened → List Entry → ℕ
@@ -130,7 +130,7 @@ kernel_reply operation wire = reply_with (λ (g : Entry). g.nodeid)
 -- generation is another, one lookup is forgotten at once. (this project's rule)
 abbrev pub judged : Kernel → ℕ → CallState Opened → WireReply → Use → Kernel
 judged k call state wire usable =
-    advanced (record k { nodes = learnt k.nodes (files_in_reply wire) }) call
+    advanced (record k { nodes = looked_up k.nodes (files_in_reply wire) }) call
     (call_replied k.vfs call state (kernel_reply (asked state) wire))
 judged k call state wire useless = record k { vfs = answered k.vfs call (answer.failed eio) }
 judged k call state wire (stale node) = record k {
@@ -140,28 +140,29 @@ judged k call state wire (stale node) = record k {
 
 -- ---- names in a list, with their files
 
--- Whether the entry of a name in a list can be used; one that tells no file need not be.
-abbrev pub use_of_told : Map Counted → Option Entry → Use
-use_of_told nodes None = usable
-use_of_told nodes (Some g) = use_of nodes g
+-- Whether the entry of a name in a list can be used; one without a file need not be.
+abbrev pub use_of_listed : Map Counted → Option Entry → Use
+use_of_listed nodes None = usable
+use_of_listed nodes (Some g) = use_of nodes g
 
--- A name in a list as the kernel takes it: where its entry can't be used, it tells no file. (this project's rule)
+-- A name in a list as the kernel takes it: where its entry can't be used, it is listed without a file.
+-- (this project's rule)
 abbrev pub pair_judged : DirentPlus Entry → Use → DirentPlus Entry
 pair_judged pair usable = pair
 pair_judged pair useless = record pair { file = None }
 pair_judged pair (stale node) = record pair { file = None }
 
 -- The kernel's counts after such a name. (linux/fuse.h, struct fuse_direntplus)
-abbrev pub learnt_by : Map Counted → DirentPlus Entry → Map Counted
-learnt_by nodes pair = learnt nodes (files_told (pair_judged pair (use_of_told nodes (told_by pair)) ∷ []))
+abbrev pub looked_up_by : Map Counted → DirentPlus Entry → Map Counted
+looked_up_by nodes pair = looked_up nodes (files_listed (pair_judged pair (use_of_listed nodes (listed_by pair)) ∷ []))
 
 -- The names of a list, each judged by the counts that those before it left. (this project's rule)
 abbrev pub pairs_judged : Map Counted → List (DirentPlus Entry) → List (DirentPlus Entry)
 pairs_judged nodes [] = []
-pairs_judged nodes (pair ∷ pairs) = pair_judged pair (use_of_told nodes (told_by pair)) ∷ pairs_judged
-    (learnt_by nodes pair) pairs
+pairs_judged nodes (pair ∷ pairs) = pair_judged pair (use_of_listed nodes (listed_by pair)) ∷ pairs_judged
+    (looked_up_by nodes pair) pairs
 
--- The next two are the nodes that names of a list tell under another generation than they are counted.
+-- The next two are the nodes that are listed under another generation than they are counted.
 abbrev pub stale_in : Use → List ℕ
 stale_in usable = []
 stale_in useless = []
@@ -169,8 +170,8 @@ stale_in (stale node) = node ∷ []
 
 abbrev pub stale_among : Map Counted → List (DirentPlus Entry) → List ℕ
 stale_among nodes [] = []
-stale_among nodes (pair ∷ pairs) = stale_in (use_of_told nodes (told_by pair))
-    ++ stale_among (learnt_by nodes pair) pairs
+stale_among nodes (pair ∷ pairs) = stale_in (use_of_listed nodes (listed_by pair))
+    ++ stale_among (looked_up_by nodes pair) pairs
 
 -- The next two forget one lookup of each of these nodes, in turn. (libfuse, low-level: forget)
 abbrev pub forgets_with : List Forget → List ℕ → List Forget

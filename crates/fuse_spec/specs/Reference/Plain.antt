@@ -74,8 +74,8 @@ ask_declined p label ask = record p { asks = put p.asks label (record ask { stag
 
 -- A performed ask goes, and its reply reaches its call, which stands here. What the call asks next bears the label
 -- `next`.
-abbrev pub ask_told : Plain → (label next : ℕ) → Ask → Reply ℕ ℕ → CallState ℕ → Plain
-ask_told p label next ask reply state = going_on (record p { asks = remove p.asks label }) next ask.call
+abbrev pub ask_delivered : Plain → (label next : ℕ) → Ask → Reply ℕ ℕ → CallState ℕ → Plain
+ask_delivered p label next ask reply state = going_on (record p { asks = remove p.asks label }) next ask.call
     (call_replied p.vfs ask.call state reply)
 
 -- An ask goes, and its call is answered EINTR. (fuse.rst)

@@ -190,7 +190,7 @@ is_reply_to (op.write file offset bytes) (op.written size) = true
 is_reply_to operation reply = false
 
 -- Names of a list come into force in the directory, one after another: each with its file, but `.` and `..` and those
--- that tell none. (linux/fuse.h, struct fuse_direntplus)
+-- that have none. (linux/fuse.h, struct fuse_direntplus)
 pub data ComeIntoForce (directory : ℕ) : Vfs ℕ → List (DirentPlus ℕ) → Vfs ℕ → Type 0 where
   none_left : (c : Vfs ℕ) → ComeIntoForce directory c [] c
   comes : (c : Vfs ℕ) (pair : DirentPlus ℕ) (pairs : List (DirentPlus ℕ)) (file : ℕ) (after : Vfs ℕ)
@@ -200,7 +200,7 @@ pub data ComeIntoForce (directory : ℕ) : Vfs ℕ → List (DirentPlus ℕ) →
   is_dot : (c : Vfs ℕ) (pair : DirentPlus ℕ) (pairs : List (DirentPlus ℕ)) (after : Vfs ℕ)
       → is_dots pair.dirent.name ≡ true
       → ComeIntoForce directory c pairs after → ComeIntoForce directory c (pair ∷ pairs) after
-  tells_none : (c : Vfs ℕ) (pair : DirentPlus ℕ) (pairs : List (DirentPlus ℕ)) (after : Vfs ℕ) → pair.file ≡ None
+  has_no_file : (c : Vfs ℕ) (pair : DirentPlus ℕ) (pairs : List (DirentPlus ℕ)) (after : Vfs ℕ) → pair.file ≡ None
       → ComeIntoForce directory c pairs after → ComeIntoForce directory c (pair ∷ pairs) after
 
 -- The reply to a call's own operation, the answer that it is, and the names that come into force or go out of it.
@@ -264,7 +264,7 @@ pub data ReceivesReply (c : Vfs ℕ) (number : ℕ) : CallState ℕ → Reply �
   is_missing : (directory : ℕ) (word : Name) (words : List Name) (plan : WalkPlan ℕ) (valid : ℕ)
       → ReceivesReply c number (walking directory word words plan) (op.missing valid)
       (is_answered (in_force c directory word None valid) number (answer.failed enoent)) None
-  is_not_told : (directory : ℕ) (word : Name) (words : List Name) (plan : WalkPlan ℕ) (errno : ℕ)
+  is_not_delivered : (directory : ℕ) (word : Name) (words : List Name) (plan : WalkPlan ℕ) (errno : ℕ)
       → ReceivesReply c number (walking directory word words plan) (op.failed errno)
       (is_answered c number (answer.failed errno)) None
   is_odd : (directory : ℕ) (word : Name) (words : List Name) (plan : WalkPlan ℕ) (reply : Reply ℕ ℕ)

@@ -10,7 +10,7 @@ use Rattle.fuse_spec.specs.declared.WriteResult.TheVariants.{Accepted, NoEntry, 
 use Rattle.fuse_spec.specs.declared.Taken.TheVariants as word
 use Rattle.fuse_spec.specs.World.Events.{Event, Outcome}
 use Rattle.fuse_spec.specs.World.Events as event
-use Rattle.fuse_spec.specs.Reference.Plain.{Plain, Ask, Stage, waiting, performed, declined, call_put, ask_performed, ask_declined, ask_told, ask_interrupted, ask_noted, ask_marked, plain_later, name_dropped, plain_aborted, plain_mounted}
+use Rattle.fuse_spec.specs.Reference.Plain.{Plain, Ask, Stage, waiting, performed, declined, call_put, ask_performed, ask_declined, ask_delivered, ask_interrupted, ask_noted, ask_marked, plain_later, name_dropped, plain_aborted, plain_mounted}
 
 -- A step, where the condition holds.
 abbrev pub where_so : Bool → Plain → Option Plain
@@ -29,19 +29,20 @@ serving p label None = Some p
 serving p label (Some ask) = serving_ask p label ask ask.stage
 
 -- The reply to a performed ask reaches its call, if that is unanswered and what it asks next can bear the coming label.
-abbrev pub telling_call : Plain → (label next : ℕ) → Ask → Reply ℕ ℕ → Option (CallState ℕ) → Option Plain
-telling_call p label next ask reply None = None
-telling_call p label next ask reply (Some state) =
-    where_so (not (is_some (get p.asks next))) (ask_told p label next ask reply state)
+abbrev pub delivering_to_call : Plain → (label next : ℕ) → Ask → Reply ℕ ℕ → Option (CallState ℕ) → Option Plain
+delivering_to_call p label next ask reply None = None
+delivering_to_call p label next ask reply (Some state) =
+    where_so (not (is_some (get p.asks next))) (ask_delivered p label next ask reply state)
 
 -- The reply to a performed ask reaches its call, and a declined one answers its call EINTR, if that is unanswered.
 abbrev pub delivering_reply : Plain → (label next : ℕ) → Ask → Stage → Option Plain
 delivering_reply p label next ask waiting = None
-delivering_reply p label next ask (performed reply) = telling_call p label next ask reply (get p.vfs.calls ask.call)
+delivering_reply p label next ask (performed reply) = delivering_to_call p label next ask reply
+    (get p.vfs.calls ask.call)
 delivering_reply p label next ask declined = where_so (ask.noted && is_some (get p.vfs.calls ask.call))
     (ask_interrupted p label ask)
 
--- A reply that is accepted is told to the call of its ask, and one under a label that no ask bears takes no step.
+-- A reply that is accepted is delivered to the call of its ask, and one under a label that no ask bears takes no step.
 abbrev pub delivering : Plain → (label next : ℕ) → Option Ask → Option Plain
 delivering p label next None = Some p
 delivering p label next (Some ask) = delivering_reply p label next ask ask.stage

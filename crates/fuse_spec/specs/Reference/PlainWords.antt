@@ -79,17 +79,18 @@ pub data Steps (p : Plain) : Event → Outcome → Plain → Type 0 where
   performs_none : (unique u errno : ℕ) (lost : Bool) → get p.asks unique ≡ None
       → Steps p (event.perform unique) (event.performed u errno lost) p
   -- the reply to a performed ask reaches its call, which is unanswered; a declined ask answers it EINTR
-  tells : (k unique label : ℕ) (ask : Ask) (reply : Reply ℕ ℕ) (state : CallState ℕ) (after : Vfs ℕ)
+  delivers : (k unique label : ℕ) (ask : Ask) (reply : Reply ℕ ℕ) (state : CallState ℕ) (after : Vfs ℕ)
       (asked : Option (Operation ℕ ℕ)) (q : Plain) → get p.asks unique ≡ Some ask → ask.stage ≡ performed reply
       → get p.vfs.calls ask.call ≡ Some state
       → get p.asks label ≡ None → ReceivesReply p.vfs ask.call state reply after asked
       → Asks (record p { asks = remove p.asks unique }) label ask.call after asked q
       → Steps p (event.write k) (event.written unique Accepted) q
-  tells_eintr : (k unique : ℕ) (ask : Ask) (state : CallState ℕ) → get p.asks unique ≡ Some ask → ask.stage ≡ declined
+  delivers_eintr : (k unique : ℕ) (ask : Ask) (state : CallState ℕ) → get p.asks unique ≡ Some ask
+      → ask.stage ≡ declined
       → ask.noted ≡ true → get p.vfs.calls ask.call ≡ Some state
       → Steps p (event.write k) (event.written unique Accepted)
       (record p { asks = remove p.asks unique; vfs = is_answered p.vfs ask.call (failed eintr) })
-  tells_none : (k unique : ℕ) → get p.asks unique ≡ None → Steps p (event.write k) (event.written unique Accepted) p
+  delivers_none : (k unique : ℕ) → get p.asks unique ≡ None → Steps p (event.write k) (event.written unique Accepted) p
   no_entry : (k unique : ℕ) → Steps p (event.write k) (event.written unique NoEntry) p
   is_wrong : (k unique : ℕ) → Steps p (event.write k) (event.written unique Invalid) p
   -- a signal reaches an ask of its call, which is unanswered: one that waits goes and the call is answered EINTR, or

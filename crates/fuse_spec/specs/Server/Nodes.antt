@@ -49,7 +49,7 @@ IsUnheld t file = (id : ℕ) (row : HeldNode) → get t.rows id ≡ Some row →
 abbrev pub MayName : NodeTable → ℕ → ℕ → Type 0
 MayName t file id = MatchOption (get t.rows id) ((2 ≤ id) × IsUnheld t file) (λ row. row.file ≡ file)
 
--- The row of a file that is told in one more entry: one lookup more, or a new node of the next generation with one
+-- The row of a file that one more entry names: one lookup more, or a new node of the next generation with one
 -- lookup. (libfuse, low-level: lookup)
 abbrev pub given_row : NodeTable → ℕ → Option HeldNode → HeldNode
 given_row t file None = record { file = file; generation = t.next_generation; count = 1 }
@@ -77,7 +77,7 @@ abbrev pub MayChoose : (ℕ → ℕ) → NodeTable → List ℕ → Type 0
 MayChoose choice t [] = Unit {0}
 MayChoose choice t (file ∷ files) = MayName t file (choice file) × MayChoose choice (given t file (choice file)) files
 
--- Whether a node's lookups would come to the end of counters, once each of these files is told once more. (this
+-- Whether a node's lookups would come to the end of counters, once each of these files is named once more. (this
 -- project's rule)
 abbrev pub counts_out : NodeTable → List ℕ → Bool
 counts_out t files = list_any (λ (row : HeldNode). nat_le counter_end (row.count + count_by (nat_eq row.file) files))

@@ -157,7 +157,7 @@ pub data Refuses (choice : ℕ → ℕ) (w : World) : Event → Refusal → Type
   pinned_or_bound : (node : ℕ) (counted : Counted) → is_live w.kernel.phase ≡ true
       → get w.kernel.nodes node ≡ Some counted → is_pinned w.kernel node || is_bound w.kernel node ≡ true
       → Refuses choice w (event.evict node) Busy
-  told_too_often : (unique : ℕ) (held : HeldRequest) → get w.server.held unique ≡ Some held
+  counted_too_often : (unique : ℕ) (held : HeldRequest) → get w.server.held unique ≡ Some held
       → counts_out w.server.nodes (files_given w.server held) ≡ true → Refuses choice w (event.perform unique) Exhausted
   copied_too_often : (unique : ℕ) (kept : Kept) → get w.server.kept unique ≡ Some kept
       → is_current w.server kept.wire ≡ true → counts_out w.server.nodes (files_named w.server kept.wire) ≡ true

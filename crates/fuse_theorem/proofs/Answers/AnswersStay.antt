@@ -21,7 +21,7 @@ use Rattle.fuse_spec.specs.Kernel.Messages.{WireReply}
 use Rattle.fuse_spec.specs.Files.Operations.{Operation, done, failed, files_in_reply}
 use Rattle.fuse_spec.specs.Kernel.QueueCalls.{waiting, without, after_interrupt, interrupt_effect}
 use Rattle.fuse_spec.specs.Kernel.Queues.{QueueState}
-use Rattle.fuse_spec.specs.Kernel.Replies.{kernel_reply, learnt, Use, usable, useless, stale, goes_with, is_agreement, judged, replied, replied_to_call, ended_by, request_reply_written, interrupt_reply_written, interrupt_replied, reply_written, reply_received, without_stale, reply_judged, use_of_reply, made_ready}
+use Rattle.fuse_spec.specs.Kernel.Replies.{kernel_reply, looked_up, Use, usable, useless, stale, goes_with, is_agreement, judged, replied, replied_to_call, ended_by, request_reply_written, interrupt_reply_written, interrupt_replied, reply_written, reply_received, without_stale, reply_judged, use_of_reply, made_ready}
 use Rattle.fuse_spec.specs.Calls.Vfs.{asked, CallState, walking, doing, using, Vfs, Advance, answered, begun, all_answered, given_up}
 use Rattle.fuse_spec.specs.Server.Taking.{taking}
 use Rattle.fuse_spec.specs.Server.Performs.{served}
@@ -219,7 +219,7 @@ module _ (k : Kernel) (sound : AnswersSound k.vfs) where
   judged_changes q call state wire usable =
       let next = call_replied k.vfs call state (kernel_reply (asked state) wire) in
       subst (λ (d : Vfs Opened). ChangesCall k.vfs call d)
-      (sym (advanced_vfs (record k { queues = q; nodes = learnt k.nodes (files_in_reply wire) }) call next))
+      (sym (advanced_vfs (record k { queues = q; nodes = looked_up k.nodes (files_in_reply wire) }) call next))
       (replied_changes k.vfs call state (kernel_reply (asked state) wire))
   judged_changes q call state wire useless = answered_changes k.vfs call (answer.failed 5)
   judged_changes q call state wire (stale node) = answered_changes k.vfs call (answer.failed 5)

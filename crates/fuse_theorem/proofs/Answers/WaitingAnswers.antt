@@ -21,7 +21,7 @@ use Rattle.fuse_spec.specs.Kernel.Messages.{WireReply}
 use Rattle.fuse_spec.specs.Files.Operations.{Operation, getattr, mkdir, create, unlink, rmdir, rename, link, opening, readdir, readdirplus, read, write, Reply, found, missing, created, opened, attributes, listed, listed_plus, content, written, done, failed, files_in_reply}
 use Rattle.fuse_spec.specs.Kernel.QueueCalls.{waiting, without, after_interrupt, interrupt_effect}
 use Rattle.fuse_spec.specs.Kernel.Queues.{QueueState}
-use Rattle.fuse_spec.specs.Kernel.Replies.{kernel_reply, Use, usable, useless, stale, goes_with, is_agreement, judged, replied, replied_to_call, ended_by, request_reply_written, interrupt_reply_written, interrupt_replied, reply_written, learnt, reply_received, without_stale, reply_judged, use_of_reply, made_ready}
+use Rattle.fuse_spec.specs.Kernel.Replies.{kernel_reply, Use, usable, useless, stale, goes_with, is_agreement, judged, replied, replied_to_call, ended_by, request_reply_written, interrupt_reply_written, interrupt_replied, reply_written, looked_up, reply_received, without_stale, reply_judged, use_of_reply, made_ready}
 use Rattle.fuse_spec.specs.Calls.Vfs.{asked, CallState, walking, doing, using, Vfs, answered, asking, look, numbered, bound, begun, after_beginning, after_walk, all_answered, given_up}
 use Rattle.fuse_spec.specs.Calls.Walks.{Walked, looks_up, finds_none, asks, walk}
 use Rattle.fuse_spec.specs.Server.Taking.{taking}
@@ -159,7 +159,7 @@ module _ (k : Kernel) where
       let next = call_replied k.vfs call state (kernel_reply (asked state) wire) in
       subst (OneMore k.vfs) (sym (advanced_vfs (record k {
         queues = q;
-        nodes = learnt k.nodes (files_in_reply wire);
+        nodes = looked_up k.nodes (files_in_reply wire);
       }) call next))
       (replied_more k.vfs call state (kernel_reply (asked state) wire))
   judged_more q call state wire useless = answered_more k.vfs call (answer.failed 5)

@@ -29,7 +29,7 @@ use Rattle.fuse_spec.specs.Kernel.Queues.{QueueState, IsSound, request_under, ma
 use Rattle.fuse_spec.specs.Kernel.QueueCalls.{after_enqueue, after_effect, after_reading, after_reply_effect, after_interrupt_reply, interrupt_effect, without}
 use Rattle.fuse_spec.specs.Kernel.Signals.{reply_effect}
 use Rattle.fuse_spec.specs.Kernel.Kernel.{Kernel, is_aborted, is_for, is_used, request_of, advanced, released, released_if_idle, after_use, closed_by, closing_of, call_begun, after_signal, signalled_at, call_signalled}
-use Rattle.fuse_spec.specs.Kernel.Replies.{kernel_reply, learnt, Use, usable, useless, stale, goes_with, judged, replied, replied_to_call, reply_received, without_stale, reply_judged, use_of_reply}
+use Rattle.fuse_spec.specs.Kernel.Replies.{kernel_reply, looked_up, Use, usable, useless, stale, goes_with, judged, replied, replied_to_call, reply_received, without_stale, reply_judged, use_of_reply}
 use Rattle.fuse_spec.proofs.QueueCounts.{count_by-push}
 use Rattle.fuse_spec.proofs.QueueReadings.{key_count-le-one}
 use Rattle.fuse_spec.proofs.Tables.{get_gone_here, get_gone_there}
@@ -227,7 +227,7 @@ replied_numbered k numbered call wire (Some state) there none = by (goes_with (a
     judged_numbered : (x : WireReply) (u : Use) → CallsNumbered (judged (without_stale k wire) call state x u)
     judged_numbered x usable =
         let next = call_replied k.vfs call state (kernel_reply (asked state) x) in
-        calls_advanced (record (without_stale k wire) { nodes = learnt k.nodes (files_in_reply x) })
+        calls_advanced (record (without_stale k wire) { nodes = looked_up k.nodes (files_in_reply x) })
         (record {
           calls_below = numbered.calls_below;
           one_request =

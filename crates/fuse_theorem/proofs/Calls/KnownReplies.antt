@@ -10,7 +10,7 @@ use Rattle.fuse_spec.specs.Calls.Begins.{Beginning, faulty, sets_out, uses, clos
 use Rattle.fuse_spec.specs.Calls.Begins as begins
 use Rattle.fuse_spec.specs.Calls.Calls.{Call}
 use Rattle.fuse_spec.specs.Calls.Calls as call
-use Rattle.fuse_spec.specs.Calls.CallReplies.{name_told, names_told, all_bound, operation_replied, call_replied}
+use Rattle.fuse_spec.specs.Calls.CallReplies.{name_listed, names_listed, all_bound, operation_replied, call_replied}
 use Rattle.fuse_spec.specs.Values.Maps.{Map, get, remove}
 use Rattle.fuse_spec.specs.Kernel.Messages.{WireReply}
 use Rattle.fuse_spec.specs.Files.Operations.{Operation, DirentPlus, Reply, files_in, files_in_reply}
@@ -116,22 +116,22 @@ module _ (nodes : Map Counted) where
 
   -- the names of a list lead to known nodes
   all_bound_known : (d : ℕ) → IsKnown nodes d → (pairs : List (DirentPlus ℕ)) (c : Vfs Opened) → VfsKnown nodes c
-      → All (IsKnown nodes) (op.files_told pairs) → VfsKnown nodes (all_bound c d pairs)
+      → All (IsKnown nodes) (op.files_listed pairs) → VfsKnown nodes (all_bound c d pairs)
   all_bound_known d from [] c old known = old
   all_bound_known d from (pair ∷ pairs) c old known =
-      by (op.told_by pair) known (λ e olds k. all_bound_known d from pairs e olds k)
+      by (op.listed_by pair) known (λ e olds k. all_bound_known d from pairs e olds k)
     where
-      by : (o : Option ℕ) → All (IsKnown nodes) (op.first_told o (op.files_told pairs))
-          → ((e : Vfs Opened) → VfsKnown nodes e → All (IsKnown nodes) (op.files_told pairs)
+      by : (o : Option ℕ) → All (IsKnown nodes) (op.first_listed o (op.files_listed pairs))
+          → ((e : Vfs Opened) → VfsKnown nodes e → All (IsKnown nodes) (op.files_listed pairs)
           → VfsKnown nodes (all_bound e d pairs)) → VfsKnown nodes
-          (record c { names = names_told c.clock d (name_told c.clock d c.names pair o) pairs })
+          (record c { names = names_listed c.clock d (name_listed c.clock d c.names pair o) pairs })
       by None k rest = rest c old k
       by (Some file) k rest =
           rest (bound c d pair.dirent.name (Some file) pair.valid)
           (bound_known nodes c old d pair.dirent.name (Some file) pair.valid from
           (λ other e. let is : file ≡ other = cc in subst (IsKnown nodes) is
-          (All-head (IsKnown nodes) file (op.files_told pairs) k)))
-          (All-tail (IsKnown nodes) file (op.files_told pairs) k)
+          (All-head (IsKnown nodes) file (op.files_listed pairs) k)))
+          (All-tail (IsKnown nodes) file (op.files_listed pairs) k)
 
   module _ (c : Vfs Opened) (old : VfsKnown nodes c) (call : ℕ) where
     head : (id : ℕ) (ids : List ℕ) → All (IsKnown nodes) (id ∷ ids) → IsKnown nodes id
@@ -168,7 +168,7 @@ module _ (nodes : Map Counted) where
     operation_known (op.readdirplus d after size) (op.listed_plus pairs) h k =
         let ids = map (op.pair_with (λ (g : Entry). g.nodeid)) pairs in
         let known = subst (All (IsKnown nodes)) (sym (told_files_with (λ (g : Entry). g.nodeid) pairs))
-        (All-map (IsKnown nodes) (λ (g : Entry). g.nodeid) (op.files_told pairs) k) in
+        (All-map (IsKnown nodes) (λ (g : Entry). g.nodeid) (op.files_listed pairs) k) in
         answered_known nodes _ (all_bound_known d (head d [] h) ids c old known) call _
     operation_known (op.read o offset size) (op.content bytes) h k = answered_known nodes c old call _
     operation_known (op.write o offset bytes) (op.written size) h k = answered_known nodes c old call _

@@ -22,7 +22,7 @@ use Rattle.fuse_spec.specs.Files.Operations as op
 use Rattle.fuse_spec.specs.Calls.Paths.{Name, words_of, parent_and_last}
 use Rattle.fuse_spec.specs.Kernel.QueueCalls.{waiting, without, after_effect, interrupt_effect}
 use Rattle.fuse_spec.specs.Kernel.Queues.{QueueState}
-use Rattle.fuse_spec.specs.Kernel.Replies.{kernel_reply, learnt, Use, usable, useless, stale, goes_with, is_agreement, judged, replied, replied_to_call, ended_by, request_reply_written, interrupt_reply_written, interrupt_replied, reply_written, reply_received, without_stale, reply_judged, use_of_reply, made_ready}
+use Rattle.fuse_spec.specs.Kernel.Replies.{kernel_reply, looked_up, Use, usable, useless, stale, goes_with, is_agreement, judged, replied, replied_to_call, ended_by, request_reply_written, interrupt_reply_written, interrupt_replied, reply_written, reply_received, without_stale, reply_judged, use_of_reply, made_ready}
 use Rattle.fuse_spec.specs.Server.Server.{knows}
 use Rattle.fuse_spec.specs.Calls.Vfs.{asked, CallState, walking, doing, using, Vfs, answered, look, numbered, bound, begun, after_beginning, after_walk, walks_on}
 use Rattle.fuse_spec.specs.Calls.Walks.{FinalOperation, WalkPlan, last, rename, link, WalkStop, unknown, missing, arrived, go, after_last, after_stop, operation_at, Walked, looks_up, finds_none, walk}
@@ -218,7 +218,7 @@ module _ (k : Kernel) (old : OldCalls k.vfs) where
       let next = call_replied k.vfs call state (kernel_reply (asked state) wire) in
       subst OldCalls (sym (advanced_vfs (record k {
         queues = q;
-        nodes = learnt k.nodes (files_in_reply wire);
+        nodes = looked_up k.nodes (files_in_reply wire);
       }) call next))
       (replied_old k.vfs old call state h (kernel_reply (asked state) wire))
   judged_old q call state h wire useless = answered_old k.vfs old call (answer.failed 5)

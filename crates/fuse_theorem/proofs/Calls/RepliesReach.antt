@@ -4,12 +4,12 @@ use Rattle.std.proofs.Common.{◌≡◌, ℕ, cond, Bool, true, false, true≢fa
 use Rattle.std.specs.Prelude.{nat_lt}
 use Rattle.fuse_spec.specs.Values.Maps.{get_name}
 use Rattle.fuse_spec.specs.Calls.Paths.{Name}
-use Rattle.fuse_spec.specs.Files.Operations.{Operation, Dirent, DirentPlus, told_by, Reply}
+use Rattle.fuse_spec.specs.Files.Operations.{Operation, Dirent, DirentPlus, listed_by, Reply}
 use Rattle.fuse_spec.specs.Calls.Walks.{WalkPlan, Walked, looks_up, finds_none, asks, walk}
 use Rattle.fuse_spec.specs.Calls.Answers as answer
 use Rattle.fuse_spec.specs.declared.Binding.{Binding}
 use Rattle.fuse_spec.specs.Calls.Vfs.{CallState, walking, doing, using, Vfs, Advance, answered, bound, unbound, opened_by, asking, no_more, valid_at, look, after_walk, walks_on, asked}
-use Rattle.fuse_spec.specs.Calls.CallReplies.{name_told, names_told, all_bound, operation_replied, call_replied}
+use Rattle.fuse_spec.specs.Calls.CallReplies.{name_listed, names_listed, all_bound, operation_replied, call_replied}
 use Rattle.fuse_spec.specs.Claim.Denotes.{OptionAlike, OperationAlike, ReplyAlike, StateAlike, BindingAlike, WalkPlanAlike, PairsAlike}
 use Rattle.fuse_spec.specs.Claim.Alike.{VfsAlike}
 use Rattle.fuse_spec.proofs.Tables.{put_alike}
@@ -24,12 +24,12 @@ module _ {O P : Type 0} (R : ℕ → ℕ → Type 0) (S : O → P → Type 0) (o
       → PairsAlike R v w → VfsAlike R S (all_bound c x v) (all_bound d y w)
   all_bound_alike x y r [] [] c d same h = same
   all_bound_alike x y r (p ∷ v) (q ∷ w) c d same h =
-      by (told_by p) (told_by q) h.0.0 (λ c' d' same'. all_bound_alike x y r v w c' d' same' h.1)
+      by (listed_by p) (listed_by q) h.0.0 (λ c' d' same'. all_bound_alike x y r v w c' d' same' h.1)
     where
       by : (a b : Option ℕ) → OptionAlike R a b → ((c' : Vfs O) (d' : Vfs P) → VfsAlike R S c' d'
           → VfsAlike R S (all_bound c' x v) (all_bound d' y w))
-          → VfsAlike R S (record c { names = names_told c.clock x (name_told c.clock x c.names p a) v })
-          (record d { names = names_told d.clock y (name_told d.clock y d.names q b) w })
+          → VfsAlike R S (record c { names = names_listed c.clock x (name_listed c.clock x c.names p a) v })
+          (record d { names = names_listed d.clock y (name_listed d.clock y d.names q b) w })
       by None None k rest = rest c d same
       by (Some f) (Some g) k rest =
           rest (bound c x p.dirent.name (Some f) p.valid) (bound d y q.dirent.name (Some g) q.valid)
@@ -40,55 +40,55 @@ module _ {O P : Type 0} (R : ℕ → ℕ → Type 0) (S : O → P → Type 0) (o
   all_bound_alike x y r [] (q ∷ w) c d same h = absurd h
   all_bound_alike x y r (p ∷ v) [] c d same h = absurd h
 
-  told_by_cases : (c : Vfs O) (d : Vfs P) → VfsAlike R S c d
+  listed_by_cases : (c : Vfs O) (d : Vfs P) → VfsAlike R S c d
       → (call : ℕ) (a : Operation ℕ O) (b : Operation ℕ P) (s : Reply ℕ O) (t : Reply ℕ P) → SameOperation R S a b
       → SameReply R S s t
       → VfsAlike R S (operation_replied c call a s) (operation_replied d call b t)
-  told_by_cases c d same call a b s t o (same_failed x y e) =
+  listed_by_cases c d same call a b s t o (same_failed x y e) =
       answered_alike R S one c d same call call (answer.failed x) (answer.failed y) refl
       (ap (λ (n : ℕ). answer.failed n) e)
-  told_by_cases c d same call a b s t (both_getattr x y r) (same_attributes v w e) =
+  listed_by_cases c d same call a b s t (both_getattr x y r) (same_attributes v w e) =
       answered_alike R S one c d same call call (answer.attributes v) (answer.attributes w) refl
       (ap (λ v. answer.attributes v) e)
-  told_by_cases c d same call a b s t (both_mkdir x y n m r e) (same_found f g v w q u) =
+  listed_by_cases c d same call a b s t (both_mkdir x y n m r e) (same_found f g v w q u) =
       answered_alike R S one (bound c x n (Some f) v) (bound d y m (Some g) w)
       (bound_alike R S one c d same x y n m (Some f) (Some g) v w r e q u) call call answer.done answer.done refl refl
-  told_by_cases c d same call a b s t (both_link l k x y n m z r e) (same_found f g v w q u) =
+  listed_by_cases c d same call a b s t (both_link l k x y n m z r e) (same_found f g v w q u) =
       answered_alike R S one (bound c x n (Some f) v) (bound d y m (Some g) w)
       (bound_alike R S one c d same x y n m (Some f) (Some g) v w r e q u) call call answer.done answer.done refl refl
-  told_by_cases c d same call a b s t (both_create x y n m r e) (same_created f g v w o p q u z) =
+  listed_by_cases c d same call a b s t (both_create x y n m r e) (same_created f g v w o p q u z) =
       answered_alike R S one (opened_by (bound c x n (Some f) v) call o) (opened_by (bound d y m (Some g) w) call p)
       (opened_alike R S one (bound c x n (Some f) v) (bound d y m (Some g) w)
       (bound_alike R S one c d same x y n m (Some f)
       (Some g) v w r e q u) call o p z) call call answer.done answer.done refl refl
-  told_by_cases c d same call a b s t (both_unlink x y n m r e) same_done =
+  listed_by_cases c d same call a b s t (both_unlink x y n m r e) same_done =
       answered_alike R S one (unbound c x n) (unbound d y m)
       (unbound_alike R S one c d same x y n m r e) call call answer.done answer.done refl refl
-  told_by_cases c d same call a b s t (both_rmdir x y n m r e) same_done =
+  listed_by_cases c d same call a b s t (both_rmdir x y n m r e) same_done =
       answered_alike R S one (unbound c x n) (unbound d y m)
       (unbound_alike R S one c d same x y n m r e) call call answer.done answer.done refl refl
-  told_by_cases c d same call a b s t (both_rename x y n m x' y' n' m' r e r' e') same_done =
+  listed_by_cases c d same call a b s t (both_rename x y n m x' y' n' m' r e r' e') same_done =
       answered_alike R S one (unbound (unbound c x n) x' n') (unbound (unbound d y m) y' m')
       (unbound_alike R S one (unbound c x n) (unbound d y m)
       (unbound_alike R S one c d same x y n m r e) x' y' n' m' r' e') call call answer.done answer.done refl refl
-  told_by_cases c d same call a b s t (both_opening x y r) (same_opened o p z) =
+  listed_by_cases c d same call a b s t (both_opening x y r) (same_opened o p z) =
       answered_alike R S one (opened_by c call o) (opened_by d call p)
       (opened_alike R S one c d same call o p z) call call answer.done answer.done refl refl
-  told_by_cases c d same call a b s t (both_readdir x y n m i j r e f) (same_listed v w h) =
+  listed_by_cases c d same call a b s t (both_readdir x y n m i j r e f) (same_listed v w h) =
       answered_alike R S one c d same call call (answer.listing v) (answer.listing w) refl
       (ap (λ v. answer.listing v) h)
-  told_by_cases c d same call a b s t (both_readdirplus x y n m i j r e f) (same_listed_plus v w h) =
+  listed_by_cases c d same call a b s t (both_readdirplus x y n m i j r e f) (same_listed_plus v w h) =
       answered_alike R S one (all_bound c x v) (all_bound d y w) (all_bound_alike x y r v w c d same h) call call
       (answer.listing (map (λ (p : DirentPlus ℕ). p.dirent) v))
       (answer.listing (map (λ (p : DirentPlus ℕ). p.dirent) w)) refl
       (ap (λ v. answer.listing v) (dirents_same R v w h))
-  told_by_cases c d same call a b s t (both_read x y n m i j r e f) (same_content v w h) =
+  listed_by_cases c d same call a b s t (both_read x y n m i j r e f) (same_content v w h) =
       answered_alike R S one c d same call call (answer.content v) (answer.content w) refl
       (ap (λ v. answer.content v) h)
-  told_by_cases c d same call a b s t (both_write x y n m i j r e f) (same_written v w h) =
+  listed_by_cases c d same call a b s t (both_write x y n m i j r e f) (same_written v w h) =
       answered_alike R S one c d same call call (answer.written v) (answer.written w) refl
       (ap (λ v. answer.written v) h)
-  told_by_cases c d same call a b s t o p = answered_alike R S one c d same call call (answer.failed 5)
+  listed_by_cases c d same call a b s t o p = answered_alike R S one c d same call call (answer.failed 5)
       (answer.failed 5) refl refl
 
   -- Where a step leaves the vfs of the two worlds, and what it asks.
@@ -192,10 +192,10 @@ module _ {O P : Type 0} (R : ℕ → ℕ → Type 0) (S : O → P → Type 0) (o
       (ap (λ (e : ℕ). answer.failed e) u))
   told_call_by c d same call (doing a) (doing b) s t h k =
       no_more_alike (operation_replied c call a s) (operation_replied d call b t)
-      (told_by_cases c d same call a b s t (same_operation R S a b h) k)
+      (listed_by_cases c d same call a b s t (same_operation R S a b h) k)
   told_call_by c d same call (using n a) (using m b) s t h k =
       no_more_alike (operation_replied c call a s) (operation_replied d call b t)
-      (told_by_cases c d same call a b s t (same_operation R S a b h.1) k)
+      (listed_by_cases c d same call a b s t (same_operation R S a b h.1) k)
   told_call_by c d same call (walking x word words plan) (walking y word' words' plan') s t h k =
       no_more_alike (answered c call (answer.failed 5)) (answered d call (answer.failed 5))
       (answered_alike R S one c d same call call (answer.failed 5) (answer.failed 5) refl refl)

@@ -17,11 +17,11 @@ use Rattle.fuse_spec.specs.Calls.CallReplies.{call_replied}
 use Rattle.fuse_spec.specs.Kernel.Kernel.{Kernel, is_live, kernel_aborted}
 use Rattle.fuse_spec.specs.Values.Maps.{Map, get, put, remove}
 use Rattle.fuse_spec.specs.Kernel.Messages.{Forget, Request, RequestBody, init, asks, release, forget, batch_forget, interrupt, WireReply}
-use Rattle.fuse_spec.specs.Files.Operations.{DirentPlus, told_by, listed_plus, done, failed, files_in_reply}
+use Rattle.fuse_spec.specs.Files.Operations.{DirentPlus, listed_by, listed_plus, done, failed, files_in_reply}
 use Rattle.fuse_spec.specs.Server.Performs.{performed, served}
 use Rattle.fuse_spec.specs.Kernel.QueueCalls.{can_read_forgets, waiting, without}
 use Rattle.fuse_spec.specs.Kernel.Queues.{pending}
-use Rattle.fuse_spec.specs.Kernel.Replies.{kernel_reply, learnt, Use, usable, useless, stale, use_counted, first_use, use_of_all, goes_with, is_agreement, judged, replied, replied_to_call, request_reply_written, interrupt_reply_written, interrupt_replied, interrupt_reply_of, reply_written, reply_received, without_stale, reply_judged, use_of_reply, use_of, use_of_told, learnt_by, stale_in, stale_among, forgets_with, stale_in_reply, made_ready}
+use Rattle.fuse_spec.specs.Kernel.Replies.{kernel_reply, looked_up, Use, usable, useless, stale, use_counted, first_use, use_of_all, goes_with, is_agreement, judged, replied, replied_to_call, request_reply_written, interrupt_reply_written, interrupt_replied, interrupt_reply_of, reply_written, reply_received, without_stale, reply_judged, use_of_reply, use_of, use_of_listed, looked_up_by, stale_in, stale_among, forgets_with, stale_in_reply, made_ready}
 use Rattle.fuse_spec.specs.Server.Server.{Server, HeldRequest, Kept, forgets_of}
 use Rattle.fuse_spec.specs.Server.Taking.{taking}
 use Rattle.fuse_spec.specs.Calls.Vfs.{CallState, asked, answered}
@@ -74,7 +74,7 @@ stale_low nodes (g ∷ gs) node e = by (nat_lt g.nodeid 2) refl (get nodes g.nod
     by false is o f rest = of_counted o (grind (arith, nat_tests, is)) f rest
 
 -- .. so does one of a list
-told_low : (nodes : Map Counted) (o : Option Entry) → All Low (stale_in (use_of_told nodes o))
+told_low : (nodes : Map Counted) (o : Option Entry) → All Low (stale_in (use_of_listed nodes o))
 told_low nodes None = All-nil Low
 told_low nodes (Some g) = by (use_of nodes g) refl
   where
@@ -86,8 +86,8 @@ told_low nodes (Some g) = by (use_of nodes g) refl
 
 among_low : (pairs : List (DirentPlus Entry)) (nodes : Map Counted) → All Low (stale_among nodes pairs)
 among_low [] nodes = All-nil Low
-among_low (pair ∷ pairs) nodes = All-append Low (stale_in (use_of_told nodes (told_by pair)))
-    (stale_among (learnt_by nodes pair) pairs) (told_low nodes (told_by pair)) (among_low pairs (learnt_by nodes pair))
+among_low (pair ∷ pairs) nodes = All-append Low (stale_in (use_of_listed nodes (listed_by pair)))
+    (stale_among (looked_up_by nodes pair) pairs) (told_low nodes (listed_by pair)) (among_low pairs (looked_up_by nodes pair))
 
 in_reply_low : (nodes : Map Counted) (wire : WireReply) → All Low (stale_in_reply nodes wire)
 in_reply_low nodes (listed_plus pairs) = among_low pairs nodes
@@ -116,7 +116,7 @@ heard_forgets k old call wire (Some state) = by (goes_with (asked state) wire)
     judged_forgets : (x : WireReply) (u : Use) → ((node : ℕ) → u ≡ stale node → 2 ≤ node)
         → All IsForget (judged (without_stale k wire) call state x u).queues.forgets
     judged_forgets x usable low =
-        let k1 = record (without_stale k wire) { nodes = learnt k.nodes (files_in_reply x) } in
+        let k1 = record (without_stale k wire) { nodes = looked_up k.nodes (files_in_reply x) } in
         let same = advanced_same k1 call (call_replied k.vfs call state (kernel_reply (asked state) x)) in
         same_forgets (without_stale k wire).queues.forgets _ same.forgets stale_old
     judged_forgets x useless low = stale_old

@@ -24,7 +24,7 @@ use Rattle.fuse_spec.specs.Kernel.QueueCalls.{waiting, without}
 use Rattle.fuse_spec.specs.Kernel.Kernel.{Kernel, is_live, is_for, kernel_aborted, after_use}
 use Rattle.fuse_spec.specs.Server.Nodes.{NodeTable}
 use Rattle.fuse_spec.specs.Server.Server.{Copy, forgotten}
-use Rattle.fuse_spec.specs.Kernel.Replies.{kernel_reply, counted_more, learnt, usable, goes_with, is_empty_reply, is_init_reply, is_agreement, write_result_of, judged, replied, replied_to_call, ended_by, request_reply_written, interrupt_reply_written, interrupt_replied, interrupt_reply_of, reply_written, made_ready}
+use Rattle.fuse_spec.specs.Kernel.Replies.{kernel_reply, counted_more, looked_up, usable, goes_with, is_empty_reply, is_init_reply, is_agreement, write_result_of, judged, replied, replied_to_call, ended_by, request_reply_written, interrupt_reply_written, interrupt_replied, interrupt_reply_of, reply_written, made_ready}
 use Rattle.fuse_spec.specs.Claim.Counts.{counted, names_in, carried, refused}
 use Rattle.fuse_spec.specs.World.Worlds.{World, Sent, after_write}
 use Rattle.fuse_spec.proofs.QueueCounts.{count_by-cons}
@@ -39,7 +39,7 @@ use Rattle.fuse_theorem.proofs.Lists.LinkSums.{sum_removed}
 use Rattle.fuse_theorem.proofs.Lookups.Lookups.{copies_name, refused_name}
 use Rattle.fuse_theorem.proofs.Nodes.NodesSound.{put_found}
 use Rattle.fuse_theorem.proofs.Refining.Queuing.{All-without, All-at}
-use Rattle.fuse_theorem.proofs.Lookups.RowCounts.{learnt_count}
+use Rattle.fuse_theorem.proofs.Lookups.RowCounts.{looked_up_count}
 use Rattle.fuse_theorem.proofs.Lookups.WireCounts.{entries_of}
 
 -- What the kernel knows of its nodes: their ids, counts, and that the server holds them.
@@ -97,9 +97,9 @@ module _ (t : NodeTable) (nodes : Map Counted) (known : KnownIn t nodes) where
 abbrev EntryHeld : NodeTable → Entry → Type 0
 EntryHeld t g = (2 ≤ g.nodeid) × IsHeldAs t g.nodeid g.generation
 
--- Its entries are learnt.
+-- Its entries are counted.
 wire_known : (t : NodeTable) (gs : List Entry) (nodes : Map Counted) → KnownIn t nodes → All (EntryHeld t) gs
-    → KnownIn t (learnt nodes gs)
+    → KnownIn t (looked_up nodes gs)
 wire_known t [] nodes known held = known
 wire_known t (g ∷ gs) nodes known held = wire_known t gs (put nodes g.nodeid new) one_known
     (All-tail (EntryHeld t) g gs held)
@@ -125,10 +125,10 @@ wire_known t (g ∷ gs) nodes known held = wire_known t gs (put nodes g.nodeid n
     ]
 
 wire_counted : (gs : List Entry) (nodes : Map Counted) (id : ℕ)
-    → counted (get (learnt nodes gs) id) ≡ counted (get nodes id) + entries_of id gs
+    → counted (get (looked_up nodes gs) id) ≡ counted (get nodes id) + entries_of id gs
 wire_counted [] nodes id = omega arith
 wire_counted (g ∷ gs) nodes id =
-    let more = learnt_count nodes g id in
+    let more = looked_up_count nodes g id in
     let counts = count_by-cons (λ (x : Entry). nat_eq x.nodeid id) g gs in
     let rest = wire_counted gs (put nodes g.nodeid (counted_more g (get nodes g.nodeid))) id in
     omega (arith, more, counts, rest)
@@ -141,7 +141,7 @@ module _ (t : NodeTable) (k : Kernel) (known : KnownIn t k.nodes) (wire : WireRe
     where
       learns : Balances t k wire (Accepted, after_use (judged k call state wire usable) state)
       learns =
-          let knows = record k { nodes = learnt k.nodes (files_in_reply wire) } in
+          let knows = record k { nodes = looked_up k.nodes (files_in_reply wire) } in
           let l = judged k call state wire usable in
           let same = then_same knows l (after_use l state)
           (advanced_same knows call (call_replied k.vfs call state (kernel_reply (asked state) wire)))
@@ -149,7 +149,7 @@ module _ (t : NodeTable) (k : Kernel) (known : KnownIn t k.nodes) (wire : WireRe
           record {
             counts = λ id.
                 let nodes : counted (get (after_use l state).nodes id)
-                ≡ counted (get (learnt k.nodes (files_in_reply wire)) id) =
+                ≡ counted (get (looked_up k.nodes (files_in_reply wire)) id) =
                 ap (λ (m : Map Counted). counted (get m id)) same.nodes in
                 let forgets : forgotten id (after_use l state).queues.forgets ≡ forgotten id k.queues.forgets =
                 ap (forgotten id) same.forgets in

@@ -130,10 +130,10 @@ more_count t i id there = by (get t.rows i) refl
 
 -- ---- the kernel's counts
 
-pub learnt_count : (nodes : Map Counted) (g : Entry) (id : ℕ)
+pub looked_up_count : (nodes : Map Counted) (g : Entry) (id : ℕ)
     → counted (get (put nodes g.nodeid (counted_more g (get nodes g.nodeid))) id)
     ≡ counted (get nodes id) + cond (nat_eq g.nodeid id) 1 0
-learnt_count nodes g id = elim (cases_eq g.nodeid id) [
+looked_up_count nodes g id = elim (cases_eq g.nodeid id) [
   | inl e ↦
       let tie : nat_eq g.nodeid id ≡ true = subst (λ (n : ℕ). nat_eq g.nodeid n ≡ true) e (same_is g.nodeid) in
       let here : counted (get (put nodes g.nodeid (counted_more g (get nodes g.nodeid))) id)

@@ -21,7 +21,7 @@ use Rattle.fuse_spec.specs.Kernel.QueueCalls.{waiting, without}
 use Rattle.fuse_spec.specs.Calls.Vfs.{CallState, asked, answered}
 use Rattle.fuse_spec.specs.Kernel.Kernel.{Kernel, is_live, is_pinned, is_bound, kernel_aborted, after_use}
 use Rattle.fuse_spec.specs.Server.Performs.{served}
-use Rattle.fuse_spec.specs.Kernel.Replies.{kernel_reply, learnt, Use, usable, useless, stale, goes_with, is_agreement, judged, replied, replied_to_call, request_reply_written, interrupt_reply_written, interrupt_replied, reply_written, reply_received, without_stale, reply_judged, use_of_reply, made_ready}
+use Rattle.fuse_spec.specs.Kernel.Replies.{kernel_reply, looked_up, Use, usable, useless, stale, goes_with, is_agreement, judged, replied, replied_to_call, request_reply_written, interrupt_reply_written, interrupt_replied, reply_written, reply_received, without_stale, reply_judged, use_of_reply, made_ready}
 use Rattle.fuse_spec.specs.Server.Server.{HeldRequest, Kept, Copy, nodes_of_body}
 use Rattle.fuse_spec.specs.Server.Taking.{taking, interrupting}
 use Rattle.fuse_spec.specs.Claim.Denotes.{generation_known}
@@ -39,7 +39,7 @@ use Rattle.fuse_theorem.proofs.Calls.Finding.{same_is}
 use Rattle.fuse_theorem.proofs.Calls.CallsContinue.{begun_goes_on}
 use Rattle.fuse_theorem.proofs.RefusalCases.Happened.{Happened, by_mount, by_call, by_read_interrupt, by_read_forgets, by_read_pending, by_take, by_perform, by_again, by_write, by_settle, by_signal, by_tick, by_drop, by_evict, by_abort, happened}
 use Rattle.fuse_theorem.proofs.Nodes.HeldKnown.{HeldOf, names_known, taken_held}
-use Rattle.fuse_theorem.proofs.Refining.Learning.{learnt_known}
+use Rattle.fuse_theorem.proofs.Refining.LookedUp.{looked_up_known}
 use Rattle.fuse_theorem.proofs.Requests.LinksSound.{none_at}
 use Rattle.fuse_theorem.proofs.Lookups.LookupsStay.{known_held}
 use Rattle.fuse_theorem.proofs.Nodes.NodesKnown.{All-more}
@@ -63,10 +63,10 @@ replied_grows k call wire (Some state) = by (goes_with (asked state) wire)
   where
     judged_grows : (x : WireReply) (u : Use) → Grows k.nodes (judged (without_stale k wire) call state x u).nodes
     judged_grows x usable = λ id generation e.
-        let k1 = record (without_stale k wire) { nodes = learnt k.nodes (files_in_reply x) } in
+        let k1 = record (without_stale k wire) { nodes = looked_up k.nodes (files_in_reply x) } in
         let same = advanced_same k1 call (call_replied k.vfs call state (kernel_reply (asked state) x)) in
         same_grows k1.nodes (judged (without_stale k wire) call state x usable).nodes same.nodes id generation
-        (learnt_known (files_in_reply x) k.nodes id generation e)
+        (looked_up_known (files_in_reply x) k.nodes id generation e)
     judged_grows x useless = λ id generation e. e
     judged_grows x (stale node) = λ id generation e. e
 

@@ -20,7 +20,7 @@ use Rattle.fuse_spec.specs.Files.Operations.{Operation, done, failed, files_in_r
 use Rattle.fuse_spec.specs.Kernel.QueueCalls.{after_effect, interrupt_effect, waiting, without}
 use Rattle.fuse_spec.specs.Calls.Vfs.{CallState, walking, doing, using, asked, Vfs, Advance, answered, begun, given_up}
 use Rattle.fuse_spec.specs.Kernel.Kernel.{Kernel, is_aborted, request_of, nodes_of_state, is_released_by, is_pinned, is_bound, kernel_aborted, asking_for, advanced, released, released_if_idle, after_use, closed_by, closing_of, call_begun, after_signal, signalled_at, call_signalled}
-use Rattle.fuse_spec.specs.Kernel.Replies.{kernel_reply, learnt, counted_more, Use, usable, useless, stale, goes_with, is_agreement, judged, replied, replied_to_call, request_reply_written, interrupt_reply_written, interrupt_replied, reply_written, reply_received, without_stale, reply_judged, use_of_reply, made_ready}
+use Rattle.fuse_spec.specs.Kernel.Replies.{kernel_reply, looked_up, counted_more, Use, usable, useless, stale, goes_with, is_agreement, judged, replied, replied_to_call, request_reply_written, interrupt_reply_written, interrupt_replied, reply_written, reply_received, without_stale, reply_judged, use_of_reply, made_ready}
 use Rattle.fuse_spec.specs.Claim.Denotes.{generation_known}
 use Rattle.fuse_spec.proofs.Tables.{get_put_here}
 use Rattle.fuse_spec.specs.Server.Taking.{taking}
@@ -35,7 +35,7 @@ use Rattle.fuse_theorem.specs.KnownNodes.{IsKnown, VfsKnown, NodesKnown}
 use Rattle.fuse_theorem.proofs.Refining.Evicting.{or_false, unbound, not_target, known_still}
 use Rattle.fuse_theorem.proofs.Calls.KnownReplies.{begun_known, replied_known}
 use Rattle.fuse_theorem.proofs.Calls.KnownWalks.{StateKnown, OpenKnown, answered_known, unbound_known}
-use Rattle.fuse_theorem.proofs.Refining.Learning.{learnt_known}
+use Rattle.fuse_theorem.proofs.Refining.LookedUp.{looked_up_known}
 use Rattle.fuse_theorem.proofs.Nodes.UnsentNodes.{each_fails}
 use Rattle.fuse_theorem.proofs.Lists.Values.{All-get}
 
@@ -69,17 +69,17 @@ known_some nodes id known = by (generation_known nodes id) refl
     by None e = absurd (known e)
     by (Some g) e = (g, e)
 
-pub learnt_more : (gs : List Entry) (nodes : Map Counted) (id : ℕ) → IsKnown nodes id → IsKnown (learnt nodes gs) id
-learnt_more gs nodes id known = let some = known_some nodes id known in
-    some_known (learnt nodes gs) id some.0 (learnt_known gs nodes id some.0 some.1)
+pub looked_up_more : (gs : List Entry) (nodes : Map Counted) (id : ℕ) → IsKnown nodes id → IsKnown (looked_up nodes gs) id
+looked_up_more gs nodes id known = let some = known_some nodes id known in
+    some_known (looked_up nodes gs) id some.0 (looked_up_known gs nodes id some.0 some.1)
 
 -- what a reply names is known from then on
-entries_known : (gs : List Entry) (nodes : Map Counted) → All (λ (g : Entry). IsKnown (learnt nodes gs) g.nodeid) gs
+entries_known : (gs : List Entry) (nodes : Map Counted) → All (λ (g : Entry). IsKnown (looked_up nodes gs) g.nodeid) gs
 entries_known [] nodes = All-nil (λ (g : Entry). IsKnown nodes g.nodeid)
 entries_known (g ∷ gs) nodes =
     let next = put nodes g.nodeid (counted_more g (get nodes g.nodeid)) in
-    All-cons (λ (x : Entry). IsKnown (learnt nodes (g ∷ gs)) x.nodeid) g gs
-    (learnt_more gs next g.nodeid (put_known (counted_more g (get nodes g.nodeid)))) (entries_known gs next)
+    All-cons (λ (x : Entry). IsKnown (looked_up nodes (g ∷ gs)) x.nodeid) g gs
+    (looked_up_more gs next g.nodeid (put_known (counted_more g (get nodes g.nodeid)))) (entries_known gs next)
   where
     put_known : (x : Counted) → IsKnown (put nodes g.nodeid x) g.nodeid
     put_known x = by (nat_eq g.nodeid 1)
@@ -154,11 +154,11 @@ heard_known k old call wire (Some state) there = by (goes_with (asked state) wir
     judged_known : (x : WireReply) (u : Use) → NodesKnown (judged (without_stale k wire) call state x u)
     judged_known x usable =
         let gs = files_in_reply x in
-        let more = known_more k.nodes (learnt k.nodes gs) (learnt_more gs k.nodes) k.vfs old in
-        advanced_known (record (without_stale k wire) { nodes = learnt k.nodes gs }) call
+        let more = known_more k.nodes (looked_up k.nodes gs) (looked_up_more gs k.nodes) k.vfs old in
+        advanced_known (record (without_stale k wire) { nodes = looked_up k.nodes gs }) call
         (call_replied k.vfs call state (kernel_reply (asked state) x))
-        (replied_known (learnt k.nodes gs) k.vfs more call state x
-        (All-get (StateKnown (learnt k.nodes gs)) k.vfs.calls call state more.calls there)
+        (replied_known (looked_up k.nodes gs) k.vfs more call state x
+        (All-get (StateKnown (looked_up k.nodes gs)) k.vfs.calls call state more.calls there)
         (entries_known gs k.nodes))
     judged_known x useless = answered_known k.nodes k.vfs old call (answer.failed 5)
     judged_known x (stale node) = answered_known k.nodes k.vfs old call (answer.failed 5)

@@ -24,7 +24,7 @@ use Rattle.fuse_theorem.specs.StillOpen.{OpensAfterAbort}
 use Rattle.fuse_theorem.proofs.Nodes.HeldKnown.{all_still_held}
 use Rattle.fuse_theorem.proofs.Nodes.HeldNodes.{nodes_held}
 use Rattle.fuse_theorem.proofs.OpenFiles.HeldNumbers.{number_open, numbers_held}
-use Rattle.fuse_theorem.proofs.Refining.Learning.{one_to_one}
+use Rattle.fuse_theorem.proofs.Refining.LookedUp.{one_to_one}
 use Rattle.fuse_theorem.proofs.Requests.LinksSound.{none_in}
 use Rattle.fuse_theorem.proofs.Lookups.LookupsStay.{known_held}
 use Rattle.fuse_theorem.proofs.Nodes.NodesSound.{left_found}

@@ -18,7 +18,7 @@ use Rattle.fuse_spec.specs.Kernel.Kernel.{Kernel, kernel_aborted, is_aborted, ad
 use Rattle.fuse_spec.specs.Kernel.Messages.{WireReply}
 use Rattle.fuse_spec.specs.Files.Operations.{Operation, getattr, mkdir, create, unlink, rmdir, rename, link, opening, readdir, readdirplus, read, write, Reply, found, missing, created, opened, attributes, listed, listed_plus, content, written, done, failed, files_in_reply}
 use Rattle.fuse_spec.specs.Kernel.QueueCalls.{waiting, without, after_interrupt, interrupt_effect}
-use Rattle.fuse_spec.specs.Kernel.Replies.{kernel_reply, learnt, Use, usable, useless, stale, goes_with, is_agreement, judged, replied, replied_to_call, ended_by, request_reply_written, interrupt_reply_written, interrupt_replied, reply_written, reply_received, without_stale, reply_judged, use_of_reply, made_ready}
+use Rattle.fuse_spec.specs.Kernel.Replies.{kernel_reply, looked_up, Use, usable, useless, stale, goes_with, is_agreement, judged, replied, replied_to_call, ended_by, request_reply_written, interrupt_reply_written, interrupt_replied, reply_written, reply_received, without_stale, reply_judged, use_of_reply, made_ready}
 use Rattle.fuse_spec.specs.Calls.Vfs.{look, no_more, asked, CallState, walking, doing, using, Vfs, Advance, answered, bound, unbound, opened_by, after_walk, after_beginning, numbered, begun, given_up}
 use Rattle.fuse_spec.specs.Calls.Walks.{Walked, looks_up, finds_none, walk}
 use Rattle.fuse_spec.specs.Calls.Walks as walked
@@ -165,7 +165,7 @@ judged_rooted : (k : Kernel) (call : ℕ) (state : CallState Opened) (wire : Wir
     → IsRooted (judged k call state wire u).vfs
 judged_rooted k call state wire usable r =
     let next = call_replied k.vfs call state (kernel_reply (asked state) wire) in
-    advanced_rooted (record k { nodes = learnt k.nodes (files_in_reply wire) }) call next
+    advanced_rooted (record k { nodes = looked_up k.nodes (files_in_reply wire) }) call next
     (replied_rooted k.vfs call state (kernel_reply (asked state) wire) r)
 judged_rooted k call state wire useless r = answered_rooted k.vfs call (answer.failed 5) r
 judged_rooted k call state wire (stale node) r = answered_rooted k.vfs call (answer.failed 5) r

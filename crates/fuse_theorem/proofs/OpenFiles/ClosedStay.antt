@@ -26,7 +26,7 @@ use Rattle.fuse_spec.specs.Kernel.Messages.{WireReply}
 use Rattle.fuse_spec.specs.Files.Operations.{Operation, Reply, getattr, mkdir, create, unlink, rmdir, rename, link, opening, readdir, readdirplus, read, write, found, missing, created, opened, attributes, listed, listed_plus, content, written, done, failed, files_in_reply}
 use Rattle.fuse_spec.specs.Calls.Paths.{Name, words_of, parent_and_last}
 use Rattle.fuse_spec.specs.Kernel.QueueCalls.{after_effect, interrupt_effect, waiting, without}
-use Rattle.fuse_spec.specs.Kernel.Replies.{kernel_reply, learnt, Use, usable, useless, stale, goes_with, is_agreement, judged, replied, replied_to_call, request_reply_written, interrupt_reply_written, interrupt_replied, reply_written, reply_received, without_stale, reply_judged, use_of_reply, made_ready}
+use Rattle.fuse_spec.specs.Kernel.Replies.{kernel_reply, looked_up, Use, usable, useless, stale, goes_with, is_agreement, judged, replied, replied_to_call, request_reply_written, interrupt_reply_written, interrupt_replied, reply_written, reply_received, without_stale, reply_judged, use_of_reply, made_ready}
 use Rattle.fuse_spec.specs.Server.Taking.{taking}
 use Rattle.fuse_spec.specs.Server.Performs.{served}
 use Rattle.fuse_spec.specs.Calls.Vfs.{CallState, walking, doing, using, asked, Vfs, Advance, answered, bound, look, after_walk, after_beginning, numbered, begun, given_up}
@@ -386,7 +386,7 @@ heard_closes k old call wire (Some state) there = by (goes_with (asked state) wi
         let reply = kernel_reply (asked state) x in
         advanced_but (λ h. is_using h state) (record (without_stale k wire) {
           nodes =
-              learnt k.nodes (files_in_reply x);
+              looked_up k.nodes (files_in_reply x);
         }) call (call_replied k.vfs call state reply)
         (replied_so k.vfs k.closing old call state there reply state)
     judged_so x useless = answered_so k.vfs k.closing old call state there (answer.failed 5)

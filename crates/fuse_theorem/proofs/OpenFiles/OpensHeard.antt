@@ -28,7 +28,7 @@ use Rattle.fuse_spec.specs.Kernel.Queues.{QueueState, IsSound, is_unread, pendin
 use Rattle.fuse_spec.specs.Kernel.QueueCalls.{after_reading, after_read_pending, after_reply_effect, after_interrupt_reply, pending_at, waiting, with_mark, with_interrupt, without}
 use Rattle.fuse_spec.specs.Kernel.Signals.{reply_effect}
 use Rattle.fuse_spec.specs.Kernel.Kernel.{Kernel, is_live, asked_by, body_of, kernel_aborted, after_use}
-use Rattle.fuse_spec.specs.Kernel.Replies.{kernel_reply, learnt, usable, goes_with, is_empty_reply, is_init_reply, is_agreement, write_result_of, judged, replied, replied_to_call, ended_by, request_reply_written, interrupt_reply_written, interrupt_replied, interrupt_reply_of, reply_written, made_ready}
+use Rattle.fuse_spec.specs.Kernel.Replies.{kernel_reply, looked_up, usable, goes_with, is_empty_reply, is_init_reply, is_agreement, write_result_of, judged, replied, replied_to_call, ended_by, request_reply_written, interrupt_reply_written, interrupt_replied, interrupt_reply_of, reply_written, made_ready}
 use Rattle.fuse_spec.proofs.QueueCounts.{lookup-found}
 use Rattle.fuse_spec.proofs.QueueReadings.{key_count-le-one}
 use Rattle.fuse_theorem.specs.OpenNumbers.{OpensApart, released_for, released_by}
@@ -172,7 +172,7 @@ module _ (P : Opened → Type 0) where
       where
         learns : HearsOpens P k wire (Accepted, after_use (judged k call state wire usable) state)
         learns =
-            let knows = record k { nodes = learnt k.nodes (files_in_reply wire) } in
+            let knows = record k { nodes = looked_up k.nodes (files_in_reply wire) } in
             let reply = kernel_reply (asked state) wire in
             let none = call_apart k.vfs k.closing old call state there in
             let low = call_below k.vfs k.closing old call state there in

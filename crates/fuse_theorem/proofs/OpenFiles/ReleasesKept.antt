@@ -26,7 +26,7 @@ use Rattle.fuse_spec.specs.Kernel.Messages.{WireReply}
 use Rattle.fuse_spec.specs.Files.Operations.{Operation, done, failed, files_in_reply}
 use Rattle.fuse_spec.specs.Kernel.QueueCalls.{after_enqueue, set_mark, after_reading, after_effect, interrupt_effect, after_reply_effect, waiting, without}
 use Rattle.fuse_spec.specs.Kernel.Queues.{QueueState, mark_under}
-use Rattle.fuse_spec.specs.Kernel.Replies.{kernel_reply, learnt, Use, usable, useless, stale, goes_with, is_agreement, judged, replied, replied_to_call, request_reply_written, interrupt_reply_written, interrupt_replied, interrupt_reply_of, reply_written, reply_received, without_stale, reply_judged, use_of_reply, made_ready}
+use Rattle.fuse_spec.specs.Kernel.Replies.{kernel_reply, looked_up, Use, usable, useless, stale, goes_with, is_agreement, judged, replied, replied_to_call, request_reply_written, interrupt_reply_written, interrupt_replied, interrupt_reply_of, reply_written, reply_received, without_stale, reply_judged, use_of_reply, made_ready}
 use Rattle.fuse_spec.specs.Kernel.Signals.{reply_effect}
 use Rattle.fuse_spec.specs.Calls.Vfs.{CallState, walking, doing, using, asked, Advance, answered, begun}
 use Rattle.fuse_theorem.specs.KnownNodes.{IsKnown, NodesKnown}
@@ -35,7 +35,7 @@ use Rattle.fuse_theorem.proofs.Lookups.CountsStay.{advanced_same}
 use Rattle.fuse_theorem.proofs.Calls.Finding.{All-removed}
 use Rattle.fuse_theorem.proofs.Lists.SetMarks.{All-marked}
 use Rattle.fuse_theorem.proofs.Calls.KnownWalks.{OpenKnown}
-use Rattle.fuse_theorem.proofs.Nodes.NodesKnown.{All-more, learnt_more}
+use Rattle.fuse_theorem.proofs.Nodes.NodesKnown.{All-more, looked_up_more}
 use Rattle.fuse_theorem.proofs.Lists.Values.{All-put, All-gone, All-get}
 
 -- The kernel knows the nodes of its closed files and of its RELEASEs.
@@ -186,13 +186,13 @@ heard_kept k old call wire (Some state) = by (goes_with (asked state) wire)
     judged_kept : (x : WireReply) (u : Use) → KeptReleases (judged (without_stale k wire) call state x u)
     judged_kept x usable =
         let gs = files_in_reply x in
-        let k1 = record (without_stale k wire) { nodes = learnt k.nodes gs } in
-        let more = learnt_more gs k.nodes in
+        let k1 = record (without_stale k wire) { nodes = looked_up k.nodes gs } in
+        let more = looked_up_more gs k.nodes in
         advanced_kept k1 call (call_replied k.vfs call state (kernel_reply (asked state) x))
         (record {
           closing = All-more (values k.closing) (λ o h. more o.nodeid h) old.closing;
           requests = All-more k.queues.requests (λ e h. more_released k.nodes
-              (learnt k.nodes gs) more e.1.kept h) old.requests;
+              (looked_up k.nodes gs) more e.1.kept h) old.requests;
         })
     judged_kept x useless = record { closing = old.closing; requests = old.requests }
     judged_kept x (stale node) = record { closing = old.closing; requests = old.requests }

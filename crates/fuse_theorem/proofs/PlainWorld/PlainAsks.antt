@@ -18,8 +18,8 @@ use Rattle.fuse_spec.specs.Files.Operations.{lookup, getattr, mkdir, create, unl
 use Rattle.fuse_spec.specs.Files.Trees.{Tree, record_length, fitting, records_after, pair_length, fitting_pairs, pairs_after, file_at}
 use Rattle.fuse_spec.specs.Calls.CallReplies.{call_replied}
 use Rattle.fuse_spec.specs.Calls.Vfs.{CallState, begun}
-use Rattle.fuse_spec.specs.Reference.Plain.{Plain, Ask, Stage, waiting, performed, declined, asking, call_put, ask_performed, ask_declined, ask_told, ask_interrupted, ask_noted, ask_marked, plain_later, name_dropped, plain_aborted, plain_mounted, first_plain}
-use Rattle.fuse_spec.specs.Reference.PlainSteps.{where_so, serving_ask, serving, telling_call, delivering_reply, delivering, signalled_ask, signalling, marking, takes, Takes}
+use Rattle.fuse_spec.specs.Reference.Plain.{Plain, Ask, Stage, waiting, performed, declined, asking, call_put, ask_performed, ask_declined, ask_delivered, ask_interrupted, ask_noted, ask_marked, plain_later, name_dropped, plain_aborted, plain_mounted, first_plain}
+use Rattle.fuse_spec.specs.Reference.PlainSteps.{where_so, serving_ask, serving, delivering_to_call, delivering_reply, delivering, signalled_ask, signalling, marking, takes, Takes}
 use Rattle.fuse_spec.specs.Reference.PlainReplies.{RepliesTo, AskServed, AsksServed}
 use Rattle.fuse_theorem.proofs.Nodes.NodesSound.{put_found, left_found}
 
@@ -169,10 +169,10 @@ module _ (p : Plain) (old : AsksServed p) where
   told_ask label next ask q waiting e = absurd (cc)
   told_ask label next ask q (performed reply) e = by (get p.vfs.calls ask.call) e
     where
-      by : (o : Option (CallState ℕ)) → telling_call p label next ask reply o ≡ Some q → AsksServed q
+      by : (o : Option (CallState ℕ)) → delivering_to_call p label next ask reply o ≡ Some q → AsksServed q
       by None f = absurd (cc)
       by (Some state) f =
-          where_served _ (ask_told p label next ask reply state) q
+          where_served _ (ask_delivered p label next ask reply state) q
           (asking_served (record p { asks = remove p.asks label; vfs = (call_replied p.vfs ask.call state reply).vfs })
           (left_ask p (record p {
             asks = remove p.asks label;

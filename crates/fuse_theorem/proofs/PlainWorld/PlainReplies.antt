@@ -4,7 +4,7 @@ use Rattle.fuse_spec.specs.Files.Operations.{Operation, Reply, DirentPlus}
 use Rattle.fuse_spec.specs.Calls.Paths.{is_dots}
 use Rattle.fuse_spec.specs.Files.Operations as op
 use Rattle.fuse_spec.specs.Calls.Vfs.{CallState, walking, doing, using, Vfs, walks_on, bound}
-use Rattle.fuse_spec.specs.Calls.CallReplies.{name_told, names_told, all_bound, operation_replied, call_replied}
+use Rattle.fuse_spec.specs.Calls.CallReplies.{name_listed, names_listed, all_bound, operation_replied, call_replied}
 use Rattle.fuse_spec.specs.Reference.PlainCalls.{ComeIntoForce, Answers, ReceivesReply}
 use Rattle.fuse_spec.specs.Reference.PlainCalls as plain
 use Rattle.fuse_theorem.proofs.PlainWorld.PlainWalks.{goes_on}
@@ -21,10 +21,10 @@ module _ (c : Vfs ℕ) (number : ℕ) where
           → ((e : Vfs ℕ) → ComeIntoForce directory e pairs (all_bound e directory pairs))
           → ComeIntoForce directory d (pair ∷ pairs) (record d {
             names =
-                names_told d.clock directory (name_told d.clock directory d.names pair (cond b None o)) pairs;
+                names_listed d.clock directory (name_listed d.clock directory d.names pair (cond b None o)) pairs;
           })
       by true dots o file rest = plain.is_dot d pair pairs (all_bound d directory pairs) dots (rest d)
-      by false dots None file rest = plain.tells_none d pair pairs (all_bound d directory pairs) file (rest d)
+      by false dots None file rest = plain.has_no_file d pair pairs (all_bound d directory pairs) file (rest d)
       by false dots (Some x) file rest =
           let next = bound d directory pair.dirent.name (Some x) pair.valid in
           plain.comes d pair pairs x (all_bound next directory pairs) dots file (rest next)
@@ -59,7 +59,7 @@ module _ (c : Vfs ℕ) (number : ℕ) where
       ReceivesReply.is_found directory word words plan file valid went.vfs went.operation
       (goes_on known number file words plan)
   hears (walking directory word words plan) (op.missing valid) = plain.is_missing directory word words plan valid
-  hears (walking directory word words plan) (op.failed errno) = plain.is_not_told directory word words plan errno
+  hears (walking directory word words plan) (op.failed errno) = plain.is_not_delivered directory word words plan errno
   hears (walking directory word words plan) reply = plain.is_odd directory word words plan reply refl
   hears (doing operation) reply = plain.of_operation operation reply (operation_replied c number operation reply)
       (answers operation reply)

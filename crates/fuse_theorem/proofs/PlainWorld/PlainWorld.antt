@@ -13,8 +13,8 @@ use Rattle.fuse_spec.specs.Calls.Calls as call
 use Rattle.fuse_spec.specs.Calls.Calls.{Call, spoken, lists_files_at}
 use Rattle.fuse_spec.specs.Calls.Vfs.{CallState, Vfs, begun, given_up}
 use Rattle.fuse_spec.specs.Calls.CallReplies.{call_replied}
-use Rattle.fuse_spec.specs.Reference.Plain.{Plain, Ask, Stage, waiting, performed, declined, asking, going_on, call_put, ask_performed, ask_declined, ask_told, ask_interrupted, plain_later}
-use Rattle.fuse_spec.specs.Reference.PlainSteps.{where_so, serving_ask, serving, telling_call, delivering_reply, delivering, may_signal, signalled_ask, signalling, marking, takes, Takes}
+use Rattle.fuse_spec.specs.Reference.Plain.{Plain, Ask, Stage, waiting, performed, declined, asking, going_on, call_put, ask_performed, ask_declined, ask_delivered, ask_interrupted, plain_later}
+use Rattle.fuse_spec.specs.Reference.PlainSteps.{where_so, serving_ask, serving, delivering_to_call, delivering_reply, delivering, may_signal, signalled_ask, signalling, marking, takes, Takes}
 use Rattle.fuse_spec.specs.World.Events.{Event, Outcome}
 use Rattle.fuse_spec.specs.World.Events as event
 use Rattle.fuse_spec.specs.Reference.PlainWords.{one_more, Asks, Steps, PutAs}
@@ -113,19 +113,19 @@ module _ (p q : Plain) where
 
   tells : (k unique label : ℕ) (o : Option Ask) → get p.asks unique ≡ o → delivering p unique label o ≡ Some q
       → Steps p (event.write k) (event.written unique Accepted) q
-  tells k unique label None there e = some_goes _ _ p e (plain.tells_none k unique there)
+  tells k unique label None there e = some_goes _ _ p e (plain.delivers_none k unique there)
   tells k unique label (Some ask) there e = by ask.stage refl e
     where
       by_call : (reply : Reply ℕ ℕ) → ask.stage ≡ performed reply → (standing : Option (CallState ℕ))
-          → get p.vfs.calls ask.call ≡ standing → telling_call p unique label ask reply standing ≡ Some q
+          → get p.vfs.calls ask.call ≡ standing → delivering_to_call p unique label ask reply standing ≡ Some q
           → Steps p (event.write k) (event.written unique Accepted) q
       by_call reply stage None stands f = absurd (cc)
       by_call reply stage (Some state) stands f =
-          let did = taken_so (not (is_some (get p.asks label))) (ask_told p unique label ask reply state) q f in
+          let did = taken_so (not (is_some (get p.asks label))) (ask_delivered p unique label ask reply state) q f in
           let went = call_replied p.vfs ask.call state reply in
           goes _ _ _ did.leads
-          (plain.tells k unique label ask reply state went.vfs went.operation
-          (ask_told p unique label ask reply state) there stage stands (is_free (get p.asks label) did.so)
+          (plain.delivers k unique label ask reply state went.vfs went.operation
+          (ask_delivered p unique label ask reply state) there stage stands (is_free (get p.asks label) did.so)
           (hears p.vfs ask.call state reply)
           (asks (record p { asks = remove p.asks unique }) label ask.call went.vfs went.operation))
 
@@ -137,7 +137,7 @@ module _ (p q : Plain) where
           let did = taken_so (ask.noted && is_some (get p.vfs.calls ask.call)) (ask_interrupted p unique ask) q f in
           let holds = both ask.noted (is_some (get p.vfs.calls ask.call)) did.so in
           let state = standing (get p.vfs.calls ask.call) holds.second in
-          goes _ _ _ did.leads (plain.tells_eintr k unique ask state.0 there stage holds.first state.1)
+          goes _ _ _ did.leads (plain.delivers_eintr k unique ask state.0 there stage holds.first state.1)
 
   signals : (number label : ℕ) (fatal : Bool) (c : ℕ) (signal : IntrEffect) (o : Option Ask) → get p.asks label ≡ o
       → signalling p signal number label o ≡ Some q → Steps p (event.intr number fatal) (event.interrupted c signal) q

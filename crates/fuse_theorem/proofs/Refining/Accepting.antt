@@ -12,18 +12,18 @@ use Rattle.fuse_spec.specs.Calls.Vfs.{CallState, walking, doing, using, asked, A
 use Rattle.fuse_spec.specs.Calls.CallReplies.{call_replied}
 use Rattle.fuse_spec.specs.Kernel.QueueCalls.{without}
 use Rattle.fuse_spec.specs.Kernel.Kernel.{Kernel, is_live, advanced, after_use}
-use Rattle.fuse_spec.specs.Kernel.Replies.{learnt, kernel_reply, replied, replied_to_call}
+use Rattle.fuse_spec.specs.Kernel.Replies.{looked_up, kernel_reply, replied, replied_to_call}
 use Rattle.fuse_spec.specs.World.Worlds.{World, Sent, after_write}
 use Rattle.fuse_spec.specs.World.Events as event
-use Rattle.fuse_spec.specs.Reference.Plain.{Plain, Ask, Stage, ask_told}
-use Rattle.fuse_spec.specs.Reference.PlainSteps.{Takes, delivering, delivering_reply, telling_call, where_so}
+use Rattle.fuse_spec.specs.Reference.Plain.{Plain, Ask, Stage, ask_delivered}
+use Rattle.fuse_spec.specs.Reference.PlainSteps.{Takes, delivering, delivering_reply, delivering_to_call, where_so}
 use Rattle.fuse_spec.specs.Claim.Denotes.{MeansIn, MeansOpenIn, OptionAlike, StateAlike, ReplyAlike}
 use Rattle.fuse_spec.specs.Claim.Alike.{Alike}
 use Rattle.fuse_spec.proofs.QueueSoundness.{IsSound-without}
 use Rattle.fuse_theorem.specs.Numbering.{IsNumbered}
 use Rattle.fuse_theorem.specs.Conditions.{OneId, IsReply}
 use Rattle.fuse_theorem.proofs.Refining.TablesReplaced.{grown, carried_alike}
-use Rattle.fuse_theorem.proofs.Refining.Learning.{one_to_one, learnt_known, heard_fits}
+use Rattle.fuse_theorem.proofs.Refining.LookedUp.{one_to_one, looked_up_known, heard_fits}
 use Rattle.fuse_theorem.proofs.Refining.Releasing.{next_unasked}
 use Rattle.fuse_theorem.proofs.Refining.Writing.{unsent_alike, used_alike, heard_alike}
 
@@ -32,16 +32,16 @@ module _ (w : World) (p : Plain) (numbered : IsNumbered w) (one : OneId w.server
     (reply : Reply ℕ ℕ)
     (is : IsReply w p sent call state reply) where
   abbrev nodes' : Map Counted
-  nodes' = learnt w.kernel.nodes (files_in_reply sent.wire)
+  nodes' = looked_up w.kernel.nodes (files_in_reply sent.wire)
 
-  -- the kernel once it has learnt what the reply names
+  -- the kernel once it has counted what the reply names
   abbrev wl : World
   wl = record w { kernel = record w.kernel { nodes = nodes' } }
 
-  learnt_alike : Alike wl p
-  learnt_alike =
+  looked_up_alike : Alike wl p
+  looked_up_alike =
       let carries = grown w p nodes' w.server.nodes w.server.handles
-      (λ id generation e. learnt_known (files_in_reply sent.wire) w.kernel.nodes id generation e)
+      (λ id generation e. looked_up_known (files_in_reply sent.wire) w.kernel.nodes id generation e)
       (λ id generation file d. d) (λ fh file o. o) (one_to_one nodes' w.server.nodes one) in
       carried_alike w p same nodes' w.server.nodes w.server.handles w.server.tree p.tree carries
       (record {
@@ -51,8 +51,8 @@ module _ (w : World) (p : Plain) (numbered : IsNumbered w) (one : OneId w.server
         files = same.tree.files;
       })
 
-  learnt_numbered : IsNumbered wl
-  learnt_numbered = record {
+  looked_up_numbered : IsNumbered wl
+  looked_up_numbered = record {
     queues = numbered.queues;
     calls_below = numbered.calls_below;
     one_request = numbered.one_request;
@@ -83,15 +83,15 @@ module _ (w : World) (p : Plain) (numbered : IsNumbered w) (one : OneId w.server
   state' : (s : CallState ℕ) × (get p.vfs.calls call ≡ Some s) × StateAlike (MeansIn wl) (MeansOpenIn wl) state s
   state' = other_state (get p.vfs.calls call) (subst
       (λ (o : Option (CallState Opened)). OptionAlike (StateAlike (MeansIn wl) (MeansOpenIn wl)) o
-      (get p.vfs.calls call)) is.state_is (learnt_alike.vfs.calls call))
+      (get p.vfs.calls call)) is.state_is (looked_up_alike.vfs.calls call))
 
   abbrev q : Plain
-  q = ask_told p sent.unique w.kernel.queues.next is.ask reply state'.0
+  q = ask_delivered p sent.unique w.kernel.queues.next is.ask reply state'.0
 
   told_alike : Alike (record w { kernel = advanced k1 call next }) q
   told_alike =
-      heard_alike wl p learnt_numbered
-      (one_to_one nodes' w.server.nodes one) learnt_alike live sent.unique call is.request is.ask state state'.0 is.under is.serves is.there is.by_call state'.1 state'.2 reply reply_received is.stage fits
+      heard_alike wl p looked_up_numbered
+      (one_to_one nodes' w.server.nodes one) looked_up_alike live sent.unique call is.request is.ask state state'.0 is.under is.serves is.there is.by_call state'.1 state'.2 reply reply_received is.stage fits
 
   used_after : (s : CallState Opened) → state ≡ s → Alike
       (record w { kernel = advanced k1 call (call_replied w.kernel.vfs call s (kernel_reply (asked s) sent.wire)) }) q
@@ -140,7 +140,7 @@ module _ (w : World) (p : Plain) (numbered : IsNumbered w) (one : OneId w.server
           w.kernel.queues.next,
           ap (λ (o : Option Ask). delivering p sent.unique w.kernel.queues.next o) is.there ∙ ap
               (λ (s : Stage). delivering_reply p sent.unique w.kernel.queues.next is.ask s) is.stage
-              ∙ ap (λ (o : Option (CallState ℕ)). telling_call p sent.unique w.kernel.queues.next is.ask reply o)
+              ∙ ap (λ (o : Option (CallState ℕ)). delivering_to_call p sent.unique w.kernel.queues.next is.ask reply o)
               (ap (λ (n : ℕ). get p.vfs.calls n) is.by_call ∙ state'.1) ∙ ap
               (λ (o : Option Ask). where_so (not (is_some o)) q) free,
         ),

@@ -25,7 +25,7 @@ use Rattle.fuse_spec.specs.Claim.Alike.{Alike}
 use Rattle.fuse_spec.proofs.QueueSoundness.{IsSound-without}
 use Rattle.fuse_theorem.specs.Numbering.{IsNumbered}
 use Rattle.fuse_theorem.specs.Conditions.{OneId, IsDeclined}
-use Rattle.fuse_theorem.proofs.Refining.Learning.{one_to_one}
+use Rattle.fuse_theorem.proofs.Refining.LookedUp.{one_to_one}
 use Rattle.fuse_theorem.proofs.Refining.Writing.{unsent_alike, used_alike, declined_alike}
 
 goes_failed : (operation : Operation ℕ Opened) (errno : ℕ) → goes_with operation (failed errno) ≡ true

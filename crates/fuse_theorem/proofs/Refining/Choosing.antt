@@ -8,7 +8,7 @@ use Rattle.std.proofs.lemmas.Bool.Decides.{nat_tests}
 use Rattle.fuse_spec.specs.Values.Maps.{Map, get}
 use Rattle.fuse_spec.specs.Kernel.Messages.{RequestBody, init, asks, release, forget, batch_forget, interrupt}
 use Rattle.fuse_spec.specs.Server.Nodes.{NodeTable, HeldNode, IsUnheld, MayName, MayChoose, given, given_row}
-use Rattle.fuse_spec.specs.Files.Operations.{Reply, found, missing, created, opened, attributes, listed, listed_plus, content, written, agreed, done, failed, files_in_reply, files_told}
+use Rattle.fuse_spec.specs.Files.Operations.{Reply, found, missing, created, opened, attributes, listed, listed_plus, content, written, agreed, done, failed, files_in_reply, files_listed}
 use Rattle.fuse_spec.specs.Files.FileOperations.{reply_by}
 use Rattle.fuse_spec.specs.Server.Performs.{files_by, is_open_for, file_operation_of}
 use Rattle.fuse_spec.specs.Server.Server.{Server, HeldRequest}
@@ -179,7 +179,7 @@ for_reply t (missing valid) = for_none t
 for_reply t (opened o) = for_none t
 for_reply t (attributes a) = for_none t
 for_reply t (listed records) = for_none t
-for_reply t (listed_plus pairs) = for_all (files_told pairs) t
+for_reply t (listed_plus pairs) = for_all (files_listed pairs) t
 for_reply t (content bytes) = for_none t
 for_reply t (written size) = for_none t
 for_reply t (agreed major minor flags) = for_none t

@@ -20,7 +20,7 @@ use Rattle.fuse_theorem.specs.Conditions.{OneId, HoldsAll}
 use Rattle.fuse_theorem.proofs.Refining.TablesReplaced.{Carries, stage_more, carried_alike}
 use Rattle.fuse_theorem.proofs.Calls.Finding.{other_is, found_key}
 use Rattle.fuse_theorem.proofs.Refining.Giving.{denotes_one}
-use Rattle.fuse_theorem.proofs.Refining.Learning.{one_to_one}
+use Rattle.fuse_theorem.proofs.Refining.LookedUp.{one_to_one}
 use Rattle.fuse_theorem.proofs.Refining.Naming.{any_put_le}
 use Rattle.fuse_theorem.proofs.Refining.Taking.{ignored_alike}
 use Rattle.fuse_theorem.proofs.Trees.NamelessDiscarded.{found_any, swept_alike}

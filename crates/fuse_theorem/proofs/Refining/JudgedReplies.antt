@@ -9,12 +9,12 @@ use Rattle.fuse_spec.specs.Kernel.Kernel.{Kernel}
 use Rattle.fuse_spec.specs.Values.Maps.{Map, get, put}
 use Rattle.fuse_spec.specs.Kernel.Messages.{WireReply}
 use Rattle.fuse_spec.specs.Server.Nodes.{NodeTable}
-use Rattle.fuse_spec.specs.Files.Operations.{DirentPlus, told_by, first_told, files_told, listed_plus, files_in_reply}
-use Rattle.fuse_spec.specs.Kernel.Replies.{Use, usable, first_use, counted_more, learnt, use_of_told, pair_judged, pairs_judged, stale_in, stale_among, each_forgotten, reply_judged, use_of_reply, stale_in_reply, judged, reply_received}
+use Rattle.fuse_spec.specs.Files.Operations.{DirentPlus, listed_by, first_listed, files_listed, listed_plus, files_in_reply}
+use Rattle.fuse_spec.specs.Kernel.Replies.{Use, usable, first_use, counted_more, looked_up, use_of_listed, pair_judged, pairs_judged, stale_in, stale_among, each_forgotten, reply_judged, use_of_reply, stale_in_reply, judged, reply_received}
 use Rattle.fuse_spec.specs.Calls.Vfs.{CallState}
 use Rattle.fuse_theorem.specs.Conditions.{IsUsable}
 use Rattle.fuse_theorem.specs.Lookups.{IsHeldAs, EntriesHeld}
-use Rattle.fuse_theorem.proofs.Refining.Learning.{learnt_known, usable_known}
+use Rattle.fuse_theorem.proofs.Refining.LookedUp.{looked_up_known, usable_known}
 use Rattle.fuse_theorem.proofs.Nodes.NodesSound.{put_found}
 use Rattle.fuse_theorem.proofs.Replies.RepliesGo.{use_one, all_usable}
 
@@ -32,10 +32,10 @@ module _ (t : NodeTable) where
   abbrev EntryHeld : Entry → Type 0
   EntryHeld g = (2 ≤ g.nodeid) × IsHeldAs t g.nodeid g.generation
 
-  -- what is counted once an entry is learnt is held
-  learnt_one : (nodes : Map Counted) → HeldCounted nodes → (g : Entry) → EntryHeld g
+  -- what is counted once an entry is counted is held
+  looked_up_one : (nodes : Map Counted) → HeldCounted nodes → (g : Entry) → EntryHeld g
       → HeldCounted (put nodes g.nodeid (counted_more g (get nodes g.nodeid)))
-  learnt_one nodes known g held id node at = elim (put_found nodes g.nodeid
+  looked_up_one nodes known g held id node at = elim (put_found nodes g.nodeid
       (counted_more g (get nodes g.nodeid)) id node at) [
         | inl e ↦ subst (λ (c : Counted). IsHeldAs t id c.generation) e.1
             (subst (λ (n : ℕ). IsHeldAs t n (counted_more g (get nodes g.nodeid)).generation) (sym e.0)
@@ -49,47 +49,47 @@ module _ (t : NodeTable) where
 
   -- Each entry is known under its own generation then.
   all_known : (gs : List Entry) (nodes : Map Counted) → HeldCounted nodes → All EntryHeld gs
-      → All (λ (g : Entry). generation_known (learnt nodes gs) g.nodeid ≡ Some g.generation) gs
+      → All (λ (g : Entry). generation_known (looked_up nodes gs) g.nodeid ≡ Some g.generation) gs
   all_known [] nodes known held = All-nil (λ (g : Entry). generation_known nodes g.nodeid ≡ Some g.generation)
   all_known (g ∷ gs) nodes known held =
       let mine = All-head EntryHeld g gs held in
       let next = put nodes g.nodeid (counted_more g (get nodes g.nodeid)) in
       let used = ap (λ (u : Use). first_use u usable) (use_one nodes t known g mine.0 mine.1) in
-      All-cons (λ (x : Entry). generation_known (learnt next gs) x.nodeid ≡ Some x.generation) g gs
-      (learnt_known gs next g.nodeid g.generation (usable_known nodes g used))
-      (all_known gs next (learnt_one nodes known g mine) (All-tail EntryHeld g gs held))
+      All-cons (λ (x : Entry). generation_known (looked_up next gs) x.nodeid ≡ Some x.generation) g gs
+      (looked_up_known gs next g.nodeid g.generation (usable_known nodes g used))
+      (all_known gs next (looked_up_one nodes known g mine) (All-tail EntryHeld g gs held))
 
   -- ---- names of a list
 
   told_usable : (nodes : Map Counted) → HeldCounted nodes → (o : Option Entry) (rest : List Entry)
-      → All EntryHeld (first_told o rest) → use_of_told nodes o ≡ usable
+      → All EntryHeld (first_listed o rest) → use_of_listed nodes o ≡ usable
   told_usable nodes known None rest held = refl
   told_usable nodes known (Some g) rest held = let mine =
       All-head EntryHeld g rest held in use_one nodes t known g mine.0 mine.1
 
   told_held : (nodes : Map Counted) → HeldCounted nodes → (o : Option Entry) (rest : List Entry)
-      → All EntryHeld (first_told o rest) → HeldCounted (learnt nodes (first_told o []))
+      → All EntryHeld (first_listed o rest) → HeldCounted (looked_up nodes (first_listed o []))
   told_held nodes known None rest held = known
-  told_held nodes known (Some g) rest held = learnt_one nodes known g (All-head EntryHeld g rest held)
+  told_held nodes known (Some g) rest held = looked_up_one nodes known g (All-head EntryHeld g rest held)
 
-  rest_held : (o : Option Entry) (rest : List Entry) → All EntryHeld (first_told o rest) → All EntryHeld rest
+  rest_held : (o : Option Entry) (rest : List Entry) → All EntryHeld (first_listed o rest) → All EntryHeld rest
   rest_held None rest held = held
   rest_held (Some g) rest held = All-tail EntryHeld g rest held
 
   pairs_usable : (pairs : List (DirentPlus Entry)) (nodes : Map Counted) → HeldCounted nodes
-      → All EntryHeld (files_told pairs) → (pairs_judged nodes pairs ≡ pairs) × (stale_among nodes pairs ≡ [])
+      → All EntryHeld (files_listed pairs) → (pairs_judged nodes pairs ≡ pairs) × (stale_among nodes pairs ≡ [])
   pairs_usable [] nodes known held = (refl, refl)
   pairs_usable (pair ∷ pairs) nodes known held =
-      let o = told_by pair in
-      let files = files_told pairs in
+      let o = listed_by pair in
+      let files = files_listed pairs in
       let used = told_usable nodes known o files held in
-      let rest = pairs_usable pairs (learnt nodes (first_told o [])) (told_held nodes known o files held)
+      let rest = pairs_usable pairs (looked_up nodes (first_listed o [])) (told_held nodes known o files held)
       (rest_held o files held) in (
         ap (λ (u : Use). pair_judged pair u ∷ pairs_judged
-            (learnt nodes (files_told (pair_judged pair u ∷ []))) pairs) used ∙ ap
+            (looked_up nodes (files_listed (pair_judged pair u ∷ []))) pairs) used ∙ ap
             (λ (xs : List (DirentPlus Entry)). pair ∷ xs) rest.0,
-        ap (λ (u : Use). stale_in u ++ stale_among (learnt nodes
-            (files_told (pair_judged pair u ∷ []))) pairs) used ∙ rest.1,
+        ap (λ (u : Use). stale_in u ++ stale_among (looked_up nodes
+            (files_listed (pair_judged pair u ∷ []))) pairs) used ∙ rest.1,
       )
 
   -- Any reply whose entries are held can be used.

@@ -11,7 +11,7 @@ use Rattle.std.specs.FinMap.Entries.{by_order}
 use Rattle.std.proofs.lemmas.Bool.{cases_eq}
 use Rattle.std.proofs.lemmas.List.Elements.{All-head, All-tail, All-nil, All-cons}
 use Rattle.fuse_spec.specs.Values.Maps.{Map, get, put, values}
-use Rattle.fuse_spec.specs.Files.Operations.{Reply, found, missing, created, opened, attributes, listed, listed_plus, content, written, agreed, done, failed, files_in_reply, opens_in_reply, files_told}
+use Rattle.fuse_spec.specs.Files.Operations.{Reply, found, missing, created, opened, attributes, listed, listed_plus, content, written, agreed, done, failed, files_in_reply, opens_in_reply, files_listed}
 use Rattle.fuse_spec.specs.Files.Trees.{Tree}
 use Rattle.fuse_spec.specs.Server.Nodes.{HeldNode, NodeTable, row_of, root_row, MayName, IsUnheld, MayChoose, given, given_row, all_given, OpenNumber, HandleTable, is_open, is_file_of, handle_opened, all_opened}
 use Rattle.fuse_spec.specs.Server.Server.{generation_in}
@@ -96,9 +96,9 @@ named_alike choice t h tree (opened o) no_root may = opened_number h o
 named_alike choice t h tree (attributes a) no_root may = refl
 named_alike choice t h tree (listed xs) no_root may = refl
 named_alike choice t h tree (listed_plus pairs) no_root may =
-    let last = all_given choice t (files_told pairs) in
+    let last = all_given choice t (files_listed pairs) in
     pairs_named (Names last) (entry_for choice last tree) pairs
-    (all_given_nodes choice (files_told pairs) t no_root may)
+    (all_given_nodes choice (files_listed pairs) t no_root may)
 named_alike choice t h tree (content xs) no_root may = refl
 named_alike choice t h tree (written n) no_root may = refl
 named_alike choice t h tree (agreed a b flags) no_root may = (refl, refl, refl)

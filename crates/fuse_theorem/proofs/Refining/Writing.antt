@@ -14,7 +14,7 @@ use Rattle.fuse_spec.specs.Kernel.Queues.{request_under, IsSound}
 use Rattle.fuse_spec.specs.Kernel.QueueCalls.{without}
 use Rattle.fuse_spec.specs.Kernel.Kernel.{Kernel, is_live, advanced, after_use}
 use Rattle.fuse_spec.specs.World.Worlds.{World, Sent}
-use Rattle.fuse_spec.specs.Reference.Plain.{Plain, Ask, waiting, performed, declined, going_on, ask_told, ask_interrupted}
+use Rattle.fuse_spec.specs.Reference.Plain.{Plain, Ask, waiting, performed, declined, going_on, ask_delivered, ask_interrupted}
 use Rattle.fuse_spec.specs.Claim.Denotes.{MeansIn, MeansOpenIn, StateAlike, ReplyAlike}
 use Rattle.fuse_spec.specs.Claim.Alike.{StageTold, Alike}
 use Rattle.fuse_spec.proofs.QueueSoundness.{IsSound-without}
@@ -118,7 +118,7 @@ module _ (w : World) (p : Plain) (numbered : IsNumbered w) (one : IsOneToOne (Me
   pub heard_alike : (reply : Reply ℕ ℕ) (reply_received : Reply ℕ Opened) → ask.stage ≡ performed reply
       → ReplyAlike (MeansIn w) (MeansOpenIn w) reply_received reply
       → Alike (record w { kernel = advanced k1 call (call_replied w.kernel.vfs call state reply_received) })
-      (ask_told p unique w.kernel.queues.next ask reply state')
+      (ask_delivered p unique w.kernel.queues.next ask reply state')
   heard_alike reply reply_received over fits =
       subst (λ (c : ℕ). Alike (record w {
         kernel = advanced k1 call

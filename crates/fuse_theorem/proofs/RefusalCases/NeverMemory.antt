@@ -3,7 +3,7 @@ use Rattle.std.proofs.Common.{◌≢◌, ℕ, inl, inr}
 use Rattle.fuse_spec.specs.declared.Refusal.{Refusal}
 use Rattle.fuse_spec.specs.declared.Refusal.TheVariants.{NoMemory, LinkLost}
 use Rattle.fuse_spec.specs.World.Events.{Event}
-use Rattle.fuse_spec.specs.World.Refusals.{Refuses, too_long, in_use, clock_ends, not_ready, too_many, not_live, interrupt_first, names_nothing, none_kept, not_current, pinned_or_bound, told_too_often, copied_too_often, past_its_end}
+use Rattle.fuse_spec.specs.World.Refusals.{Refuses, too_long, in_use, clock_ends, not_ready, too_many, not_live, interrupt_first, names_nothing, none_kept, not_current, pinned_or_bound, counted_too_often, copied_too_often, past_its_end}
 use Rattle.fuse_spec.specs.World.Steps.{IsRefused, RefusedWith}
 use Rattle.fuse_spec.specs.World.Worlds.{World}
 use Rattle.fuse_theorem.proofs.Refining.Choosing.{some_choice}
@@ -46,7 +46,7 @@ by_case choice w e r (not_current unique kept there old) =
     record { not_memory = λ is. absurd (cc is); not_link = λ is. absurd (cc is) }
 by_case choice w e r (pinned_or_bound node counted live there kept) =
     record { not_memory = λ is. absurd (cc is); not_link = λ is. absurd (cc is) }
-by_case choice w e r (told_too_often unique held there many) =
+by_case choice w e r (counted_too_often unique held there many) =
     record { not_memory = λ is. absurd (cc is); not_link = λ is. absurd (cc is) }
 by_case choice w e r (copied_too_often unique kept there current many) =
     record { not_memory = λ is. absurd (cc is); not_link = λ is. absurd (cc is) }

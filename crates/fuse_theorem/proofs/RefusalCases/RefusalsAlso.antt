@@ -16,7 +16,7 @@ use Rattle.fuse_spec.specs.Server.Nodes.{counts_out}
 use Rattle.fuse_spec.specs.Kernel.Refusals.{first_found, found, pending_found, unused_found, when_live, when_not_interrupted, unless, is_ready, is_busy}
 use Rattle.fuse_spec.specs.Server.Refusals.{held_found, kept_found}
 use Rattle.fuse_spec.specs.World.Steps.{Stepped, is_past, going, reading_interrupt, reading_forgets, reading_pending, taking_request, performing_held, sending_again, writing_copy, settling, signalling, dropping, evicting, step}
-use Rattle.fuse_spec.specs.World.Refusals.{MayRead, Leads, mounts, calls, reads_interrupt, reads_forgets, reads_pending, takes, performs, sends_again, writes, settles, signals, passes, drops, evicts, aborts, draws, needs_live, reads_other, NamesNothing, no_interrupt, no_forgets, no_pending, no_body, no_request, none_held, no_copy, no_result, no_call, no_name, no_node, Refuses, too_long, in_use, clock_ends, not_ready, too_many, not_live, interrupt_first, names_nothing, none_kept, not_current, pinned_or_bound, told_too_often, copied_too_often, past_its_end}
+use Rattle.fuse_spec.specs.World.Refusals.{MayRead, Leads, mounts, calls, reads_interrupt, reads_forgets, reads_pending, takes, performs, sends_again, writes, settles, signals, passes, drops, evicts, aborts, draws, needs_live, reads_other, NamesNothing, no_interrupt, no_forgets, no_pending, no_body, no_request, none_held, no_copy, no_result, no_call, no_name, no_node, Refuses, too_long, in_use, clock_ends, not_ready, too_many, not_live, interrupt_first, names_nothing, none_kept, not_current, pinned_or_bound, counted_too_often, copied_too_often, past_its_end}
 use Rattle.fuse_theorem.proofs.Calls.Finding.{other_is}
 
 -- ---- a test that refuses, and one that does not
@@ -192,7 +192,7 @@ module _ (choice : ℕ → ℕ) (w : World) where
   refused e r (pinned_or_bound node counted live there used) =
       live_passes w _ live ∙ ap (λ o. unused_found w.kernel node o (evicting w node)) there ∙ refused_by
       (is_pinned w.kernel node || is_bound w.kernel node) Busy _ used
-  refused e r (told_too_often unique held there many) =
+  refused e r (counted_too_often unique held there many) =
       ap (λ o. held_found w.server o (performing_held choice w unique)) there ∙ refused_by
       (counts_out w.server.nodes (files_given w.server held)) Exhausted _ many
   refused e r (copied_too_often unique kept there current many) =

@@ -15,7 +15,7 @@ use Rattle.fuse_spec.specs.Kernel.Kernel.{Kernel, kernel_aborted, is_aborted, ad
 use Rattle.fuse_spec.specs.Kernel.Messages.{WireReply}
 use Rattle.fuse_spec.specs.Files.Operations.{Operation, done, failed, files_in_reply}
 use Rattle.fuse_spec.specs.Kernel.QueueCalls.{waiting, without, after_interrupt, interrupt_effect}
-use Rattle.fuse_spec.specs.Kernel.Replies.{kernel_reply, learnt, Use, usable, useless, stale, goes_with, is_agreement, judged, replied, replied_to_call, ended_by, request_reply_written, interrupt_reply_written, interrupt_replied, reply_written, reply_received, without_stale, reply_judged, use_of_reply, made_ready}
+use Rattle.fuse_spec.specs.Kernel.Replies.{kernel_reply, looked_up, Use, usable, useless, stale, goes_with, is_agreement, judged, replied, replied_to_call, ended_by, request_reply_written, interrupt_reply_written, interrupt_replied, reply_written, reply_received, without_stale, reply_judged, use_of_reply, made_ready}
 use Rattle.fuse_spec.specs.Calls.Vfs.{asked, CallState, walking, doing, using, Advance, answered, begun}
 use Rattle.std.specs.List.{remove as without_at}
 use Rattle.fuse_spec.specs.Kernel.QueueCalls.{pending_at, first_forgets}
@@ -203,7 +203,7 @@ replied_grows k call wire (Some state) = by (goes_with (asked state) wire)
 
     judged_grows : (x : WireReply) (u : Use) → Grows k.queues (judged (without_stale k wire) call state x u).queues
     judged_grows x usable = then_grows k.queues (without_stale k wire).queues _ stale_grows
-        (advanced_grows (record (without_stale k wire) { nodes = learnt k.nodes (files_in_reply x) }) call
+        (advanced_grows (record (without_stale k wire) { nodes = looked_up k.nodes (files_in_reply x) }) call
         (call_replied k.vfs call state (kernel_reply (asked state) x)))
     judged_grows x useless = stale_grows
     judged_grows x (stale node) = then_grows k.queues (without_stale k wire).queues _ stale_grows

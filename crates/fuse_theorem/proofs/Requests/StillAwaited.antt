@@ -22,7 +22,7 @@ use Rattle.fuse_spec.specs.Kernel.Queues.{IsSound, is_unread, request_under, mar
 use Rattle.fuse_spec.specs.Kernel.QueueCalls.{after_reply_effect, waiting, without}
 use Rattle.fuse_spec.specs.Kernel.Signals.{reply_effect}
 use Rattle.fuse_spec.specs.Kernel.Kernel.{Kernel, is_live, is_for, kernel_aborted, after_use}
-use Rattle.fuse_spec.specs.Kernel.Replies.{kernel_reply, learnt, Use, usable, useless, stale, goes_with, is_agreement, judged, replied, replied_to_call, ended_by, request_reply_written, interrupt_reply_written, interrupt_replied, interrupt_reply_of, reply_written, reply_received, without_stale, reply_judged, use_of_reply, made_ready}
+use Rattle.fuse_spec.specs.Kernel.Replies.{kernel_reply, looked_up, Use, usable, useless, stale, goes_with, is_agreement, judged, replied, replied_to_call, ended_by, request_reply_written, interrupt_reply_written, interrupt_replied, interrupt_reply_of, reply_written, reply_received, without_stale, reply_judged, use_of_reply, made_ready}
 use Rattle.fuse_spec.proofs.QueueReadings.{request_under-without, request_under-without_other}
 use Rattle.fuse_theorem.specs.Numbering.{requests_for}
 use Rattle.fuse_theorem.specs.AskedRequests.{SignalsReachCalls, InitIsFirst}
@@ -61,7 +61,7 @@ replied_follows k call wire (Some state) none = by (goes_with (asked state) wire
 
     judged_follows : (x : WireReply) (u : Use) → Follows k (judged (without_stale k wire) call state x u)
     judged_follows x usable =
-        let k1 = record (without_stale k wire) { nodes = learnt k.nodes (files_in_reply x) } in
+        let k1 = record (without_stale k wire) { nodes = looked_up k.nodes (files_in_reply x) } in
         let next = call_replied k.vfs call state (kernel_reply (asked state) x) in
         then_follows k k1 (judged (without_stale k wire) call state x usable) (unmoved k k1 refl refl (omega arith))
         (advanced_follows k1 call k.vfs.next_call next none

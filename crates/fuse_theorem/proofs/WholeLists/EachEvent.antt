@@ -51,7 +51,7 @@ use Rattle.fuse_theorem.proofs.Refining.Declining.{decline_goes}
 use Rattle.fuse_theorem.proofs.Refining.Dropping.{drop_goes}
 use Rattle.fuse_theorem.proofs.Refining.Evicting.{or_false, evicted_alike}
 use Rattle.fuse_theorem.proofs.Refining.Forgetting.{forgotten_alike}
-use Rattle.fuse_theorem.proofs.Refining.Learning.{one_to_one}
+use Rattle.fuse_theorem.proofs.Refining.LookedUp.{one_to_one}
 use Rattle.fuse_theorem.proofs.Refining.Marking.{take_interrupt_goes}
 use Rattle.fuse_theorem.proofs.Refining.Mounting.{mount_goes}
 use Rattle.fuse_theorem.proofs.Refining.Performing.{asked, perform_goes, lost_goes}

@@ -8,7 +8,7 @@ use Rattle.fuse_spec.specs.Reference.Plain.{Plain}
 use Rattle.fuse_theorem.specs.EachEvent.{Needs}
 use Rattle.fuse_theorem.specs.WorldSound.{WorldSound, NeedsNoMore}
 use Rattle.fuse_theorem.proofs.Requests.EmptyQueues.{empty_sound}
-use Rattle.fuse_theorem.proofs.Refining.Learning.{one_to_one}
+use Rattle.fuse_theorem.proofs.Refining.LookedUp.{one_to_one}
 use Rattle.fuse_theorem.proofs.Lookups.LookupsStay.{first_lookups, lookups_stay, known_held}
 use Rattle.fuse_theorem.proofs.Requests.QueuesSound.{stays_sound}
 use Rattle.fuse_theorem.proofs.Requests.RequestsSound.{first_requests, requests_stay}

@@ -4,9 +4,9 @@ use Rattle.fuse_spec.specs.Values.Maps.{Map}
 use Rattle.fuse_spec.specs.Files.Operations.{DirentPlus}
 use Rattle.fuse_spec.specs.declared.Counted.{Counted}
 use Rattle.fuse_spec.specs.declared.Entry.{Entry}
-use Rattle.fk_nodes.specs.Learning.{learnt_from, AreBelow}
+use Rattle.fk_nodes.specs.LookedUp.{looked_up_from, AreBelow}
 use Rattle.fk_nodes.specs.Rooms.{HaveNodeRoom}
-use Rattle.fk_nodes.specs.Told.{pairs_in}
+use Rattle.fk_nodes.specs.ListedFiles.{pairs_in}
 use Rattle.fk_nodes.proofs.Counting.{below_before}
 use Rattle.fk_nodes.proofs.NodeRooms.{kept_rooms}
 use Rattle.fk_nodes.proofs.learning.count_all.Goals as goal
@@ -26,8 +26,8 @@ loop-pair-preserved g c =
     let low = c.loop-pair.invariant.low in
     record {
       counted =
-          ap (λ (m : Map Counted). learnt_from m rest) c.count_told-most.ensures.counted
-          ∙ sym (ap (λ (ps : List (DirentPlus Entry)). learnt_from (g.C.CountTable.counted c.loop-pair.table) ps) left)
+          ap (λ (m : Map Counted). looked_up_from m rest) c.count_told-most.ensures.counted
+          ∙ sym (ap (λ (ps : List (DirentPlus Entry)). looked_up_from (g.C.CountTable.counted c.loop-pair.table) ps) left)
           ∙ c.loop-pair.invariant.counted;
       room = kept_rooms (g.C.CountTable.has_room c.loop-pair.table)
           (g.C.CountTable.has_room c.count_told-most.new.table) rest c.count_told-most.ensures.kept rooms.1;

@@ -1,7 +1,7 @@
 use Rattle.std.proofs.Common.{ap, map, ◌∙◌}
 use Rattle.fuse_frames.specs.ReplyTies.{pair_in}
 use Rattle.fk_wire.specs.Records.{direntplus_content}
-use Rattle.fk_nodes.specs.Told.{pairs_in}
+use Rattle.fk_nodes.specs.ListedFiles.{pairs_in}
 use Rattle.fk_nodes.proofs.NodeRooms.{room_made}
 use Rattle.fk_nodes.proofs.learning.reserve_nodes.Goals as goal
 

@@ -1,5 +1,5 @@
 use Rattle.std.proofs.Common.{◌≡◌}
-use Rattle.fk_nodes.specs.Told.{pairs_in}
+use Rattle.fk_nodes.specs.ListedFiles.{pairs_in}
 use Rattle.fk_nodes.proofs.NodeRooms.{RoomBehind}
 use Rattle.fk_nodes.proofs.learning.reserve_nodes.Given as goal
 

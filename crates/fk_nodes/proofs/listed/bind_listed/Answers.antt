@@ -4,7 +4,7 @@ use Rattle.fuse_spec.specs.Values.Maps.{NameMap}
 use Rattle.fuse_spec.specs.Files.Operations.{DirentPlus}
 use Rattle.fuse_spec.specs.declared.Binding.{Binding}
 use Rattle.fuse_spec.specs.declared.Entry.{Entry}
-use Rattle.fk_nodes.specs.Told.{pairs_in, HaveToldRoom, names_judged}
+use Rattle.fk_nodes.specs.ListedFiles.{pairs_in, HaveToldRoom, names_judged}
 use Rattle.fk_nodes.proofs.Rooms.{kept_rooms}
 use Rattle.fk_nodes.proofs.listed.bind_listed.Goals as goal
 

@@ -1,5 +1,5 @@
 use Rattle.std.proofs.Common.{◌≡◌}
-use Rattle.fk_nodes.specs.Told.{pairs_in, HaveToldRoom, names_judged}
+use Rattle.fk_nodes.specs.ListedFiles.{pairs_in, HaveToldRoom, names_judged}
 use Rattle.fk_nodes.proofs.listed.bind_listed.Given as goal
 
 abbrev pub invariant-loop-pair : goal.invariant-loop-pair

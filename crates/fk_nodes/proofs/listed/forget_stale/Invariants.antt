@@ -1,7 +1,7 @@
 use Rattle.std.proofs.Common.{◌≡◌, ◌≤◌, ◌+◌, length}
 use Rattle.fuse_spec.specs.Kernel.Replies.{each_forgotten}
-use Rattle.fk_nodes.specs.Learning.{stale_by}
-use Rattle.fk_nodes.specs.Told.{pairs_in}
+use Rattle.fk_nodes.specs.LookedUp.{stale_by}
+use Rattle.fk_nodes.specs.ListedFiles.{pairs_in}
 use Rattle.fk_nodes.proofs.listed.forget_stale.Given as goal
 
 abbrev pub invariant-loop-pair : goal.invariant-loop-pair

@@ -2,7 +2,7 @@ use Rattle.std.proofs.Common.{◌≡◌, ◌++◌, map}
 use Rattle.fuse_spec.specs.declared.Entry.{Entry}
 use Rattle.fuse_spec.specs.Files.Operations.{DirentPlus}
 use Rattle.fk_syscalls.specs.Values.{dirent_of}
-use Rattle.fk_nodes.specs.Told.{pairs_in}
+use Rattle.fk_nodes.specs.ListedFiles.{pairs_in}
 use Rattle.fk_nodes.proofs.listed.names_listed.Given as goal
 
 abbrev pub invariant-loop-pair : goal.invariant-loop-pair

@@ -1,5 +1,5 @@
 use Rattle.std.proofs.Common.{◌≡◌, ◌+◌, length}
-use Rattle.fk_nodes.specs.Told.{pairs_in}
+use Rattle.fk_nodes.specs.ListedFiles.{pairs_in}
 use Rattle.fk_nodes.proofs.listed.pair_count.Given as goal
 
 abbrev pub invariant-loop-pair : goal.invariant-loop-pair

@@ -5,7 +5,7 @@ use Rattle.fuse_spec.specs.Files.Operations.{create}
 use Rattle.fuse_spec.specs.Kernel.QueueCalls.{waiting}
 use Rattle.fuse_spec.specs.Calls.Vfs.{doing}
 use Rattle.fk_kernel.proofs.Files.{some_not_none, opened_files}
-use Rattle.fk_kernel.proofs.Nodes.{learnt_counted, answered_is, sorted_gone}
+use Rattle.fk_kernel.proofs.Nodes.{looked_up_counted, answered_is, sorted_gone}
 use Rattle.fk_kernel.proofs.Replied.{create_made}
 use Rattle.fk_kernel.proofs.Sound.{sound_answered}
 use Rattle.fk_kernel.proofs.kernel.KernelOf.file_is_made.Goals as goal
@@ -46,7 +46,7 @@ invariant_of-self-2 g c =
       sorted = sorted_gone k.calls.entries c.args.call old.sorted;
       files = opened_files k.calls.entries k.opens.entries k.closing.entries k.next_call old.files old.numbers.calls_below c.args.call (record { nodeid = c.args.entry.now.nodeid; fh = c.args.fh }) there;
       releases = omega (arith, old.releases, c.reserve.ensures.kept.requests, c.answer-kept.ensures.room.requests);
-      nodes = learnt_counted k.nodes (g.Q.QueueTable.room k.queues).forgets
+      nodes = looked_up_counted k.nodes (g.Q.QueueTable.room k.queues).forgets
           (g.Q.QueueTable.room c.answer-kept.new.self).forgets old.nodes room c.args.entry.now fits;
       clock_low = old.clock_low;
     })

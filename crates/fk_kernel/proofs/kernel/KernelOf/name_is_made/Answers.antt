@@ -3,7 +3,7 @@ use Rattle.std.specs.Prelude.{is_some}
 use Rattle.fuse_spec.specs.Values.Maps.{get}
 use Rattle.fuse_spec.specs.Kernel.QueueCalls.{waiting}
 use Rattle.fuse_spec.specs.Calls.Vfs.{doing}
-use Rattle.fk_kernel.proofs.Nodes.{learnt_counted, answered_is}
+use Rattle.fk_kernel.proofs.Nodes.{looked_up_counted, answered_is}
 use Rattle.fk_kernel.proofs.Replied.{made_found}
 use Rattle.fk_kernel.proofs.CallStates.{makes_place}
 use Rattle.fk_kernel.proofs.kernel.KernelOf.name_is_made.Goals as goal
@@ -36,7 +36,7 @@ invariant_of-self-2 g c =
       sorted = old.sorted;
       files = old.files;
       releases = omega (arith, old.releases, c.reserve.ensures.kept.requests, c.answer-kept.ensures.room.requests);
-      nodes = learnt_counted k.nodes (g.Q.QueueTable.room k.queues).forgets
+      nodes = looked_up_counted k.nodes (g.Q.QueueTable.room k.queues).forgets
           (g.Q.QueueTable.room c.answer-kept.new.self).forgets old.nodes room c.args.entry.now fits;
       clock_low = old.clock_low;
     })

@@ -7,16 +7,16 @@ use Rattle.fuse_spec.specs.Kernel.QueueCalls.{waiting}
 use Rattle.fuse_spec.specs.Kernel.Replies.{each_forgotten, goes_with}
 use Rattle.fuse_spec.specs.Calls.Vfs.{doing, asked}
 use Rattle.fuse_spec.specs.declared.Opened.{Opened}
-use Rattle.fk_nodes.specs.Learning.{learnt_from, stale_by}
-use Rattle.fk_nodes.specs.Told.{pairs_in}
+use Rattle.fk_nodes.specs.LookedUp.{looked_up_from, stale_by}
+use Rattle.fk_nodes.specs.ListedFiles.{pairs_in}
 use Rattle.fk_kernel.proofs.CountsHeard.{pairs_below}
 use Rattle.fk_kernel.proofs.Nodes.{answered_is, listed_counted}
 use Rattle.fk_kernel.proofs.Replied.{list_done}
 use Rattle.fk_kernel.proofs.CallStates.{asked_is, lists_from}
 use Rattle.fk_kernel.proofs.kernel.KernelOf.pairs_listed.Goals as goal
 
-pub learn_and_bind-requires-clause-below : goal.learn_and_bind-requires-clause-below
-learn_and_bind-requires-clause-below g c = rw (← c.self.view_is) at
+pub count_and_bind-requires-clause-below : goal.count_and_bind-requires-clause-below
+count_and_bind-requires-clause-below g c = rw (← c.self.view_is) at
     (pairs_below c.args.self.now.nodes (pairs_in c.args.pairs) c.requires.counts)
 
 pub invariant_of-self-2 : goal.invariant_of-self-2
@@ -31,7 +31,7 @@ invariant_of-self-2 g c =
     let most = c.most.ensures in
     let room : length k.nodes + length pairs ≤ (g.Q.QueueTable.room c.answer-kept.new.self).forgets =
     omega (arith, c.in-Some.ensures, c.pair_count.ensures) in
-    rw c.in-Ok-learn_and_bind.ensures.nodes
+    rw c.in-Ok-count_and_bind.ensures.nodes
     (record {
       numbers = old.numbers;
       idle = old.idle;
@@ -65,14 +65,14 @@ returns-clause-ok g c =
     let directory : c.directory_listed-directory.result ≡ lists.directory =
     c.directory_listed-directory.ensures lists.directory lists.after lists.size at in
     let waits : is_some (waiting s c.args.unique) ≡ true = rw (← c.self.view_is) at (ap is_some c.requires.waits) in
-    let stale = stale_by (learnt_from k.nodes pairs) pairs in
+    let stale = stale_by (looked_up_from k.nodes pairs) pairs in
     rw (
       c.finish.ensures,
       c.answer-kept.ensures.state,
       c.forget_stale.ensures.state,
       c.reserve.ensures.state,
-      c.in-Ok-learn_and_bind.ensures.names,
-      c.in-Ok-learn_and_bind.ensures.nodes,
+      c.in-Ok-count_and_bind.ensures.names,
+      c.in-Ok-count_and_bind.ensures.nodes,
       answered_is (each_forgotten s stale) c.args.unique waits,
       directory,
       c.in-Ok.ensures,

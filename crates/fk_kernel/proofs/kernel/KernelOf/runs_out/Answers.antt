@@ -4,7 +4,7 @@ use Rattle.fuse_spec.specs.declared.Opened.{Opened}
 use Rattle.fuse_spec.specs.declared.WriteResult.{WriteResult}
 use Rattle.fuse_spec.specs.Kernel.Kernel.{Kernel}
 use Rattle.fuse_spec.specs.Kernel.QueueCalls.{without}
-use Rattle.fuse_spec.specs.Kernel.Replies.{learnt}
+use Rattle.fuse_spec.specs.Kernel.Replies.{looked_up}
 use Rattle.fuse_spec.specs.Calls.Vfs.{Advance, asked, walking, walks_on, bound}
 use Rattle.fuse_spec.specs.Files.Operations.{Operation, lookup}
 use Rattle.fuse_spec.specs.Calls.Paths.{Name}
@@ -58,7 +58,7 @@ returns-clause-past g c = λ would.
     ∙ asks_past (record now {
       vfs = next.vfs;
       queues = without now.queues c.args.unique;
-      nodes = learnt now.nodes (entry ∷ []);
+      nodes = looked_up now.nodes (entry ∷ []);
     }) c.args.call next.operation asks c.requires.none_left
 
 pub returns-clause-within : goal.returns-clause-within

@@ -3,7 +3,7 @@ use Rattle.std.specs.Prelude.{is_some}
 use Rattle.fuse_spec.specs.Values.Maps.{get}
 use Rattle.fuse_spec.specs.Kernel.QueueCalls.{waiting, without}
 use Rattle.fuse_spec.specs.Kernel.Kernel.{Kernel, advanced}
-use Rattle.fuse_spec.specs.Kernel.Replies.{learnt}
+use Rattle.fuse_spec.specs.Kernel.Replies.{looked_up}
 use Rattle.fuse_spec.specs.Calls.Answers.{failed}
 use Rattle.fuse_spec.specs.declared.WriteResult.{WriteResult}
 use Rattle.fuse_spec.specs.declared.WriteResult.TheVariants.{Accepted}
@@ -13,7 +13,7 @@ use Rattle.fuse_spec.specs.Calls.Vfs.{Vfs, Advance, walking, walks_on, bound, as
 use Rattle.fuse_spec.specs.declared.Opened.{Opened}
 use Rattle.fuse_spec.proofs.Tables.{get_gone_here}
 use Rattle.fuse_spec.specs.Kernel.Refusals.{is_past_end}
-use Rattle.fk_kernel.proofs.Nodes.{learnt_counted, answered_is, still_counted, put_gone, length_again, sorted_put, sorted_gone}
+use Rattle.fk_kernel.proofs.Nodes.{looked_up_counted, answered_is, still_counted, put_gone, length_again, sorted_put, sorted_gone}
 use Rattle.fk_kernel.proofs.Replied.{lookup_found}
 use Rattle.fk_kernel.proofs.Sound.{sound_answered, sound_walks, there_is}
 use Rattle.fk_kernel.proofs.Walking.{asked_left}
@@ -65,7 +65,7 @@ enqueue-unique-requires-clause-number g c =
     (comes_to vfs c.args.call) c.in-Waits.is in
     let knows : Kernel = record now {
       queues = without now.queues c.args.unique;
-      nodes = learnt now.nodes (c.args.entry.now ∷ []);
+      nodes = looked_up now.nodes (c.args.entry.now ∷ []);
     } in
     let asks : is_past_end (advanced knows c.args.call (asking vfs c.args.call c.in-Waits.state)) ≡ false =
     sym (ap (λ (a : Advance Opened). is_past_end (advanced knows c.args.call a)) comes)
@@ -113,7 +113,7 @@ invariant_of-self-in-Waits g c =
     let room : length k.nodes + 1 ≤ (g.Q.QueueTable.room c.answer-kept.new.self).forgets =
     omega (arith, c.in-Some.ensures) in
     let fits = rw (← c.self.view_is) at c.requires.fits in
-    let counted = learnt_counted k.nodes (g.Q.QueueTable.room k.queues).forgets
+    let counted = looked_up_counted k.nodes (g.Q.QueueTable.room k.queues).forgets
     (g.Q.QueueTable.room c.answer-kept.new.self).forgets old.nodes room c.args.entry.now fits in
     rw (
       c.enqueue-unique.ensures.state,
@@ -171,7 +171,7 @@ invariant_of-self-in-Answered g c =
       sorted = sorted_gone k.calls.entries c.args.call old.sorted;
       files = answered_files k.calls.entries k.opens.entries k.closing.entries k.next_call old.files c.args.call;
       releases = omega (arith, old.releases, c.reserve.ensures.kept.requests, c.answer-kept.ensures.room.requests);
-      nodes = learnt_counted k.nodes (g.Q.QueueTable.room k.queues).forgets
+      nodes = looked_up_counted k.nodes (g.Q.QueueTable.room k.queues).forgets
           (g.Q.QueueTable.room c.answer-kept.new.self).forgets old.nodes room c.args.entry.now fits;
       clock_low = old.clock_low;
     })
@@ -206,7 +206,7 @@ returns-in-Waits-clause-ok g c =
       advanced
           (record now {
             queues = without now.queues c.args.unique;
-            nodes = learnt now.nodes (c.args.entry.now ∷ []);
+            nodes = looked_up now.nodes (c.args.entry.now ∷ []);
           }) c.args.call a,
     )) comes
     ∙ rw (
@@ -253,7 +253,7 @@ returns-in-Answered-clause-ok g c =
       advanced
           (record now {
             queues = without now.queues c.args.unique;
-            nodes = learnt now.nodes (c.args.entry.now ∷ []);
+            nodes = looked_up now.nodes (c.args.entry.now ∷ []);
           }) c.args.call a,
     )) comes
     ∙ rw (

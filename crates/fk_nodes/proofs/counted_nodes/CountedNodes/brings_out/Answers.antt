@@ -4,8 +4,8 @@ use Rattle.std.proofs.lemmas.Bool.{ltb-true}
 use Rattle.std.proofs.lemmas.Bool.Decides.{nat_tests}
 use Rattle.fuse_spec.specs.Values.Maps.{get}
 use Rattle.fuse_spec.specs.Values.Numbers.{counter_end}
-use Rattle.fk_nodes.specs.Learning.{times_told}
-use Rattle.fk_nodes.specs.Told.{pairs_in}
+use Rattle.fk_nodes.specs.LookedUp.{times_listed}
+use Rattle.fk_nodes.specs.ListedFiles.{pairs_in}
 use Rattle.fk_nodes.proofs.Counting.{one_out}
 use Rattle.fk_nodes.proofs.counted_nodes.CountedNodes.brings_out.Goals as goal
 
@@ -24,9 +24,9 @@ returns-clause-out g c = λ more.
     let at : get nodes entry.nodeid ≡ Some counted = sym c.in-Some-counted.ensures in
     let low : counted.count < counter_end = c.requires.below entry.nodeid counted at in
     let same : counted.generation ≡ entry.generation = c.if-counted-entry.false in
-    let over : counter_end - 1 - counted.count < times_told entry.nodeid entry.generation pairs =
+    let over : counter_end - 1 - counted.count < times_listed entry.nodeid entry.generation pairs =
     ltb-true _ _ (sym c.tell_more.ensures ∙ more) in
-    let out : counter_end ≤ counted.count + times_told entry.nodeid entry.generation pairs =
-    past counted.count (times_told entry.nodeid entry.generation pairs) low over in
+    let out : counter_end ≤ counted.count + times_listed entry.nodeid entry.generation pairs =
+    past counted.count (times_listed entry.nodeid entry.generation pairs) low over in
     one_out nodes pairs entry.nodeid counted (high entry.nodeid (omega (arith, c.if-entry-lt2.false))) at
-    (subst (λ (n : ℕ). counter_end ≤ counted.count + times_told entry.nodeid n pairs) (sym same) out)
+    (subst (λ (n : ℕ). counter_end ≤ counted.count + times_listed entry.nodeid n pairs) (sym same) out)

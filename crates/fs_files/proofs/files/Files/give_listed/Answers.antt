@@ -1,6 +1,6 @@
 use Rattle.std.proofs.Common.{◌≤◌, ◌^◌, List, length, map, sym, subst}
 use Rattle.std.specs.Prelude.{All}
-use Rattle.fuse_spec.specs.Files.Operations.{files_told}
+use Rattle.fuse_spec.specs.Files.Operations.{files_listed}
 use Rattle.fk_wire.specs.Dirents.{DirentContent}
 use Rattle.fuse_frames.specs.ReplyTies.{dirent_in}
 use Rattle.fs_files.specs.Giving.{GivenEach, generations_after}
@@ -30,11 +30,11 @@ pub give_records-requires-clause-generations : goal.give_records-requires-clause
 give_records-requires-clause-generations g c =
     let same = over_are c.args.records.now c.over.result c.unwrap.result c.over.ensures c.unwrap.ensures in
     subst (λ (ds : List DirentContent). generations_after c.args.self.now.nodes
-    (files_told (map (pair_listed 0) (map dirent_in ds))) ≤ 2 ^ 62) (sym same.0) c.requires.generations
+    (files_listed (map (pair_listed 0) (map dirent_in ds))) ≤ 2 ^ 62) (sym same.0) c.requires.generations
 
 pub returns-clause-given : goal.returns-clause-given
 returns-clause-given g c =
     let same = over_are c.args.records.now c.over.result c.unwrap.result c.over.ensures c.unwrap.ensures in
     subst (λ (ds : List DirentContent). GivenEach c.args.self.now.nodes
-    (files_told (map (pair_listed 0)
+    (files_listed (map (pair_listed 0)
     (map dirent_in ds))) c.give_records.new.self.nodes) same.0 c.give_records.ensures.given

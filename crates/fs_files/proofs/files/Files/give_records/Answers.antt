@@ -1,5 +1,5 @@
 use Rattle.std.proofs.Common.{◌-◌, List, [], ◌∷◌, map, refl, sym, subst, ◌∙◌}
-use Rattle.fuse_spec.specs.Files.Operations.{Dirent, files_told}
+use Rattle.fuse_spec.specs.Files.Operations.{Dirent, files_listed}
 use Rattle.fuse_spec.specs.Files.Trees.{Tree}
 use Rattle.fk_wire.specs.Dirents.{DirentContent}
 use Rattle.fk_wire.specs.Records.{dirent_content}
@@ -25,7 +25,7 @@ pub overflow_sub-record : goal.overflow_sub-record
 overflow_sub-record g c =
     let old = c.args.self.now in
     let now = c.records.self in
-    let all = files_told (map (pair_listed 0) (listed_in c.args.records)) in
+    let all = files_listed (map (pair_listed 0) (listed_in c.args.records)) in
     let d : Dirent = dirent_in (dirent_content c.in-Some.record) in
     let ds : List Dirent = listed_in c.next.new.self in
     let still : StillToGive old.tree old.nodes all now.nodes now.node_room (d ∷ ds) =
@@ -37,7 +37,7 @@ pub give_named-requires-clause-file : goal.give_named-requires-clause-file
 give_named-requires-clause-file g c =
     let old = c.args.self.now in
     let now = c.records.self in
-    let all = files_told (map (pair_listed 0) (listed_in c.args.records)) in
+    let all = files_listed (map (pair_listed 0) (listed_in c.args.records)) in
     let d : Dirent = dirent_in (dirent_content c.in-Some.record) in
     let ds : List Dirent = listed_in c.next.new.self in
     let still : StillToGive old.tree old.nodes all now.nodes now.node_room (d ∷ ds) =
@@ -49,7 +49,7 @@ pub give_named-requires-clause-there : goal.give_named-requires-clause-there
 give_named-requires-clause-there g c =
     let old = c.args.self.now in
     let now = c.records.self in
-    let all = files_told (map (pair_listed 0) (listed_in c.args.records)) in
+    let all = files_listed (map (pair_listed 0) (listed_in c.args.records)) in
     let d : Dirent = dirent_in (dirent_content c.in-Some.record) in
     let ds : List Dirent = listed_in c.next.new.self in
     let still : StillToGive old.tree old.nodes all now.nodes now.node_room (d ∷ ds) =
@@ -62,7 +62,7 @@ pub give_named-requires-clause-room : goal.give_named-requires-clause-room
 give_named-requires-clause-room g c =
     let old = c.args.self.now in
     let now = c.records.self in
-    let all = files_told (map (pair_listed 0) (listed_in c.args.records)) in
+    let all = files_listed (map (pair_listed 0) (listed_in c.args.records)) in
     let d : Dirent = dirent_in (dirent_content c.in-Some.record) in
     let ds : List Dirent = listed_in c.next.new.self in
     let still : StillToGive old.tree old.nodes all now.nodes now.node_room (d ∷ ds) =
@@ -74,7 +74,7 @@ pub give_named-requires-clause-generations : goal.give_named-requires-clause-gen
 give_named-requires-clause-generations g c =
     let old = c.args.self.now in
     let now = c.records.self in
-    let all = files_told (map (pair_listed 0) (listed_in c.args.records)) in
+    let all = files_listed (map (pair_listed 0) (listed_in c.args.records)) in
     let d : Dirent = dirent_in (dirent_content c.in-Some.record) in
     let ds : List Dirent = listed_in c.next.new.self in
     let still : StillToGive old.tree old.nodes all now.nodes now.node_room (d ∷ ds) =
@@ -86,7 +86,7 @@ pub give_named-requires-clause-counted : goal.give_named-requires-clause-counted
 give_named-requires-clause-counted g c =
     let old = c.args.self.now in
     let now = c.records.self in
-    let all = files_told (map (pair_listed 0) (listed_in c.args.records)) in
+    let all = files_listed (map (pair_listed 0) (listed_in c.args.records)) in
     let d : Dirent = dirent_in (dirent_content c.in-Some.record) in
     let ds : List Dirent = listed_in c.next.new.self in
     let still : StillToGive old.tree old.nodes all now.nodes now.node_room (d ∷ ds) =
@@ -98,7 +98,7 @@ pub records-preserved : goal.records-preserved
 records-preserved g c =
     let old = c.args.self.now in
     let now = c.records.self in
-    let all = files_told (map (pair_listed 0) (listed_in c.args.records)) in
+    let all = files_listed (map (pair_listed 0) (listed_in c.args.records)) in
     let d : Dirent = dirent_in (dirent_content c.in-Some.record) in
     let ds : List Dirent = listed_in c.next.new.self in
     let still : StillToGive old.tree old.nodes all now.nodes now.node_room (d ∷ ds) =
@@ -117,7 +117,7 @@ pub returns-clause-given : goal.returns-clause-given
 returns-clause-given g c =
     let old = c.args.self.now in
     let now = c.records.self in
-    let all = files_told (map (pair_listed 0) (listed_in c.args.records)) in
+    let all = files_listed (map (pair_listed 0) (listed_in c.args.records)) in
     let still : StillToGive old.tree old.nodes all now.nodes now.node_room [] =
     subst (λ (xs : List DirentContent). StillToGive old.tree old.nodes all now.nodes now.node_room
     (map dirent_in xs)) c.in-None.ensures.steps.0 c.records.invariant.2 in

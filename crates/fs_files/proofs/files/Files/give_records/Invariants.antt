@@ -1,5 +1,5 @@
 use Rattle.std.proofs.Common.{◌≡◌, map}
-use Rattle.fuse_spec.specs.Files.Operations.{files_told}
+use Rattle.fuse_spec.specs.Files.Operations.{files_listed}
 use Rattle.fs_files.specs.Listed.{listed_in, pair_listed}
 use Rattle.fs_files.proofs.NumberedNames.{StillToGive}
 use Rattle.fs_files.proofs.files.Files.give_records.Given as goal
@@ -8,7 +8,7 @@ abbrev pub invariant-records : goal.invariant-records
 invariant-records g l =
     (goal.iterator-records g).can_next l.record-iterator
     × (goal.iterator-records g).is_finite l.record-iterator
-    × StillToGive l.fn.self.tree l.fn.self.nodes (files_told
+    × StillToGive l.fn.self.tree l.fn.self.nodes (files_listed
     (map (pair_listed 0) (listed_in l.fn.records))) l.self.nodes l.self.node_room (listed_in l.record-iterator)
     × (l.self.tree ≡ l.fn.self.tree)
     × (l.self.handles ≡ l.fn.self.handles)

@@ -2,13 +2,13 @@ use Rattle.std.proofs.Common.{◌≡◌, Option, Some, None, cond, ◌++◌, Lis
 use Rattle.std.proofs.lemmas.List.Elements.{All-head, All-tail}
 use Rattle.fk_wire.specs.Dirents.{DirentContent}
 use Rattle.fk_wire.specs.Records.{records_in, dirent_content}
-use Rattle.fuse_spec.specs.Files.Operations.{Dirent, files_told}
+use Rattle.fuse_spec.specs.Files.Operations.{Dirent, files_listed}
 use Rattle.fuse_spec.specs.declared.Entry.{Entry}
 use Rattle.fuse_frames.specs.ReplyTies.{dirent_in}
 use Rattle.fs_files.specs.Listed.{names_in}
 use Rattle.fs_files.specs.Replies.{IsListable}
 use Rattle.fs_files.specs.Numbering.{entries_named, entry_named}
-use Rattle.fuse_spec.specs.Files.Operations.{first_told}
+use Rattle.fuse_spec.specs.Files.Operations.{first_listed}
 use Rattle.fuse_spec.specs.Calls.Paths.{is_dots}
 use Rattle.fs_files.proofs.EntriesPut.{one_longer, one_on, files_longer, files_on}
 use Rattle.fs_files.proofs.Listing.{over_are}
@@ -32,7 +32,7 @@ records-init g c =
       tt,
       subst (λ (ds : List Dirent). All (IsListable tree) ds) (sym names) c.requires.listable,
       rw c.requires.none (ap (λ (ds : List Dirent). map (entry_named tree nodes) ds) names),
-      rw c.requires.no_file_entries (ap (λ (ds : List Dirent). files_told (entries_named tree nodes ds)) names),
+      rw c.requires.no_file_entries (ap (λ (ds : List Dirent). files_listed (entries_named tree nodes ds)) names),
       omega (arith, many, none, room),
       omega (arith, many, no_file_entries, file_room),
     )
@@ -66,19 +66,19 @@ records-preserved g c =
     let e : Entry = c.entry_of-entry.result in
     let is : e ≡ entry_named tree nodes d = c.entry_of-entry.ensures in
     let o : Option Entry = cond (is_dots d.name) None (Some e) in
-    let rest : List Entry = files_told (entries_named tree nodes ds) in
+    let rest : List Entry = files_listed (entries_named tree nodes ds) in
     let whole : List Entry = map (entry_named tree nodes) (names_in c.args.records.now) in
-    let all_files : List Entry = files_told (entries_named tree nodes (names_in c.args.records.now)) in
+    let all_files : List Entry = files_listed (entries_named tree nodes (names_in c.args.records.now)) in
     let items : es ++ map (entry_named tree nodes) (d ∷ ds) ≡ whole =
     subst (λ (xs : List Dirent). es ++ map (entry_named tree nodes) xs ≡ whole) first c.records.invariant.3 in
-    let file_entries : ts ++ files_told (entries_named tree nodes (d ∷ ds)) ≡ all_files =
-    subst (λ (xs : List Dirent). ts ++ files_told (entries_named tree nodes xs)
+    let file_entries : ts ++ files_listed (entries_named tree nodes (d ∷ ds)) ≡ all_files =
+    subst (λ (xs : List Dirent). ts ++ files_listed (entries_named tree nodes xs)
     ≡ all_files) first c.records.invariant.4 in
     let put : c.push_reserved.new.self.items ≡ es ++ e ∷ [] = c.push_reserved.ensures.items in
-    let file_put : c.put_file_entry.new.file_entries.items ≡ ts ++ first_told o [] = c.put_file_entry.ensures.items in
+    let file_put : c.put_file_entry.new.file_entries.items ≡ ts ++ first_listed o [] = c.put_file_entry.ensures.items in
     let put_len : length c.push_reserved.new.self.items ≡ length (es ++ e ∷ []) =
     ap (λ (xs : List Entry). length xs) put in
-    let files_len : length c.put_file_entry.new.file_entries.items ≡ length (ts ++ first_told o []) =
+    let files_len : length c.put_file_entry.new.file_entries.items ≡ length (ts ++ first_listed o []) =
     ap (λ (xs : List Entry). length xs) file_put in
     let longer = one_longer es e in
     let longer_files = files_longer ts o in
@@ -93,7 +93,7 @@ records-preserved g c =
       ap (λ (xs : List Entry). xs ++ map (entry_named tree nodes) ds) put ∙ one_on es e
           (map (entry_named tree nodes) ds) ∙ ap (λ (x : Entry). es ++ x ∷ map (entry_named tree nodes) ds) is ∙ items,
       ap (λ (xs : List Entry). xs ++ rest) file_put ∙ files_on ts o rest ∙ ap
-          (λ (x : Entry). ts ++ first_told (cond (is_dots d.name) None (Some x)) rest) is ∙ file_entries,
+          (λ (x : Entry). ts ++ first_listed (cond (is_dots d.name) None (Some x)) rest) is ∙ file_entries,
       omega (arith, many, put_len, longer, room, capacity),
       omega (arith, many, files_len, longer_files, file_room, files_capacity),
     )

@@ -1,5 +1,5 @@
 use Rattle.std.proofs.Common.{◌≡◌, ◌≤◌, ◌+◌, ◌++◌, All, length, map, vec_capacity}
-use Rattle.fuse_spec.specs.Files.Operations.{files_told}
+use Rattle.fuse_spec.specs.Files.Operations.{files_listed}
 use Rattle.fk_wire.specs.Records.{records_in}
 use Rattle.fuse_frames.specs.ReplyTies.{dirent_in}
 use Rattle.fs_files.specs.Listed.{names_in}
@@ -15,8 +15,8 @@ invariant-records g l =
     × (l.entries.items ++ map (entry_named l.fn.self.tree l.fn.self.nodes)
     (map dirent_in (records_in l.record-iterator)) ≡ map (entry_named l.fn.self.tree l.fn.self.nodes)
     (names_in l.fn.records))
-    × (l.file_entries.items ++ files_told (entries_named l.fn.self.tree l.fn.self.nodes
-    (map dirent_in (records_in l.record-iterator))) ≡ files_told
+    × (l.file_entries.items ++ files_listed (entries_named l.fn.self.tree l.fn.self.nodes
+    (map dirent_in (records_in l.record-iterator))) ≡ files_listed
     (entries_named l.fn.self.tree l.fn.self.nodes (names_in l.fn.records)))
     × (length l.entries.items + length (map dirent_in (records_in l.record-iterator)) ≤ vec_capacity l.entries)
     × (length l.file_entries.items + length (map dirent_in (records_in l.record-iterator)) ≤ vec_capacity

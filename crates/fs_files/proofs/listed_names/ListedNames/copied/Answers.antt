@@ -1,5 +1,5 @@
 use Rattle.std.proofs.Common.{◌≡◌, List, length, ap, arith}
-use Rattle.fuse_spec.specs.Files.Operations.{files_told}
+use Rattle.fuse_spec.specs.Files.Operations.{files_listed}
 use Rattle.fuse_spec.specs.declared.Entry.{Entry}
 use Rattle.fs_files.specs.Listed.{listed_pairs, names_in}
 use Rattle.fs_files.proofs.FilesListed.{few_files}
@@ -9,7 +9,7 @@ pub unwrap-requires-3 : goal.unwrap-requires-3
 unwrap-requires-3 g c =
     let self = c.args.self.now in
     let few = few_files self.found_ms self.entries.items (names_in self.records.items) in
-    let file_entries : length self.file_entries.items ≡ length (files_told
+    let file_entries : length self.file_entries.items ≡ length (files_listed
     (listed_pairs self.found_ms self.entries.items self.records.items)) =
     ap (λ (es : List Entry). length es) self.are_of_files in
     let value : length c.deref-3.result.now ≡ length self.file_entries.items =

@@ -1,6 +1,6 @@
 use Rattle.std.proofs.Common.{◌≡◌, ◌-◌, ℕ, ◌+◌, ◌++◌, [], ap, sym, ◌∙◌, map, arith, length}
 use Rattle.std.proofs.lemmas.List.{append-nil, append_assoc}
-use Rattle.fuse_spec.specs.Files.Operations.{Dirent, first_told, told_by}
+use Rattle.fuse_spec.specs.Files.Operations.{Dirent, first_listed, listed_by}
 use Rattle.fuse_spec.specs.Files.Trees.{record_length}
 use Rattle.fs_tree.specs.Stored.{files_led, fitting_with, lead_in, lead_pair, in_directory}
 use Rattle.fs_tree.specs.EntryViews.{entry_of}
@@ -33,8 +33,8 @@ loop-leaf-preserved g c =
           let done = rw c.in-Some.ensures.steps at (c.loop-leaf.invariant.0 files) in
           let told = files_led (fitting_with 128 (c.loop-leaf.room - len) rest) in
           rw (c.list_file.ensures.items, c.deref-in-loop-leaf.ensures.value)
-          (append_assoc c.loop-leaf.listed.items (first_told (told_by (lead_pair 0 r)) []) told
-          ∙ ap (λ l. c.loop-leaf.listed.items ++ l) (told-append (told_by (lead_pair 0 r)) told)
+          (append_assoc c.loop-leaf.listed.items (first_listed (listed_by (lead_pair 0 r)) []) told
+          ∙ ap (λ l. c.loop-leaf.listed.items ++ l) (told-append (listed_by (lead_pair 0 r)) told)
           ∙ sym (files-more 128 rest r c.loop-leaf.room len size c.loop-leaf.listed.items fits) ∙ done)),
       omega (
         arith,

@@ -9,10 +9,10 @@ use Rattle.fuse_spec.specs.declared.Counted.{Counted}
 use Rattle.fuse_spec.specs.declared.Entry.{Entry}
 use Rattle.fuse_spec.specs.declared.Opened.{Opened}
 use Rattle.fuse_spec.specs.Values.Maps.{Map, get, put}
-use Rattle.fuse_spec.specs.Files.Operations.{Operation, create, opening, Reply, found, missing, created, opened, attributes, listed, listed_plus, content, written, agreed, done, failed, files_in_reply, DirentPlus, told_by, first_told, files_told, pair_with}
+use Rattle.fuse_spec.specs.Files.Operations.{Operation, create, opening, Reply, found, missing, created, opened, attributes, listed, listed_plus, content, written, agreed, done, failed, files_in_reply, DirentPlus, listed_by, first_listed, files_listed, pair_with}
 use Rattle.fuse_spec.specs.Kernel.Messages.{WireReply}
 use Rattle.fuse_spec.specs.Server.Nodes.{NodeTable, HandleTable, OpenNumber, is_open, is_file_of}
-use Rattle.fuse_spec.specs.Kernel.Replies.{goes_with, usable, useless, stale, use_counted, use_of, first_use, counted_more, learnt, kernel_reply}
+use Rattle.fuse_spec.specs.Kernel.Replies.{goes_with, usable, useless, stale, use_counted, use_of, first_use, counted_more, looked_up, kernel_reply}
 use Rattle.fuse_spec.specs.Claim.Denotes.{Denotes, Names, Opens, generation_known, Means, MeansOpen, OperationAlike, ReplyAlike, OptionAlike, PairsAlike}
 use Rattle.fuse_spec.proofs.Tables.{get_put_here, get_put_there}
 use Rattle.fuse_theorem.specs.Numbering.{IsOneToOne}
@@ -65,15 +65,15 @@ put_known nodes g id generation e = elim (cases_eq id 1) [
     counted None f = absurd (cc)
     counted (Some c) f = f
 
-pub learnt_known : (gs : List Entry) (nodes : Map Counted) (id generation : ℕ)
-    → generation_known nodes id ≡ Some generation → generation_known (learnt nodes gs) id ≡ Some generation
-learnt_known [] nodes id generation e = e
-learnt_known (g ∷ gs) nodes id generation e = learnt_known gs
+pub looked_up_known : (gs : List Entry) (nodes : Map Counted) (id generation : ℕ)
+    → generation_known nodes id ≡ Some generation → generation_known (looked_up nodes gs) id ≡ Some generation
+looked_up_known [] nodes id generation e = e
+looked_up_known (g ∷ gs) nodes id generation e = looked_up_known gs
     (put nodes g.nodeid (counted_more g (get nodes g.nodeid))) id generation (put_known nodes g id generation e)
 
 -- An entry that can be used is known from then on under its own generation.
 pub usable_known : (nodes : Map Counted) (g : Entry) → first_use (use_of nodes g) usable ≡ usable
-    → generation_known (learnt nodes (g ∷ [])) g.nodeid ≡ Some g.generation
+    → generation_known (looked_up nodes (g ∷ [])) g.nodeid ≡ Some g.generation
 usable_known nodes g e = by (nat_lt g.nodeid 2) refl e
   where
     counted : (o : Option Counted) → first_use (use_counted g o) usable ≡ usable
@@ -91,7 +91,7 @@ usable_known nodes g e = by (nat_lt g.nodeid 2) refl e
         tested false q f = absurd (cc)
 
     by : (b : Bool) → nat_lt g.nodeid 2 ≡ b → first_use (cond b useless (use_counted g (get nodes g.nodeid))) usable
-        ≡ usable → generation_known (learnt nodes (g ∷ [])) g.nodeid ≡ Some g.generation
+        ≡ usable → generation_known (looked_up nodes (g ∷ [])) g.nodeid ≡ Some g.generation
     by true q f = absurd (cc)
     by false q f =
         let other : g.nodeid ≢ 1 = λ z. absurd (cc (subst (λ (n : ℕ). nat_lt n 2 ≡ false) z q)) in
@@ -116,35 +116,35 @@ EntryKnown nodes g = generation_known nodes g.nodeid ≡ Some g.generation
 
 -- names of a list whose entries are known
 heard_pairs : (nodes : Map Counted) (t : NodeTable) (xs : List (DirentPlus Entry)) (ys : List (DirentPlus ℕ))
-    → All (λ (g : Entry). generation_known nodes g.nodeid ≡ Some g.generation) (files_told xs)
+    → All (λ (g : Entry). generation_known nodes g.nodeid ≡ Some g.generation) (files_listed xs)
     → PairsAlike (Names t) xs ys
     → PairsAlike (Means nodes t) (map (pair_with (λ (g : Entry). g.nodeid)) xs) ys
 heard_pairs nodes t [] [] known h = h
 heard_pairs nodes t (x ∷ xs) (y ∷ ys) known h = (
   (
-    subst (λ (o : Option ℕ). OptionAlike (Means nodes t) o (told_by y)) (sym (told_with (λ (g : Entry). g.nodeid) x))
-        (first (told_by x) (told_by y) known h.0.0),
+    subst (λ (o : Option ℕ). OptionAlike (Means nodes t) o (listed_by y)) (sym (told_with (λ (g : Entry). g.nodeid) x))
+        (first (listed_by x) (listed_by y) known h.0.0),
     h.0.1,
     h.0.2,
   ),
-  heard_pairs nodes t xs ys (rest (told_by x) known) h.1,
+  heard_pairs nodes t xs ys (rest (listed_by x) known) h.1,
 )
   where
-    first : (a : Option Entry) (b : Option ℕ) → All (EntryKnown nodes) (first_told a (files_told xs))
+    first : (a : Option Entry) (b : Option ℕ) → All (EntryKnown nodes) (first_listed a (files_listed xs))
         → OptionAlike (Names t) a b → OptionAlike (Means nodes t) (option_map (λ (g : Entry). g.nodeid) a) b
     first None None k r = r
     first (Some g) (Some file) k r = record {
       generation = g.generation;
-      known = All-head (EntryKnown nodes) g (files_told xs) k;
+      known = All-head (EntryKnown nodes) g (files_listed xs) k;
       denotes = r;
     }
     first None (Some file) k r = absurd r
     first (Some g) None k r = absurd r
 
-    rest : (a : Option Entry) → All (EntryKnown nodes) (first_told a (files_told xs))
-        → All (EntryKnown nodes) (files_told xs)
+    rest : (a : Option Entry) → All (EntryKnown nodes) (first_listed a (files_listed xs))
+        → All (EntryKnown nodes) (files_listed xs)
     rest None k = k
-    rest (Some g) k = All-tail (EntryKnown nodes) g (files_told xs) k
+    rest (Some g) k = All-tail (EntryKnown nodes) g (files_listed xs) k
 heard_pairs nodes t [] (y ∷ ys) known h = absurd h
 heard_pairs nodes t (x ∷ xs) [] known h = absurd h
 
@@ -153,13 +153,13 @@ pub heard_fits : (nodes : Map Counted) (t : NodeTable) (h : HandleTable) (operat
     (asked : Operation ℕ ℕ) (wire : WireReply) (reply : Reply ℕ ℕ) → goes_with operation wire ≡ true
     → IsUsable nodes wire → OpensItsFile t h operation wire
     → OperationAlike (Means nodes t) (MeansOpen nodes t h) operation asked → ReplyAlike (Names t) (Opens h) wire reply
-    → ReplyAlike (Means (learnt nodes (files_in_reply wire)) t) (MeansOpen (learnt nodes (files_in_reply wire)) t h)
+    → ReplyAlike (Means (looked_up nodes (files_in_reply wire)) t) (MeansOpen (looked_up nodes (files_in_reply wire)) t h)
     (kernel_reply operation wire) reply
 heard_fits nodes t h operation asked (found g v) (found file v') goes used its same told = (
   record {
     generation = g.generation;
     known = All-head
-        (λ (x : Entry). generation_known (learnt nodes (g ∷ [])) x.nodeid ≡ Some x.generation) g [] used.known;
+        (λ (x : Entry). generation_known (looked_up nodes (g ∷ [])) x.nodeid ≡ Some x.generation) g [] used.known;
     denotes =
         told.0;
   },
@@ -167,7 +167,7 @@ heard_fits nodes t h operation asked (found g v) (found file v') goes used its s
 )
 heard_fits nodes t h operation asked (missing v) (missing v') goes used its same told = told
 heard_fits nodes t h (create d name) asked (created g v fh) (created file v' o) goes used its same told =
-    let known = All-head (λ (x : Entry). generation_known (learnt nodes (g ∷ [])) x.nodeid
+    let known = All-head (λ (x : Entry). generation_known (looked_up nodes (g ∷ [])) x.nodeid
     ≡ Some x.generation) g [] used.known in
     let one_file : file ≡ o = opens_one h fh file o (its file told.0) told.2 in (
       record { generation = g.generation; known = known; denotes = told.0 },
@@ -194,7 +194,7 @@ heard_fits nodes t h (opening node) (opening file) (opened fh) (opened o) goes u
 heard_fits nodes t h operation asked (attributes a) (attributes b) goes used its same told = told
 heard_fits nodes t h operation asked (listed xs) (listed ys) goes used its same told = told
 heard_fits nodes t h operation asked (listed_plus xs) (listed_plus ys) goes used its same told =
-    heard_pairs (learnt nodes (files_told xs)) t xs ys used.known told
+    heard_pairs (looked_up nodes (files_listed xs)) t xs ys used.known told
 heard_fits nodes t h operation asked (content xs) (content ys) goes used its same told = told
 heard_fits nodes t h operation asked (written n) (written m) goes used its same told = told
 heard_fits nodes t h operation asked (agreed a b x) (agreed c d y) goes used its same told = told

@@ -5,10 +5,10 @@ use Rattle.fuse_spec.specs.declared.Binding.{Binding}
 use Rattle.fuse_spec.specs.declared.Entry.{Entry}
 use Rattle.fuse_spec.specs.Values.Maps.{NameMap, Map}
 use Rattle.fuse_spec.specs.declared.Counted.{Counted}
-use Rattle.fuse_spec.specs.Calls.CallReplies.{names_told}
-use Rattle.fuse_spec.specs.Files.Operations.{DirentPlus, told_by, pair_with}
+use Rattle.fuse_spec.specs.Calls.CallReplies.{names_listed}
+use Rattle.fuse_spec.specs.Files.Operations.{DirentPlus, listed_by, pair_with}
 use Rattle.fk_dentry.specs.NamesInForce.{NamesInForce, HasRoom}
-use Rattle.fk_nodes.specs.Learning.{judged_in}
+use Rattle.fk_nodes.specs.LookedUp.{judged_in}
 use Rattle.fk_wire.specs.declared.records_plus.RecordsPlus.{RecordsPlus}
 use Rattle.fk_wire.specs.Records.{pluses_in}
 
@@ -24,11 +24,11 @@ HasToldRoom names directory pair (Some g) = HasRoom names (directory, pair.diren
 -- Each name of a list that tells a file has room.
 abbrev pub HaveToldRoom : NamesInForce → (directory : ℕ) → List (DirentPlus Entry) → Type 0
 HaveToldRoom names directory [] = Unit {0}
-HaveToldRoom names directory (pair ∷ pairs) = HasToldRoom names directory pair (told_by pair)
+HaveToldRoom names directory (pair ∷ pairs) = HasToldRoom names directory pair (listed_by pair)
     × HaveToldRoom names directory pairs
 
 -- The names in force once those of a list are, each judged by these counts.
 abbrev pub names_judged : (now directory : ℕ) → Map Counted → NameMap Binding → List (DirentPlus Entry)
     → NameMap Binding
-names_judged now directory nodes names pairs = names_told now directory names
+names_judged now directory nodes names pairs = names_listed now directory names
     (map (pair_with (λ (g : Entry). g.nodeid)) (map (judged_in nodes) pairs))

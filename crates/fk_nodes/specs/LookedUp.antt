@@ -1,36 +1,36 @@
--- How the names of a list with their files are judged and learnt.
+-- How the names of a list with their files are judged and counted.
 use Rattle.std.specs.Prelude.{◌≡◌, ◌<◌, ◌≤◌, ℕ, suc, Bool, false, ◌&&◌, cond, List, [], ◌∷◌, ◌++◌, Option, Some, None, nat_eq, nat_lt, ◌+◌}
 use Rattle.fuse_spec.specs.declared.Counted.{Counted}
 use Rattle.fuse_spec.specs.declared.Entry.{Entry}
 use Rattle.fuse_spec.specs.Values.Maps.{Map, get, put}
 use Rattle.fuse_spec.specs.Values.Numbers.{counter_end}
-use Rattle.fuse_spec.specs.Files.Operations.{DirentPlus, told_by}
-use Rattle.fuse_spec.specs.Kernel.Replies.{Use, usable, useless, stale, use_of, use_of_told, pair_judged, counted_more, stale_in}
+use Rattle.fuse_spec.specs.Files.Operations.{DirentPlus, listed_by}
+use Rattle.fuse_spec.specs.Kernel.Replies.{Use, usable, useless, stale, use_of, use_of_listed, pair_judged, counted_more, stale_in}
 
 -- The counts after an entry that is judged so.
-abbrev pub learnt_by_use : Map Counted → Entry → Use → Map Counted
-learnt_by_use nodes g usable = put nodes g.nodeid (counted_more g (get nodes g.nodeid))
-learnt_by_use nodes g useless = nodes
-learnt_by_use nodes g (stale node) = nodes
+abbrev pub looked_up_by_use : Map Counted → Entry → Use → Map Counted
+looked_up_by_use nodes g usable = put nodes g.nodeid (counted_more g (get nodes g.nodeid))
+looked_up_by_use nodes g useless = nodes
+looked_up_by_use nodes g (stale node) = nodes
 
 -- The counts after a name that tells this file, or none.
-abbrev pub learnt_told : Map Counted → Option Entry → Map Counted
-learnt_told nodes None = nodes
-learnt_told nodes (Some g) = learnt_by_use nodes g (use_of nodes g)
+abbrev pub looked_up_listed : Map Counted → Option Entry → Map Counted
+looked_up_listed nodes None = nodes
+looked_up_listed nodes (Some g) = looked_up_by_use nodes g (use_of nodes g)
 
 -- The counts after the names of a list.
-abbrev pub learnt_from : Map Counted → List (DirentPlus Entry) → Map Counted
-learnt_from nodes [] = nodes
-learnt_from nodes (pair ∷ pairs) = learnt_from (learnt_told nodes (told_by pair)) pairs
+abbrev pub looked_up_from : Map Counted → List (DirentPlus Entry) → Map Counted
+looked_up_from nodes [] = nodes
+looked_up_from nodes (pair ∷ pairs) = looked_up_from (looked_up_listed nodes (listed_by pair)) pairs
 
 -- A name of a list, judged by these counts.
 abbrev pub judged_in : Map Counted → DirentPlus Entry → DirentPlus Entry
-judged_in nodes pair = pair_judged pair (use_of_told nodes (told_by pair))
+judged_in nodes pair = pair_judged pair (use_of_listed nodes (listed_by pair))
 
 -- The nodes that names of a list tell under another generation than these counts have.
 abbrev pub stale_by : Map Counted → List (DirentPlus Entry) → List ℕ
 stale_by nodes [] = []
-stale_by nodes (pair ∷ pairs) = stale_in (use_of_told nodes (told_by pair)) ++ stale_by nodes pairs
+stale_by nodes (pair ∷ pairs) = stale_in (use_of_listed nodes (listed_by pair)) ++ stale_by nodes pairs
 
 -- Whether a name tells this node under this generation.
 abbrev pub tells : (id generation : ℕ) → Option Entry → Bool
@@ -38,10 +38,10 @@ tells id generation None = false
 tells id generation (Some g) = nat_eq g.nodeid id && nat_eq g.generation generation
 
 -- How many names of a list do.
-abbrev pub times_told : (id generation : ℕ) → List (DirentPlus Entry) → ℕ
-times_told id generation [] = 0
-times_told id generation (pair ∷ pairs) = cond (tells id generation (told_by pair))
-    (suc (times_told id generation pairs)) (times_told id generation pairs)
+abbrev pub times_listed : (id generation : ℕ) → List (DirentPlus Entry) → ℕ
+times_listed id generation [] = 0
+times_listed id generation (pair ∷ pairs) = cond (tells id generation (listed_by pair))
+    (suc (times_listed id generation pairs)) (times_listed id generation pairs)
 
 -- No node's count has come to the end of counters.
 pub record AreBelow (nodes : Map Counted) : Type 0 where
@@ -59,4 +59,4 @@ pub record SomeOut (nodes : Map Counted) : Type 0 where
 abbrev pub LeavesBelow : Map Counted → List (DirentPlus Entry) → Option Entry → Type 0
 LeavesBelow nodes pairs None = Unit {0}
 LeavesBelow nodes pairs (Some g) = (c : Counted) → nat_lt g.nodeid 2 ≡ false → get nodes g.nodeid ≡ Some c
-    → c.generation ≡ g.generation → c.count + times_told g.nodeid g.generation pairs < counter_end
+    → c.generation ≡ g.generation → c.count + times_listed g.nodeid g.generation pairs < counter_end
