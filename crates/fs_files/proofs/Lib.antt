@@ -16,6 +16,6 @@ pub mod NumberedNames
 pub mod HeldBelow
 pub mod Recounted
 pub mod StaysKnown
-pub mod Sweeping
+pub mod DiscardingUnheld
 pub mod StaysNamed
 pub mod NamesListed

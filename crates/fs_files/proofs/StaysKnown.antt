@@ -25,7 +25,7 @@ use Rattle.fs_files.specs.Bounds.{AreKnown, AreRegular, AreThere, IsThere, Keeps
 use Rattle.fs_files.specs.Performing.{Operates}
 use Rattle.fs_files.specs.Values.{FilesState, server_of}
 use Rattle.fs_files.specs.declared.replies.Outcome.{Outcome}
-use Rattle.fs_files.proofs.Sweeping.{unheld, unopened}
+use Rattle.fs_files.proofs.DiscardingUnheld.{unheld, unopened}
 use Rattle.fs_files.proofs.Bounds.{back_each, given_each, more_each, number_more_each, opened_each, row_back_each, taken_each}
 
 -- ---- nodes and open numbers

@@ -16,7 +16,7 @@ use Rattle.fs_server.specs.Effects.{Forgets, GivesBack}
 use Rattle.fs_server.specs.Values.{server_with}
 
 -- Nameless files that nothing holds have gone.
-pub record AreSwept (mid new : FilesState) : Type 0 where
+pub record AreDiscarded (mid new : FilesState) : Type 0 where
   pub tree : (v : Validity) → new.tree ≡ without_unheld (is_file_held (server_of mid v)) mid.tree
   pub nodes : new.nodes ≡ mid.nodes
   pub handles : new.handles ≡ mid.handles
@@ -35,21 +35,21 @@ bare t n h v = record {
   aborted = false;
 }
 
-swept : (mid new : FilesState) → AreSwept mid new → (v : Validity)
+discarded_unheld : (mid new : FilesState) → AreDiscarded mid new → (v : Validity)
     → server_of new v ≡ without_unheld_files (server_of mid v)
-swept mid new s v = λ i. bare (s.tree v i) (s.nodes i) (s.handles i) v
+discarded_unheld mid new s v = λ i. bare (s.tree v i) (s.nodes i) (s.handles i) v
 
 pub forgets : (old mid new : FilesState) (fs : List Forget) → mid.tree ≡ old.tree
-    → mid.nodes ≡ all_taken_back old.nodes fs → mid.handles ≡ old.handles → AreSwept mid new → Forgets old fs new
-forgets old mid new fs tree nodes handles s v = swept mid new s v ∙
+    → mid.nodes ≡ all_taken_back old.nodes fs → mid.handles ≡ old.handles → AreDiscarded mid new → Forgets old fs new
+forgets old mid new fs tree nodes handles s v = discarded_unheld mid new s v ∙
     (λ i. without_unheld_files (bare (tree i) (nodes i) (handles i) v))
 
 pub gives_back : (old mid new : FilesState) (wire : WireReply) → mid.tree ≡ old.tree
     → mid.nodes ≡ rows_back old.nodes (files_in_reply wire)
-    → mid.handles ≡ handles_back old.handles (opens_in_reply wire) → AreSwept mid new
+    → mid.handles ≡ handles_back old.handles (opens_in_reply wire) → AreDiscarded mid new
     → GivesBack old wire new
 gives_back old mid new wire tree nodes handles s v =
-    swept mid new s v ∙ (λ i. without_unheld_files (bare (tree i) (nodes i) (handles i) v))
+    discarded_unheld mid new s v ∙ (λ i. without_unheld_files (bare (tree i) (nodes i) (handles i) v))
 
 -- the same of the whole server
 module _ (old new : FilesState) (held : Map HeldRequest) (kept : Map Kept) (copies : Map Copy) (next : ℕ)
@@ -67,8 +67,8 @@ module _ (old new : FilesState) (held : Map HeldRequest) (kept : Map Kept) (copi
 
   pub remounts : (mid : FilesState) (w : Validity) (n : Minor) → mid.tree ≡ old.tree
       → mid.nodes ≡ record old.nodes { rows = [] } → mid.handles ≡ record old.handles { handles = [] }
-      → AreSwept mid new
+      → AreDiscarded mid new
       → server_with new [] [] [] next w n false ≡ remounted (server_with old held kept copies next v m a) w n
   remounts mid w n tree nodes handles s =
       ap (λ (b : Server). record b { next_copy = next; minor = n })
-      (swept mid new s w ∙ (λ i. without_unheld_files (bare (tree i) (nodes i) (handles i) w)))
+      (discarded_unheld mid new s w ∙ (λ i. without_unheld_files (bare (tree i) (nodes i) (handles i) w)))

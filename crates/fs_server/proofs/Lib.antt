@@ -13,5 +13,5 @@ pub mod Becoming
 pub mod Wanting
 pub mod Performable
 pub mod Judged
-pub mod Sweeps
+pub mod DiscardsUnheld
 pub mod Entries

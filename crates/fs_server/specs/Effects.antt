@@ -106,7 +106,8 @@ WantsMemory s bytes = (request : Request) → SaysRequest bytes request
     → takes_memory (taking s request.unique request.body).word ≡ true
 
 -- These nodes and open numbers are left, and nameless files that nothing holds have gone.
-pub record Sweeps (old : FilesState) (nodes : NodeTable) (handles : HandleTable) (new : FilesState) : Type 0 where
+pub record DiscardsUnheld (old : FilesState) (nodes : NodeTable) (handles : HandleTable)
+    (new : FilesState) : Type 0 where
   pub tree : (v : Validity) → new.tree ≡ without_unheld (is_file_held (server_of new v)) old.tree
   pub nodes_are : new.nodes ≡ nodes
   pub handles_are : new.handles ≡ handles
@@ -114,11 +115,11 @@ pub record Sweeps (old : FilesState) (nodes : NodeTable) (handles : HandleTable)
 
 -- These lookups are given back, and nameless files that nothing holds have gone.
 abbrev pub TakesBack : FilesState → List Forget → FilesState → Type 0
-TakesBack old fs new = Sweeps old (all_taken_back old.nodes fs) old.handles new
+TakesBack old fs new = DiscardsUnheld old (all_taken_back old.nodes fs) old.handles new
 
 -- What these entries and open numbers counted is given back, and nameless files that nothing holds have gone.
 abbrev pub CountsBack : FilesState → List Entry → List ℕ → FilesState → Type 0
-CountsBack old gs fhs new = Sweeps old (rows_back old.nodes gs) (handles_back old.handles fhs) new
+CountsBack old gs fhs new = DiscardsUnheld old (rows_back old.nodes gs) (handles_back old.handles fhs) new
 
 -- These lookups are given back, and nameless files that nothing holds go.
 abbrev pub Forgets : FilesState → List Forget → FilesState → Type 0

@@ -33,8 +33,8 @@ use Rattle.fuse_theorem.proofs.Trees.TreeSound.{OpensNoRoot, given_not_root, ope
 -- ---- parts that change alone
 
 -- The files that nothing holds go. The root is held by no node, but counts as having a name.
-swept_sound : (s : Server) → ServerSound s → ServerSound (without_unheld_files s)
-swept_sound s sound =
+discarded_unheld_sound : (s : Server) → ServerSound s → ServerSound (without_unheld_files s)
+discarded_unheld_sound s sound =
     let tree = sound.tree in
     record {
       tree = record {
@@ -69,7 +69,7 @@ interrupting_sound s sound unique original None None = record {
 }
 
 forgetting_sound : (s : Server) → ServerSound s → (fs : List Forget) → ServerSound (forgetting s fs)
-forgetting_sound s sound fs = swept_sound (record s { nodes = _ })
+forgetting_sound s sound fs = discarded_unheld_sound (record s { nodes = _ })
     (record {
       tree = sound.tree;
       nodes = all_taken_sound fs s.nodes sound.nodes;
@@ -230,7 +230,7 @@ served_sound choice s sound unique t may =
     let less = record s { held = remove s.held unique } in
     let did = performed choice less t in
     replying_sound (without_unheld_files did.server)
-    (swept_sound did.server (performed_sound choice less
+    (discarded_unheld_sound did.server (performed_sound choice less
     (record {
       tree = sound.tree;
       nodes = sound.nodes;
@@ -252,14 +252,14 @@ again_sound s sound unique kept = record {
 result_sound : (s : Server) → ServerSound s → (wire : WireReply) (result : WriteResult)
     → ServerSound (after_result s wire result)
 result_sound s sound wire Accepted = sound
-result_sound s sound wire NoEntry = swept_sound (record s { nodes = _; handles = _ })
+result_sound s sound wire NoEntry = discarded_unheld_sound (record s { nodes = _; handles = _ })
     (record {
       tree = sound.tree;
       nodes = all_back_sound (files_in_reply wire) s.nodes sound.nodes;
       handles = handles_back_sound (opens_in_reply wire) s.handles sound.handles;
       copies = sound.copies;
     })
-result_sound s sound wire Invalid = swept_sound (record s { nodes = _; handles = _ })
+result_sound s sound wire Invalid = discarded_unheld_sound (record s { nodes = _; handles = _ })
     (record {
       tree = sound.tree;
       nodes = all_back_sound (files_in_reply wire) s.nodes sound.nodes;
@@ -298,7 +298,7 @@ sent_off w number unique (Some wire) sound = sound
 pub stays_sound : (choice : ℕ → ℕ) (w : World) → ServerSound w.server → (e : Event) (o : Outcome) (after : World)
     → MayStep choice w e → Happened choice w e o after → ServerSound after.server
 stays_sound choice w sound e o after may (by_mount f m v idle) =
-    swept_sound _ (record {
+    discarded_unheld_sound _ (record {
       tree = sound.tree;
       nodes = emptied_sound w.server.nodes;
       handles = emptied_handles_sound w.server.handles;

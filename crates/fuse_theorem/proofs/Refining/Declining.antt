@@ -22,7 +22,7 @@ use Rattle.fuse_theorem.specs.Conditions.{CanDecline}
 use Rattle.fuse_theorem.proofs.Refining.Changing.{with_ask, MayReplace, ask_changed}
 use Rattle.fuse_theorem.proofs.Calls.Finding.{same_is, none_passes}
 use Rattle.fuse_theorem.proofs.Refining.Serving.{unheld_alike, replied_alike}
-use Rattle.fuse_theorem.proofs.Trees.NamelessDiscarded.{swept_alike}
+use Rattle.fuse_theorem.proofs.Trees.NamelessDiscarded.{discarded_unheld_alike}
 
 module _ (w : World) (p : Plain) (same : Alike w p) (choice : ℕ → ℕ) (unique : ℕ) (t : HeldRequest)
     (operation : Operation ℕ Opened) (can : CanDecline w unique t operation) where
@@ -100,11 +100,11 @@ module _ (w : World) (p : Plain) (same : Alike w p) (choice : ℕ → ℕ) (uniq
       }
 
   -- the files that nothing holds leave the server's tree
-  swept : Alike (record w1 { server = s2 }) (with_ask p unique new)
-  swept =
+  discarded_unheld : Alike (record w1 { server = s2 }) (with_ask p unique new)
+  discarded_unheld =
       let changed = ask_changed w1 p (unheld_alike w p same unique) unique new may_replace in
       record {
-        tree = swept_alike s1 p.tree
+        tree = discarded_unheld_alike s1 p.tree
             (λ file. is_file_held w.server file) same.tree.names same.tree.next_birth same.tree.next_serial same.tree.files (λ file h. h);
         vfs = changed.vfs;
         requests = record {
@@ -137,9 +137,9 @@ module _ (w : World) (p : Plain) (same : Alike w p) (choice : ℕ → ℕ) (uniq
       }
 
   declined_alike : (aborted : Bool) → Alike (After aborted) (ask_declined p unique asked.ask)
-  declined_alike true = swept
+  declined_alike true = discarded_unheld
   declined_alike false =
-      replied_alike (record w1 { server = s2 }) (with_ask p unique new) swept unique w.server.next_copy
+      replied_alike (record w1 { server = s2 }) (with_ask p unique new) discarded_unheld unique w.server.next_copy
       (w.server.next_copy + 1) wire kept2 copies2 refl
       (λ alive x at.
       let is_new : new ≡ x = cc (get_put_here p.asks unique new, at) in

@@ -23,7 +23,7 @@ use Rattle.fuse_theorem.proofs.Refining.Giving.{denotes_one}
 use Rattle.fuse_theorem.proofs.Refining.LookedUp.{one_to_one}
 use Rattle.fuse_theorem.proofs.Refining.Naming.{any_put_le}
 use Rattle.fuse_theorem.proofs.Refining.Taking.{ignored_alike}
-use Rattle.fuse_theorem.proofs.Trees.NamelessDiscarded.{found_any, swept_alike}
+use Rattle.fuse_theorem.proofs.Trees.NamelessDiscarded.{found_any, discarded_unheld_alike}
 
 -- ---- a table with fewer lookups
 
@@ -213,7 +213,7 @@ forgotten_alike w p one same k fs holds =
     let carries = carries_fewer w p same t
     (λ i generation file d. all_less_denotes fs w.server.nodes i generation file d) one holds in
     let numbers = λ (file : ℕ). list_any (λ (h : OpenNumber). nat_eq h.file file) (values w.server.handles.handles) in
-    let trees = swept_alike s2 p.tree
+    let trees = discarded_unheld_alike s2 p.tree
     (λ file. is_file_held w.server file) same.tree.names same.tree.next_birth same.tree.next_serial same.tree.files
     (λ file h. either (list_any (λ (row : HeldNode). nat_eq row.file file) (values t.rows)) (numbers file)
     (list_any (λ (row : HeldNode). nat_eq row.file file) (values w.server.nodes.rows)) h

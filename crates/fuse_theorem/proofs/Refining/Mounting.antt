@@ -18,7 +18,7 @@ use Rattle.fuse_spec.specs.Claim.Denotes.{MeansIn, MeansOpenIn}
 use Rattle.fuse_spec.specs.Claim.Alike.{RequestBodyAsked, PurposeAsked, StageTold, Alike}
 use Rattle.fuse_theorem.proofs.Refining.OnlyRoots.{only_root_known}
 use Rattle.fuse_theorem.proofs.Refining.GivingUp.{given_up_alike, root_means}
-use Rattle.fuse_theorem.proofs.Trees.NamelessDiscarded.{swept_alike}
+use Rattle.fuse_theorem.proofs.Trees.NamelessDiscarded.{discarded_unheld_alike}
 
 module _ (w : World) (found_ms missing_ms : ℕ) (minor : Minor) where
   abbrev mounted : World
@@ -48,7 +48,7 @@ module _ (w : World) (found_ms missing_ms : ℕ) (minor : Minor) where
 
     pub mounted_alike : Alike mounted q
     mounted_alike = record {
-      tree = swept_alike emptied p.tree
+      tree = discarded_unheld_alike emptied p.tree
           (is_file_held w.server) same.tree.names same.tree.next_birth same.tree.next_serial same.tree.files
           (λ file held. absurd (true≢false (sym held)));
       vfs = given_up_alike (MeansIn w) (MeansIn mounted) (MeansOpenIn w)

@@ -34,7 +34,7 @@ use Rattle.fuse_theorem.proofs.Trees.Names.{is_named}
 use Rattle.fuse_theorem.proofs.Refining.Naming.{named_alike, given_held, opened_held}
 use Rattle.fuse_theorem.proofs.Refining.Serving.{unheld_alike, replied_alike}
 use Rattle.fuse_theorem.proofs.Trees.SameFilesAfter.{Stands, DeedStands, named_same, deed_same, makes_unless, files_after, named_after, given_stands}
-use Rattle.fuse_theorem.proofs.Trees.NamelessDiscarded.{found_any, swept_alike}
+use Rattle.fuse_theorem.proofs.Trees.NamelessDiscarded.{found_any, discarded_unheld_alike}
 use Rattle.fuse_theorem.proofs.Trees.Trees.{with_files, AllSame, DeedSame, told_same, numbers_same}
 
 module _ (w : World) (p : Plain) (same : Alike w p) where
@@ -261,7 +261,7 @@ module _ (w : World) (p : Plain) (same : Alike w p) (choice : ℕ → ℕ) (uniq
       (tree_after p.tree deed)
   trees_alike nodes handles fewer =
       let numbers = numbers_same p.tree w.server.tree.files all_named deed same_files in
-      swept_alike (record s1 { tree = tree2; nodes = nodes; handles = handles }) (tree_after p.tree deed) stood
+      discarded_unheld_alike (record s1 { tree = tree2; nodes = nodes; handles = handles }) (tree_after p.tree deed) stood
       (ap (λ (x : Tree). (tree_after x deed).names) tree_is ∙ ap (λ (n : List Named × ℕ × ℕ). n.0) numbers)
       (ap (λ (x : Tree). (tree_after x deed).next_birth) tree_is ∙ ap (λ (n : List Named × ℕ × ℕ). n.1) numbers)
       (ap (λ (x : Tree). (tree_after x deed).next_serial) tree_is ∙ ap (λ (n : List Named × ℕ × ℕ). n.2) numbers)

@@ -18,7 +18,7 @@ use Rattle.fuse_theorem.specs.Conditions.{OneId, HoldsAll, HoldsOpens, CanReleas
 use Rattle.fuse_theorem.proofs.Refining.UnusedNodesDropped.{Narrows, narrowed_alike}
 use Rattle.fuse_theorem.proofs.Refining.Serving.{unheld_alike, replied_alike}
 use Rattle.fuse_theorem.proofs.Refining.Settling.{number_back, handle_back_files, narrows_fewer}
-use Rattle.fuse_theorem.proofs.Trees.NamelessDiscarded.{swept_alike}
+use Rattle.fuse_theorem.proofs.Trees.NamelessDiscarded.{discarded_unheld_alike}
 
 -- the world in which a request is held no longer
 abbrev pub unheld : World → ℕ → World
@@ -57,7 +57,7 @@ module _ (w : World) (p : Plain) (same : Alike w p) (choice : ℕ → ℕ) (uniq
 
   left_alike : Alike (record w { server = left }) p
   left_alike =
-      let trees = swept_alike (record (unheld w unique).server { handles = h }) p.tree
+      let trees = discarded_unheld_alike (record (unheld w unique).server { handles = h }) p.tree
       (λ file. is_file_held w.server file) same.tree.names same.tree.next_birth same.tree.next_serial same.tree.files
       (λ file held.
       either (list_any (λ (row : HeldNode). nat_eq row.file file) (values w.server.nodes.rows))

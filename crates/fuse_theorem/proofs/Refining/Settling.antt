@@ -22,7 +22,7 @@ use Rattle.fuse_theorem.specs.Conditions.{OneId, HoldsAll, HoldsOpens, IsNumber}
 use Rattle.fuse_theorem.proofs.Refining.TablesReplaced.{stage_more}
 use Rattle.fuse_theorem.proofs.Refining.Forgetting.{less_denotes, any_fewer, rows_fewer, still, means, meant, unanswered}
 use Rattle.fuse_theorem.proofs.Refining.UnusedNodesDropped.{Narrows, narrowed_alike}
-use Rattle.fuse_theorem.proofs.Trees.NamelessDiscarded.{swept_alike}
+use Rattle.fuse_theorem.proofs.Trees.NamelessDiscarded.{discarded_unheld_alike}
 
 -- ---- the server knows of fewer kept replies and copies
 
@@ -243,7 +243,7 @@ given_back_alike w p one same wire holds opens =
     let t = rows_back w.server.nodes (files_in_reply wire) in
     let h = handles_back w.server.handles (opens_in_reply wire) in
     let s = record w.server { nodes = t; handles = h } in
-    let trees = swept_alike s p.tree
+    let trees = discarded_unheld_alike s p.tree
     (λ file. is_file_held w.server file) same.tree.names same.tree.next_birth same.tree.next_serial same.tree.files
     (λ file held.
     both (list_any (λ (row : HeldNode). nat_eq row.file file) (values t.rows))

@@ -24,12 +24,12 @@ cond_twice false true true o f = refl
 cond_twice false true false o f = absurd (true≢false (sym (f refl)))
 
 -- The server without the files that nothing holds any more, where nothing holds more files than before.
-pub swept_alike : (s : Server) (tree : Tree) (before : ℕ → Bool) → s.tree.names ≡ tree.names
+pub discarded_unheld_alike : (s : Server) (tree : Tree) (before : ℕ → Bool) → s.tree.names ≡ tree.names
     → s.tree.next_birth ≡ tree.next_birth → s.tree.next_serial ≡ tree.next_serial
     → ((file : ℕ) → get s.tree.files file ≡ cond (not (is_nameless tree file) || before file)
     (get tree.files file) None) → ((file : ℕ) → is_file_held s file ≡ true → before file ≡ true)
     → TreeAlike (without_unheld_files s) tree
-swept_alike s tree before names births serials files fewer = record {
+discarded_unheld_alike s tree before names births serials files fewer = record {
   names = names;
   next_birth = births;
   next_serial = serials;

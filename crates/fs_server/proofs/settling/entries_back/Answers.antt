@@ -1,10 +1,10 @@
 use Rattle.std.proofs.Common.{refl}
 use Rattle.fs_server.proofs.Entries.{back_on, entry_at}
-use Rattle.fs_server.proofs.Sweeps.{counts_on, sweeps_none}
+use Rattle.fs_server.proofs.DiscardsUnheld.{counts_on, discards_none}
 use Rattle.fs_server.proofs.settling.entries_back.Goals as goal
 
 pub loop-entry-init : goal.loop-entry-init
-loop-entry-init g c = (refl, sweeps_none c.args.files.now c.requires)
+loop-entry-init g c = (refl, discards_none c.args.files.now c.requires)
 
 pub loop-entry-preserved : goal.loop-entry-preserved
 loop-entry-preserved g c =

@@ -1,5 +1,5 @@
 use Rattle.fuse_spec.specs.Server.Copies.{row_back}
-use Rattle.fs_server.proofs.Sweeps.{but_row_back, sweeps_from}
+use Rattle.fs_server.proofs.DiscardsUnheld.{but_row_back, discards_from}
 use Rattle.fs_server.proofs.settling.entry_back.Goals as goal
 
 pub discard_unheld-requires : goal.discard_unheld-requires
@@ -9,6 +9,6 @@ discard_unheld-requires g c =
 pub returns : goal.returns
 returns g c =
     let old = c.args.files.now in
-    let swept = c.discard_unheld.ensures in
-    sweeps_from old c.give_back.new.self c.discard_unheld.new.self
-    (row_back old.nodes c.args.entry.now) old.handles c.give_back.ensures.tree c.give_back.ensures.nodes c.give_back.ensures.handles swept.tree swept.nodes swept.handles swept.named
+    let discarded_unheld = c.discard_unheld.ensures in
+    discards_from old c.give_back.new.self c.discard_unheld.new.self
+    (row_back old.nodes c.args.entry.now) old.handles c.give_back.ensures.tree c.give_back.ensures.nodes c.give_back.ensures.handles discarded_unheld.tree discarded_unheld.nodes discarded_unheld.handles discarded_unheld.named

@@ -1,4 +1,4 @@
-use Rattle.fs_server.proofs.Sweeps.{as_given_back}
+use Rattle.fs_server.proofs.DiscardsUnheld.{as_given_back}
 use Rattle.fs_server.proofs.settling.give_back.Goals as goal
 
 pub returns-clause-gives : goal.returns-clause-gives

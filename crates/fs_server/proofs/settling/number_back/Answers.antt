@@ -1,9 +1,9 @@
 use Rattle.fuse_spec.specs.Server.Nodes.{handle_back}
-use Rattle.fs_server.proofs.Sweeps.{but_number_back, sweeps_from, sweeps_none}
+use Rattle.fs_server.proofs.DiscardsUnheld.{but_number_back, discards_from, discards_none}
 use Rattle.fs_server.proofs.settling.number_back.Goals as goal
 
 pub returns-in_default : goal.returns-in_default
-returns-in_default g c = rw c.in_default.is (sweeps_none c.args.files.now c.requires)
+returns-in_default g c = rw c.in_default.is (discards_none c.args.files.now c.requires)
 
 pub discard_unheld-requires : goal.discard_unheld-requires
 discard_unheld-requires g c =
@@ -12,8 +12,8 @@ discard_unheld-requires g c =
 pub returns : goal.returns
 returns g c =
     let old = c.args.files.now in
-    let swept = c.discard_unheld.ensures in
+    let discarded_unheld = c.discard_unheld.ensures in
     rw c.in-Some.is
-    (sweeps_from old c.give_number_back.new.self c.discard_unheld.new.self old.nodes
-    (handle_back old.handles c.in-Some.fh) c.give_number_back.ensures.tree c.give_number_back.ensures.nodes c.give_number_back.ensures.handles swept.tree swept.nodes
-    swept.handles swept.named)
+    (discards_from old c.give_number_back.new.self c.discard_unheld.new.self old.nodes
+    (handle_back old.handles c.in-Some.fh) c.give_number_back.ensures.tree c.give_number_back.ensures.nodes c.give_number_back.ensures.handles discarded_unheld.tree discarded_unheld.nodes
+    discarded_unheld.handles discarded_unheld.named)

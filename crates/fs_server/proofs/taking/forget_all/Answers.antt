@@ -1,7 +1,7 @@
 use Rattle.std.proofs.Common.{refl}
 use Rattle.fk_wire.specs.Pairs.{pairs_in}
 use Rattle.fs_server.proofs.Forgets.{enough, rest_has}
-use Rattle.fs_server.proofs.Sweeps.{sweeps_none, sweeps_on}
+use Rattle.fs_server.proofs.DiscardsUnheld.{discards_none, discards_on}
 use Rattle.fs_server.proofs.taking.forget_all.Goals as goal
 
 pub pairs-init : goal.pairs-init
@@ -10,7 +10,7 @@ pairs-init g c = rw c.into_iter-nodeid-iterator.ensures.into_iter_gives (
   tt,
   refl,
   enough c.args.files.now.nodes (pairs_in c.args.pairs) c.requires.enough,
-  sweeps_none c.args.files.now c.requires.named,
+  discards_none c.args.files.now c.requires.named,
 )
 
 pub pairs-preserved : goal.pairs-preserved
@@ -23,5 +23,5 @@ pairs-preserved g c =
       tt,
       rw one.nodes_are before,
       rw one.nodes_are (rest_has c.pairs.files.nodes c.in-Some.nodeid c.in-Some.nlookup (pairs_in c.next.new.self) had),
-      sweeps_on c.args.files.now c.pairs.files c.forget_one.new.files c.in-Some.nodeid c.in-Some.nlookup c.pairs.invariant.4 one,
+      discards_on c.args.files.now c.pairs.files c.forget_one.new.files c.in-Some.nodeid c.in-Some.nlookup c.pairs.invariant.4 one,
     )

@@ -1,5 +1,5 @@
 use Rattle.fuse_spec.specs.Server.Nodes.{taken_back}
-use Rattle.fs_server.proofs.Sweeps.{but_less, sweeps_from}
+use Rattle.fs_server.proofs.DiscardsUnheld.{but_less, discards_from}
 use Rattle.fs_server.proofs.taking.forget_one.Goals as goal
 
 pub discard_unheld-requires : goal.discard_unheld-requires
@@ -10,7 +10,7 @@ discard_unheld-requires g c =
 pub returns : goal.returns
 returns g c =
     let old = c.args.files.now in
-    let swept = c.discard_unheld.ensures in
-    sweeps_from old c.take_back.new.self c.discard_unheld.new.self
-    (taken_back old.nodes c.args.nodeid c.args.nlookup) old.handles c.take_back.ensures.tree c.take_back.ensures.nodes c.take_back.ensures.handles swept.tree swept.nodes swept.handles
-    swept.named
+    let discarded_unheld = c.discard_unheld.ensures in
+    discards_from old c.take_back.new.self c.discard_unheld.new.self
+    (taken_back old.nodes c.args.nodeid c.args.nlookup) old.handles c.take_back.ensures.tree c.take_back.ensures.nodes c.take_back.ensures.handles discarded_unheld.tree discarded_unheld.nodes discarded_unheld.handles
+    discarded_unheld.named

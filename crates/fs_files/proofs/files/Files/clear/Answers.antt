@@ -1,4 +1,4 @@
-use Rattle.fs_files.proofs.Sweeping.{cleared_files}
+use Rattle.fs_files.proofs.DiscardingUnheld.{cleared_files}
 use Rattle.fs_files.proofs.files.Files.clear.Goals as goal
 
 pub returns-clause-named : goal.returns-clause-named

@@ -2,14 +2,14 @@ use Rattle.std.proofs.Common.{sym, ◌∙◌}
 use Rattle.fuse_spec.specs.declared.Validity.{Validity}
 use Rattle.fs_files.specs.Values.{FilesState}
 use Rattle.fs_files.proofs.StaysKnown.{known_discarded}
-use Rattle.fs_files.proofs.Sweeping.{named_gone, named_held, swept_gone, swept_held, swept_if_none}
+use Rattle.fs_files.proofs.DiscardingUnheld.{named_gone, named_held, discarded_unheld_gone, discarded_unheld_held, discarded_unheld_if_none}
 use Rattle.fs_files.proofs.files.Files.discard_unheld.Goals as goal
 
 any_validity : Validity
 any_validity = record { found_ms = 0; missing_ms = 0 }
 
 pub returns-in_default-clause-tree : goal.returns-in_default-clause-tree
-returns-in_default-clause-tree g c v = swept_if_none c.args.self.now v c.args.loose c.in_default.is c.requires
+returns-in_default-clause-tree g c v = discarded_unheld_if_none c.args.self.now v c.args.loose c.in_default.is c.requires
 
 pub returns-then-holds-clause-tree : goal.returns-then-holds-clause-tree
 returns-then-holds-clause-tree g c v =
@@ -22,7 +22,7 @@ returns-then-holds-clause-tree g c v =
       open_room = s.known.open_room;
     } in
     let named = rw (← c.self.view_is) at c.requires in
-    rw (← c.self.view_is) (swept_held files v c.args.loose c.in-Some.file c.in-Some.is named
+    rw (← c.self.view_is) (discarded_unheld_held files v c.args.loose c.in-Some.file c.in-Some.is named
     (sym c.holds.ensures ∙ c.if-holds.true))
 
 pub returns-then-holds-clause-named : goal.returns-then-holds-clause-named
@@ -63,7 +63,7 @@ returns-clause-tree g c v =
       open_room = s.known.open_room;
     } in
     let named = rw (← c.self.view_is) at c.requires in
-    rw (← c.self.view_is, c.discard.ensures) (swept_gone files v c.args.loose c.in-Some.file c.in-Some.is named
+    rw (← c.self.view_is, c.discard.ensures) (discarded_unheld_gone files v c.args.loose c.in-Some.file c.in-Some.is named
     (sym c.holds.ensures ∙ c.if-holds.false))
 
 pub returns-clause-named : goal.returns-clause-named

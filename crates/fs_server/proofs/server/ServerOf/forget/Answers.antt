@@ -2,7 +2,7 @@ use Rattle.fk_wire.specs.Requests.{request_content}
 use Rattle.fs_server.specs.Taking.{forgets_in}
 use Rattle.fs_server.proofs.GivenBack.{forgets_so}
 use Rattle.fs_server.proofs.Stays.{forgotten}
-use Rattle.fs_server.proofs.Sweeps.{as_forgets}
+use Rattle.fs_server.proofs.DiscardsUnheld.{as_forgets}
 use Rattle.fs_server.proofs.server.ServerOf.forget.Goals as goal
 
 pub invariant_of-self : goal.invariant_of-self

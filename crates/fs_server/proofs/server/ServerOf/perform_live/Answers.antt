@@ -9,7 +9,7 @@ use Rattle.fs_files.proofs.HeldBelow.{few_given}
 use Rattle.fs_server.proofs.Outcomes.{less_spare, names_fit}
 use Rattle.fs_server.proofs.Served.{counts_of, live_counts, live_generations, live_numbers, numbers_of, performs_from, same_bare}
 use Rattle.fs_server.proofs.Stays.{performed, same_files}
-use Rattle.fs_server.proofs.Sweeps.{but_numbered, named_as}
+use Rattle.fs_server.proofs.DiscardsUnheld.{but_numbered, named_as}
 use Rattle.fs_server.proofs.server.ServerOf.perform_live.Goals as goal
 
 pub answer-requires-clause-births : goal.answer-requires-clause-births

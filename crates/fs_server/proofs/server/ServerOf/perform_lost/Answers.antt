@@ -4,7 +4,7 @@ use Rattle.fs_files.specs.Replies.{outcome_reply}
 use Rattle.fs_server.proofs.Served.{counts_of, numbers_of, performs_lost}
 use Rattle.fs_server.proofs.Outcomes.{errno_said}
 use Rattle.fs_server.proofs.Stays as stays
-use Rattle.fs_server.proofs.Sweeps.{but_said}
+use Rattle.fs_server.proofs.DiscardsUnheld.{but_said}
 use Rattle.fs_server.proofs.server.ServerOf.perform_lost.Goals as goal
 
 pub invariant_of-self-2 : goal.invariant_of-self-2

@@ -22,8 +22,8 @@ use Rattle.fs_files.specs.declared.replies.SentReply.{SentReply}
 use Rattle.fs_files.specs.declared.replies.SentReply.TheVariants.{Found, Created, Opened, ListedPlus, Plain}
 use Rattle.fs_files.proofs.Bounds.{back_each, row_back_each, taken_each}
 use Rattle.fs_files.proofs.StaysNamed.{named_all_given, named_all_opened, named_less, named_number_back, named_row_back}
-use Rattle.fs_files.proofs.Sweeping.{swept_none, swept_twice}
-use Rattle.fs_server.specs.Effects.{CountsBack, Forgets, GivesBack, Sweeps, TakesBack}
+use Rattle.fs_files.proofs.DiscardingUnheld.{discarded_unheld_none, discarded_unheld_twice}
+use Rattle.fs_server.specs.Effects.{CountsBack, Forgets, GivesBack, DiscardsUnheld, TakesBack}
 use Rattle.fs_server.proofs.GivenBack.{forgets, gives_back}
 
 -- ---- what is to be looked at
@@ -97,21 +97,21 @@ named_as start files tree nodes handles named =
 
 -- ---- one step
 
-pub sweeps_none : (files : FilesState) → AreNamed files.tree files.nodes files.handles
-    → Sweeps files files.nodes files.handles files
-sweeps_none files named = record {
-  tree = λ v. swept_none files v named;
+pub discards_none : (files : FilesState) → AreNamed files.tree files.nodes files.handles
+    → DiscardsUnheld files files.nodes files.handles files
+discards_none files named = record {
+  tree = λ v. discarded_unheld_none files v named;
   nodes_are = refl;
   handles_are = refl;
   named = named;
 }
 
-pub sweeps_from : (old mid new : FilesState) (nodes : NodeTable) (handles : HandleTable) → mid.tree ≡ old.tree
+pub discards_from : (old mid new : FilesState) (nodes : NodeTable) (handles : HandleTable) → mid.tree ≡ old.tree
     → mid.nodes ≡ nodes → mid.handles ≡ handles → ((v : Validity)
     → new.tree ≡ without_unheld (is_file_held (server_of mid v)) mid.tree)
     → new.nodes ≡ mid.nodes → new.handles ≡ mid.handles → AreNamed new.tree new.nodes new.handles
-    → Sweeps old nodes handles new
-sweeps_from old mid new nodes handles tree n h left n_left h_left named = record {
+    → DiscardsUnheld old nodes handles new
+discards_from old mid new nodes handles tree n h left n_left h_left named = record {
   tree = λ v. left v ∙ (λ i. without_unheld (is_file_held
       (server_of (record mid { nodes = sym n_left i; handles = sym h_left i }) v)) (tree i));
   nodes_are = n_left ∙ n;
@@ -121,23 +121,23 @@ sweeps_from old mid new nodes handles tree n h left n_left h_left named = record
 
 -- ---- one step after another
 
-sweeps_then : (old one two : FilesState) (nodes n : NodeTable) (handles h : HandleTable) → Sweeps old nodes handles one
-    → Sweeps one n h two → ((x : ℕ) → IsUnheld one.nodes x → IsUnheld two.nodes x)
+discards_then : (old one two : FilesState) (nodes n : NodeTable) (handles h : HandleTable) → DiscardsUnheld old nodes handles one
+    → DiscardsUnheld one n h two → ((x : ℕ) → IsUnheld one.nodes x → IsUnheld two.nodes x)
     → ((x : ℕ) → IsUnopened one.handles x → IsUnopened two.handles x)
-    → Sweeps old n h two
-sweeps_then old one two nodes n handles h first second no_node no_number = record {
+    → DiscardsUnheld old n h two
+discards_then old one two nodes n handles h first second no_node no_number = record {
   tree = λ v. second.tree v ∙ ap (without_unheld (is_file_held (server_of two v)))
-      (first.tree v) ∙ swept_twice one two v second.named no_node no_number old.tree;
+      (first.tree v) ∙ discarded_unheld_twice one two v second.named no_node no_number old.tree;
   nodes_are = second.nodes_are;
   handles_are = second.handles_are;
   named = second.named;
 }
 
 -- lookups of one more pair are given back
-pub sweeps_on : (old one two : FilesState) (id n : ℕ) → Sweeps old one.nodes old.handles one
-    → TakesBack one ((id, n) ∷ []) two → Sweeps old two.nodes old.handles two
-sweeps_on old one two id n first second =
-    let both = sweeps_then old one two one.nodes (taken_back one.nodes id n) old.handles one.handles first second
+pub discards_on : (old one two : FilesState) (id n : ℕ) → DiscardsUnheld old one.nodes old.handles one
+    → TakesBack one ((id, n) ∷ []) two → DiscardsUnheld old two.nodes old.handles two
+discards_on old one two id n first second =
+    let both = discards_then old one two one.nodes (taken_back one.nodes id n) old.handles one.handles first second
     (λ x lacks. subst (λ (t : NodeTable). IsUnheld t x) (sym second.nodes_are)
     (taken_each (λ row. row.file ≢ x) one.nodes id n (λ row is. is) lacks))
     (λ x lacks. subst (λ (t : HandleTable). IsUnopened t x) (sym second.handles_are) lacks) in
@@ -149,10 +149,10 @@ sweeps_on old one two id n first second =
     }
 
 -- one entry more is counted back
-pub counts_on : (old one two : FilesState) (g : Entry) → Sweeps old one.nodes old.handles one
-    → CountsBack one (g ∷ []) [] two → Sweeps old two.nodes old.handles two
+pub counts_on : (old one two : FilesState) (g : Entry) → DiscardsUnheld old one.nodes old.handles one
+    → CountsBack one (g ∷ []) [] two → DiscardsUnheld old two.nodes old.handles two
 counts_on old one two g first second =
-    let both = sweeps_then old one two one.nodes (row_back one.nodes g) old.handles one.handles first second
+    let both = discards_then old one two one.nodes (row_back one.nodes g) old.handles one.handles first second
     (λ x lacks. subst (λ (t : NodeTable). IsUnheld t x) (sym second.nodes_are)
     (row_back_each (λ row. row.file ≢ x) one.nodes g (λ row is. is) lacks))
     (λ x lacks. subst (λ (t : HandleTable). IsUnopened t x) (sym second.handles_are) lacks) in
@@ -173,7 +173,7 @@ no_more_opened handles (fh ∷ fhs) x lacks = no_more_opened (handle_back handle
 counts_both : (old one two : FilesState) (gs : List Entry) (fhs : List ℕ) → CountsBack old gs [] one
     → CountsBack one [] fhs two → CountsBack old gs fhs two
 counts_both old one two gs fhs first second =
-    let both = sweeps_then old one two (rows_back old.nodes gs) one.nodes old.handles
+    let both = discards_then old one two (rows_back old.nodes gs) one.nodes old.handles
     (handles_back one.handles fhs) first second (λ x lacks. subst (λ (t : NodeTable). IsUnheld t x)
     (sym second.nodes_are) lacks)
     (λ x lacks. subst (λ (t : HandleTable). IsUnopened t x) (sym second.handles_are)

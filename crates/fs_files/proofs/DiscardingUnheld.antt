@@ -141,14 +141,14 @@ module _ (files : FilesState) (v : Validity) where
         by x false e no_node no_number false is there = refl
 
   -- none is to be looked at
-  pub swept_none : AreNamed files.tree files.nodes files.handles → files.tree ≡ without_unheld holds files.tree
-  swept_none named = ap (λ (m : Map Content). record files.tree { files = m })
+  pub discarded_unheld_none : AreNamed files.tree files.nodes files.handles → files.tree ≡ without_unheld holds files.tree
+  discarded_unheld_none named = ap (λ (m : Map Content). record files.tree { files = m })
       (sym (all_stay stays files.tree.files (λ x there. other_stays None named x (λ e. none-some x e) there)))
 
   -- the one that is looked at goes, if nothing holds it
-  pub swept_one : (file : ℕ) → AreNamedBut (Some file) files.tree files.nodes files.handles → (b : Bool)
+  pub discarded_unheld_one : (file : ℕ) → AreNamedBut (Some file) files.tree files.nodes files.handles → (b : Bool)
       → holds file ≡ b → cond b files.tree (discarded files.tree file) ≡ without_unheld holds files.tree
-  swept_one file named b is = by b is (is_nameless files.tree file) refl
+  discarded_unheld_one file named b is = by b is (is_nameless files.tree file) refl
     where
       others : (x : ℕ) → x ≢ file → IsThere files.tree x → stays x ≡ true
       others x ne there = other_stays (Some file) named x (λ e. ne (sym (same_Some file x e))) there
@@ -170,9 +170,9 @@ module _ (files : FilesState) (v : Validity) where
           (sym (one_goes stays file (λ i. not (nameless i) || held i) files.tree.files others))
       by false held false nameless = all (held_first (not (is_nameless files.tree file)) (holds file) (ap not nameless))
 
-  pub swept_if_none : (loose : Option ℕ) → loose ≡ None → AreNamedBut loose files.tree files.nodes files.handles
+  pub discarded_unheld_if_none : (loose : Option ℕ) → loose ≡ None → AreNamedBut loose files.tree files.nodes files.handles
       → files.tree ≡ without_unheld holds files.tree
-  swept_if_none loose none named = swept_none (subst
+  discarded_unheld_if_none loose none named = discarded_unheld_none (subst
       (λ (o : Option ℕ). AreNamedBut o files.tree files.nodes files.handles) none named)
 
   module _ (loose : Option ℕ) (file : ℕ) (is : loose ≡ Some file)
@@ -180,18 +180,18 @@ module _ (files : FilesState) (v : Validity) where
     but_file : AreNamedBut (Some file) files.tree files.nodes files.handles
     but_file = subst (λ (o : Option ℕ). AreNamedBut o files.tree files.nodes files.handles) is named
 
-    pub swept_held : holds file ≡ true → files.tree ≡ without_unheld holds files.tree
-    swept_held held = swept_one file but_file true held
+    pub discarded_unheld_held : holds file ≡ true → files.tree ≡ without_unheld holds files.tree
+    discarded_unheld_held held = discarded_unheld_one file but_file true held
 
     pub named_held : holds file ≡ true → AreNamed files.tree files.nodes files.handles
-    named_held held = subst (λ (t : Tree). AreNamed t files.nodes files.handles) (sym (swept_held held))
+    named_held held = subst (λ (t : Tree). AreNamed t files.nodes files.handles) (sym (discarded_unheld_held held))
         (all_named loose named)
 
-    pub swept_gone : holds file ≡ false → discarded files.tree file ≡ without_unheld holds files.tree
-    swept_gone none = swept_one file but_file false none
+    pub discarded_unheld_gone : holds file ≡ false → discarded files.tree file ≡ without_unheld holds files.tree
+    discarded_unheld_gone none = discarded_unheld_one file but_file false none
 
     pub named_gone : holds file ≡ false → AreNamed (discarded files.tree file) files.nodes files.handles
-    named_gone none = subst (λ (t : Tree). AreNamed t files.nodes files.handles) (sym (swept_gone none))
+    named_gone none = subst (λ (t : Tree). AreNamed t files.nodes files.handles) (sym (discarded_unheld_gone none))
         (all_named loose named)
 
 -- ---- where nothing is known
@@ -261,10 +261,10 @@ module _ (old new : FilesState) (v : Validity) (named : AreNamed new.tree new.no
       by false e = absurd (not_both new v named.rows named.opens x is (no_node x (unheld old v x e))
           (no_number x (unopened old v x e)))
 
-  -- what was swept before and is swept now is swept now alone
-  pub swept_twice : (tree : Tree) → without_unheld (holds new v) (without_unheld (holds old v) tree)
+  -- what was discarded_unheld before and is discarded_unheld now is discarded_unheld now alone
+  pub discarded_unheld_twice : (tree : Tree) → without_unheld (holds new v) (without_unheld (holds old v) tree)
       ≡ without_unheld (holds new v) tree
-  swept_twice tree =
+  discarded_unheld_twice tree =
       ap (λ (m : Map Content). record tree { files = m })
       (filter_twice (λ (e : ℕ × Content). not (is_nameless tree e.0) || holds new v e.0)
       (λ (e : ℕ × Content). not (is_nameless tree e.0) || holds old v e.0)
