@@ -4,6 +4,7 @@
 mod envelopes;
 mod event;
 mod laws;
+mod links;
 mod record;
 mod runs;
 mod session;

@@ -4,6 +4,7 @@ ghost use Rattle.std.specs.Prelude.{◌≡◌, ◌≤◌, ◌<◌, ◌++◌, ◌
 ghost use Rattle.std.specs.Vec.{vec_len, vec_capacity};
 ghost use Rattle.fuse_spec.specs.World.Events as event;
 ghost use Rattle.fuse_spec.specs.Values.Maps.{remove};
+ghost use Rattle.fuse_spec.specs.Kernel.Refusals.{or_no_memory};
 ghost use Rattle.fuse_spec.specs.World.Steps.{Happens, is_past, IsRefused, RefusedWith};
 ghost use Rattle.fuse_spec.specs.World.Worlds.{World as WorldState, first_world};
 ghost use Rattle.fuse_spec.specs.Claim.Counts.{Keeps};
@@ -20,6 +21,7 @@ ghost use Rattle.fw_world.specs.Values.{counted_nodes, event_of, held_nodes, out
 mod last_sent;
 
 use crate::event::{Event, Outcome, Pick};
+use crate::links::{append, clear_links, put_request, take_out};
 use crate::tables::{Lists, Maps, Tables};
 use fk_kernel::{Answer, Call, KernelOf};
 use fk_lookup_count::CountTable;
@@ -29,7 +31,6 @@ use fs_server::{ServerFault, ServerOf};
 use fuse_frames::{ReplyCopy, RequestFrame};
 use fuse_spec::limits::MAX_VALIDITY;
 use fuse_spec::{Minor, Purpose, Refusal, ReplyResult, Taken};
-use fw_links::{append, clear_links, put_request, refusal_or_no_memory, take_out};
 use std::alloc::{Allocator, Global};
 use std::marker::Model;
 
@@ -667,6 +668,13 @@ fn reply_put<A: Allocator>(copy: &Option<ReplyCopy<A>>) -> LastPut {
         Some(_) => LastPut::Reply,
         None => LastPut::Nothing,
     }
+}
+
+/// The refusal that kernel or server would give, or else want of memory, which is judged last.
+fn refusal_or_no_memory(judged: Option<Refusal>) -> Refusal
+    ensures { result ≡ or_no_memory judged }
+{
+    judged.unwrap_or(Refusal::NoMemory)
 }
 
 /// A fault of the server as the refusal of the event that met it.

@@ -1,17 +1,17 @@
-//! The link of requests, and all three when a mount ends.
+//! The three links between kernel and server, as lists of what is on its way, and what an event does to them.
 
-ghost use Rattle.std.specs.Prelude.{◌≡◌, ◌<◌, ◌++◌, ◌∷◌, [], ℕ, List, length};
+ghost use Rattle.std.specs.Prelude.{◌≡◌, ◌<◌, ◌++◌, ◌∷◌, [], ℕ, List, length, slice_index_or};
+ghost use Rattle.std.specs.List.{remove};
 ghost use Rattle.std.specs.Vec.{vec_len, vec_capacity};
 ghost use Rattle.fuse_frames.specs.RequestTies.{IsRequestFrame, asked_opcode};
 
-use crate::taking::append;
 use fk_wire::Opcode;
 use fuse_frames::{ReplyCopy, RequestFrame};
 use fuse_spec::ReplyResult;
 use std::alloc::Allocator;
 
 /// Empties the three links.
-pub fn clear_links<A: Allocator>(
+pub(crate) fn clear_links<A: Allocator>(
     requests: &mut Vec<RequestFrame<A>, A>,
     replies: &mut Vec<ReplyCopy<A>, A>,
     results: &mut Vec<ReplyResult, A>,
@@ -25,9 +25,9 @@ pub fn clear_links<A: Allocator>(
     results.clear();
 }
 
-/// Puts the frame of a request that was read onto its link, which has room, and tells its unique, its opcode and its
+/// Puts the frame of a request that was read onto its link, which has room, and gives its unique, its opcode and its
 /// length.
-pub fn put_request<A: Allocator>(
+pub(crate) fn put_request<A: Allocator>(
     requests: &mut Vec<RequestFrame<A>, A>,
     frame: RequestFrame<A>,
 ) -> (u64, Opcode, usize)
@@ -41,4 +41,21 @@ pub fn put_request<A: Allocator>(
     let len = frame.bytes().len();
     append(requests, frame);
     (unique, opcode, len)
+}
+
+/// Appends a value where there is room for it.
+pub(crate) fn append<T: Drop, A: Allocator>(list: &mut Vec<T, A>, value: T)
+    requires { vec_len list.old < vec_capacity list.old }
+    ensures { list.new.items ≡ list.old.items ++ value ∷ [] }
+{
+    let _ = list.push(value);
+}
+
+/// Takes out what stands at this place. Those after it move up by one place each.
+pub(crate) fn take_out<T: Drop, A: Allocator>(list: &mut Vec<T, A>, place: usize) -> T
+    requires { place < vec_len list.old }
+    ensures value { result ≡ slice_index_or list.old.items place result }
+    ensures items { list.new.items ≡ remove list.old.items place }
+{
+    list.remove(place)
 }
