@@ -80,7 +80,7 @@ opcode_back op.Interrupt = refl
 opcode_back op.BatchForget = refl
 opcode_back op.Readdirplus = refl
 
-same_code : (o p : Opcode) → code_of o ≡ code_of p → o ≡ p
+pub same_code : (o p : Opcode) → code_of o ≡ code_of p → o ≡ p
 same_code o p e = sym (opcode_back o) ∙ ap opcode_from e ∙ opcode_back p
 
 -- the field of the node, and what follows it

@@ -64,7 +64,7 @@ pub(crate) fn is_known(minor: Minor, opcode: Opcode) -> bool
 }
 
 /// The opcode of a number, if there is one.
-fn opcode_of_code(code: u32) -> Option<Opcode>
+pub fn opcode_of_code(code: u32) -> Option<Opcode>
     ensures { MatchOption result ((o : Opcode) → code_of o ≢ code) (λ o. code_of o ≡ code) }
 {
     match code {

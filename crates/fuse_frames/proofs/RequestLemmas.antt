@@ -1,12 +1,14 @@
 -- Bytes say one request, and what is written is said.
-use Rattle.std.proofs.Common.{◌≡◌, ℕ, List, [], ◌++◌, Option, Some, Result, Ok, Err, refl, sym, ap, subst, ◌∙◌}
-use Rattle.std.specs.Prelude.{true, IsOkAnd}
+use Rattle.std.proofs.Common.{◌≡◌, ℕ, List, [], ◌++◌, Option, Some, refl, sym, ap, subst, ◌∙◌}
+use Rattle.std.specs.Prelude.{true}
 use Rattle.fk_wire.specs.declared.fault.WireFault.{WireFault}
-use Rattle.fk_wire.specs.declared.request.Request.{Request as View}
+use Rattle.fk_wire.specs.declared.opcode.Opcode.{Opcode}
 use Rattle.fk_wire.specs.Requests as wire
-use Rattle.fk_wire.specs.Requests.{RequestContent, RequestMessage, request_content, request_message, opcode_of, Spells, Written}
-use Rattle.fk_wire.specs.Opcodes.{served, knows as knows_opcode}
-use Rattle.fk_wire.proofs.OneRequest.{decoded_is}
+use Rattle.fk_wire.specs.Requests.{RequestContent, RequestMessage, opcode_of, Spells, Written}
+use Rattle.fk_wire.specs.Opcodes.{code_of, served, knows as knows_opcode}
+use Rattle.fk_wire.specs.Fields.{number_at}
+use Rattle.fk_wire.specs.Faults.{FaultIsAt}
+use Rattle.fk_wire.proofs.OneRequest.{decoded_is, no_fault, same_code}
 use Rattle.fk_wire.proofs.Frames.{spells}
 use Rattle.fuse_spec.specs.Kernel.Messages.{RequestBody, Request}
 use Rattle.fuse_spec.specs.Server.Server.{knows}
@@ -54,27 +56,27 @@ all_written {P} old items none w = subst P (sym (w.2 ∙ ap (λ (xs : List ℕ).
 
 -- ---- the head of a frame
 
--- What was read of a frame is what it was written for.
-module _ (bytes read : List ℕ) (request : Request) (r : Result View WireFault)
-    (frame : IsRequestFrame bytes (request_in bytes)) (is_view : request ≡ request_in bytes) (same : read ≡ bytes)
-    (only : (m : RequestMessage) → Spells read m → IsOkAnd r (λ v. request_message v ≡ m)) where
-  reads : IsOkAnd r (λ v. request_message v ≡ frame.message)
-  reads = only frame.message (subst (λ (x : List ℕ). Spells x frame.message) (sym same)
-      (spells served frame.message bytes frame.written))
+-- What stands in the head of a frame is of the request for which it was written.
+module _ (bytes read : List ℕ) (request : Request) (frame : IsRequestFrame bytes (request_in bytes))
+    (is_view : request ≡ request_in bytes) (same : read ≡ bytes) where
+  spelled : Spells read frame.message
+  spelled = subst (λ (x : List ℕ). Spells x frame.message) (sym same) (spells served frame.message bytes frame.written)
 
-  pub is_read : (v : View) → r ≡ Ok v → request_message v ≡ frame.message
-  is_read v e = rw e at reads
+  pub unique_at : (n : ℕ) → n ≡ number_at 8 8 read → n ≡ request.unique
+  unique_at n e = e ∙ spelled.3.1.1.0 ∙ frame.unique ∙ sym (ap (λ (q : Request). q.unique) is_view)
 
-  pub unique_read : (v : View) → r ≡ Ok v → v.unique ≡ request.unique
-  unique_read v e = ap (λ (m : RequestMessage). m.unique) (is_read v e) ∙ frame.unique ∙ sym
-      (ap (λ (q : Request). q.unique) is_view)
+  code_at : (n : ℕ) → n ≡ number_at 4 4 read → n ≡ code_of (asked_opcode request.body)
+  code_at n e = e ∙ spelled.3.1.0 ∙ ap (λ (c : RequestContent). code_of (opcode_of c)) frame.content ∙ sym
+      (ap (λ (q : Request). code_of (asked_opcode q.body)) is_view)
 
-  pub opcode_read : (v : View) → r ≡ Ok v → opcode_of (request_content v.body) ≡ asked_opcode request.body
-  opcode_read v e = ap (λ (m : RequestMessage). opcode_of m.content) (is_read v e) ∙ ap opcode_of frame.content ∙ sym
-      (ap (λ (q : Request). asked_opcode q.body) is_view)
+  pub opcode_at : (n : ℕ) (o : Opcode) → n ≡ number_at 4 4 read → code_of o ≡ n → o ≡ asked_opcode request.body
+  opcode_at n o e is = same_code o (asked_opcode request.body) (is ∙ code_at n e)
 
-  pub no_fault : (f : WireFault) → r ≡ Err f → ⊥
-  no_fault f e = rw e at reads
+  pub some_opcode : (n : ℕ) → n ≡ number_at 4 4 read → ((o : Opcode) → code_of o ≡ n → ⊥) → ⊥
+  some_opcode n e none = none (asked_opcode request.body) (sym (code_at n e))
+
+  pub has_head : (f : WireFault) → FaultIsAt served read f → ⊥
+  has_head f e = no_fault served read frame.message f spelled e
 
 -- ---- a minor
 

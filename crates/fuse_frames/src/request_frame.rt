@@ -10,7 +10,9 @@ ghost use Rattle.fuse_frames.specs.RequestTies.{IsRequestFrame, body_asking, bod
 use crate::operations::{body_of, node_of};
 use crate::pair_bytes::pair_bytes;
 use bitflags::Flags;
-use fk_wire::{InitFlags, Opcode, Pairs, RequestBody, read_request, write_request};
+use fk_wire::{
+    InitFlags, Opcode, Pairs, RequestBody, opcode_of_code, read_request_head, write_request,
+};
 use fuse_spec::{Opened, Operation};
 use std::alloc::{AllocError, Allocator, Global};
 use std::marker::Model;
@@ -58,11 +60,14 @@ impl<A: Allocator> RequestFrame<A> {
         ensures unique { result.0 ≡ self.now.unique }
         ensures opcode { result.1 ≡ asked_opcode self.now.body }
     {
-        match read_request(&self.bytes) {
-            Ok(request) => (request.unique, request.body.opcode()),
-            // The invariant rules this out.
-            Err(_) => (0, Opcode::Init),
-        }
+        // The invariant rules out a frame without a head, and one of no opcode.
+        let Ok((code, unique)) = read_request_head(&self.bytes) else {
+            return (0, Opcode::Init);
+        };
+        let Some(opcode) = opcode_of_code(code) else {
+            return (unique, Opcode::Init);
+        };
+        (unique, opcode)
     }
 
     /// The frame's bytes: the one frame in which the request is written.

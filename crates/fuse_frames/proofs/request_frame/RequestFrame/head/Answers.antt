@@ -1,20 +1,34 @@
-use Rattle.std.proofs.Common.{sym, ◌∙◌}
-use Rattle.fuse_frames.proofs.RequestLemmas.{unique_read, opcode_read, no_fault}
+use Rattle.std.proofs.Common.{sym}
+use Rattle.fk_wire.specs.Opcodes.{served}
+use Rattle.fuse_frames.proofs.RequestLemmas.{has_head, opcode_at, some_opcode, unique_at}
 use Rattle.fuse_frames.proofs.request_frame.RequestFrame.head.Goals as goal
 
-pub returns-in-Ok-clause-unique : goal.returns-in-Ok-clause-unique
-returns-in-Ok-clause-unique g c =
-    unique_read c.self.inside.bytes.items c.deref.result.now c.args.self.now c.read_request.result c.self.invariant
-    (sym c.self.view_is) c.deref.ensures.value c.read_request.ensures.only c.in-Ok.request c.in-Ok.is
+pub returns-in_default-clause-unique : goal.returns-in_default-clause-unique
+returns-in_default-clause-unique g c =
+    absurd (has_head c.self.inside.bytes.items c.deref.result.now c.args.self.now c.self.invariant (sym c.self.view_is)
+    c.deref.ensures.value c.in_default.field-0 (c.in_default.ensures.fault served).0)
 
-pub returns-in-Ok-clause-opcode : goal.returns-in-Ok-clause-opcode
-returns-in-Ok-clause-opcode g c =
-    c.opcode.ensures ∙ opcode_read c.self.inside.bytes.items c.deref.result.now c.args.self.now c.read_request.result c.self.invariant (sym c.self.view_is) c.deref.ensures.value c.read_request.ensures.only c.in-Ok.request c.in-Ok.is
+pub returns-in_default-clause-opcode : goal.returns-in_default-clause-opcode
+returns-in_default-clause-opcode g c =
+    absurd (has_head c.self.inside.bytes.items c.deref.result.now c.args.self.now c.self.invariant (sym c.self.view_is)
+    c.deref.ensures.value c.in_default.field-0 (c.in_default.ensures.fault served).0)
 
-pub returns-in-Err-clause-unique : goal.returns-in-Err-clause-unique
-returns-in-Err-clause-unique g c =
-    absurd (no_fault c.self.inside.bytes.items c.deref.result.now c.args.self.now c.read_request.result c.self.invariant (sym c.self.view_is) c.deref.ensures.value c.read_request.ensures.only c.in-Err.field-0 c.in-Err.is)
+pub returns-in_default-opcode_of_code-clause-unique : goal.returns-in_default-opcode_of_code-clause-unique
+returns-in_default-opcode_of_code-clause-unique g c =
+    unique_at c.self.inside.bytes.items c.deref.result.now c.args.self.now c.self.invariant (sym c.self.view_is)
+    c.deref.ensures.value c.in-Ok.unique c.in-Ok.ensures.ok.2
 
-pub returns-in-Err-clause-opcode : goal.returns-in-Err-clause-opcode
-returns-in-Err-clause-opcode g c =
-    absurd (no_fault c.self.inside.bytes.items c.deref.result.now c.args.self.now c.read_request.result c.self.invariant (sym c.self.view_is) c.deref.ensures.value c.read_request.ensures.only c.in-Err.field-0 c.in-Err.is)
+pub returns-in_default-opcode_of_code-clause-opcode : goal.returns-in_default-opcode_of_code-clause-opcode
+returns-in_default-opcode_of_code-clause-opcode g c =
+    absurd (some_opcode c.self.inside.bytes.items c.deref.result.now c.args.self.now c.self.invariant
+    (sym c.self.view_is) c.deref.ensures.value c.in-Ok.code c.in-Ok.ensures.ok.1 c.in_default-opcode_of_code.ensures)
+
+pub returns-clause-unique : goal.returns-clause-unique
+returns-clause-unique g c =
+    unique_at c.self.inside.bytes.items c.deref.result.now c.args.self.now c.self.invariant (sym c.self.view_is)
+    c.deref.ensures.value c.in-Ok.unique c.in-Ok.ensures.ok.2
+
+pub returns-clause-opcode : goal.returns-clause-opcode
+returns-clause-opcode g c =
+    opcode_at c.self.inside.bytes.items c.deref.result.now c.args.self.now c.self.invariant (sym c.self.view_is)
+    c.deref.ensures.value c.in-Ok.code c.in-Some.opcode c.in-Ok.ensures.ok.1 c.in-Some.ensures
