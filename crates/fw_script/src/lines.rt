@@ -4,7 +4,7 @@ ghost use Rattle.std.specs.Prelude.{◌≡◌, ◌≢◌, ◌↔◌, ℕ, All, E
 ghost use Rattle.std.specs.Iterator.{YieldsFirstRef, item_count};
 ghost use Rattle.fw_script.specs.Lines.{IsWritten};
 ghost use Rattle.fw_script.specs.Stops.{status_of};
-ghost use Rattle.fw_script.specs.declared.stop.Stop.TheVariants.{BadLine};
+ghost use Rattle.fw_script.specs.declared.stop.Stop.TheVariants.{BadLine, NoMemory};
 ghost use Rattle.fw_script.specs.Scripts.{FirstFaultIs, IsGoodLine, IsGoodScript, IsPassedOver, LineFaultIs, lines_left, lines_of};
 
 use crate::line::{Line, LineFault, read_line};
@@ -60,7 +60,23 @@ fn read_any(line: &[u8]) -> Result<Option<Line<'_>>, LineFault>
     Ok(Some(said))
 }
 
-/// What the lines of a script say, in their order. Else the first line with a fault, or want of memory.
+/// Why a script is refused whose lines cannot be kept: for its first line with a fault, or else for want of memory.
+fn refused_lines(script: &[u8]) -> Stop<'static>
+    ensures status { status_of result ≢ 5 }
+    ensures bad { (number : ℕ) (fault : LineFault) → result ≡ BadLine number fault → FirstFaultIs script.now number fault }
+    ensures memory { result ≡ NoMemory → IsGoodScript script.now }
+{
+    let mut number = 0;
+    for line in Lines::of(script) {
+        number += 1;
+        if let Err(fault) = read_any(line) {
+            return Stop::BadLine { number, fault };
+        }
+    }
+    Stop::NoMemory
+}
+
+/// What the lines of a script say, in their order. Else the first line with a fault; want of memory comes after that.
 pub(crate) fn read_lines<A: Allocator>(
     alloc: A,
     script: &[u8],
@@ -68,6 +84,7 @@ pub(crate) fn read_lines<A: Allocator>(
     ensures good { IfOk result (λ lines. IsGoodScript script.now × All IsWritten lines.items) }
     ensures refused { IfErr result (λ stop. status_of stop ≢ 5) }
     ensures bad { (number : ℕ) (fault : LineFault) → result ≡ Err (BadLine number fault) → FirstFaultIs script.now number fault }
+    ensures memory { result ≡ Err NoMemory → IsGoodScript script.now }
 {
     let mut lines = Vec::new(alloc);
     let mut number = 0;
@@ -77,7 +94,7 @@ pub(crate) fn read_lines<A: Allocator>(
             Ok(None) => {}
             Ok(Some(said)) => {
                 if lines.push(said).is_err() {
-                    return Err(Stop::NoMemory);
+                    return Err(refused_lines(script));
                 }
             }
             Err(fault) => return Err(Stop::BadLine { number, fault }),
