@@ -9,7 +9,9 @@ use Rattle.fuse_spec.specs.Files.Operations.{failed}
 use Rattle.fuse_spec.specs.Kernel.Messages.{RequestBody, WireReply, init, asks, release, forget, batch_forget, interrupt}
 use Rattle.fuse_spec.specs.Server.Server.{Server, HeldRequest, Kept}
 use Rattle.fuse_spec.specs.Server.Taking.{interrupting, taking}
-use Rattle.fk_wire.specs.Requests.{RequestMessage}
+use Rattle.fk_wire.specs.declared.opcode.Opcode.TheVariants as op
+use Rattle.fk_wire.specs.Requests as wire
+use Rattle.fk_wire.specs.Requests.{RequestContent, RequestMessage, Spells, opcode_of}
 use Rattle.fuse_frames.specs.RequestTies.{body_in}
 use Rattle.fs_server.specs.declared.server.ServerFault.{ServerFault}
 use Rattle.fs_server.specs.declared.server.ServerFault.TheVariants.{Memory}
@@ -94,3 +96,41 @@ can_take_it message s bytes (Ok q) right None is = can_take s bytes (message q) 
 can_take_it message s bytes (Ok q) right (Some fault) is = tt
 can_take_it message s bytes (Err fault) right None is = absurd (cc)
 can_take_it message s bytes (Err fault) right (Some other) is = tt
+
+-- ---- only an INTERRUPT is answered at once
+
+module _ (s : Server) (unique : ℕ) (reply : WireReply) where
+  abbrev answer_in : Option RequestBody → Option WireReply
+  answer_in None = None
+  answer_in (Some body) = reply_to s unique body
+
+  abbrev Asks : ℕ → RequestContent → RequestBody → Type 0
+  Asks nodeid content body = body_in nodeid content ≡ Some body
+
+  interrupts : (nodeid : ℕ) (content : RequestContent) (body : RequestBody) → Asks nodeid content body
+      → reply_to s unique body ≡ Some reply → opcode_of content ≡ op.Interrupt
+  interrupts nodeid (wire.interrupt original) body e r = refl
+  interrupts nodeid (wire.lookup name) body e r = absurd (none-some reply (ap answer_in e ∙ r))
+  interrupts nodeid (wire.forget nlookup) body e r = absurd (none-some reply (ap answer_in e ∙ r))
+  interrupts nodeid wire.getattr body e r = absurd (none-some reply (ap answer_in e ∙ r))
+  interrupts nodeid (wire.mkdir name) body e r = absurd (none-some reply (ap answer_in e ∙ r))
+  interrupts nodeid (wire.unlink name) body e r = absurd (none-some reply (ap answer_in e ∙ r))
+  interrupts nodeid (wire.rmdir name) body e r = absurd (none-some reply (ap answer_in e ∙ r))
+  interrupts nodeid (wire.rename newdir old new) body e r = absurd (none-some reply (ap answer_in e ∙ r))
+  interrupts nodeid (wire.link oldnodeid name) body e r = absurd (none-some reply (ap answer_in e ∙ r))
+  interrupts nodeid wire.opening body e r = absurd (none-some reply (ap answer_in e ∙ r))
+  interrupts nodeid (wire.read fh offset size) body e r = absurd (none-some reply (ap answer_in e ∙ r))
+  interrupts nodeid (wire.write fh offset bytes) body e r = absurd (none-some reply (ap answer_in e ∙ r))
+  interrupts nodeid (wire.release fh) body e r = absurd (none-some reply (ap answer_in e ∙ r))
+  interrupts nodeid (wire.init major minor flags) body e r = absurd (none-some reply (ap answer_in e ∙ r))
+  interrupts nodeid (wire.readdir offset size) body e r = absurd (none-some reply (ap answer_in e ∙ r))
+  interrupts nodeid (wire.readdirplus offset size) body e r = absurd (none-some reply (ap answer_in e ∙ r))
+  interrupts nodeid (wire.create name) body e r = absurd (none-some reply (ap answer_in e ∙ r))
+  interrupts nodeid (wire.batch_forget forgets) body e r = absurd (none-some reply (ap answer_in e ∙ r))
+
+pub answered_interrupts : (s : Server) (bytes : List ℕ)
+    → ((m : RequestMessage) → Spells bytes m → opcode_of m.content ≡ op.Interrupt → ⊥) → AnswersFrame s bytes → ⊥
+answered_interrupts s bytes none a =
+    let says = a.can.says in
+    none says.message says.spells (interrupts s a.can.request.unique a.reply says.message.nodeid says.message.content
+    a.can.request.body says.says a.replies)

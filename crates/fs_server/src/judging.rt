@@ -1,18 +1,21 @@
 //! What is wrong with a request frame, and which is answered at once.
 
-ghost use Rattle.std.specs.Prelude.{◌≡◌, ℕ, ◌↔◌, ◌||◌, true, false, None, nat_lt, not, is_some, IsTrue, IfErr, IfOk, IfNone, IfSome};
+ghost use Rattle.std.specs.Prelude.{◌≡◌, ◌≢◌, ℕ, ◌↔◌, ◌||◌, true, false, None, nat_lt, not, is_some, IsTrue, IfErr, IfOk, IfNone, IfSome};
 ghost use Rattle.std.specs.List.{list_all, list_any};
 ghost use Rattle.fuse_spec.specs.Values.Maps.{get};
 ghost use Rattle.fuse_spec.specs.Server.Server.{count_in, forgotten, is_forgettable, is_known, nodes_of_body};
 ghost use Rattle.fk_wire.specs.Pairs.{pairs_in};
-ghost use Rattle.fk_wire.specs.Requests.{request_content, request_message};
+ghost use Rattle.fk_wire.specs.declared.opcode.Opcode.TheVariants as op;
+ghost use Rattle.fk_wire.specs.Requests.{RequestMessage, Spells, opcode_of, request_content, request_message};
 ghost use Rattle.fuse_frames.specs.RequestTies.{AsksNothing, body_asking, body_in};
 ghost use Rattle.fs_server.specs.declared.server.ServerFault.TheVariants.{Memory as MemoryFault};
 ghost use Rattle.fs_server.specs.Effects.{AnswersFrame, CanTake, RefusesFrame, request_fault};
 ghost use Rattle.fs_server.specs.Taking.{IsFaultless, IsTakeable, answers, forgets_too_many, is_spoken, knows};
 
 use crate::server::{ServerFault, ServerOf};
-use fk_wire::{Pairs, Request, RequestBody, read_request};
+use fk_wire::{
+    Opcode, Pairs, Request, RequestBody, opcode_of_code, read_request, read_request_head,
+};
 use fs_files::{Nodes, body_node, header_node};
 use fs_nodes::NodeStore;
 use fuse_frames::operation_asked;
@@ -34,6 +37,10 @@ impl<S: NodeStore> ServerOf<S> {
     pub fn take_answers(&self, bytes: &[u8]) -> bool
         ensures { IsTrue result ↔ AnswersFrame self.now bytes.now }
     {
+        // Nearly every frame asks something else, and need not be judged for this.
+        if !is_interrupt(bytes) {
+            return false;
+        }
         match self.judged(bytes) {
             Ok(request) => self.answers(&request.body),
             Err(_) => false,
@@ -101,6 +108,16 @@ impl<S: NodeStore> ServerOf<S> {
         let is_kept = self.kept.get(unique).is_some();
         is_held || is_kept
     }
+}
+
+/// Whether a frame has the opcode of an INTERRUPT.
+fn is_interrupt(bytes: &[u8]) -> bool
+    ensures { result ≡ false → (m : RequestMessage) → Spells bytes.now m → opcode_of m.content ≢ op.Interrupt }
+{
+    let Ok((code, _)) = read_request_head(bytes) else {
+        return false;
+    };
+    matches!(opcode_of_code(code), Some(Opcode::Interrupt))
 }
 
 /// Whether the minor knows what a request asks: 7.15 has no READDIRPLUS and no BATCH_FORGET (linux/fuse.h, enum
