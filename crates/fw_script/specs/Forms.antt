@@ -6,6 +6,8 @@ use Rattle.fw_script.specs.declared.form.WordForm.{WordForm}
 use Rattle.fw_script.specs.declared.form.WordForm.TheVariants as word
 use Rattle.fw_script.specs.declared.form.CallForm.{CallForm}
 use Rattle.fw_script.specs.declared.form.CallForm.TheVariants as call
+use Rattle.fw_script.specs.declared.form.PathForm.{PathForm}
+use Rattle.fw_script.specs.declared.form.PathForm.TheVariants as path
 use Rattle.fw_script.specs.declared.form.ReadForm.{ReadForm}
 use Rattle.fw_script.specs.declared.form.ReadForm.TheVariants as read
 
@@ -25,15 +27,18 @@ word_name word.Abort = codes "abort"
 word_name word.Show = codes "show"
 
 -- the word after `call`
+abbrev pub path_name : PathForm → List ℕ
+path_name path.Stat = codes "stat"
+path_name path.Open = codes "open"
+path_name path.Mkdir = codes "mkdir"
+path_name path.Create = codes "create"
+path_name path.Unlink = codes "unlink"
+path_name path.Rmdir = codes "rmdir"
+
 abbrev pub call_name : CallForm → List ℕ
-call_name call.Stat = codes "stat"
+call_name (call.OfPath f) = path_name f
 call_name call.List = codes "list"
 call_name call.ListPlus = codes "listplus"
-call_name call.Open = codes "open"
-call_name call.Mkdir = codes "mkdir"
-call_name call.Create = codes "create"
-call_name call.Unlink = codes "unlink"
-call_name call.Rmdir = codes "rmdir"
 call_name call.Rename = codes "rename"
 call_name call.Link = codes "link"
 call_name call.Read = codes "read"
@@ -83,7 +88,7 @@ after_call call.Link = text ∷ text ∷ []
 after_call call.Read = number ∷ number ∷ number ∷ []
 after_call call.Write = number ∷ number ∷ bytes ∷ []
 after_call call.Close = number ∷ []
-after_call _ = text ∷ []
+after_call (call.OfPath f) = text ∷ []
 
 -- what follows a read
 abbrev pub after_read : ReadForm → List Argument

@@ -34,19 +34,25 @@ pub(crate) enum WordForm {
 /// The system call that begins.
 #[derive(Clone, Copy)]
 pub(crate) enum CallForm {
-    Stat,
+    OfPath(PathForm),
     List,
     ListPlus,
-    Open,
-    Mkdir,
-    Create,
-    Unlink,
-    Rmdir,
     Rename,
     Link,
     Read,
     Write,
     Close,
+}
+
+/// A system call with a path alone.
+#[derive(Clone, Copy)]
+pub(crate) enum PathForm {
+    Stat,
+    Open,
+    Mkdir,
+    Create,
+    Unlink,
+    Rmdir,
 }
 
 /// What is read from the kernel.
@@ -87,14 +93,14 @@ fn form_of_call(word: &[u8]) -> Option<CallForm>
         (λ f. call_name f ≡ word.now) }
 {
     match word {
-        b"stat" => Some(CallForm::Stat),
+        b"stat" => Some(CallForm::OfPath(PathForm::Stat)),
         b"list" => Some(CallForm::List),
         b"listplus" => Some(CallForm::ListPlus),
-        b"open" => Some(CallForm::Open),
-        b"mkdir" => Some(CallForm::Mkdir),
-        b"create" => Some(CallForm::Create),
-        b"unlink" => Some(CallForm::Unlink),
-        b"rmdir" => Some(CallForm::Rmdir),
+        b"open" => Some(CallForm::OfPath(PathForm::Open)),
+        b"mkdir" => Some(CallForm::OfPath(PathForm::Mkdir)),
+        b"create" => Some(CallForm::OfPath(PathForm::Create)),
+        b"unlink" => Some(CallForm::OfPath(PathForm::Unlink)),
+        b"rmdir" => Some(CallForm::OfPath(PathForm::Rmdir)),
         b"rename" => Some(CallForm::Rename),
         b"link" => Some(CallForm::Link),
         b"read" => Some(CallForm::Read),

@@ -1,15 +1,15 @@
 //! Lines as events.
 
 ghost use Rattle.std.specs.Prelude.{◌≡◌, ◌∷◌, [], MatchResult, codes, option_copied};
-ghost use Rattle.fw_script.specs.Forms.{after_call, after_read, after_word, call_name, read_name, word_name};
-ghost use Rattle.fw_script.specs.Lines.{ArgumentFaultIs, FaultIs, Names};
+ghost use Rattle.fw_script.specs.Forms.{after_call, after_read, after_word, call_name, path_name, read_name, word_name};
+ghost use Rattle.fw_script.specs.Lines.{ArgumentFaultIs, FaultIs, HasTexts, IsText, Names, spelled_call};
 ghost use Rattle.fw_script.specs.Words.{words_left, words_of};
 
 use crate::arguments::{
     no_words, number_and_signal, number_and_text, one_number, one_text, text_and_number,
     three_numbers, two_numbers_and_hex, two_numbers_and_minor, two_texts,
 };
-use crate::form::{CallForm, Form, ReadForm, WordForm, split_form};
+use crate::form::{CallForm, Form, PathForm, ReadForm, WordForm, split_form};
 use fw_world::{Call, Event, Pick};
 
 /// Why a line is no event: the first fault in their order.
@@ -82,6 +82,22 @@ fn line_of_word(form: WordForm, rest: Option<&[u8]>) -> Result<Line<'_>, LineFau
     Ok(Line::Event(event))
 }
 
+/// A call with a path alone.
+fn call_of_path(form: PathForm, path: &[u8]) -> Call<'_>
+    requires { IsText path.now }
+    ensures words { spelled_call result ≡ path_name form ∷ path.entry.now ∷ [] }
+    ensures texts { HasTexts result }
+{
+    match form {
+        PathForm::Stat => Call::Stat { path },
+        PathForm::Open => Call::Open { path },
+        PathForm::Mkdir => Call::Mkdir { path },
+        PathForm::Create => Call::Create { path },
+        PathForm::Unlink => Call::Unlink { path },
+        PathForm::Rmdir => Call::Rmdir { path },
+    }
+}
+
 /// What the line of a call says.
 fn line_of_call(form: CallForm, rest: Option<&[u8]>) -> Result<Line<'_>, LineFault>
     ensures { let words = words_left (option_copied rest.entry) in MatchResult result
@@ -89,9 +105,7 @@ fn line_of_call(form: CallForm, rest: Option<&[u8]>) -> Result<Line<'_>, LineFau
         (ArgumentFaultIs (after_call form) words) }
 {
     let call = match form {
-        CallForm::Stat => Call::Stat {
-            path: one_text(rest)?,
-        },
+        CallForm::OfPath(form) => call_of_path(form, one_text(rest)?),
         CallForm::List => {
             let (path, after) = text_and_number(rest)?;
             Call::List { path, after }
@@ -100,21 +114,6 @@ fn line_of_call(form: CallForm, rest: Option<&[u8]>) -> Result<Line<'_>, LineFau
             let (path, after) = text_and_number(rest)?;
             Call::ListPlus { path, after }
         }
-        CallForm::Open => Call::Open {
-            path: one_text(rest)?,
-        },
-        CallForm::Mkdir => Call::Mkdir {
-            path: one_text(rest)?,
-        },
-        CallForm::Create => Call::Create {
-            path: one_text(rest)?,
-        },
-        CallForm::Unlink => Call::Unlink {
-            path: one_text(rest)?,
-        },
-        CallForm::Rmdir => Call::Rmdir {
-            path: one_text(rest)?,
-        },
         CallForm::Rename => {
             let (old, new) = two_texts(rest)?;
             Call::Rename { old, new }
