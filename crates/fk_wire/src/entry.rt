@@ -5,7 +5,7 @@ ghost use Rattle.fk_wire.specs.Fields.{InRange, number_at, spellings};
 ghost use Rattle.fk_wire.specs.Entries.{attr_fields, entry_fields, entry_content, IsEntry};
 ghost use Rattle.fk_wire.specs.Entries.{attr_at as attributes_at, entry_at as entry_content_at};
 
-use crate::room::{put_u32, put_u64, put_zeros88};
+use crate::room::{put_two_u32, put_two_u64, put_zeros88};
 use fk_fields::{u32_at, u64_at};
 use std::alloc::Allocator;
 
@@ -90,22 +90,14 @@ pub(crate) fn put_attr<A: Allocator>(out: &mut Vec<u8, A>, attr: &Attr)
     ensures capacity { vec_capacity out.old ≤ vec_capacity out.new }
     ensures fits { InRange (attr_fields attr.now []) }
 {
-    put_u64(out, attr.ino);
-    put_u64(out, attr.size);
-    put_u64(out, 0);
-    put_u64(out, 0);
-    put_u64(out, 0);
-    put_u64(out, 0);
-    put_u32(out, 0);
-    put_u32(out, 0);
-    put_u32(out, 0);
-    put_u32(out, attr.mode);
-    put_u32(out, attr.nlink);
-    put_u32(out, 0);
-    put_u32(out, 0);
-    put_u32(out, 0);
-    put_u32(out, 4096);
-    put_u32(out, 0);
+    put_two_u64(out, attr.ino, attr.size);
+    put_two_u64(out, 0, 0);
+    put_two_u64(out, 0, 0);
+    put_two_u32(out, 0, 0);
+    put_two_u32(out, 0, attr.mode);
+    put_two_u32(out, attr.nlink, 0);
+    put_two_u32(out, 0, 0);
+    put_two_u32(out, 4096, 0);
 }
 
 #[tactic(auto, using(std::proofs::Common::append_assoc))]
@@ -117,20 +109,14 @@ pub(crate) fn put_entry<A: Allocator>(out: &mut Vec<u8, A>, entry: &Entry)
     ensures fits { InRange (entry_fields (entry_content entry.now) []) }
 {
     if entry.nodeid == 0 {
-        put_u64(out, 0);
-        put_u64(out, 0);
-        put_u64(out, entry.entry_valid);
-        put_u64(out, 0);
-        put_u32(out, entry.entry_valid_nsec);
-        put_u32(out, 0);
+        put_two_u64(out, 0, 0);
+        put_two_u64(out, entry.entry_valid, 0);
+        put_two_u32(out, entry.entry_valid_nsec, 0);
         put_zeros88(out);
     } else {
-        put_u64(out, entry.nodeid);
-        put_u64(out, entry.generation);
-        put_u64(out, entry.entry_valid);
-        put_u64(out, 0);
-        put_u32(out, entry.entry_valid_nsec);
-        put_u32(out, 0);
+        put_two_u64(out, entry.nodeid, entry.generation);
+        put_two_u64(out, entry.entry_valid, 0);
+        put_two_u32(out, entry.entry_valid_nsec, 0);
         put_attr(out, &entry.attr);
     }
 }

@@ -39,6 +39,34 @@ pub(crate) fn put_u64<A: Allocator>(out: &mut Vec<u8, A>, value: u64)
     put_bytes(out, &buf);
 }
 
+/// Two numbers of four bytes, one after the other, in one write.
+#[tactic(auto, unfolding(fk_fields::specs::Fields::bytes_of))]
+pub(crate) fn put_two_u32<A: Allocator>(out: &mut Vec<u8, A>, first: u32, second: u32)
+    requires { vec_len out.old + 8 ≤ vec_capacity out.old }
+    ensures items { out.new.items ≡ out.old.items ++ (bytes_of 4 first ++ bytes_of 4 second) }
+    ensures len { vec_len out.new ≡ vec_len out.old + 8 }
+    ensures capacity { vec_capacity out.old ≤ vec_capacity out.new }
+{
+    let mut buf = [0u8; 8];
+    LittleEndian::write_u32(&mut buf, first);
+    LittleEndian::write_u32(&mut buf[4..], second);
+    put_bytes(out, &buf);
+}
+
+/// Two numbers of eight bytes, one after the other, in one write.
+#[tactic(auto, unfolding(fk_fields::specs::Fields::bytes_of))]
+pub(crate) fn put_two_u64<A: Allocator>(out: &mut Vec<u8, A>, first: u64, second: u64)
+    requires { vec_len out.old + 16 ≤ vec_capacity out.old }
+    ensures items { out.new.items ≡ out.old.items ++ (bytes_of 8 first ++ bytes_of 8 second) }
+    ensures len { vec_len out.new ≡ vec_len out.old + 16 }
+    ensures capacity { vec_capacity out.old ≤ vec_capacity out.new }
+{
+    let mut buf = [0u8; 16];
+    LittleEndian::write_u64(&mut buf, first);
+    LittleEndian::write_u64(&mut buf[8..], second);
+    put_bytes(out, &buf);
+}
+
 pub(crate) fn put_name<A: Allocator>(out: &mut Vec<u8, A>, name: &[u8])
     requires { vec_len out.old + (length name.now + 1) ≤ vec_capacity out.old }
     ensures items { out.new.items ≡ out.old.items ++ (name.now ++ 0 ∷ []) }

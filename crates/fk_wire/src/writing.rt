@@ -16,7 +16,7 @@ use crate::limits::MAX_FRAME;
 use crate::opcode::{Minor, code, is_known, is_node_of, served_minor};
 use crate::pairs::Pairs;
 use crate::request::{Request, RequestBody};
-use crate::room::{put_bytes, put_name, put_u32, put_u64};
+use crate::room::{put_bytes, put_name, put_two_u32, put_two_u64, put_u32, put_u64};
 use fk_fields::is_name;
 use std::alloc::Allocator;
 
@@ -76,14 +76,10 @@ fn put_header<A: Allocator>(out: &mut Vec<u8, A>, len: u32, code: u32, unique: u
     ensures len { vec_len out.new ≡ vec_len out.old + 40 }
     ensures capacity { vec_capacity out.old ≤ vec_capacity out.new }
 {
-    put_u32(out, len);
-    put_u32(out, code);
-    put_u64(out, unique);
-    put_u64(out, nodeid);
-    put_u32(out, 0);
-    put_u32(out, 0);
-    put_u32(out, 0);
-    put_u32(out, 0);
+    put_two_u32(out, len, code);
+    put_two_u64(out, unique, nodeid);
+    put_two_u32(out, 0, 0);
+    put_two_u32(out, 0, 0);
 }
 
 #[tactic(auto, using(std::proofs::Common::append_assoc))]
@@ -94,13 +90,10 @@ fn put_range<A: Allocator>(out: &mut Vec<u8, A>, fh: u64, offset: u64, size: u32
     ensures capacity { vec_capacity out.old ≤ vec_capacity out.new }
     ensures fits { InRange (range fh offset size) }
 {
-    put_u64(out, fh);
-    put_u64(out, offset);
-    put_u32(out, size);
-    put_u32(out, 0);
+    put_two_u64(out, fh, offset);
+    put_two_u32(out, size, 0);
     put_u64(out, 0);
-    put_u32(out, 0);
-    put_u32(out, 0);
+    put_two_u32(out, 0, 0);
 }
 
 fn put_pairs<A: Allocator>(out: &mut Vec<u8, A>, pairs: Pairs<'_>)
@@ -120,8 +113,7 @@ fn put_getattr<A: Allocator>(out: &mut Vec<u8, A>)
     requires { vec_len out.old + 16 ≤ vec_capacity out.old }
     ensures { out.new.items ≡ out.old.items ++ spellings (request_body getattr) }
 {
-    put_u32(out, 0);
-    put_u32(out, 0);
+    put_two_u32(out, 0, 0);
     put_u64(out, 0);
 }
 

@@ -20,7 +20,7 @@ use crate::limits::{MAX_FRAME, is_error_number};
 use crate::opcode::{Minor, Opcode, served_minor};
 use crate::reading_reply::init_size;
 use crate::reply::{Reply, ReplyBody};
-use crate::room::{put_bytes, put_u16, put_u32, put_u64};
+use crate::room::{put_bytes, put_two_u32, put_u16, put_u32, put_u64};
 use std::alloc::Allocator;
 
 /// The error number as the header has it.
@@ -83,8 +83,7 @@ fn put_open<A: Allocator>(out: &mut Vec<u8, A>, fh: u64)
     ensures fits { InRange (open_fields fh) }
 {
     put_u64(out, fh);
-    put_u32(out, 0);
-    put_u32(out, 0);
+    put_two_u32(out, 0, 0);
 }
 
 /// The end of an INIT reply, which 7.15 does not have.
@@ -135,8 +134,7 @@ fn put_reply_body<A: Allocator>(out: &mut Vec<u8, A>, body: &ReplyBody<'_>)
         ReplyBody::Entry { entry } => put_entry(out, entry),
         ReplyBody::Attr { attr } => {
             put_u64(out, 0);
-            put_u32(out, 0);
-            put_u32(out, 0);
+            put_two_u32(out, 0, 0);
             put_attr(out, attr);
         }
         ReplyBody::Open { fh } => put_open(out, *fh),
