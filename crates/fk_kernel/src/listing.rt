@@ -13,7 +13,7 @@ ghost use Rattle.fk_nodes.specs.ListedFiles.{pairs_in};
 
 use crate::kernel::KernelOf;
 use fk_lookup_count::CountTable;
-use fk_nodes::{forget_stale, count_and_bind, names_listed, pair_count};
+use fk_nodes::{count_and_bind, forget_stale, names_listed, pair_count};
 use fk_queues::QueueTable;
 use fk_syscalls::Answer;
 use fk_wire::RecordsPlus;

@@ -9,4 +9,4 @@ mod told;
 
 pub use counted_nodes::CountedNodes;
 pub use entry_use::EntryUse;
-pub use listed::{forget_stale, count_and_bind, names_listed, pair_count};
+pub use listed::{count_and_bind, forget_stale, names_listed, pair_count};

@@ -16,7 +16,7 @@ mod request_frame;
 pub use minor::{codec_minor, said_where_known};
 pub use operations::{opcode_asked, operation_asked};
 pub use reply::Reply;
-pub use reply_body::{attributes_of, kind_of_type, milliseconds, listed_by};
+pub use reply_body::{attributes_of, kind_of_type, listed_by, milliseconds};
 pub use reply_copy::ReplyCopy;
 pub use reply_frame::ReplyFrame;
 pub use reply_room::ReplyRoom;
