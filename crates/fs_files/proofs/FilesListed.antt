@@ -4,7 +4,7 @@ use Rattle.fuse_spec.specs.Files.Operations.{Dirent, files_listed, first_listed,
 use Rattle.fuse_spec.specs.declared.Entry.{Entry}
 use Rattle.fuse_frames.specs.ReplyTies.{entry_told, pairs_told}
 
-first_few : (file : Option Entry) (files : List Entry) → length (first_listed file files) ≤ length files + 1
+pub first_few : {F : Type 0} (file : Option F) (files : List F) → length (first_listed file files) ≤ length files + 1
 first_few None files = omega arith
 first_few (Some e) files = omega arith
 

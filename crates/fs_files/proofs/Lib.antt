@@ -3,6 +3,8 @@ pub mod Performed
 pub mod Listing
 pub mod PairListing
 pub mod FilesListed
+pub mod Lookups
+pub mod DrawsFew
 pub mod EntriesPut
 pub mod NodeLemmas
 pub mod BornFiles

@@ -9,7 +9,7 @@ ghost use Rattle.fuse_spec.specs.Server.Copies.{row_back};
 ghost use Rattle.fs_nodes.specs.Rows.{listed};
 ghost use Rattle.fs_nodes.specs.Sound.{IsSound};
 ghost use Rattle.fs_files.specs.Bounds.{AreCounted, AreHeldBelow};
-ghost use Rattle.fs_files.specs.Giving.{IsCountable, files_of, has_node, new_among, node_in};
+ghost use Rattle.fs_files.specs.Giving.{IsCountable, files_of, generations_after, has_node, new_among, node_in};
 ghost use Rattle.fs_files.specs.Values.{no_nodes};
 
 use crate::held::{MOST_NAMES, NamedNode};
@@ -29,10 +29,14 @@ const ROOT_FILE: u64 = 0;
 #[derive(Drop)]
 pub struct Nodes<S: NodeStore> {
     store: S,
+    /// No node has more lookups than this. It rises with each lookup that is counted, and falls only when all nodes are
+    /// dropped.
+    most_lookups: u64,
 }
 
 impl<S: NodeStore> Model for Nodes<S> {
     ghost use Rattle.std.specs.Coded.{codes};
+    ghost use Rattle.fs_files.specs.Bounds.{AreCounted};
     ghost use Rattle.fs_files.specs.Values.{NodesState};
 
     ghost Value = { NodesState };
@@ -40,6 +44,8 @@ impl<S: NodeStore> Model for Nodes<S> {
     ghost coded = { Prim.hlevel (codes) };
 
     ghost view = { λ n. record { table = S.table n.store; room = S.room n.store } };
+
+    ghost invariant = { λ n. AreCounted n.most_lookups (S.table n.store) };
 }
 
 impl<S: NodeStore> Nodes<S> {
@@ -48,6 +54,7 @@ impl<S: NodeStore> Nodes<S> {
     {
         Nodes {
             store: S::new(alloc),
+            most_lookups: 0,
         }
     }
 
@@ -176,6 +183,17 @@ impl<S: NodeStore> Nodes<S> {
         !self.has(file) && !others.contains(&file)
     }
 
+    /// Whether any files that one reply names can be given nodes, whichever they are: there are generations for all of
+    /// them, and each node's lookups are so far from their end. No node is looked at.
+    pub(crate) fn can_give_any(&self) -> bool
+        ensures { result ≡ true → (files : List ℕ) → length files ≤ 32
+            → (generations_after self.now.table files ≤ 2 ^ 62) × (counts_out self.now.table files ≡ false) }
+    {
+        self.store.keeps_sound();
+        MOST_NAMES as u64 <= self.store.generations_left()
+            && self.most_lookups < COUNTER_END - MOST_NAMES as u64
+    }
+
     /// Whether some node's lookups come to the end of counters once each of these files is given its node once more.
     /// Only the nodes of these files are looked at.
     pub fn counts_out(&self, files: &[u64]) -> bool
@@ -254,6 +272,7 @@ impl<S: NodeStore> Nodes<S> {
         ensures table { self.new.table ≡ given self.old.table file result.0 }
     {
         self.store.keeps_sound();
+        self.most_lookups = self.most_lookups.saturating_add(1);
         self.store.give(file)
     }
 
@@ -266,6 +285,7 @@ impl<S: NodeStore> Nodes<S> {
         let Some(file) = self.store.file_of(id) else {
             return;
         };
+        self.most_lookups = self.most_lookups.saturating_add(1);
         self.store.give(file);
     }
 
@@ -296,6 +316,7 @@ impl<S: NodeStore> Nodes<S> {
         ensures { self.new.table ≡ record self.old.table { rows = [] } }
     {
         self.store.clear();
+        self.most_lookups = 0;
     }
 
     /// The nodes but the root, in rising nodeid, each with its generation and its lookup count.

@@ -1,6 +1,6 @@
 //! Whether the counters have the numbers that a held request draws.
 
-ghost use Rattle.std.specs.Prelude.{◌≡◌, ◌≤◌, ◌<◌, ◌+◌, ◌^◌, ◌⊎◌, true, false, nat_le};
+ghost use Rattle.std.specs.Prelude.{◌≡◌, ◌≤◌, ◌<◌, ◌+◌, ◌^◌, ◌⊎◌, ℕ, List, true, false, length, nat_le};
 ghost use Rattle.fuse_spec.specs.Kernel.Messages.{asks};
 ghost use Rattle.fuse_spec.specs.Server.Nodes.{counts_out};
 ghost use Rattle.fuse_spec.specs.declared.Minor.{Minor as MinorValue};
@@ -29,10 +29,27 @@ impl<S: NodeStore> Files<S> {
             → LacksNumber (tree_said (server_at m self.now v) held.now) self.now.nodes self.now.handles is_lost
             (said (server_at m self.now v) held.now) }
     {
+        if self.has_numbers_for_any() {
+            return true;
+        }
         let plan = self.plan_for(held);
         plan.births <= self.tree.births_left()
             && plan.serials <= self.tree.serials_left()
             && (is_lost || (self.can_give_nodes(&plan.files) && self.can_open(plan.opens)))
+    }
+
+    /// Whether each counter has as many numbers left as any request draws, so that none need be planned.
+    fn has_numbers_for_any(&self) -> bool
+        ensures births { result ≡ true → self.now.tree.next_birth < 2 ^ 62 }
+        ensures serials { result ≡ true → self.now.tree.next_serial < 2 ^ 62 }
+        ensures numbers { result ≡ true → self.now.handles.next_fh < 2 ^ 62 }
+        ensures nodes { result ≡ true → (files : List ℕ) → length files ≤ 32
+            → (generations_after self.now.nodes files ≤ 2 ^ 62) × (counts_out self.now.nodes files ≡ false) }
+    {
+        self.tree.births_left() > 0
+            && self.tree.serials_left() > 0
+            && self.known.handles.numbers_left() > 0
+            && self.known.nodes.can_give_any()
     }
 
     /// What performing a held request draws.
