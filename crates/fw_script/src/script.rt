@@ -20,6 +20,7 @@ use fw_world::{Call, Event, Lists, Maps, Record, Session, Tables, WorldOf};
 use std::alloc::{Allocator, Global};
 use std::io;
 use std::io::{ErrorKind, Read, Write};
+use std::slice::from_ref;
 
 /// The most records that one event comes to: its own, one of a lost link, and an answer for each
 /// of 64 calls.
@@ -46,7 +47,7 @@ fn frame_put<A: Allocator + Copy, M: Machine<A>>(machine: &M, hex: bool) -> Opti
 /// Runs one event, and writes what it came to.
 fn run_event<A: Allocator + Copy, M: Machine<A>, W: Write>(
     machine: &mut M,
-    event: Event<'_>,
+    event: &Event<'_>,
     records: &mut Vec<Record<A>, A>,
     hex: bool,
     out: &mut W,
@@ -54,7 +55,7 @@ fn run_event<A: Allocator + Copy, M: Machine<A>, W: Write>(
     ensures { IfErr result (λ stop. status_of stop ≢ 1) }
 {
     records.clear();
-    if machine.run(&[event], records).is_err() {
+    if machine.run(from_ref(event), records).is_err() {
         return Err(Stop::NoMemory);
     }
     let frame = frame_put(machine, hex);
@@ -147,15 +148,15 @@ fn run_line<A: Allocator + Copy, M: Machine<A>, W: Write>(
     requires { IsWritten line.now }
     ensures { IfErr result (λ stop. status_of stop ≢ 1) }
 {
-    match *line {
+    match line {
         Line::Event(event) => run_event(machine, event, &mut room.records, hex, out),
         Line::CallWrite {
             handle,
             offset,
             hex: bytes,
         } => {
-            let event = event_of_write(&mut room.bytes, handle, offset, bytes)?;
-            run_event(machine, event, &mut room.records, hex, out)
+            let event = event_of_write(&mut room.bytes, *handle, *offset, bytes)?;
+            run_event(machine, &event, &mut room.records, hex, out)
         }
         Line::Show => show(machine, out),
     }
