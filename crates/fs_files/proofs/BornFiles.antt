@@ -14,8 +14,8 @@ use Rattle.fuse_spec.specs.Files.Trees.{Tree, Named, a_directory, a_file, bytes_
 use Rattle.fuse_spec.specs.Files.TreeShape.{IsShaped, Stands}
 use Rattle.fuse_spec.specs.Files.FileOperations.{looked_up, refusal, reply_unrefused}
 use Rattle.fs_tree.proofs.Counting.{found_there}
-use Rattle.fs_files.specs.declared.replies.Outcome.TheVariants.{Found, Created, Opened, Plain}
-use Rattle.fs_files.specs.declared.replies.PlainReply.TheVariants.{Content}
+use Rattle.fs_files.specs.declared.replies.Outcome.TheVariants.{Found, Created, Opened, Said}
+use Rattle.fuse_frames.specs.declared.reply.Reply.TheVariants as said
 use Rattle.fs_files.specs.Bounds.{AreLow, IsThere}
 use Rattle.fs_files.specs.Performing.{Operates}
 use Rattle.fs_files.proofs.StaysKnown.{put_regular, put_there, regular_file}
@@ -84,11 +84,11 @@ bytes_in reply = []
 
 pub reads_bytes : {A : Type 0} (valid : Validity) (tree : Tree) (file offset size : ℕ) (bytes : Vec ℕ A)
     (read_now : List ℕ) → bytes.items ≡ read_now → reply_unrefused valid tree (read file offset size) ≡ content read_now
-    → Operates valid tree (read file offset size) (Plain (Content bytes)) tree
+    → Operates valid tree (read file offset size) (Said (said.Content bytes)) tree
 reads_bytes valid tree file offset size bytes read_now same is = record {
   says = ap content same ∙ sym is;
   tree_is = refl;
-  repliable = few;
+  repliable = (tt, few);
   short = few;
 }
   where

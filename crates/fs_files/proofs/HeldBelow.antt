@@ -16,8 +16,8 @@ use Rattle.fs_files.specs.Bounds.{AreHeldBelow}
 use Rattle.fs_files.specs.Listed.{names_in, pair_listed}
 use Rattle.fs_files.specs.Replies.{IsRepliable, outcome_reply}
 use Rattle.fs_files.specs.declared.replies.Outcome.{Outcome}
-use Rattle.fs_files.specs.declared.replies.Outcome.TheVariants.{Found, Created, Opened, ListedPlus, Plain}
-use Rattle.fs_files.specs.declared.replies.PlainReply.TheVariants.{Missing, Attributes, Listed, Content, Written, Agreed, Done, Failed}
+use Rattle.fs_files.specs.declared.replies.Outcome.TheVariants.{Found, Created, Opened, ListedPlus, Said}
+use Rattle.fuse_frames.specs.declared.reply.Reply.TheVariants as said
 use Rattle.fs_files.proofs.Bounds.{each_put}
 
 -- A node has fewer lookups than the end of counters once these files are given their nodes.
@@ -99,11 +99,15 @@ few_given tree ms (Created file) repliable = omega arith
 few_given tree ms (Opened file) repliable = omega arith
 few_given tree ms (ListedPlus records) repliable = let most = repliable.1 in let few =
     few_files ms (names_in records.items) in omega (arith, most, few)
-few_given tree ms (Plain (Missing missing_ms)) repliable = omega arith
-few_given tree ms (Plain (Attributes attributes)) repliable = omega arith
-few_given tree ms (Plain (Listed records)) repliable = omega arith
-few_given tree ms (Plain (Content bytes)) repliable = omega arith
-few_given tree ms (Plain (Written size)) repliable = omega arith
-few_given tree ms (Plain (Agreed minor flags)) repliable = omega arith
-few_given tree ms (Plain Done) repliable = omega arith
-few_given tree ms (Plain (Failed errno)) repliable = omega arith
+few_given tree ms (Said (said.Found entry valid)) repliable = absurd repliable.0
+few_given tree ms (Said (said.Missing valid)) repliable = omega arith
+few_given tree ms (Said (said.Created entry valid fh)) repliable = absurd repliable.0
+few_given tree ms (Said (said.Opened fh)) repliable = absurd repliable.0
+few_given tree ms (Said (said.Attributes attributes)) repliable = omega arith
+few_given tree ms (Said (said.Listed records)) repliable = omega arith
+few_given tree ms (Said (said.ListedPlus names)) repliable = absurd repliable.0
+few_given tree ms (Said (said.Content bytes)) repliable = omega arith
+few_given tree ms (Said (said.Written size)) repliable = omega arith
+few_given tree ms (Said (said.Agreed major minor flags)) repliable = omega arith
+few_given tree ms (Said said.Done) repliable = omega arith
+few_given tree ms (Said (said.Failed errno)) repliable = omega arith

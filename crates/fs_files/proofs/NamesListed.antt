@@ -14,8 +14,8 @@ use Rattle.fs_files.specs.Listing.{Lists, listing, record_of}
 use Rattle.fs_files.specs.Listed.{names_in}
 use Rattle.fs_files.specs.Performing.{Operates}
 use Rattle.fs_files.specs.Replies.{IsListable}
-use Rattle.fs_files.specs.declared.replies.Outcome.TheVariants.{ListedPlus, Plain}
-use Rattle.fs_files.specs.declared.replies.PlainReply.TheVariants.{Listed}
+use Rattle.fs_files.specs.declared.replies.Outcome.TheVariants.{ListedPlus, Said}
+use Rattle.fuse_frames.specs.declared.reply.Reply.TheVariants as said
 use Rattle.fs_files.proofs.Listing.{few_bytes, listed_are, listed_same, low_records, names_are_records}
 use Rattle.fs_files.proofs.PairListing.{few_pairs, listable_records, low_listed, pairs_are, pairs_same}
 
@@ -62,7 +62,7 @@ module _ (tree : Tree) (directory after size : ℕ) where
 
       -- what a READDIR comes to
       pub lists_names : (with_files : Bool) → with_files ≡ false → Lists with_files tree directory after size rs
-          → Operates {A = A} v tree (listing with_files directory after size) (Plain (Listed bytes)) tree
+          → Operates {A = A} v tree (listing with_files directory after size) (Said (said.Listed bytes)) tree
       lists_names false e says =
           let same : fitting room (records_after tree directory after) ≡ map dirent_of rs =
           listed_same _ _ (says v) in
@@ -71,7 +71,7 @@ module _ (tree : Tree) (directory after size : ℕ) where
           record {
             says = ap listed (listed_are rs bytes.items fits is) ∙ sym (says v);
             tree_is = refl;
-            repliable = (names_are_records rs bytes.items named fits is, few);
+            repliable = (tt, (names_are_records rs bytes.items named fits is, few));
             short = few;
           }
       lists_names true e says = absurd (true≢false e)

@@ -6,14 +6,13 @@ use Rattle.fuse_spec.specs.Server.Performs.{entry_for}
 use Rattle.fuse_spec.specs.declared.Entry.{Entry}
 use Rattle.fs_files.specs.Numbering.{GivesEntry, GivesNumbers}
 use Rattle.fs_files.specs.Values.{FilesState}
-use Rattle.fs_files.specs.Replies.{plain_reply}
-use Rattle.fs_files.specs.declared.replies.PlainReply.{PlainReply}
-use Rattle.fs_files.specs.declared.replies.PlainReply.TheVariants.{Missing, Attributes, Listed, Content, Written, Agreed, Done, Failed}
-use Rattle.fs_files.specs.declared.replies.SentReply.TheVariants.{Found, Created, Opened, Plain}
+use Rattle.fuse_frames.specs.declared.reply.Reply.TheVariants as said
+use Rattle.fs_files.specs.Replies.{NamesNothing, SentReply, outcome_reply}
+use Rattle.fs_files.specs.declared.replies.Outcome.TheVariants.{Said}
 
 pub gives_found : {A : Type 0} (one two : FilesState) (file ms : ℕ) (entry : Entry)
     → GivesEntry one.tree one.nodes file two.nodes entry → two.tree ≡ one.tree → two.handles ≡ one.handles
-    → GivesNumbers {A = A} one (operation.found file ms) (Found entry ms) two
+    → GivesNumbers {A = A} one (operation.found file ms) (said.Found entry ms) two
 gives_found one two file ms entry g tree handles = record {
   choice = λ n. g.id;
   may = (g.may, tt);
@@ -27,7 +26,7 @@ pub gives_created : {A : Type 0} (one mid two : FilesState) (file ms : ℕ) (ent
     → GivesEntry one.tree one.nodes file mid.nodes entry → mid.tree ≡ one.tree → mid.handles ≡ one.handles
     → fh ≡ mid.handles.next_fh → two.tree ≡ mid.tree → two.nodes ≡ mid.nodes
     → two.handles ≡ handle_opened mid.handles file → GivesNumbers {A = A} one (operation.created file ms file)
-    (Created entry ms fh) two
+    (said.Created entry ms fh) two
 gives_created one mid two file ms entry fh g tree handles fh_is tree_two nodes_two handles_two = record {
   choice = λ n. g.id;
   may = (g.may, tt);
@@ -40,7 +39,7 @@ gives_created one mid two file ms entry fh g tree handles fh_is tree_two nodes_t
 
 pub gives_opened : {A : Type 0} (one two : FilesState) (file fh : ℕ) → fh ≡ one.handles.next_fh → two.tree ≡ one.tree
     → two.nodes ≡ one.nodes → two.handles ≡ handle_opened one.handles file
-    → GivesNumbers {A = A} one (operation.opened file) (Opened fh) two
+    → GivesNumbers {A = A} one (operation.opened file) (said.Opened fh) two
 gives_opened one two file fh fh_is tree nodes handles = record {
   choice = λ n. n;
   may = tt;
@@ -50,9 +49,11 @@ gives_opened one two file fh fh_is tree nodes handles = record {
   wire_is = ap (λ (n : ℕ). operation.opened n) fh_is;
 }
 
-pub gives_plain : {A : Type 0} (one : FilesState) (reply : PlainReply A)
-    → GivesNumbers {A = A} one (plain_reply reply) (Plain reply) one
-gives_plain one (Missing missing_ms) = record {
+-- nothing is given for a reply that names nothing
+pub gives_said : {A : Type 0} (one : FilesState) (ms : ℕ) (reply : SentReply A) → NamesNothing reply
+    → GivesNumbers {A = A} one (outcome_reply ms (Said reply)) reply one
+gives_said one ms (said.Found entry valid) nothing = absurd nothing
+gives_said one ms (said.Missing valid) nothing = record {
   choice = λ n. n;
   may = tt;
   tree_is = refl;
@@ -60,7 +61,9 @@ gives_plain one (Missing missing_ms) = record {
   handles_is = refl;
   wire_is = refl;
 }
-gives_plain one (Attributes attributes) = record {
+gives_said one ms (said.Created entry valid fh) nothing = absurd nothing
+gives_said one ms (said.Opened fh) nothing = absurd nothing
+gives_said one ms (said.Attributes attributes) nothing = record {
   choice = λ n. n;
   may = tt;
   tree_is = refl;
@@ -68,7 +71,7 @@ gives_plain one (Attributes attributes) = record {
   handles_is = refl;
   wire_is = refl;
 }
-gives_plain one (Listed records) = record {
+gives_said one ms (said.Listed records) nothing = record {
   choice = λ n. n;
   may = tt;
   tree_is = refl;
@@ -76,7 +79,8 @@ gives_plain one (Listed records) = record {
   handles_is = refl;
   wire_is = refl;
 }
-gives_plain one (Content bytes) = record {
+gives_said one ms (said.ListedPlus names) nothing = absurd nothing
+gives_said one ms (said.Content bytes) nothing = record {
   choice = λ n. n;
   may = tt;
   tree_is = refl;
@@ -84,7 +88,7 @@ gives_plain one (Content bytes) = record {
   handles_is = refl;
   wire_is = refl;
 }
-gives_plain one (Written size) = record {
+gives_said one ms (said.Written size) nothing = record {
   choice = λ n. n;
   may = tt;
   tree_is = refl;
@@ -92,7 +96,7 @@ gives_plain one (Written size) = record {
   handles_is = refl;
   wire_is = refl;
 }
-gives_plain one (Agreed minor flags) = record {
+gives_said one ms (said.Agreed major minor flags) nothing = record {
   choice = λ n. n;
   may = tt;
   tree_is = refl;
@@ -100,7 +104,7 @@ gives_plain one (Agreed minor flags) = record {
   handles_is = refl;
   wire_is = refl;
 }
-gives_plain one Done = record {
+gives_said one ms said.Done nothing = record {
   choice = λ n. n;
   may = tt;
   tree_is = refl;
@@ -108,7 +112,7 @@ gives_plain one Done = record {
   handles_is = refl;
   wire_is = refl;
 }
-gives_plain one (Failed errno) = record {
+gives_said one ms (said.Failed errno) nothing = record {
   choice = λ n. n;
   may = tt;
   tree_is = refl;

@@ -14,7 +14,7 @@ use Rattle.fs_files.specs.Listed.{dirents_in, listed_pairs, names_in, pair_liste
 use Rattle.fs_files.specs.Numbering.{GivesNumbers, entries_named, entry_named}
 use Rattle.fs_files.specs.Values.{FilesState}
 use Rattle.fs_files.specs.declared.listed_names.ListedNames.{ListedNames}
-use Rattle.fs_files.specs.declared.replies.SentReply.TheVariants.{ListedPlus}
+use Rattle.fuse_frames.specs.declared.reply.Reply.TheVariants.{ListedPlus}
 use Rattle.fs_files.proofs.GivenEach.{all_each, may_each, no_zero}
 
 module _ (tree : Tree) (nodes : NodeTable) (sound : IsSound nodes) where

@@ -7,8 +7,7 @@ use Rattle.fuse_spec.specs.Files.Trees.{Tree}
 use Rattle.fuse_spec.specs.declared.Entry.{Entry}
 use Rattle.fs_files.specs.Giving.{node_in}
 use Rattle.fs_files.specs.Values.{FilesState}
-use Rattle.fs_files.specs.Replies.{sent_wire}
-use Rattle.fs_files.specs.declared.replies.SentReply.{SentReply}
+use Rattle.fs_files.specs.Replies.{SentReply, sent_wire}
 
 -- A file is given its node, which stands in this entry, with these nodes after it.
 pub record GivesEntry (tree : Tree) (nodes : NodeTable) (file : ℕ) (new : NodeTable) (entry : Entry) : Type 0 where

@@ -15,8 +15,9 @@ use crate::held::{HeldBody, HeldOperation, HeldRequest, Named};
 use crate::nodes::Nodes;
 use crate::operating::operate;
 use crate::refusing::refusal_of;
-use crate::replies::{Outcome, PlainReply};
+use crate::replies::{Outcome, agreement};
 use fs_nodes::NodeStore;
+use fuse_frames::Reply;
 use fuse_spec::errno::{EBADF, EINTR, EIO};
 use fuse_spec::{Minor, Opened, Operation, Validity};
 use std::alloc::{AllocError, Allocator};
@@ -51,11 +52,8 @@ impl<S: NodeStore> Files<S> {
             return Ok(failure(EIO));
         }
         match held.body() {
-            HeldBody::Init { flags } => Ok(Outcome::Plain {
-                reply: PlainReply::Agreed {
-                    minor,
-                    flags: *flags,
-                },
+            HeldBody::Init { flags } => Ok(Outcome::Said {
+                reply: agreement(minor, *flags),
             }),
             HeldBody::Asks { operation } => self.ask(operation, validity),
             HeldBody::Release { opened } => Ok(self.release(*opened)),
@@ -136,9 +134,7 @@ impl<S: NodeStore> Files<S> {
             return failure(EBADF);
         }
         self.known.handles.take_back(opened.fh);
-        Outcome::Plain {
-            reply: PlainReply::Done,
-        }
+        Outcome::Said { reply: Reply::Done }
     }
 }
 
@@ -155,9 +151,9 @@ pub(crate) fn are_held<S: NodeStore>(nodes: &Nodes<S>, named: Named) -> bool
 
 /// An error, from 1 to 511, in place of an outcome.
 fn failure<A: Allocator>(errno: u32) -> Outcome<A>
-    ensures { result ≡ Outcome.Plain (PlainReply.Failed errno) }
+    ensures { result ≡ Outcome.Said (Reply.Failed errno) }
 {
-    Outcome::Plain {
-        reply: PlainReply::Failed { errno },
+    Outcome::Said {
+        reply: Reply::Failed { errno },
     }
 }

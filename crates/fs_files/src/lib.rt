@@ -26,5 +26,7 @@ pub use listed_names::ListedNames;
 pub use nodes::Nodes;
 pub use operation_nodes::{body_node, header_node};
 pub use owning::owned;
-pub use replies::{Outcome, PlainReply, SentReply};
+pub use replies::{
+    Outcome, SentReply, body_len, copied, errno, file_entries, framed, name_count, opened,
+};
 pub use spare::ReplySpare;

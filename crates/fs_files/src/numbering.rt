@@ -21,6 +21,7 @@ use crate::spare::ReplySpare;
 use fk_wire::Records;
 use fs_nodes::NodeStore;
 use fs_tree::is_dots;
+use fuse_frames::Reply;
 use fuse_spec::Entry;
 use std::alloc::Allocator;
 
@@ -50,25 +51,25 @@ impl<S: NodeStore> Files<S> {
     {
         self.keeps_sound();
         match outcome {
-            Outcome::Found { file } => SentReply::Found {
-                entry: self.give(file),
-                found_ms,
+            Outcome::Found { file } => Reply::Found {
+                file: self.give(file),
+                valid_ms: found_ms,
             },
             Outcome::Created { file } => {
                 let entry = self.give(file);
-                SentReply::Created {
-                    entry,
-                    found_ms,
+                Reply::Created {
+                    file: entry,
+                    valid_ms: found_ms,
                     fh: self.open(file),
                 }
             }
-            Outcome::Opened { file } => SentReply::Opened {
+            Outcome::Opened { file } => Reply::Opened {
                 fh: self.open(file),
             },
-            Outcome::ListedPlus { records } => SentReply::ListedPlus {
-                listing: self.list(records, found_ms, spare),
-            },
-            Outcome::Plain { reply } => SentReply::Plain { reply },
+            Outcome::ListedPlus { records } => {
+                Reply::ListedPlus(self.list(records, found_ms, spare))
+            }
+            Outcome::Said { reply } => reply,
         }
     }
 

@@ -15,9 +15,10 @@ use crate::held::HeldOperation;
 use crate::nodes::Nodes;
 use crate::operation_nodes::header_node;
 use crate::records::record_bytes;
-use crate::replies::{Outcome, PlainReply};
+use crate::replies::Outcome;
 use fs_nodes::NodeStore;
 use fs_tree::{Record, Tree, TreeError};
+use fuse_frames::Reply;
 use fuse_spec::{Operation, Validity};
 use std::alloc::{AllocError, Allocator};
 
@@ -84,9 +85,9 @@ fn look_up<A: Allocator + Copy>(
     };
     match found {
         Some(file) => Outcome::Found { file },
-        None => Outcome::Plain {
-            reply: PlainReply::Missing {
-                missing_ms: validity.missing_ms,
+        None => Outcome::Said {
+            reply: Reply::Missing {
+                valid_ms: validity.missing_ms,
             },
         },
     }
@@ -98,8 +99,8 @@ fn attributes<A: Allocator + Copy>(tree: &Tree<A>, file: u64) -> Outcome<A>
     ensures { (v : ValidityValue) → Operates v tree.now (getattr file) result tree.now }
 {
     let attributes = tree.getattr(file);
-    Outcome::Plain {
-        reply: PlainReply::Attributes { attributes },
+    Outcome::Said {
+        reply: Reply::Attributes(attributes),
     }
 }
 
@@ -229,8 +230,8 @@ fn list<A: Allocator + Copy>(
     if with_files {
         return Ok(Outcome::ListedPlus { records });
     }
-    Ok(Outcome::Plain {
-        reply: PlainReply::Listed { records },
+    Ok(Outcome::Said {
+        reply: Reply::Listed(records),
     })
 }
 
@@ -262,8 +263,8 @@ fn read_bytes<A: Allocator + Copy>(
         → Operates v tree.now (read file offset size) outcome tree.now) }
 {
     let bytes = tree.read(file, offset, size).to_vec(alloc)?;
-    Ok(Outcome::Plain {
-        reply: PlainReply::Content { bytes },
+    Ok(Outcome::Said {
+        reply: Reply::Content(bytes),
     })
 }
 
@@ -280,8 +281,8 @@ fn write_bytes<A: Allocator + Copy>(
     ensures err { OnErr result (tree.new ≡ tree.old) }
 {
     match tree.write(file, offset, bytes) {
-        Ok(()) => Ok(Outcome::Plain {
-            reply: PlainReply::Written {
+        Ok(()) => Ok(Outcome::Said {
+            reply: Reply::Written {
                 size: bytes.len() as u32,
             },
         }),
@@ -291,9 +292,7 @@ fn write_bytes<A: Allocator + Copy>(
 
 /// The outcome of an operation with no more to say.
 fn done<A: Allocator>() -> Outcome<A>
-    ensures { result ≡ Outcome.Plain PlainReply.Done }
+    ensures { result ≡ Outcome.Said Reply.Done }
 {
-    Outcome::Plain {
-        reply: PlainReply::Done,
-    }
+    Outcome::Said { reply: Reply::Done }
 }

@@ -1,35 +1,31 @@
 //! What performing a request comes to, and what is replied.
 
 ghost use Rattle.std.specs.Prelude.{◌≡◌, ◌≤◌, ◌+◌, [], length, map, vec_capacity};
+ghost use Rattle.std.specs.Int.RustNames.{bit_and};
+ghost use Rattle.fk_wire.specs.Requests.{known_flags};
 ghost use Rattle.fuse_spec.specs.Values.Numbers.{max_transfer};
 ghost use Rattle.fuse_spec.specs.Files.Operations as reply;
+ghost use Rattle.fuse_spec.specs.Files.Operations.{errno_of, files_in_reply};
+ghost use Rattle.fuse_spec.specs.Server.Performs.{init_reply, minor_number};
+ghost use Rattle.fuse_spec.specs.declared.Minor.{Minor as MinorValue};
 ghost use Rattle.fuse_frames.specs.ReplyTies.{dirent_in};
 ghost use Rattle.fs_files.specs.Listed.{AreRecordBytes, dirents_in};
+ghost use Rattle.fs_files.specs.Replies.{opened_in, sent_len, sent_names, sent_wire, HasSpare, NamesNothing, IsSendable};
 
 use crate::listed_names::ListedNames;
 use crate::spare::ReplySpare;
+use bitflags::Flags;
 use fk_wire::{InitFlags, Records};
-use fuse_frames::{ReplyFrame, ReplyRoom};
-use fuse_spec::{Attributes, Entry, Minor};
+use fuse_frames::{Reply, ReplyFrame, ReplyRoom};
+use fuse_spec::{Entry, Minor};
 use std::alloc::Allocator;
 use std::slice::from_ref;
 
-/// A reply that names no file and no open number.
-#[derive(Drop)]
-pub enum PlainReply<A: Allocator> {
-    Missing { missing_ms: u64 },
-    Attributes { attributes: Attributes },
-    /// Records, as their frame has them.
-    Listed { records: Vec<u8, A> },
-    Content { bytes: Vec<u8, A> },
-    Written { size: u32 },
-    /// To INIT: the minor that is spoken, and the flags that were offered; those that it knows are taken up.
-    Agreed { minor: Minor, flags: InitFlags },
-    Done,
-    Failed { errno: u32 },
-}
+/// What is sent as a reply: the names of a list are bytes of records, as their frame has them.
+pub type SentReply<A> = Reply<Entry, Vec<u8, A>, ListedNames<A>, Vec<u8, A>>;
 
-/// What performing a request comes to: a reply, or a file that is to be given a node, an open number, or both.
+/// What performing a request comes to: files that are to be given nodes, an open number, or both, or a reply that names
+/// no file and no open number.
 #[derive(Drop)]
 pub enum Outcome<A: Allocator> {
     Found { file: u64 },
@@ -37,93 +33,163 @@ pub enum Outcome<A: Allocator> {
     Opened { file: u64 },
     /// Records, as their frame has them: each is of the file of its inode number.
     ListedPlus { records: Vec<u8, A> },
-    Plain { reply: PlainReply<A> },
+    Said { reply: SentReply<A> },
 }
 
-/// What is sent as a reply.
-#[derive(Drop)]
-pub enum SentReply<A: Allocator> {
-    Found {
-        entry: Entry,
-        found_ms: u64,
-    },
-    Created {
-        entry: Entry,
-        found_ms: u64,
-        fh: u64,
-    },
-    Opened {
-        fh: u64,
-    },
-    ListedPlus {
-        listing: ListedNames<A>,
-    },
-    Plain {
-        reply: PlainReply<A>,
-    },
-}
-
-impl<A: Allocator> PlainReply<A> {
-    ghost use Rattle.std.specs.Prelude.{◌≡◌, ◌≤◌, ◌+◌, [], vec_capacity};
-    ghost use Rattle.fs_files.specs.Replies.{content_len, plain_errno, plain_wire, IsPlainSendable};
+impl<A: Allocator> Outcome<A> {
+    ghost use Rattle.std.specs.Prelude.{◌≡◌};
+    ghost use Rattle.fs_files.specs.Replies.{outcome_errno};
 
     /// Its error as a positive number, or 0.
-    fn errno(&self) -> u32
-        ensures { result ≡ plain_errno self.now }
+    pub fn errno(&self) -> u32
+        ensures { result ≡ outcome_errno self.now }
     {
         match self {
-            PlainReply::Failed { errno } => *errno,
+            Outcome::Said { reply } => errno(reply),
             _ => 0,
         }
     }
+}
 
-    /// The same reply once more. Its bytes go into an empty vector that has room for them.
-    fn copied(&self, spare: Vec<u8, A>) -> PlainReply<A>
-        requires empty { spare.items ≡ [] }
-        requires room { content_len self.now ≤ vec_capacity spare }
-        ensures wire { plain_wire result ≡ plain_wire self.now }
-        ensures sendable { IsPlainSendable self.now → IsPlainSendable result }
-    {
-        match self {
-            PlainReply::Missing { missing_ms } => PlainReply::Missing {
-                missing_ms: *missing_ms,
-            },
-            PlainReply::Attributes { attributes } => PlainReply::Attributes {
-                attributes: *attributes,
-            },
-            PlainReply::Listed { records } => PlainReply::Listed {
-                records: with_bytes(spare, records),
-            },
-            PlainReply::Content { bytes } => PlainReply::Content {
-                bytes: with_bytes(spare, bytes),
-            },
-            PlainReply::Written { size } => PlainReply::Written { size: *size },
-            PlainReply::Agreed { minor, flags } => PlainReply::Agreed {
-                minor: *minor,
-                flags: *flags,
-            },
-            PlainReply::Done => PlainReply::Done,
-            PlainReply::Failed { errno } => PlainReply::Failed { errno: *errno },
-        }
+/// The error of a reply as a positive number, or 0.
+pub fn errno<A: Allocator>(reply: &SentReply<A>) -> u32
+    ensures { result ≡ errno_of (sent_wire reply.now) }
+{
+    match reply {
+        Reply::Failed { errno } => *errno,
+        _ => 0,
     }
+}
 
-    /// Its frame.
-    fn framed(&self, room: ReplyRoom<A>, unique: u64) -> ReplyFrame<A>
-        requires sendable { IsPlainSendable self.now }
-        requires room { 16 + content_len self.now ≤ room }
-        ensures { result ≡ record { unique = unique; wire = plain_wire self.now } }
-    {
-        match self {
-            PlainReply::Missing { missing_ms } => room.missing(unique, *missing_ms),
-            PlainReply::Attributes { attributes } => room.attributes(unique, attributes),
-            PlainReply::Listed { records } => listed(records, room, unique),
-            PlainReply::Content { bytes } => room.content(unique, bytes),
-            PlainReply::Written { size } => room.written(unique, *size),
-            PlainReply::Agreed { minor, flags } => room.agreed(unique, *minor, *flags),
-            PlainReply::Done => room.done(unique),
-            PlainReply::Failed { errno } => room.failed(unique, *errno),
-        }
+/// The entries of the files that a reply names, in order.
+pub fn file_entries<A: Allocator>(reply: &SentReply<A>) -> &[Entry]
+    ensures { result.now ≡ files_in_reply (sent_wire reply.now) }
+{
+    match reply {
+        Reply::Found { file, .. } | Reply::Created { file, .. } => from_ref(file),
+        Reply::ListedPlus(names) => names.file_entries(),
+        _ => &[],
     }
+}
+
+/// How many names a reply lists together with their files.
+pub fn name_count<A: Allocator>(reply: &SentReply<A>) -> usize
+    ensures { result ≡ sent_names reply.now }
+{
+    match reply {
+        Reply::ListedPlus(names) => names.names(),
+        _ => 0,
+    }
+}
+
+/// The open number that a reply carries.
+pub fn opened<A: Allocator>(reply: &SentReply<A>) -> Option<u64>
+    ensures { result ≡ opened_in reply.now }
+{
+    match reply {
+        Reply::Created { fh, .. } | Reply::Opened { fh } => Some(*fh),
+        _ => None,
+    }
+}
+
+/// How long the body of a reply is, if that is of no fixed length.
+pub fn body_len<A: Allocator>(reply: &SentReply<A>) -> usize
+    ensures { result ≡ sent_len reply.now }
+{
+    match reply {
+        Reply::Listed(bytes) | Reply::Content(bytes) => bytes.len(),
+        Reply::ListedPlus(names) => names.len(),
+        _ => 0,
+    }
+}
+
+/// The same reply once more, in room that is there.
+pub fn copied<A: Allocator>(reply: &SentReply<A>, spare: ReplySpare<A>) -> SentReply<A>
+    requires { HasSpare spare (sent_len reply.now) (sent_names reply.now) }
+    ensures wire { sent_wire result ≡ sent_wire reply.now }
+    ensures sendable { IsSendable reply.now → IsSendable result }
+{
+    match reply {
+        Reply::Found { file, valid_ms } => Reply::Found {
+            file: *file,
+            valid_ms: *valid_ms,
+        },
+        Reply::Missing { valid_ms } => Reply::Missing {
+            valid_ms: *valid_ms,
+        },
+        Reply::Created { file, valid_ms, fh } => Reply::Created {
+            file: *file,
+            valid_ms: *valid_ms,
+            fh: *fh,
+        },
+        Reply::Opened { fh } => Reply::Opened { fh: *fh },
+        Reply::Attributes(attributes) => Reply::Attributes(*attributes),
+        Reply::Listed(records) => Reply::Listed(with_bytes(spare.bytes, records)),
+        Reply::ListedPlus(names) => Reply::ListedPlus(names.copied(spare)),
+        Reply::Content(bytes) => Reply::Content(with_bytes(spare.bytes, bytes)),
+        Reply::Written { size } => Reply::Written { size: *size },
+        Reply::Agreed {
+            major,
+            minor,
+            flags,
+        } => Reply::Agreed {
+            major: *major,
+            minor: *minor,
+            flags: *flags,
+        },
+        Reply::Done => Reply::Done,
+        Reply::Failed { errno } => Reply::Failed { errno: *errno },
+    }
+}
+
+/// The frame of a reply.
+pub fn framed<A: Allocator>(reply: &SentReply<A>, room: ReplyRoom<A>, unique: u64) -> ReplyFrame<A>
+    requires sendable { IsSendable reply.now }
+    requires room { 16 + sent_len reply.now ≤ room }
+    ensures { result ≡ record { unique = unique; wire = sent_wire reply.now } }
+{
+    match reply {
+        Reply::Found { file, valid_ms } => room.found(unique, file, *valid_ms),
+        Reply::Missing { valid_ms } => room.missing(unique, *valid_ms),
+        Reply::Created { file, valid_ms, fh } => room.created(unique, file, *valid_ms, *fh),
+        Reply::Opened { fh } => room.opened(unique, *fh),
+        Reply::Attributes(attributes) => room.attributes(unique, attributes),
+        Reply::Listed(records) => listed(records, room, unique),
+        Reply::ListedPlus(names) => names.framed(room, unique),
+        Reply::Content(bytes) => room.content(unique, bytes),
+        Reply::Written { size } => room.written(unique, *size),
+        Reply::Agreed { minor, flags, .. } => room.agreed(unique, minor_of(*minor), *flags),
+        Reply::Done => room.done(unique),
+        Reply::Failed { errno } => room.failed(unique, *errno),
+    }
+}
+
+/// What is agreed on at INIT: the minor that is spoken, and those of the offered flags that it knows.
+#[tactic(auto, using(fuse_frames::proofs::Agreements::known_again, fuse_frames::proofs::Agreements::read_alone))]
+pub(crate) fn agreement<A: Allocator>(minor: Minor, offered: InitFlags) -> SentReply<A>
+    ensures wire { sent_wire result ≡ init_reply minor (bit_and offered.0 known_flags) }
+    ensures sendable { IsSendable result }
+    ensures names { NamesNothing result }
+{
+    match minor {
+        Minor::M15 => Reply::Agreed {
+            major: 7,
+            minor: 15,
+            flags: offered.intersection(InitFlags::ASYNC_READ),
+        },
+        Minor::M31 => Reply::Agreed {
+            major: 7,
+            minor: 31,
+            flags: offered,
+        },
+    }
+}
+
+/// The minor that has this number, which is 15 or 31.
+fn minor_of(number: u32) -> Minor
+    ensures { (minor : MinorValue) → number ≡ minor_number minor → result ≡ minor }
+{
+    if number == 15 { Minor::M15 } else { Minor::M31 }
 }
 
 /// An empty vector with these bytes, for which it has room.
@@ -145,128 +211,4 @@ fn listed<A: Allocator>(records: &[u8], room: ReplyRoom<A>, unique: u64) -> Repl
     ensures { result ≡ record { unique = unique; wire = reply.listed (map dirent_in (dirents_in records.now)) } }
 {
     room.listed(unique, Records::over(records).unwrap())
-}
-
-impl<A: Allocator> Outcome<A> {
-    ghost use Rattle.std.specs.Prelude.{◌≡◌};
-    ghost use Rattle.fs_files.specs.Replies.{outcome_errno};
-
-    /// Its error as a positive number, or 0.
-    pub fn errno(&self) -> u32
-        ensures { result ≡ outcome_errno self.now }
-    {
-        match self {
-            Outcome::Plain { reply } => reply.errno(),
-            _ => 0,
-        }
-    }
-}
-
-impl<A: Allocator> SentReply<A> {
-    ghost use Rattle.std.specs.Prelude.{◌≡◌, ◌≤◌, ◌+◌, [], vec_capacity};
-    ghost use Rattle.fuse_spec.specs.Files.Operations.{errno_of, files_in_reply};
-    ghost use Rattle.fs_files.specs.Replies.{sent_len, sent_names, sent_wire, opened_in, HasSpare, IsSendable};
-
-    /// Its error as a positive number, or 0.
-    pub fn errno(&self) -> u32
-        ensures { result ≡ errno_of (sent_wire self.now) }
-    {
-        match self {
-            SentReply::Plain { reply } => reply.errno(),
-            _ => 0,
-        }
-    }
-
-    /// The entries of the files that it names, in order.
-    pub fn file_entries(&self) -> &[Entry]
-        ensures { result.now ≡ files_in_reply (sent_wire self.now) }
-    {
-        match self {
-            SentReply::Found { entry, .. } | SentReply::Created { entry, .. } => from_ref(entry),
-            SentReply::ListedPlus { listing } => listing.file_entries(),
-            _ => &[],
-        }
-    }
-
-    /// How many names it lists together with their files.
-    pub fn names(&self) -> usize
-        ensures { result ≡ sent_names self.now }
-    {
-        match self {
-            SentReply::ListedPlus { listing } => listing.names(),
-            _ => 0,
-        }
-    }
-
-    /// The open number that it carries.
-    pub fn opened(&self) -> Option<u64>
-        ensures { result ≡ opened_in self.now }
-    {
-        match self {
-            SentReply::Created { fh, .. } | SentReply::Opened { fh } => Some(*fh),
-            _ => None,
-        }
-    }
-
-    /// How long its body is, if that is of no fixed length.
-    pub fn len(&self) -> usize
-        ensures { result ≡ sent_len self.now }
-    {
-        match self {
-            SentReply::Plain {
-                reply: PlainReply::Listed { records: bytes } | PlainReply::Content { bytes },
-            } => bytes.len(),
-            SentReply::ListedPlus { listing } => listing.len(),
-            _ => 0,
-        }
-    }
-
-    /// The same reply once more, in room that is there.
-    pub fn copied(&self, spare: ReplySpare<A>) -> SentReply<A>
-        requires { HasSpare spare (sent_len self.now) (sent_names self.now) }
-        ensures wire { sent_wire result ≡ sent_wire self.now }
-        ensures sendable { IsSendable self.now → IsSendable result }
-    {
-        match self {
-            SentReply::Found { entry, found_ms } => SentReply::Found {
-                entry: *entry,
-                found_ms: *found_ms,
-            },
-            SentReply::Created {
-                entry,
-                found_ms,
-                fh,
-            } => SentReply::Created {
-                entry: *entry,
-                found_ms: *found_ms,
-                fh: *fh,
-            },
-            SentReply::Opened { fh } => SentReply::Opened { fh: *fh },
-            SentReply::ListedPlus { listing } => SentReply::ListedPlus {
-                listing: listing.copied(spare),
-            },
-            SentReply::Plain { reply } => SentReply::Plain {
-                reply: reply.copied(spare.bytes),
-            },
-        }
-    }
-
-    /// Its frame.
-    pub fn framed(&self, room: ReplyRoom<A>, unique: u64) -> ReplyFrame<A>
-        requires sendable { IsSendable self.now }
-        requires room { 16 + sent_len self.now ≤ room }
-        ensures { result ≡ record { unique = unique; wire = sent_wire self.now } }
-    {
-        match self {
-            SentReply::Found { entry, found_ms } => room.found(unique, entry, *found_ms),
-            SentReply::Created {
-                entry,
-                found_ms,
-                fh,
-            } => room.created(unique, entry, *found_ms, *fh),
-            SentReply::Opened { fh } => room.opened(unique, *fh),
-            SentReply::ListedPlus { listing } => listing.framed(room, unique),
-            SentReply::Plain { reply } => reply.framed(room, unique),
-        }
-    }
 }

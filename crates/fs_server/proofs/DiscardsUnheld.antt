@@ -14,12 +14,10 @@ use Rattle.fuse_spec.specs.declared.Validity.{Validity}
 use Rattle.fs_tree.specs.Outcomes.{without_unheld}
 use Rattle.fs_files.specs.Bounds.{AreNamed, AreNamedBut, IsUnopened}
 use Rattle.fs_files.specs.Performing.{handles_said, tree_said}
-use Rattle.fs_files.specs.Replies.{opened_in, sent_wire}
+use Rattle.fs_files.specs.Replies.{SentReply, opened_in, sent_wire}
 use Rattle.fs_files.specs.Numbering.{GivesNumbers}
 use Rattle.fs_files.specs.Values.{FilesState, server_at, server_of}
-use Rattle.fs_files.specs.declared.replies.PlainReply.TheVariants.{Missing, Attributes, Listed, Content, Written, Agreed, Done, Failed}
-use Rattle.fs_files.specs.declared.replies.SentReply.{SentReply}
-use Rattle.fs_files.specs.declared.replies.SentReply.TheVariants.{Found, Created, Opened, ListedPlus, Plain}
+use Rattle.fuse_frames.specs.declared.reply.Reply.TheVariants as said
 use Rattle.fs_files.proofs.Bounds.{back_each, row_back_each, taken_each}
 use Rattle.fs_files.proofs.StaysNamed.{named_all_given, named_all_opened, named_less, named_number_back, named_row_back}
 use Rattle.fs_files.proofs.DiscardingUnheld.{discarded_unheld_none, discarded_unheld_twice}
@@ -194,18 +192,18 @@ as_forgets old new fs t = forgets old (record new { tree = old.tree }) new fs re
 
 numbers_listed : {A : Type 0} (reply : SentReply A)
     → option_to_list (opened_in reply) ≡ opens_in_reply (sent_wire reply)
-numbers_listed (Found entry found_ms) = refl
-numbers_listed (Created entry found_ms fh) = refl
-numbers_listed (Opened fh) = refl
-numbers_listed (ListedPlus listing) = refl
-numbers_listed (Plain (Missing missing_ms)) = refl
-numbers_listed (Plain (Attributes attributes)) = refl
-numbers_listed (Plain (Listed records)) = refl
-numbers_listed (Plain (Content bytes)) = refl
-numbers_listed (Plain (Written size)) = refl
-numbers_listed (Plain (Agreed minor flags)) = refl
-numbers_listed (Plain Done) = refl
-numbers_listed (Plain (Failed errno)) = refl
+numbers_listed (said.Found entry valid) = refl
+numbers_listed (said.Missing valid) = refl
+numbers_listed (said.Created entry valid fh) = refl
+numbers_listed (said.Opened fh) = refl
+numbers_listed (said.Attributes attributes) = refl
+numbers_listed (said.Listed records) = refl
+numbers_listed (said.ListedPlus names) = refl
+numbers_listed (said.Content bytes) = refl
+numbers_listed (said.Written size) = refl
+numbers_listed (said.Agreed major minor flags) = refl
+numbers_listed said.Done = refl
+numbers_listed (said.Failed errno) = refl
 
 pub as_given_back : {A : Type 0} (old one two : FilesState) (reply : SentReply A) (entries : List Entry) (fh : Option ℕ)
     → entries ≡ files_in_reply (sent_wire reply) → fh ≡ opened_in reply → CountsBack old entries [] one

@@ -18,7 +18,7 @@ use Rattle.fs_files.specs.Replies.{HasSpare, IsRepliable, outcome_errno, outcome
 use Rattle.fs_files.specs.Values.{names_for, names_of}
 use Rattle.fs_files.specs.declared.replies.Outcome.{Outcome}
 use Rattle.fs_files.specs.declared.replies.Outcome.TheVariants as outcome
-use Rattle.fs_files.specs.declared.replies.PlainReply.TheVariants.{Missing, Attributes, Listed, Content, Written, Agreed, Done, Failed}
+use Rattle.fuse_frames.specs.declared.reply.Reply.TheVariants as said
 use Rattle.fs_files.specs.declared.spare.ReplySpare.{ReplySpare}
 
 pub errno_said : {A : Type 0} (ms : ℕ) (o : Outcome A) → outcome_errno o ≡ errno_of (outcome_reply ms o)
@@ -26,14 +26,18 @@ errno_said ms (outcome.Found file) = refl
 errno_said ms (outcome.Created file) = refl
 errno_said ms (outcome.Opened file) = refl
 errno_said ms (outcome.ListedPlus records) = refl
-errno_said ms (outcome.Plain (Missing missing_ms)) = refl
-errno_said ms (outcome.Plain (Attributes attributes)) = refl
-errno_said ms (outcome.Plain (Listed records)) = refl
-errno_said ms (outcome.Plain (Content bytes)) = refl
-errno_said ms (outcome.Plain (Written size)) = refl
-errno_said ms (outcome.Plain (Agreed minor flags)) = refl
-errno_said ms (outcome.Plain Done) = refl
-errno_said ms (outcome.Plain (Failed errno)) = refl
+errno_said ms (outcome.Said (said.Found entry valid)) = refl
+errno_said ms (outcome.Said (said.Missing valid)) = refl
+errno_said ms (outcome.Said (said.Created entry valid fh)) = refl
+errno_said ms (outcome.Said (said.Opened fh)) = refl
+errno_said ms (outcome.Said (said.Attributes attributes)) = refl
+errno_said ms (outcome.Said (said.Listed records)) = refl
+errno_said ms (outcome.Said (said.ListedPlus names)) = refl
+errno_said ms (outcome.Said (said.Content bytes)) = refl
+errno_said ms (outcome.Said (said.Written size)) = refl
+errno_said ms (outcome.Said (said.Agreed major minor flags)) = refl
+errno_said ms (outcome.Said said.Done) = refl
+errno_said ms (outcome.Said (said.Failed errno)) = refl
 
 -- ---- names together with their files
 
@@ -41,26 +45,42 @@ abbrev names_listed : Reply ℕ ℕ → ℕ
 names_listed (operation.listed_plus pairs) = length pairs
 names_listed reply = 0
 
-names_are : {A : Type 0} (ms : ℕ) (o : Outcome A) → outcome_names o ≡ names_listed (outcome_reply ms o)
-names_are ms (outcome.Found file) = refl
-names_are ms (outcome.Created file) = refl
-names_are ms (outcome.Opened file) = refl
-names_are ms (outcome.ListedPlus records) = sym (length-map (names_in records.items) (pair_listed ms))
-names_are ms (outcome.Plain (Missing missing_ms)) = refl
-names_are ms (outcome.Plain (Attributes attributes)) = refl
-names_are ms (outcome.Plain (Listed records)) = refl
-names_are ms (outcome.Plain (Content bytes)) = refl
-names_are ms (outcome.Plain (Written size)) = refl
-names_are ms (outcome.Plain (Agreed minor flags)) = refl
-names_are ms (outcome.Plain Done) = refl
-names_are ms (outcome.Plain (Failed errno)) = refl
+names_are : {A : Type 0} (ms : ℕ) (tree : Tree) (o : Outcome A) → IsRepliable tree o
+    → outcome_names o ≡ names_listed (outcome_reply ms o)
+names_are ms tree (outcome.Found file) repliable = refl
+names_are ms tree (outcome.Created file) repliable = refl
+names_are ms tree (outcome.Opened file) repliable = refl
+names_are ms tree (outcome.ListedPlus records) repliable = sym (length-map (names_in records.items) (pair_listed ms))
+names_are ms tree (outcome.Said (said.Found entry valid)) repliable = absurd repliable.0
+names_are ms tree (outcome.Said (said.Missing valid)) repliable = refl
+names_are ms tree (outcome.Said (said.Created entry valid fh)) repliable = absurd repliable.0
+names_are ms tree (outcome.Said (said.Opened fh)) repliable = absurd repliable.0
+names_are ms tree (outcome.Said (said.Attributes attributes)) repliable = refl
+names_are ms tree (outcome.Said (said.Listed records)) repliable = refl
+names_are ms tree (outcome.Said (said.ListedPlus names)) repliable = absurd repliable.0
+names_are ms tree (outcome.Said (said.Content bytes)) repliable = refl
+names_are ms tree (outcome.Said (said.Written size)) repliable = refl
+names_are ms tree (outcome.Said (said.Agreed major minor flags)) repliable = refl
+names_are ms tree (outcome.Said said.Done) repliable = refl
+names_are ms tree (outcome.Said (said.Failed errno)) repliable = refl
 
 most_names : {A : Type 0} (tree : Tree) (o : Outcome A) → IsRepliable tree o → outcome_names o ≤ 32
 most_names tree (outcome.Found file) repliable = omega arith
 most_names tree (outcome.Created file) repliable = omega arith
 most_names tree (outcome.Opened file) repliable = omega arith
 most_names tree (outcome.ListedPlus records) repliable = let most = repliable.1 in omega (arith, most)
-most_names tree (outcome.Plain reply) repliable = omega arith
+most_names tree (outcome.Said (said.Found entry valid)) repliable = absurd repliable.0
+most_names tree (outcome.Said (said.Missing valid)) repliable = omega arith
+most_names tree (outcome.Said (said.Created entry valid fh)) repliable = absurd repliable.0
+most_names tree (outcome.Said (said.Opened fh)) repliable = absurd repliable.0
+most_names tree (outcome.Said (said.Attributes attributes)) repliable = omega arith
+most_names tree (outcome.Said (said.Listed records)) repliable = omega arith
+most_names tree (outcome.Said (said.ListedPlus names)) repliable = absurd repliable.0
+most_names tree (outcome.Said (said.Content bytes)) repliable = omega arith
+most_names tree (outcome.Said (said.Written size)) repliable = omega arith
+most_names tree (outcome.Said (said.Agreed major minor flags)) repliable = omega arith
+most_names tree (outcome.Said said.Done) repliable = omega arith
+most_names tree (outcome.Said (said.Failed errno)) repliable = omega arith
 
 module _ (s : Server) where
   refused : (b : Bool) (r : Option ℕ) (reply : Reply ℕ ℕ) → names_listed reply ≡ 0
@@ -121,7 +141,9 @@ module _ (s : Server) where
       → IsRepliable tree o → outcome_names o ≤ names_for h.body
   names_fit h tree ms o says repliable = elim (held_names h) [
     | inl room ↦ (let most = most_names tree o repliable in omega (arith, most, room))
-    | inr none ↦ (let are : outcome_names o ≡ 0 = names_are ms o ∙ ap names_listed says ∙ none in omega (arith, are))
+    | inr none ↦
+        let are : outcome_names o ≡ 0 = names_are ms tree o repliable ∙ ap names_listed says ∙ none in
+        omega (arith, are)
   ]
 
 -- room for more is room for less

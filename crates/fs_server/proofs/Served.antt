@@ -22,10 +22,9 @@ use Rattle.fs_files.specs.Bounds.{AreHeldBelow}
 use Rattle.fs_files.specs.Giving.{generations_after}
 use Rattle.fs_files.specs.Performing.{said, tree_said, handles_said, handles_by, numbering}
 use Rattle.fs_files.specs.Plans.{LacksNumber, HasNumbers}
-use Rattle.fs_files.specs.Replies.{sent_wire}
+use Rattle.fs_files.specs.Replies.{SentReply, sent_wire}
 use Rattle.fs_files.specs.Numbering.{GivesNumbers}
 use Rattle.fs_files.specs.Values.{FilesState, server_at, server_of}
-use Rattle.fs_files.specs.declared.replies.SentReply.{SentReply}
 use Rattle.fs_files.proofs.Giving.{generations_given, none_out, sorted_given}
 use Rattle.fs_files.proofs.Performed.{performed_is, performed_lost, files_are, no_files, same_said, same_tree, same_handles}
 use Rattle.fs_server.specs.Values.{server_with}

@@ -15,11 +15,11 @@ use Rattle.fuse_spec.specs.declared.WriteResult.TheVariants.{Accepted, NoEntry, 
 use Rattle.std.proofs.lemmas.Option.{none-some}
 use Rattle.fs_files.specs.Bounds.{AreHeldBelow, AreNamed, AreUsed}
 use Rattle.fs_files.specs.Performing.{handles_said}
+use Rattle.fs_files.specs.Replies.{SentReply}
 use Rattle.fs_files.specs.Numbering.{GivesNumbers}
 use Rattle.fs_files.specs.Values.{FilesState, server_of}
 use Rattle.fs_files.proofs.HeldBelow.{within_first, within_given}
 use Rattle.fs_files.proofs.StaysNamed.{named_all_again, named_all_counted}
-use Rattle.fs_files.specs.declared.replies.SentReply.{SentReply}
 use Rattle.fs_server.specs.Effects.{Forgets, GivesBack, SettlesFiles}
 use Rattle.fs_server.specs.Sound.{IsSound}
 use Rattle.fs_server.proofs.Sound.{apart_again, apart_performed, apart_settled, apart_taken, below_all, below_rows, gone_none, used_again, used_all, used_said, used_told}

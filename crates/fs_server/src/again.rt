@@ -15,7 +15,10 @@ ghost use Rattle.fs_server.specs.Effects.{CanSendAgain, RefusesAgain, SendsAgain
 
 use crate::replies::SentCopy;
 use crate::server::ServerOf;
-use fs_files::{Files, NamedNode, ReplySpare, SentReply};
+use fs_files::{
+    Files, NamedNode, ReplySpare, SentReply, body_len, copied, file_entries, framed, name_count,
+    opened,
+};
 use fs_nodes::NodeStore;
 use fuse_frames::{ReplyCopy, ReplyRoom};
 use fuse_spec::limits::COUNTER_END;
@@ -37,7 +40,7 @@ impl<S: NodeStore> ServerOf<S> {
         if !is_current(&self.files, reply) {
             return Some(Refusal::NoCopy);
         }
-        if self.files.nodes().counts_out_again(reply.file_entries()) {
+        if self.files.nodes().counts_out_again(file_entries(reply)) {
             return Some(Refusal::Exhausted);
         }
         if self.next_copy >= COUNTER_END {
@@ -79,12 +82,12 @@ impl<S: NodeStore> ServerOf<S> {
             unreachable!();
         };
         let reply = kept.reply();
-        let len = reply.len();
+        let len = body_len(reply);
         let room = ReplyRoom::new(self.alloc, len)?;
-        let spare = ReplySpare::new(self.alloc, len, reply.names())?;
+        let spare = ReplySpare::new(self.alloc, len, name_count(reply))?;
         let number = self.next_copy;
-        let copy = ReplyCopy::new(number, reply.framed(room, unique));
-        let sent = SentCopy::new(unique, reply.copied(spare), kept.first());
+        let copy = ReplyCopy::new(number, framed(reply, room, unique));
+        let sent = SentCopy::new(unique, copied(reply, spare), kept.first());
         count_again(&mut self.files, reply);
         self.copies.put(number, sent);
         self.next_copy = number + 1;
@@ -98,11 +101,11 @@ fn is_current<S: NodeStore>(files: &Files<S>, reply: &SentReply<S::Heap>) -> boo
         (files_in_reply (sent_wire reply.now)) && list_all (λ fh. is_some (get files.now.handles.handles fh))
         (opens_in_reply (sent_wire reply.now))) }
 {
-    let has_number = match reply.opened() {
+    let has_number = match opened(reply) {
         Some(fh) => files.has_number(fh),
         None => true,
     };
-    are_held(files, reply.file_entries()) && has_number
+    are_held(files, file_entries(reply)) && has_number
 }
 
 /// Whether the node of each entry is held under the entry's generation.
@@ -127,8 +130,8 @@ fn count_again<S: NodeStore>(files: &mut Files<S>, reply: &SentReply<S::Heap>)
     ensures handles { files.new.handles ≡ handles_counted files.old.handles (opens_in_reply (sent_wire reply.now)) }
     ensures below { AreHeldBelow files.new.nodes }
 {
-    count_nodes_again(files, reply.file_entries());
-    if let Some(fh) = reply.opened() {
+    count_nodes_again(files, file_entries(reply));
+    if let Some(fh) = opened(reply) {
         files.count_number_again(fh);
     }
 }

@@ -12,9 +12,9 @@ ghost use Rattle.fs_server.specs.Taking.{is_answered_now};
 
 use crate::replies::SentCopy;
 use crate::server::{ServerFault, ServerOf, Took};
-use fs_files::{PlainReply, SentReply};
+use fs_files::framed;
 use fs_nodes::NodeStore;
-use fuse_frames::{ReplyCopy, ReplyRoom};
+use fuse_frames::{Reply, ReplyCopy, ReplyRoom};
 use fuse_spec::Taken;
 use fuse_spec::errno::EAGAIN;
 use std::alloc::Allocator;
@@ -74,10 +74,8 @@ impl<S: NodeStore> ServerOf<S> {
         let Ok(room) = ReplyRoom::new(self.alloc, 0) else {
             return Err(ServerFault::Memory);
         };
-        let reply = SentReply::Plain {
-            reply: PlainReply::Failed { errno: EAGAIN },
-        };
-        let copy = ReplyCopy::new(number, reply.framed(room, unique));
+        let reply = Reply::Failed { errno: EAGAIN };
+        let copy = ReplyCopy::new(number, framed(&reply, room, unique));
         self.copies
             .put(number, SentCopy::new(unique, reply, number));
         self.next_copy = number + 1;

@@ -7,7 +7,7 @@ ghost use Rattle.fs_server.specs.Steps.{CanPerform};
 
 use crate::replies::{KeptReply, SentCopy};
 use crate::server::{Done, ServerOf};
-use fs_files::ReplySpare;
+use fs_files::{ReplySpare, copied, errno, framed};
 use fs_nodes::NodeStore;
 use fuse_frames::{ReplyCopy, ReplyRoom};
 use fuse_spec::Refusal;
@@ -107,9 +107,9 @@ impl<S: NodeStore> ServerOf<S> {
             .files
             .give_numbers(outcome, self.validity.found_ms, spare);
         self.files.discard_unheld(loose);
-        let errno = reply.errno();
-        let copy = ReplyCopy::new(number, reply.framed(room, unique));
-        let sent = SentCopy::new(unique, reply.copied(spare_copy), number);
+        let errno = errno(&reply);
+        let copy = ReplyCopy::new(number, framed(&reply, room, unique));
+        let sent = SentCopy::new(unique, copied(&reply, spare_copy), number);
         let _held = self.held.remove(unique);
         self.kept.put(unique, KeptReply::new(reply, number));
         self.copies.put(number, sent);

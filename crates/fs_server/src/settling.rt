@@ -9,7 +9,7 @@ ghost use Rattle.fs_server.specs.Effects.{CountsBack, GivesBack, SettlesFiles, S
 
 use crate::replies::{KeptReply, SentCopy};
 use crate::server::ServerOf;
-use fs_files::{Files, SentReply};
+use fs_files::{Files, SentReply, file_entries, opened};
 use fs_nodes::NodeStore;
 use fuse_spec::{Entry, Refusal, ReplyResult, WriteResult};
 use fuse_tables::Table;
@@ -76,8 +76,8 @@ fn give_back<S: NodeStore>(files: &mut Files<S>, reply: &SentReply<S::Heap>)
     ensures gives { GivesBack files.old (sent_wire reply.now) files.new }
     ensures named { AreNamed files.new.tree files.new.nodes files.new.handles }
 {
-    entries_back(files, reply.file_entries());
-    number_back(files, reply.opened());
+    entries_back(files, file_entries(reply));
+    number_back(files, opened(reply));
 }
 
 /// Counts back the nodes of entries, one after another. Nameless files that nothing holds any longer go.

@@ -1,4 +1,4 @@
-use Rattle.fs_files.proofs.Numbered.{gives_found, gives_created, gives_opened, gives_plain}
+use Rattle.fs_files.proofs.Numbered.{gives_found, gives_created, gives_opened, gives_said}
 use Rattle.std.proofs.Common.{◌≤◌, ◌^◌, ℕ, List, [], subst}
 use Rattle.fs_files.specs.Giving.{generations_after}
 use Rattle.fs_files.specs.Listed.{names_in}
@@ -20,8 +20,10 @@ pub returns-in-Opened-clause-gives : goal.returns-in-Opened-clause-gives
 returns-in-Opened-clause-gives g c = rw c.in-Opened.is
     (gives_opened c.args.self.now c.open-in-Opened.new.self c.in-Opened.file c.open-in-Opened.result c.open-in-Opened.ensures.fh c.open-in-Opened.ensures.tree c.open-in-Opened.ensures.nodes c.open-in-Opened.ensures.handles)
 
-pub returns-in-Plain-clause-gives : goal.returns-in-Plain-clause-gives
-returns-in-Plain-clause-gives g c = rw c.in-Plain.is (gives_plain c.args.self.now c.in-Plain.reply)
+pub returns-in-Said-clause-gives : goal.returns-in-Said-clause-gives
+returns-in-Said-clause-gives g c =
+    let repliable = rw c.in-Said.is at c.requires.repliable in
+    rw c.in-Said.is (gives_said c.args.self.now c.args.found_ms c.in-Said.reply repliable.0)
 
 pub returns-in-ListedPlus-clause-gives : goal.returns-in-ListedPlus-clause-gives
 returns-in-ListedPlus-clause-gives g c =
