@@ -66,7 +66,7 @@ fn bind_entry<A: Allocator + Copy, C: CountTable>(
         return Ok(());
     };
     names.reserve(directory, name)?;
-    nodes.learn(entry)?;
+    nodes.count_lookup(entry)?;
     names.put(directory, name, Some(entry.nodeid), until);
     Ok(())
 }

@@ -22,7 +22,7 @@ pub trait CountTable {
     /// Each counted id with its generation, its lookup count.
     ghost counted: { Self → Map Counted };
 
-    /// The id has room: to learn it takes no memory.
+    /// The id has room: to count a lookup of it takes no memory.
     ghost has_room: { Self → ℕ → Type 0 };
 
     /// A table that counts nothing.
@@ -45,7 +45,7 @@ pub trait CountTable {
     /// # Errors
     ///
     /// The id is counted under another generation. Nothing changed.
-    fn learn(&mut self, id: u64, generation: u64) -> Result<(), Unlike>
+    fn count_lookup(&mut self, id: u64, generation: u64) -> Result<(), Unlike>
         requires room { has_room self.old id }
         requires fits { ForSome (get (counted self.old) id) (λ node. node.count + 1 < 2 ^ 64) }
         ensures unlike { IsErr result ↔ IsUnlike (get (counted self.old) id) generation }

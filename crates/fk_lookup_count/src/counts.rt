@@ -73,7 +73,7 @@ impl<S: Slots> CountTable for CountsOf<S> {
         Ok(())
     }
 
-    fn learn(&mut self, id: u64, generation: u64) -> Result<(), Unlike> {
+    fn count_lookup(&mut self, id: u64, generation: u64) -> Result<(), Unlike> {
         let node = match self.node(id) {
             None => Counted {
                 generation,

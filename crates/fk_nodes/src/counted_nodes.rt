@@ -15,7 +15,7 @@ ghost use Rattle.fk_nodes.specs.ListedFiles.{pairs_in};
 ghost use Rattle.fk_nodes.specs.Uses.{use_meant};
 
 use crate::entry_use::EntryUse;
-use crate::learning::{count_all, reserve_nodes, tell_more};
+use crate::lookups::{count_all, reserve_nodes, tell_more};
 use crate::told::told;
 use fk_lookup_count::CountTable;
 use fk_wire::{DirentPlus, RecordsPlus};
@@ -109,7 +109,7 @@ impl<C: CountTable> CountedNodes<C> {
     /// # Errors
     ///
     /// Memory was wanting. Nothing changed.
-    pub fn learn(&mut self, entry: &Entry) -> Result<(), AllocError>
+    pub fn count_lookup(&mut self, entry: &Entry) -> Result<(), AllocError>
         requires alike { ForSome (get self.old entry.now.nodeid)
             (λ counted. counted.generation ≡ entry.now.generation) }
         requires fits { ForSome (get self.old entry.now.nodeid) (λ counted. counted.count + 1 < 2 ^ 64) }
@@ -122,7 +122,7 @@ impl<C: CountTable> CountedNodes<C> {
         };
         self.table.reserve(entry.nodeid)?;
         let is_new = self.table.generation_of(entry.nodeid).is_none();
-        match self.table.learn(entry.nodeid, entry.generation) {
+        match self.table.count_lookup(entry.nodeid, entry.generation) {
             Ok(()) => {
                 if is_new {
                     self.most = more;
@@ -193,7 +193,7 @@ impl<C: CountTable> CountedNodes<C> {
     /// # Errors
     ///
     /// Memory was wanting. Nothing changed.
-    pub fn learn_listed(&mut self, pairs: RecordsPlus<'_>) -> Result<(), AllocError>
+    pub fn count_listed(&mut self, pairs: RecordsPlus<'_>) -> Result<(), AllocError>
         requires few { length (pairs_in pairs) < counter_end }
         requires below { AreBelow (looked_up_from self.old (pairs_in pairs)) }
         ensures ok { OnOk result (self.new ≡ looked_up_from self.old (pairs_in pairs.entry)) }

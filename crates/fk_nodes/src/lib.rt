@@ -3,8 +3,8 @@
 
 mod counted_nodes;
 mod entry_use;
-mod learning;
 mod listed;
+mod lookups;
 mod told;
 
 pub use counted_nodes::CountedNodes;

@@ -209,7 +209,7 @@ pub fn count_and_bind<A: Allocator + Copy, C: CountTable>(
         (looked_up_from nodes.old (pairs_in pairs.entry)) names.old.names (pairs_in pairs.entry)) }
 {
     reserve_listed(names, directory, pairs)?;
-    nodes.learn_listed(pairs)?;
+    nodes.count_listed(pairs)?;
     bind_listed(names, nodes, directory, clock, pairs);
     Ok(())
 }

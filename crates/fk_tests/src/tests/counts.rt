@@ -12,7 +12,7 @@ use std::test::Fail;
 enum Row {
     Reserve(u64),
     /// Room is made and an entry reply counted, with an id and a generation.
-    Learn(u64, u64, Result<(), Unlike>),
+    Lookup(u64, u64, Result<(), Unlike>),
     Evict(u64, Option<Forget>),
     Clear,
     /// Of an id: its generation and its count.
@@ -21,7 +21,7 @@ enum Row {
     Nodes(&'static [(u64, u64, u64)]),
 }
 
-fn learn<T: CountTable>(
+fn count_lookup<T: CountTable>(
     table: &mut T,
     id: u64,
     generation: u64,
@@ -30,7 +30,7 @@ fn learn<T: CountTable>(
     if table.count_of(id) == u64::MAX {
         return Err(AllocError);
     }
-    Ok(table.learn(id, generation))
+    Ok(table.count_lookup(id, generation))
 }
 
 fn is_node<T: CountTable>(table: &T, id: u64, generation: Option<u64>, count: u64) -> bool {
@@ -50,7 +50,7 @@ fn tried<T: CountTable>(table: &mut T, heap: T::Heap, row: Row) -> Outcome {
             Ok(()) => Outcome::Right,
             Err(AllocError) => Outcome::NoMemory,
         },
-        Row::Learn(id, generation, wanted) => match learn(table, id, generation) {
+        Row::Lookup(id, generation, wanted) => match count_lookup(table, id, generation) {
             Ok(given) => judged(given == wanted),
             Err(AllocError) => Outcome::NoMemory,
         },
@@ -90,29 +90,29 @@ const ONE_OF_2: Forget = Forget {
 
 static CALLS: [Row; 23] = [
     Row::Node(9, None, 0),
-    Row::Learn(9, 4, Ok(())),
-    Row::Learn(9, 4, Ok(())),
-    Row::Learn(9, 5, Err(Unlike)),
+    Row::Lookup(9, 4, Ok(())),
+    Row::Lookup(9, 4, Ok(())),
+    Row::Lookup(9, 5, Err(Unlike)),
     Row::Node(9, Some(4), 2),
     Row::Evict(9, Some(TWO_OF_9)),
     Row::Evict(9, None),
     Row::Node(9, None, 0),
     Row::Evict(2, None),
-    Row::Learn(2, 1, Ok(())),
+    Row::Lookup(2, 1, Ok(())),
     Row::Node(2, Some(1), 1),
     Row::Evict(2, Some(ONE_OF_2)),
     // nodes are listed in rising id
-    Row::Learn(9, 7, Ok(())),
-    Row::Learn(3, 7, Ok(())),
-    Row::Learn(5, 7, Ok(())),
-    Row::Learn(6, 8, Ok(())),
-    Row::Learn(3, 7, Ok(())),
+    Row::Lookup(9, 7, Ok(())),
+    Row::Lookup(3, 7, Ok(())),
+    Row::Lookup(5, 7, Ok(())),
+    Row::Lookup(6, 8, Ok(())),
+    Row::Lookup(3, 7, Ok(())),
     Row::Reserve(4),
     Row::Nodes(&[(3, 7, 2), (5, 7, 1), (6, 8, 1), (9, 7, 1)]),
     Row::Clear,
     Row::Node(3, None, 0),
     Row::Nodes(&[]),
-    Row::Learn(3, 1, Ok(())),
+    Row::Lookup(3, 1, Ok(())),
 ];
 
 /// The calls with each growth refused in turn: how many runs that took.

@@ -9,7 +9,7 @@ use Rattle.fk_nodes.specs.Rooms.{HaveNodeRoom}
 use Rattle.fk_nodes.specs.ListedFiles.{pairs_in}
 use Rattle.fk_nodes.proofs.Counting.{below_before}
 use Rattle.fk_nodes.proofs.NodeRooms.{kept_rooms}
-use Rattle.fk_nodes.proofs.learning.count_all.Goals as goal
+use Rattle.fk_nodes.proofs.lookups.count_all.Goals as goal
 
 pub count_told-most-requires-clause-below : goal.count_told-most-requires-clause-below
 count_told-most-requires-clause-below g c =

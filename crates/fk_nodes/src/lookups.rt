@@ -52,7 +52,7 @@ fn count_one<C: CountTable>(table: &mut C, entry: &Entry)
     ensures counted { C.counted table.new ≡ looked_up (C.counted table.old) (entry.now ∷ []) }
     ensures kept { (other : ℕ) → C.has_room table.old other → C.has_room table.new other }
 {
-    match table.learn(entry.nodeid, entry.generation) {
+    match table.count_lookup(entry.nodeid, entry.generation) {
         Ok(()) => {}
         // Ruled out: it is counted under this generation.
         Err(_) => {}

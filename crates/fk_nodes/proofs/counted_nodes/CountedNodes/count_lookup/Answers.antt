@@ -5,10 +5,10 @@ use Rattle.fuse_spec.specs.declared.Counted.{Counted}
 use Rattle.fuse_spec.specs.Kernel.Replies as replies
 use Rattle.fk_lookup_count.specs.CountedNodes.{generation_at, looked_up}
 use Rattle.fk_nodes.proofs.Counts.{looked_up_is, one_more, as_many, not_unlike}
-use Rattle.fk_nodes.proofs.counted_nodes.CountedNodes.learn.Goals as goal
+use Rattle.fk_nodes.proofs.counted_nodes.CountedNodes.count_lookup.Goals as goal
 
-pub learn-requires-clause-fits : goal.learn-requires-clause-fits
-learn-requires-clause-fits g c = λ x at.
+pub count_lookup-requires-clause-fits : goal.count_lookup-requires-clause-fits
+count_lookup-requires-clause-fits g c = λ x at.
     let id = c.args.entry.now.nodeid in
     c.requires.fits x (rw (← c.self.view_is) (ap (λ (n : Map Counted). get n id) (sym c.reserve.ensures.counted) ∙ at))
 

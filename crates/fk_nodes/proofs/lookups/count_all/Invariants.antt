@@ -2,7 +2,7 @@ use Rattle.std.proofs.Common.{◌≡◌, ◌≤◌, ◌+◌, length}
 use Rattle.fk_nodes.specs.LookedUp.{looked_up_from}
 use Rattle.fk_nodes.specs.Rooms.{HaveNodeRoom}
 use Rattle.fk_nodes.specs.ListedFiles.{pairs_in}
-use Rattle.fk_nodes.proofs.learning.count_all.Given as goal
+use Rattle.fk_nodes.proofs.lookups.count_all.Given as goal
 
 abbrev pub invariant-loop-pair : goal.invariant-loop-pair
 invariant-loop-pair g l = record {

@@ -3,7 +3,7 @@ use Rattle.std.specs.Prelude.{is_some}
 use Rattle.fuse_spec.specs.Values.Maps.{get}
 use Rattle.fk_lookup_count.specs.CountedNodes.{generation_at}
 use Rattle.fk_nodes.proofs.Counts.{one_more, as_many}
-use Rattle.fk_nodes.proofs.learning.count_told.Goals as goal
+use Rattle.fk_nodes.proofs.lookups.count_told.Goals as goal
 
 pub returns-in-None-clause-within : goal.returns-in-None-clause-within
 returns-in-None-clause-within g c = rw c.count_one.ensures.counted

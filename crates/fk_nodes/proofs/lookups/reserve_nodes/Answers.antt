@@ -3,7 +3,7 @@ use Rattle.fuse_frames.specs.ReplyTies.{pair_in}
 use Rattle.fk_wire.specs.Records.{direntplus_content}
 use Rattle.fk_nodes.specs.ListedFiles.{pairs_in}
 use Rattle.fk_nodes.proofs.NodeRooms.{room_made}
-use Rattle.fk_nodes.proofs.learning.reserve_nodes.Goals as goal
+use Rattle.fk_nodes.proofs.lookups.reserve_nodes.Goals as goal
 
 pub loop-pair-preserved : goal.loop-pair-preserved
 loop-pair-preserved g c =

@@ -1,7 +1,7 @@
 use Rattle.std.proofs.Common.{◌≡◌}
 use Rattle.fk_nodes.specs.ListedFiles.{pairs_in}
 use Rattle.fk_nodes.proofs.NodeRooms.{RoomBehind}
-use Rattle.fk_nodes.proofs.learning.reserve_nodes.Given as goal
+use Rattle.fk_nodes.proofs.lookups.reserve_nodes.Given as goal
 
 abbrev pub invariant-loop-pair : goal.invariant-loop-pair
 invariant-loop-pair g l = record {
