@@ -130,6 +130,46 @@ fn each_growth_refused_in_a_script(rt: HostRuntime) -> Result<(), Fail> {
     Ok(())
 }
 
+/// The status with which a script ends whose third line is bad: 1 where that line is reported, 3 where want of memory is,
+/// and nothing else is written.
+fn status_of_a_bad_script<A: Allocator + Copy>(alloc: A, outer: Global) -> Option<u8> {
+    let mut input = b"mount 1000 0\nread p 0\nreed p 0\n".as_slice();
+    let mut out = Vec::new(outer);
+    let mut faults = Vec::new(outer);
+    let status = run_script(alloc, "-", false, &mut input, &mut out, &mut faults);
+    let wanted = match status {
+        1 => b"line 3: unknown event\n".as_slice(),
+        3 => b"no memory\n".as_slice(),
+        _ => return None,
+    };
+    if out.is_empty() && faults.as_slice() == wanted {
+        Some(status)
+    } else {
+        None
+    }
+}
+
+/// A bad line is reported though the list of the lines before it cannot grow; only where the script's text cannot be kept
+/// is memory wanting.
+#[test]
+fn bad_line_comes_before_want_of_memory(rt: HostRuntime) -> Result<(), Fail> {
+    let heap = FailAt::new(rt.alloc());
+    let mut last_refused = None;
+    let mut runs = 0;
+    for n in heap.each_growth(20) {
+        let status = status_of_a_bad_script(&heap, rt.alloc());
+        if heap.left() == 0 {
+            assert!(rt; status.is_some(), "{n}");
+            last_refused = status;
+        } else {
+            assert!(rt; status == Some(1), "{n}");
+        }
+        runs = n;
+    }
+    assert!(rt; 2 < runs && runs < 20 && last_refused == Some(1), "{runs}");
+    Ok(())
+}
+
 /// Whether a frame whose first growth is refused is told of, and read when it is given again.
 fn frame_is_refused<A: Allocator + Copy>(alloc: A, heap: &FailAt<Global>, outer: Global) -> bool {
     let mut out = Vec::new(outer);
