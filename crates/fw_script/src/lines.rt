@@ -49,6 +49,7 @@ fn is_passed_over(line: &[u8]) -> bool
 }
 
 /// What a line says, if it says anything.
+#[inline(always)]
 fn read_any(line: &[u8]) -> Result<Option<Line<'_>>, LineFault>
     ensures judged { MatchResult result (λ said. IsGoodLine line.now) (LineFaultIs line.now) }
     ensures written { IfOk result (λ said. IfSome said IsWritten) }
@@ -61,6 +62,7 @@ fn read_any(line: &[u8]) -> Result<Option<Line<'_>>, LineFault>
 }
 
 /// Why a script is refused whose lines cannot be kept: for its first line with a fault, or else for want of memory.
+#[cold]
 fn refused_lines(script: &[u8]) -> Stop<'static>
     ensures status { status_of result ≢ 5 }
     ensures bad { (number : ℕ) (fault : LineFault) → result ≡ BadLine number fault → FirstFaultIs script.now number fault }

@@ -14,6 +14,7 @@ fn first_place(text: &[u8], separator: u8) -> Option<usize>
 }
 
 /// What stands before the first separator, and what stands after it, if there is one.
+#[inline(always)]
 pub(crate) fn split_once(text: &[u8], separator: u8) -> (&[u8], Option<&[u8]>)
     ensures { slice_split (λ byte. byte == separator) text.now
         ≡ result.0.now ∷ parts_left separator (option_copied result.1) }
