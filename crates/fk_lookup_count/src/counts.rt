@@ -73,34 +73,33 @@ impl<S: Slots> CountTable for CountsOf<S> {
         Ok(())
     }
 
-    fn learn(&mut self, id: u64, generation: u64) -> Result<(), Unlike> {
-        let node = match self.node(id) {
-            None => Counted {
-                generation,
-                count: 1,
-            },
-            Some(node) if node.generation != generation => return Err(Unlike),
-            Some(node) => Counted {
-                count: node.count + 1,
-                ..node
-            },
+    fn count_lookup(
+        &mut self,
+        id: u64,
+        generation: u64,
+    ) -> Result<Result<bool, Unlike>, AllocError> {
+        let Some(slot) = self.slots.count_lookup(id, generation) else {
+            self.slots.add(id)?;
+            self.write(
+                id,
+                Counted {
+                    generation,
+                    count: 1,
+                },
+            );
+            return Ok(Ok(true));
         };
-        self.write(id, node);
-        Ok(())
+        if slot.count == 0 {
+            return Ok(Ok(true));
+        }
+        if slot.generation != generation {
+            return Ok(Err(Unlike));
+        }
+        Ok(Ok(false))
     }
 
-    fn count_of(&self, id: u64) -> u64 {
-        match self.node(id) {
-            None => 0,
-            Some(node) => node.count,
-        }
-    }
-
-    fn generation_of(&self, id: u64) -> Option<u64> {
-        match self.node(id) {
-            None => None,
-            Some(node) => Some(node.generation),
-        }
+    fn counted(&self, id: u64) -> Option<Counted> {
+        self.node(id)
     }
 
     fn evict(&mut self, id: u64) -> Option<Forget> {

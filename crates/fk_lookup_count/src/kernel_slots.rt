@@ -5,7 +5,7 @@ ghost use Rattle.std.specs.BTreeMap.{Updates as UpdatesTree};
 ghost use Rattle.slab.specs.Slab.{get, Updates};
 ghost use Rattle.fk_lookup_count.specs.Table.{standing};
 
-use crate::slots::{ROOM, Slots};
+use crate::slots::{ROOM, Slots, one_more};
 use fuse_spec::Counted;
 use slab::Slab;
 use std::alloc::{AllocError, Allocator, Global};
@@ -65,6 +65,18 @@ impl<A: Allocator + Copy> Slots for KernelSlots<A> {
             return;
         };
         set(&mut self.nodes, place, slot);
+    }
+
+    fn count_lookup(&mut self, id: u64, generation: u64) -> Option<Counted> {
+        let Some(place) = self.places.get(&id).copied() else {
+            return None;
+        };
+        let slot = standing(&self.nodes, place);
+        let Some(more) = one_more(slot, generation) else {
+            return Some(slot);
+        };
+        set(&mut self.nodes, place, more);
+        Some(slot)
     }
 
     fn take_out(&mut self, id: u64) {

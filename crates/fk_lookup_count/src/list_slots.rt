@@ -1,7 +1,7 @@
 //! The plain slots: rows in rising id.
 
 use crate::rows::{find_in, place_in};
-use crate::slots::{ROOM, Slots};
+use crate::slots::{ROOM, Slots, one_more};
 use fuse_spec::Counted;
 use std::alloc::{AllocError, Allocator, Global};
 use std::marker::Model;
@@ -60,6 +60,18 @@ impl<A: Allocator + Copy> Slots for ListSlots<A> {
             return;
         };
         self.rows[place] = (id, slot);
+    }
+
+    fn count_lookup(&mut self, id: u64, generation: u64) -> Option<Counted> {
+        let Some(place) = find_in(&self.rows, id) else {
+            return None;
+        };
+        let slot = self.rows[place].1;
+        let Some(more) = one_more(slot, generation) else {
+            return Some(slot);
+        };
+        self.rows[place] = (id, more);
+        Some(slot)
     }
 
     fn take_out(&mut self, id: u64) {
