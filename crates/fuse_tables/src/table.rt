@@ -1,10 +1,12 @@
 //! A table from numbers to values.
 
-ghost use Rattle.std.specs.Prelude.{◌≡◌, ◌+◌, ◌<◌, ◌≤◌, ◌-◌, [], OnOk, OnErr, IsOk, None, length, option_map, is_some, slice_get, if◌then◌else◌, MatchOption};
+ghost use Rattle.std.specs.Prelude.{◌≡◌, ◌+◌, ◌<◌, ◌≤◌, ◌-◌, [], OnOk, OnErr, IsOk, None, length, option_map, is_some, slice_get, slice_index_or, if◌then◌else◌, MatchOption};
 ghost use Rattle.std.specs.Option.{option_copied};
 ghost use Rattle.std.specs.Prelude.{T};
 ghost use Rattle.std.specs.Ordering.{nat_cmp};
 ghost use Rattle.std.specs.FinMap.{is_sorted};
+ghost use Rattle.std.specs.List.{insert as inserted, remove as removed};
+ghost use Rattle.std.specs.Vec.{vec_len, vec_capacity};
 ghost use Rattle.fuse_spec.specs.Values.Maps.{get as value_at, put as with_value, remove as without_key};
 ghost use Rattle.fuse_tables.specs.TableState.{place_of, IsRowOf};
 
@@ -52,6 +54,35 @@ fn find_in<V>(rows: &[(u64, V)], key: u64) -> Option<usize>
     }
     let row = &rows[place];
     if row.0 == key { Some(place) } else { None }
+}
+
+/// Puts a row at a place, for which there is room. Most keys rise, so most rows come last.
+fn put_at<V: Drop, A: Allocator>(rows: &mut Vec<(u64, V), A>, place: usize, row: (u64, V))
+    requires place { place ≤ vec_len rows.old }
+    requires room { vec_len rows.old < vec_capacity rows.old }
+    ensures items { rows.new.items ≡ inserted rows.old.items place row }
+    ensures len { vec_len rows.new ≡ vec_len rows.old + 1 }
+    ensures capacity { vec_capacity rows.old ≤ vec_capacity rows.new }
+{
+    if place == rows.len() {
+        return rows.push_reserved(row);
+    }
+    let put: Result<(), _> = rows.insert(place, row);
+    put.unwrap();
+}
+
+/// Takes out the row at a place. The last one moves no other.
+fn take_at<V: Drop, A: Allocator>(rows: &mut Vec<(u64, V), A>, place: usize) -> (u64, V)
+    requires { place < vec_len rows.old }
+    ensures value { result ≡ slice_index_or rows.old.items place result }
+    ensures items { rows.new.items ≡ removed rows.old.items place }
+    ensures len { vec_len rows.new + 1 ≡ vec_len rows.old }
+    ensures capacity { vec_capacity rows.new ≡ vec_capacity rows.old }
+{
+    if place == rows.len() - 1 {
+        return rows.pop().unwrap();
+    }
+    rows.remove(place)
 }
 
 impl<V: Drop, A: Allocator + Copy> Table<V, A> {
@@ -113,8 +144,7 @@ impl<V: Drop, A: Allocator + Copy> Table<V, A> {
         ensures room { self.old.room ≤ self.new.room + 1 }
     {
         let place = place_in(&self.rows, key);
-        let inserted: Result<(), _> = self.rows.insert(place, (key, value));
-        inserted.unwrap();
+        put_at(&mut self.rows, place, (key, value));
     }
 
     /// Takes out the value at a key. Its room stays.
@@ -127,7 +157,7 @@ impl<V: Drop, A: Allocator + Copy> Table<V, A> {
         let Some(place) = find_in(&self.rows, key) else {
             return None;
         };
-        Some(self.rows.remove(place).1)
+        Some(take_at(&mut self.rows, place).1)
     }
 
     /// Takes out all entries. Their room stays.

@@ -14,7 +14,7 @@ put_rows rows seen key place v at same absent = rw (at, same) (put_is rows key v
 pub invariant_of-self : goal.invariant_of-self
 invariant_of-self g c =
     let absent = rw (← c.self.view_is) at c.requires.absent in
-    let items = rw c.unwrap.ensures at c.insert-inserted.ensures.items in
+    let items = c.put_at.ensures.items in
     let rows = items ∙ put_rows c.self.inside.rows.items c.deref.result.now c.args.key c.place_in-place.result c.args.value c.place_in-place.ensures.place c.deref.ensures.value absent in
     subst (λ es. T (is_sorted nat_cmp es)) (sym rows)
     (sorted_with c.self.inside.rows.items c.args.key c.args.value c.self.invariant)
@@ -22,6 +22,6 @@ invariant_of-self g c =
 pub returns-clause-entries : goal.returns-clause-entries
 returns-clause-entries g c =
     let absent = rw (← c.self.view_is) at c.requires.absent in
-    let items = rw c.unwrap.ensures at c.insert-inserted.ensures.items in
+    let items = c.put_at.ensures.items in
     let rows = items ∙ put_rows c.self.inside.rows.items c.deref.result.now c.args.key c.place_in-place.result c.args.value c.place_in-place.ensures.place c.deref.ensures.value absent in
     rw (← c.self.view_is) rows

@@ -15,16 +15,16 @@ returns-in_default-clause-entries g c =
 
 pub invariant_of-self : goal.invariant_of-self
 invariant_of-self g c =
-    let rows = c.remove.ensures.items ∙ without_there c.self.inside.rows.items c.args.key c.in-Some.place c.self.invariant (rw c.deref.ensures.value at c.in-Some.ensures) in
+    let rows = c.take_at.ensures.items ∙ without_there c.self.inside.rows.items c.args.key c.in-Some.place c.self.invariant (rw c.deref.ensures.value at c.in-Some.ensures) in
     subst (λ es. T (is_sorted nat_cmp es)) (sym rows)
     (sorted_without c.self.inside.rows.items c.args.key c.self.invariant)
 
 pub returns-clause-value : goal.returns-clause-value
 returns-clause-value g c =
     rw (← c.self.view_is)
-    (read_there c.self.inside.rows.items c.deref.result.now c.args.key c.in-Some.place c.remove.result c.self.invariant c.deref.ensures.value c.in-Some.ensures c.remove.ensures.value)
+    (read_there c.self.inside.rows.items c.deref.result.now c.args.key c.in-Some.place c.take_at.result c.self.invariant c.deref.ensures.value c.in-Some.ensures c.take_at.ensures.value)
 
 pub returns-clause-entries : goal.returns-clause-entries
 returns-clause-entries g c =
-    let rows = c.remove.ensures.items ∙ without_there c.self.inside.rows.items c.args.key c.in-Some.place c.self.invariant (rw c.deref.ensures.value at c.in-Some.ensures) in
+    let rows = c.take_at.ensures.items ∙ without_there c.self.inside.rows.items c.args.key c.in-Some.place c.self.invariant (rw c.deref.ensures.value at c.in-Some.ensures) in
     rw (← c.self.view_is) rows
