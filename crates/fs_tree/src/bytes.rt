@@ -18,10 +18,11 @@ impl<A: Allocator + Copy> Tree<A> {
         requires { file < 2 ^ 62 }
         ensures { result ≡ attributes_of self.now file }
     {
+        let (kind, size) = self.files.kind_and_size(file);
         Attributes {
-            kind: self.files.kind(file),
+            kind,
             ino: file + 1,
-            size: self.files.bytes(file).len() as u64,
+            size: size as u64,
             nlink: self.links(file) as u32,
         }
     }

@@ -1,6 +1,6 @@
 //! The files of a tree: what each is.
 
-ghost use Rattle.std.specs.Prelude.{◌≡◌, [], Some, filter, not, cond, count_by, nat_eq, OnErr, OnOk};
+ghost use Rattle.std.specs.Prelude.{◌≡◌, [], Some, filter, not, cond, count_by, length, nat_eq, OnErr, OnOk};
 ghost use Rattle.fuse_spec.specs.Values.Maps.{get, put, remove};
 ghost use Rattle.fuse_spec.specs.Files.Trees.{kind_of, bytes_of, a_file};
 ghost use Rattle.fuse_spec.specs.declared.Kind.TheVariants.{Regular};
@@ -74,6 +74,17 @@ impl<A: Allocator + Copy> Files<A> {
         match self.contents.get(&file) {
             Some(content) => content.kind(),
             None => Kind::Other,
+        }
+    }
+
+    /// Of what kind a file is, and how many bytes it has; of a file that is not there, another kind and none.
+    pub(crate) fn kind_and_size(&self, file: u64) -> (Kind, usize)
+        ensures kind { result.0 ≡ kind_of (get self.now file) }
+        ensures size { result.1 ≡ length (bytes_of (get self.now file)) }
+    {
+        match self.contents.get(&file) {
+            Some(content) => (content.kind(), content.bytes().len()),
+            None => (Kind::Other, 0),
         }
     }
 
