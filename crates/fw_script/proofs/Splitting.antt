@@ -1,12 +1,14 @@
 -- The first part of a text, by the place of its first separator.
-use Rattle.std.proofs.Common.{◌≡◌, ◌+◌, ◌<◌, ◌==◌, ◌≤◌, ℕ, Bool, true, false, cond, nat_lt, get_or, List, [], ◌∷◌, length, take, drop, Option, Some, None, arith, refl}
-use Rattle.std.specs.Prelude.{position, MatchOption}
-use Rattle.std.specs.List.{position_or_len, slice_split}
-use Rattle.std.proofs.lemmas.List.Splits.{slice_split_first, slice_split_none, length-slice_split}
+use Rattle.std.proofs.Common.{◌≡◌, ◌+◌, ◌<◌, ◌==◌, ◌≤◌, ◌^◌, ◌∙◌, ℕ, Bool, true, false, cond, nat_lt, get_or, List, [], ◌∷◌, length, take, drop, Option, Some, None, arith, ap, sym, refl}
+use Rattle.std.specs.Prelude.{decimal, position, MatchOption}
+use Rattle.std.specs.List.{join_with_byte, position_or_len, slice_split}
+use Rattle.std.proofs.lemmas.List.Splits.{join_with_byte-slice_split, slice_split_first, slice_split_none, length-slice_split}
 use Rattle.std.proofs.lemmas.List.Sums.{fails_before_first, position_or_len_is}
-use Rattle.std.proofs.lemmas.Bool.{false_from_ne_true, le-ltb, lt-ltb, ltb-true, ltb-false}
+use Rattle.std.proofs.lemmas.List.{get_or_default}
+use Rattle.std.proofs.lemmas.Bool.{eqb-true, false_from_ne_true, le-ltb, lt-ltb, ltb-true, ltb-false}
 use Rattle.memchr.specs.Find.{IsFirstByte}
 use Rattle.fw_script.specs.Words.{words_of, HasWords}
+use Rattle.fw_script.proofs.Decimals.{decimal_is_digits, digit_at_each}
 
 abbrev is_byte : ℕ → ℕ → Bool
 is_byte separator byte = byte == separator
@@ -63,3 +65,17 @@ words_of_some text = let counted = length-slice_split (is_byte 32) text in omega
 -- a text after a space is one more word
 pub one_more_word : (word text : List ℕ) → HasWords 1 (word ∷ words_of text) → ⊥
 one_more_word word text h = let more = words_of_some text in omega (arith, h.0, more)
+
+-- a text that is one word is that word
+pub one_word_is_all : (text word : List ℕ) → words_of text ≡ word ∷ [] → text ≡ word
+one_word_is_all text word e = sym (join_with_byte-slice_split 32 text) ∙ ap (join_with_byte 32) e
+
+-- a number is one word
+pub number_is_one_word : (n : ℕ) (text : List ℕ) → n < 2 ^ 64 → text ≡ decimal n → words_of text ≡ text ∷ []
+number_is_one_word n text small e =
+    let digits = decimal_is_digits n text small e in
+    slice_split_none (is_byte 32) text
+    (λ k d below.
+    let same = get_or_default text k d 0 below in
+    let digit = digit_at_each text digits.0 k below in
+    false_from_ne_true (is_byte 32 (get_or text k d)) (λ space. let at = eqb-true (get_or text k d) 32 space in absurd (omega (arith, same, digit, at))))

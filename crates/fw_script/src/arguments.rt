@@ -50,10 +50,17 @@ pub(crate) fn one_number(rest: Option<&[u8]>) -> Result<u64, LineFault>
         (λ n. words ≡ decimal n ∷ [])
         (ArgumentFaultIs (number ∷ []) words) }
 {
-    let Some(word) = one_word(rest) else {
+    let Some(text) = rest else {
         return Err(LineFault::WrongWords);
     };
-    read_number(word).ok_or(LineFault::BadNumber)
+    // What reads as a number is one word, so words are counted only where nothing does.
+    if let Some(number) = read_number(text) {
+        return Ok(number);
+    }
+    match one_word(Some(text)) {
+        Some(_) => Err(LineFault::BadNumber),
+        None => Err(LineFault::WrongWords),
+    }
 }
 
 /// The numbers that a rest of two words is.

@@ -131,13 +131,15 @@ pub(crate) fn split_form(line: &[u8]) -> Option<(Form, Option<&[u8]>)>
         (λ r. words_of line.now ≡ name_of r.0 ++ words_left (option_copied r.1)) }
 {
     let (first, rest) = split_word(line);
-    if first == b"call".as_slice() {
-        let (second, rest) = split_word(rest?);
-        return Some((Form::Call(form_of_call(second)?), rest));
+    match first {
+        b"call" => {
+            let (second, rest) = split_word(rest?);
+            Some((Form::Call(form_of_call(second)?), rest))
+        }
+        b"read" => {
+            let (second, rest) = split_word(rest?);
+            Some((Form::Read(form_of_read(second)?), rest))
+        }
+        _ => Some((Form::Word(form_of_word(first)?), rest)),
     }
-    if first == b"read".as_slice() {
-        let (second, rest) = split_word(rest?);
-        return Some((Form::Read(form_of_read(second)?), rest));
-    }
-    Some((Form::Word(form_of_word(first)?), rest))
 }

@@ -53,7 +53,8 @@ fn write_place<W: Write>(out: &mut W, offset: u64, kind: Kind) -> io::Result<()>
     text.put_byte(b':');
     text.put_number(offset);
     text.put_byte(b':');
-    out.write_all(text.bytes())
+    out.write_all(text.bytes())?;
+    Ok(())
 }
 
 /// Writes a listed name, as ` NAME:OFF:KIND`.
@@ -94,7 +95,8 @@ fn write_start<W: Write>(out: &mut W, call: u64, word: &[u8]) -> io::Result<()>
     let mut text = ShortText::new();
     text.put(word);
     put_call(&mut text, call);
-    out.write_all(text.bytes())
+    out.write_all(text.bytes())?;
+    Ok(())
 }
 
 /// Writes the line of a call that is answered with attributes.
@@ -106,7 +108,8 @@ fn write_attributes<W: Write>(out: &mut W, call: u64, attributes: Attributes) ->
     text.put_byte(b'\n');
     put_attributes(&mut text, attributes);
     put_call(&mut text, call);
-    out.write_all(text.bytes())
+    out.write_all(text.bytes())?;
+    Ok(())
 }
 
 /// Writes the line of a call that is answered with a word and a number after it.
@@ -120,7 +123,8 @@ fn write_counted<W: Write>(out: &mut W, call: u64, word: &[u8], number: u64) -> 
     text.put_number(number);
     text.put(word);
     put_call(&mut text, call);
-    out.write_all(text.bytes())
+    out.write_all(text.bytes())?;
+    Ok(())
 }
 
 /// Writes the line of an answered call.
@@ -132,21 +136,22 @@ fn write_answered<A: Allocator, W: Write>(
     ensures { OnOk result (Appends (W.contents out.old) (W.contents out.new) (answer_text call answer.now)) }
 {
     match answer {
-        Answer::Done => write_start(out, call, b"0\n"),
-        Answer::Attributes(attributes) => write_attributes(out, call, *attributes),
+        Answer::Done => write_start(out, call, b"0\n")?,
+        Answer::Attributes(attributes) => write_attributes(out, call, *attributes)?,
         Answer::Listing(names) => {
             write_start(out, call, b"0")?;
             write_listing(out, names.as_slice())?;
-            out.write_all(b"\n")
+            out.write_all(b"\n")?;
         }
         Answer::Content(bytes) => {
             write_start(out, call, b"0 ")?;
             write_hex_or_none(out, bytes.as_slice())?;
-            out.write_all(b"\n")
+            out.write_all(b"\n")?;
         }
-        Answer::Written { size } => write_counted(out, call, b"0 ", u64::from(*size)),
-        Answer::Failed { errno } => write_counted(out, call, b"", u64::from(*errno)),
+        Answer::Written { size } => write_counted(out, call, b"0 ", u64::from(*size))?,
+        Answer::Failed { errno } => write_counted(out, call, b"", u64::from(*errno))?,
     }
+    Ok(())
 }
 
 /// Writes the line of a refused event.
@@ -160,7 +165,8 @@ fn write_refused<W: Write>(out: &mut W, refusal: Refusal) -> io::Result<()>
     text.put_byte(b' ');
     text.put_number(u64::from(number_of_refusal(refusal)));
     text.put(b"refused ");
-    out.write_all(text.bytes())
+    out.write_all(text.bytes())?;
+    Ok(())
 }
 
 /// Writes the line of an outcome.
@@ -170,19 +176,23 @@ fn write_outcome<W: Write>(out: &mut W, outcome: Outcome) -> io::Result<()>
     let mut text = ShortText::new();
     text.put_byte(b'\n');
     put_outcome(&mut text, outcome);
-    out.write_all(text.bytes())
+    out.write_all(text.bytes())?;
+    Ok(())
 }
 
 /// Writes a record's line.
+#[inline(always)]
 pub fn write_record<A: Allocator, W: Write>(out: &mut W, record: &Record<A>) -> io::Result<()>
     ensures { OnOk result (Appends (W.contents out.old) (W.contents out.new) (record_text «record».now)) }
 {
+    // (an error of an output is large, and is moved only where there is one)
     match record {
-        Record::Outcome(outcome) => write_outcome(out, *outcome),
-        Record::Refused(refusal) => write_refused(out, *refusal),
-        Record::LinkLost => out.write_all(b"link lost\n"),
-        Record::Answered { call, answer } => write_answered(out, *call, answer),
+        Record::Outcome(outcome) => write_outcome(out, *outcome)?,
+        Record::Refused(refusal) => write_refused(out, *refusal)?,
+        Record::LinkLost => out.write_all(b"link lost\n")?,
+        Record::Answered { call, answer } => write_answered(out, *call, answer)?,
     }
+    Ok(())
 }
 
 /// Writes the line of a frame that was put.
@@ -206,6 +216,7 @@ fn write_answers<A: Allocator, W: Write>(out: &mut W, answers: &[Record<A>]) -> 
 }
 
 /// Writes the lines of an event's records, and after the first that of the frame that was put.
+#[inline(always)]
 pub(crate) fn write_records<A: Allocator, W: Write>(
     out: &mut W,
     records: &[Record<A>],
@@ -220,6 +231,10 @@ pub(crate) fn write_records<A: Allocator, W: Write>(
     write_record(out, first)?;
     if let Some(frame) = frame {
         write_frame(out, frame)?;
+    }
+    // Most events answer no call.
+    if answers.is_empty() {
+        return Ok(());
     }
     write_answers(out, answers)
 }

@@ -3,10 +3,18 @@
 ghost use Rattle.std.specs.Prelude.{◌≡◌, ◌∷◌, [], MatchOption, option_copied};
 ghost use Rattle.fw_script.specs.Words.{words_of, words_left, HasWords};
 
-use crate::split::split_once;
+use crate::split::{split_near, split_once};
 
-/// The first word of a text, and the text after the space that ends it, if a space does.
+/// The first word of a text, which is short as a rule, and the text after the space that ends it, if a space does.
+#[inline(always)]
 pub(crate) fn split_word(text: &[u8]) -> (&[u8], Option<&[u8]>)
+    ensures { words_of text.now ≡ result.0.now ∷ words_left (option_copied result.1) }
+{
+    split_near(text, b' ')
+}
+
+/// The same of a text whose first word may be long.
+fn split_long_word(text: &[u8]) -> (&[u8], Option<&[u8]>)
     ensures { words_of text.now ≡ result.0.now ∷ words_left (option_copied result.1) }
 {
     split_once(text, b' ')
@@ -18,7 +26,7 @@ pub(crate) fn one_word(rest: Option<&[u8]>) -> Option<&[u8]>
         (¬ (HasWords 1 words))
         (λ word. HasWords 1 (word.now ∷ []) × (words ≡ word.now ∷ [])) }
 {
-    match split_word(rest?) {
+    match split_long_word(rest?) {
         (_, Some(_)) => None,
         (word, None) if word.is_empty() => None,
         (word, None) => Some(word),
