@@ -27,6 +27,7 @@ pub(crate) fn clear_links<A: Allocator>(
 
 /// Puts the frame of a request that was read onto its link, which has room, and gives its unique, its opcode and its
 /// length.
+#[inline(always)]
 pub(crate) fn put_request<A: Allocator>(
     requests: &mut Vec<RequestFrame<A>, A>,
     frame: RequestFrame<A>,
@@ -44,18 +45,24 @@ pub(crate) fn put_request<A: Allocator>(
 }
 
 /// Appends a value where there is room for it.
+#[inline(always)]
 pub(crate) fn append<T: Drop, A: Allocator>(list: &mut Vec<T, A>, value: T)
     requires { vec_len list.old < vec_capacity list.old }
     ensures { list.new.items ≡ list.old.items ++ value ∷ [] }
 {
-    let _ = list.push(value);
+    list.push_reserved(value);
 }
 
 /// Takes out what stands at this place. Those after it move up by one place each.
+#[inline(always)]
 pub(crate) fn take_out<T: Drop, A: Allocator>(list: &mut Vec<T, A>, place: usize) -> T
     requires { place < vec_len list.old }
     ensures value { result ≡ slice_index_or list.old.items place result }
     ensures items { list.new.items ≡ remove list.old.items place }
 {
+    // The last one moves no other.
+    if place == list.len() - 1 {
+        return list.pop().unwrap();
+    }
     list.remove(place)
 }

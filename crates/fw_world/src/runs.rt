@@ -114,5 +114,5 @@ pub(crate) fn add<A: Allocator>(records: &mut Vec<Record<A>, A>, value: Record<A
     ensures len { vec_len records.new ≡ vec_len records.old + 1 }
     ensures capacity { vec_capacity records.old ≤ vec_capacity records.new }
 {
-    let _ = records.push(value);
+    records.push_reserved(value);
 }
