@@ -80,10 +80,7 @@ fn look_up<A: Allocator + Copy>(
 {
     tree.keeps_shape();
     let _births = tree.births_left();
-    let Ok(found) = tree.lookup(directory, name) else {
-        unreachable!();
-    };
-    match found {
+    match tree.file_at(directory, name) {
         Some(file) => Outcome::Found { file },
         None => Outcome::Said {
             reply: Reply::Missing {
