@@ -17,6 +17,7 @@ use fuse_tables::Table;
 use std::alloc::Allocator;
 
 /// A call is answered: it waits no longer, and its answer is there to be collected. Takes no memory.
+#[inline(always)]
 pub fn answer<A: Allocator + Copy>(
     calls: &mut Table<CallState<A>, A>,
     answers: &mut Table<StoredAnswer<A>, A>,

@@ -32,6 +32,7 @@ use std::alloc::{AllocError, Allocator};
 
 /// The word or name that a call asks for leads to the node of an entry until a time, and one lookup more of the node is
 /// counted.
+#[inline(always)]
 fn bind_entry<A: Allocator + Copy, C: CountTable>(
     calls: &Table<CallState<A>, A>,
     names: &mut Bindings<A>,

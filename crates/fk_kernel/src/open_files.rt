@@ -186,6 +186,7 @@ impl<Q: QueueTable<Purpose> + Drop, C: CountTable<Heap = Q::Heap> + Drop> Kernel
     }
 
     /// The call, whose request is gone, is answered. A closed file that it read or wrote is let go. Takes no memory.
+    #[inline(always)]
     pub(crate) fn finish_use(&mut self, call: u64, answer: Answer<Q::Heap>)
         requires unanswered { is_some (get self.old.vfs.calls call) ≡ true }
         requires within { EndsWithin self.old call }
@@ -211,6 +212,7 @@ impl<Q: QueueTable<Purpose> + Drop, C: CountTable<Heap = Q::Heap> + Drop> Kernel
     }
 
     /// Whether the end of a call would let a closed file go, for whose RELEASE no number is left.
+    #[inline(always)]
     pub(crate) fn ends_past(&self, call: u64) -> bool
         ensures past { result ≡ true → EndsPast self.now call }
         ensures within { result ≡ false → EndsWithin self.now call }

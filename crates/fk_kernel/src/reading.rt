@@ -25,6 +25,7 @@ impl<Q: QueueTable<Purpose> + Drop, C: CountTable<Heap = Q::Heap> + Drop> Kernel
     }
 
     /// The pending request at a place, with its number, or why it cannot be read.
+    #[inline(always)]
     fn request_to_read(&self, place: u64) -> Result<(u64, Purpose), Refusal>
         ensures refusal { IfErr result (λ refusal. read_refusal self.now place ≡ Some refusal) }
         ensures judged { OnOk result (read_refusal self.now place ≡ None) }

@@ -159,6 +159,7 @@ impl<Q: QueueTable<Purpose> + Drop, C: CountTable<Heap = Q::Heap> + Drop> Kernel
     }
 
     /// Whether an entry would bring its node's count to the end of counters.
+    #[inline(always)]
     fn entry_past(&self, entry: &Entry) -> bool
         ensures { result ≡ is_counted_out (looked_up_by_all self.now.nodes (entry.now ∷ [])
             (first_use (use_of self.now.nodes entry.now) usable)) }

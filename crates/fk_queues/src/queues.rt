@@ -103,6 +103,7 @@ impl<W: Drop, S: RequestStore<W>> QueueTable<W> for QueuesOf<W, S> {
         self.uniques.numbers_left()
     }
 
+    #[inline(always)]
     fn enqueue(&mut self, kept: W) -> u64 {
         let unique = self.uniques.next().unwrap();
         self.requests.push(unique, kept);
@@ -172,6 +173,7 @@ impl<W: Drop, S: RequestStore<W>> QueueTable<W> for QueuesOf<W, S> {
         }
     }
 
+    #[inline(always)]
     fn answer(&mut self, unique: u64) -> Option<W> {
         if self.waiting(unique).is_none() {
             return None;

@@ -117,6 +117,7 @@ fn said_by(body: ReplyBody<'_>) -> Option<ReplySaid<'_>>
 }
 
 /// What the bytes say to what a call asked, if they are a reply that goes with it.
+#[inline(always)]
 pub fn said_to<'a>(asked: &Operation<&[u8]>, bytes: &'a [u8]) -> Option<ReplySaid<'a>>
     ensures said { IfSome result (SaysTo (operation_of (λ s. s.now) asked.now) bytes.now) }
     ensures none { IfNone result ((wire : WireReply)

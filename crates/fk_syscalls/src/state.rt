@@ -289,6 +289,7 @@ impl<A: Allocator + Copy> CallState<A> {
     }
 
     /// The operation that it asks.
+    #[inline(always)]
     pub fn asks(&self) -> Operation<&[u8]>
         ensures operation { operation_of (λ s. s.now) result ≡ asked self.now }
         ensures stands { StandsAt (operation_of (λ s. s.now) result) self.now }

@@ -25,6 +25,7 @@ use std::alloc::{AllocError, Allocator};
 impl<S: NodeStore> Files<S> {
     /// What a held request comes to, on the tree as it is now; an INIT is answered this minor. Where memory is wanting
     /// nothing changes.
+    #[inline(always)]
     pub fn answer(
         &mut self,
         held: &HeldRequest<S::Heap>,

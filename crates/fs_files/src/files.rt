@@ -168,6 +168,7 @@ impl<S: NodeStore> Files<S> {
 
     /// Takes a file out of the tree, if no name leads to it and nothing holds it. Every other file that nothing holds
     /// has a name, so then all nameless files are gone that nothing holds.
+    #[inline(always)]
     pub fn discard_unheld(&mut self, loose: Option<u64>)
         requires { AreNamedBut loose self.old.tree self.old.nodes self.old.handles }
         ensures tree { (v : ValidityValue) → self.new.tree

@@ -19,6 +19,7 @@ use std::alloc::Allocator;
 impl<S: NodeStore> Files<S> {
     /// The file that a held request takes a name for good or an open number from, if it is performed. Every other file
     /// that nothing holds keeps a name.
+    #[inline(always)]
     pub fn loosened_by(&self, held: &HeldRequest<S::Heap>) -> Option<u64>
         ensures file { (v : ValidityValue) (m : MinorValue) → result ≡ loosened (server_at m self.now v) held.now.body }
         ensures others { (v : ValidityValue) (m : MinorValue) → AreNamed self.now.tree self.now.nodes self.now.handles

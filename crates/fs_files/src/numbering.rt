@@ -28,6 +28,7 @@ use std::alloc::Allocator;
 impl<S: NodeStore> Files<S> {
     /// Gives the files of an outcome their nodes, a new open number, or both, and names them so in what is sent. Each
     /// node is counted once. No memory is taken.
+    #[inline(always)]
     pub fn give_numbers(
         &mut self,
         outcome: Outcome<S::Heap>,
@@ -209,6 +210,7 @@ impl<S: NodeStore> Files<S> {
     }
 
     /// Counts a lookup of a file, and gives the entry with its node.
+    #[inline(always)]
     fn give(&mut self, file: u64) -> Entry
         requires file { file < 2 ^ 62 }
         requires there { IsThere self.old.tree file }

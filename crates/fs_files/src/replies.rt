@@ -104,6 +104,7 @@ pub fn body_len<A: Allocator>(reply: &SentReply<A>) -> usize
 }
 
 /// The same reply once more, in room that is there.
+#[inline(always)]
 pub fn copied<A: Allocator>(reply: &SentReply<A>, spare: ReplySpare<A>) -> SentReply<A>
     requires { HasSpare spare (sent_len reply.now) (sent_names reply.now) }
     ensures wire { sent_wire result ≡ sent_wire reply.now }
@@ -143,6 +144,7 @@ pub fn copied<A: Allocator>(reply: &SentReply<A>, spare: ReplySpare<A>) -> SentR
 }
 
 /// The frame of a reply.
+#[inline(always)]
 pub fn framed<A: Allocator>(reply: &SentReply<A>, room: ReplyRoom<A>, unique: u64) -> ReplyFrame<A>
     requires sendable { IsSendable reply.now }
     requires room { 16 + sent_len reply.now ≤ room }

@@ -23,6 +23,7 @@ impl<A: Allocator + Copy> ReplySpare<A> {
     ghost use Rattle.fs_files.specs.Replies.{HasSpare};
 
     /// Room for so many bytes and names.
+    #[inline(always)]
     pub fn new(alloc: A, len: usize, names: usize) -> Result<Self, AllocError>
         ensures { IfOk result (λ spare. HasSpare spare len names) }
     {

@@ -48,6 +48,7 @@ impl<S: NodeStore> ServerOf<S> {
     }
 
     /// The request that a frame spells, if nothing but want of memory can refuse it.
+    #[inline(always)]
     pub(crate) fn judged<'a>(&self, bytes: &'a [u8]) -> Result<Request<'a>, ServerFault>
         ensures takeable { IfOk result (λ request. IsTakeable self.now bytes.now (request_message request)) }
         ensures refused { IfErr result (RefusesFrame self.now bytes.now) }

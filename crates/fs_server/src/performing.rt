@@ -18,6 +18,7 @@ impl<S: NodeStore> ServerOf<S> {
     /// Why a held request cannot be performed, want of memory aside: `NoSuch` where none is held under the unique,
     /// `Exhausted` where a counter from which it draws is at its end, or the lookups of a node that its reply gives
     /// would come to it.
+    #[inline(always)]
     pub fn perform_refusal(&self, unique: u64) -> Option<Refusal>
         ensures refuses { IfSome result (RefusesHeld self.now unique) }
         ensures none { IfNone result (CanPerform self.now unique) }

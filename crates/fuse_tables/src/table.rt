@@ -35,6 +35,7 @@ impl<V, A: Allocator> Model for Table<V, A> {
 }
 
 /// How many of the rows, from the first on, have a lower key.
+#[inline(always)]
 fn place_in<V>(rows: &[(u64, V)], key: u64) -> usize
     requires { T (is_sorted nat_cmp rows.now) }
     ensures place { result ≡ place_of key rows.now }
@@ -44,6 +45,7 @@ fn place_in<V>(rows: &[(u64, V)], key: u64) -> usize
 }
 
 /// Where the row of a key stands.
+#[inline(always)]
 fn find_in<V>(rows: &[(u64, V)], key: u64) -> Option<usize>
     requires { T (is_sorted nat_cmp rows.now) }
     ensures { MatchOption result (value_at rows.now key ≡ None) (IsRowOf rows.now key) }
@@ -57,6 +59,7 @@ fn find_in<V>(rows: &[(u64, V)], key: u64) -> Option<usize>
 }
 
 /// Puts a row at a place, for which there is room. Most keys rise, so most rows come last.
+#[inline(always)]
 fn put_at<V: Drop, A: Allocator>(rows: &mut Vec<(u64, V), A>, place: usize, row: (u64, V))
     requires place { place ≤ vec_len rows.old }
     requires room { vec_len rows.old < vec_capacity rows.old }
@@ -72,6 +75,7 @@ fn put_at<V: Drop, A: Allocator>(rows: &mut Vec<(u64, V), A>, place: usize, row:
 }
 
 /// Takes out the row at a place. The last one moves no other.
+#[inline(always)]
 fn take_at<V: Drop, A: Allocator>(rows: &mut Vec<(u64, V), A>, place: usize) -> (u64, V)
     requires { place < vec_len rows.old }
     ensures value { result ≡ slice_index_or rows.old.items place result }
@@ -102,6 +106,7 @@ impl<V: Drop, A: Allocator + Copy> Table<V, A> {
     }
 
     /// The value at a key.
+    #[inline(always)]
     pub fn get(&self, key: u64) -> Option<&V>
         ensures { option_copied result ≡ value_at self.now.entries key }
     {
@@ -137,6 +142,7 @@ impl<V: Drop, A: Allocator + Copy> Table<V, A> {
     }
 
     /// Puts a value at a key that has none, into room that was made.
+    #[inline(always)]
     pub fn put(&mut self, key: u64, value: V)
         requires room { 0 < self.old.room }
         requires absent { value_at self.old.entries key ≡ None }
@@ -148,6 +154,7 @@ impl<V: Drop, A: Allocator + Copy> Table<V, A> {
     }
 
     /// Takes out the value at a key. Its room stays.
+    #[inline(always)]
     pub fn remove(&mut self, key: u64) -> Option<V>
         ensures value { result ≡ value_at self.old.entries key }
         ensures entries { self.new.entries ≡ without_key self.old.entries key }
