@@ -42,7 +42,7 @@ pub fn step()
         → Needs choice w p e → step choice w e ≡ Ok (o, after) → Moves p e o after }
 {}
 
-/// The kernel's root is node 1 at first and stays it, and the answers that are not collected stay in rising number,
+/// The kernel's root is node 1 at first and remains so, and the answers that are not collected stay in rising number,
 /// whatever the event.
 pub fn stays_rooted()
     ensures at_first { IsRooted first_world.kernel.vfs }
@@ -50,7 +50,7 @@ pub fn stays_rooted()
         → step choice w e ≡ Ok (o, after) → IsRooted after.kernel.vfs }
 {}
 
-/// The queues are sound at first and stay it, whatever the event: a number has one request at most, and stands on the
+/// The queues are sound at first and remain so, whatever the event: a number has one request at most, and stands on the
 /// list of INTERRUPTs once at most.
 pub fn queues_stay_sound()
     ensures at_first { IsSound first_world.kernel.queues }
@@ -58,7 +58,7 @@ pub fn queues_stay_sound()
         → step choice w e ≡ Ok (o, after) → IsSound after.kernel.queues }
 {}
 
-/// The server's tree and tables are sound at first and stay it, whatever the event and whatever free nodeids the server
+/// The server's tree and tables are sound at first and remain so, whatever the event and whatever free nodeids the server
 /// gives. So no two nodes have one file, the root stands in no table, and the coming open number is new.
 pub fn server_stays_sound()
     ensures at_first { ServerSound first_world.server }

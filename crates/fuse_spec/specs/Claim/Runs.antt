@@ -66,7 +66,7 @@ abbrev pub AnswersApart : Record → Record → Type 0
 AnswersApart (answered a x) (answered b y) = a ≢ b
 AnswersApart x y = Unit {0}
 
--- Each call is answered at most once. (this project's rule)
+-- Each call is answered at most once.
 abbrev pub AnswersOnce : List Record → Type 0
 AnswersOnce records = AllPairs AnswersApart records
 

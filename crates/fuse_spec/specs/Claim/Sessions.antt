@@ -11,7 +11,7 @@ use Rattle.fuse_spec.specs.Claim.Counts.{Keeps}
 use Rattle.fuse_spec.specs.Claim.Alike.{Alike}
 use Rattle.fuse_spec.specs.Claim.Runs.{Moves, plain_collected}
 
--- The world, and whether the link between its two sides is lost. (this project's rule)
+-- The world, and whether the link between its two sides is lost.
 pub record Session : Type 0 where
   pub world : World
   pub is_lost : Bool

@@ -62,8 +62,7 @@ given_back s wire = without_unheld_files (record s {
   handles = handles_back s.handles (opens_in_reply wire);
 })
 
--- The kept replies once a copy is settled: the reply of which it was a copy isn't kept any longer. (this project's
--- rule)
+-- The kept replies once a copy is settled: the reply of which it was a copy isn't kept any longer.
 abbrev pub kept_after : Map Kept → Copy → Option Kept → Map Kept
 kept_after kept copy None = kept
 kept_after kept copy (Some k) = cond (nat_eq k.first copy.first) (remove kept copy.unique) kept

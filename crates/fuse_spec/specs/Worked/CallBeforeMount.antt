@@ -7,7 +7,7 @@ use Rattle.fuse_spec.specs.Worked.LockStep.{Both, IsRecorded, after_all, start}
 use Rattle.fuse_spec.specs.Calls.Calls as call
 use Rattle.fuse_spec.specs.declared.Refusal.TheVariants as refusal
 
--- The events of the run, what both worlds have to record of them, and both worlds after them. (this project's rule)
+-- The events of the run, what both worlds have to record of them, and both worlds after them.
 abbrev pub events_0 : List Event
 events_0 =
     event.call (call.stat (codes "/")) ∷
@@ -21,6 +21,6 @@ records_0 =
 abbrev pub worlds_0 : Both
 worlds_0 = after_all start events_0
 
--- Both worlds record this. (this project's rule)
+-- Both worlds record this.
 abbrev pub IsComputed : Type 0
 IsComputed = IsRecorded worlds_0 records_0

@@ -12,7 +12,7 @@ use Rattle.fuse_spec.specs.declared.WriteResult.TheVariants as result
 use Rattle.fuse_spec.specs.declared.Kind.TheVariants as kind
 
 -- The events of the run and of its two further parts, what both worlds have to record of them, and both worlds after
--- them. (this project's rule)
+-- them.
 abbrev pub events_0 : List Event
 events_0 =
     event.mount 1000 0 minor.M31 ∷
@@ -117,7 +117,7 @@ records_2 =
 abbrev pub worlds_2 : Both
 worlds_2 = after_all (emptied worlds_1) events_2
 
--- Both worlds record this, and the kernel and the server hold these nodes. (this project's rule)
+-- Both worlds record this, and the kernel and the server hold these nodes.
 abbrev pub IsComputed : Type 0
 IsComputed = IsRecorded worlds_0 records_0 × (nodes_shown worlds_0 ≡ (([]), ((2, 1, 1) ∷ [])))
     × IsRecorded worlds_1 records_1 × (nodes_shown worlds_1 ≡ (([]), ([]))) × IsRecorded worlds_2 records_2

@@ -12,7 +12,7 @@ use Rattle.fuse_spec.specs.declared.WriteResult.TheVariants as result
 use Rattle.fuse_spec.specs.declared.IntrEffect.TheVariants as effect
 use Rattle.fuse_spec.specs.declared.Refusal.TheVariants as refusal
 
--- The events of the run, what both worlds have to record of them, and both worlds after them. (this project's rule)
+-- The events of the run, what both worlds have to record of them, and both worlds after them.
 abbrev pub events_0 : List Event
 events_0 =
     event.mount 1000 0 minor.M31 ∷
@@ -71,6 +71,6 @@ records_0 =
 abbrev pub worlds_0 : Both
 worlds_0 = after_all start events_0
 
--- Both worlds record this. (this project's rule)
+-- Both worlds record this.
 abbrev pub IsComputed : Type 0
 IsComputed = IsRecorded worlds_0 records_0

@@ -12,7 +12,6 @@ use Rattle.fuse_spec.specs.declared.WriteResult.TheVariants as result
 use Rattle.fuse_spec.specs.declared.Refusal.TheVariants as refusal
 
 -- The events of the run and of its second part, what both worlds have to record of them, and both worlds after them.
--- (this project's rule)
 abbrev pub events_0 : List Event
 events_0 =
     event.mount 1000 0 minor.M31 ∷
@@ -80,7 +79,7 @@ records_1 =
 abbrev pub worlds_1 : Both
 worlds_1 = after_all (emptied worlds_0) events_1
 
--- Both worlds record this, and the kernel and the server hold these nodes. (this project's rule)
+-- Both worlds record this, and the kernel and the server hold these nodes.
 abbrev pub IsComputed : Type 0
 IsComputed = IsRecorded worlds_0 records_0 × (nodes_shown worlds_0 ≡ (((2, 1, 2) ∷ []), ((2, 1, 3) ∷ [])))
     × IsRecorded worlds_1 records_1

@@ -11,7 +11,7 @@ use Rattle.fuse_spec.specs.declared.Taken.TheVariants as word
 use Rattle.fuse_spec.specs.declared.WriteResult.TheVariants as result
 
 -- The events of the run and of its two further parts, what both worlds have to record of them, and both worlds after
--- them. (this project's rule)
+-- them.
 abbrev pub events_0 : List Event
 events_0 =
     event.mount 1000 0 minor.M31 ∷
@@ -90,7 +90,7 @@ records_2 =
 abbrev pub worlds_2 : Both
 worlds_2 = after_all (emptied worlds_1) events_2
 
--- Both worlds record this, and the kernel and the server hold these nodes. (this project's rule)
+-- Both worlds record this, and the kernel and the server hold these nodes.
 abbrev pub IsComputed : Type 0
 IsComputed = IsRecorded worlds_0 records_0 × (nodes_shown worlds_0 ≡ (((2, 1, 2) ∷ []), ((2, 1, 3) ∷ [])))
     × IsRecorded worlds_1 records_1 × (nodes_shown worlds_1 ≡ (((2, 1, 2) ∷ []), ((2, 1, 3) ∷ [])))

@@ -91,7 +91,7 @@ pub data Leads (choice : ℕ → ℕ) (w : World) : Event → Outcome → World 
       → Leads choice w (event.evict node) (event.evicted node counted.count) (after_evict w node counted)
   aborts : is_live w.kernel.phase ≡ true → Leads choice w event.abort event.aborted (after_abort w)
 
--- The events that are refused where a counter would go past its end. (this project's rule)
+-- The events that are refused where a counter would go past its end.
 abbrev pub draws : Event → Bool
 draws (event.mount found_ms missing_ms minor) = false
 draws (event.settle k) = false
@@ -101,7 +101,7 @@ draws (event.evict node) = false
 draws event.abort = false
 draws other = true
 
--- The events that need a live mount. (this project's rule)
+-- The events that need a live mount.
 abbrev pub needs_live : Event → Bool
 needs_live event.read_interrupt = true
 needs_live (event.read_forgets n) = true

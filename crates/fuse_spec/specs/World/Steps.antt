@@ -34,7 +34,7 @@ use Rattle.fuse_spec.specs.World.Events as event
 abbrev pub Stepped : Type 0
 Stepped = Result (Outcome × World) Refusal
 
--- Whether a counter would have given a number past its end, or a node's count come to it. (this project's rule)
+-- Whether a counter would have given a number past its end, or a node's count come to it.
 abbrev pub is_past : World → Bool
 is_past w = kernel.is_past w.kernel || server.is_past_end w.server
 
