@@ -38,7 +38,7 @@ pub use entry::{Attr, Entry};
 pub use fault::WireFault;
 pub use flags::InitFlags;
 pub use limits::MAX_FRAME;
-pub use opcode::{Minor, Opcode, is_served_opcode, is_served_opcode_at, opcode_of_code};
+pub use opcode::{Minor, Opcode, is_served_opcode_at, opcode_of_code};
 pub use pairs::Pairs;
 pub use reading::{read_request, read_request_at, read_request_head, spelled_is_decoded};
 pub use reading_reply::{read_reply, read_reply_at, read_reply_head, spelled_reply_is_decoded};

@@ -90,14 +90,6 @@ pub fn opcode_of_code(code: u32) -> Option<Opcode>
     }
 }
 
-/// Whether a number is that of an opcode of 7.31.
-pub fn is_served_opcode(code: u32) -> bool
-    ensures yes { result ≡ true → (o : Opcode) × IsTrue (knows served o) × (code_of o ≡ code) }
-    ensures no { result ≡ false → (o : Opcode) → IsTrue (knows served o) → code_of o ≢ code }
-{
-    is_served_opcode_at(served_minor(), code)
-}
-
 /// Whether a number is that of an opcode which the minor version knows.
 pub fn is_served_opcode_at(minor: Minor, code: u32) -> bool
     ensures yes { result ≡ true → (o : Opcode) × IsTrue (knows minor o) × (code_of o ≡ code) }
