@@ -17,7 +17,7 @@ use std::marker::Model;
 /// fallen to 0.
 const COUNTS: usize = 3;
 
-/// Names stay below this, so that three counts for each can be counted.
+/// Names stay below this, so that three times their number does not overflow.
 const MOST: usize = 0x1000_0000_0000_0000;
 
 /// The names in force: each name of a directory that is bound, with the node to which it leads, if any, and the time

@@ -12,7 +12,7 @@ use Rattle.fk_said.specs.ReplySaid.{LentReply, wire_of, LastsADay}
 use Rattle.fk_kernel.specs.Entries.{Awaits, IsFew, nodes_heard}
 use Rattle.fk_kernel.specs.AwaitedReplies.{Says}
 
--- The bytes say this to the call, it goes with what the call asked, and no counter comes to its end by it.
+-- The bytes say this to the call, it goes with what the call asked, and it exhausts no counter.
 pub record IsCallReply (k : Kernel) (unique call : ℕ) (operation : Operation ℕ Opened) (bytes : List ℕ)
     (said : LentReply) : Type 0 where
   pub says : Says (asked_opcode (asks operation)) bytes (wire_of said)

@@ -54,8 +54,8 @@ pub fn interrupt_moves_none<W>()
         kept_entries (processing (after_interrupt s unique fatal)) ≡ kept_entries (processing s) }
 {}
 
-/// The reply ENOSYS to the INTERRUPT of a request that waits is `no_interrupts`, and every other than that and EAGAIN
-/// is no call at all. EAGAIN is `again`, by the contract of that call.
+/// The reply ENOSYS to the INTERRUPT of a request that waits is `no_interrupts`, and any other error
+/// but EAGAIN needs no call. EAGAIN is `again`, by the contract of that call.
 pub fn interrupt_replies_are_calls<W>()
     ensures not_supported { (s : QueueState W) (unique : ℕ) (kept : W) → waiting s unique ≡ Some kept →
         after_interrupt_reply s unique NotSupported ≡ after_no_interrupts s }

@@ -18,14 +18,14 @@ use crate::plan::{Change, FinalOperation, Plan};
 use crate::state::{CallState, Next, ROOT};
 use crate::walk::walk;
 use fk_dentry::Bindings;
-use fuse_spec::Opened;
 use fuse_spec::errno::{EBADF, EINVAL, ENOENT};
 use fuse_spec::limits::MAX_FILE;
+use fuse_spec::{Opened, limits};
 use fuse_tables::Table;
 use std::alloc::{AllocError, Allocator};
 
 /// A read or write has at most so many bytes.
-const MAX_TRANSFER: u64 = 4_096;
+const MAX_TRANSFER: u64 = limits::MAX_TRANSFER as u64;
 
 /// Begins a call on a mount that is not aborted: a fault answers it; a read or write asks at once; else it walks from
 /// the root as far as the names in force lead at this time, in milliseconds. A close is the kernel's own.

@@ -1,4 +1,4 @@
-//! What the kernel knows files by: nodes and open numbers.
+//! By what the kernel identifies files: nodes and open numbers.
 
 ghost use Rattle.std.specs.Prelude.{◌≡◌, ◌≤◌, ◌<◌, ◌+◌, ◌^◌, ◌||◌, [], OnOk, nat_eq};
 ghost use Rattle.std.specs.List.{list_any};

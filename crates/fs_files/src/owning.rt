@@ -43,7 +43,7 @@ pub fn owned<A: Allocator + Copy>(
     }
 }
 
-/// The same of one on two nodes, or with bytes to write.
+/// As `owned`, for an operation on two nodes, or with bytes to write.
 fn owned_with_more<A: Allocator + Copy>(
     alloc: A,
     operation: &Operation<&[u8]>,
@@ -85,7 +85,7 @@ fn owned_with_more<A: Allocator + Copy>(
     }
 }
 
-/// The same of one with no name and no bytes.
+/// As `owned`, for an operation with no name and no bytes.
 fn bare<A: Allocator>(operation: &Operation<&[u8]>) -> HeldOperation<A>
     requires { is_bare operation.now ≡ true }
     ensures { operation_of result ≡ lent_operation operation.now }
