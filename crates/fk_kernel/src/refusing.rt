@@ -119,6 +119,7 @@ impl<Q: QueueTable<Purpose> + Drop, C: CountTable<Heap = Q::Heap> + Drop> Kernel
 
     /// Whether what is said to a call that stands so would bring a node's count to the end of counters, or have a
     /// request queued for which no number is left.
+    #[inline(always)]
     fn said_past(
         &self,
         unique: u64,

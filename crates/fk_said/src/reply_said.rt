@@ -98,6 +98,7 @@ fn said_by_create(entry: &fk_wire::Entry, fh: u64) -> ReplySaid<'static>
 }
 
 /// What a body says. One of INIT says nothing to a call.
+#[inline(always)]
 fn said_by(body: ReplyBody<'_>) -> Option<ReplySaid<'_>>
     ensures { MatchOption result (IsSaidBody (reply_content body.entry) → ⊥)
         (λ said. (wire_body (reply_content body.entry) ≡ wire_of said) × LastsADay said) }

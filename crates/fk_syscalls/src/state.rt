@@ -156,6 +156,7 @@ fn opened(nodeid: u64, fh: u64) -> Opened
 
 impl<A: Allocator + Copy> CallState<A> {
     /// A call at a node, with a copy of the words that are left.
+    #[inline(always)]
     pub(crate) fn new(
         alloc: A,
         node: u64,
@@ -229,6 +230,7 @@ impl<A: Allocator + Copy> CallState<A> {
 
     /// The word that it asked for leads to this node. It walks on as far as the names in force lead at this time, in
     /// milliseconds. Takes no memory.
+    #[inline(always)]
     pub fn found(self, names: &Bindings<A>, clock: u64, node: u64) -> Next<A>
         requires { IsWalking self }
         ensures { (c : Vfs Opened) (call directory : ℕ) (word : Name) (words : List Name) (plan : WalkPlan ℕ)

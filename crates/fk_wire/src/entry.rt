@@ -39,6 +39,7 @@ pub struct Entry {
 }
 
 /// The attributes at a place.
+#[inline(always)]
 pub(crate) fn attr_at(bytes: &[u8], place: usize) -> Attr
     requires { place + 88 ≤ length bytes.now }
     ensures { result ≡ attributes_at place bytes.now }
@@ -60,6 +61,7 @@ pub(crate) fn time_at(bytes: &[u8], place: usize) -> u32
 }
 
 /// The entry at a place, whatever its nanoseconds.
+#[inline(always)]
 pub(crate) fn entry_at(bytes: &[u8], place: usize) -> Entry
     requires { place + 128 ≤ length bytes.now }
     ensures content { entry_content result ≡ entry_content_at place bytes.now }
