@@ -1,6 +1,7 @@
 #!/usr/bin/env python3
-"""Whether what README.md and docs/ name is there: files, crates, rows, edits, definitions and functions.
+"""Whether what README.md and docs/ name is there: files, crates, rows, edits, definitions, functions and make's targets.
 
+A lone word in backticks has to be a word of a source outside its comments, or in the name of a file, a folder or a crate.
 In the tables whose second column is "Definition", each rule has to lead to a definition, a function and a test.
 Prints a line for each name that leads nowhere, and ends with status 1 where there is one.
 """
@@ -14,11 +15,20 @@ CRATES = {folder.name for folder in (TOP / "crates").iterdir() if (folder / "src
 CODE = {crate: "\n".join(file.read_text() for file in (TOP / "crates" / crate / "src").rglob("*.rt")) for crate in CRATES}
 EDITS = {(file.parts[-3], file.stem) for file in TOP.glob("crates/*/must-fail/*.edit")}
 ROWS = {file.stem for file in TOP.glob("tests/rows/*.script")}
-# Words with a hyphen that are no rows and no edits.
-WORDS = {"must-fail", "not-run"}
+TARGETS = set(re.findall(r"^(\w+):", (TOP / "Makefile").read_text(), re.M))
+# Words with a hyphen that are no rows and no edits, a word of `rt plant`, and how the names of calls that take a minor end.
+WORDS = {"must-fail", "not-run", "proves", "_at"}
+# Pages with names of linux/fuse.h, which stand in comments of the sources, and the page that names functions of earlier code.
+OF_LINUX = {"PROTOCOL.md", "DIFFERENCES.md"}
+OF_EARLIER_CODE = {"SPEED.md"}
 MODULES = {}
 for file in [*TOP.glob("crates/*/specs/**/*.antt"), *TOP.glob("crates/*/proofs/*.antt"), *TOP.glob("crates/fuse_theorem/proofs/*/[A-Z]*.antt")]:
     MODULES[file.stem] = MODULES.get(file.stem, "") + file.read_text()
+SOURCES = [file for part in ("src", "specs", "proofs") for file in TOP.glob(f"crates/*/{part}/**/*") if file.suffix in (".rt", ".antt")]
+FILES = [f"/{file.relative_to(TOP)}" for file in [*SOURCES, *PAGES, *TOP.glob("tests/*.*"), *TOP.iterdir()]]
+TEXT = "\n".join(file.read_text() for file in SOURCES)
+KNOWN = {*re.findall(r"\w+", re.sub(r"(//|--).*", "", TEXT)), *re.findall(r"\w+", "\n".join(FILES)), *WORDS}
+KNOWN_OF_LINUX = KNOWN | set(re.findall(r"\w+", TEXT))
 
 def has_word(text, word):
     return re.search(rf"(?<![\w-]){re.escape(word)}(?![\w-])", text) is not None
@@ -29,23 +39,30 @@ def declares(text, name):
 def is_item(code, name):
     return re.search(rf"\b(fn|struct|enum|trait|type|mod|const|static|ghost) {re.escape(name)}\b", code) is not None
 
-def leads(token):
-    """Whether a name leads somewhere; None where it is none of those that are looked up."""
+def leads(token, page):
+    """Whether a name on a page leads somewhere; None where it is none of those that are looked up."""
     if re.fullmatch(r"(crates|tests|docs)/[\w./-]+", token):
         return "/out/" in token or (TOP / token).exists()
-    if match := re.fullmatch(r"(\w+)\.(antt|md)", token):
-        return match[1] in MODULES if match[2] == "antt" else any(TOP.glob(f"**/{token}"))
+    if re.fullmatch(r"(\w+/)*\w+\.(rt|antt|md|py|sh)", token):
+        return any(file.endswith(f"/{token}") for file in FILES)
+    if match := re.fullmatch(r"make (\w+)( \S+)?", token):
+        return match[1] in TARGETS
     if re.fullmatch(r"[a-z0-9]+(-[a-z0-9]+)+", token):
         return token in ROWS | WORDS or any(edit == token for _, edit in EDITS)
     if match := re.fullmatch(r"(\w+)/([a-z0-9-]+)", token):
         return match.groups() in EDITS
+    if match := re.fullmatch(r"([A-Z]\w*/[A-Z]\w*)(?:\.(\w+))?", token):
+        return any(match[2] is None or has_word(file.read_text(), match[2]) for file in TOP.glob(f"crates/*/specs/{match[1]}.antt"))
     if match := re.fullmatch(r"([A-Z]\w*)\.(\w+)", token):
         where = [MODULES[match[1]]] if match[1] in MODULES else [text for text in MODULES.values() if declares(text, match[1])]
-        return any(has_word(text, match[2]) for text in where)
+        is_one = len([*TOP.glob(f"crates/fuse_spec/specs/*/{match[1]}.antt")]) < 2
+        return is_one and any(has_word(text, match[2]) for text in where)
     if re.fullmatch(r"\w+(::\w+)+", token):
         first, *rest = token.split("::")
         code = [CODE[first]] if first in CRATES else [code for code in CODE.values() if is_item(code, first)]
         return any(all(is_item(text, name) for name in rest) for text in code)
+    if re.fullmatch(r"\w+", token) and page.name not in OF_EARLIER_CODE:
+        return token in (KNOWN_OF_LINUX if page.name in OF_LINUX else KNOWN) or any(crate.startswith(token) for crate in CRATES)
     return None
 
 def names(cell):
@@ -79,8 +96,13 @@ def main():
                 if not (page.parent / link).exists():
                     wrong.append(f"{place}: {link}")
             for name in names(line):
-                if leads(name) is False:
+                if leads(name, page) is False:
                     wrong.append(f"{place}: {name}")
+            # `crate`: `function`, `function` ..
+            for crate, listed in re.findall(r"`(\w+)`: ((?:`[\w:]+`(?:, | and )?)+)", line):
+                for name in names(listed) if crate in CRATES else []:
+                    if not all(has_word(CODE[crate], part) for part in name.split("::")):
+                        wrong.append(f"{place}: {crate}: {name}")
             cells = line.split("|")[1:-1]
             if len(cells) > 1 and cells[1].strip() == "Definition":
                 in_rules = True
