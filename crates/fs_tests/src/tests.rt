@@ -1,5 +1,6 @@
 //! What no clause says: values from outside, that calls succeed, which free numbers are given, and refused growths.
 
+mod faults;
 mod frames;
 mod handles;
 mod hostile;

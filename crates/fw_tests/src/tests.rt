@@ -1,8 +1,10 @@
 //! What no clause and no row says: faults of lines as printed, readers and writers that fail, growths that are refused, bytes fed
 //! to a cutter, rows over links and over plain lists, and lists of events that are drawn.
 
+mod carried;
 mod cutting;
 mod drawn;
+mod frames;
 mod growths;
 mod lines;
 mod over_links;

@@ -36,10 +36,14 @@ enum Row {
     NoInterrupts,
     /// Room is made and so many lookups of a node are to be forgotten.
     Forget(u64, u64),
-    /// So many forgets make no frame.
+    /// The same of each node from the first up to an end, each with lookups of its own.
+    ForgetEach(u64, u64),
+    /// So many forgets make no frame, looked at or read.
     NoForgets(usize),
     /// The frame is looked at, and then read.
     Forgets(Frame),
+    /// The same of a frame with a number, of each node from the first up to an end.
+    ForgetsOfEach(u64, u64, u64),
     Abort,
 }
 
@@ -56,6 +60,19 @@ fn queue<Q: QueueTable<u64>>(queues: &mut Q, kept: u64) -> Result<u64, NoMemory>
 fn queue_forget<Q: QueueTable<u64>>(queues: &mut Q, node: u64, count: u64) -> Result<(), NoMemory> {
     queues.reserve(0, 1)?;
     queues.forget(node, count);
+    Ok(())
+}
+
+/// The lookups of one node among many.
+fn lookups_of(node: u64) -> u64 {
+    node.wrapping_mul(3)
+}
+
+/// Queues a forget of each node from the first up to an end, for which there is room.
+fn queue_each<Q: QueueTable<u64>>(queues: &mut Q, first: u64, end: u64) -> Result<(), NoMemory> {
+    for node in first..end {
+        queue_forget(queues, node, lookups_of(node))?;
+    }
     Ok(())
 }
 
@@ -76,6 +93,35 @@ fn reads_forgets<Q: QueueTable<u64>>(queues: &mut Q, frame: Frame) -> bool {
         return false;
     }
     is_frame(queues.first_forgets(frame.1), frame) && is_frame(queues.read_forgets(frame.1), frame)
+}
+
+/// Whether these are the forgets of each node from the first up to an end, under the number.
+fn is_of_each(read: Option<(u64, Forgets)>, unique: u64, first: u64, end: u64) -> bool {
+    let Some((drawn, forgets)) = read else {
+        return false;
+    };
+    let mut node = first;
+    let mut is_right = drawn == unique;
+    for pair in forgets.as_slice() {
+        is_right = is_right && *pair == (node, lookups_of(node));
+        node = node.wrapping_add(1);
+    }
+    is_right && node == end
+}
+
+/// Looks at forgets and reads them: whether both give those of each node from the first up to an end.
+fn reads_of_each<Q: QueueTable<u64>>(queues: &mut Q, unique: u64, first: u64, end: u64) -> bool {
+    let count = end.wrapping_sub(first) as usize;
+    queues.numbers_left() != 0
+        && is_of_each(queues.first_forgets(count), unique, first, end)
+        && is_of_each(queues.read_forgets(count), unique, first, end)
+}
+
+/// Looks at forgets and reads them: whether neither gives any.
+fn reads_none<Q: QueueTable<u64>>(queues: &mut Q, count: usize) -> bool {
+    queues.numbers_left() != 0
+        && queues.first_forgets(count).is_none()
+        && queues.read_forgets(count).is_none()
 }
 
 /// A number and what is kept, by value.
@@ -99,7 +145,9 @@ fn changes<Q: QueueTable<u64>>(queues: &mut Q, row: Row) -> bool {
         Row::Answer(unique, kept) => queues.answer(unique) == kept,
         Row::Interrupt(unique, fatal, effect) => queues.interrupt(unique, fatal) == effect,
         Row::ReadInterrupt(unique) => queues.read_interrupt() == unique,
+        Row::NoForgets(count) => reads_none(queues, count),
         Row::Forgets(frame) => reads_forgets(queues, frame),
+        Row::ForgetsOfEach(unique, first, end) => reads_of_each(queues, unique, first, end),
         Row::Again(unique) => {
             queues.again(unique);
             true
@@ -125,7 +173,6 @@ fn sees<Q: QueueTable<u64>>(queues: &Q, row: Row) -> bool {
         Row::RequestAt(place, request) => by_value(queues.request_at(place)) == request,
         Row::Waiting(unique, kept) => queues.waiting(unique).copied() == kept,
         Row::FirstInterrupt(unique) => queues.first_interrupt() == unique,
-        Row::NoForgets(count) => queues.first_forgets(count).is_none(),
         _ => false,
     }
 }
@@ -138,6 +185,7 @@ fn tried<Q: QueueTable<u64>>(queues: &mut Q, row: Row) -> Outcome {
             Err(NoMemory) => Outcome::NoMemory,
         },
         Row::Forget(node, count) => reserved(queue_forget(queues, node, count)),
+        Row::ForgetEach(first, end) => reserved(queue_each(queues, first, end)),
         _ => judged(changes(queues, row)),
     }
 }
@@ -154,7 +202,7 @@ impl<A: Allocator + Copy> Tried<A, Row> for ListQueues<u64, A> {
     }
 }
 
-static CALLS: [Row; 46] = [
+static CALLS: [Row; 56] = [
     Row::NumbersLeft(0x1fff_ffff_ffff_ffff),
     Row::Queue(70, 2),
     Row::Queue(71, 4),
@@ -194,6 +242,17 @@ static CALLS: [Row; 46] = [
     Row::Forgets((8, 2, (9, 3), (8, 1))),
     Row::Forgets((10, 1, (7, 2), (7, 2))),
     Row::NumbersLeft(0x1fff_ffff_ffff_fffa),
+    // of 65 forgets 64 at most are read at once
+    Row::Reserve(0, 65),
+    Row::ForgetEach(11, 76),
+    Row::NoForgets(0),
+    Row::NoForgets(65),
+    Row::NoForgets(66),
+    Row::NumbersLeft(0x1fff_ffff_ffff_fffa),
+    Row::ForgetsOfEach(12, 11, 75),
+    Row::NoForgets(2),
+    Row::ForgetsOfEach(14, 75, 76),
+    Row::NumbersLeft(0x1fff_ffff_ffff_fff8),
     Row::Abort,
     // as in a new mount
     Row::Pending(0, None),

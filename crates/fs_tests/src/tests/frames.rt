@@ -119,7 +119,7 @@ fn digit_value(digit: u8) -> Option<u8> {
 }
 
 /// The bytes of hexadecimal digits.
-fn unhex(alloc: Global, text: &str) -> Result<Vec<u8>, AllocError> {
+pub fn unhex(alloc: Global, text: &str) -> Result<Vec<u8>, AllocError> {
     let mut bytes = Vec::new(alloc);
     let mut high = None;
     for value in text.bytes().filter_map(digit_value) {
@@ -135,7 +135,7 @@ fn unhex(alloc: Global, text: &str) -> Result<Vec<u8>, AllocError> {
 }
 
 /// Whether bytes are those of a text.
-fn spells(alloc: Global, bytes: &[u8], text: &str) -> bool {
+pub fn spells(alloc: Global, bytes: &[u8], text: &str) -> bool {
     match unhex(alloc, text) {
         Ok(wanted) => wanted.as_slice() == bytes,
         Err(_) => false,

@@ -1,0 +1,146 @@
+//! The error reply to a frame that a server of minor 31 refused, or that there is none.
+
+use crate::tests::frames::{spells, unhex};
+use fs_server::{ServerFault, fault_reply};
+use std::alloc::{AllocError, Global};
+use std::test::Fail;
+
+/// A frame in hexadecimal digits, the fault for which it was refused, and the reply, if there is one.
+struct Row {
+    frame: &'static str,
+    fault: ServerFault,
+    reply: Option<&'static str>,
+}
+
+/// Frames that somebody waits for, under a unique of eight different bytes: ENOSYS or EIO.
+static REPLIED: [Row; 8] = [
+    // opcodes that are not known: 99, 0 and 43
+    Row {
+        frame: "28000000 63000000 0807060504030201 0100000000000000 00000000 00000000 00000000 00000000",
+        fault: ServerFault::Wire,
+        reply: Some("10000000 daffffff 0807060504030201"),
+    },
+    Row {
+        frame: "28000000 00000000 0807060504030201 0100000000000000 00000000 00000000 00000000 00000000",
+        fault: ServerFault::Wire,
+        reply: Some("10000000 daffffff 0807060504030201"),
+    },
+    Row {
+        frame: "28000000 2b000000 0807060504030201 0100000000000000 00000000 00000000 00000000 00000000",
+        fault: ServerFault::Wire,
+        reply: Some("10000000 daffffff 0807060504030201"),
+    },
+    // a GETATTR without its body, a LOOKUP of no name, and a READDIRPLUS, which this minor knows, without its body
+    Row {
+        frame: "28000000 03000000 0807060504030201 0100000000000000 00000000 00000000 00000000 00000000",
+        fault: ServerFault::Wire,
+        reply: Some("10000000 fbffffff 0807060504030201"),
+    },
+    Row {
+        frame: "29000000 01000000 0807060504030201 0100000000000000 00000000 00000000 00000000 00000000 00",
+        fault: ServerFault::Wire,
+        reply: Some("10000000 fbffffff 0807060504030201"),
+    },
+    Row {
+        frame: "28000000 2c000000 0807060504030201 0100000000000000 00000000 00000000 00000000 00000000",
+        fault: ServerFault::Wire,
+        reply: Some("10000000 fbffffff 0807060504030201"),
+    },
+    // whole frames, refused for the nodes that they name
+    Row {
+        frame: "2a000000 01000000 0807060504030201 0900000000000000 00000000 00000000 00000000 00000000 6100",
+        fault: ServerFault::UnknownNode,
+        reply: Some("10000000 fbffffff 0807060504030201"),
+    },
+    Row {
+        frame: "2a000000 01000000 0807060504030201 0100000000000000 00000000 00000000 00000000 00000000 6100",
+        fault: ServerFault::TooManyForgets,
+        reply: Some("10000000 fbffffff 0807060504030201"),
+    },
+];
+
+/// Frames that nobody waits for, or whose fault is not theirs.
+static UNREPLIED: [Row; 12] = [
+    // FORGET, INTERRUPT and BATCH_FORGET: without their bodies, and whole
+    Row {
+        frame: "28000000 02000000 6400000000000000 0200000000000000 00000000 00000000 00000000 00000000",
+        fault: ServerFault::Wire,
+        reply: None,
+    },
+    Row {
+        frame: "28000000 24000000 6500000000000000 0000000000000000 00000000 00000000 00000000 00000000",
+        fault: ServerFault::Wire,
+        reply: None,
+    },
+    Row {
+        frame: "28000000 2a000000 6400000000000000 0000000000000000 00000000 00000000 00000000 00000000",
+        fault: ServerFault::Wire,
+        reply: None,
+    },
+    Row {
+        frame: "30000000 02000000 6400000000000000 0900000000000000 00000000 00000000 00000000 00000000 0100000000000000",
+        fault: ServerFault::UnknownNode,
+        reply: None,
+    },
+    Row {
+        frame: "40000000 2a000000 6400000000000000 0000000000000000 00000000 00000000 00000000 00000000 01000000 00000000 0200000000000000 0200000000000000",
+        fault: ServerFault::TooManyForgets,
+        reply: None,
+    },
+    // no bytes, 39 bytes of a LOOKUP, and 40 bytes that say 39 and 41
+    Row {
+        frame: "",
+        fault: ServerFault::Wire,
+        reply: None,
+    },
+    Row {
+        frame: "27000000 01000000 6400000000000000 0100000000000000 00000000 00000000 00000000 000000",
+        fault: ServerFault::Wire,
+        reply: None,
+    },
+    Row {
+        frame: "27000000 63000000 6400000000000000 0100000000000000 00000000 00000000 00000000 00000000",
+        fault: ServerFault::Wire,
+        reply: None,
+    },
+    Row {
+        frame: "29000000 63000000 6400000000000000 0100000000000000 00000000 00000000 00000000 00000000",
+        fault: ServerFault::Wire,
+        reply: None,
+    },
+    // a repeated unique, a counter at its end and want of memory
+    Row {
+        frame: "2a000000 01000000 6400000000000000 0100000000000000 00000000 00000000 00000000 00000000 6100",
+        fault: ServerFault::RepeatedUnique,
+        reply: None,
+    },
+    Row {
+        frame: "2a000000 01000000 6400000000000000 0100000000000000 00000000 00000000 00000000 00000000 6100",
+        fault: ServerFault::Exhausted,
+        reply: None,
+    },
+    Row {
+        frame: "2a000000 01000000 6400000000000000 0100000000000000 00000000 00000000 00000000 00000000 6100",
+        fault: ServerFault::Memory,
+        reply: None,
+    },
+];
+
+/// Whether a row's reply is appended, and nothing where there is none.
+fn is_replied(alloc: Global, row: &Row) -> Result<bool, AllocError> {
+    let frame = unhex(alloc, row.frame)?;
+    let mut out = Vec::with_capacity(alloc, 16)?;
+    let is_given = fault_reply(&frame, row.fault, &mut out);
+    Ok(is_given == row.reply.is_some() && spells(alloc, &out, row.reply.unwrap_or("")))
+}
+
+#[test]
+fn replies_to_faulty_frames(rt: HostRuntime) -> Result<(), Fail> {
+    for (place, row) in REPLIED.iter().enumerate() {
+        assert!(rt; is_replied(rt.alloc(), row)?, "replied row {place}");
+    }
+    for (place, row) in UNREPLIED.iter().enumerate() {
+        assert!(rt; is_replied(rt.alloc(), row)?, "unreplied row {place}");
+    }
+    Ok(())
+}
