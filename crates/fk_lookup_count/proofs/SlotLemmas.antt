@@ -5,7 +5,7 @@ use Rattle.std.specs.Ordering.{nat_cmp, eq_by_cmp}
 use Rattle.std.specs.Cmp.{nat_cmp_total}
 use Rattle.std.specs.FinMap.{FinMap, get as slot_of, insert, remove as without, empty, entries, entries_sorted, find, is_sorted, get-entries, get-insert, get-remove, get-empty, gets, nat_cmp-IsAntisymmetric}
 use Rattle.std.specs.FinMap.Entries.{find-put, is_sorted-put, is_sorted-where_key, same_entries}
-use Rattle.std.proofs.lemmas.Bool.{cases_eq, eqb-true}
+use Rattle.std.proofs.lemmas.Bool.{cases_eq}
 use Rattle.fuse_spec.specs.Values.Maps.{Map, get, put, remove}
 use Rattle.fuse_spec.specs.declared.Counted.{Counted}
 use Rattle.fk_lookup_count.specs.Slots.{is_node, nodes_among, nodes_in}
@@ -102,15 +102,6 @@ nodes-remove s id = alike (without s id) _ (is_sorted-where_key nat_cmp (λ x. n
     by : (b : Bool) (q : ℕ) → node_in (cond b None (slot_of s q)) ≡ cond b None (node_in (slot_of s q))
     by true q = refl
     by false q = refl
-
--- a node that is not there leaves none behind
-pub nodes-absent : (s : Slots) (id : ℕ) → get (nodes_in s) id ≡ None → nodes_in s ≡ remove (nodes_in s) id
-nodes-absent s id none = alike s _ (is_sorted-where_key nat_cmp (λ x. not (nat_eq x id)) (nodes_in s) (sorted_nodes s))
-    (λ q. sym (get-nodes s q) ∙ by q (nat_eq q id) refl ∙ sym (find-remove (nodes_in s) id q))
-  where
-    by : (q : ℕ) (b : Bool) → nat_eq q id ≡ b → get (nodes_in s) q ≡ cond b None (get (nodes_in s) q)
-    by q true e = ap (λ k. get (nodes_in s) k) (eqb-true q id e) ∙ none
-    by q false e = refl
 
 pub nodes-empty : nodes_in empty ≡ []
 nodes-empty = alike empty [] tt (λ q. ap node_in (get-empty nat_cmp q))

@@ -1,20 +1,21 @@
 //! The contract of the table, for any representation.
-ghost use Rattle.std.specs.Prelude.{◌≡◌, ◌≢◌, ℕ, ◌+◌, ◌^◌, ◌<◌, ◌↔◌, [], OnOk, OnErr, IsOk, IsErr, IfOk, T};
+ghost use Rattle.std.specs.Prelude.{◌≡◌, ◌≢◌, ℕ, ◌+◌, ◌^◌, ◌<◌, ◌↔◌, [], OnOk, OnErr, IsOk, IsErr, IfOk, T, is_none};
 ghost use Rattle.std.specs.FinMap.{is_sorted};
 ghost use Rattle.std.specs.Ordering.{nat_cmp};
 ghost use Rattle.std.specs.Option.{ForSome};
 ghost use Rattle.fuse_spec.specs.Values.Maps.{Map, get, remove};
 ghost use Rattle.fuse_spec.specs.declared.Counted.{Counted};
-ghost use Rattle.fk_lookup_count.specs.CountedNodes.{count_at, generation_at, IsUnlike, looked_up, forget_of, listed};
+ghost use Rattle.fk_lookup_count.specs.CountedNodes.{IsUnlike, looked_up, forget_of, listed};
 
 use crate::forget::Forget;
 use crate::unlike::Unlike;
+use fuse_spec::Counted;
 use std::alloc::{AllocError, Allocator};
 
 /// The counted nodes of the kernel. Node ids are the server's choice: any `u64`.
 ///
-/// Of an id that is not counted a look gives 0 or `None`, and a change changes nothing. Only `reserve` and `nodes` take
-/// memory.
+/// Of an id that is not counted a look gives `None`, and `evict` no forget. `reserve` and `nodes` take memory, and
+/// `count_lookup` of an id that has no room.
 pub trait CountTable {
     /// Where the room comes from.
     type Heap: Allocator + Copy;
@@ -40,29 +41,28 @@ pub trait CountTable {
         ensures kept { (other : ℕ) → has_room self.old other → has_room self.new other }
         ensures succeeds { has_room self.old id → IsOk result };
 
-    /// Counts one entry reply that names an id under a generation.
+    /// Counts one entry reply that names an id under a generation, and says whether the id was not counted before.
+    /// `Unlike` where the id is counted under another generation: nothing changed then.
     ///
     /// # Errors
     ///
-    /// The id is counted under another generation. Nothing changed.
-    fn count_lookup(&mut self, id: u64, generation: u64) -> Result<(), Unlike>
-        requires room { has_room self.old id }
+    /// Memory was wanting, and the id had no room. Nothing changed.
+    fn count_lookup(&mut self, id: u64, generation: u64) -> Result<Result<bool, Unlike>, AllocError>
         requires fits { ForSome (get (counted self.old) id) (λ node. node.count + 1 < 2 ^ 64) }
-        ensures unlike { IsErr result ↔ IsUnlike (get (counted self.old) id) generation }
-        ensures ok { OnOk result (counted self.new ≡ looked_up (counted self.old) id generation
-            (get (counted self.old) id)) }
-        ensures err { OnErr result (counted self.new ≡ counted self.old) }
+        ensures unlike { IfOk result (λ given. IsErr given ↔ IsUnlike (get (counted self.old) id) generation) }
+        ensures new { IfOk result (λ given. IfOk given (λ is_new. is_new ≡ is_none (get (counted self.old) id))) }
+        ensures ok { IfOk result (λ given. OnOk given (counted self.new ≡ looked_up (counted self.old) id generation
+            (get (counted self.old) id))) }
+        ensures err { IfOk result (λ given. OnErr given (counted self.new ≡ counted self.old)) }
+        ensures memory { OnErr result (counted self.new ≡ counted self.old) }
+        ensures succeeds { has_room self.old id → IsOk result }
         ensures kept { (other : ℕ) → has_room self.old other → has_room self.new other };
 
-    /// The lookup count of an id.
-    fn count_of(&self, id: u64) -> u64
-        ensures { result ≡ count_at (get (counted self.now) id) };
+    /// How an id is counted.
+    fn counted(&self, id: u64) -> Option<Counted>
+        ensures { result ≡ get (counted self.now) id };
 
-    /// The generation under which an id is counted.
-    fn generation_of(&self, id: u64) -> Option<u64>
-        ensures { result ≡ generation_at (get (counted self.now) id) };
-
-    /// Gives a counted id up, and gives the forget of its whole count.
+    /// Gives a counted id up, and gives the forget of its whole count. The id keeps no room.
     fn evict(&mut self, id: u64) -> Option<Forget>
         ensures forget { result ≡ forget_of id (get (counted self.old) id) }
         ensures counted { counted self.new ≡ remove (counted self.old) id }

@@ -1,12 +1,12 @@
 //! The calls of the table, over either kind of slots.
 ghost use Rattle.std.specs.Prelude.{◌≡◌, ◌≢◌, ℕ, ◌+◌, ◌-◌, ◌<◌, ◌≤◌, Some, IsSome, IfSome};
 ghost use Rattle.std.specs.FinMap.{get as slot_of};
-ghost use Rattle.fuse_spec.specs.Values.Maps.{get, put, remove};
+ghost use Rattle.fuse_spec.specs.Values.Maps.{get, remove};
 ghost use Rattle.fk_lookup_count.specs.Slots.{nodes_in};
 
 use crate::count_table::CountTable;
 use crate::forget::Forget;
-use crate::slots::Slots;
+use crate::slots::{ROOM, Slots};
 use crate::unlike::Unlike;
 use fuse_spec::Counted;
 use std::alloc::AllocError;
@@ -31,24 +31,18 @@ impl<S: Slots> CountsOf<S> {
         Some(slot)
     }
 
-    /// Writes the node of an id that has room.
-    fn write(&mut self, id: u64, node: Counted)
-        requires room { IsSome (slot_of (S.slots self.old.slots) id) }
-        requires some { 0 < node.count }
-        ensures nodes { nodes_in (S.slots self.new.slots) ≡ put (nodes_in (S.slots self.old.slots)) id node }
-        ensures kept { (other : ℕ) → IsSome (slot_of (S.slots self.old.slots) other)
-            → IsSome (slot_of (S.slots self.new.slots) other) }
-    {
-        self.slots.write(id, node);
-    }
-
     /// Takes the node of an id out, and its room.
-    fn take_out(&mut self, id: u64)
+    fn take_out(&mut self, id: u64) -> Option<Counted>
+        ensures node { result ≡ get (nodes_in (S.slots self.old.slots)) id }
         ensures nodes { nodes_in (S.slots self.new.slots) ≡ remove (nodes_in (S.slots self.old.slots)) id }
         ensures kept { (other : ℕ) → other ≢ id → IsSome (slot_of (S.slots self.old.slots) other)
             → IsSome (slot_of (S.slots self.new.slots) other) }
     {
-        self.slots.take_out(id);
+        let slot = self.slots.take_out(id)?;
+        if slot.count == 0 {
+            return None;
+        }
+        Some(slot)
     }
 }
 
@@ -69,43 +63,38 @@ impl<S: Slots> CountTable for CountsOf<S> {
         if self.slots.slot(id).is_some() {
             return Ok(());
         }
-        self.slots.add(id)?;
+        self.slots.add(id, ROOM)?;
         Ok(())
     }
 
-    fn count_lookup(&mut self, id: u64, generation: u64) -> Result<(), Unlike> {
-        let node = match self.node(id) {
-            None => Counted {
+    fn count_lookup(
+        &mut self,
+        id: u64,
+        generation: u64,
+    ) -> Result<Result<bool, Unlike>, AllocError> {
+        let Some(slot) = self.slots.count_lookup(id, generation) else {
+            let node = Counted {
                 generation,
                 count: 1,
-            },
-            Some(node) if node.generation != generation => return Err(Unlike),
-            Some(node) => Counted {
-                count: node.count + 1,
-                ..node
-            },
+            };
+            self.slots.add(id, node)?;
+            return Ok(Ok(true));
         };
-        self.write(id, node);
-        Ok(())
+        if slot.count == 0 {
+            return Ok(Ok(true));
+        }
+        if slot.generation != generation {
+            return Ok(Err(Unlike));
+        }
+        Ok(Ok(false))
     }
 
-    fn count_of(&self, id: u64) -> u64 {
-        match self.node(id) {
-            None => 0,
-            Some(node) => node.count,
-        }
-    }
-
-    fn generation_of(&self, id: u64) -> Option<u64> {
-        match self.node(id) {
-            None => None,
-            Some(node) => Some(node.generation),
-        }
+    fn counted(&self, id: u64) -> Option<Counted> {
+        self.node(id)
     }
 
     fn evict(&mut self, id: u64) -> Option<Forget> {
-        let node = self.node(id)?;
-        self.take_out(id);
+        let node = self.take_out(id)?;
         Some(Forget {
             nodeid: id,
             nlookup: node.count,

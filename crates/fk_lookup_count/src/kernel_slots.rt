@@ -5,7 +5,7 @@ ghost use Rattle.std.specs.BTreeMap.{Updates as UpdatesTree};
 ghost use Rattle.slab.specs.Slab.{get, Updates};
 ghost use Rattle.fk_lookup_count.specs.Table.{standing};
 
-use crate::slots::{ROOM, Slots};
+use crate::slots::{ROOM, Slots, one_more};
 use fuse_spec::Counted;
 use slab::Slab;
 use std::alloc::{AllocError, Allocator, Global};
@@ -53,25 +53,28 @@ impl<A: Allocator + Copy> Slots for KernelSlots<A> {
         self.nodes.get(place).copied()
     }
 
-    fn add(&mut self, id: u64) -> Result<(), AllocError> {
+    fn add(&mut self, id: u64, slot: Counted) -> Result<(), AllocError> {
         self.nodes.reserve(1)?;
         put(&mut self.places, id, self.nodes.vacant_key())?;
-        let _place = self.nodes.insert_reserved(ROOM);
+        let _place = self.nodes.insert_reserved(slot);
         Ok(())
     }
 
-    fn write(&mut self, id: u64, slot: Counted) {
+    fn count_lookup(&mut self, id: u64, generation: u64) -> Option<Counted> {
         let Some(place) = self.places.get(&id).copied() else {
-            return;
+            return None;
         };
-        set(&mut self.nodes, place, slot);
+        let slot = standing(&self.nodes, place);
+        let Some(more) = one_more(slot, generation) else {
+            return Some(slot);
+        };
+        set(&mut self.nodes, place, more);
+        Some(slot)
     }
 
-    fn take_out(&mut self, id: u64) {
-        let Some(place) = self.places.remove(&id) else {
-            return;
-        };
-        let _slot = self.nodes.try_remove(place);
+    fn take_out(&mut self, id: u64) -> Option<Counted> {
+        let place = self.places.remove(&id)?;
+        self.nodes.try_remove(place)
     }
 
     fn clear(&mut self) {

@@ -1,7 +1,7 @@
 //! The plain slots: rows in rising id.
 
 use crate::rows::{find_in, place_in};
-use crate::slots::{ROOM, Slots};
+use crate::slots::{Slots, one_more};
 use fuse_spec::Counted;
 use std::alloc::{AllocError, Allocator, Global};
 use std::marker::Model;
@@ -47,26 +47,30 @@ impl<A: Allocator + Copy> Slots for ListSlots<A> {
         Some(self.rows[place].1)
     }
 
-    fn add(&mut self, id: u64) -> Result<(), AllocError> {
+    fn add(&mut self, id: u64, slot: Counted) -> Result<(), AllocError> {
         self.rows.reserve(1)?;
         let place = place_in(&self.rows, id);
-        let inserted: Result<(), _> = self.rows.insert(place, (id, ROOM));
+        let inserted: Result<(), _> = self.rows.insert(place, (id, slot));
         inserted.unwrap();
         Ok(())
     }
 
-    fn write(&mut self, id: u64, slot: Counted) {
+    fn count_lookup(&mut self, id: u64, generation: u64) -> Option<Counted> {
         let Some(place) = find_in(&self.rows, id) else {
-            return;
+            return None;
         };
-        self.rows[place] = (id, slot);
+        let slot = self.rows[place].1;
+        let Some(more) = one_more(slot, generation) else {
+            return Some(slot);
+        };
+        self.rows[place] = (id, more);
+        Some(slot)
     }
 
-    fn take_out(&mut self, id: u64) {
-        let Some(place) = find_in(&self.rows, id) else {
-            return;
-        };
-        let _row = self.rows.remove(place);
+    fn take_out(&mut self, id: u64) -> Option<Counted> {
+        let place = find_in(&self.rows, id)?;
+        let row = self.rows.remove(place);
+        Some(row.1)
     }
 
     fn clear(&mut self) {

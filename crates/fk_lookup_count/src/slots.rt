@@ -1,10 +1,11 @@
 //! Slots under node ids: what a representation of the table offers.
-ghost use Rattle.std.specs.Prelude.{◌≡◌, ℕ, Some, None, IsSome, OnOk, OnErr, IfOk};
+ghost use Rattle.std.specs.Prelude.{◌≡◌, ℕ, ◌+◌, ◌^◌, ◌<◌, None, OnOk, OnErr, IfOk};
+ghost use Rattle.std.specs.Option.{ForSome};
 ghost use Rattle.std.specs.Ordering.{nat_cmp};
 ghost use Rattle.std.specs.FinMap.{FinMap, get, insert, remove, empty};
 ghost use Rattle.fuse_spec.specs.declared.Counted.{Counted};
 ghost use Rattle.fk_lookup_count.specs.CountedNodes.{listed};
-ghost use Rattle.fk_lookup_count.specs.Slots.{nodes_in};
+ghost use Rattle.fk_lookup_count.specs.Slots.{nodes_in, one_more, slot_looked_up};
 
 use fuse_spec::Counted;
 use std::alloc::{AllocError, Allocator};
@@ -30,19 +31,22 @@ pub trait Slots {
         ensures { result ≡ get (slots self.now) id };
 
     /// Gives a slot to an id that has none.
-    fn add(&mut self, id: u64) -> Result<(), AllocError>
+    fn add(&mut self, id: u64, slot: Counted) -> Result<(), AllocError>
         requires { get (slots self.old) id ≡ None }
-        ensures ok { OnOk result (slots self.new ≡ insert (slots self.old) id (record { generation = 0; count = 0 })) }
+        ensures ok { OnOk result (slots self.new ≡ insert (slots self.old) id slot) }
         ensures err { OnErr result (slots self.new ≡ slots self.old) };
 
-    /// Writes the slot of an id that has one.
-    fn write(&mut self, id: u64, slot: Counted)
-        requires { IsSome (get (slots self.old) id) }
-        ensures { slots self.new ≡ insert (slots self.old) id slot };
+    /// Counts one lookup in the slot of an id, unless the slot holds a node of another generation. Gives what stood in
+    /// the slot.
+    fn count_lookup(&mut self, id: u64, generation: u64) -> Option<Counted>
+        requires fits { ForSome (get (slots self.old) id) (λ slot. slot.count + 1 < 2 ^ 64) }
+        ensures stood { result ≡ get (slots self.old) id }
+        ensures slots { slots self.new ≡ slot_looked_up (slots self.old) id generation (get (slots self.old) id) };
 
-    /// Takes the slot of an id away.
-    fn take_out(&mut self, id: u64)
-        ensures { slots self.new ≡ remove (slots self.old) id };
+    /// Takes the slot of an id away, and gives what stood in it.
+    fn take_out(&mut self, id: u64) -> Option<Counted>
+        ensures stood { result ≡ get (slots self.old) id }
+        ensures slots { slots self.new ≡ remove (slots self.old) id };
 
     /// Takes all slots away.
     fn clear(&mut self)
@@ -51,4 +55,24 @@ pub trait Slots {
     /// Id, generation and count of each slot that holds a node, in rising id.
     fn nodes(&self, alloc: Self::Heap) -> Result<Vec<(u64, u64, u64), Self::Heap>, AllocError>
         ensures { IfOk result (λ nodes. nodes.items ≡ listed (nodes_in (slots self.now))) };
+}
+
+/// A slot with one lookup more under a generation, unless it holds a node of another.
+pub(crate) fn one_more(slot: Counted, generation: u64) -> Option<Counted>
+    requires { slot.count + 1 < 2 ^ 64 }
+    ensures { result ≡ one_more generation slot }
+{
+    if slot.count == 0 {
+        return Some(Counted {
+            generation,
+            count: 1,
+        });
+    }
+    if slot.generation != generation {
+        return None;
+    }
+    Some(Counted {
+        count: slot.count + 1,
+        ..slot
+    })
 }

@@ -72,8 +72,10 @@ impl<C: CountTable> CountedNodes<C> {
     pub fn generation_of(&self, id: u64) -> Option<u64>
         ensures { result ≡ option_map (λ counted. counted.generation) (get self.now id) }
     {
-        let _ = &self.most;
-        self.table.generation_of(id)
+        match self.counted(id) {
+            Some(counted) => Some(counted.generation),
+            None => None,
+        }
     }
 
     /// Nodes stand in rising id. A call without effect, made where a proof rests on that.
@@ -100,8 +102,10 @@ impl<C: CountTable> CountedNodes<C> {
     pub fn counts_out(&self, entry: &Entry) -> bool
         ensures { result ≡ nat_le counter_end (counted_more entry.now (get self.now entry.now.nodeid)).count }
     {
-        let _ = &self.most;
-        self.table.count_of(entry.nodeid) >= COUNTER_END - 1
+        match self.counted(entry.nodeid) {
+            Some(counted) => counted.count >= COUNTER_END - 1,
+            None => false,
+        }
     }
 
     /// Counts one lookup more of the node that an entry names.
@@ -120,16 +124,14 @@ impl<C: CountTable> CountedNodes<C> {
         let Some(more) = self.most.checked_add(1) else {
             return Err(AllocError);
         };
-        self.table.reserve(entry.nodeid)?;
-        let is_new = self.table.generation_of(entry.nodeid).is_none();
-        match self.table.count_lookup(entry.nodeid, entry.generation) {
-            Ok(()) => {
+        match self.table.count_lookup(entry.nodeid, entry.generation)? {
+            Ok(is_new) => {
                 if is_new {
                     self.most = more;
                 }
                 Ok(())
             }
-            // Ruled out: it is counted under this generation.
+            // Ruled out: it is counted under this generation, or under none.
             Err(_) => Ok(()),
         }
     }
@@ -139,13 +141,7 @@ impl<C: CountTable> CountedNodes<C> {
         ensures { result ≡ get self.now id }
     {
         let _ = &self.most;
-        match self.table.generation_of(id) {
-            Some(generation) => Some(Counted {
-                generation,
-                count: self.table.count_of(id),
-            }),
-            None => None,
-        }
+        self.table.counted(id)
     }
 
     /// Whether the names of a list that tell the node that this one tells, under the same generation, bring its count

@@ -1,13 +1,14 @@
 //! How the nodes that names of a list tell are counted in a table.
 
-ghost use Rattle.std.specs.Prelude.{◌≡◌, ◌≤◌, ◌<◌, ◌+◌, ◌^◌, ℕ, [], ◌∷◌, false, length, nat_lt, OnOk};
+ghost use Rattle.std.specs.Prelude.{◌≡◌, ◌≤◌, ◌<◌, ◌+◌, ◌^◌, ℕ, length, nat_lt, is_none, OnOk};
 ghost use Rattle.std.specs.Option.{ForSome};
 ghost use Rattle.fk_wire.specs.Records.{direntplus_content};
 ghost use Rattle.fuse_frames.specs.ReplyTies.{pair_in};
 ghost use Rattle.fuse_spec.specs.Values.Maps.{get};
 ghost use Rattle.fuse_spec.specs.Files.Operations.{listed_by};
-ghost use Rattle.fuse_spec.specs.Kernel.Replies.{looked_up};
-ghost use Rattle.fk_nodes.specs.LookedUp.{looked_up_listed, looked_up_from, tells, times_listed, AreBelow};
+ghost use Rattle.fuse_spec.specs.Kernel.Replies.{use_counted};
+ghost use Rattle.fk_nodes.specs.LookedUp.{looked_up_by_use, looked_up_listed, looked_up_from, AreBelow};
+ghost use Rattle.fk_nodes.specs.LookedUp.{tells, times_listed};
 ghost use Rattle.fk_nodes.specs.Rooms.{HasNodeRoom, HaveNodeRoom};
 ghost use Rattle.fk_nodes.specs.ListedFiles.{pairs_in};
 
@@ -43,19 +44,22 @@ pub(crate) fn reserve_nodes<C: CountTable>(
     Ok(())
 }
 
-/// Counts one lookup more of a node that has room.
-fn count_one<C: CountTable>(table: &mut C, entry: &Entry)
+/// Counts one lookup more of a node that has room, unless it is counted under another generation. Says whether it was
+/// not counted before.
+fn count_one<C: CountTable>(table: &mut C, entry: &Entry) -> bool
     requires room { C.has_room table.old entry.now.nodeid }
-    requires alike { ForSome (get (C.counted table.old) entry.now.nodeid)
-        (λ counted. counted.generation ≡ entry.now.generation) }
     requires fits { ForSome (get (C.counted table.old) entry.now.nodeid) (λ counted. counted.count + 1 < 2 ^ 64) }
-    ensures counted { C.counted table.new ≡ looked_up (C.counted table.old) (entry.now ∷ []) }
+    ensures counted { C.counted table.new ≡ looked_up_by_use (C.counted table.old) entry.now
+        (use_counted entry.now (get (C.counted table.old) entry.now.nodeid)) }
+    ensures new { result ≡ is_none (get (C.counted table.old) entry.now.nodeid) }
     ensures kept { (other : ℕ) → C.has_room table.old other → C.has_room table.new other }
 {
     match table.count_lookup(entry.nodeid, entry.generation) {
-        Ok(()) => {}
-        // Ruled out: it is counted under this generation.
-        Err(_) => {}
+        Ok(Ok(is_new)) => is_new,
+        // It is counted under another generation, and nothing changed.
+        Ok(Err(_)) => false,
+        // Ruled out: it has room.
+        Err(_) => false,
     }
 }
 
@@ -79,18 +83,10 @@ fn count_told<C: CountTable>(table: &mut C, most: usize, pair: &DirentPlus<'_>) 
         return most;
     }
     table.are_sorted();
-    match table.generation_of(entry.nodeid) {
-        None => {
-            count_one(table, &entry);
-            most + 1
-        }
-        Some(generation) => {
-            if generation == entry.generation {
-                count_one(table, &entry);
-            }
-            most
-        }
+    if count_one(table, &entry) {
+        return most + 1;
     }
+    most
 }
 
 /// Counts the nodes that names of a list tell, each judged by the counts that those before it left. Gives a number that

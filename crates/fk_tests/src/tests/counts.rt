@@ -11,12 +11,12 @@ use std::test::Fail;
 #[derive(Clone, Copy)]
 enum Row {
     Reserve(u64),
-    /// Room is made and an entry reply counted, with an id and a generation.
-    Lookup(u64, u64, Result<(), Unlike>),
+    /// An entry reply is counted, with an id and a generation: whether the id is new.
+    Lookup(u64, u64, Result<bool, Unlike>),
     Evict(u64, Option<Forget>),
     Clear,
-    /// Of an id: its generation and its count.
-    Node(u64, Option<u64>, u64),
+    /// Of an id: its generation and its count, if it is counted.
+    Node(u64, Option<(u64, u64)>),
     /// The ids with their generations and counts.
     Nodes(&'static [(u64, u64, u64)]),
 }
@@ -25,16 +25,20 @@ fn count_lookup<T: CountTable>(
     table: &mut T,
     id: u64,
     generation: u64,
-) -> Result<Result<(), Unlike>, AllocError> {
-    table.reserve(id)?;
-    if table.count_of(id) == u64::MAX {
+) -> Result<Result<bool, Unlike>, AllocError> {
+    if let Some(node) = table.counted(id)
+        && node.count == u64::MAX
+    {
         return Err(AllocError);
     }
-    Ok(table.count_lookup(id, generation))
+    table.count_lookup(id, generation)
 }
 
-fn is_node<T: CountTable>(table: &T, id: u64, generation: Option<u64>, count: u64) -> bool {
-    table.generation_of(id) == generation && table.count_of(id) == count
+fn is_node<T: CountTable>(table: &T, id: u64, wanted: Option<(u64, u64)>) -> bool {
+    match table.counted(id) {
+        Some(node) => wanted == Some((node.generation, node.count)),
+        None => wanted.is_none(),
+    }
 }
 
 fn lists<T: CountTable>(table: &T, heap: T::Heap, wanted: &[(u64, u64, u64)]) -> Outcome {
@@ -59,7 +63,7 @@ fn tried<T: CountTable>(table: &mut T, heap: T::Heap, row: Row) -> Outcome {
             table.clear();
             Outcome::Right
         }
-        Row::Node(id, generation, count) => judged(is_node(table, id, generation, count)),
+        Row::Node(id, wanted) => judged(is_node(table, id, wanted)),
         Row::Nodes(nodes) => lists(table, heap, nodes),
     }
 }
@@ -88,31 +92,34 @@ const ONE_OF_2: Forget = Forget {
     nlookup: 1,
 };
 
-static CALLS: [Row; 23] = [
-    Row::Node(9, None, 0),
-    Row::Lookup(9, 4, Ok(())),
-    Row::Lookup(9, 4, Ok(())),
+static CALLS: [Row; 25] = [
+    Row::Node(9, None),
+    Row::Lookup(9, 4, Ok(true)),
+    Row::Lookup(9, 4, Ok(false)),
     Row::Lookup(9, 5, Err(Unlike)),
-    Row::Node(9, Some(4), 2),
+    Row::Node(9, Some((4, 2))),
     Row::Evict(9, Some(TWO_OF_9)),
     Row::Evict(9, None),
-    Row::Node(9, None, 0),
+    Row::Node(9, None),
     Row::Evict(2, None),
-    Row::Lookup(2, 1, Ok(())),
-    Row::Node(2, Some(1), 1),
+    Row::Lookup(2, 1, Ok(true)),
+    Row::Node(2, Some((1, 1))),
     Row::Evict(2, Some(ONE_OF_2)),
     // nodes are listed in rising id
-    Row::Lookup(9, 7, Ok(())),
-    Row::Lookup(3, 7, Ok(())),
-    Row::Lookup(5, 7, Ok(())),
-    Row::Lookup(6, 8, Ok(())),
-    Row::Lookup(3, 7, Ok(())),
+    Row::Lookup(9, 7, Ok(true)),
+    Row::Lookup(3, 7, Ok(true)),
+    Row::Lookup(5, 7, Ok(true)),
+    Row::Lookup(6, 8, Ok(true)),
+    Row::Lookup(3, 7, Ok(false)),
+    // an id that has room is not counted
     Row::Reserve(4),
     Row::Nodes(&[(3, 7, 2), (5, 7, 1), (6, 8, 1), (9, 7, 1)]),
+    Row::Lookup(4, 2, Ok(true)),
+    Row::Node(4, Some((2, 1))),
     Row::Clear,
-    Row::Node(3, None, 0),
+    Row::Node(3, None),
     Row::Nodes(&[]),
-    Row::Lookup(3, 1, Ok(())),
+    Row::Lookup(3, 1, Ok(true)),
 ];
 
 /// The calls with each growth refused in turn: how many runs that took.

@@ -13,8 +13,8 @@ invariant_of-self-2 g c =
     let table = subst (λ slots. IsTable slots places) (sym same) c.self.invariant in
     let key = c.insert_reserved-place.ensures.key ∙ sym c.vacant_key.ensures.value in
     let updates = subst (λ place. Updates c.reserve.new.self c.insert_reserved-place.new.self place
-    (Some _)) key c.insert_reserved-place.ensures.updates in
-    kept-add c.insert_reserved-place.new.self.slots c.put.new.places.entries c.args.id c.vacant_key.result _ table c.vacant_key.ensures.vacant c.in_ok-put.ensures.ok.0 updates.changed updates.others
+    (Some c.args.slot)) key c.insert_reserved-place.ensures.updates in
+    kept-add c.insert_reserved-place.new.self.slots c.put.new.places.entries c.args.id c.vacant_key.result c.args.slot table c.vacant_key.ensures.vacant c.in_ok-put.ensures.ok.0 updates.changed updates.others
 
 pub returns-clause-ok : goal.returns-clause-ok
 returns-clause-ok g c =
@@ -23,7 +23,7 @@ returns-clause-ok g c =
     let table = subst (λ slots. IsTable slots places) (sym same) c.self.invariant in
     let key = c.insert_reserved-place.ensures.key ∙ sym c.vacant_key.ensures.value in
     let updates = subst (λ place. Updates c.reserve.new.self c.insert_reserved-place.new.self place
-    (Some _)) key c.insert_reserved-place.ensures.updates in
+    (Some c.args.slot)) key c.insert_reserved-place.ensures.updates in
     rw (← c.self.view_is)
-    (table-add c.insert_reserved-place.new.self.slots c.put.new.places.entries c.args.id c.vacant_key.result _ table c.vacant_key.ensures.vacant c.in_ok-put.ensures.ok.0 updates.changed updates.others
-    ∙ ap (λ slots. insert (table_of slots places) c.args.id _) same)
+    (table-add c.insert_reserved-place.new.self.slots c.put.new.places.entries c.args.id c.vacant_key.result c.args.slot table c.vacant_key.ensures.vacant c.in_ok-put.ensures.ok.0 updates.changed updates.others
+    ∙ ap (λ slots. insert (table_of slots places) c.args.id c.args.slot) same)
