@@ -1,9 +1,9 @@
 -- Which refusal each call of the kernel gets: that of the definitions, then that of a counter which would pass its end.
 -- Want of memory comes last. And what each comes to where it has none.
-use Rattle.std.specs.Prelude.{◌≡◌, ℕ, List, Bool, true, Option, Some, None, Result, ◌∷◌}
+use Rattle.std.specs.Prelude.{◌≡◌, ℕ, List, Bool, true, Option, Some, Result, ◌∷◌}
 use Rattle.fuse_spec.specs.Calls.Calls.{Call, spoken}
 use Rattle.fuse_spec.specs.Kernel.Kernel.{Kernel, body_of, call_begun, call_signalled, forgets_read}
-use Rattle.fuse_spec.specs.Kernel.Refusals.{unless, refusal_in, accepted, or_no_memory, is_past_end, is_past, when_live, to_mount, to_call, to_pass, to_read_interrupt, to_read_forgets, to_read_pending, to_signal, to_drop, to_evict}
+use Rattle.fuse_spec.specs.Kernel.Refusals.{unless, refusal_in, accepted, is_past_end, is_past, when_live, to_mount, to_call, to_pass, to_read_interrupt, to_read_forgets, to_read_pending, to_signal, to_drop, to_evict}
 use Rattle.fk_wire.specs.declared.opcode.Opcode.{Opcode}
 use Rattle.fuse_spec.specs.Kernel.Messages.{Request, WireReply, interrupt, Forget}
 use Rattle.fuse_spec.specs.Kernel.Replies.{reply_written}

@@ -166,11 +166,11 @@ impl<Q: QueueTable<Purpose> + Drop, C: CountTable<Heap = Q::Heap> + Drop> Kernel
             (first_use (use_of self.now.nodes entry.now) usable)) }
     {
         self.counts_within();
-        match self.use_of(entry) {
-            EntryUse::Usable => self.nodes.counts_out(entry),
-            EntryUse::Useless => false,
-            EntryUse::Stale => false,
+        // Counts are far from their end as a rule: then one look is enough.
+        if !self.nodes.counts_out(entry) {
+            return false;
         }
+        matches!(self.use_of(entry), EntryUse::Usable)
     }
 
     /// Whether a call that stands so and is told this would walk on to a request for which no number is left.

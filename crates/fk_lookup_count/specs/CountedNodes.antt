@@ -4,15 +4,6 @@ use Rattle.fuse_spec.specs.Values.Maps.{Map, put}
 use Rattle.fuse_spec.specs.declared.Counted.{Counted}
 use Rattle.fk_lookup_count.specs.declared.forget.Forget.{Forget}
 
--- The lookup count: 0 for an id that is not counted.
-abbrev pub count_at : Option Counted → ℕ
-count_at None = 0
-count_at (Some node) = node.count
-
-abbrev pub generation_at : Option Counted → Option ℕ
-generation_at None = None
-generation_at (Some node) = Some node.generation
-
 -- The id is counted under another generation.
 abbrev pub IsUnlike : Option Counted → ℕ → Type 0
 IsUnlike None generation = ⊥
