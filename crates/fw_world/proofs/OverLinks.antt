@@ -24,6 +24,7 @@ use Rattle.fw_world.specs.declared.record.Record.{Record}
 use Rattle.fw_world.specs.declared.record.Record.TheVariants as recorded
 use Rattle.fw_world.specs.Sends.{IsSent, IsLostOn, LosesIn}
 use Rattle.fw_world.specs.Values.{event_of, outcome_of, record_of}
+use Rattle.fw_world.specs.Runs.{calls_not_over}
 use Rattle.fw_world.specs.OverLinks.{RecordedOver, none_left, one_refused, one_accepted, one_lost, one_too_late, RunsOver, session_of}
 
 -- ---- room for the records
@@ -55,12 +56,11 @@ no_call mid e o w carries before now happens lost = by_case e o mid (happened ha
     by_case e o mid (by_evict node counted live there unused) lost = refl
     by_case e o mid (by_abort live) lost = refl
 
--- An event leaves at most one call more that is unanswered or has an answer that waits, and none where the link is lost
--- in it.
+-- An event leaves at most one call more that is not over, and none more where the link is lost in it.
 pub one_more_at_most : (w after : World) → IsReached w
     → (is_lost : Bool) (e : Event) (o : Outcome) (carries : Traffic → Type 0) (before now : ℕ)
     → (is_lost ≡ false → Happens w e o after) → (is_lost ≡ true → LosesIn w e o after carries before now)
-    → cond is_lost 1 0 + (length after.kernel.vfs.answers + length after.kernel.vfs.calls) ≤ length w.kernel.vfs.answers + length w.kernel.vfs.calls + 1
+    → cond is_lost 1 0 + calls_not_over after ≤ calls_not_over w + 1
 one_more_at_most w after here false e o carries before now happens loses =
     let first = one_more_waits w e o after (happens refl) in
     omega (arith, first)
@@ -75,8 +75,7 @@ one_more_at_most w after here true e o carries before now happens loses =
 -- With room for 66 records an event there is room for two an event and for the answers of all calls that may be
 -- unanswered.
 pub room_for_all : (w : World) → IsReached w → (len capacity k n : ℕ) → k < n
-    → capacity < len + (length w.kernel.vfs.answers + length w.kernel.vfs.calls) + 2 * n → w.kernel.vfs.answers ≡ []
-    → capacity < len + 66 * n
+    → capacity < len + calls_not_over w + 2 * n → w.kernel.vfs.answers ≡ [] → capacity < len + 66 * n
 room_for_all w here len capacity k n some full none = omega (arith, some, full, here.few, ap length none)
 
 module _ {L : Type 0} (carries : L → L → Traffic → Type 0) (failed : L → ℕ) where

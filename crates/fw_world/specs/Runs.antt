@@ -1,5 +1,6 @@
 -- What an event and a list of events come to.
-use Rattle.std.specs.Prelude.{ℕ, List, Result, Ok, Err, take}
+use Rattle.std.specs.Prelude.{ℕ, ◌+◌, List, Result, Ok, Err, length, take}
+use Rattle.fuse_spec.specs.Values.Maps.{remove}
 use Rattle.fuse_spec.specs.World.Worlds.{World}
 use Rattle.fuse_spec.specs.World.Events.{Event, Outcome}
 use Rattle.fuse_spec.specs.World.Records.{Record}
@@ -7,6 +8,16 @@ use Rattle.fuse_spec.specs.Reference.Plain.{Plain}
 use Rattle.fuse_spec.specs.Reference.PlainWords.{Steps}
 use Rattle.fuse_spec.specs.Claim.Counts.{Keeps}
 use Rattle.fuse_spec.specs.Claim.Runs.{Refines, Run, AnswersOnce, CallsEnd, IsOver}
+
+-- How many calls are not over: those that are unanswered, and those whose answer waits to be collected.
+abbrev pub calls_not_over : World → ℕ
+calls_not_over w = length w.kernel.vfs.answers + length w.kernel.vfs.calls
+
+-- The world once the answer of one call is collected.
+abbrev pub handed_out : World → ℕ → World
+handed_out w call = record w {
+  kernel = record w.kernel { vfs = record w.kernel.vfs { answers = remove w.kernel.vfs.answers call } };
+}
 
 -- The events that ran: all of them, or so many of the first.
 abbrev pub events_run : {X E : Type 0} → Result X ℕ → List E → List E

@@ -1,11 +1,9 @@
 //! The three links between kernel and server, as lists of what is on its way, and what an event does to them.
 
-ghost use Rattle.std.specs.Prelude.{◌≡◌, ◌<◌, ◌++◌, ◌∷◌, [], ℕ, List, length, slice_index_or};
+ghost use Rattle.std.specs.Prelude.{◌≡◌, ◌<◌, ◌++◌, ◌∷◌, [], slice_index_or};
 ghost use Rattle.std.specs.List.{remove};
 ghost use Rattle.std.specs.Vec.{vec_len, vec_capacity};
-ghost use Rattle.fuse_frames.specs.RequestTies.{IsRequestFrame, asked_opcode};
 
-use fk_wire::Opcode;
 use fuse_frames::{ReplyCopy, RequestFrame};
 use fuse_spec::ReplyResult;
 use std::alloc::Allocator;
@@ -23,25 +21,6 @@ pub(crate) fn clear_links<A: Allocator>(
     requests.clear();
     replies.clear();
     results.clear();
-}
-
-/// Puts the frame of a request that was read onto its link, which has room, and gives its unique, its opcode and its
-/// length.
-#[inline(always)]
-pub(crate) fn put_request<A: Allocator>(
-    requests: &mut Vec<RequestFrame<A>, A>,
-    frame: RequestFrame<A>,
-) -> (u64, Opcode, usize)
-    requires { vec_len requests.old < vec_capacity requests.old }
-    ensures items { requests.new.items ≡ requests.old.items ++ frame ∷ [] }
-    ensures unique { result.0 ≡ frame.unique }
-    ensures opcode { result.1 ≡ asked_opcode frame.body }
-    ensures len { (bytes : List ℕ) × IsRequestFrame bytes frame × (result.2 ≡ length bytes) }
-{
-    let (unique, opcode) = frame.head();
-    let len = frame.bytes().len();
-    append(requests, frame);
-    (unique, opcode, len)
 }
 
 /// Appends a value where there is room for it.

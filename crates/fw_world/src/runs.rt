@@ -6,7 +6,7 @@ ghost use Rattle.fuse_spec.specs.World.Records.{answers_of, collected};
 ghost use Rattle.fuse_theorem.specs.Recorded.{Recorded};
 ghost use Rattle.fw_world.specs.declared.record.Record.{Record as RecordValue};
 ghost use Rattle.fw_world.specs.Values.{event_of, record_of};
-ghost use Rattle.fw_world.specs.Runs.{RunsAs, events_run};
+ghost use Rattle.fw_world.specs.Runs.{RunsAs, calls_not_over, events_run};
 
 use crate::event::Event;
 use crate::record::Record;
@@ -31,8 +31,8 @@ pub fn run<T: Tables>(
     ensures ran { (added : List (RecordValue T.Heap)) × (records.new.items ≡ records.old.items ++ added)
         × RunsAs world.old (map event_of (events_run result events.now)) (map record_of added) world.new }
     ensures err { IfErr result (λ k. k < length events.now) }
-    ensures full { OnErr result (vec_capacity records.old < vec_len records.old +
-        (length world.old.kernel.vfs.answers + length world.old.kernel.vfs.calls) + 2 * length events.now) }
+    ensures full { OnErr result (vec_capacity records.old < vec_len records.old
+        + calls_not_over world.old + 2 * length events.now) }
     ensures room { OnErr result (world.old.kernel.vfs.answers ≡ []
         → vec_capacity records.old < vec_len records.old + 66 * length events.now) }
 {
@@ -48,10 +48,8 @@ pub fn run<T: Tables>(
 /// At most so many records the next event comes to: one of its own, one of a call that begins and is answered in it or
 /// of a link that is lost in it, and the answers of calls that wait.
 pub(crate) fn most_records<T: Tables>(world: &WorldOf<T>) -> Option<usize>
-    ensures some { IfSome result
-        (λ room. room ≡ length world.now.kernel.vfs.answers + length world.now.kernel.vfs.calls + 2) }
-    ensures none { IfNone result
-        (2 ^ 64 ≤ length world.now.kernel.vfs.answers + length world.now.kernel.vfs.calls + 2) }
+    ensures some { IfSome result (λ room. room ≡ calls_not_over world.now + 2) }
+    ensures none { IfNone result (2 ^ 64 ≤ calls_not_over world.now + 2) }
 {
     let waiting = world.answered().checked_add(world.unanswered())?;
     waiting.checked_add(2)
@@ -64,13 +62,13 @@ fn run_one<T: Tables>(
     records: &mut Vec<Record<T::Heap>, T::Heap>,
 ) -> bool
     ensures not_run { result ≡ false → (world.new ≡ world.old) × (records.new.items ≡ records.old.items) }
-    ensures full { result ≡ false → vec_capacity records.old < vec_len records.old +
-        (length world.old.kernel.vfs.answers + length world.old.kernel.vfs.calls) + 2 }
+    ensures full { result ≡ false → vec_capacity records.old < vec_len records.old + calls_not_over world.old + 2 }
     ensures ran { IsTrue result → (added : List (RecordValue T.Heap))
         × (records.new.items ≡ records.old.items ++ added)
         × Recorded world.old (event_of event.now ∷ []) (map record_of added) world.new }
-    ensures room { IsTrue result → vec_len records.new +
-        (length world.new.kernel.vfs.answers + length world.new.kernel.vfs.calls) + vec_capacity records.old ≤ vec_len records.old + (length world.old.kernel.vfs.answers + length world.old.kernel.vfs.calls) + 2 + vec_capacity records.new }
+    ensures room { IsTrue result →
+        vec_len records.new + calls_not_over world.new + vec_capacity records.old
+        ≤ vec_len records.old + calls_not_over world.old + 2 + vec_capacity records.new }
 {
     world.keeps_protocol();
     let Some(room) = most_records(world) else {

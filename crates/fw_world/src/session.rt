@@ -2,7 +2,6 @@
 
 ghost use Rattle.std.specs.Prelude.{◌≡◌, ◌≤◌, [], false, true, Err, IfErr, IfOk, IfNone, IfSome, OnErr, option_map, slice_get, vec_capacity};
 ghost use Rattle.fuse_spec.specs.World.Events.{abort, aborted};
-ghost use Rattle.fuse_spec.specs.Values.Maps.{remove};
 ghost use Rattle.fuse_spec.specs.Claim.Counts.{Keeps};
 ghost use Rattle.fuse_spec.specs.Reference.Plain.{Plain, first_plain};
 ghost use Rattle.fuse_spec.specs.World.Steps.{Happens, RefusedWith};
@@ -13,6 +12,7 @@ ghost use Rattle.fw_link.specs.Carrying.{IsEmpty};
 ghost use Rattle.fuse_theorem.specs.Reached.{IsReached};
 ghost use Rattle.fw_world.specs.Frames.{IsFrameOf, IsLastFrame, IsShown};
 ghost use Rattle.fw_world.specs.OverLinks.{StepsOver, session_of};
+ghost use Rattle.fw_world.specs.Runs.{handed_out};
 ghost use Rattle.fw_world.specs.Sends.{IsLostOn, IsOut, IsSent, LosesIn};
 ghost use Rattle.fw_world.specs.Values.{counted_nodes, event_of, held_nodes, outcome_of};
 
@@ -159,13 +159,7 @@ impl<L: Link + Drop, A: Allocator + Copy> Session<L, A> {
         ensures answer { option_map (λ r. (r.0, answer_of r.1)) result
             ≡ slice_get self.old.world.kernel.vfs.answers 0 }
         ensures none { IfNone result (self.new.world ≡ self.old.world) }
-        ensures taken { IfSome result (λ r. self.new.world ≡ record self.old.world {
-          kernel = record self.old.world.kernel {
-            vfs = record self.old.world.kernel.vfs {
-              answers = remove self.old.world.kernel.vfs.answers r.0;
-            };
-          };
-        }) }
+        ensures taken { IfSome result (λ r. self.new.world ≡ handed_out self.old.world r.0) }
         ensures link { (self.new.link ≡ self.old.link) × (self.new.is_lost ≡ self.old.is_lost) }
         ensures refines { IfSome result (λ r. (p : Plain) → Refines self.old.world p →
             Refines self.new.world (plain_handed_out p r.0)) }

@@ -3,7 +3,6 @@
 ghost use Rattle.std.specs.Prelude.{◌≡◌, ◌≤◌, ◌<◌, ◌++◌, ◌∷◌, [], ℕ, List, true, false, OnErr, IfOk, IfErr, IfNone, IfSome, length, option_map, slice_get};
 ghost use Rattle.std.specs.Vec.{vec_len, vec_capacity};
 ghost use Rattle.fuse_spec.specs.World.Events as event;
-ghost use Rattle.fuse_spec.specs.Values.Maps.{remove};
 ghost use Rattle.fuse_spec.specs.Kernel.Refusals.{or_no_memory};
 ghost use Rattle.fuse_spec.specs.World.Steps.{Happens, is_past, IsRefused, RefusedWith};
 ghost use Rattle.fuse_spec.specs.World.Worlds.{World as WorldState, first_world};
@@ -14,14 +13,15 @@ ghost use Rattle.fuse_spec.specs.declared.Refusal.TheVariants.{NoMemory};
 ghost use Rattle.fuse_theorem.specs.Reached.{IsReached};
 ghost use Rattle.fk_syscalls.specs.Values.{call_of, answer_of};
 ghost use Rattle.fs_server.specs.Effects.{AnswersFrame};
+ghost use Rattle.fw_world.specs.declared.world.LastPut.TheVariants.{Request};
 ghost use Rattle.fw_world.specs.Frames.{IsCopyFrame, IsFrameOf, IsLastFrame, IsShown};
-ghost use Rattle.fw_world.specs.Runs.{StepsAs};
+ghost use Rattle.fw_world.specs.Runs.{StepsAs, handed_out};
 ghost use Rattle.fw_world.specs.Values.{counted_nodes, event_of, held_nodes, outcome_of, read_of, refusal_for, with_copy};
 
 mod last_sent;
 
 use crate::event::{Event, Outcome, Pick};
-use crate::links::{append, clear_links, put_request, take_out};
+use crate::links::{append, clear_links, take_out};
 use crate::tables::{Lists, Maps, Tables};
 use fk_kernel::{Answer, Call, KernelOf};
 use fk_lookup_count::CountTable;
@@ -166,8 +166,7 @@ impl<T: Tables> WorldOf<T> {
     pub fn collect(&mut self) -> Option<(u64, Answer<T::Heap>)>
         ensures answer { option_map (λ r. (r.0, answer_of r.1)) result ≡ slice_get self.old.kernel.vfs.answers 0 }
         ensures none { IfNone result (self.new ≡ self.old) }
-        ensures taken { IfSome result
-            (λ r. self.new ≡ record self.old { kernel = record self.old.kernel { vfs = record self.old.kernel.vfs { answers = remove self.old.kernel.vfs.answers r.0 } } }) }
+        ensures taken { IfSome result (λ r. self.new ≡ handed_out self.old r.0) }
         ensures refines { IfSome result (λ r. (p : Plain) → Refines self.old p
             → Refines self.new (plain_handed_out p r.0)) }
     {
@@ -322,25 +321,13 @@ impl<T: Tables> WorldOf<T> {
         ensures happens { IfOk result (λ outcome. Happens self.old event.read_interrupt (outcome_of outcome) self.new) }
         ensures shows { IfOk result (IsShown self.new) }
     {
+        within(&self.kernel, &self.server);
         if self.requests.reserve(1).is_err() {
-            within(&self.kernel, &self.server);
             return Err(refusal_or_no_memory(self.kernel.read_interrupt_refusal()));
         }
-        let frame = match self.kernel.read_interrupt() {
-            Ok(frame) => frame,
-            Err(refusal) => {
-                within(&self.kernel, &self.server);
-                return Err(refusal);
-            }
-        };
+        let frame = self.kernel.read_interrupt()?;
         within(&self.kernel, &self.server);
-        let (unique, opcode, len) = put_request(&mut self.requests, frame);
-        self.last_put = LastPut::Request;
-        Ok(Outcome::Read {
-            unique,
-            opcode,
-            len,
-        })
+        Ok(put_read(&mut self.requests, &mut self.last_put, frame))
     }
 
     fn read_pending(&mut self, place: u64) -> Result<Outcome, Refusal>
@@ -350,25 +337,13 @@ impl<T: Tables> WorldOf<T> {
             (outcome_of outcome) self.new) }
         ensures shows { IfOk result (IsShown self.new) }
     {
+        within(&self.kernel, &self.server);
         if self.requests.reserve(1).is_err() {
-            within(&self.kernel, &self.server);
             return Err(refusal_or_no_memory(self.kernel.read_refusal(place)));
         }
-        let frame = match self.kernel.read_pending(place) {
-            Ok(frame) => frame,
-            Err(refusal) => {
-                within(&self.kernel, &self.server);
-                return Err(refusal);
-            }
-        };
+        let frame = self.kernel.read_pending(place)?;
         within(&self.kernel, &self.server);
-        let (unique, opcode, len) = put_request(&mut self.requests, frame);
-        self.last_put = LastPut::Request;
-        Ok(Outcome::Read {
-            unique,
-            opcode,
-            len,
-        })
+        Ok(put_read(&mut self.requests, &mut self.last_put, frame))
     }
 
     fn read_forgets(&mut self, count: u64) -> Result<Outcome, Refusal>
@@ -378,25 +353,13 @@ impl<T: Tables> WorldOf<T> {
             (outcome_of outcome) self.new) }
         ensures shows { IfOk result (IsShown self.new) }
     {
+        within(&self.kernel, &self.server);
         if self.requests.reserve(1).is_err() {
-            within(&self.kernel, &self.server);
             return Err(refusal_or_no_memory(self.kernel.read_forgets_refusal(count)));
         }
-        let frame = match self.kernel.read_forgets(count) {
-            Ok(frame) => frame,
-            Err(refusal) => {
-                within(&self.kernel, &self.server);
-                return Err(refusal);
-            }
-        };
+        let frame = self.kernel.read_forgets(count)?;
         within(&self.kernel, &self.server);
-        let (unique, opcode, len) = put_request(&mut self.requests, frame);
-        self.last_put = LastPut::Request;
-        Ok(Outcome::Read {
-            unique,
-            opcode,
-            len,
-        })
+        Ok(put_read(&mut self.requests, &mut self.last_put, frame))
     }
 
     fn interrupt(&mut self, call: u64, fatal: bool) -> Result<Outcome, Refusal>
@@ -627,6 +590,30 @@ fn reserve_answer<S: NodeStore>(
         return true;
     }
     replies.reserve(1).is_ok()
+}
+
+/// Puts the frame of a request that was read onto its link, which has room, and tells what the read came to.
+#[inline(always)]
+fn put_read<A: Allocator>(
+    requests: &mut Vec<RequestFrame<A>, A>,
+    last_put: &mut LastPut,
+    frame: RequestFrame<A>,
+) -> Outcome
+    requires { vec_len requests.old < vec_capacity requests.old }
+    ensures items { requests.new.items ≡ requests.old.items ++ frame ∷ [] }
+    ensures last { last_put.new ≡ Request }
+    ensures outcome { outcome_of result ≡ event.is_read frame.unique }
+    ensures shows { (world : WorldState) → world.requests ≡ requests.new.items → IsShown world result }
+{
+    let (unique, opcode) = frame.head();
+    let len = frame.bytes().len();
+    append(requests, frame);
+    *last_put = LastPut::Request;
+    Outcome::Read {
+        unique,
+        opcode,
+        len,
+    }
 }
 
 /// Puts a copy of a reply onto its link, which has room, and tells its length.

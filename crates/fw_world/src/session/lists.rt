@@ -3,7 +3,7 @@
 ghost use Rattle.std.specs.Prelude.{◌≡◌, ◌+◌, ◌*◌, ◌<◌, ◌≤◌, ◌++◌, ◌∷◌, [], false, if◌then◌else◌, List, IsTrue, IfErr, OnErr, length, map};
 ghost use Rattle.std.specs.Vec.{vec_len, vec_capacity};
 ghost use Rattle.fw_world.specs.OverLinks.{RecordedOver, RunsOver, session_of};
-ghost use Rattle.fw_world.specs.Runs.{events_run};
+ghost use Rattle.fw_world.specs.Runs.{calls_not_over, events_run};
 ghost use Rattle.fw_world.specs.Values.{event_of, record_of};
 ghost use Rattle.fw_world.specs.declared.record.Record.{Record as RecordValue};
 ghost use Rattle.fw_world.specs.declared.record.Record.TheVariants.{LinkLost};
@@ -35,7 +35,7 @@ impl<L: Link + Drop, A: Allocator + Copy> Session<L, A> {
             (session_of self.new.world self.new.is_lost) self.new.link }
         ensures err { IfErr result (λ k. k < length events.now) }
         ensures full { OnErr result (vec_capacity records.old < vec_len records.old
-            + (length self.old.world.kernel.vfs.answers + length self.old.world.kernel.vfs.calls) + 2 * length events.now) }
+            + calls_not_over self.old.world + 2 * length events.now) }
         ensures room { OnErr result (self.old.world.kernel.vfs.answers ≡ [] →
             vec_capacity records.old < vec_len records.old + 66 * length events.now) }
     {
@@ -53,14 +53,13 @@ impl<L: Link + Drop, A: Allocator + Copy> Session<L, A> {
         ensures not_run { result ≡ false → (self.new.world ≡ self.old.world) × (self.new.is_lost ≡ self.old.is_lost)
             × (self.new.link ≡ self.old.link) × (records.new.items ≡ records.old.items) }
         ensures full { result ≡ false → vec_capacity records.old < vec_len records.old
-            + (length self.old.world.kernel.vfs.answers + length self.old.world.kernel.vfs.calls) + 2 }
+            + calls_not_over self.old.world + 2 }
         ensures ran { IsTrue result → (added : List (RecordValue A)) × (records.new.items ≡ records.old.items ++ added)
             × RecordedOver L.carries L.failed (session_of self.old.world self.old.is_lost) self.old.link
             (event_of event.now ∷ []) (map record_of added) (session_of self.new.world self.new.is_lost) self.new.link }
-        ensures room { IsTrue result → vec_len records.new
-            + (length self.new.world.kernel.vfs.answers + length self.new.world.kernel.vfs.calls) + vec_capacity records.old
-            ≤ vec_len records.old + (length self.old.world.kernel.vfs.answers + length self.old.world.kernel.vfs.calls) + 2
-            + vec_capacity records.new }
+        ensures room { IsTrue result →
+            vec_len records.new + calls_not_over self.new.world + vec_capacity records.old
+            ≤ vec_len records.old + calls_not_over self.old.world + 2 + vec_capacity records.new }
     {
         self.world.keeps_protocol();
         let Some(room) = most_records(&self.world) else {

@@ -1,5 +1,6 @@
 use Rattle.fw_world.specs.declared.event.Event.TheVariants.{Mount}
 use Rattle.fuse_spec.specs.declared.Minor.TheVariants.{M15}
+use Rattle.fw_world.specs.Runs.{calls_not_over}
 use Rattle.fw_world.proofs.Recording.{none_ran, one_more, all_ran, comes_to, comes_as_before}
 use Rattle.std.proofs.Common.{◌+◌, ◌*◌, ◌<◌, length, take, arith}
 use Rattle.std.specs.Vec.{vec_len, vec_capacity}
@@ -34,8 +35,8 @@ returns-then-not-run_one-clause-full g c = omega
 
 pub returns-then-not-run_one-clause-room : goal.returns-then-not-run_one-clause-room
 returns-then-not-run_one-clause-room g c =
-    let full : vec_capacity c.args.records.now < vec_len c.args.records.now +
-    (length c.args.world.now.kernel.vfs.answers + length c.args.world.now.kernel.vfs.calls) + 2 * length c.args.events.now =
+    let full : vec_capacity c.args.records.now < vec_len c.args.records.now
+    + calls_not_over c.args.world.now + 2 * length c.args.events.now =
     omega (arith, c.loop-k.invariant.1, c.loop-k-test.true, c.run_one.ensures.full c.if-not-run_one.true) in
     room_for_all c.args.world.now c.keeps_protocol.ensures.reached (vec_len c.args.records.now)
     (vec_capacity c.args.records.now) c.loop-k.k (length c.args.events.now) c.loop-k-test.true full

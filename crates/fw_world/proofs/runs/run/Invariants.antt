@@ -1,5 +1,6 @@
-use Rattle.std.proofs.Common.{◌+◌, ◌*◌, ◌≤◌, length, take}
+use Rattle.std.proofs.Common.{◌+◌, ◌*◌, ◌≤◌, take}
 use Rattle.std.specs.Vec.{vec_len, vec_capacity}
+use Rattle.fw_world.specs.Runs.{calls_not_over}
 use Rattle.fw_world.proofs.Recording.{RanSo}
 use Rattle.fw_world.proofs.runs.run.Given as goal
 
@@ -7,4 +8,5 @@ use Rattle.fw_world.proofs.runs.run.Given as goal
 abbrev pub invariant-loop-k : goal.invariant-loop-k
 invariant-loop-k g l =
     RanSo l.fn.world (take l.k l.events) l.fn.records.items l.world l.records.items
-    × (vec_len l.records + (length l.world.kernel.vfs.answers + length l.world.kernel.vfs.calls) + vec_capacity l.fn.records ≤ vec_len l.fn.records + (length l.fn.world.kernel.vfs.answers + length l.fn.world.kernel.vfs.calls) + 2 * l.k + vec_capacity l.records)
+    × (vec_len l.records + calls_not_over l.world + vec_capacity l.fn.records
+    ≤ vec_len l.fn.records + calls_not_over l.fn.world + 2 * l.k + vec_capacity l.records)

@@ -3,6 +3,7 @@ use Rattle.std.specs.Vec.{vec_len, vec_capacity}
 use Rattle.fw_world.specs.declared.event.Event.TheVariants.{Mount}
 use Rattle.fuse_spec.specs.declared.Minor.TheVariants.{M15}
 use Rattle.fw_world.specs.OverLinks.{session_of}
+use Rattle.fw_world.specs.Runs.{calls_not_over}
 use Rattle.fw_world.proofs.OverLinks.{all_over, comes_over, none_ran, one_more, ran_as_before, room_for_all}
 use Rattle.fw_world.proofs.session.Session.run.Goals as goal
 
@@ -45,8 +46,8 @@ returns-then-not-run_one-clause-full g c = omega
 
 pub returns-then-not-run_one-clause-room : goal.returns-then-not-run_one-clause-room
 returns-then-not-run_one-clause-room g c =
-    let full : vec_capacity c.args.records.now < vec_len c.args.records.now +
-    (length c.args.self.now.world.kernel.vfs.answers + length c.args.self.now.world.kernel.vfs.calls) + 2 * length c.args.events.now =
+    let full : vec_capacity c.args.records.now < vec_len c.args.records.now
+    + calls_not_over c.args.self.now.world + 2 * length c.args.events.now =
     omega (arith, c.loop-k.invariant.1, c.loop-k-test.true, c.run_one.ensures.full c.if-not-run_one.true) in
     room_for_all c.args.self.now.world c.keeps_protocol.ensures.reached (vec_len c.args.records.now)
     (vec_capacity c.args.records.now) c.loop-k.k (length c.args.events.now) c.loop-k-test.true full

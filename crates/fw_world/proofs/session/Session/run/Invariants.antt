@@ -1,6 +1,7 @@
-use Rattle.std.proofs.Common.{◌+◌, ◌*◌, ◌≤◌, length, take}
+use Rattle.std.proofs.Common.{◌+◌, ◌*◌, ◌≤◌, take}
 use Rattle.std.specs.Vec.{vec_len, vec_capacity}
 use Rattle.fw_world.specs.OverLinks.{session_of}
+use Rattle.fw_world.specs.Runs.{calls_not_over}
 use Rattle.fw_world.proofs.OverLinks.{RanOver}
 use Rattle.fw_world.proofs.session.Session.run.Given as goal
 
@@ -9,6 +10,5 @@ abbrev pub invariant-loop-k : goal.invariant-loop-k
 invariant-loop-k g l =
     RanOver g.L.Link.carries g.L.Link.failed (session_of l.fn.self.world l.fn.self.is_lost) l.fn.self.link
     (take l.k l.events) l.fn.records.items (session_of l.self.world l.self.is_lost) l.self.link l.records.items
-    × (vec_len l.records + (length l.self.world.kernel.vfs.answers + length l.self.world.kernel.vfs.calls) + vec_capacity l.fn.records
-    ≤ vec_len l.fn.records +
-    (length l.fn.self.world.kernel.vfs.answers + length l.fn.self.world.kernel.vfs.calls) + 2 * l.k + vec_capacity l.records)
+    × (vec_len l.records + calls_not_over l.self.world + vec_capacity l.fn.records
+    ≤ vec_len l.fn.records + calls_not_over l.fn.self.world + 2 * l.k + vec_capacity l.records)
