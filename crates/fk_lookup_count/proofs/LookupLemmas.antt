@@ -1,5 +1,6 @@
 -- One lookup more in a slot, and what it makes of the nodes.
-use Rattle.std.proofs.Common.{◌≡◌, ◌≢◌, ℕ, ◌+◌, ◌<◌, ◌^◌, true≢false, true, false, Option, Some, None, IsSome, refl, ap, sym, subst, ◌∙◌, arith, rules, inl, inr}
+use Rattle.std.proofs.Common.{◌≡◌, ◌≢◌, ℕ, ◌+◌, ◌<◌, ◌^◌, true≢false, true, false, Option, Some, None, IsSome, Result, Ok, Err, refl, ap, sym, subst, ◌∙◌, arith, rules, inl, inr}
+use Rattle.std.specs.Prelude.{OnErr}
 use Rattle.std.specs.FinMap.{get as slot_of}
 use Rattle.std.proofs.lemmas.Bool.{cases_eq}
 use Rattle.std.proofs.lemmas.Option.{none-some}
@@ -8,6 +9,11 @@ use Rattle.fuse_spec.specs.declared.Counted.{Counted}
 use Rattle.fk_lookup_count.specs.CountedNodes.{IsUnlike, looked_up}
 use Rattle.fk_lookup_count.specs.Slots.{nodes_in, one_more, written, slot_looked_up}
 use Rattle.fk_lookup_count.proofs.SlotLemmas.{Slots, no_node, node_is, nodes-insert, room-insert}
+
+-- what holds anyway holds where there is an error
+pub if_err : {T E X : Type 0} (r : Result T E) → X → OnErr r X
+if_err (Ok t) x = tt
+if_err (Err e) x = x
 
 -- what is not counted is not unlike
 pub none_unlike : (generation : ℕ) (node : Option Counted) → node ≡ None

@@ -1,5 +1,5 @@
 //! The contract of the table, for any representation.
-ghost use Rattle.std.specs.Prelude.{◌≡◌, ◌≢◌, ℕ, ◌+◌, ◌^◌, ◌<◌, ◌↔◌, [], OnOk, OnErr, IsOk, IsErr, IfOk, T, is_none};
+ghost use Rattle.std.specs.Prelude.{◌≡◌, ◌≢◌, ℕ, ◌+◌, ◌^◌, ◌<◌, ◌↔◌, [], OnOk, OnErr, IsOk, IsErr, IfOk, T, None, is_none};
 ghost use Rattle.std.specs.FinMap.{is_sorted};
 ghost use Rattle.std.specs.Ordering.{nat_cmp};
 ghost use Rattle.std.specs.Option.{ForSome};
@@ -46,7 +46,7 @@ pub trait CountTable {
     ///
     /// # Errors
     ///
-    /// Memory was wanting, and the id had no room. Nothing changed.
+    /// Memory was wanting, and the id was not counted and had no room. Nothing changed.
     fn count_lookup(&mut self, id: u64, generation: u64) -> Result<Result<bool, Unlike>, AllocError>
         requires fits { ForSome (get (counted self.old) id) (λ node. node.count + 1 < 2 ^ 64) }
         ensures unlike { IfOk result (λ given. IsErr given ↔ IsUnlike (get (counted self.old) id) generation) }
@@ -55,6 +55,7 @@ pub trait CountTable {
             (get (counted self.old) id))) }
         ensures err { IfOk result (λ given. OnErr given (counted self.new ≡ counted self.old)) }
         ensures memory { OnErr result (counted self.new ≡ counted self.old) }
+        ensures counted { OnErr result (get (counted self.old) id ≡ None) }
         ensures succeeds { has_room self.old id → IsOk result }
         ensures kept { (other : ℕ) → has_room self.old other → has_room self.new other };
 
