@@ -9,17 +9,19 @@ use crate::short_text::ShortText;
 use fk_wire::Opcode;
 use fw_world::{Attributes, IntrEffect, Kind, Outcome, Refusal, Taken, WriteResult};
 
-/// What became of a taken request, in one word.
-fn word_of_taken(taken: Taken) -> &'static str
-    ensures word { result.now ≡ taken_word taken }
-    ensures short { length result.now ≤ 14 }
+/// Puts what became of a taken request, in one word, before a text.
+#[inline(always)]
+fn put_taken(text: &mut ShortText, taken: Taken)
+    requires { length text.old ≤ 60 }
+    ensures text { text.new ≡ taken_word taken ++ text.old }
+    ensures room { length text.new ≤ 14 + length text.old }
 {
     match taken {
-        Taken::Held => "held",
-        Taken::Forgot => "forgot",
-        Taken::Marked => "marked",
-        Taken::Ignored => "ignored",
-        Taken::Again => "again",
+        Taken::Held => text.put(b"held"),
+        Taken::Forgot => text.put(b"forgot"),
+        Taken::Marked => text.put(b"marked"),
+        Taken::Ignored => text.put(b"ignored"),
+        Taken::Again => text.put(b"again"),
     }
 }
 
@@ -36,15 +38,17 @@ fn word_of_effect(effect: IntrEffect) -> &'static str
     }
 }
 
-/// The result of a reply's write as its error number: 0, ENOENT or EINVAL.
-fn number_of_result(written: WriteResult) -> &'static str
-    ensures word { result.now ≡ result_number written }
-    ensures short { length result.now ≤ 14 }
+/// Puts the result of a reply's write as its error number, 0, ENOENT or EINVAL, before a text.
+#[inline(always)]
+fn put_result(text: &mut ShortText, written: WriteResult)
+    requires { length text.old ≤ 60 }
+    ensures text { text.new ≡ result_number written ++ text.old }
+    ensures room { length text.new ≤ 14 + length text.old }
 {
     match written {
-        WriteResult::Accepted => "0",
-        WriteResult::NoEntry => "2",
-        WriteResult::Invalid => "22",
+        WriteResult::Accepted => text.put(b"0"),
+        WriteResult::NoEntry => text.put(b"2"),
+        WriteResult::Invalid => text.put(b"22"),
     }
 }
 
@@ -122,14 +126,42 @@ fn put_counted(text: &mut ShortText, first: &[u8], number: u64, count: u64)
     put_numbered(text, first, number);
 }
 
+/// Puts a word, a number and a space before a text.
+#[inline(always)]
+fn put_before_word(text: &mut ShortText, first: &[u8], number: u64)
+    requires { (length first.now ≤ 14) × (length text.old ≤ 80) }
+    ensures { text.new ≡ first.now ++ codes " " ++ decimal number ++ codes " " ++ text.old }
+{
+    text.put_byte(b' ');
+    put_numbered(text, first, number);
+}
+
 /// Puts a word, a number and a word before a text.
 fn put_worded(text: &mut ShortText, first: &[u8], number: u64, word: &str)
     requires { (length first.now ≤ 14) × (length word.now ≤ 14) × (length text.old ≤ 60) }
     ensures { text.new ≡ first.now ++ codes " " ++ decimal number ++ codes " " ++ word.now ++ text.old }
 {
     text.put(word.as_bytes());
-    text.put_byte(b' ');
-    put_numbered(text, first, number);
+    put_before_word(text, first, number);
+}
+
+/// Puts the line of a taken request before a text.
+fn put_taking(text: &mut ShortText, unique: u64, word: Taken)
+    requires { length text.old ≤ 1 }
+    ensures { text.new ≡ outcome_line (outcome.Taken unique word) ++ text.old }
+{
+    put_taken(text, word);
+    put_before_word(text, b"taken", unique);
+}
+
+/// Puts the line of a written reply, or of a settled one, before a text.
+#[inline(always)]
+fn put_resulting(text: &mut ShortText, first: &[u8], unique: u64, written: WriteResult)
+    requires { (length first.now ≤ 14) × (length text.old ≤ 1) }
+    ensures { text.new ≡ first.now ++ codes " " ++ decimal unique ++ codes " " ++ result_number written ++ text.old }
+{
+    put_result(text, written);
+    put_before_word(text, first, unique);
 }
 
 /// Puts the line of a read before a text.
@@ -172,16 +204,12 @@ pub(crate) fn put_outcome(text: &mut ShortText, outcome: Outcome)
             opcode,
             len,
         } => put_read(text, unique, opcode, len),
-        Outcome::Taken { unique, word } => put_worded(text, b"taken", unique, word_of_taken(word)),
+        Outcome::Taken { unique, word } => put_taking(text, unique, word),
         Outcome::Done { unique, errno, len } => put_done(text, unique, errno, len),
         Outcome::Lost { unique, errno } => put_lost(text, unique, errno),
         Outcome::SentAgain { unique, len } => put_counted(text, b"again", unique, len as u64),
-        Outcome::Written { unique, result } => {
-            put_worded(text, b"written", unique, number_of_result(result))
-        }
-        Outcome::Settled { unique, result } => {
-            put_worded(text, b"settled", unique, number_of_result(result))
-        }
+        Outcome::Written { unique, result } => put_resulting(text, b"written", unique, result),
+        Outcome::Settled { unique, result } => put_resulting(text, b"settled", unique, result),
         Outcome::Interrupted { call, effect } => {
             put_worded(text, b"interrupted", call, word_of_effect(effect))
         }

@@ -1,6 +1,6 @@
 //! Records as the lines that are printed.
 
-ghost use Rattle.std.specs.Prelude.{◌≡◌, ◌≤◌, ◌++◌, ◌↔◌, All, IsTrue, OnOk, codes, decimal, flat_map, length, map, option_copied};
+ghost use Rattle.std.specs.Prelude.{◌≡◌, ◌≤◌, ◌++◌, ◌↔◌, [], All, IsTrue, OnOk, codes, decimal, flat_map, length, map, option_copied};
 ghost use Rattle.std.specs.Io.KnownBytes.{Appends};
 ghost use Rattle.fw_script.specs.Records.{answer_text, attributes_words, event_text, frame_text, kind_word, listed_words, outcome_line, record_text, refusal_name, refusal_number, shown_byte};
 
@@ -53,8 +53,7 @@ fn write_place<W: Write>(out: &mut W, offset: u64, kind: Kind) -> io::Result<()>
     text.put_byte(b':');
     text.put_number(offset);
     text.put_byte(b':');
-    out.write_all(text.bytes())?;
-    Ok(())
+    out.write_all(text.bytes())
 }
 
 /// Writes a listed name, as ` NAME:OFF:KIND`.
@@ -95,8 +94,7 @@ fn write_start<W: Write>(out: &mut W, call: u64, word: &[u8]) -> io::Result<()>
     let mut text = ShortText::new();
     text.put(word);
     put_call(&mut text, call);
-    out.write_all(text.bytes())?;
-    Ok(())
+    out.write_all(text.bytes())
 }
 
 /// Writes the line of a call that is answered with attributes.
@@ -108,8 +106,7 @@ fn write_attributes<W: Write>(out: &mut W, call: u64, attributes: Attributes) ->
     text.put_byte(b'\n');
     put_attributes(&mut text, attributes);
     put_call(&mut text, call);
-    out.write_all(text.bytes())?;
-    Ok(())
+    out.write_all(text.bytes())
 }
 
 /// Writes the line of a call that is answered with a word and a number after it.
@@ -123,8 +120,7 @@ fn write_counted<W: Write>(out: &mut W, call: u64, word: &[u8], number: u64) -> 
     text.put_number(number);
     text.put(word);
     put_call(&mut text, call);
-    out.write_all(text.bytes())?;
-    Ok(())
+    out.write_all(text.bytes())
 }
 
 /// Writes the line of an answered call.
@@ -136,22 +132,21 @@ fn write_answered<A: Allocator, W: Write>(
     ensures { OnOk result (Appends (W.contents out.old) (W.contents out.new) (answer_text call answer.now)) }
 {
     match answer {
-        Answer::Done => write_start(out, call, b"0\n")?,
-        Answer::Attributes(attributes) => write_attributes(out, call, *attributes)?,
+        Answer::Done => write_start(out, call, b"0\n"),
+        Answer::Attributes(attributes) => write_attributes(out, call, *attributes),
         Answer::Listing(names) => {
             write_start(out, call, b"0")?;
             write_listing(out, names.as_slice())?;
-            out.write_all(b"\n")?;
+            out.write_all(b"\n")
         }
         Answer::Content(bytes) => {
             write_start(out, call, b"0 ")?;
             write_hex_or_none(out, bytes.as_slice())?;
-            out.write_all(b"\n")?;
+            out.write_all(b"\n")
         }
-        Answer::Written { size } => write_counted(out, call, b"0 ", u64::from(*size))?,
-        Answer::Failed { errno } => write_counted(out, call, b"", u64::from(*errno))?,
+        Answer::Written { size } => write_counted(out, call, b"0 ", u64::from(*size)),
+        Answer::Failed { errno } => write_counted(out, call, b"", u64::from(*errno)),
     }
-    Ok(())
 }
 
 /// Writes the line of a refused event.
@@ -165,8 +160,17 @@ fn write_refused<W: Write>(out: &mut W, refusal: Refusal) -> io::Result<()>
     text.put_byte(b' ');
     text.put_number(u64::from(number_of_refusal(refusal)));
     text.put(b"refused ");
-    out.write_all(text.bytes())?;
-    Ok(())
+    out.write_all(text.bytes())
+}
+
+/// Puts the line of an outcome into a text of no bytes.
+#[inline(always)]
+fn put_line(text: &mut ShortText, outcome: Outcome)
+    requires { text.old ≡ [] }
+    ensures { text.new ≡ outcome_line outcome ++ codes "\n" }
+{
+    text.put_byte(b'\n');
+    put_outcome(text, outcome);
 }
 
 /// Writes the line of an outcome.
@@ -174,25 +178,20 @@ fn write_outcome<W: Write>(out: &mut W, outcome: Outcome) -> io::Result<()>
     ensures { OnOk result (Appends (W.contents out.old) (W.contents out.new) (outcome_line outcome ++ codes "\n")) }
 {
     let mut text = ShortText::new();
-    text.put_byte(b'\n');
-    put_outcome(&mut text, outcome);
-    out.write_all(text.bytes())?;
-    Ok(())
+    put_line(&mut text, outcome);
+    out.write_all(text.bytes())
 }
 
 /// Writes a record's line.
-#[inline(always)]
 pub fn write_record<A: Allocator, W: Write>(out: &mut W, record: &Record<A>) -> io::Result<()>
     ensures { OnOk result (Appends (W.contents out.old) (W.contents out.new) (record_text «record».now)) }
 {
-    // (an error of an output is large, and is moved only where there is one)
     match record {
-        Record::Outcome(outcome) => write_outcome(out, *outcome)?,
-        Record::Refused(refusal) => write_refused(out, *refusal)?,
-        Record::LinkLost => out.write_all(b"link lost\n")?,
-        Record::Answered { call, answer } => write_answered(out, *call, answer)?,
+        Record::Outcome(outcome) => write_outcome(out, *outcome),
+        Record::Refused(refusal) => write_refused(out, *refusal),
+        Record::LinkLost => out.write_all(b"link lost\n"),
+        Record::Answered { call, answer } => write_answered(out, *call, answer),
     }
-    Ok(())
 }
 
 /// Writes the line of a frame that was put.
@@ -204,37 +203,67 @@ fn write_frame<W: Write>(out: &mut W, frame: &[u8]) -> io::Result<()>
     out.write_all(b"\n")
 }
 
-/// Writes the lines of answers.
-fn write_answers<A: Allocator, W: Write>(out: &mut W, answers: &[Record<A>]) -> io::Result<()>
-    ensures { OnOk result (Appends (W.contents out.old) (W.contents out.new)
-        (flat_map record_text answers.now)) }
+/// Writes the line of an outcome, and tells whether the output took it: the error of an output is large, and a run asks
+/// only whether there is one.
+#[inline(always)]
+fn is_outcome_written<W: Write>(out: &mut W, outcome: Outcome) -> bool
+    ensures { IsTrue result → Appends (W.contents out.old) (W.contents out.new) (outcome_line outcome ++ codes "\n") }
 {
-    for answer in answers {
-        write_record(out, answer)?;
-    }
-    Ok(())
+    let mut text = ShortText::new();
+    put_line(&mut text, outcome);
+    out.write_all(text.bytes()).is_ok()
 }
 
-/// Writes the lines of an event's records, and after the first that of the frame that was put.
+/// The same of any record.
+fn is_record_written<A: Allocator, W: Write>(out: &mut W, record: &Record<A>) -> bool
+    ensures { IsTrue result → Appends (W.contents out.old) (W.contents out.new) (record_text «record».now) }
+{
+    write_record(out, record).is_ok()
+}
+
+/// The same of the frame that was put, if there is one.
+fn is_frame_written<W: Write>(out: &mut W, frame: &[u8]) -> bool
+    ensures { IsTrue result → Appends (W.contents out.old) (W.contents out.new) (frame_text frame.now) }
+{
+    write_frame(out, frame).is_ok()
+}
+
+/// The same of answers, of which most events have none.
+fn are_answers_written<A: Allocator, W: Write>(out: &mut W, answers: &[Record<A>]) -> bool
+    ensures { IsTrue result → Appends (W.contents out.old) (W.contents out.new) (flat_map record_text answers.now) }
+{
+    for answer in answers {
+        if !is_record_written(out, answer) {
+            return false;
+        }
+    }
+    true
+}
+
+/// The same of an event's records, and after the first of the frame that was put.
 #[inline(always)]
-pub(crate) fn write_records<A: Allocator, W: Write>(
+pub(crate) fn are_records_written<A: Allocator, W: Write>(
     out: &mut W,
     records: &[Record<A>],
     frame: Option<&[u8]>,
-) -> io::Result<()>
-    ensures { OnOk result (Appends (W.contents out.old) (W.contents out.new)
-        (event_text records.now (option_copied frame.entry))) }
+) -> bool
+    ensures { IsTrue result → Appends (W.contents out.old) (W.contents out.new)
+        (event_text records.now (option_copied frame.entry)) }
 {
     let Some((first, answers)) = records.split_first() else {
-        return Ok(());
+        return true;
     };
-    write_record(out, first)?;
+    let is_written = match first {
+        Record::Outcome(outcome) => is_outcome_written(out, *outcome),
+        _ => is_record_written(out, first),
+    };
+    if !is_written {
+        return false;
+    }
     if let Some(frame) = frame {
-        write_frame(out, frame)?;
+        if !is_frame_written(out, frame) {
+            return false;
+        }
     }
-    // Most events answer no call.
-    if answers.is_empty() {
-        return Ok(());
-    }
-    write_answers(out, answers)
+    are_answers_written(out, answers)
 }

@@ -12,7 +12,7 @@ use crate::hex_text::read_hex_or_none;
 use crate::line::Line;
 use crate::lines::read_lines;
 use crate::machine::Machine;
-use crate::records::write_records;
+use crate::records::are_records_written;
 use crate::short_text::ShortText;
 use crate::stop::Stop;
 use fw_link::Link;
@@ -59,7 +59,7 @@ fn run_event<A: Allocator + Copy, M: Machine<A>, W: Write>(
         return Err(Stop::NoMemory);
     }
     let frame = frame_put(machine, hex);
-    if write_records(out, records.as_slice(), frame).is_err() {
+    if !are_records_written(out, records.as_slice(), frame) {
         return Err(Stop::OutputRefused);
     }
     Ok(())

@@ -36,6 +36,7 @@ impl ShortText {
     }
 
     /// Puts a word before the text.
+    #[inline(always)]
     pub(crate) fn put(&mut self, word: &[u8])
         requires { length word.now + length self.old ≤ 128 }
         ensures text { self.new ≡ word.now ++ self.old }
