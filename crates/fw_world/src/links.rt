@@ -23,15 +23,6 @@ pub(crate) fn clear_links<A: Allocator>(
     results.clear();
 }
 
-/// Appends a value where there is room for it.
-#[inline(always)]
-pub(crate) fn append<T: Drop, A: Allocator>(list: &mut Vec<T, A>, value: T)
-    requires { vec_len list.old < vec_capacity list.old }
-    ensures { list.new.items ≡ list.old.items ++ value ∷ [] }
-{
-    list.push_reserved(value);
-}
-
 /// Takes out what stands at this place. Those after it move up by one place each.
 #[inline(always)]
 pub(crate) fn take_out<T: Drop, A: Allocator>(list: &mut Vec<T, A>, place: usize) -> T

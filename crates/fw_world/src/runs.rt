@@ -79,10 +79,10 @@ fn run_one<T: Tables>(
     }
     match world.step(event) {
         Ok(outcome) => {
-            add(records, Record::Outcome(outcome));
+            records.push_reserved(Record::Outcome(outcome));
             collect_all(world, records);
         }
-        Err(refusal) => add(records, Record::Refused(refusal)),
+        Err(refusal) => records.push_reserved(Record::Refused(refusal)),
     }
     true
 }
@@ -101,16 +101,6 @@ pub(crate) fn collect_all<T: Tables>(
 {
     world.keeps_protocol();
     while let Some((call, answer)) = world.collect() {
-        add(records, Record::Answered { call, answer });
+        records.push_reserved(Record::Answered { call, answer });
     }
-}
-
-/// Appends a record where there is room for it.
-pub(crate) fn add<A: Allocator>(records: &mut Vec<Record<A>, A>, value: Record<A>)
-    requires { vec_len records.old < vec_capacity records.old }
-    ensures items { records.new.items ≡ records.old.items ++ value ∷ [] }
-    ensures len { vec_len records.new ≡ vec_len records.old + 1 }
-    ensures capacity { vec_capacity records.old ≤ vec_capacity records.new }
-{
-    records.push_reserved(value);
 }

@@ -21,7 +21,7 @@ ghost use Rattle.fw_world.specs.Values.{counted_nodes, event_of, held_nodes, out
 mod last_sent;
 
 use crate::event::{Event, Outcome, Pick};
-use crate::links::{append, clear_links, take_out};
+use crate::links::{clear_links, take_out};
 use crate::tables::{Lists, Maps, Tables};
 use fk_kernel::{Answer, Call, KernelOf};
 use fk_lookup_count::CountTable;
@@ -539,14 +539,11 @@ impl<T: Tables> WorldOf<T> {
         };
         within(&self.kernel, &self.server);
         let _copy = take_out(&mut self.replies, place);
-        append(
-            &mut self.results,
-            ReplyResult {
-                number,
-                unique,
-                result: written,
-            },
-        );
+        self.results.push_reserved(ReplyResult {
+            number,
+            unique,
+            result: written,
+        });
         Ok(Outcome::Written {
             unique,
             result: written,
@@ -607,7 +604,7 @@ fn put_read<A: Allocator>(
 {
     let (unique, opcode) = frame.head();
     let len = frame.bytes().len();
-    append(requests, frame);
+    requests.push_reserved(frame);
     *last_put = LastPut::Request;
     Outcome::Read {
         unique,
@@ -623,7 +620,7 @@ fn put_reply<A: Allocator>(replies: &mut Vec<ReplyCopy<A>, A>, copy: ReplyCopy<A
     ensures len { (bytes : List ℕ) × IsCopyFrame bytes copy × (result ≡ length bytes) }
 {
     let len = copy.bytes().len();
-    append(replies, copy);
+    replies.push_reserved(copy);
     len
 }
 
@@ -645,7 +642,7 @@ fn append_if_any<A: Allocator>(list: &mut Vec<ReplyCopy<A>, A>, copy: Option<Rep
     ensures { list.new.items ≡ with_copy list.old.items copy }
 {
     if let Some(copy) = copy {
-        append(list, copy);
+        list.push_reserved(copy);
     }
 }
 

@@ -11,7 +11,7 @@ ghost use Rattle.fw_world.specs.declared.record.Record.TheVariants.{LinkLost};
 use super::Session;
 use crate::event::Event;
 use crate::record::Record;
-use crate::runs::{add, collect_all, most_records};
+use crate::runs::{collect_all, most_records};
 use fw_link::Link;
 use std::alloc::Allocator;
 
@@ -70,11 +70,11 @@ impl<L: Link + Drop, A: Allocator + Copy> Session<L, A> {
         }
         match self.step(event) {
             Ok(outcome) => {
-                add(records, Record::Outcome(outcome));
+                records.push_reserved(Record::Outcome(outcome));
                 add_loss(records, self.is_lost);
                 collect_all(&mut self.world, records);
             }
-            Err(refusal) => add(records, Record::Refused(refusal)),
+            Err(refusal) => records.push_reserved(Record::Refused(refusal)),
         }
         true
     }
@@ -88,6 +88,6 @@ fn add_loss<A: Allocator>(records: &mut Vec<Record<A>, A>, is_lost: bool)
     ensures capacity { vec_capacity records.old ≤ vec_capacity records.new }
 {
     if is_lost {
-        add(records, Record::LinkLost);
+        records.push_reserved(Record::LinkLost);
     }
 }

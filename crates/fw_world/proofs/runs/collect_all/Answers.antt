@@ -8,16 +8,16 @@ loop-call-init g c = (none_yet c.args.world.now c.args.records.now.items c.keeps
 
 pub loop-call-smaller : goal.loop-call-smaller
 loop-call-smaller g c =
-    let one = collects_one c.args.world.now c.args.records.now.items c.loop-call.world c.loop-call.records.items c.loop-call.invariant.0 c.in-Some.call c.in-Some.answer c.in-Some.ensures.answer c.collect.new.self c.add.new.records.items c.in-Some.ensures.taken c.add.ensures.items in
+    let one = collects_one c.args.world.now c.args.records.now.items c.loop-call.world c.loop-call.records.items c.loop-call.invariant.0 c.in-Some.call c.in-Some.answer c.in-Some.ensures.answer c.collect.new.self c.push_reserved.new.self.items c.in-Some.ensures.taken c.push_reserved.ensures.items in
     omega (arith, one.fewer)
 
 pub loop-call-preserved : goal.loop-call-preserved
 loop-call-preserved g c =
-    let one = collects_one c.args.world.now c.args.records.now.items c.loop-call.world c.loop-call.records.items c.loop-call.invariant.0 c.in-Some.call c.in-Some.answer c.in-Some.ensures.answer c.collect.new.self c.add.new.records.items c.in-Some.ensures.taken c.add.ensures.items in (
+    let one = collects_one c.args.world.now c.args.records.now.items c.loop-call.world c.loop-call.records.items c.loop-call.invariant.0 c.in-Some.call c.in-Some.answer c.in-Some.ensures.answer c.collect.new.self c.push_reserved.new.self.items c.in-Some.ensures.taken c.push_reserved.ensures.items in (
       one.collects,
-      omega (arith, one.fewer, c.loop-call.invariant.1, c.add.ensures.len, c.add.ensures.capacity),
-      omega (arith, one.fewer, c.loop-call.invariant.2, c.add.ensures.len),
-      omega (arith, c.loop-call.invariant.3, c.add.ensures.capacity),
+      omega (arith, one.fewer, c.loop-call.invariant.1, c.push_reserved.ensures.len, c.push_reserved.ensures.capacity),
+      omega (arith, one.fewer, c.loop-call.invariant.2, c.push_reserved.ensures.len),
+      omega (arith, c.loop-call.invariant.3, c.push_reserved.ensures.capacity),
     )
 
 pub returns-clause-world : goal.returns-clause-world

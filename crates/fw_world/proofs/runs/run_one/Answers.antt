@@ -12,16 +12,16 @@ collect_all-requires g c =
     made_room c.reserve.result _ _ _ c.reserve.ensures.ok (sym c.is_err.ensures.value ∙ c.if-is_err.false) in
     let few = one_more_waits c.args.world.now (event_of c.args.event.now)
     (outcome_of c.in-Ok.outcome) c.step.new.self c.in-Ok.ensures.happens in
-    omega (arith, room, few, c.in-Some.ensures, c.add.ensures.len, c.add.ensures.capacity)
+    omega (arith, room, few, c.in-Some.ensures, c.push_reserved.ensures.len, c.push_reserved.ensures.capacity)
 
 pub returns-in-Ok-clause-ran : goal.returns-in-Ok-clause-ran
 returns-in-Ok-clause-ran g c ran =
     let all = c.collect_all.ensures.records in
-    adds_outcome c.args.world.now c.args.event.now c.in-Ok.outcome c.step.new.self c.in-Ok.ensures.happens c.args.records.now.items c.reserve.new.self.items c.add.new.records.items c.collect_all.new.records.items all.0 c.collect_all.new.world c.collect_all.ensures.world c.reserve.ensures.items c.add.ensures.items all.1 all.2
+    adds_outcome c.args.world.now c.args.event.now c.in-Ok.outcome c.step.new.self c.in-Ok.ensures.happens c.args.records.now.items c.reserve.new.self.items c.push_reserved.new.self.items c.collect_all.new.records.items all.0 c.collect_all.new.world c.collect_all.ensures.world c.reserve.ensures.items c.push_reserved.ensures.items all.1 all.2
 
 pub returns-in-Err-clause-ran : goal.returns-in-Err-clause-ran
 returns-in-Err-clause-ran g c ran =
-    adds_refusal c.args.world.now c.args.event.now c.in-Err.refusal c.in-Err.ensures.refusal c.args.records.now.items c.reserve.new.self.items c.add-in-Err.new.records.items c.step.new.self c.in-Err.ensures.err c.reserve.ensures.items c.add-in-Err.ensures.items
+    adds_refusal c.args.world.now c.args.event.now c.in-Err.refusal c.in-Err.ensures.refusal c.args.records.now.items c.reserve.new.self.items c.push_reserved-in-Err.new.self.items c.step.new.self c.in-Err.ensures.err c.reserve.ensures.items c.push_reserved-in-Err.ensures.items
 
 pub returns-in-Ok-clause-room : goal.returns-in-Ok-clause-room
 returns-in-Ok-clause-room g c ran =
@@ -36,8 +36,8 @@ returns-in-Ok-clause-room g c ran =
       calls_left,
       c.reserve.ensures.len,
       c.reserve.ensures.capacity,
-      c.add.ensures.len,
-      c.add.ensures.capacity,
+      c.push_reserved.ensures.len,
+      c.push_reserved.ensures.capacity,
       c.collect_all.ensures.len,
       c.collect_all.ensures.capacity,
     )

@@ -16,8 +16,8 @@ collect_all-requires g c =
       room,
       few,
       c.in-Some.ensures,
-      c.add.ensures.len,
-      c.add.ensures.capacity,
+      c.push_reserved.ensures.len,
+      c.push_reserved.ensures.capacity,
       c.add_loss.ensures.len,
       c.add_loss.ensures.capacity,
     )
@@ -26,13 +26,13 @@ pub returns-in-Ok-clause-ran : goal.returns-in-Ok-clause-ran
 returns-in-Ok-clause-ran g c ran =
     let all = c.collect_all.ensures.records in
     adds_outcome g.L.Link.carries g.L.Link.failed c.args.self.now.world c.step.new.self.world c.args.self.now.is_lost c.step.new.self.is_lost c.args.self.now.link c.step.new.self.link c.args.event.now c.in-Ok.outcome c.in-Ok.ensures.accepted c.in-Ok.ensures.happens c.in-Ok.ensures.sent
-    c.in-Ok.ensures.not_failed c.in-Ok.ensures.lost c.collect_all.new.world c.collect_all.ensures.world c.args.records.now.items c.reserve.new.self.items c.add.new.records.items c.add_loss.new.records.items c.collect_all.new.records.items all.0 c.reserve.ensures.items c.add.ensures.items c.add_loss.ensures.items all.1 all.2
+    c.in-Ok.ensures.not_failed c.in-Ok.ensures.lost c.collect_all.new.world c.collect_all.ensures.world c.args.records.now.items c.reserve.new.self.items c.push_reserved.new.self.items c.add_loss.new.records.items c.collect_all.new.records.items all.0 c.reserve.ensures.items c.push_reserved.ensures.items c.add_loss.ensures.items all.1 all.2
 
 pub returns-in-Err-clause-ran : goal.returns-in-Err-clause-ran
 returns-in-Err-clause-ran g c ran =
     let same = c.in-Err.ensures.err in
     adds_refused g.L.Link.carries g.L.Link.failed c.args.self.now.world c.step.new.self.world c.args.self.now.is_lost c.step.new.self.is_lost c.args.self.now.link c.step.new.self.link c.args.event.now c.in-Err.refusal (λ gone. let e = c.in-Err.ensures.too_late gone in cc (e)) c.in-Err.ensures.refusal
-    same.0 same.2 same.1 c.args.records.now.items c.reserve.new.self.items c.add-in-Err.new.records.items c.reserve.ensures.items c.add-in-Err.ensures.items
+    same.0 same.2 same.1 c.args.records.now.items c.reserve.new.self.items c.push_reserved-in-Err.new.self.items c.reserve.ensures.items c.push_reserved-in-Err.ensures.items
 
 pub returns-in-Ok-clause-room : goal.returns-in-Ok-clause-room
 returns-in-Ok-clause-room g c ran =
@@ -46,8 +46,8 @@ returns-in-Ok-clause-room g c ran =
       calls_left,
       c.reserve.ensures.len,
       c.reserve.ensures.capacity,
-      c.add.ensures.len,
-      c.add.ensures.capacity,
+      c.push_reserved.ensures.len,
+      c.push_reserved.ensures.capacity,
       c.add_loss.ensures.len,
       c.add_loss.ensures.capacity,
       c.collect_all.ensures.len,
@@ -60,8 +60,8 @@ returns-then-is_err-clause-full g c not_run =
     (sym c.is_err.ensures.value ∙ c.if-is_err.true) in
     omega (arith, full, c.in-Some.ensures)
 
-pub add-requires-in-Err : goal.add-requires-in-Err
-add-requires-in-Err g c =
+pub push_reserved-requires-in-Err : goal.push_reserved-requires-in-Err
+push_reserved-requires-in-Err g c =
     let room : vec_len c.reserve.new.self + c.in-Some.room ≤ vec_capacity c.reserve.new.self =
     made_room c.reserve.result _ _ _ c.reserve.ensures.ok (sym c.is_err.ensures.value ∙ c.if-is_err.false) in
     omega (arith, room, c.in-Some.ensures)
