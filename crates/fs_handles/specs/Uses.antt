@@ -1,7 +1,8 @@
 -- What the table of open numbers keeps true of its two maps.
-use Rattle.std.specs.Prelude.{◌≡◌, ℕ, ◌-◌, ◌^◌, ◌<◌, ◌≤◌, cond, nat_lt, nat_eq, List, Option, Some, None, length, sum_by}
+use Rattle.std.specs.Prelude.{◌≡◌, ℕ, ◌-◌, ◌<◌, ◌≤◌, cond, nat_lt, nat_eq, List, Option, Some, None, length, sum_by}
 use Rattle.std.specs.List.{IsDistinct}
 use Rattle.std.specs.Map.{lookup, keys_of, values_of}
+use Rattle.fuse_spec.specs.Values.Numbers.{counter_end}
 use Rattle.fs_handles.specs.declared.open_file.OpenFile.{OpenFile}
 
 -- 1 for an open number of this file
@@ -27,4 +28,4 @@ pub record IsCounted (opens : List (ℕ × OpenFile)) (uses : List (ℕ × ℕ))
   pub fresh : (fh : ℕ) → next ≤ fh → lookup (nat_eq fh) opens ≡ None
   pub distinct : IsDistinct nat_eq (keys_of opens)
   pub few : length opens < next
-  pub limit : next ≤ 2 ^ 62
+  pub limit : next ≤ counter_end

@@ -6,6 +6,7 @@ ghost use Rattle.indexmap.specs.IndexMap as map;
 ghost use Rattle.indexmap.specs.IndexMap.{spare};
 ghost use Rattle.fuse_spec.specs.Values.Maps.{get, values};
 ghost use Rattle.fuse_spec.specs.Server.Nodes.{OpenNumber, handle_opened, handle_more, handle_back};
+ghost use Rattle.fuse_spec.specs.Values.Numbers.{counter_end};
 ghost use Rattle.fs_handles.specs.Uses.{one_less};
 
 use crate::open_file::OpenFile;
@@ -76,7 +77,7 @@ impl<A: Allocator + Copy> HandleTable<A> {
 
     /// How many open numbers are left to give.
     pub fn numbers_left(&self) -> u64
-        ensures { result + self.now.table.next_fh ≡ 2 ^ 62 }
+        ensures { result + self.now.table.next_fh ≡ counter_end }
     {
         COUNTER_END - self.next
     }
@@ -84,7 +85,7 @@ impl<A: Allocator + Copy> HandleTable<A> {
     /// Gives an open number to a file, with a count of 1: one copy of the reply to OPEN or CREATE carries it.
     pub fn open(&mut self, file: u64) -> u64
         requires room { 0 < self.old.room }
-        requires numbers { self.old.table.next_fh < 2 ^ 62 }
+        requires numbers { self.old.table.next_fh < counter_end }
         ensures fh { result ≡ self.old.table.next_fh }
         ensures unused { get self.old.table.handles result ≡ None }
         ensures table { self.new.table ≡ handle_opened self.old.table file }

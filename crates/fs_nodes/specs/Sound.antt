@@ -1,9 +1,10 @@
 -- What is true of held nodes after any calls.
-use Rattle.std.specs.Prelude.{◌≡◌, ◌<◌, ◌≤◌, ◌^◌, ℕ, Some, IsTrue}
+use Rattle.std.specs.Prelude.{◌≡◌, ◌<◌, ◌≤◌, ℕ, Some, IsTrue}
 use Rattle.std.specs.Ordering.{nat_cmp}
 use Rattle.std.specs.FinMap.{is_sorted}
 use Rattle.fuse_spec.specs.Values.Maps.{get}
 use Rattle.fuse_spec.specs.Server.Nodes.{HeldNode, NodeTable}
+use Rattle.fuse_spec.specs.Values.Numbers.{counter_end}
 
 -- Nodeids rise from 2, none has the file of another, each has a lookup, and no generation is the coming one or a later.
 pub record IsSound (t : NodeTable) : Type 0 where
@@ -16,5 +17,5 @@ pub record IsSound (t : NodeTable) : Type 0 where
 
 -- Those nodes, whose generations stay within their range.
 pub record IsKept (t : NodeTable) : Type 0 where
-  pub limit : t.next_generation ≤ 2 ^ 62
+  pub limit : t.next_generation ≤ counter_end
   pub sound : IsSound t

@@ -4,6 +4,7 @@ ghost use Rattle.std.specs.List.{list_any};
 ghost use Rattle.fuse_spec.specs.Values.Maps.{get, values};
 ghost use Rattle.fuse_spec.specs.Server.Nodes.{HeldNode, NodeTable, MayName, IsUnheld, given, taken_back, is_row_of};
 ghost use Rattle.fuse_spec.specs.Server.Server.{count_in};
+ghost use Rattle.fuse_spec.specs.Values.Numbers.{counter_end};
 ghost use Rattle.fs_nodes.specs.Rows.{generation_given, room_for, HasCount, listed, IsOf};
 ghost use Rattle.fs_nodes.specs.Sound.{IsSound};
 
@@ -44,13 +45,13 @@ pub trait NodeStore {
 
     /// How many generations are left to give.
     fn generations_left(&self) -> u64
-        ensures { result + (table self.now).next_generation ≡ 2 ^ 62 };
+        ensures { result + (table self.now).next_generation ≡ counter_end };
 
     /// Counts one lookup of a file, and gives its nodeid and generation: those that it has, or a free nodeid under the
     /// coming generation.
     fn give(&mut self, file: u64) -> (u64, u64)
         requires room { IsUnheld (table self.old) file → 0 < room self.old }
-        requires generation { IsUnheld (table self.old) file → (table self.old).next_generation < 2 ^ 62 }
+        requires generation { IsUnheld (table self.old) file → (table self.old).next_generation < counter_end }
         requires count { (id : ℕ) (row : HeldNode) → get (table self.old).rows id ≡ Some row → row.file ≡ file
             → row.count + 1 < 2 ^ 64 }
         ensures id { MayName (table self.old) file result.0 }

@@ -1,10 +1,11 @@
 -- What is true of a stored tree, beside what it shows.
-use Rattle.std.specs.Prelude.{◌≡◌, ℕ, ◌+◌, ◌-◌, ◌<◌, ◌≤◌, ◌^◌, cond, List, [], ◌∷◌, Option, Some, None, length, map, filter, find, not, nat_eq, nat_le, nat_lt}
+use Rattle.std.specs.Prelude.{◌≡◌, ℕ, ◌+◌, ◌-◌, ◌<◌, ◌≤◌, cond, List, [], ◌∷◌, Option, Some, None, length, map, filter, find, not, nat_eq, nat_le, nat_lt}
 use Rattle.std.specs.Map.{lookup}
 use Rattle.std.specs.Option.{unwrap_or}
 use Rattle.fuse_spec.specs.Values.Maps.{Map, get}
 use Rattle.fuse_spec.specs.Files.Operations.{Dirent, DirentPlus, files_listed}
 use Rattle.fuse_spec.specs.Files.Trees.{Content, Named, is_at, kind_of, record_length, same_name}
+use Rattle.fuse_spec.specs.Values.Numbers.{counter_end}
 
 -- The record of READDIR for a name of one of these files.
 abbrev pub dirent_in : Map Content → Named → Dirent
@@ -48,8 +49,8 @@ pub record IsKept (files : Map Content) (names : List Named) (next_birth next_se
   pub born : AreBelow next_birth files
   pub rising : IsRising 1 names next_serial
   pub few : length names ≤ 4096
-  pub births_fit : next_birth ≤ 2 ^ 62
-  pub serials_fit : next_serial ≤ 2 ^ 62
+  pub births_fit : next_birth ≤ counter_end
+  pub serials_fit : next_serial ≤ counter_end
 
 -- A name in one directory.
 pub record Entry : Type 0 where

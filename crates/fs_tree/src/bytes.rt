@@ -1,9 +1,10 @@
 //! Reading and writing the bytes of a file.
 
-ghost use Rattle.std.specs.Prelude.{◌≡◌, ◌+◌, ◌≤◌, ◌<◌, ◌^◌, IfNone, length, take, drop, min, IfErr, OnOk, OnErr, IfOk, None, IsTrue, true, ◌↔◌};
+ghost use Rattle.std.specs.Prelude.{◌≡◌, ◌+◌, ◌≤◌, ◌<◌, IfNone, length, take, drop, min, IfErr, OnOk, OnErr, IfOk, None, IsTrue, true, ◌↔◌};
 ghost use Rattle.fuse_spec.specs.Files.Operations.{getattr, opening, read, write, content, attributes};
 ghost use Rattle.fuse_spec.specs.Files.Trees.{attributes_of, overwritten};
 ghost use Rattle.fuse_spec.specs.Files.FileOperations.{refusal, tree_unrefused};
+ghost use Rattle.fuse_spec.specs.Values.Numbers.{counter_end};
 ghost use Rattle.fs_tree.specs.Outcomes.{IsRefused, IsRefusedBy, IsReply, is_regular};
 
 use crate::error::TreeError;
@@ -15,7 +16,7 @@ use std::alloc::{AllocError, Allocator};
 impl<A: Allocator + Copy> Tree<A> {
     /// What is told of a file. Of one that is not in the tree: another kind, no bytes, no links.
     pub fn getattr(&self, file: u64) -> Attributes
-        requires { file < 2 ^ 62 }
+        requires { file < counter_end }
         ensures { result ≡ attributes_of self.now file }
     {
         let (kind, size) = self.files.kind_and_size(file);

@@ -1,9 +1,10 @@
 //! What changes the names and the files of a tree.
 
-ghost use Rattle.std.specs.Prelude.{◌≡◌, ◌≢◌, ◌+◌, ◌^◌, ◌<◌, ◌≤◌, IfOk, IfErr, OnOk, OnErr, None};
+ghost use Rattle.std.specs.Prelude.{◌≡◌, ◌≢◌, ◌+◌, ◌<◌, ◌≤◌, IfOk, IfErr, OnOk, OnErr, None};
 ghost use Rattle.fuse_spec.specs.Files.Operations.{mkdir, create, unlink, rmdir, link, rename};
 ghost use Rattle.fuse_spec.specs.Files.Trees.{file_at, with_birth};
 ghost use Rattle.fuse_spec.specs.Files.FileOperations.{refusal, tree_unrefused, is_same};
+ghost use Rattle.fuse_spec.specs.Values.Numbers.{counter_end};
 ghost use Rattle.fs_tree.specs.Outcomes.{IsRefused, IsRefusedBy, discarded, without_nameless};
 ghost use Rattle.fs_tree.specs.Views.{content_in};
 
@@ -15,8 +16,8 @@ use std::alloc::{AllocError, Allocator};
 impl<A: Allocator + Copy> Tree<A> {
     /// Makes a directory, and gives its birth. ENOTDIR, ENOENT in a nameless directory, EEXIST, ENOSPC at 4,096 names.
     pub fn mkdir(&mut self, directory: u64, name: &[u8]) -> Result<u64, TreeError>
-        requires births { self.old.next_birth < 2 ^ 62 }
-        requires serials { self.old.next_serial < 2 ^ 62 }
+        requires births { self.old.next_birth < counter_end }
+        requires serials { self.old.next_serial < counter_end }
         ensures ok { IfOk result (λ file. (refusal self.old (mkdir directory name.now) ≡ None)
             × ((file ≡ self.old.next_birth) × (self.new ≡ tree_unrefused self.old (mkdir directory name.now)))) }
         ensures refused { IfErr result (IsRefused self.old (mkdir directory name.now)) }
@@ -27,8 +28,8 @@ impl<A: Allocator + Copy> Tree<A> {
 
     /// Makes a regular file without bytes, and gives its birth. Refused as mkdir is.
     pub fn create(&mut self, directory: u64, name: &[u8]) -> Result<u64, TreeError>
-        requires births { self.old.next_birth < 2 ^ 62 }
-        requires serials { self.old.next_serial < 2 ^ 62 }
+        requires births { self.old.next_birth < counter_end }
+        requires serials { self.old.next_serial < counter_end }
         ensures ok { IfOk result (λ file. (refusal self.old (create directory name.now) ≡ None)
             × ((file ≡ self.old.next_birth) × (self.new ≡ tree_unrefused self.old (create directory name.now)))) }
         ensures refused { IfErr result (IsRefused self.old (create directory name.now)) }
@@ -39,8 +40,8 @@ impl<A: Allocator + Copy> Tree<A> {
     }
 
     fn make(&mut self, directory: u64, name: &[u8], content: Content<A>) -> Result<u64, TreeError>
-        requires births { self.old.next_birth < 2 ^ 62 }
-        requires serials { self.old.next_serial < 2 ^ 62 }
+        requires births { self.old.next_birth < counter_end }
+        requires serials { self.old.next_serial < counter_end }
         ensures ok { IfOk result (λ file. (refusal self.old (mkdir directory name.now) ≡ None)
             × ((file ≡ self.old.next_birth) × (self.new ≡ with_birth self.old directory name.now
             (content_in content)))) }
@@ -95,7 +96,7 @@ impl<A: Allocator + Copy> Tree<A> {
     /// Makes one more name of a file. ENOTDIR, ENOENT in a nameless directory, EPERM for a directory, ENOENT for a
     /// nameless file, EEXIST, ENOSPC at 4,096 names.
     pub fn link(&mut self, file: u64, directory: u64, name: &[u8]) -> Result<(), TreeError>
-        requires serials { self.old.next_serial < 2 ^ 62 }
+        requires serials { self.old.next_serial < counter_end }
         ensures ok { OnOk result ((refusal self.old (link file directory name.now) ≡ None)
             × (self.new ≡ tree_unrefused self.old (link file directory name.now))) }
         ensures refused { IfErr result (IsRefused self.old (link file directory name.now)) }
@@ -120,7 +121,7 @@ impl<A: Allocator + Copy> Tree<A> {
         new_directory: u64,
         new: &[u8],
     ) -> Result<(), TreeError>
-        requires serials { self.old.next_serial < 2 ^ 62 }
+        requires serials { self.old.next_serial < counter_end }
         ensures ok { OnOk result ((refusal self.old (rename directory old.now new_directory new.now) ≡ None)
             × (self.new ≡ tree_unrefused self.old (rename directory old.now new_directory new.now))) }
         ensures refused { IfErr result (IsRefused self.old (rename directory old.now new_directory new.now)) }

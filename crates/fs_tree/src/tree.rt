@@ -1,10 +1,11 @@
 //! The tree: its files, its names, and what is read from it.
 
-ghost use Rattle.std.specs.Prelude.{◌≡◌, ◌+◌, ◌^◌, ◌<◌, ◌≤◌, IfOk, IfErr, None, count_by, nat_eq};
+ghost use Rattle.std.specs.Prelude.{◌≡◌, ◌+◌, ◌<◌, ◌≤◌, IfOk, IfErr, None, count_by, nat_eq};
 ghost use Rattle.fuse_spec.specs.Files.Operations.{lookup};
 ghost use Rattle.fuse_spec.specs.Files.Trees.{is_directory, is_nameless, links, file_at};
 ghost use Rattle.fuse_spec.specs.Files.FileOperations.{refusal};
 ghost use Rattle.fuse_spec.specs.Files.TreeShape.{IsShaped};
+ghost use Rattle.fuse_spec.specs.Values.Numbers.{counter_end};
 ghost use Rattle.fs_tree.specs.Outcomes.{IsRefusedBy, only_root};
 ghost use Rattle.fs_tree.specs.Stored.{IsRising};
 
@@ -86,14 +87,14 @@ impl<A: Allocator + Copy> Tree<A> {
 
     /// How many births are left below 2^62.
     pub fn births_left(&self) -> u64
-        ensures { self.now.next_birth + result ≡ 2 ^ 62 }
+        ensures { self.now.next_birth + result ≡ counter_end }
     {
         COUNTER_END - self.next_birth
     }
 
     /// How many serials are left below 2^62.
     pub fn serials_left(&self) -> u64
-        ensures { self.now.next_serial + result ≡ 2 ^ 62 }
+        ensures { self.now.next_serial + result ≡ counter_end }
     {
         COUNTER_END - self.next_serial
     }
