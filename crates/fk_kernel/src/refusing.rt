@@ -2,6 +2,7 @@
 //! counters.
 
 ghost use Rattle.std.specs.Prelude.{◌≡◌, ◌≤◌, ◌%◌, [], ◌∷◌, Some, IfSome, IfNone, OnOk, OnErr, IfOk, IfErr, true, false, nat_eq};
+ghost use Rattle.fk_wire.specs.ReplyFaults.{IsReplyHead};
 ghost use Rattle.fuse_spec.specs.Values.Maps.{get};
 ghost use Rattle.fuse_spec.specs.Values.Numbers.{max_validity};
 ghost use Rattle.fuse_spec.specs.Files.Operations as reply;
@@ -23,7 +24,7 @@ use fk_nodes::EntryUse;
 use fk_queues::QueueTable;
 use fk_said::{ReplySaid, said_to};
 use fk_syscalls::{CallState, NewName};
-use fk_wire::read_reply_head;
+use fk_wire::{ReplyHead, read_reply_head};
 use fuse_frames::Reply;
 use fuse_spec::{Entry, Operation, Purpose, Refusal};
 
@@ -36,20 +37,20 @@ impl<Q: QueueTable<Purpose> + Drop, C: CountTable<Heap = Q::Heap> + Drop> Kernel
     {
         self.within();
         self.counts_within();
-        let Ok((_, unique)) = read_reply_head(bytes) else {
+        let Ok(head) = read_reply_head(bytes) else {
             return None;
         };
-        if unique % 2 == 1 {
+        if head.unique % 2 == 1 {
             return None;
         }
-        let Some(purpose) = self.queues.waiting(unique) else {
+        let Some(purpose) = self.queues.waiting(head.unique) else {
             return None;
         };
         match *purpose {
             Purpose::Init => None,
             Purpose::Release(_) => None,
             Purpose::Call(call) => {
-                if self.call_passes_end(unique, call, bytes) {
+                if self.call_passes_end(head, call, bytes) {
                     Some(Refusal::Exhausted)
                 } else {
                     None
@@ -60,18 +61,19 @@ impl<Q: QueueTable<Purpose> + Drop, C: CountTable<Heap = Q::Heap> + Drop> Kernel
 
     /// Whether what the bytes say to the request of a call would have one queued for which no number is left, or bring
     /// a node's count to the end of counters.
-    fn call_passes_end(&self, unique: u64, call: u64, bytes: &[u8]) -> bool
-        requires even { nat_eq (unique % 2) 1 ≡ false }
-        requires waits { waiting self.now.queues unique ≡ Some (Purpose.Call call) }
-        ensures past { result ≡ true → PassesEnd self.now unique bytes.now
+    fn call_passes_end(&self, head: ReplyHead, call: u64, bytes: &[u8]) -> bool
+        requires head { IsReplyHead bytes.now head }
+        requires even { nat_eq (head.unique % 2) 1 ≡ false }
+        requires waits { waiting self.now.queues head.unique ≡ Some (Purpose.Call call) }
+        ensures past { result ≡ true → PassesEnd self.now head.unique bytes.now
             (awaited_by_call (get self.now.vfs.calls call)) }
-        ensures within { result ≡ false → PassesEnd self.now unique bytes.now
+        ensures within { result ≡ false → PassesEnd self.now head.unique bytes.now
             (awaited_by_call (get self.now.vfs.calls call)) → ⊥ }
     {
         let Some(state) = self.calls.get(call) else {
             return false;
         };
-        self.said_to_call(unique, call, state, bytes).is_err()
+        self.said_to_call(head, call, state, bytes).is_err()
     }
 
     /// What the bytes say to an unanswered call that stands so, if it goes with what the call asked.
@@ -82,33 +84,34 @@ impl<Q: QueueTable<Purpose> + Drop, C: CountTable<Heap = Q::Heap> + Drop> Kernel
     /// end of counters.
     pub(crate) fn said_to_call<'a>(
         &self,
-        unique: u64,
+        head: ReplyHead,
         call: u64,
         state: &CallState<Q::Heap>,
         bytes: &'a [u8],
     ) -> Result<Option<ReplySaid<'a>>, Refusal>
-        requires even { nat_eq (unique % 2) 1 ≡ false }
-        requires waits { waiting self.now.queues unique ≡ Some (Purpose.Call call) }
+        requires head { IsReplyHead bytes.now head }
+        requires even { nat_eq (head.unique % 2) 1 ≡ false }
+        requires waits { waiting self.now.queues head.unique ≡ Some (Purpose.Call call) }
         requires unanswered { get self.now.vfs.calls call ≡ Some state.now }
         ensures refusal { IfErr result (λ refusal. refusal ≡ Refusal.Exhausted) }
-        ensures past { OnErr result (PassesEnd self.now unique bytes.now
+        ensures past { OnErr result (PassesEnd self.now head.unique bytes.now
             (awaited_by_call (get self.now.vfs.calls call))) }
-        ensures stays { OnOk result (PassesEnd self.now unique bytes.now
+        ensures stays { OnOk result (PassesEnd self.now head.unique bytes.now
             (awaited_by_call (get self.now.vfs.calls call)) → ⊥) }
         ensures ends { OnOk result (EndsWithin self.now call) }
         ensures said { IfOk result (λ said. IfSome said
-            (IsCallReply self.now unique call (asked state.now) bytes.now)) }
+            (IsCallReply self.now head.unique call (asked state.now) bytes.now)) }
         ensures none { IfOk result (λ said. IfNone said (SaysNone (asked state.now) bytes.now)) }
     {
         self.within();
         self.counts_within();
-        let said = said_to(&state.asks(), bytes);
+        let said = said_to(&state.asks(), head, bytes);
         if self.ends_past(call) {
             return Err(Refusal::Exhausted);
         }
         match said {
             Some(said) => {
-                if self.said_past(unique, call, state, &said) {
+                if self.said_past(head.unique, call, state, &said) {
                     return Err(Refusal::Exhausted);
                 }
                 Ok(Some(said))

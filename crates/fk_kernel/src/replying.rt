@@ -1,6 +1,7 @@
 //! How the reply to a call's request is taken.
 
 ghost use Rattle.std.specs.Prelude.{◌≡◌, ◌≤◌, ◌%◌, ℕ, map, Some, OnOk, OnErr, IfOk, IfErr, true, false, nat_eq};
+ghost use Rattle.fk_wire.specs.ReplyFaults.{IsReplyHead};
 ghost use Rattle.fuse_spec.specs.Values.Maps.{get};
 ghost use Rattle.fuse_spec.specs.Files.Operations as reply;
 ghost use Rattle.fuse_spec.specs.Kernel.QueueCalls.{waiting};
@@ -22,7 +23,7 @@ use fk_lookup_count::CountTable;
 use fk_queues::QueueTable;
 use fk_said::{ReplySaid, names_listed};
 use fk_syscalls::Answer;
-use fk_wire::{Opcode, Records, read_reply};
+use fk_wire::{Opcode, Records, ReplyHead, read_reply_body};
 use fuse_frames::Reply;
 use fuse_spec::errno::EIO;
 use fuse_spec::{Purpose, Refusal, WriteResult};
@@ -32,34 +33,35 @@ impl<Q: QueueTable<Purpose> + Drop, C: CountTable<Heap = Q::Heap> + Drop> Kernel
     /// unanswered, its request just ends.
     pub(crate) fn write_to_call(
         &mut self,
-        unique: u64,
+        head: ReplyHead,
         call: u64,
         bytes: &[u8],
     ) -> Result<WriteResult, Refusal>
-        requires even { nat_eq (unique % 2) 1 ≡ false }
-        requires waits { waiting self.old.queues unique ≡ Some (Purpose.Call call) }
+        requires head { IsReplyHead bytes.now head }
+        requires even { nat_eq (head.unique % 2) 1 ≡ false }
+        requires waits { waiting self.old.queues head.unique ≡ Some (Purpose.Call call) }
         ensures err { OnErr result (self.new ≡ self.old) }
-        ensures refusal { IfErr result (IsWriteRefusal self.old unique bytes.now
+        ensures refusal { IfErr result (IsWriteRefusal self.old head.unique bytes.now
             (awaited_by_call (get self.old.vfs.calls call))) }
         ensures memory { IfErr result (λ refusal. refusal ≡ Refusal.NoMemory
-            → PassesEnd self.old unique bytes.now (awaited_by_call (get self.old.vfs.calls call)) → ⊥) }
-        ensures taken { IfOk result (λ written. IsReplyWritten self.old unique bytes.now
+            → PassesEnd self.old head.unique bytes.now (awaited_by_call (get self.old.vfs.calls call)) → ⊥) }
+        ensures taken { IfOk result (λ written. IsReplyWritten self.old head.unique bytes.now
             (awaited_by_call (get self.old.vfs.calls call)) written self.new) }
     {
         let Some(waiting) = self.calls.get(call) else {
-            let _kept = self.queues.answer(unique);
+            let _kept = self.queues.answer(head.unique);
             return Ok(WriteResult::Accepted);
         };
-        let said = match self.said_to_call(unique, call, waiting, bytes) {
+        let said = match self.said_to_call(head, call, waiting, bytes) {
             Ok(said) => said,
             Err(refusal) => return Err(refusal),
         };
         let told = result_of(said.is_some());
         let Some(said) = said else {
-            self.end_call(unique, call, Answer::Failed { errno: EIO });
+            self.end_call(head.unique, call, Answer::Failed { errno: EIO });
             return Ok(told);
         };
-        match self.replied(unique, call, said) {
+        match self.replied(head.unique, call, said) {
             Ok(()) => Ok(told),
             Err(refusal) => Err(refusal),
         }
@@ -178,16 +180,17 @@ impl<Q: QueueTable<Purpose> + Drop, C: CountTable<Heap = Q::Heap> + Drop> Kernel
     }
 
     /// A reply to the RELEASE of an open file: the request ends, whatever the bytes are.
-    pub(crate) fn write_to_release(&mut self, unique: u64, bytes: &[u8]) -> WriteResult
-        requires even { nat_eq (unique % 2) 1 ≡ false }
-        requires waits { (opened : OpenedFile) × (waiting self.old.queues unique ≡ Some (Purpose.Release opened)) }
+    pub(crate) fn write_to_release(&mut self, head: ReplyHead, bytes: &[u8]) -> WriteResult
+        requires head { IsReplyHead bytes.now head }
+        requires even { nat_eq (head.unique % 2) 1 ≡ false }
+        requires waits { (opened : OpenedFile) × (waiting self.old.queues head.unique ≡ Some (Purpose.Release opened)) }
         ensures said { (wire : WireReply) → Says Opcode.Release bytes.now wire
-            → reply_written self.old unique wire ≡ (result, self.new) }
+            → reply_written self.old head.unique wire ≡ (result, self.new) }
         ensures unsaid { IsNoReply Opcode.Release bytes.now
-            → reply_written self.old unique wrong_body ≡ (result, self.new) }
+            → reply_written self.old head.unique wrong_body ≡ (result, self.new) }
     {
-        let _kept = self.queues.answer(unique);
-        let Ok(_) = read_reply(Opcode::Release, bytes) else {
+        let _kept = self.queues.answer(head.unique);
+        let Ok(_) = read_reply_body(head, Opcode::Release, bytes) else {
             return WriteResult::Invalid;
         };
         WriteResult::Accepted

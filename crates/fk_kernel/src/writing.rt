@@ -1,6 +1,7 @@
 //! How replies are taken.
 
 ghost use Rattle.std.specs.Prelude.{◌≡◌, ◌%◌, Some, None, Ok, OnErr, IfOk, IfErr, true, false, is_some, nat_eq};
+ghost use Rattle.fk_wire.specs.ReplyFaults.{IsReplyHead};
 ghost use Rattle.fuse_spec.specs.Kernel.Messages.{WireReply};
 ghost use Rattle.fuse_spec.specs.Kernel.Replies.{reply_written, interrupt_reply_of, interrupt_replied};
 ghost use Rattle.fk_kernel.specs.AwaitedReplies.{Says, IsNoReply, HasReplyHead, head_unique, awaited, nothing, wrong_body, wrong_body_to, IsReplyWritten};
@@ -11,7 +12,7 @@ use crate::kernel::KernelOf;
 use fk_lookup_count::CountTable;
 use fk_queues::QueueTable;
 use fk_said::{InterruptSaid, agrees, files_agreed, minor_agreed, said_to_init, said_to_interrupt};
-use fk_wire::{Opcode, read_reply_head};
+use fk_wire::{Opcode, ReplyHead, read_reply_head};
 use fuse_spec::errno::{EAGAIN, ENOSYS};
 use fuse_spec::{Phase, Purpose, Refusal, WriteResult};
 
@@ -33,24 +34,25 @@ impl<Q: QueueTable<Purpose> + Drop, C: CountTable<Heap = Q::Heap> + Drop> Kernel
             (λ written. IsReplyWritten self.old (head_unique bytes.now) bytes.now
             (awaited self.old (head_unique bytes.now)) written self.new) }
     {
-        let Ok((_, unique)) = read_reply_head(bytes) else {
+        let Ok(head) = read_reply_head(bytes) else {
             return Ok(WriteResult::Invalid);
         };
-        if unique % 2 == 1 {
-            return Ok(self.write_to_interrupt(unique - 1, bytes));
+        if head.unique % 2 == 1 {
+            return Ok(self.write_to_interrupt(head.unique - 1, head, bytes));
         }
-        let Some(purpose) = self.queues.waiting(unique) else {
+        let Some(purpose) = self.queues.waiting(head.unique) else {
             return Ok(WriteResult::NoEntry);
         };
         match *purpose {
-            Purpose::Init => Ok(self.write_to_init(unique, bytes)),
-            Purpose::Release(_) => Ok(self.write_to_release(unique, bytes)),
-            Purpose::Call(call) => self.write_to_call(unique, call, bytes),
+            Purpose::Init => Ok(self.write_to_init(head, bytes)),
+            Purpose::Release(_) => Ok(self.write_to_release(head, bytes)),
+            Purpose::Call(call) => self.write_to_call(head, call, bytes),
         }
     }
 
     /// A reply to the INTERRUPT of a request: it counts while that request is read and unanswered (fuse.rst).
-    fn write_to_interrupt(&mut self, original: u64, bytes: &[u8]) -> WriteResult
+    fn write_to_interrupt(&mut self, original: u64, head: ReplyHead, bytes: &[u8]) -> WriteResult
+        requires { IsReplyHead bytes.now head }
         ensures unawaited { waiting self.old.queues original ≡ None
             → (result ≡ WriteResult.NoEntry) × (self.new ≡ self.old) }
         ensures said { is_some (waiting self.old.queues original) ≡ true → (wire : WireReply)
@@ -61,7 +63,7 @@ impl<Q: QueueTable<Purpose> + Drop, C: CountTable<Heap = Q::Heap> + Drop> Kernel
         if self.queues.waiting(original).is_none() {
             return WriteResult::NoEntry;
         }
-        let Some(said) = said_to_interrupt(bytes) else {
+        let Some(said) = said_to_interrupt(head, bytes) else {
             return WriteResult::Invalid;
         };
         match said {
@@ -88,20 +90,21 @@ impl<Q: QueueTable<Purpose> + Drop, C: CountTable<Heap = Q::Heap> + Drop> Kernel
 
     /// A reply to INIT: an agreement on 7.15, or on 7.31 or later, makes the mount ready. Any other reply, and bytes
     /// that are none, abort it (this project's rule).
-    fn write_to_init(&mut self, unique: u64, bytes: &[u8]) -> WriteResult
-        requires even { nat_eq (unique % 2) 1 ≡ false }
-        requires waits { waiting self.old.queues unique ≡ Some Purpose.Init }
+    fn write_to_init(&mut self, head: ReplyHead, bytes: &[u8]) -> WriteResult
+        requires head { IsReplyHead bytes.now head }
+        requires even { nat_eq (head.unique % 2) 1 ≡ false }
+        requires waits { waiting self.old.queues head.unique ≡ Some Purpose.Init }
         ensures said { (wire : WireReply) → Says Opcode.Init bytes.now wire
-            → reply_written self.old unique wire ≡ (result, self.new) }
+            → reply_written self.old head.unique wire ≡ (result, self.new) }
         ensures unsaid { IsNoReply Opcode.Init bytes.now
-            → reply_written self.old unique (wrong_body_to Opcode.Init) ≡ (result, self.new) }
+            → reply_written self.old head.unique (wrong_body_to Opcode.Init) ≡ (result, self.new) }
     {
-        let Some(said) = said_to_init(bytes) else {
+        let Some(said) = said_to_init(head, bytes) else {
             self.give_up();
             return WriteResult::Invalid;
         };
         if agrees(&said) {
-            let _kept = self.queues.answer(unique);
+            let _kept = self.queues.answer(head.unique);
             self.minor = minor_agreed(&said);
             self.lists_files = files_agreed(&said);
             self.phase = Phase::Ready;

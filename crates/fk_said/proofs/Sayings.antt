@@ -6,8 +6,9 @@ use Rattle.std.proofs.lemmas.Int.{to_z-of_z}
 use Rattle.fk_wire.proofs.OneReply.{error_fits, decoded_reply_is}
 use Rattle.fk_wire.specs.declared.fault.WireFault.{WireFault}
 use Rattle.fk_wire.specs.declared.opcode.Opcode.{Opcode}
-use Rattle.fk_wire.specs.declared.reply.Reply.{Reply}
-use Rattle.fk_wire.specs.Replies.{ReplyMessage, reply_content, reply_message, SpellsReply, IsErrorNumber}
+use Rattle.fk_wire.specs.declared.reply.ReplyBody.{ReplyBody}
+use Rattle.fk_wire.specs.declared.reply.ReplyHead.{ReplyHead}
+use Rattle.fk_wire.specs.Replies.{ReplyMessage, reply_content, headed, SpellsReply, IsErrorNumber}
 use Rattle.fuse_spec.specs.Kernel.Messages.{WireReply}
 use Rattle.fuse_frames.specs.ReplyTies.{wire_said}
 use Rattle.fuse_spec.specs.Kernel.Replies.{is_init_reply}
@@ -20,18 +21,19 @@ pub same_error : (z : ℤ) → IsErrorNumber z → cast_signed w32 (cast_unsigne
 same_error z p = to_z-of_z w32 z (error_fits z p)
 
 -- Where nothing was read nothing is said.
-pub says_nothing : (o : Opcode) (bytes : List ℕ) (r : Result Reply WireFault) (f : WireFault) → r ≡ Err f
-    → ((t : ReplyMessage) → SpellsReply o bytes t → IsOkAnd r (λ v. reply_message v ≡ t)) → IsNoReply o bytes
-says_nothing o bytes r f e only wire h =
-    let there : IsOkAnd r (λ v. reply_message v ≡ h.says.message) = only h.says.message h.says.spells in
+pub says_nothing : (o : Opcode) (bytes : List ℕ) (head : ReplyHead) (r : Result ReplyBody WireFault) (f : WireFault)
+    → r ≡ Err f → ((t : ReplyMessage) → SpellsReply o bytes t → IsOkAnd r (λ body. headed head body ≡ t))
+    → IsNoReply o bytes
+says_nothing o bytes head r f e only wire h =
+    let there : IsOkAnd r (λ body. headed head body ≡ h.says.message) = only h.says.message h.says.spells in
     rw e at there
 
 -- What was read is said.
-pub says_read : (o : Opcode) (bytes : List ℕ) (r : Reply) (wire : WireReply) → SpellsReply o bytes (reply_message r)
-    → wire_said r.error (reply_content r.body) ≡ wire → Says o bytes wire
-says_read o bytes r wire spells e = record {
-  unique = r.unique;
-  says = record { message = reply_message r; spells = spells; unique_is = refl; says = e };
+pub says_read : (o : Opcode) (bytes : List ℕ) (head : ReplyHead) (body : ReplyBody) (wire : WireReply)
+    → SpellsReply o bytes (headed head body) → wire_said head.error (reply_content body) ≡ wire → Says o bytes wire
+says_read o bytes head body wire spells e = record {
+  unique = head.unique;
+  says = record { message = headed head body; spells = spells; unique_is = refl; says = e };
 }
 
 -- One thing is said.

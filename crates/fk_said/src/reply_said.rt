@@ -4,6 +4,7 @@ ghost use Rattle.std.specs.Prelude.{◌≡◌, ℕ, false, length, map, pos, IfS
 ghost use Rattle.fk_wire.specs.Records.{records_in};
 ghost use Rattle.fk_wire.specs.Entries.{entry_content};
 ghost use Rattle.fk_wire.specs.Replies.{reply_content, entry_reply, create_reply};
+ghost use Rattle.fk_wire.specs.ReplyFaults.{IsReplyHead};
 ghost use Rattle.fuse_spec.specs.Kernel.Messages.{WireReply, asks};
 ghost use Rattle.fuse_spec.specs.Files.Operations as reply;
 ghost use Rattle.fuse_spec.specs.Kernel.Replies.{goes_with};
@@ -17,7 +18,7 @@ ghost use Rattle.fk_said.specs.ReplySaid.{IsSaidBody};
 
 use crate::said::failure;
 use fk_syscalls::ListedName;
-use fk_wire::{Records, RecordsPlus, ReplyBody, read_reply};
+use fk_wire::{Records, RecordsPlus, ReplyBody, ReplyHead, read_reply_body};
 use fuse_frames::{Reply, attributes_of, kind_of_type, milliseconds, opcode_asked};
 use fuse_spec::{Attributes, Entry, Kind, Operation};
 use std::alloc::{AllocError, Allocator};
@@ -117,24 +118,29 @@ fn said_by(body: ReplyBody<'_>) -> Option<ReplySaid<'_>>
     }
 }
 
-/// What the bytes say to what a call asked, if they are a reply that goes with it.
+/// What the bytes, whose head was read, say to what a call asked, if they are a reply that goes with it.
 #[inline(always)]
-pub fn said_to<'a>(asked: &Operation<&[u8]>, bytes: &'a [u8]) -> Option<ReplySaid<'a>>
+pub fn said_to<'a>(
+    asked: &Operation<&[u8]>,
+    head: ReplyHead,
+    bytes: &'a [u8],
+) -> Option<ReplySaid<'a>>
+    requires { IsReplyHead bytes.now head }
     ensures said { IfSome result (SaysTo (operation_of (λ s. s.now) asked.now) bytes.now) }
     ensures none { IfNone result ((wire : WireReply)
         → Says (asked_opcode (asks (operation_of (λ s. s.now) asked.now))) bytes.now wire
         → goes_with (operation_of (λ s. s.now) asked.now) wire ≡ false) }
 {
-    let Ok(reply) = read_reply(opcode_asked(asked), bytes) else {
+    let Ok(body) = read_reply_body(head, opcode_asked(asked), bytes) else {
         return None;
     };
-    if let Some(errno) = failure(reply.error) {
+    if let Some(errno) = failure(head.error) {
         return Some(Reply::Failed { errno });
     }
-    if !is_within_asked(asked, bytes.len(), &reply.body) {
+    if !is_within_asked(asked, bytes.len(), &body) {
         return None;
     }
-    said_by(reply.body)
+    said_by(body)
 }
 
 /// A copy of the names that records list.

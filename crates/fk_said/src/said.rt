@@ -3,6 +3,7 @@
 ghost use Rattle.std.specs.Prelude.{◌≡◌, ℕ, List, pos, MatchOption};
 ghost use Rattle.fk_wire.specs.declared.opcode.Opcode.TheVariants as op;
 ghost use Rattle.fk_wire.specs.Replies.{ReplyContent, IsErrorNumber};
+ghost use Rattle.fk_wire.specs.ReplyFaults.{IsReplyHead};
 ghost use Rattle.fuse_spec.specs.Kernel.Messages.{WireReply};
 ghost use Rattle.fuse_spec.specs.Files.Operations as reply;
 ghost use Rattle.fuse_frames.specs.ReplyTies.{wire_said};
@@ -10,7 +11,7 @@ ghost use Rattle.fuse_spec.specs.Kernel.Replies.{is_agreement, minor_agreed, fil
 ghost use Rattle.fk_said.specs.DecodedReplies.{Says, IsNoReply, SaysToInit, SaysToInterrupt, init_wire};
 
 use bitflags::Flags;
-use fk_wire::{InitFlags, Opcode, ReplyBody, read_reply};
+use fk_wire::{InitFlags, Opcode, ReplyBody, ReplyHead, read_reply_body};
 use fuse_spec::Minor;
 
 /// What a reply to INIT says.
@@ -79,21 +80,22 @@ pub fn files_agreed(said: &InitSaid) -> bool
     }
 }
 
-/// What the bytes say to INIT, if they are a reply to it.
-pub fn said_to_init(bytes: &[u8]) -> Option<InitSaid>
+/// What the bytes, whose head was read, say to INIT, if they are a reply to it.
+pub fn said_to_init(head: ReplyHead, bytes: &[u8]) -> Option<InitSaid>
+    requires { IsReplyHead bytes.now head }
     ensures { MatchOption result (IsNoReply op.Init bytes.now) (SaysToInit bytes.now) }
 {
-    let Ok(reply) = read_reply(Opcode::Init, bytes) else {
+    let Ok(body) = read_reply_body(head, Opcode::Init, bytes) else {
         return None;
     };
-    if let Some(errno) = failure(reply.error) {
+    if let Some(errno) = failure(head.error) {
         return Some(InitSaid::Failed { errno });
     }
     let ReplyBody::Init {
         major,
         minor,
         flags,
-    } = reply.body
+    } = body
     else {
         return None;
     };
@@ -104,17 +106,18 @@ pub fn said_to_init(bytes: &[u8]) -> Option<InitSaid>
     })
 }
 
-/// What the bytes say to an INTERRUPT, if they are a reply to it.
-pub fn said_to_interrupt(bytes: &[u8]) -> Option<InterruptSaid>
+/// What the bytes, whose head was read, say to an INTERRUPT, if they are a reply to it.
+pub fn said_to_interrupt(head: ReplyHead, bytes: &[u8]) -> Option<InterruptSaid>
+    requires { IsReplyHead bytes.now head }
     ensures { MatchOption result (IsNoReply op.Interrupt bytes.now) (SaysToInterrupt bytes.now) }
 {
-    let Ok(reply) = read_reply(Opcode::Interrupt, bytes) else {
+    let Ok(body) = read_reply_body(head, Opcode::Interrupt, bytes) else {
         return None;
     };
-    if let Some(errno) = failure(reply.error) {
+    if let Some(errno) = failure(head.error) {
         return Some(InterruptSaid::Failed { errno });
     }
-    let ReplyBody::Empty = reply.body else {
+    let ReplyBody::Empty = body else {
         return None;
     };
     Some(InterruptSaid::Done)

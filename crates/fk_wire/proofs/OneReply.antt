@@ -10,11 +10,10 @@ use Rattle.fk_wire.specs.declared.opcode.Opcode.{Opcode}
 use Rattle.fk_wire.specs.declared.opcode.Minor.{Minor}
 use Rattle.fk_wire.specs.declared.reply.ReplyKind.{ReplyKind}
 use Rattle.fk_wire.specs.declared.reply.ReplyKind.TheVariants as kind
-use Rattle.fk_wire.specs.declared.reply.Reply.{Reply}
 use Rattle.fk_wire.specs.Fields.{number_at, ReadsAs}
 use Rattle.fk_wire.specs.Opcodes.{knows, served}
 use Rattle.fk_wire.specs.RecordEnds.{record_end, end_from}
-use Rattle.fk_wire.specs.Replies.{ReplyContent, empty_reply, entry_reply, attr_reply, open_reply, bytes_reply, write_reply, init_reply, create_reply, records_reply, plus_reply, ReplyMessage, reply_message, reply_kind, kind_of_content, states_15, init_end, open_fields, reply_body, IsReplyContent, HasReplyNames, IsErrorNumber, SpellsReply, SpellsReplyAt, kind_of}
+use Rattle.fk_wire.specs.Replies.{ReplyContent, empty_reply, entry_reply, attr_reply, open_reply, bytes_reply, write_reply, init_reply, create_reply, records_reply, plus_reply, ReplyMessage, reply_kind, kind_of_content, states_15, init_end, open_fields, reply_body, IsReplyContent, HasReplyNames, IsErrorNumber, SpellsReply, SpellsReplyAt, kind_of}
 use Rattle.fk_wire.specs.ReplyFaults.{FillsReply, HasNamesOf, ReplyBodyFaultIs, ReplyFaultIsAt}
 use Rattle.fk_wire.specs.Results.{SpellsResult}
 use Rattle.fk_wire.specs.Decoded.{count_from, record_count, reply_content_at, decoded_kind, decoded_reply}
@@ -239,11 +238,13 @@ no_reply_fault minor o bytes t faults.Name h x =
     x.6 (rw (← same_kind minor o bytes t x.2 h x.3) (has_names t.content bytes h.3 h.4 (body_reads minor o bytes t h)))
 no_reply_fault minor o bytes t faults.Memory h x = x
 
-pub reply_only : (minor : Minor) (o : Opcode) (bytes : List ℕ) (r : Result Reply WireFault)
-    → IfOk r (λ v. SpellsReplyAt minor o bytes (reply_message v)) → IfErr r (ReplyFaultIsAt minor o bytes)
-    → (t : ReplyMessage) → SpellsReplyAt minor o bytes t → IsOkAnd r (λ v. reply_message v ≡ t)
-reply_only minor o bytes (Ok v) ok err t h = one_reply minor o bytes (reply_message v) t ok h
-reply_only minor o bytes (Err f) ok err t h = absurd (no_reply_fault minor o bytes t f h err)
+-- What was read, as a reply or as a body after its head, is all that the frame spells.
+pub reply_only : {R : Type 0} (message : R → ReplyMessage) (minor : Minor) (o : Opcode) (bytes : List ℕ)
+    (r : Result R WireFault) → IfOk r (λ v. SpellsReplyAt minor o bytes (message v))
+    → IfErr r (ReplyFaultIsAt minor o bytes) → (t : ReplyMessage) → SpellsReplyAt minor o bytes t
+    → IsOkAnd r (λ v. message v ≡ t)
+reply_only message minor o bytes (Ok v) ok err t h = one_reply minor o bytes (message v) t ok h
+reply_only message minor o bytes (Err f) ok err t h = absurd (no_reply_fault minor o bytes t f h err)
 
 -- the fault of a list is that of its body
 records_fault_is : (bytes : List ℕ) (f : WireFault) → RecordsFaultIs 16 bytes f → ReplyBodyFaultIs kind.Records bytes f

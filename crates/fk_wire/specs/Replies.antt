@@ -12,6 +12,7 @@ use Rattle.fk_wire.specs.declared.reply.ReplyKind.TheVariants as kind
 use Rattle.fk_wire.specs.declared.reply.ReplyBody.{ReplyBody}
 use Rattle.fk_wire.specs.declared.reply.ReplyBody.TheVariants as view
 use Rattle.fk_wire.specs.declared.reply.Reply.{Reply}
+use Rattle.fk_wire.specs.declared.reply.ReplyHead.{ReplyHead}
 use Rattle.fk_wire.specs.Fields.{Field, raw, free, u32, u64, free32, free64, bits, ReadsAs, InRange, AreNamed, spellings}
 use Rattle.fk_wire.specs.Opcodes.{knows, served}
 use Rattle.fk_wire.specs.Entries.{EntryContent, IsEntry, entry_content, entry_fields, attr_fields}
@@ -54,6 +55,10 @@ reply_content (view.RecordsPlus records) = plus_reply (pluses_in records)
 -- what a reply of the code says
 abbrev pub reply_message : Reply → ReplyMessage
 reply_message r = record { unique = r.unique; error = r.error; content = reply_content r.body }
+
+-- what a body says after a head
+abbrev pub headed : ReplyHead → ReplyBody → ReplyMessage
+headed head body = record { unique = head.unique; error = head.error; content = reply_content body }
 
 -- the kind of body in the replies to an opcode; the two forgets have none
 abbrev pub kind_of : Opcode → Option ReplyKind

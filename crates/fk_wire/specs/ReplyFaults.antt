@@ -1,10 +1,11 @@
 -- The first fault of a reply, each where those before it do not apply.
 use Rattle.std.specs.Prelude.{◌≡◌, ◌≢◌, ◌≤◌, ◌<◌, ℕ, IsTrue, ◌+◌, ◌==◌, if◌then◌else◌, List, length, Some, None}
-use Rattle.std.specs.Int.{cast_signed, w32}
+use Rattle.std.specs.Int.{cast_signed, cast_unsigned, w32}
 use Rattle.fk_wire.specs.declared.fault.WireFault.{WireFault}
 use Rattle.fk_wire.specs.declared.fault.WireFault.TheVariants as faults
 use Rattle.fk_wire.specs.declared.opcode.Opcode.{Opcode}
 use Rattle.fk_wire.specs.declared.opcode.Minor.{Minor}
+use Rattle.fk_wire.specs.declared.reply.ReplyHead.{ReplyHead}
 use Rattle.fk_wire.specs.declared.reply.ReplyKind.{ReplyKind}
 use Rattle.fk_wire.specs.declared.reply.ReplyKind.TheVariants as kind
 use Rattle.fk_wire.specs.Opcodes.{served}
@@ -42,6 +43,11 @@ ReplyBodyFaultIs k bytes _ = ⊥
 -- A frame is as long as it says.
 abbrev pub HasReplyLength : List ℕ → Type 0
 HasReplyLength bytes = (16 ≤ length bytes) × (number_at 0 4 bytes ≡ length bytes)
+
+-- It has this head: it is as long as it says, and its error, which is in range, and its unique stand there.
+abbrev pub IsReplyHead : List ℕ → ReplyHead → Type 0
+IsReplyHead bytes head = HasReplyLength bytes × IsErrorNumber head.error
+    × (cast_unsigned w32 head.error ≡ number_at 4 4 bytes) × (head.unique ≡ number_at 8 8 bytes)
 
 -- Its error is in range.
 abbrev pub HasError : List ℕ → Type 0

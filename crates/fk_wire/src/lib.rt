@@ -41,10 +41,12 @@ pub use limits::MAX_FRAME;
 pub use opcode::{Minor, Opcode, is_served_opcode_at, opcode_of_code};
 pub use pairs::Pairs;
 pub use reading::{read_request, read_request_at, read_request_head, spelled_is_decoded};
-pub use reading_reply::{read_reply, read_reply_at, read_reply_head, spelled_reply_is_decoded};
+pub use reading_reply::{
+    read_reply, read_reply_at, read_reply_body, read_reply_head, spelled_reply_is_decoded,
+};
 pub use records::{Dirent, Records};
 pub use records_plus::{DirentPlus, RecordsPlus};
-pub use reply::{Reply, ReplyBody};
+pub use reply::{Reply, ReplyBody, ReplyHead};
 pub use request::{Request, RequestBody};
 pub use result_frame::{read_result, write_result};
 pub use writing::{put_pair, write_request, write_request_at, written_is_spelled};

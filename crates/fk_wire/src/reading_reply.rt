@@ -1,11 +1,10 @@
 //! Frames as replies.
 
 ghost use Rattle.std.specs.Prelude.{◌≡◌, ◌≢◌, ◌≤◌, ◌<◌, ◌+◌, ℕ, List, Option, Some, None, length, OnOk, IfOk, IfErr, IsOkAnd, if◌then◌else◌};
-ghost use Rattle.std.specs.Int.{cast_unsigned, w32};
-ghost use Rattle.fk_wire.specs.Fields.{ReadsAs, number_at};
-ghost use Rattle.fk_wire.specs.Replies.{ReplyMessage, SpellsReply, SpellsReplyAt, IsReplyContent, HasReplyNames, reply_body, reply_content, kind_of as the_kind_of, reply_kind as the_reply_kind, kind_of_content, reply_message, states_15, IsErrorNumber};
+ghost use Rattle.fk_wire.specs.Fields.{ReadsAs};
+ghost use Rattle.fk_wire.specs.Replies.{ReplyMessage, SpellsReply, SpellsReplyAt, IsReplyContent, HasReplyNames, reply_body, reply_content, kind_of as the_kind_of, reply_kind as the_reply_kind, kind_of_content, headed, reply_message, states_15};
 ghost use Rattle.fk_wire.specs.Decoded.{decoded_reply};
-ghost use Rattle.fk_wire.specs.ReplyFaults.{FillsReply, ReplyBodyFaultIs, ReplyFaultIs, ReplyFaultIsAt, HasReplyLength, IsReplyHeadFault};
+ghost use Rattle.fk_wire.specs.ReplyFaults.{FillsReply, ReplyBodyFaultIs, ReplyFaultIs, ReplyFaultIsAt, IsReplyHead, IsReplyHeadFault};
 ghost use Rattle.fk_wire.specs.declared.opcode.Opcode.{Opcode};
 ghost use Rattle.fk_wire.specs.declared.opcode.Minor.{Minor};
 ghost use Rattle.fk_wire.specs.declared.fault.WireFault.TheVariants.{Body as BodyFault};
@@ -17,7 +16,8 @@ use crate::limits::{MAX_FRAME, is_error_number};
 use crate::opcode::{Minor, Opcode, is_known, served_minor};
 use crate::records::Records;
 use crate::records_plus::RecordsPlus;
-use crate::reply::{Reply, ReplyBody, ReplyKind};
+use crate::reply::{Reply, ReplyBody, ReplyHead, ReplyKind};
+use crate::writing_reply::error_word;
 use fk_fields::{i32_at, u32_at, u64_at};
 
 /// The kind of body in the replies to an opcode.
@@ -170,44 +170,47 @@ fn body_of(kind: ReplyKind, bytes: &[u8]) -> Result<ReplyBody<'_>, WireFault>
     }
 }
 
-/// The reply that a frame spells, without its contract's clause on what else it may spell.
-fn reply_of(minor: Minor, opcode: Opcode, bytes: &[u8]) -> Result<Reply<'_>, WireFault>
-    ensures ok { IfOk result (λ r. SpellsReplyAt minor opcode bytes.now (reply_message r)) }
+/// The body of the reply that a frame with this head spells, without its contract's clause on what else it may spell.
+#[inline(always)]
+fn body_after(
+    minor: Minor,
+    head: ReplyHead,
+    opcode: Opcode,
+    bytes: &[u8],
+) -> Result<ReplyBody<'_>, WireFault>
+    requires { IsReplyHead bytes.now head }
+    ensures ok { IfOk result (λ body. SpellsReplyAt minor opcode bytes.now (headed head body)) }
     ensures fault { IfErr result (ReplyFaultIsAt minor opcode bytes.now) }
 {
-    if bytes.len() < 16 {
-        return Err(WireFault::Short);
-    }
-    if u32_at(bytes, 0) as usize != bytes.len() {
-        return Err(WireFault::Length);
-    }
-    let error = i32_at(bytes, 4);
-    if !is_error_number(error) {
-        return Err(WireFault::ErrorRange);
-    }
     let Some(kind) = reply_kind(minor, opcode) else {
         return Err(WireFault::Opcode);
     };
     if bytes.len() > MAX_FRAME {
         return Err(WireFault::Body);
     }
-    let kind = if u32_at(bytes, 4) == 0 {
+    let kind = if error_word(head.error) == 0 {
         kind
     } else {
         ReplyKind::Empty
     };
-    let unique = u64_at(bytes, 8);
-    match body_of(kind, bytes) {
-        Ok(body) => Ok(Reply {
-            unique,
-            error,
-            body,
-        }),
-        Err(fault) => Err(fault),
-    }
+    body_of(kind, bytes)
 }
 
-/// Reads the frame of a reply to a request of this opcode, of 7.31.
+/// The reply that a frame spells, without its contract's clause on what else it may spell.
+fn reply_of(minor: Minor, opcode: Opcode, bytes: &[u8]) -> Result<Reply<'_>, WireFault>
+    ensures ok { IfOk result (λ r. SpellsReplyAt minor opcode bytes.now (reply_message r)) }
+    ensures fault { IfErr result (ReplyFaultIsAt minor opcode bytes.now) }
+{
+    let head = read_reply_head(bytes)?;
+    let body = body_after(minor, head, opcode, bytes)?;
+    Ok(Reply {
+        unique: head.unique,
+        error: head.error,
+        body,
+    })
+}
+
+/// Reads the frame of a reply to a request of this opcode, of 7.31: its head, and the body after it.
 ///
 /// A frame has up to 4,176 bytes. The fault is the first of `Short`, `Length`, `ErrorRange`, `Opcode`,
 /// `Body` and `Name` that applies. `Opcode` stands for an opcode that is not known or has no replies.
@@ -237,9 +240,8 @@ pub fn read_reply_at(minor: Minor, opcode: Opcode, bytes: &[u8]) -> Result<Reply
 /// Reads the error and the unique number of a reply frame: `struct fuse_out_header`.
 ///
 /// The fault is the first of `Short`, `Length` and `ErrorRange` that applies.
-pub fn read_reply_head(bytes: &[u8]) -> Result<(i32, u64), WireFault>
-    ensures ok { IfOk result (λ head. HasReplyLength bytes.now × IsErrorNumber head.0
-        × (cast_unsigned w32 head.0 ≡ number_at 4 4 bytes.now) × (head.1 ≡ number_at 8 8 bytes.now)) }
+pub fn read_reply_head(bytes: &[u8]) -> Result<ReplyHead, WireFault>
+    ensures ok { IfOk result (IsReplyHead bytes.now) }
     ensures fault { (minor : Minor) (o : Opcode) → IfErr result
         (λ f. ReplyFaultIsAt minor o bytes.now f × IsReplyHeadFault f) }
 {
@@ -253,7 +255,25 @@ pub fn read_reply_head(bytes: &[u8]) -> Result<(i32, u64), WireFault>
     if !is_error_number(error) {
         return Err(WireFault::ErrorRange);
     }
-    Ok((error, u64_at(bytes, 8)))
+    let unique = u64_at(bytes, 8);
+    Ok(ReplyHead { error, unique })
+}
+
+/// Reads the body of a reply frame of 7.31 whose head was read: `read_reply` without reading the head again.
+///
+/// The fault is the first of `Opcode`, `Body` and `Name` that applies.
+#[inline(always)]
+pub fn read_reply_body(
+    head: ReplyHead,
+    opcode: Opcode,
+    bytes: &[u8],
+) -> Result<ReplyBody<'_>, WireFault>
+    requires { IsReplyHead bytes.now head }
+    ensures ok { IfOk result (λ body. SpellsReply opcode bytes.now (headed head body)) }
+    ensures only { (t : ReplyMessage) → SpellsReply opcode bytes.now t → IsOkAnd result (λ body. headed head body ≡ t) }
+    ensures fault { IfErr result (ReplyFaultIs opcode bytes.now) }
+{
+    body_after(served_minor(), head, opcode, bytes)
 }
 
 /// Every frame that spells a reply to an opcode spells one alone: the one that it decodes to.

@@ -41,7 +41,7 @@ impl<A: Allocator> ReplyFrame<A> {
         ensures { result ≡ self.now.unique }
     {
         match read_reply_head(&self.bytes) {
-            Ok((_, unique)) => unique,
+            Ok(head) => head.unique,
             // The invariant rules this out.
             Err(_) => 0,
         }

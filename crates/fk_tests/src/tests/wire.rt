@@ -109,7 +109,8 @@ fn result_written<A: Allocator>(
     error: i32,
     unique: u64,
 ) -> Result<(), WireFault> {
-    if read_result(bytes) != Ok((error, unique)) || read_reply_head(bytes) != Ok((error, unique)) {
+    let head = ReplyHead { error, unique };
+    if read_result(bytes) != Ok((error, unique)) || read_reply_head(bytes) != Ok(head) {
         return Err(WireFault::Body);
     }
     write_result(out, error, unique)

@@ -7,13 +7,14 @@ use Rattle.fk_said.proofs.said.said_to_init.Goals as goal
 
 pub returns-in-Some : goal.returns-in-Some
 returns-in-Some c =
-    let r = c.in-Ok.reply in
-    let same = same_error r.error c.in-Ok.ensures.ok.1 in
-    says_read op.Init c.args.bytes.now r _ c.in-Ok.ensures.ok
-    (ap (λ z. wire_said z (reply_content r.body)) (sym same) ∙ c.in-Some.ensures (reply_content r.body))
+    let head = c.args.head in
+    let content = reply_content c.in-Ok.body in
+    let same = same_error head.error c.in-Ok.ensures.ok.1 in
+    says_read op.Init c.args.bytes.now head c.in-Ok.body _ c.in-Ok.ensures.ok
+    (ap (λ z. wire_said z content) (sym same) ∙ c.in-Some.ensures content)
 
 pub returns : goal.returns
 returns c =
-    let r = c.in-Ok.reply in
-    let no_error = sym (same_error r.error c.in-Ok.ensures.ok.1) ∙ c.in_default-failure.ensures in
-    says_read op.Init c.args.bytes.now r _ c.in-Ok.ensures.ok (rw (no_error, c.in-Init.is) refl)
+    let head = c.args.head in
+    let no_error = sym (same_error head.error c.in-Ok.ensures.ok.1) ∙ c.in_default-failure.ensures in
+    says_read op.Init c.args.bytes.now head c.in-Ok.body _ c.in-Ok.ensures.ok (rw (no_error, c.in-Init.is) refl)

@@ -37,7 +37,7 @@ returns-then-ends_past-clause-past g c =
       opcode = asked_opcode (asks operation);
       judged = judged_op operation;
       awaits = awaits;
-      past = λ wire means. ends_over now c.args.unique c.args.call c.requires.even c.requires.waits p stands wire;
+      past = λ wire means. ends_over now c.args.head.unique c.args.call c.requires.even c.requires.waits p stands wire;
     }
 
 pub said_past-requires-clause-few : goal.said_past-requires-clause-few
@@ -51,7 +51,7 @@ returns-then-said_past-clause-past g c =
     let awaits : awaited_by_call (get now.vfs.calls c.args.call) ≡ reply_to (asked_opcode (asks operation)) =
     ap awaited_by_call c.requires.unanswered ∙ ap (λ (o : Operation ℕ Opened). reply_to (asked_opcode (asks o)))
     (sym c.asks.ensures.operation) in
-    rw awaits (passes now c.args.unique c.args.bytes.now (asked_opcode (asks operation)) (judged_op operation)
+    rw awaits (passes now c.args.head.unique c.args.bytes.now (asked_opcode (asks operation)) (judged_op operation)
     (wire_of c.in-Some.said) c.in-Some.ensures.said.says (c.said_past.ensures.past c.if-said_past.true))
 
 pub returns-else-said_past-clause-stays : goal.returns-else-said_past-clause-stays
@@ -61,7 +61,7 @@ returns-else-said_past-clause-stays g c =
     let awaits : awaited_by_call (get now.vfs.calls c.args.call) ≡ reply_to (asked_opcode (asks operation)) =
     ap awaited_by_call c.requires.unanswered ∙ ap (λ (o : Operation ℕ Opened). reply_to (asked_opcode (asks o)))
     (sym c.asks.ensures.operation) in
-    rw awaits (said_passes now c.args.unique c.args.bytes.now (asked_opcode (asks operation))
+    rw awaits (said_passes now c.args.head.unique c.args.bytes.now (asked_opcode (asks operation))
     (wire_of c.in-Some.said) c.in-Some.ensures.said.says (c.said_past.ensures.stays c.if-said_past.false))
 
 pub returns-else-said_past-clause-said : goal.returns-else-said_past-clause-said
@@ -94,11 +94,11 @@ returns-in-None-clause-stays g c =
     ap awaited_by_call here ∙ ap (λ (o : Operation ℕ Opened). reply_to (asked_opcode (asks o))) (sym same) in
     let ends = c.ends_past.ensures.within c.if-ends_past.false in
     let stays = λ (wire : WireReply) (other : goes_with (asked state) wire ≡ false). or_none
-    (is_past_end (reply_written now c.args.unique wire).1) (is_counted_out (reply_written now c.args.unique wire).1.nodes)
-    (wrong_within now c.args.unique c.args.call c.requires.even c.requires.waits c.within.ensures ends state here wire other)
-    (ap is_counted_out (wrong_nodes now c.args.unique c.args.call c.requires.even c.requires.waits state here wire other) ∙ c.counts_within.ensures.none_out) in
+    (is_past_end (reply_written now c.args.head.unique wire).1) (is_counted_out (reply_written now c.args.head.unique wire).1.nodes)
+    (wrong_within now c.args.head.unique c.args.call c.requires.even c.requires.waits c.within.ensures ends state here wire other)
+    (ap is_counted_out (wrong_nodes now c.args.head.unique c.args.call c.requires.even c.requires.waits state here wire other) ∙ c.counts_within.ensures.none_out) in
     rw awaits
-    (none_passes now c.args.unique c.args.bytes.now (asked_opcode (asks operation))
+    (none_passes now c.args.head.unique c.args.bytes.now (asked_opcode (asks operation))
     (λ wire says. stays wire (subst (λ (o : Operation ℕ Opened). goes_with o wire ≡ false) same
     (c.in-None.ensures.none wire says)))
     (stays (wrong_body_to (asked_opcode (asks operation)))

@@ -20,23 +20,23 @@ returns-in_default-clause-taken g c = λ head.
     let fault = c.in_default.ensures.fault served op.Getattr in
     absurd (no_head c.args.bytes.now c.in_default.field-0 fault.0 fault.1 head)
 
-pub returns-then-unique-eq1-clause-taken : goal.returns-then-unique-eq1-clause-taken
-returns-then-unique-eq1-clause-taken g c = λ head.
+pub returns-then-head-eq1-clause-taken : goal.returns-then-head-eq1-clause-taken
+returns-then-head-eq1-clause-taken g c = λ head.
     let unique = head_unique c.args.bytes.now in
     let same = c.in-Ok.ensures.ok.3 in
     let say = c.write_to_interrupt.ensures in
-    taken_odd c.args.self.now unique c.args.bytes.now _ _ (odd_test c.in-Ok.unique unique same c.if-unique-eq1.true)
-    (c.in-Ok.unique - 1) (ap (λ (n : ℕ). n - 1) same) say.said say.unsaid
+    taken_odd c.args.self.now unique c.args.bytes.now _ _ (odd_test c.in-Ok.head.unique unique same c.if-head-eq1.true)
+    (c.in-Ok.head.unique - 1) (ap (λ (n : ℕ). n - 1) same) say.said say.unsaid
 
 pub returns-in_default-waiting-clause-taken : goal.returns-in_default-waiting-clause-taken
 returns-in_default-waiting-clause-taken g c = λ head.
     let queues = g.Q.QueueTable.state c.self.inside.queues in
     let unique = head_unique c.args.bytes.now in
     let same = c.in-Ok.ensures.ok.3 in
-    let at : waiting queues c.in-Ok.unique ≡ None = search rules in
+    let at : waiting queues c.in-Ok.head.unique ≡ None = search rules in
     let waits : waiting c.args.self.now.queues unique ≡ None =
     rw (← c.self.view_is) (ap (waiting queues) (sym same) ∙ at) in
-    taken_even _ unique _ _ _ (even_test c.in-Ok.unique unique same c.if-unique-eq1.false) None waits
+    taken_even _ unique _ _ _ (even_test c.in-Ok.head.unique unique same c.if-head-eq1.false) None waits
     (taken_none _ unique _ _ _)
 
 pub returns-in-Init-clause-taken : goal.returns-in-Init-clause-taken
@@ -44,11 +44,11 @@ returns-in-Init-clause-taken g c = λ head.
     let queues = g.Q.QueueTable.state c.self.inside.queues in
     let unique = head_unique c.args.bytes.now in
     let same = c.in-Ok.ensures.ok.3 in
-    let at : waiting queues c.in-Ok.unique ≡ Some c.in-Some.purpose.now = search rules in
+    let at : waiting queues c.in-Ok.head.unique ≡ Some c.in-Some.purpose.now = search rules in
     let waits : waiting c.args.self.now.queues unique ≡ Some Init =
     rw (← c.self.view_is) (ap (waiting queues) (sym same) ∙ at ∙ ap Some c.in-Init.is) in
     let say = c.write_to_init.ensures in
-    taken_even c.args.self.now unique c.args.bytes.now _ _ (even_test c.in-Ok.unique unique same c.if-unique-eq1.false)
+    taken_even c.args.self.now unique c.args.bytes.now _ _ (even_test c.in-Ok.head.unique unique same c.if-head-eq1.false)
     (Some Init) waits
     (taken_judged c.args.self.now unique c.args.bytes.now _ _ op.Init tt (rw (← same) say.said)
     (rw (← same) say.unsaid))
@@ -56,7 +56,7 @@ returns-in-Init-clause-taken g c = λ head.
 pub write_to_release-requires-clause-waits : goal.write_to_release-requires-clause-waits
 write_to_release-requires-clause-waits g c =
     let queues = g.Q.QueueTable.state c.self.inside.queues in
-    let at : waiting queues c.in-Ok.unique ≡ Some c.in-Some.purpose.now = search rules in
+    let at : waiting queues c.in-Ok.head.unique ≡ Some c.in-Some.purpose.now = search rules in
     (c.in-Release.field-0, rw (← c.self.view_is) (at ∙ ap Some c.in-Release.is))
 
 pub returns-in-Release-clause-taken : goal.returns-in-Release-clause-taken
@@ -64,11 +64,11 @@ returns-in-Release-clause-taken g c = λ head.
     let queues = g.Q.QueueTable.state c.self.inside.queues in
     let unique = head_unique c.args.bytes.now in
     let same = c.in-Ok.ensures.ok.3 in
-    let at : waiting queues c.in-Ok.unique ≡ Some c.in-Some.purpose.now = search rules in
+    let at : waiting queues c.in-Ok.head.unique ≡ Some c.in-Some.purpose.now = search rules in
     let waits : waiting c.args.self.now.queues unique ≡ Some (Release c.in-Release.field-0) =
     rw (← c.self.view_is) (ap (waiting queues) (sym same) ∙ at ∙ ap Some c.in-Release.is) in
     let say = c.write_to_release.ensures in
-    taken_even c.args.self.now unique c.args.bytes.now _ _ (even_test c.in-Ok.unique unique same c.if-unique-eq1.false)
+    taken_even c.args.self.now unique c.args.bytes.now _ _ (even_test c.in-Ok.head.unique unique same c.if-head-eq1.false)
     (Some (Release c.in-Release.field-0)) waits
     (taken_judged c.args.self.now unique c.args.bytes.now _ _ op.Release tt (rw (← same) say.said)
     (rw (← same) say.unsaid))
@@ -78,10 +78,10 @@ returns-in-Call-clause-refusal g c = λ head.
     let queues = g.Q.QueueTable.state c.self.inside.queues in
     let unique = head_unique c.args.bytes.now in
     let same = c.in-Ok.ensures.ok.3 in
-    let at : waiting queues c.in-Ok.unique ≡ Some c.in-Some.purpose.now = search rules in
+    let at : waiting queues c.in-Ok.head.unique ≡ Some c.in-Some.purpose.now = search rules in
     let waits : waiting c.args.self.now.queues unique ≡ Some (Call c.in-Call.call) =
     rw (← c.self.view_is) (ap (waiting queues) (sym same) ∙ at ∙ ap Some c.in-Call.is) in
-    let awaits = awaited_even c.args.self.now unique (even_test c.in-Ok.unique unique same c.if-unique-eq1.false)
+    let awaits = awaited_even c.args.self.now unique (even_test c.in-Ok.head.unique unique same c.if-head-eq1.false)
     (Some (Call c.in-Call.call)) waits in
     rw (awaits, ← same) c.write_to_call.ensures.refusal
 
@@ -90,10 +90,10 @@ returns-in-Call-clause-taken g c = λ head.
     let queues = g.Q.QueueTable.state c.self.inside.queues in
     let unique = head_unique c.args.bytes.now in
     let same = c.in-Ok.ensures.ok.3 in
-    let at : waiting queues c.in-Ok.unique ≡ Some c.in-Some.purpose.now = search rules in
+    let at : waiting queues c.in-Ok.head.unique ≡ Some c.in-Some.purpose.now = search rules in
     let waits : waiting c.args.self.now.queues unique ≡ Some (Call c.in-Call.call) =
     rw (← c.self.view_is) (ap (waiting queues) (sym same) ∙ at ∙ ap Some c.in-Call.is) in
-    let awaits = awaited_even c.args.self.now unique (even_test c.in-Ok.unique unique same c.if-unique-eq1.false)
+    let awaits = awaited_even c.args.self.now unique (even_test c.in-Ok.head.unique unique same c.if-head-eq1.false)
     (Some (Call c.in-Call.call)) waits in
     rw (awaits, ← same) c.write_to_call.ensures.taken
 
@@ -103,11 +103,11 @@ returns-in-Call-clause-memory g c =
     let now = c.args.self.now in
     let unique = head_unique c.args.bytes.now in
     let same = c.in-Ok.ensures.ok.3 in
-    let at : waiting queues c.in-Ok.unique ≡ Some c.in-Some.purpose.now = search rules in
+    let at : waiting queues c.in-Ok.head.unique ≡ Some c.in-Some.purpose.now = search rules in
     let waits : waiting now.queues unique ≡ Some (Call c.in-Call.call) =
     rw (← c.self.view_is) (ap (waiting queues) (sym same) ∙ at ∙ ap Some c.in-Call.is) in
-    let awaits = awaited_even now unique (even_test c.in-Ok.unique unique same c.if-unique-eq1.false)
+    let awaits = awaited_even now unique (even_test c.in-Ok.head.unique unique same c.if-head-eq1.false)
     (Some (Call c.in-Call.call)) waits in
-    memory_last now c.in-Ok.unique c.args.bytes.now (awaited_by_call
+    memory_last now c.in-Ok.head.unique c.args.bytes.now (awaited_by_call
     (get now.vfs.calls c.in-Call.call)) c.write_to_call.result
     (λ p. rw (awaits, ← same) at p.1) c.write_to_call.ensures.memory

@@ -17,13 +17,13 @@ returns-in_default-clause-none g c = λ p.
     let fault = c.in_default.ensures.fault served op.Getattr in
     no_head c.args.bytes.now c.in_default.field-0 fault.0 fault.1 p.0
 
-pub returns-then-unique-eq1-clause-none : goal.returns-then-unique-eq1-clause-none
-returns-then-unique-eq1-clause-none g c = λ p.
+pub returns-then-head-eq1-clause-none : goal.returns-then-head-eq1-clause-none
+returns-then-head-eq1-clause-none g c = λ p.
     let unique = head_unique c.args.bytes.now in
     odd_passes c.args.self.now unique c.args.bytes.now
     (or_none (is_past_end c.args.self.now)
     (is_counted_out c.args.self.now.nodes) c.within.ensures c.counts_within.ensures.none_out)
-    (odd_test c.in-Ok.unique unique c.in-Ok.ensures.ok.3 c.if-unique-eq1.true) p.1
+    (odd_test c.in-Ok.head.unique unique c.in-Ok.ensures.ok.3 c.if-head-eq1.true) p.1
 
 pub returns-in_default-waiting-clause-none : goal.returns-in_default-waiting-clause-none
 returns-in_default-waiting-clause-none g c = λ p.
@@ -31,9 +31,9 @@ returns-in_default-waiting-clause-none g c = λ p.
     let now = c.args.self.now in
     let unique = head_unique c.args.bytes.now in
     let same = c.in-Ok.ensures.ok.3 in
-    let at : waiting queues c.in-Ok.unique ≡ None = search rules in
+    let at : waiting queues c.in-Ok.head.unique ≡ None = search rules in
     let waits : waiting now.queues unique ≡ None = rw (← c.self.view_is) (ap (waiting queues) (sym same) ∙ at) in
-    let awaits = awaited_even now unique (even_test c.in-Ok.unique unique same c.if-unique-eq1.false) None waits in
+    let awaits = awaited_even now unique (even_test c.in-Ok.head.unique unique same c.if-head-eq1.false) None waits in
     nothing_passes now unique c.args.bytes.now (subst
     (λ (a : Awaited). PassesEnd now unique c.args.bytes.now a) awaits p.1)
 
@@ -43,10 +43,10 @@ returns-in-Init-clause-none g c = λ p.
     let now = c.args.self.now in
     let unique = head_unique c.args.bytes.now in
     let same = c.in-Ok.ensures.ok.3 in
-    let at : waiting queues c.in-Ok.unique ≡ Some c.in-Some.purpose.now = search rules in
+    let at : waiting queues c.in-Ok.head.unique ≡ Some c.in-Some.purpose.now = search rules in
     let waits : waiting now.queues unique ≡ Some Init =
     rw (← c.self.view_is) (ap (waiting queues) (sym same) ∙ at ∙ ap Some c.in-Init.is) in
-    let even = even_test c.in-Ok.unique unique same c.if-unique-eq1.false in
+    let even = even_test c.in-Ok.head.unique unique same c.if-head-eq1.false in
     let awaits = awaited_even now unique even (Some Init) waits in
     init_passes now unique c.args.bytes.now (or_none (is_past_end c.args.self.now)
     (is_counted_out c.args.self.now.nodes) c.within.ensures c.counts_within.ensures.none_out) even waits
@@ -58,10 +58,10 @@ returns-in-Release-clause-none g c = λ p.
     let now = c.args.self.now in
     let unique = head_unique c.args.bytes.now in
     let same = c.in-Ok.ensures.ok.3 in
-    let at : waiting queues c.in-Ok.unique ≡ Some c.in-Some.purpose.now = search rules in
+    let at : waiting queues c.in-Ok.head.unique ≡ Some c.in-Some.purpose.now = search rules in
     let waits : waiting now.queues unique ≡ Some (Release c.in-Release.field-0) =
     rw (← c.self.view_is) (ap (waiting queues) (sym same) ∙ at ∙ ap Some c.in-Release.is) in
-    let even = even_test c.in-Ok.unique unique same c.if-unique-eq1.false in
+    let even = even_test c.in-Ok.head.unique unique same c.if-head-eq1.false in
     let awaits = awaited_even now unique even (Some (Release c.in-Release.field-0)) waits in
     release_passes now unique c.args.bytes.now (or_none (is_past_end c.args.self.now)
     (is_counted_out c.args.self.now.nodes) c.within.ensures c.counts_within.ensures.none_out) even c.in-Release.field-0 waits (subst (λ (a : Awaited). PassesEnd now unique c.args.bytes.now a) awaits p.1)
@@ -72,12 +72,12 @@ returns-then-call_passes_end-clause-refused g c =
     let now = c.args.self.now in
     let unique = head_unique c.args.bytes.now in
     let same = c.in-Ok.ensures.ok.3 in
-    let at : waiting queues c.in-Ok.unique ≡ Some c.in-Some.purpose.now = search rules in
+    let at : waiting queues c.in-Ok.head.unique ≡ Some c.in-Some.purpose.now = search rules in
     let waits : waiting now.queues unique ≡ Some (Call c.in-Call.call) =
     rw (← c.self.view_is) (ap (waiting queues) (sym same) ∙ at ∙ ap Some c.in-Call.is) in
-    let awaits = awaited_even now unique (even_test c.in-Ok.unique unique same c.if-unique-eq1.false)
+    let awaits = awaited_even now unique (even_test c.in-Ok.head.unique unique same c.if-head-eq1.false)
     (Some (Call c.in-Call.call)) waits in
-    let head = has_head c.args.bytes.now c.in-Ok.field-0-0 c.in-Ok.ensures.ok.0 c.in-Ok.ensures.ok.1 c.in-Ok.ensures.ok.2 in
+    let head = has_head c.args.bytes.now c.in-Ok.head.error c.in-Ok.ensures.ok.0 c.in-Ok.ensures.ok.1 c.in-Ok.ensures.ok.2 in
     (refl, (head, rw (awaits, ← same) (c.call_passes_end.ensures.past c.if-call_passes_end.true)))
 
 pub returns-else-call_passes_end-clause-none : goal.returns-else-call_passes_end-clause-none
@@ -86,10 +86,10 @@ returns-else-call_passes_end-clause-none g c = λ p.
     let now = c.args.self.now in
     let unique = head_unique c.args.bytes.now in
     let same = c.in-Ok.ensures.ok.3 in
-    let at : waiting queues c.in-Ok.unique ≡ Some c.in-Some.purpose.now = search rules in
+    let at : waiting queues c.in-Ok.head.unique ≡ Some c.in-Some.purpose.now = search rules in
     let waits : waiting now.queues unique ≡ Some (Call c.in-Call.call) =
     rw (← c.self.view_is) (ap (waiting queues) (sym same) ∙ at ∙ ap Some c.in-Call.is) in
-    let awaits = awaited_even now unique (even_test c.in-Ok.unique unique same c.if-unique-eq1.false)
+    let awaits = awaited_even now unique (even_test c.in-Ok.head.unique unique same c.if-head-eq1.false)
     (Some (Call c.in-Call.call)) waits in
     let within = c.call_passes_end.ensures.within c.if-call_passes_end.false in
     within (rw (awaits, ← same) at p.1)

@@ -18,7 +18,7 @@ pub returns-in-Err-clause-refusal : goal.returns-in-Err-clause-refusal
 returns-in-Err-clause-refusal g c =
     let now = c.args.self.now in
     let standing = awaited_by_call (get now.vfs.calls c.args.call) in
-    subst (IsWriteRefusal now c.args.unique c.args.bytes.now standing) (sym c.in-Err.ensures.refusal)
+    subst (IsWriteRefusal now c.args.head.unique c.args.bytes.now standing) (sym c.in-Err.ensures.refusal)
     (exhausted c.in-Err.ensures.past)
 
 pub returns-in-Ok-replied-clause-taken : goal.returns-in-Ok-replied-clause-taken
@@ -37,13 +37,13 @@ returns-in-Ok-replied-clause-taken g c =
     ∙ ap (λ b. cond b Accepted Invalid) goes in
     let ok = c.in-Ok-replied.ensures.ok in
     rw (awaits, told)
-    (taken_judged now c.args.unique bytes _ _ o (judged_op (asked state))
-    (λ wire other. ap (reply_written now c.args.unique) (says_one o bytes wire said other says) ∙ ok)
+    (taken_judged now c.args.head.unique bytes _ _ o (judged_op (asked state))
+    (λ wire other. ap (reply_written now c.args.head.unique) (says_one o bytes wire said other says) ∙ ok)
     (λ none. absurd (none said says)))
 
 pub returns-in-Err-replied-clause-refusal : goal.returns-in-Err-replied-clause-refusal
 returns-in-Err-replied-clause-refusal g c =
     let now = c.args.self.now in
     let standing = awaited_by_call (get now.vfs.calls c.args.call) in
-    subst (IsWriteRefusal now c.args.unique c.args.bytes.now standing) (sym c.in-Err-replied.ensures.refusal)
+    subst (IsWriteRefusal now c.args.head.unique c.args.bytes.now standing) (sym c.in-Err-replied.ensures.refusal)
     (no_memory c.in-Ok.ensures.stays)

@@ -31,24 +31,24 @@ returns-in_default-clause-said g c = λ wire says. absurd (c.in_default.ensures 
 
 pub returns-in_default-clause-unsaid : goal.returns-in_default-clause-unsaid
 returns-in_default-clause-unsaid g c = λ none. rw c.give_up.ensures
-    (init_unsaid c.args.self.now c.args.unique c.requires.even c.requires.waits)
+    (init_unsaid c.args.self.now c.args.head.unique c.requires.even c.requires.waits)
 
 pub returns-then-agrees-clause-said : goal.returns-then-agrees-clause-said
 returns-then-agrees-clause-said g c = λ wire says.
     let k = c.args.self.now in
     let s = g.Q.QueueTable.state c.self.inside.queues in
-    let waits : is_some (waiting s c.args.unique) ≡ true = rw (← c.self.view_is) at (ap is_some c.requires.waits) in
+    let waits : is_some (waiting s c.args.head.unique) ≡ true = rw (← c.self.view_is) at (ap is_some c.requires.waits) in
     let agreed : is_agreement (init_wire c.in-Some.said) ≡ true = sym c.agrees.ensures ∙ c.if-agrees.true in
-    ap (reply_written k c.args.unique) (says_one op.Init c.args.bytes.now wire
+    ap (reply_written k c.args.head.unique) (says_one op.Init c.args.bytes.now wire
     (init_wire c.in-Some.said) says c.in-Some.ensures)
-    ∙ init_agreed k c.args.unique c.requires.even c.requires.waits (init_wire c.in-Some.said)
+    ∙ init_agreed k c.args.head.unique c.requires.even c.requires.waits (init_wire c.in-Some.said)
     (init_reply_said c.in-Some.said) agreed
     ∙ rw (
       ← c.self.view_is,
       c.answer-kept.ensures.state,
       c.minor_agreed-self-inside.ensures,
       c.files_agreed-self-inside.ensures,
-      answered_is s c.args.unique waits,
+      answered_is s c.args.head.unique waits,
     ) refl
 
 pub returns-else-agrees-clause-said : goal.returns-else-agrees-clause-said
@@ -56,9 +56,9 @@ returns-else-agrees-clause-said g c = λ wire says.
     let k = c.args.self.now in
     let other : is_agreement (init_wire c.in-Some.said) ≡ false = sym c.agrees.ensures ∙ c.if-agrees.false in
     rw c.give_up-else-agrees.ensures
-    (ap (reply_written k c.args.unique) (says_one op.Init c.args.bytes.now wire
+    (ap (reply_written k c.args.head.unique) (says_one op.Init c.args.bytes.now wire
     (init_wire c.in-Some.said) says c.in-Some.ensures)
-    ∙ init_aborts k c.args.unique c.requires.even c.requires.waits (init_wire c.in-Some.said)
+    ∙ init_aborts k c.args.head.unique c.requires.even c.requires.waits (init_wire c.in-Some.said)
     (init_reply_said c.in-Some.said) other)
 
 pub returns-then-agrees-clause-unsaid : goal.returns-then-agrees-clause-unsaid

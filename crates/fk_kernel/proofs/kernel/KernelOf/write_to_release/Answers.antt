@@ -43,29 +43,29 @@ invariant_of-self-2 g c =
 
 pub returns-in_default-clause-said : goal.returns-in_default-clause-said
 returns-in_default-clause-said g c = λ wire says. absurd
-    (says_nothing op.Release c.args.bytes.now c.read_reply.result c.in_default.field-0 c.in_default.is c.read_reply.ensures.only wire says)
+    (says_nothing op.Release c.args.bytes.now c.args.head c.read_reply_body.result c.in_default.field-0 c.in_default.is c.read_reply_body.ensures.only wire says)
 
 pub returns-in_default-clause-unsaid : goal.returns-in_default-clause-unsaid
 returns-in_default-clause-unsaid g c = λ none.
     let s = g.Q.QueueTable.state c.self.inside.queues in
     let opened = c.requires.waits.0 in
-    let waits : is_some (waiting s c.args.unique) ≡ true = rw (← c.self.view_is) at (ap is_some c.requires.waits.1) in
-    release_is c.args.self.now c.args.unique opened c.requires.even c.requires.waits.1 wrong_body ∙ rw
-    (← c.self.view_is, c.answer-kept.ensures.state, answered_is s c.args.unique waits) refl
+    let waits : is_some (waiting s c.args.head.unique) ≡ true = rw (← c.self.view_is) at (ap is_some c.requires.waits.1) in
+    release_is c.args.self.now c.args.head.unique opened c.requires.even c.requires.waits.1 wrong_body ∙ rw
+    (← c.self.view_is, c.answer-kept.ensures.state, answered_is s c.args.head.unique waits) refl
 
 pub returns-clause-said : goal.returns-clause-said
 returns-clause-said g c = λ wire says.
     let s = g.Q.QueueTable.state c.self.inside.queues in
     let opened = c.requires.waits.0 in
-    let waits : is_some (waiting s c.args.unique) ≡ true = rw (← c.self.view_is) at (ap is_some c.requires.waits.1) in
-    release_is c.args.self.now c.args.unique opened c.requires.even c.requires.waits.1 wire
+    let waits : is_some (waiting s c.args.head.unique) ≡ true = rw (← c.self.view_is) at (ap is_some c.requires.waits.1) in
+    release_is c.args.self.now c.args.head.unique opened c.requires.even c.requires.waits.1 wire
     ∙ rw (
       says_to_release c.args.bytes.now wire says,
       ← c.self.view_is,
       c.answer-kept.ensures.state,
-      answered_is s c.args.unique waits,
+      answered_is s c.args.head.unique waits,
     ) refl
 
 pub returns-clause-unsaid : goal.returns-clause-unsaid
 returns-clause-unsaid g c = λ none. absurd (none _
-    (says_read op.Release c.args.bytes.now c.in-Ok.field-0 _ c.in-Ok.ensures.ok refl))
+    (says_read op.Release c.args.bytes.now c.args.head c.in-Ok.field-0 _ c.in-Ok.ensures.ok refl))
