@@ -1,5 +1,5 @@
 -- What becomes of a reply, put together from its cases.
-use Rattle.std.proofs.Common.{◌≡◌, ◌≢◌, ℕ, ◌-◌, ◌%◌, Bool, true, false, cond, List, Option, Some, None, nat_eq, refl, ap, sym, subst, ◌∙◌, inl, inr}
+use Rattle.std.proofs.Common.{◌≡◌, ◌≢◌, ℕ, ◌-◌, ◌%◌, Bool, true, false, true≢false, cond, List, Option, Some, None, nat_eq, refl, ap, sym, subst, ◌∙◌, inl, inr}
 use Rattle.std.specs.Prelude.{is_some}
 use Rattle.std.proofs.lemmas.Bool.Decides.{eqb_tells}
 use Rattle.fk_wire.specs.declared.opcode.Opcode.{Opcode}
@@ -10,7 +10,9 @@ use Rattle.fuse_spec.specs.declared.WriteResult.TheVariants.{Accepted}
 use Rattle.fuse_spec.specs.Kernel.Kernel.{Kernel}
 use Rattle.fuse_spec.specs.Kernel.Messages.{WireReply}
 use Rattle.fuse_spec.specs.Kernel.QueueCalls.{waiting, without}
-use Rattle.fuse_spec.specs.Kernel.Replies.{reply_written, request_reply_written, interrupt_reply_written, interrupt_replied}
+use Rattle.fuse_spec.specs.Kernel.Replies.{reply_written, request_reply_written, interrupt_reply_written, interrupt_replied, is_empty_reply}
+use Rattle.fuse_frames.specs.declared.reply.Reply.TheVariants as said
+use Rattle.fk_said.specs.ReplySaid.{LentReply, wire_of}
 use Rattle.fk_kernel.specs.AwaitedReplies.{Says, IsNoReply, Awaited, nothing, gone, reply_to, awaited, awaited_by, awaited_by_interrupt, wrong_body, wrong_body_to, IsJudged, IsReplyWritten}
 
 abbrev pub opcode_in : Awaited → Opcode
@@ -103,3 +105,10 @@ odd_test u v same odd = subst (λ (n : ℕ). nat_eq (n % 2) 1 ≡ true) same
 pub even_test : (u v : ℕ) → u ≡ v → u % 2 ≢ 1 → nat_eq (v % 2) 1 ≡ false
 even_test u v same even = subst (λ (n : ℕ). nat_eq (n % 2) 1 ≡ false) same
     (elim (eqb_tells (u % 2) 1) [ inl h ↦ absurd (even h.1) | inr h ↦ h.0 ])
+
+-- A reply to an INTERRUPT that is no error is accepted, and changes nothing.
+pub interrupt_done : (k : Kernel) (original : ℕ) (s : LentReply) → is_empty_reply (wire_of s) ≡ true
+    → ((errno : ℕ) → s ≡ said.Failed errno → ⊥) → interrupt_replied k original (wire_of s) ≡ (Accepted, k)
+interrupt_done k original (said.Failed errno) is other = absurd (other errno refl)
+interrupt_done k original said.Done is other = refl
+interrupt_done k original s is other = absurd (true≢false (sym is))

@@ -22,7 +22,7 @@ use crate::kernel::KernelOf;
 use fk_lookup_count::CountTable;
 use fk_nodes::EntryUse;
 use fk_queues::QueueTable;
-use fk_said::{ReplySaid, said_to};
+use fk_said::{ReplySaid, said_to_call};
 use fk_syscalls::{CallState, NewName};
 use fk_wire::{ReplyHead, read_reply_head};
 use fuse_frames::Reply;
@@ -105,7 +105,7 @@ impl<Q: QueueTable<Purpose> + Drop, C: CountTable<Heap = Q::Heap> + Drop> Kernel
     {
         self.within();
         self.counts_within();
-        let said = said_to(&state.asks(), head, bytes);
+        let said = said_to_call(&state.asks(), head, bytes);
         if self.ends_past(call) {
             return Err(Refusal::Exhausted);
         }

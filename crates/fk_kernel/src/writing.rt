@@ -11,8 +11,9 @@ ghost use Rattle.fuse_spec.specs.Kernel.QueueCalls.{after_interrupt_reply, waiti
 use crate::kernel::KernelOf;
 use fk_lookup_count::CountTable;
 use fk_queues::QueueTable;
-use fk_said::{InterruptSaid, agrees, files_agreed, minor_agreed, said_to_init, said_to_interrupt};
+use fk_said::{agrees, files_agreed, minor_agreed, said_to};
 use fk_wire::{Opcode, ReplyHead, read_reply_head};
+use fuse_frames::Reply;
 use fuse_spec::errno::{EAGAIN, ENOSYS};
 use fuse_spec::{Phase, Purpose, Refusal, WriteResult};
 
@@ -63,12 +64,11 @@ impl<Q: QueueTable<Purpose> + Drop, C: CountTable<Heap = Q::Heap> + Drop> Kernel
         if self.queues.waiting(original).is_none() {
             return WriteResult::NoEntry;
         }
-        let Some(said) = said_to_interrupt(head, bytes) else {
+        let Some(said) = said_to(Opcode::Interrupt, head, bytes) else {
             return WriteResult::Invalid;
         };
-        match said {
-            InterruptSaid::Failed { errno } => self.interrupt_failed(original, errno),
-            InterruptSaid::Done => {}
+        if let Reply::Failed { errno } = said {
+            self.interrupt_failed(original, errno);
         }
         WriteResult::Accepted
     }
@@ -99,7 +99,7 @@ impl<Q: QueueTable<Purpose> + Drop, C: CountTable<Heap = Q::Heap> + Drop> Kernel
         ensures unsaid { IsNoReply Opcode.Init bytes.now
             → reply_written self.old head.unique (wrong_body_to Opcode.Init) ≡ (result, self.new) }
     {
-        let Some(said) = said_to_init(head, bytes) else {
+        let Some(said) = said_to(Opcode::Init, head, bytes) else {
             self.give_up();
             return WriteResult::Invalid;
         };

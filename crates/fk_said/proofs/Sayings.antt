@@ -1,5 +1,5 @@
 -- A reply that was read says its body, or its error number alone.
-use Rattle.std.proofs.Common.{◌≡◌, ℕ, true, List, Result, Err, refl, ap, sym, ◌∙◌}
+use Rattle.std.proofs.Common.{◌≡◌, ℕ, List, Result, Err, refl, ap, sym, ◌∙◌}
 use Rattle.std.specs.Prelude.{ℤ, IsOkAnd}
 use Rattle.std.specs.Int.{w32, cast_unsigned, cast_signed}
 use Rattle.std.proofs.lemmas.Int.{to_z-of_z}
@@ -11,10 +11,7 @@ use Rattle.fk_wire.specs.declared.reply.ReplyHead.{ReplyHead}
 use Rattle.fk_wire.specs.Replies.{ReplyMessage, reply_content, headed, SpellsReply, IsErrorNumber}
 use Rattle.fuse_spec.specs.Kernel.Messages.{WireReply}
 use Rattle.fuse_frames.specs.ReplyTies.{wire_said}
-use Rattle.fuse_spec.specs.Kernel.Replies.{is_init_reply}
-use Rattle.fk_said.specs.declared.said.InitSaid.{InitSaid}
-use Rattle.fk_said.specs.declared.said.InitSaid.TheVariants as init_said
-use Rattle.fk_said.specs.DecodedReplies.{Says, IsNoReply, init_wire}
+use Rattle.fk_said.specs.DecodedReplies.{Says, IsNoReply}
 
 -- an error in range is read as itself
 pub same_error : (z : ℤ) → IsErrorNumber z → cast_signed w32 (cast_unsigned w32 z) ≡ z
@@ -42,8 +39,3 @@ pub says_one : (o : Opcode) (bytes : List ℕ) (wire other : WireReply) → Says
 says_one o bytes wire other a b =
     let same = sym (decoded_reply_is o bytes a.says.message a.says.spells) ∙ decoded_reply_is o bytes b.says.message b.says.spells in
     sym a.says.says ∙ ap (λ (m : ReplyMessage). wire_said m.error m.content) same ∙ b.says.says
-
--- What was made of a reply to INIT is a reply to INIT.
-pub init_reply_said : (said : InitSaid) → is_init_reply (init_wire said) ≡ true
-init_reply_said (init_said.Failed errno) = refl
-init_reply_said (init_said.Agreed major minor flags) = refl

@@ -1,46 +1,28 @@
-//! What the bytes of a reply say to the operation that a call asked.
+//! What the bytes of a reply say.
 
 ghost use Rattle.std.specs.Prelude.{◌≡◌, ℕ, false, length, map, pos, IfSome, IfNone, IfOk, MatchOption};
 ghost use Rattle.fk_wire.specs.Records.{records_in};
 ghost use Rattle.fk_wire.specs.Entries.{entry_content};
-ghost use Rattle.fk_wire.specs.Replies.{reply_content, entry_reply, create_reply};
+ghost use Rattle.fk_wire.specs.Replies.{ReplyContent, IsErrorNumber, reply_content, entry_reply, create_reply};
 ghost use Rattle.fk_wire.specs.ReplyFaults.{IsReplyHead};
 ghost use Rattle.fuse_spec.specs.Kernel.Messages.{WireReply, asks};
 ghost use Rattle.fuse_spec.specs.Files.Operations as reply;
 ghost use Rattle.fuse_spec.specs.Kernel.Replies.{goes_with};
-ghost use Rattle.fuse_frames.specs.ReplyTies.{wire_body, dirent_in, attributes_in, no_entry};
+ghost use Rattle.fuse_frames.specs.ReplyTies.{wire_body, wire_said, dirent_in, attributes_in, no_entry};
 ghost use Rattle.fuse_frames.specs.RequestTies.{asked_opcode};
 ghost use Rattle.fuse_spec.specs.Files.AskedOperations.{operation_of};
 ghost use Rattle.fk_syscalls.specs.Values.{dirent_of};
-ghost use Rattle.fk_said.specs.DecodedReplies.{Says};
+ghost use Rattle.fk_said.specs.DecodedReplies.{Says, IsNoReply};
 ghost use Rattle.fk_said.specs.ReplySaid.{wire_of, LastsADay, SaysTo, is_within};
-ghost use Rattle.fk_said.specs.ReplySaid.{IsSaidBody};
 
-use crate::said::failure;
 use fk_syscalls::ListedName;
-use fk_wire::{Records, RecordsPlus, ReplyBody, ReplyHead, read_reply_body};
+use fk_wire::{Opcode, Records, RecordsPlus, ReplyBody, ReplyHead, read_reply_body};
 use fuse_frames::{Reply, attributes_of, kind_of_type, milliseconds, opcode_asked};
 use fuse_spec::{Attributes, Entry, Kind, Operation};
 use std::alloc::{AllocError, Allocator};
 
-/// What a reply says that goes with the operation of a call, lent from its frame.
+/// What a reply says, lent from its frame.
 pub type ReplySaid<'a> = Reply<Entry, Records<'a>, RecordsPlus<'a>, &'a [u8]>;
-
-/// Whether a body in a frame of so many bytes is no longer than was asked, nor tells of more written than was sent.
-fn is_within_asked(asked: &Operation<&[u8]>, len: usize, body: &ReplyBody<'_>) -> bool
-    ensures { result ≡ is_within (operation_of (λ s. s.now) asked.now) len (reply_content body.now) }
-{
-    match asked {
-        Operation::Readdir { size, .. }
-        | Operation::Readdirplus { size, .. }
-        | Operation::Read { size, .. } => len.saturating_sub(16) <= *size as usize,
-        Operation::Write { bytes, .. } => match body {
-            ReplyBody::Write { size } => *size as usize <= bytes.len(),
-            _ => true,
-        },
-        _ => true,
-    }
-}
 
 /// The file that an entry names.
 fn entry_named(entry: &fk_wire::Entry) -> Entry
@@ -98,29 +80,88 @@ fn said_by_create(entry: &fk_wire::Entry, fh: u64) -> ReplySaid<'static>
     Reply::Created { file, valid_ms, fh }
 }
 
-/// What a body says. One of INIT says nothing to a call.
+/// What a body says.
 #[inline(always)]
-fn said_by(body: ReplyBody<'_>) -> Option<ReplySaid<'_>>
-    ensures { MatchOption result (IsSaidBody (reply_content body.entry) → ⊥)
-        (λ said. (wire_body (reply_content body.entry) ≡ wire_of said) × LastsADay said) }
+fn said_by(body: ReplyBody<'_>) -> ReplySaid<'_>
+    ensures wire { wire_body (reply_content body.entry) ≡ wire_of result }
+    ensures day { LastsADay result }
 {
     match body {
-        ReplyBody::Empty => Some(Reply::Done),
-        ReplyBody::Entry { entry } => Some(said_by_entry(&entry)),
-        ReplyBody::Attr { attr } => Some(Reply::Attributes(attributes_of(&attr))),
-        ReplyBody::Open { fh } => Some(Reply::Opened { fh }),
-        ReplyBody::Bytes { bytes } => Some(Reply::Content(bytes)),
-        ReplyBody::Write { size } => Some(Reply::Written { size }),
-        ReplyBody::Create { entry, fh } => Some(said_by_create(&entry, fh)),
-        ReplyBody::Records { records } => Some(Reply::Listed(records)),
-        ReplyBody::RecordsPlus { records } => Some(Reply::ListedPlus(records)),
-        ReplyBody::Init { .. } => None,
+        ReplyBody::Empty => Reply::Done,
+        ReplyBody::Entry { entry } => said_by_entry(&entry),
+        ReplyBody::Attr { attr } => Reply::Attributes(attributes_of(&attr)),
+        ReplyBody::Open { fh } => Reply::Opened { fh },
+        ReplyBody::Bytes { bytes } => Reply::Content(bytes),
+        ReplyBody::Write { size } => Reply::Written { size },
+        ReplyBody::Init {
+            major,
+            minor,
+            flags,
+        } => Reply::Agreed {
+            major,
+            minor,
+            flags,
+        },
+        ReplyBody::Create { entry, fh } => said_by_create(&entry, fh),
+        ReplyBody::Records { records } => Reply::Listed(records),
+        ReplyBody::RecordsPlus { records } => Reply::ListedPlus(records),
+    }
+}
+
+/// The error number that stands in a reply, if it is not 0.
+#[inline(always)]
+fn failure(error: i32) -> Option<u32>
+    requires { IsErrorNumber error }
+    ensures { MatchOption result (error ≡ pos 0) (λ errno. (content : ReplyContent)
+        → wire_said error content ≡ reply.failed errno) }
+{
+    if error == 0 {
+        return None;
+    }
+    Some(error.unsigned_abs())
+}
+
+/// What the bytes, whose head was read, say to a request of this opcode, if they are a reply to it.
+#[inline(always)]
+pub fn said_to<'a>(opcode: Opcode, head: ReplyHead, bytes: &'a [u8]) -> Option<ReplySaid<'a>>
+    requires { IsReplyHead bytes.now head }
+    ensures said { IfSome result (λ said. Says opcode bytes.now (wire_of said)) }
+    ensures day { IfSome result LastsADay }
+    ensures none { IfNone result (IsNoReply opcode bytes.now) }
+{
+    let Ok(body) = read_reply_body(head, opcode, bytes) else {
+        return None;
+    };
+    if let Some(errno) = failure(head.error) {
+        return Some(Reply::Failed { errno });
+    }
+    Some(said_by(body))
+}
+
+/// Whether what a frame of so many bytes says is no longer than was asked, nor tells of more written than was sent. An
+/// error is.
+#[inline(always)]
+fn is_within_asked(asked: &Operation<&[u8]>, len: usize, said: &ReplySaid<'_>) -> bool
+    ensures { result ≡ is_within (operation_of (λ s. s.now) asked.now) len (wire_of said.now) }
+{
+    match asked {
+        Operation::Readdir { size, .. }
+        | Operation::Readdirplus { size, .. }
+        | Operation::Read { size, .. } => match said {
+            Reply::Failed { .. } => true,
+            _ => len.saturating_sub(16) <= *size as usize,
+        },
+        Operation::Write { bytes, .. } => match said {
+            Reply::Written { size } => *size as usize <= bytes.len(),
+            _ => true,
+        },
+        _ => true,
     }
 }
 
 /// What the bytes, whose head was read, say to what a call asked, if they are a reply that goes with it.
 #[inline(always)]
-pub fn said_to<'a>(
+pub fn said_to_call<'a>(
     asked: &Operation<&[u8]>,
     head: ReplyHead,
     bytes: &'a [u8],
@@ -131,16 +172,13 @@ pub fn said_to<'a>(
         → Says (asked_opcode (asks (operation_of (λ s. s.now) asked.now))) bytes.now wire
         → goes_with (operation_of (λ s. s.now) asked.now) wire ≡ false) }
 {
-    let Ok(body) = read_reply_body(head, opcode_asked(asked), bytes) else {
+    let Some(said) = said_to(opcode_asked(asked), head, bytes) else {
         return None;
     };
-    if let Some(errno) = failure(head.error) {
-        return Some(Reply::Failed { errno });
-    }
-    if !is_within_asked(asked, bytes.len(), &body) {
+    if !is_within_asked(asked, bytes.len(), &said) {
         return None;
     }
-    said_by(body)
+    Some(said)
 }
 
 /// A copy of the names that records list.

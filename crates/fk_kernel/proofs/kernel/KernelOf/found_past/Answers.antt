@@ -1,4 +1,4 @@
-use Rattle.std.proofs.Common.{◌≡◌, ◌<◌, ℕ, sym, ◌∙◌, arith}
+use Rattle.std.proofs.Common.{◌<◌, sym, ◌∙◌, arith}
 use Rattle.fuse_spec.specs.Kernel.Uniques.{numbers_left_from}
 use Rattle.fk_kernel.proofs.Within.{useless_within, stale_within, made_within, found_within}
 use Rattle.fk_kernel.proofs.kernel.KernelOf.found_past.Goals as goal

@@ -3,10 +3,11 @@ use Rattle.std.specs.Prelude.{is_some}
 use Rattle.fk_wire.specs.declared.opcode.Opcode.TheVariants as op
 use Rattle.fuse_spec.specs.Kernel.QueueCalls.{waiting}
 use Rattle.fuse_spec.specs.Kernel.Replies.{reply_written, is_agreement}
-use Rattle.fk_said.specs.DecodedReplies.{init_wire}
+use Rattle.fk_said.specs.ReplySaid.{wire_of}
 use Rattle.fk_kernel.proofs.Nodes.{still_counted, answered_is}
 use Rattle.fk_kernel.proofs.Replied.{init_agreed, init_aborts, init_unsaid}
-use Rattle.fk_said.proofs.Sayings.{says_one, init_reply_said}
+use Rattle.fk_said.proofs.ReplyCases.{says_to_init}
+use Rattle.fk_said.proofs.Sayings.{says_one}
 use Rattle.fk_kernel.proofs.kernel.KernelOf.write_to_init.Goals as goal
 
 pub invariant_of-self : goal.invariant_of-self
@@ -27,7 +28,7 @@ invariant_of-self g c =
     })
 
 pub returns-in_default-clause-said : goal.returns-in_default-clause-said
-returns-in_default-clause-said g c = λ wire says. absurd (c.in_default.ensures wire says)
+returns-in_default-clause-said g c = λ wire says. absurd (c.in_default.ensures.none wire says)
 
 pub returns-in_default-clause-unsaid : goal.returns-in_default-clause-unsaid
 returns-in_default-clause-unsaid g c = λ none. rw c.give_up.ensures
@@ -38,11 +39,11 @@ returns-then-agrees-clause-said g c = λ wire says.
     let k = c.args.self.now in
     let s = g.Q.QueueTable.state c.self.inside.queues in
     let waits : is_some (waiting s c.args.head.unique) ≡ true = rw (← c.self.view_is) at (ap is_some c.requires.waits) in
-    let agreed : is_agreement (init_wire c.in-Some.said) ≡ true = sym c.agrees.ensures ∙ c.if-agrees.true in
+    let agreed : is_agreement (wire_of c.in-Some.said) ≡ true = sym c.agrees.ensures ∙ c.if-agrees.true in
     ap (reply_written k c.args.head.unique) (says_one op.Init c.args.bytes.now wire
-    (init_wire c.in-Some.said) says c.in-Some.ensures)
-    ∙ init_agreed k c.args.head.unique c.requires.even c.requires.waits (init_wire c.in-Some.said)
-    (init_reply_said c.in-Some.said) agreed
+    (wire_of c.in-Some.said) says c.in-Some.ensures.said)
+    ∙ init_agreed k c.args.head.unique c.requires.even c.requires.waits (wire_of c.in-Some.said)
+    (says_to_init c.args.bytes.now (wire_of c.in-Some.said) c.in-Some.ensures.said) agreed
     ∙ rw (
       ← c.self.view_is,
       c.answer-kept.ensures.state,
@@ -54,15 +55,15 @@ returns-then-agrees-clause-said g c = λ wire says.
 pub returns-else-agrees-clause-said : goal.returns-else-agrees-clause-said
 returns-else-agrees-clause-said g c = λ wire says.
     let k = c.args.self.now in
-    let other : is_agreement (init_wire c.in-Some.said) ≡ false = sym c.agrees.ensures ∙ c.if-agrees.false in
+    let other : is_agreement (wire_of c.in-Some.said) ≡ false = sym c.agrees.ensures ∙ c.if-agrees.false in
     rw c.give_up-else-agrees.ensures
     (ap (reply_written k c.args.head.unique) (says_one op.Init c.args.bytes.now wire
-    (init_wire c.in-Some.said) says c.in-Some.ensures)
-    ∙ init_aborts k c.args.head.unique c.requires.even c.requires.waits (init_wire c.in-Some.said)
-    (init_reply_said c.in-Some.said) other)
+    (wire_of c.in-Some.said) says c.in-Some.ensures.said)
+    ∙ init_aborts k c.args.head.unique c.requires.even c.requires.waits (wire_of c.in-Some.said)
+    (says_to_init c.args.bytes.now (wire_of c.in-Some.said) c.in-Some.ensures.said) other)
 
 pub returns-then-agrees-clause-unsaid : goal.returns-then-agrees-clause-unsaid
-returns-then-agrees-clause-unsaid g c = λ none. absurd (none _ c.in-Some.ensures)
+returns-then-agrees-clause-unsaid g c = λ none. absurd (none _ c.in-Some.ensures.said)
 
 pub returns-else-agrees-clause-unsaid : goal.returns-else-agrees-clause-unsaid
-returns-else-agrees-clause-unsaid g c = λ none. absurd (none _ c.in-Some.ensures)
+returns-else-agrees-clause-unsaid g c = λ none. absurd (none _ c.in-Some.ensures.said)
