@@ -10,7 +10,7 @@ use Rattle.fk_wire.specs.declared.opcode.Opcode.TheVariants as op
 use Rattle.fk_wire.specs.Opcodes.{served}
 use Rattle.fk_wire.specs.ReplyFaults.{HasReplyLength, ReplyFaultIsAt, IsReplyHeadFault}
 use Rattle.fk_kernel.specs.AwaitedReplies.{HasReplyHead}
-use Rattle.fk_said.proofs.Sayings.{same_error}
+use Rattle.fuse_frames.proofs.Sayings.{same_error}
 
 pub no_head : (bytes : List ℕ) (f : WireFault) → ReplyFaultIsAt served op.Getattr bytes f → IsReplyHeadFault f
     → HasReplyHead bytes → ⊥

@@ -30,7 +30,7 @@ use Rattle.fk_kernel.specs.AwaitedReplies.{Says, IsNoReply, Means, said, unsaid,
 use Rattle.fk_nodes.proofs.Outs.{or_none, or_first}
 use Rattle.fk_kernel.proofs.Phases.{none_past_end, within_ends}
 use Rattle.fk_kernel.proofs.Replied.{init_is, by_agreement, release_is}
-use Rattle.fk_said.proofs.Sayings.{says_one}
+use Rattle.fuse_frames.proofs.Sayings.{says_one}
 use Rattle.fk_kernel.proofs.Taken.{opcode_in, written_odd, awaited_odd}
 
 abbrev IsPast : Kernel → ℕ → WireReply → Bool

@@ -22,7 +22,7 @@ use Rattle.fk_syscalls.specs.States.{StandsAt}
 use Rattle.fk_kernel.specs.Entries.{Awaits, EndsWithin, mkdirs, links}
 use Rattle.fuse_spec.specs.Kernel.Refusals.{is_past_end}
 use Rattle.fuse_frames.specs.declared.reply.Reply.TheVariants as said
-use Rattle.fk_said.specs.ReplySaid.{LentReply, wire_of}
+use Rattle.fuse_frames.specs.ReplySaid.{LentReply, wire_of}
 use Rattle.fk_kernel.proofs.Phases.{none_past_end, within_ends}
 use Rattle.fk_kernel.proofs.CallStates.{LooksNone, makes_found, none_agreed}
 use Rattle.fk_kernel.proofs.Walking.{asks_within, walk_numbers}

@@ -15,7 +15,7 @@ use Rattle.fuse_spec.specs.declared.WriteResult.{WriteResult}
 use Rattle.fuse_spec.specs.declared.WriteResult.TheVariants.{Accepted}
 use Rattle.fuse_spec.specs.Kernel.Kernel.{Kernel}
 use Rattle.fuse_frames.specs.RequestTies.{asked_opcode}
-pub use Rattle.fk_said.specs.DecodedReplies.{Says, IsNoReply, HasReplyHead, head_unique}
+pub use Rattle.fuse_frames.specs.DecodedReplies.{Says, IsNoReply, HasReplyHead, head_unique}
 
 -- What awaits a reply under a unique: no request, that of a call which is not unanswered, or a request of an opcode.
 pub data Awaited : Type 0 where

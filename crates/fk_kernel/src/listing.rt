@@ -1,6 +1,9 @@
-//! How the names of a list with their files are taken.
+//! How the names of a list are taken, alone or with their files.
 
-ghost use Rattle.std.specs.Prelude.{◌≡◌, ◌%◌, ℕ, Some, OnOk, OnErr, IfErr, false, nat_eq};
+ghost use Rattle.std.specs.Prelude.{◌≡◌, ◌%◌, ℕ, Some, OnOk, OnErr, IfOk, IfErr, false, map, nat_eq};
+ghost use Rattle.fk_syscalls.specs.Values.{dirent_of};
+ghost use Rattle.fk_wire.specs.Records.{records_in};
+ghost use Rattle.fuse_frames.specs.ReplyTies.{dirent_in};
 ghost use Rattle.fuse_spec.specs.Values.Maps.{get};
 ghost use Rattle.fuse_spec.specs.Files.Operations as reply;
 ghost use Rattle.fuse_spec.specs.Files.Operations.{readdirplus};
@@ -15,9 +18,31 @@ use crate::kernel::KernelOf;
 use fk_lookup_count::CountTable;
 use fk_nodes::{count_and_bind, forget_stale, names_listed, pair_count};
 use fk_queues::QueueTable;
-use fk_syscalls::Answer;
-use fk_wire::RecordsPlus;
+use fk_syscalls::{Answer, ListedName};
+use fk_wire::{Records, RecordsPlus};
+use fuse_frames::kind_of_type;
 use fuse_spec::{Operation, Purpose, Refusal, WriteResult};
+use std::alloc::{AllocError, Allocator};
+
+/// A copy of the names that records list.
+pub(crate) fn names_in<A: Allocator + Copy>(
+    alloc: A,
+    records: Records<'_>,
+) -> Result<Vec<ListedName<A>, A>, AllocError>
+    ensures { IfOk result (λ names. map dirent_of names.items ≡ map dirent_in (records_in records.entry)) }
+{
+    let mut names = Vec::new(alloc);
+    for record in records {
+        let name = record.name.to_vec(alloc)?;
+        names.push(ListedName {
+            ino: record.ino,
+            offset: record.off,
+            kind: kind_of_type(record.kind),
+            name,
+        })?;
+    }
+    Ok(names)
+}
 
 impl<Q: QueueTable<Purpose> + Drop, C: CountTable<Heap = Q::Heap> + Drop> KernelOf<Q, C> {
     /// The call is answered the names that a directory lists with their files. Each is counted and in force from now

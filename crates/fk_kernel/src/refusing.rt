@@ -14,7 +14,7 @@ ghost use Rattle.fk_kernel.specs.Entries.{Awaits, EndsWithin, LooksUp, IsFew, lo
 ghost use Rattle.fuse_spec.specs.Kernel.Refusals.{is_counted_out, is_past, is_past_end};
 ghost use Rattle.fk_kernel.specs.CallReplies.{IsCallReply, SaysNone};
 ghost use Rattle.fk_kernel.specs.Refused.{PassesEnd, WritePasses};
-ghost use Rattle.fk_said.specs.ReplySaid.{wire_of, LastsADay};
+ghost use Rattle.fuse_frames.specs.ReplySaid.{wire_of, LastsADay};
 ghost use Rattle.fk_kernel.specs.AwaitedReplies.{awaited_by_call};
 
 use crate::entries::looks_up;
@@ -22,10 +22,9 @@ use crate::kernel::KernelOf;
 use fk_lookup_count::CountTable;
 use fk_nodes::EntryUse;
 use fk_queues::QueueTable;
-use fk_said::{ReplySaid, said_to_call};
 use fk_syscalls::{CallState, NewName};
 use fk_wire::{ReplyHead, read_reply_head};
-use fuse_frames::Reply;
+use fuse_frames::{Reply, ReplySaid, said_to_call};
 use fuse_spec::{Entry, Operation, Purpose, Refusal};
 
 impl<Q: QueueTable<Purpose> + Drop, C: CountTable<Heap = Q::Heap> + Drop> KernelOf<Q, C> {

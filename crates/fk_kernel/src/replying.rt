@@ -10,7 +10,7 @@ ghost use Rattle.fuse_spec.specs.declared.Opened.{Opened as OpenedFile};
 ghost use Rattle.fk_kernel.specs.Entries.{Awaits, EndsWithin, IsFew, nodes_heard};
 ghost use Rattle.fuse_spec.specs.Kernel.Refusals.{is_counted_out, is_past_end};
 ghost use Rattle.fk_kernel.specs.Refused.{IsWriteRefusal, PassesEnd};
-ghost use Rattle.fk_said.specs.ReplySaid.{wire_of, LastsADay};
+ghost use Rattle.fuse_frames.specs.ReplySaid.{wire_of, LastsADay};
 ghost use Rattle.fk_kernel.specs.AwaitedReplies.{Says, IsNoReply, awaited_by_call, wrong_body, IsReplyWritten};
 ghost use Rattle.fk_wire.specs.Records.{records_in};
 ghost use Rattle.fuse_frames.specs.ReplyTies.{dirent_in};
@@ -18,13 +18,13 @@ ghost use Rattle.fuse_spec.specs.Kernel.Messages.{WireReply};
 ghost use Rattle.fuse_spec.specs.Values.Numbers.{max_validity};
 
 use crate::kernel::KernelOf;
+use crate::listing::names_in;
 use fk_calls::{result_of, unbind};
 use fk_lookup_count::CountTable;
 use fk_queues::QueueTable;
-use fk_said::{ReplySaid, names_listed};
 use fk_syscalls::Answer;
 use fk_wire::{Opcode, Records, ReplyHead, read_reply_body};
-use fuse_frames::Reply;
+use fuse_frames::{Reply, ReplySaid};
 use fuse_spec::errno::EIO;
 use fuse_spec::{Purpose, Refusal, WriteResult};
 
@@ -124,7 +124,7 @@ impl<Q: QueueTable<Purpose> + Drop, C: CountTable<Heap = Q::Heap> + Drop> Kernel
         ensures ok { OnOk result (reply_written self.old unique
             (reply.listed (map dirent_in (records_in records.entry))) ≡ (WriteResult.Accepted, self.new)) }
     {
-        let Ok(names) = names_listed(self.alloc, records) else {
+        let Ok(names) = names_in(self.alloc, records) else {
             return Err(Refusal::NoMemory);
         };
         self.end_call(unique, call, Answer::Listing(names));

@@ -11,9 +11,8 @@ ghost use Rattle.fuse_spec.specs.Kernel.QueueCalls.{after_interrupt_reply, waiti
 use crate::kernel::KernelOf;
 use fk_lookup_count::CountTable;
 use fk_queues::QueueTable;
-use fk_said::{agrees, files_agreed, minor_agreed, said_to};
 use fk_wire::{Opcode, ReplyHead, read_reply_head};
-use fuse_frames::Reply;
+use fuse_frames::{Reply, agrees, files_agreed, minor_agreed, said_to};
 use fuse_spec::errno::{EAGAIN, ENOSYS};
 use fuse_spec::{Phase, Purpose, Refusal, WriteResult};
 

@@ -3,3 +3,6 @@ pub mod ReplyLemmas
 pub mod PairLemmas
 pub mod ListedPairs
 pub mod Agreements
+pub mod Sayings
+pub mod ReplyCases
+pub mod SaidWithin

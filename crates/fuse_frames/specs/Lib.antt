@@ -1,3 +1,5 @@
 pub mod RequestTies
 pub mod ReplyTies
 pub mod Replies
+pub mod DecodedReplies
+pub mod ReplySaid

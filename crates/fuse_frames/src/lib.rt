@@ -1,7 +1,8 @@
-//! The machine's messages as frames: the one place where the grammar of frames and the machine of kernel and server
-//! meet.
+//! The machine's messages as frames, and what the bytes of a reply say: the one place where the grammar of frames and the
+//! machine of kernel and server meet.
 #![tactic(auto)]
 
+mod agreement;
 mod listing;
 mod minor;
 mod operations;
@@ -11,13 +12,16 @@ mod reply_body;
 mod reply_copy;
 mod reply_frame;
 mod reply_room;
+mod reply_said;
 mod request_frame;
 
+pub use agreement::{agrees, files_agreed, minor_agreed};
 pub use minor::{codec_minor, said_where_known};
 pub use operations::{opcode_asked, operation_asked};
 pub use reply::Reply;
-pub use reply_body::{attributes_of, kind_of_type, listed_by, milliseconds};
+pub use reply_body::{kind_of_type, listed_by};
 pub use reply_copy::ReplyCopy;
 pub use reply_frame::ReplyFrame;
 pub use reply_room::ReplyRoom;
+pub use reply_said::{ReplySaid, said_to, said_to_call};
 pub use request_frame::RequestFrame;

@@ -25,7 +25,7 @@ fn kind_of(mode: u32) -> Kind
 }
 
 /// The attributes that a system call sees.
-pub fn attributes_of(attr: &Attr) -> Attributes
+pub(crate) fn attributes_of(attr: &Attr) -> Attributes
     ensures { result ≡ attributes_in attr.now }
 {
     Attributes {
@@ -37,7 +37,7 @@ pub fn attributes_of(attr: &Attr) -> Attributes
 }
 
 /// A validity of seconds and nanoseconds in milliseconds, rounded down and at most a day (this project's rule).
-pub fn milliseconds(seconds: u64, nanoseconds: u32) -> u64
+pub(crate) fn milliseconds(seconds: u64, nanoseconds: u32) -> u64
     ensures { result ≡ milliseconds_in seconds nanoseconds }
 {
     let rest = nanoseconds as u64 / 1_000_000;
@@ -58,6 +58,19 @@ pub fn kind_of_type(type_number: u32) -> Kind
     }
 }
 
+/// The file that an entry names.
+pub(crate) fn entry_named(entry: &fk_wire::Entry) -> Entry
+    ensures nodeid { result.nodeid ≡ entry.now.nodeid }
+    ensures generation { result.generation ≡ entry.now.generation }
+    ensures attributes { result.attributes ≡ attributes_in entry.now.attr }
+{
+    Entry {
+        nodeid: entry.nodeid,
+        generation: entry.generation,
+        attributes: attributes_of(&entry.attr),
+    }
+}
+
 /// The file that the entry of a name in a list names; with node id 0 it names none.
 fn file_of(entry: &fk_wire::Entry) -> Option<Entry>
     ensures { result ≡ file_in (entry_content entry.now) }
@@ -65,11 +78,7 @@ fn file_of(entry: &fk_wire::Entry) -> Option<Entry>
     if entry.nodeid == 0 {
         return None;
     }
-    Some(Entry {
-        nodeid: entry.nodeid,
-        generation: entry.generation,
-        attributes: attributes_of(&entry.attr),
-    })
+    Some(entry_named(entry))
 }
 
 /// For how many milliseconds the name of an entry leads to its file, or to none.

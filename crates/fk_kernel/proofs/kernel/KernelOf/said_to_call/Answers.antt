@@ -10,7 +10,7 @@ use Rattle.fuse_frames.specs.RequestTies.{asked_opcode}
 use Rattle.fk_syscalls.specs.States.{StandsAt}
 use Rattle.fuse_spec.specs.Kernel.Refusals.{is_counted_out, is_past_end}
 use Rattle.fk_nodes.proofs.Outs.{or_none}
-use Rattle.fk_said.specs.ReplySaid.{wire_of}
+use Rattle.fuse_frames.specs.ReplySaid.{wire_of}
 use Rattle.fk_kernel.specs.AwaitedReplies.{Says, reply_to, awaited_by_call, wrong_body_to}
 use Rattle.fk_kernel.proofs.CountsHeard.{said_few, wrong_nodes}
 use Rattle.fk_kernel.proofs.PastEnds.{passes, said_passes, none_passes, wrong_to_call}

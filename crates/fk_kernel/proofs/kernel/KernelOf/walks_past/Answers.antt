@@ -1,4 +1,4 @@
-use Rattle.fk_said.specs.ReplySaid.{wire_of}
+use Rattle.fuse_frames.specs.ReplySaid.{wire_of}
 use Rattle.fk_kernel.proofs.Within.{stays_within, no_entry_said}
 use Rattle.fk_kernel.proofs.kernel.KernelOf.walks_past.Goals as goal
 

@@ -8,8 +8,8 @@ use Rattle.fk_kernel.specs.Refused.{IsWriteRefusal, no_memory, exhausted}
 use Rattle.fk_kernel.specs.AwaitedReplies.{reply_to, awaited_by_call}
 use Rattle.fuse_spec.specs.Kernel.Messages.{asks}
 use Rattle.fuse_frames.specs.RequestTies.{asked_opcode}
-use Rattle.fk_said.specs.ReplySaid.{wire_of}
-use Rattle.fk_said.proofs.Sayings.{says_one}
+use Rattle.fuse_frames.specs.ReplySaid.{wire_of}
+use Rattle.fuse_frames.proofs.Sayings.{says_one}
 use Rattle.fk_kernel.proofs.Replied.{judged_op}
 use Rattle.fk_kernel.proofs.Taken.{taken_judged}
 use Rattle.fk_kernel.proofs.kernel.KernelOf.write_to_call.Goals as goal

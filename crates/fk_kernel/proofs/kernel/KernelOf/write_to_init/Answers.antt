@@ -3,11 +3,11 @@ use Rattle.std.specs.Prelude.{is_some}
 use Rattle.fk_wire.specs.declared.opcode.Opcode.TheVariants as op
 use Rattle.fuse_spec.specs.Kernel.QueueCalls.{waiting}
 use Rattle.fuse_spec.specs.Kernel.Replies.{reply_written, is_agreement}
-use Rattle.fk_said.specs.ReplySaid.{wire_of}
+use Rattle.fuse_frames.specs.ReplySaid.{wire_of}
 use Rattle.fk_kernel.proofs.Nodes.{still_counted, answered_is}
 use Rattle.fk_kernel.proofs.Replied.{init_agreed, init_aborts, init_unsaid}
-use Rattle.fk_said.proofs.ReplyCases.{says_to_init}
-use Rattle.fk_said.proofs.Sayings.{says_one}
+use Rattle.fuse_frames.proofs.ReplyCases.{says_to_init}
+use Rattle.fuse_frames.proofs.Sayings.{says_one}
 use Rattle.fk_kernel.proofs.kernel.KernelOf.write_to_init.Goals as goal
 
 pub invariant_of-self : goal.invariant_of-self

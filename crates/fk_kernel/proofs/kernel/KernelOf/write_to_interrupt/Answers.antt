@@ -1,9 +1,9 @@
 use Rattle.std.proofs.Common.{refl, ap, ◌∙◌}
 use Rattle.fk_wire.specs.declared.opcode.Opcode.TheVariants as op
 use Rattle.fuse_spec.specs.Kernel.Replies.{interrupt_replied}
-use Rattle.fk_said.specs.ReplySaid.{wire_of}
-use Rattle.fk_said.proofs.ReplyCases.{says_to_interrupt}
-use Rattle.fk_said.proofs.Sayings.{says_one}
+use Rattle.fuse_frames.specs.ReplySaid.{wire_of}
+use Rattle.fuse_frames.proofs.ReplyCases.{says_to_interrupt}
+use Rattle.fuse_frames.proofs.Sayings.{says_one}
 use Rattle.fk_kernel.proofs.Taken.{interrupt_done}
 use Rattle.fk_kernel.proofs.kernel.KernelOf.write_to_interrupt.Goals as goal
 

@@ -5,8 +5,8 @@ use Rattle.fuse_spec.specs.Kernel.QueueCalls.{waiting}
 use Rattle.fk_kernel.specs.AwaitedReplies.{wrong_body}
 use Rattle.fk_kernel.proofs.Nodes.{still_counted, answered_is}
 use Rattle.fk_kernel.proofs.Replied.{release_is}
-use Rattle.fk_said.proofs.ReplyCases.{says_to_release}
-use Rattle.fk_said.proofs.Sayings.{says_read, says_nothing}
+use Rattle.fuse_frames.proofs.ReplyCases.{says_to_release}
+use Rattle.fuse_frames.proofs.Sayings.{says_read, says_nothing}
 use Rattle.fk_kernel.proofs.kernel.KernelOf.write_to_release.Goals as goal
 
 pub invariant_of-self : goal.invariant_of-self

@@ -16,9 +16,9 @@ use Rattle.fuse_spec.specs.Kernel.Replies.{goes_with}
 use Rattle.fuse_spec.specs.Files.Trees.{record_length, pair_length}
 use Rattle.fuse_frames.specs.ReplyTies.{wire_body, dirent_in, pair_in}
 use Rattle.fuse_frames.specs.RequestTies.{asked_opcode}
-use Rattle.fk_said.specs.DecodedReplies.{Says}
-use Rattle.fk_said.specs.ReplySaid.{is_within}
-use Rattle.fk_said.proofs.ReplyCases.{by_reply}
+use Rattle.fuse_frames.specs.DecodedReplies.{Says}
+use Rattle.fuse_frames.specs.ReplySaid.{is_within}
+use Rattle.fuse_frames.proofs.ReplyCases.{by_reply}
 
 -- a record with its padding
 pad_is : (n : ℕ) → 24 + n + padding n ≡ (31 + n) / 8 * 8

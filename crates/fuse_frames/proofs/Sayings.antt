@@ -11,7 +11,7 @@ use Rattle.fk_wire.specs.declared.reply.ReplyHead.{ReplyHead}
 use Rattle.fk_wire.specs.Replies.{ReplyMessage, reply_content, headed, SpellsReply, IsErrorNumber}
 use Rattle.fuse_spec.specs.Kernel.Messages.{WireReply}
 use Rattle.fuse_frames.specs.ReplyTies.{wire_said}
-use Rattle.fk_said.specs.DecodedReplies.{Says, IsNoReply}
+use Rattle.fuse_frames.specs.DecodedReplies.{Says, IsNoReply}
 
 -- an error in range is read as itself
 pub same_error : (z : ℤ) → IsErrorNumber z → cast_signed w32 (cast_unsigned w32 z) ≡ z

@@ -4,11 +4,11 @@ use Rattle.fuse_spec.specs.Kernel.Messages.{asks}
 use Rattle.fuse_spec.specs.Kernel.Replies.{goes_with}
 use Rattle.fuse_spec.specs.Files.AskedOperations.{operation_of}
 use Rattle.fuse_frames.specs.RequestTies.{asked_opcode}
-use Rattle.fk_said.specs.DecodedReplies.{Says, IsNoReply}
-use Rattle.fk_said.specs.ReplySaid.{wire_of}
-use Rattle.fk_said.proofs.Contents.{says_within}
-use Rattle.fk_said.proofs.Sayings.{says_one}
-use Rattle.fk_said.proofs.reply_said.said_to_call.Goals as goal
+use Rattle.fuse_frames.specs.DecodedReplies.{Says, IsNoReply}
+use Rattle.fuse_frames.specs.ReplySaid.{wire_of}
+use Rattle.fuse_frames.proofs.SaidWithin.{says_within}
+use Rattle.fuse_frames.proofs.Sayings.{says_one}
+use Rattle.fuse_frames.proofs.reply_said.said_to_call.Goals as goal
 
 pub returns-in_default-clause-none : goal.returns-in_default-clause-none
 returns-in_default-clause-none c = λ wire said. absurd

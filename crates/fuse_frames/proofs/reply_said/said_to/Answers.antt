@@ -2,8 +2,8 @@ use Rattle.std.proofs.Common.{sym, ap, ◌∙◌}
 use Rattle.std.specs.Prelude.{ℤ}
 use Rattle.fk_wire.specs.Replies.{reply_content}
 use Rattle.fuse_frames.specs.ReplyTies.{wire_said}
-use Rattle.fk_said.proofs.Sayings.{says_read, same_error}
-use Rattle.fk_said.proofs.reply_said.said_to.Goals as goal
+use Rattle.fuse_frames.proofs.Sayings.{says_read, same_error}
+use Rattle.fuse_frames.proofs.reply_said.said_to.Goals as goal
 
 pub returns-in-Some-clause-said : goal.returns-in-Some-clause-said
 returns-in-Some-clause-said c =

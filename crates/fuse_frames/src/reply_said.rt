@@ -1,41 +1,26 @@
 //! What the bytes of a reply say.
 
-ghost use Rattle.std.specs.Prelude.{◌≡◌, ℕ, false, length, map, pos, IfSome, IfNone, IfOk, MatchOption};
-ghost use Rattle.fk_wire.specs.Records.{records_in};
+ghost use Rattle.std.specs.Prelude.{◌≡◌, false, pos, IfSome, IfNone, MatchOption};
 ghost use Rattle.fk_wire.specs.Entries.{entry_content};
 ghost use Rattle.fk_wire.specs.Replies.{ReplyContent, IsErrorNumber, reply_content, entry_reply, create_reply};
 ghost use Rattle.fk_wire.specs.ReplyFaults.{IsReplyHead};
 ghost use Rattle.fuse_spec.specs.Kernel.Messages.{WireReply, asks};
 ghost use Rattle.fuse_spec.specs.Files.Operations as reply;
 ghost use Rattle.fuse_spec.specs.Kernel.Replies.{goes_with};
-ghost use Rattle.fuse_frames.specs.ReplyTies.{wire_body, wire_said, dirent_in, attributes_in, no_entry};
+ghost use Rattle.fuse_frames.specs.ReplyTies.{wire_body, wire_said, no_entry};
 ghost use Rattle.fuse_frames.specs.RequestTies.{asked_opcode};
 ghost use Rattle.fuse_spec.specs.Files.AskedOperations.{operation_of};
-ghost use Rattle.fk_syscalls.specs.Values.{dirent_of};
-ghost use Rattle.fk_said.specs.DecodedReplies.{Says, IsNoReply};
-ghost use Rattle.fk_said.specs.ReplySaid.{wire_of, LastsADay, SaysTo, is_within};
+ghost use Rattle.fuse_frames.specs.DecodedReplies.{Says, IsNoReply};
+ghost use Rattle.fuse_frames.specs.ReplySaid.{wire_of, LastsADay, SaysTo, is_within};
 
-use fk_syscalls::ListedName;
+use crate::operations::opcode_asked;
+use crate::reply::Reply;
+use crate::reply_body::{attributes_of, entry_named, milliseconds};
 use fk_wire::{Opcode, Records, RecordsPlus, ReplyBody, ReplyHead, read_reply_body};
-use fuse_frames::{Reply, attributes_of, kind_of_type, milliseconds, opcode_asked};
 use fuse_spec::{Attributes, Entry, Kind, Operation};
-use std::alloc::{AllocError, Allocator};
 
 /// What a reply says, lent from its frame.
 pub type ReplySaid<'a> = Reply<Entry, Records<'a>, RecordsPlus<'a>, &'a [u8]>;
-
-/// The file that an entry names.
-fn entry_named(entry: &fk_wire::Entry) -> Entry
-    ensures nodeid { result.nodeid ≡ entry.now.nodeid }
-    ensures generation { result.generation ≡ entry.now.generation }
-    ensures attributes { result.attributes ≡ attributes_in entry.now.attr }
-{
-    Entry {
-        nodeid: entry.nodeid,
-        generation: entry.generation,
-        attributes: attributes_of(&entry.attr),
-    }
-}
 
 /// No file, where an entry names none.
 fn no_file() -> Entry
@@ -179,24 +164,4 @@ pub fn said_to_call<'a>(
         return None;
     }
     Some(said)
-}
-
-/// A copy of the names that records list.
-pub fn names_listed<A: Allocator + Copy>(
-    alloc: A,
-    records: Records<'_>,
-) -> Result<Vec<ListedName<A>, A>, AllocError>
-    ensures { IfOk result (λ names. map dirent_of names.items ≡ map dirent_in (records_in records.entry)) }
-{
-    let mut names = Vec::new(alloc);
-    for record in records {
-        let name = record.name.to_vec(alloc)?;
-        names.push(ListedName {
-            ino: record.ino,
-            offset: record.off,
-            kind: kind_of_type(record.kind),
-            name,
-        })?;
-    }
-    Ok(names)
 }

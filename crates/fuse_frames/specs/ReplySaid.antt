@@ -16,7 +16,7 @@ use Rattle.fuse_frames.specs.RequestTies.{asked_opcode}
 use Rattle.fuse_frames.specs.Replies.{reply_of}
 use Rattle.fuse_frames.specs.declared.reply.Reply.{Reply}
 use Rattle.fuse_frames.specs.declared.reply.Reply.TheVariants as said
-use Rattle.fk_said.specs.DecodedReplies.{Says}
+use Rattle.fuse_frames.specs.DecodedReplies.{Says}
 
 -- What a reply says, lent from its frame.
 abbrev pub LentReply : Type 0

@@ -3,12 +3,12 @@
 ghost use Rattle.std.specs.Prelude.{◌≡◌};
 ghost use Rattle.fuse_spec.specs.Kernel.Replies.{is_agreement};
 ghost use Rattle.fuse_spec.specs.Kernel.Replies.{minor_agreed as minor_said, files_agreed as files_said};
-ghost use Rattle.fk_said.specs.ReplySaid.{wire_of};
+ghost use Rattle.fuse_frames.specs.ReplySaid.{wire_of};
 
+use crate::reply::Reply;
 use crate::reply_said::ReplySaid;
 use bitflags::Flags;
 use fk_wire::InitFlags;
-use fuse_frames::Reply;
 use fuse_spec::Minor;
 
 /// Whether a reply agrees on major 7, and on minor 15 or one from 31 up (this project's rule).

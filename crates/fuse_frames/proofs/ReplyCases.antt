@@ -11,7 +11,7 @@ use Rattle.fuse_spec.specs.Kernel.Messages.{WireReply}
 use Rattle.fuse_spec.specs.Files.Operations as reply
 use Rattle.fuse_spec.specs.Kernel.Replies.{is_empty_reply, is_init_reply}
 use Rattle.fuse_frames.specs.ReplyTies.{wire_said, wire_body}
-use Rattle.fk_said.specs.DecodedReplies.{Says}
+use Rattle.fuse_frames.specs.DecodedReplies.{Says}
 
 above_zero : (n : ℕ) → pos (suc n) ≤ℤ pos 0 → ⊥
 above_zero n h = omega (arith, ints)

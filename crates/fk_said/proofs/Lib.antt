@@ -1,4 +1,0 @@
-pub mod Sayings
-pub mod ReplyCases
-pub mod Contents
-pub mod Agreements

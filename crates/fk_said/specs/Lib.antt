@@ -1,2 +1,0 @@
-pub mod DecodedReplies
-pub mod ReplySaid
