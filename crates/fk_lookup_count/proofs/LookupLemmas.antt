@@ -7,7 +7,7 @@ use Rattle.std.proofs.lemmas.Option.{none-some}
 use Rattle.fuse_spec.specs.Values.Maps.{get}
 use Rattle.fuse_spec.specs.declared.Counted.{Counted}
 use Rattle.fk_lookup_count.specs.CountedNodes.{IsUnlike, looked_up}
-use Rattle.fk_lookup_count.specs.Slots.{nodes_in, one_more, written, slot_looked_up}
+use Rattle.fk_lookup_count.specs.Slots.{nodes_in, slot_counted_more, written, slot_looked_up}
 use Rattle.fk_lookup_count.proofs.SlotLemmas.{Slots, no_node, node_is, nodes-insert, room-insert}
 
 -- what holds anyway holds where there is an error
@@ -29,7 +29,7 @@ module _ (s : Slots) (id generation : ℕ) where
   pub room_looked_up : (o : Option Counted) (other : ℕ) → IsSome (slot_of s other)
       → IsSome (slot_of (slot_looked_up s id generation o) other)
   room_looked_up None other some = some
-  room_looked_up (Some slot) other some = room_written (one_more generation slot) other some
+  room_looked_up (Some slot) other some = room_written (slot_counted_more generation slot) other some
 
   module _ (slot : Counted) (is : slot_of s id ≡ Some slot) where
     pub slot_fits : ((node : Counted) → get (nodes_in s) id ≡ Some node → node.count + 1 < 2 ^ 64)
@@ -45,7 +45,7 @@ module _ (s : Slots) (id generation : ℕ) where
     pub new_there : slot.count ≡ 0 → nodes_in (slot_looked_up s id generation (slot_of s id))
         ≡ looked_up (nodes_in s) id generation (get (nodes_in s) id)
     new_there none =
-        let more : one_more generation slot ≡ Some (record { generation = generation; count = 1 }) =
+        let more : slot_counted_more generation slot ≡ Some (record { generation = generation; count = 1 }) =
         grind (arith, none, rules) in
         ap (λ o. nodes_in (slot_looked_up s id generation o)) is ∙ ap (λ o. nodes_in (written s id o)) more
         ∙ nodes-insert s id (record { generation = generation; count = 1 }) (omega arith)
@@ -56,7 +56,7 @@ module _ (s : Slots) (id generation : ℕ) where
         → nodes_in (slot_looked_up s id generation (slot_of s id))
         ≡ looked_up (nodes_in s) id generation (get (nodes_in s) id)
     again_there some same =
-        let more : one_more generation slot ≡ Some (record slot { count = slot.count + 1 }) =
+        let more : slot_counted_more generation slot ≡ Some (record slot { count = slot.count + 1 }) =
         grind (arith, some, same, rules) in
         ap (λ o. nodes_in (slot_looked_up s id generation o)) is ∙ ap (λ o. nodes_in (written s id o)) more
         ∙ nodes-insert s id (record slot { count = slot.count + 1 }) (omega arith)

@@ -15,10 +15,11 @@ abbrev pub nodes_in : FinMap nat_cmp Counted → Map Counted
 nodes_in slots = nodes_among (entries slots)
 
 -- A slot with one lookup more under a generation, unless it holds a node of another.
-abbrev pub one_more : (generation : ℕ) → Counted → Option Counted
-one_more generation slot = cond (nat_eq slot.count 0) (Some (record { generation = generation; count = 1 }))
+abbrev pub slot_counted_more : (generation : ℕ) → Counted → Option Counted
+slot_counted_more generation slot = cond (nat_eq slot.count 0) (Some (record { generation = generation; count = 1 }))
     (cond (nat_eq slot.generation generation) (Some (record slot { count = slot.count + 1 })) None)
 
+-- The slots once this stands in the slot of an id, if it is anything.
 abbrev pub written : FinMap nat_cmp Counted → ℕ → Option Counted → FinMap nat_cmp Counted
 written slots id None = slots
 written slots id (Some slot) = insert slots id slot
@@ -26,4 +27,4 @@ written slots id (Some slot) = insert slots id slot
 -- The slots with one lookup more in this slot, where there is one.
 abbrev pub slot_looked_up : FinMap nat_cmp Counted → (id generation : ℕ) → Option Counted → FinMap nat_cmp Counted
 slot_looked_up slots id generation None = slots
-slot_looked_up slots id generation (Some slot) = written slots id (one_more generation slot)
+slot_looked_up slots id generation (Some slot) = written slots id (slot_counted_more generation slot)

@@ -5,7 +5,7 @@ ghost use Rattle.std.specs.Ordering.{nat_cmp};
 ghost use Rattle.std.specs.FinMap.{FinMap, get, insert, remove, empty};
 ghost use Rattle.fuse_spec.specs.declared.Counted.{Counted};
 ghost use Rattle.fk_lookup_count.specs.CountedNodes.{listed};
-ghost use Rattle.fk_lookup_count.specs.Slots.{nodes_in, one_more, slot_looked_up};
+ghost use Rattle.fk_lookup_count.specs.Slots.{nodes_in, slot_counted_more, slot_looked_up};
 
 use fuse_spec::Counted;
 use std::alloc::{AllocError, Allocator};
@@ -60,7 +60,7 @@ pub trait Slots {
 /// A slot with one lookup more under a generation, unless it holds a node of another.
 pub(crate) fn one_more(slot: Counted, generation: u64) -> Option<Counted>
     requires { slot.count + 1 < 2 ^ 64 }
-    ensures { result ≡ one_more generation slot }
+    ensures { result ≡ slot_counted_more generation slot }
 {
     if slot.count == 0 {
         return Some(Counted {
