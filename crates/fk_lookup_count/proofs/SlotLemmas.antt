@@ -1,11 +1,12 @@
 -- The nodes in slots: a slot of count 0 is none.
-use Rattle.std.proofs.Common.{◌≡◌, ◌≢◌, ℕ, ◌<◌, Bool, true, false, cond, not, [], ◌∷◌, Option, Some, None, IsSome, is_some, refl, ap, sym, ◌∙◌, arith, rules, nat_eq, T, inl, inr}
+use Rattle.std.proofs.Common.{◌≡◌, ◌≢◌, ℕ, ◌<◌, ◌≤◌, Bool, true, false, cond, not, [], ◌∷◌, length, Option, Some, None, IsSome, is_some, refl, ap, sym, ◌∙◌, arith, rules, nat_eq, T, inl, inr}
 use Rattle.std.specs.Prelude.{nat_lt}
 use Rattle.std.specs.Ordering.{nat_cmp, eq_by_cmp}
 use Rattle.std.specs.Cmp.{nat_cmp_total}
 use Rattle.std.specs.FinMap.{FinMap, get as slot_of, insert, remove as without, empty, entries, entries_sorted, find, is_sorted, get-entries, get-insert, get-remove, get-empty, gets, nat_cmp-IsAntisymmetric}
 use Rattle.std.specs.FinMap.Entries.{find-put, is_sorted-put, is_sorted-where_key, same_entries}
 use Rattle.std.proofs.lemmas.Bool.{cases_eq}
+use Rattle.std.proofs.lemmas.List.Sums.{length-filter, count_by-le-length}
 use Rattle.fuse_spec.specs.Values.Maps.{Map, get, put, remove}
 use Rattle.fuse_spec.specs.declared.Counted.{Counted}
 use Rattle.fk_lookup_count.specs.Slots.{is_node, nodes_among, nodes_in}
@@ -50,6 +51,13 @@ get-nodes s q = find-nodes (entries s) (entries_sorted s) q ∙ ap node_in (sym 
 
 pub sorted_nodes : (s : Slots) → T (is_sorted nat_cmp (nodes_in s))
 sorted_nodes s = sorted-filter is_node (entries s) (entries_sorted s)
+
+-- there are no more nodes than slots
+pub fewer_nodes : (s : Slots) → length (nodes_in s) ≤ length (entries s)
+fewer_nodes s =
+    let all = length-filter is_node (entries s) in
+    let some = count_by-le-length is_node (entries s) in
+    omega (arith, all, some)
 
 -- maps that answer alike are the same
 alike : (s : Slots) (nodes : Map Counted) → T (is_sorted nat_cmp nodes)

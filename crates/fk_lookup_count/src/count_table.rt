@@ -1,5 +1,5 @@
 //! The contract of the table, for any representation.
-ghost use Rattle.std.specs.Prelude.{◌≡◌, ◌≢◌, ℕ, ◌+◌, ◌^◌, ◌<◌, ◌↔◌, [], OnOk, OnErr, IsOk, IsErr, IfOk, T, None, is_none};
+ghost use Rattle.std.specs.Prelude.{◌≡◌, ◌≢◌, ℕ, ◌+◌, ◌^◌, ◌<◌, ◌↔◌, [], OnOk, OnErr, IsOk, IsErr, IfOk, T, None, is_none, length};
 ghost use Rattle.std.specs.FinMap.{is_sorted};
 ghost use Rattle.std.specs.Ordering.{nat_cmp};
 ghost use Rattle.std.specs.Option.{ForSome};
@@ -69,9 +69,11 @@ pub trait CountTable {
         ensures counted { counted self.new ≡ remove (counted self.old) id }
         ensures kept { (other : ℕ) → other ≢ id → has_room self.old other → has_room self.new other };
 
-    /// Nodes stand in rising id. A call without effect, made where a proof rests on that.
-    fn are_sorted(&self)
-        ensures { T (is_sorted nat_cmp (counted self.now)) };
+    /// Nodes stand in rising id, and memory holds fewer than 2^63. A call without effect, made where a proof rests on
+    /// that.
+    fn keeps_sound(&self)
+        ensures sorted { T (is_sorted nat_cmp (counted self.now)) }
+        ensures few { length (counted self.now) < 2 ^ 63 };
 
     /// Gives up all ids, without forgets, and their room.
     fn clear(&mut self)

@@ -101,7 +101,9 @@ impl<S: Slots> CountTable for CountsOf<S> {
         })
     }
 
-    fn are_sorted(&self) {}
+    fn keeps_sound(&self) {
+        let _slots = self.slots.len();
+    }
 
     fn clear(&mut self) {
         self.slots.clear();

@@ -48,6 +48,10 @@ impl<A: Allocator + Copy> Slots for KernelSlots<A> {
         }
     }
 
+    fn len(&self) -> usize {
+        self.places.len()
+    }
+
     fn slot(&self, id: u64) -> Option<Counted> {
         let place = *self.places.get(&id)?;
         self.nodes.get(place).copied()

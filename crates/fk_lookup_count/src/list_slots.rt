@@ -42,6 +42,10 @@ impl<A: Allocator + Copy> Slots for ListSlots<A> {
         }
     }
 
+    fn len(&self) -> usize {
+        self.rows.len()
+    }
+
     fn slot(&self, id: u64) -> Option<Counted> {
         let place = find_in(&self.rows, id)?;
         Some(self.rows[place].1)

@@ -1,8 +1,8 @@
 //! Slots under node ids: what a representation of the table offers.
-ghost use Rattle.std.specs.Prelude.{◌≡◌, ℕ, ◌+◌, ◌^◌, ◌<◌, None, OnOk, OnErr, IfOk};
+ghost use Rattle.std.specs.Prelude.{◌≡◌, ℕ, ◌+◌, ◌^◌, ◌<◌, None, OnOk, OnErr, IfOk, length};
 ghost use Rattle.std.specs.Option.{ForSome};
 ghost use Rattle.std.specs.Ordering.{nat_cmp};
-ghost use Rattle.std.specs.FinMap.{FinMap, get, insert, remove, empty};
+ghost use Rattle.std.specs.FinMap.{FinMap, get, insert, remove, empty, entries};
 ghost use Rattle.fuse_spec.specs.declared.Counted.{Counted};
 ghost use Rattle.fk_lookup_count.specs.CountedNodes.{listed};
 ghost use Rattle.fk_lookup_count.specs.Slots.{nodes_in, slot_counted_more, slot_looked_up};
@@ -25,6 +25,11 @@ pub trait Slots {
 
     fn new(alloc: Self::Heap) -> Self
         ensures { slots result ≡ empty };
+
+    /// How many slots there are.
+    fn len(&self) -> usize
+        ensures len { result ≡ length (entries (slots self.now)) }
+        ensures small { result < 2 ^ 63 };
 
     /// The slot of an id.
     fn slot(&self, id: u64) -> Option<Counted>

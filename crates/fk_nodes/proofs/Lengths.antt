@@ -1,12 +1,14 @@
 -- How many entries a map has once one is put or goes.
-use Rattle.std.proofs.Common.{◌≡◌, ◌≢◌, ℕ, ◌+◌, ◌≤◌, Bool, true, false, not, cond, [], ◌∷◌, length, Some, None, refl, sym, ap, subst, ◌∙◌, arith, inl, inr}
+use Rattle.std.proofs.Common.{◌≡◌, ◌≢◌, ℕ, ◌+◌, ◌≤◌, Bool, true, false, not, cond, [], ◌∷◌, length, Some, None, T, refl, sym, ap, subst, ◌∙◌, arith, inl, inr}
 use Rattle.std.specs.Prelude.{nat_eq}
 use Rattle.std.specs.declared.cmp.Ordering.TheVariants.{Less, Equal, Greater}
 use Rattle.std.specs.Ordering.{nat_cmp, is_eq}
+use Rattle.std.specs.FinMap.{is_sorted}
 use Rattle.std.specs.FinMap.Entries.{by_order}
 use Rattle.std.proofs.lemmas.Bool.{cases_eq}
 use Rattle.std.proofs.lemmas.Bool.Decides.{eqb_tells}
 use Rattle.fuse_spec.specs.Values.Maps.{Map, get, put, remove}
+use Rattle.fk_lookup_count.proofs.NumberMaps.{none-below, both_first, both_second}
 use Rattle.fuse_spec.proofs.Tables.{cmp_same, tie_no, get_gone_here, get_gone_there}
 
 module _ {V : Type 0} where
@@ -56,4 +58,20 @@ module _ {V : Type 0} where
         | inr h ↦
             let rest = sym (ap (λ (b : Bool). cond b (Some e.1) (get m k)) (tie_no k e.0 (λ q. h.1 (sym q)))) ∙ none in
             rw h.0 (ap (λ (t : Map V). e ∷ t) (gone_absent m k rest))
+      ]
+
+  -- there is one entry of a key at most
+  pub length_left : (m : Map V) (k : ℕ) → T (is_sorted nat_cmp m) → get m k ≢ None
+      → length (remove m k) + 1 ≡ length m
+  length_left [] k sorted there = absurd (there refl)
+  length_left (e ∷ m) k sorted there =
+      elim (eqb_tells e.0 k) [
+        | inl h ↦
+            let none = none-below k e.0 m (omega (arith, h.1)) (both_first _ _ sorted) in
+            let kept = gone_absent m k none in
+            rw (h.0, kept) (omega arith)
+        | inr h ↦
+            let rest = length_left m k (both_second _ _ sorted) (λ none. there (ap
+            (λ (b : Bool). cond b (Some e.1) (get m k)) (tie_no k e.0 (λ q. h.1 (sym q))) ∙ none)) in
+            rw h.0 (omega arith)
       ]

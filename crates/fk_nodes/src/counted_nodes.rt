@@ -1,6 +1,6 @@
 //! The nodes that the kernel counts.
 
-ghost use Rattle.std.specs.Prelude.{◌≡◌, ◌≤◌, ◌<◌, ◌+◌, ◌^◌, [], ◌∷◌, length, map, nat_le, option_map, OnOk, OnErr, IfOk, T, true, false};
+ghost use Rattle.std.specs.Prelude.{◌≡◌, ◌<◌, ◌+◌, ◌^◌, [], ◌∷◌, length, map, nat_le, option_map, OnOk, OnErr, IfOk, None, T, true, false};
 ghost use Rattle.std.specs.Option.{ForSome};
 ghost use Rattle.fuse_spec.specs.Values.Maps.{get, remove};
 ghost use Rattle.fuse_spec.specs.Values.Numbers.{counter_end};
@@ -24,15 +24,12 @@ use fuse_spec::{Counted, Entry};
 use std::alloc::AllocError;
 use std::marker::Model;
 
-/// Nodes stay fewer than this, so that those of a list can be counted beside them.
-const MOST: usize = 0x4000_0000_0000_0000;
-
 /// The counted nodes, over any table of them: each node id with its generation and its lookup count.
 #[derive(Drop)]
 pub struct CountedNodes<C: CountTable> {
     table: C,
-    /// At least as many as are counted.
-    most: usize,
+    /// How many are counted.
+    len: usize,
 }
 
 impl<C: CountTable> Model for CountedNodes<C> {
@@ -40,7 +37,7 @@ impl<C: CountTable> Model for CountedNodes<C> {
     ghost use Rattle.fuse_spec.specs.Values.Maps.{Map};
     ghost use Rattle.fuse_spec.specs.declared.Counted.{Counted};
     ghost use Rattle.fuse_spec.specs.contracts.Counted as counted_row;
-    ghost use Rattle.std.specs.Prelude.{◌≤◌, length};
+    ghost use Rattle.std.specs.Prelude.{◌≡◌, length};
 
     ghost Value = { Map Counted };
 
@@ -48,7 +45,7 @@ impl<C: CountTable> Model for CountedNodes<C> {
 
     ghost view = { λ t. C.counted t.table };
 
-    ghost invariant = { λ t. length (C.counted t.table) ≤ t.most };
+    ghost invariant = { λ t. t.len ≡ length (C.counted t.table) };
 }
 
 impl<C: CountTable> CountedNodes<C> {
@@ -57,15 +54,15 @@ impl<C: CountTable> CountedNodes<C> {
     {
         CountedNodes {
             table: C::new(alloc),
-            most: 0,
+            len: 0,
         }
     }
 
-    /// No more nodes are counted than this.
+    /// How many nodes are counted.
     pub fn most(&self) -> usize
-        ensures { length self.now ≤ result }
+        ensures { result ≡ length self.now }
     {
-        self.most
+        self.len
     }
 
     /// The generation under which a node is counted.
@@ -82,7 +79,7 @@ impl<C: CountTable> CountedNodes<C> {
     pub fn are_sorted(&self)
         ensures { T (is_sorted nat_cmp self.now) }
     {
-        self.table.are_sorted();
+        self.table.keeps_sound();
     }
 
     /// Whether an entry can be used.
@@ -112,22 +109,20 @@ impl<C: CountTable> CountedNodes<C> {
     ///
     /// # Errors
     ///
-    /// Memory was wanting. Nothing changed.
+    /// Memory was wanting, and the node was not counted. Nothing changed.
     pub fn count_lookup(&mut self, entry: &Entry) -> Result<(), AllocError>
         requires alike { ForSome (get self.old entry.now.nodeid)
             (λ counted. counted.generation ≡ entry.now.generation) }
         requires fits { ForSome (get self.old entry.now.nodeid) (λ counted. counted.count + 1 < 2 ^ 64) }
         ensures ok { OnOk result (self.new ≡ looked_up self.old (entry.now ∷ [])) }
         ensures err { OnErr result (self.new ≡ self.old) }
+        ensures counted { OnErr result (get self.old entry.now.nodeid ≡ None) }
     {
-        self.table.are_sorted();
-        let Some(more) = self.most.checked_add(1) else {
-            return Err(AllocError);
-        };
+        self.table.keeps_sound();
         match self.table.count_lookup(entry.nodeid, entry.generation)? {
             Ok(is_new) => {
                 if is_new {
-                    self.most = more;
+                    self.len += 1;
                 }
                 Ok(())
             }
@@ -140,7 +135,7 @@ impl<C: CountTable> CountedNodes<C> {
     fn counted(&self, id: u64) -> Option<Counted>
         ensures { result ≡ get self.now id }
     {
-        let _ = &self.most;
+        let _ = &self.len;
         self.table.counted(id)
     }
 
@@ -190,17 +185,12 @@ impl<C: CountTable> CountedNodes<C> {
     ///
     /// Memory was wanting. Nothing changed.
     pub fn count_listed(&mut self, pairs: RecordsPlus<'_>) -> Result<(), AllocError>
-        requires few { length (pairs_in pairs) < counter_end }
         requires below { AreBelow (looked_up_from self.old (pairs_in pairs)) }
         ensures ok { OnOk result (self.new ≡ looked_up_from self.old (pairs_in pairs.entry)) }
         ensures err { OnErr result (self.new ≡ self.old) }
     {
-        if self.most >= MOST {
-            // no memory holds so many nodes
-            return Err(AllocError);
-        }
         reserve_nodes(&mut self.table, pairs)?;
-        self.most = count_all(&mut self.table, self.most, pairs);
+        self.len = count_all(&mut self.table, self.len, pairs);
         Ok(())
     }
 
@@ -209,8 +199,9 @@ impl<C: CountTable> CountedNodes<C> {
         ensures count { result ≡ option_map (λ counted. counted.count) (get self.old id) }
         ensures nodes { self.new ≡ remove self.old id }
     {
+        self.table.keeps_sound();
         let forget = self.table.evict(id)?;
-        self.most -= 1;
+        self.len -= 1;
         Some(forget.nlookup)
     }
 
@@ -218,7 +209,7 @@ impl<C: CountTable> CountedNodes<C> {
         ensures { self.new ≡ [] }
     {
         self.table.clear();
-        self.most = 0;
+        self.len = 0;
     }
 
     /// Id, generation and lookup count of each counted node, in rising id.
@@ -229,7 +220,7 @@ impl<C: CountTable> CountedNodes<C> {
     pub fn list(&self, alloc: C::Heap) -> Result<Vec<(u64, u64, u64), C::Heap>, AllocError>
         ensures { IfOk result (λ nodes. nodes.items ≡ map (λ e. (e.0, e.1.generation, e.1.count)) self.now) }
     {
-        let _ = &self.most;
+        let _ = &self.len;
         self.table.nodes(alloc)
     }
 }

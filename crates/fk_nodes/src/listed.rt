@@ -200,7 +200,6 @@ pub fn count_and_bind<A: Allocator + Copy, C: CountTable>(
     pairs: RecordsPlus<'_>,
 ) -> Result<(), AllocError>
     requires clock { clock + max_validity < 2 ^ 64 }
-    requires few { length (pairs_in pairs) < counter_end }
     requires below { AreBelow (looked_up_from nodes.old (pairs_in pairs)) }
     ensures err_names { OnErr result (names.new.names ≡ names.old.names) }
     ensures err_nodes { OnErr result (nodes.new ≡ nodes.old) }

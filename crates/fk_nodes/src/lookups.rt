@@ -1,6 +1,6 @@
 //! How the nodes that names of a list tell are counted in a table.
 
-ghost use Rattle.std.specs.Prelude.{◌≡◌, ◌≤◌, ◌<◌, ◌+◌, ◌^◌, ℕ, length, nat_lt, is_none, OnOk};
+ghost use Rattle.std.specs.Prelude.{◌≡◌, ◌<◌, ◌+◌, ◌^◌, ℕ, length, nat_lt, is_none, OnOk};
 ghost use Rattle.std.specs.Option.{ForSome};
 ghost use Rattle.fk_wire.specs.Records.{direntplus_content};
 ghost use Rattle.fuse_frames.specs.ReplyTies.{pair_in};
@@ -63,47 +63,44 @@ fn count_one<C: CountTable>(table: &mut C, entry: &Entry) -> bool
     }
 }
 
-/// Counts one lookup more of the node that a name tells, if its entry can be used. Gives a number that is no lower than
-/// that of the counted nodes, as the one that it is given.
-fn count_told<C: CountTable>(table: &mut C, most: usize, pair: &DirentPlus<'_>) -> usize
+/// Counts one lookup more of the node that a name tells, if its entry can be used. Is given how many nodes are counted,
+/// and gives how many are then.
+fn count_told<C: CountTable>(table: &mut C, len: usize, pair: &DirentPlus<'_>) -> usize
     requires room { HasNodeRoom (C.has_room table.old) (listed_by (pair_in (direntplus_content pair.now))) }
     requires below { AreBelow (C.counted table.old) }
-    requires within { length (C.counted table.old) ≤ most }
-    requires low { most + 1 < 2 ^ 64 }
+    requires len { len ≡ length (C.counted table.old) }
     ensures counted { C.counted table.new ≡ looked_up_listed (C.counted table.old)
         (listed_by (pair_in (direntplus_content pair.now))) }
     ensures kept { (other : ℕ) → C.has_room table.old other → C.has_room table.new other }
-    ensures within { length (C.counted table.new) ≤ result }
-    ensures more { result ≤ most + 1 }
+    ensures len { result ≡ length (C.counted table.new) }
 {
     let Some(entry) = told(pair) else {
-        return most;
+        return len;
     };
     if entry.nodeid < 2 {
-        return most;
+        return len;
     }
-    table.are_sorted();
+    table.keeps_sound();
     if count_one(table, &entry) {
-        return most + 1;
+        return len + 1;
     }
-    most
+    len
 }
 
-/// Counts the nodes that names of a list tell, each judged by the counts that those before it left. Gives a number that
-/// is no lower than that of the counted nodes, as the one that it is given. Takes no memory.
-pub(crate) fn count_all<C: CountTable>(table: &mut C, most: usize, pairs: RecordsPlus<'_>) -> usize
+/// Counts the nodes that names of a list tell, each judged by the counts that those before it left. Is given how many
+/// nodes are counted, and gives how many are then. Takes no memory.
+pub(crate) fn count_all<C: CountTable>(table: &mut C, len: usize, pairs: RecordsPlus<'_>) -> usize
     requires room { HaveNodeRoom (C.has_room table.old) (pairs_in pairs) }
     requires below { AreBelow (looked_up_from (C.counted table.old) (pairs_in pairs)) }
-    requires within { length (C.counted table.old) ≤ most }
-    requires low { most + length (pairs_in pairs) < 2 ^ 64 }
+    requires len { len ≡ length (C.counted table.old) }
     ensures counted { C.counted table.new ≡ looked_up_from (C.counted table.old) (pairs_in pairs.entry) }
-    ensures within { length (C.counted table.new) ≤ result }
+    ensures len { result ≡ length (C.counted table.new) }
 {
-    let mut most = most;
+    let mut len = len;
     for pair in pairs {
-        most = count_told(table, most, &pair);
+        len = count_told(table, len, &pair);
     }
-    most
+    len
 }
 
 /// Whether a name tells a node under a generation.

@@ -1,4 +1,4 @@
-use Rattle.std.proofs.Common.{◌≡◌, ◌+◌, List, length, ap, map, subst, sym, ◌∙◌, arith}
+use Rattle.std.proofs.Common.{List, ap, map, subst, sym, ◌∙◌}
 use Rattle.fuse_frames.specs.ReplyTies.{pair_in}
 use Rattle.fuse_spec.specs.Values.Maps.{Map}
 use Rattle.fuse_spec.specs.Files.Operations.{DirentPlus}
@@ -11,8 +11,8 @@ use Rattle.fk_nodes.proofs.Counting.{below_before}
 use Rattle.fk_nodes.proofs.NodeRooms.{kept_rooms}
 use Rattle.fk_nodes.proofs.lookups.count_all.Goals as goal
 
-pub count_told-most-requires-clause-below : goal.count_told-most-requires-clause-below
-count_told-most-requires-clause-below g c =
+pub count_told-len-requires-clause-below : goal.count_told-len-requires-clause-below
+count_told-len-requires-clause-below g c =
     below_before (g.C.CountTable.counted c.loop-pair.table) (pairs_in c.loop-pair.pair-iterator)
     (subst AreBelow (sym c.loop-pair.invariant.counted) c.requires.below)
 
@@ -21,16 +21,12 @@ loop-pair-preserved g c =
     let left = ap (map pair_in) c.in-Some.ensures.steps in
     let rest = pairs_in c.next.new.self in
     let rooms = subst (HaveNodeRoom (g.C.CountTable.has_room c.loop-pair.table)) left c.loop-pair.invariant.room in
-    let shorter : length (pairs_in c.loop-pair.pair-iterator) ≡ length rest + 1 =
-    ap (λ (ps : List (DirentPlus Entry)). length ps) left ∙ omega arith in
-    let low = c.loop-pair.invariant.low in
     record {
       counted =
-          ap (λ (m : Map Counted). looked_up_from m rest) c.count_told-most.ensures.counted
+          ap (λ (m : Map Counted). looked_up_from m rest) c.count_told-len.ensures.counted
           ∙ sym (ap (λ (ps : List (DirentPlus Entry)). looked_up_from (g.C.CountTable.counted c.loop-pair.table) ps) left)
           ∙ c.loop-pair.invariant.counted;
       room = kept_rooms (g.C.CountTable.has_room c.loop-pair.table)
-          (g.C.CountTable.has_room c.count_told-most.new.table) rest c.count_told-most.ensures.kept rooms.1;
-      within = c.count_told-most.ensures.within;
-      low = omega (arith, c.count_told-most.ensures.more, shorter, low);
+          (g.C.CountTable.has_room c.count_told-len.new.table) rest c.count_told-len.ensures.kept rooms.1;
+      len = c.count_told-len.ensures.len;
     }

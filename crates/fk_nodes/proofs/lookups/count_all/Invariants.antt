@@ -1,4 +1,4 @@
-use Rattle.std.proofs.Common.{◌≡◌, ◌≤◌, ◌+◌, length}
+use Rattle.std.proofs.Common.{◌≡◌, length}
 use Rattle.fk_nodes.specs.LookedUp.{looked_up_from}
 use Rattle.fk_nodes.specs.Rooms.{HaveNodeRoom}
 use Rattle.fk_nodes.specs.ListedFiles.{pairs_in}
@@ -9,6 +9,5 @@ invariant-loop-pair g l = record {
   counted : looked_up_from (g.C.CountTable.counted l.table) (pairs_in l.pair-iterator)
       ≡ looked_up_from (g.C.CountTable.counted l.fn.table) (pairs_in l.fn.pairs);
   room : HaveNodeRoom (g.C.CountTable.has_room l.table) (pairs_in l.pair-iterator);
-  within : length (g.C.CountTable.counted l.table) ≤ l.most;
-  low : l.most + length (pairs_in l.pair-iterator) ≤ l.fn.most + length (pairs_in l.fn.pairs);
+  len : l.len ≡ length (g.C.CountTable.counted l.table);
 }
