@@ -9,7 +9,6 @@ mod counts;
 mod forget;
 mod kernel_slots;
 mod list_slots;
-mod rows;
 pub mod slots;
 mod unlike;
 

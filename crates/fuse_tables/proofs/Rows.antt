@@ -1,18 +1,17 @@
 -- Rows in rising key: where a key stands, and what putting and removing there makes of them.
-use Rattle.std.proofs.Common.{◌≡◌, ◌≢◌, ℕ, suc, zero, ◌+◌, ◌≤◌, ◌<◌, Bool, true, false, not, cond, ◌&&◌, if◌then◌else◌, List, [], ◌∷◌, ◌++◌, length, take, drop, filter, Option, Some, None, refl, sym, ap, subst, ◌∙◌, arith, T, inl, inr, true≢false, ◌==◌, Less, Equal, Greater}
+use Rattle.std.proofs.Common.{◌≡◌, ◌≢◌, ℕ, suc, zero, ◌≤◌, ◌<◌, Bool, true, false, not, cond, ◌&&◌, if◌then◌else◌, List, [], ◌∷◌, ◌++◌, length, take, drop, set, slice_set, Option, Some, None, refl, sym, ap, subst, ◌∙◌, arith, T, inl, inr, ◌==◌, Less, Equal, Greater}
 use Rattle.std.specs.Prelude.{nat_lt, nat_eq, slice_get, slice_index_or}
 use Rattle.std.specs.List.Sorted.{IsPartitionedBy, IsPartitionPoint}
 use Rattle.std.specs.Ordering.{nat_cmp, is_lt, is_eq}
-use Rattle.std.specs.FinMap.{find, put, is_sorted}
-use Rattle.std.specs.FinMap.Entries.{below_all, by_order}
+use Rattle.std.specs.FinMap.{is_sorted}
+use Rattle.std.specs.FinMap.Entries.{below_all}
 use Rattle.std.proofs.lemmas.Bool.Decides.{eqb_tells}
 use Rattle.std.proofs.lemmas.Option.{same_Some, slice_get_read, slice_get_past, get_or_from_slice_get}
 use Rattle.std.specs.FinMap.Entries.{is_sorted-put, is_sorted-where_key}
 use Rattle.std.proofs.lemmas.Cmp.{nat_cmp_total}
 use Rattle.std.specs.List.{remove as removed}
-use Rattle.std.proofs.lemmas.Bool.{ltb-true, ltb-false, lt-ltb}
+use Rattle.std.proofs.lemmas.Bool.{ltb-true, lt-ltb}
 use Rattle.std.specs.Cmp.{ranked, nat_cmp_is}
-use Rattle.std.specs.declared.cmp.Ordering.{Ordering}
 use Rattle.fuse_spec.specs.Values.Maps.{get, put as with_value, remove}
 use Rattle.fuse_tables.specs.TableState.{place_of, IsRowOf}
 
@@ -102,6 +101,36 @@ module _ {V : Type 0} where
         | Greater ↦ λ q n. put_later key v e es q (put_is es key v n)
       ] refl none
 
+  -- ---- another value at a place
+
+  abbrev Written : ℕ → V → List (ℕ × V) → Type 0
+  Written key v es = set es (place_of key es) (key, v) ≡ with_value es key v
+
+  first_is : (e f : ℕ × V) (key : ℕ) → Some e ≡ Some f → f.0 ≡ key → key < e.0 → ⊥
+  first_is e f key at same low = let equal : e.0 ≡ key =
+      ap (λ (x : ℕ × V). x.0) (same_Some e f at) ∙ same in absurd (omega arith)
+
+  written_is : (es : List (ℕ × V)) (key : ℕ) (v : V) (f : ℕ × V) → slice_get es (place_of key es) ≡ Some f
+      → f.0 ≡ key → Written key v es
+  written_is [] key v f at same = absurd (subst is_found (sym at) tt)
+  written_is (e ∷ es) key v f at same =
+      elim (nat_cmp key e.0) as (λ r. nat_cmp key e.0 ≡ r → Written key v (e ∷ es)) [
+        | Less ↦ λ q. let low = ranked key e.0 Less (sym q) in
+            absurd (first_is e f key (subst (λ (b : Bool). slice_get (e ∷ es) (if b then suc (place_of key es) else 0)
+            ≡ Some f) (ge_not_less e.0 key (omega arith)) at) same low)
+        | Equal ↦ λ q. let equal = ranked key e.0 Equal (sym q) in
+            rw (q, ge_not_less e.0 key (omega arith)) (ap (λ (k : ℕ). (k, v) ∷ es) equal)
+        | Greater ↦ λ q.
+            let high = ranked key e.0 Greater (sym q) in
+            let rest = written_is es key v f (subst (λ (b : Bool). slice_get (e ∷ es)
+            (if b then suc (place_of key es) else 0) ≡ Some f) (lt-ltb e.0 key high) at) same in
+            rw (q, lt-ltb e.0 key high) (ap (λ xs. e ∷ xs) rest)
+      ] refl
+
+  pub written_there : (rows : List (ℕ × V)) (key place : ℕ) (v : V) → IsRowOf rows key place
+      → slice_set rows place (key, v) ≡ with_value rows key v
+  written_there rows key place v r = rw r.at (written_is rows key v r.row (rw (← r.at) r.there) r.same)
+
   -- ---- what stands at a place
 
   abbrev pub found : ℕ → Option (ℕ × V) → Option V
@@ -136,10 +165,6 @@ module _ {V : Type 0} where
   kept_above key (e ∷ es) low le h =
       let lower = less_lower low e.0 (both_first _ _ h) in
       rw (apart e.0 key (omega arith)) (ap (λ xs. e ∷ xs) (kept_above key es low le (both_second _ _ h)))
-
-  first_is : (e f : ℕ × V) (key : ℕ) → Some e ≡ Some f → f.0 ≡ key → key < e.0 → ⊥
-  first_is e f key at same low = let equal : e.0 ≡ key =
-      ap (λ (x : ℕ × V). x.0) (same_Some e f at) ∙ same in absurd (omega arith)
 
   pub removed_is : (es : List (ℕ × V)) (key : ℕ) (e : ℕ × V) → T (is_sorted nat_cmp es)
       → slice_get es (place_of key es) ≡ Some e → e.0 ≡ key

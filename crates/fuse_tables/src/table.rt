@@ -1,6 +1,6 @@
 //! A table from numbers to values.
 
-ghost use Rattle.std.specs.Prelude.{◌≡◌, ◌+◌, ◌<◌, ◌≤◌, ◌-◌, [], OnOk, OnErr, IsOk, None, length, option_map, is_some, slice_get, slice_index_or, if◌then◌else◌, MatchOption};
+ghost use Rattle.std.specs.Prelude.{◌≡◌, ◌+◌, ◌<◌, ◌≤◌, ◌-◌, ◌^◌, [], OnOk, OnErr, IsOk, None, length, option_map, is_some, IsSome, slice_get, slice_index_or, if◌then◌else◌, MatchOption};
 ghost use Rattle.std.specs.Option.{option_copied};
 ghost use Rattle.std.specs.Prelude.{T};
 ghost use Rattle.std.specs.Ordering.{nat_cmp};
@@ -12,6 +12,7 @@ ghost use Rattle.fuse_tables.specs.TableState.{place_of, IsRowOf};
 
 use std::alloc::{AllocError, Allocator, Global};
 use std::marker::Model;
+use std::mem::replace;
 
 /// A map from numbers to values, seen as its entries in rising key and its room: how many more it takes with no memory.
 #[derive(Drop)]
@@ -121,6 +122,15 @@ impl<V: Drop, A: Allocator + Copy> Table<V, A> {
         &self.rows
     }
 
+    /// Entries stand in rising key, and memory holds fewer than 2^63. A call without effect, made where a proof rests on
+    /// that.
+    pub fn keeps_sound(&self)
+        ensures sorted { T (is_sorted nat_cmp self.now.entries) }
+        ensures few { length self.now.entries < 2 ^ 63 }
+    {
+        let _len = self.rows.len();
+    }
+
     /// The lowest key.
     pub fn first_key(&self) -> Option<u64>
         ensures { result ≡ option_map (λ e. e.0) (slice_get self.now.entries 0) }
@@ -151,6 +161,18 @@ impl<V: Drop, A: Allocator + Copy> Table<V, A> {
     {
         let place = place_in(&self.rows, key);
         put_at(&mut self.rows, place, (key, value));
+    }
+
+    /// Puts another value at a key that has one, and gives the one before. Where the key has none nothing changes.
+    pub fn replace(&mut self, key: u64, value: V) -> Option<V>
+        ensures value { result ≡ value_at self.old.entries key }
+        ensures entries { IsSome result → self.new.entries ≡ with_value self.old.entries key value }
+        ensures absent { result ≡ None → self.new.entries ≡ self.old.entries }
+        ensures room { self.new.room ≡ self.old.room }
+    {
+        let place = find_in(&self.rows, key)?;
+        let row = replace(&mut self.rows[place], (key, value));
+        Some(row.1)
     }
 
     /// Takes out the value at a key. Its room stays.

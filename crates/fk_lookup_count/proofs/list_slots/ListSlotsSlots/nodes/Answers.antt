@@ -7,6 +7,6 @@ use Rattle.fk_lookup_count.proofs.list_slots.ListSlotsSlots.nodes.Goals as goal
 
 pub returns : goal.returns
 returns g c =
-    let rows = c.self.inside.rows.items in
+    let rows = c.self.inside.slots.entries in
     let all : c.loop-row.nodes.items ≡ listed (nodes_among rows) = grind (arith, common_steps) in
-    rw (← c.self.view_is) (all ∙ sym (ap (λ es. listed (nodes_among es)) (entries-map_of rows c.self.invariant)))
+    rw (← c.self.view_is) (all ∙ sym (ap (λ es. listed (nodes_among es)) (entries-map_of rows c.keeps_sound.ensures.sorted)))

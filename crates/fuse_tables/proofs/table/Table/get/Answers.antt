@@ -1,4 +1,3 @@
-use Rattle.std.proofs.Common.{◌≡◌}
 use Rattle.fuse_tables.proofs.Rows.{read_there}
 use Rattle.fuse_tables.proofs.table.Table.get.Goals as goal
 

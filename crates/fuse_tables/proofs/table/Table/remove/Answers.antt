@@ -1,11 +1,7 @@
-use Rattle.std.proofs.Common.{◌≡◌, ap, sym, subst, ◌∙◌, List, ℕ, Some, T}
-use Rattle.std.specs.Prelude.{slice_index_or}
+use Rattle.std.proofs.Common.{sym, subst, ◌∙◌, T}
 use Rattle.std.specs.Ordering.{nat_cmp}
 use Rattle.std.specs.FinMap.{is_sorted}
-use Rattle.std.proofs.lemmas.Option.{get_or_from_slice_get}
-use Rattle.fuse_spec.specs.Values.Maps.{get, remove}
-use Rattle.fuse_tables.specs.TableState.{IsRowOf}
-use Rattle.fuse_tables.proofs.Rows.{value_there, absent_is, without_there, sorted_without, read_there}
+use Rattle.fuse_tables.proofs.Rows.{absent_is, without_there, sorted_without, read_there}
 use Rattle.fuse_tables.proofs.table.Table.remove.Goals as goal
 
 pub returns-in_default-clause-entries : goal.returns-in_default-clause-entries
