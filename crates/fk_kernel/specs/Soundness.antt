@@ -1,9 +1,9 @@
 -- What is true of the kernel after each event.
-use Rattle.std.specs.Prelude.{◌≡◌, ◌≢◌, ◌≤◌, ◌<◌, ◌^◌, ℕ, false, [], None, length, T}
+use Rattle.std.specs.Prelude.{◌≡◌, ◌≢◌, ◌≤◌, ◌<◌, ℕ, false, [], None, length, T}
 use Rattle.std.specs.Ordering.{nat_cmp}
 use Rattle.std.specs.FinMap.{is_sorted}
 use Rattle.fuse_spec.specs.Values.Maps.{Map, get}
-use Rattle.fuse_spec.specs.Values.Numbers.{clock_end}
+use Rattle.fuse_spec.specs.Values.Numbers.{clock_end, counter_end}
 use Rattle.fuse_spec.specs.Kernel.Queues.{QueueState}
 use Rattle.fuse_spec.specs.Calls.Vfs.{CallState}
 use Rattle.fuse_spec.specs.declared.Counted.{Counted}
@@ -21,7 +21,7 @@ pub record IsSound {V W : Type 0} (calls : Map V) (answers : Map W) (free coming
   pub answers_below : (n : ℕ) → coming ≤ n → get answers n ≡ None
   pub apart : (n : ℕ) → get calls n ≢ None → get answers n ≡ None
   pub room : length calls ≤ free
-  pub next : coming ≤ 2 ^ 62
+  pub next : coming ≤ counter_end
 
 -- A file is opened by a call that is answered, and is closed once; so no number of one is that of a call that is
 -- unanswered or to come.

@@ -1,6 +1,6 @@
 //! How a call begins.
 
-ghost use Rattle.std.specs.Prelude.{length, ◌≡◌, ◌<◌, ◌^◌, ◌+◌, None, Ok, OnOk, OnErr, IfOk, IfErr, true, false, cond, nat_eq};
+ghost use Rattle.std.specs.Prelude.{length, ◌≡◌, ◌<◌, ◌+◌, None, Ok, OnOk, OnErr, IfOk, IfErr, true, false, cond, nat_eq};
 ghost use Rattle.fuse_spec.specs.Kernel.Uniques.{numbers_left_from};
 ghost use Rattle.fuse_spec.specs.declared.Opened.{Opened};
 ghost use Rattle.fuse_spec.specs.Kernel.Kernel.{is_aborted, call_begun, call_put};
@@ -9,6 +9,7 @@ ghost use Rattle.fuse_spec.specs.Calls.Vfs.{CallState as State, begun, asking, a
 ghost use Rattle.fk_syscalls.specs.Values.{comes_to, call_of, answer_of, ClosesNone};
 ghost use Rattle.fk_kernel.specs.Refused.{begin_refusal, begun_refusal};
 ghost use Rattle.fuse_spec.specs.Kernel.QueueCalls.{after_enqueue};
+ghost use Rattle.fuse_spec.specs.Values.Numbers.{counter_end};
 
 use crate::kernel::KernelOf;
 use fk_calls::{StoredAnswer, is_full};
@@ -49,7 +50,7 @@ impl<Q: QueueTable<Purpose> + Drop, C: CountTable<Heap = Q::Heap> + Drop> Kernel
 
     /// A call of the next number begins: it is answered at once, or it asks its first request.
     fn begin_next(&mut self, call: &Call<'_>) -> Result<u64, Refusal>
-        requires number { self.old.vfs.next_call < 2 ^ 62 }
+        requires number { self.old.vfs.next_call < counter_end }
         requires few { length self.old.vfs.calls < 64 }
         requires ready { is_ready self.old.phase ≡ true }
         ensures err { OnErr result (self.new ≡ self.old) }
@@ -102,7 +103,7 @@ impl<Q: QueueTable<Purpose> + Drop, C: CountTable<Heap = Q::Heap> + Drop> Kernel
 
     /// A call of the next number begins and is answered at once.
     pub(crate) fn begin_answered(&mut self, answer: Answer<Q::Heap>) -> Result<u64, Refusal>
-        requires number { self.old.vfs.next_call < 2 ^ 62 }
+        requires number { self.old.vfs.next_call < counter_end }
         requires few { length self.old.vfs.calls < 64 }
         ensures err { OnErr result (self.new ≡ self.old) }
         ensures refusal { IfErr result (λ refusal. refusal ≡ Refusal.NoMemory) }
@@ -122,7 +123,7 @@ impl<Q: QueueTable<Purpose> + Drop, C: CountTable<Heap = Q::Heap> + Drop> Kernel
 
     /// A call of the next number begins, and its first request is queued.
     fn begin_asking(&mut self, state: CallState<Q::Heap>) -> Result<u64, Refusal>
-        requires number { self.old.vfs.next_call < 2 ^ 62 }
+        requires number { self.old.vfs.next_call < counter_end }
         requires few { length self.old.vfs.calls < 64 }
         requires ready { is_ready self.old.phase ≡ true }
         requires not_aborted { is_aborted self.old.phase ≡ false }

@@ -1,6 +1,6 @@
 //! Open files: how they are closed and let go, and what uses them.
 
-ghost use Rattle.std.specs.Prelude.{◌≡◌, ◌<◌, ◌^◌, None, Some, true, false, is_some, length, OnOk, OnErr, IfOk, IfErr, nat_eq};
+ghost use Rattle.std.specs.Prelude.{◌≡◌, ◌<◌, None, Some, true, false, is_some, length, OnOk, OnErr, IfOk, IfErr, nat_eq};
 ghost use Rattle.std.specs.List.{list_any};
 ghost use Rattle.fuse_spec.specs.Calls.Calls as call;
 ghost use Rattle.fuse_spec.specs.declared.Opened.{Opened as OpenedFile};
@@ -10,6 +10,7 @@ ghost use Rattle.fuse_spec.specs.Kernel.QueueCalls.{waiting, without};
 ghost use Rattle.fuse_spec.specs.Kernel.Refusals.{is_ready, or_no_memory};
 ghost use Rattle.fuse_spec.specs.Kernel.Uniques.{numbers_left_from};
 ghost use Rattle.fuse_spec.specs.Calls.Vfs.{CallState as State, answered};
+ghost use Rattle.fuse_spec.specs.Values.Numbers.{counter_end};
 ghost use Rattle.fk_syscalls.specs.States.{used_by};
 ghost use Rattle.fk_syscalls.specs.Values.{answer_of};
 ghost use Rattle.fk_kernel.specs.Entries.{EndsWithin, EndsPast};
@@ -60,7 +61,7 @@ impl<Q: QueueTable<Purpose> + Drop, C: CountTable<Heap = Q::Heap> + Drop> Kernel
     /// A call of the next number closes an open file: it is answered at once. The RELEASE is queued unless a read or
     /// write of the file is unanswered.
     pub(crate) fn begin_close(&mut self, handle: u64) -> Result<u64, Refusal>
-        requires number { self.old.vfs.next_call < 2 ^ 62 }
+        requires number { self.old.vfs.next_call < counter_end }
         requires few { length self.old.vfs.calls < 64 }
         requires ready { is_ready self.old.phase ≡ true }
         requires not_aborted { is_aborted self.old.phase ≡ false }
@@ -85,7 +86,7 @@ impl<Q: QueueTable<Purpose> + Drop, C: CountTable<Heap = Q::Heap> + Drop> Kernel
 
     /// A close of an open file of which no read or write is unanswered.
     fn close_idle(&mut self, handle: u64, opened: Opened) -> Result<u64, Refusal>
-        requires number { self.old.vfs.next_call < 2 ^ 62 }
+        requires number { self.old.vfs.next_call < counter_end }
         requires few { length self.old.vfs.calls < 64 }
         requires ready { is_ready self.old.phase ≡ true }
         requires not_aborted { is_aborted self.old.phase ≡ false }
@@ -120,7 +121,7 @@ impl<Q: QueueTable<Purpose> + Drop, C: CountTable<Heap = Q::Heap> + Drop> Kernel
 
     /// A close of an open file of which a read or write is unanswered.
     fn close_in_use(&mut self, handle: u64, opened: Opened) -> Result<u64, Refusal>
-        requires number { self.old.vfs.next_call < 2 ^ 62 }
+        requires number { self.old.vfs.next_call < counter_end }
         requires few { length self.old.vfs.calls < 64 }
         requires ready { is_ready self.old.phase ≡ true }
         requires not_aborted { is_aborted self.old.phase ≡ false }
