@@ -5,3 +5,4 @@ pub mod Counts
 pub mod Outs
 pub mod Rooms
 pub mod NodeRooms
+mod MostLookups

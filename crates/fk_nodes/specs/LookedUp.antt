@@ -47,7 +47,11 @@ times_listed id generation (pair ∷ pairs) = cond (tells id generation (listed_
 pub record AreBelow (nodes : Map Counted) : Type 0 where
   pub below : (id : ℕ) (counted : Counted) → get nodes id ≡ Some counted → counted.count < counter_end
 
--- Some node's count has.
+-- No node's count is higher than this.
+pub record AreAtMost (most : ℕ) (nodes : Map Counted) : Type 0 where
+  pub within : (id : ℕ) (counted : Counted) → get nodes id ≡ Some counted → counted.count ≤ most
+
+-- Some node's count has come to the end of counters.
 pub record SomeOut (nodes : Map Counted) : Type 0 where
   pub id : ℕ
   pub counted : Counted

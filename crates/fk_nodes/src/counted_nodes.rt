@@ -15,7 +15,7 @@ ghost use Rattle.fk_nodes.specs.ListedFiles.{pairs_in};
 ghost use Rattle.fk_nodes.specs.Uses.{use_meant};
 
 use crate::entry_use::EntryUse;
-use crate::lookups::{count_all, reserve_nodes, tell_more};
+use crate::lookups::{count_all, pair_count, reserve_nodes, tell_more};
 use crate::told::told;
 use fk_lookup_count::CountTable;
 use fk_wire::{DirentPlus, RecordsPlus};
@@ -30,6 +30,8 @@ pub struct CountedNodes<C: CountTable> {
     table: C,
     /// How many are counted.
     len: usize,
+    /// No node's count is higher.
+    most_lookups: u64,
 }
 
 impl<C: CountTable> Model for CountedNodes<C> {
@@ -38,6 +40,7 @@ impl<C: CountTable> Model for CountedNodes<C> {
     ghost use Rattle.fuse_spec.specs.declared.Counted.{Counted};
     ghost use Rattle.fuse_spec.specs.contracts.Counted as counted_row;
     ghost use Rattle.std.specs.Prelude.{◌≡◌, length};
+    ghost use Rattle.fk_nodes.specs.LookedUp.{AreAtMost};
 
     ghost Value = { Map Counted };
 
@@ -45,7 +48,7 @@ impl<C: CountTable> Model for CountedNodes<C> {
 
     ghost view = { λ t. C.counted t.table };
 
-    ghost invariant = { λ t. t.len ≡ length (C.counted t.table) };
+    ghost invariant = { λ t. (t.len ≡ length (C.counted t.table)) × AreAtMost t.most_lookups (C.counted t.table) };
 }
 
 impl<C: CountTable> CountedNodes<C> {
@@ -55,6 +58,7 @@ impl<C: CountTable> CountedNodes<C> {
         CountedNodes {
             table: C::new(alloc),
             len: 0,
+            most_lookups: 0,
         }
     }
 
@@ -99,6 +103,10 @@ impl<C: CountTable> CountedNodes<C> {
     pub fn counts_out(&self, entry: &Entry) -> bool
         ensures { result ≡ nat_le counter_end (counted_more entry.now (get self.now entry.now.nodeid)).count }
     {
+        // Counts are far from their end as a rule: then none is looked up.
+        if self.most_lookups < COUNTER_END - 1 {
+            return false;
+        }
         match self.counted(entry.nodeid) {
             Some(counted) => counted.count >= COUNTER_END - 1,
             None => false,
@@ -121,6 +129,7 @@ impl<C: CountTable> CountedNodes<C> {
         self.table.keeps_sound();
         match self.table.count_lookup(entry.nodeid, entry.generation)? {
             Ok(is_new) => {
+                self.most_lookups = self.most_lookups.saturating_add(1);
                 if is_new {
                     self.len += 1;
                 }
@@ -171,6 +180,11 @@ impl<C: CountTable> CountedNodes<C> {
         ensures out { result ≡ true → SomeOut (looked_up_from self.now (pairs_in pairs.entry)) }
         ensures within { result ≡ false → AreBelow (looked_up_from self.now (pairs_in pairs.entry)) }
     {
+        let names = pair_count(pairs) as u64;
+        // Counts are far from their end as a rule: then none is looked up.
+        if self.most_lookups.saturating_add(names) < COUNTER_END {
+            return false;
+        }
         for pair in pairs {
             if self.brings_out(&pair, pairs) {
                 return true;
@@ -185,12 +199,15 @@ impl<C: CountTable> CountedNodes<C> {
     ///
     /// Memory was wanting. Nothing changed.
     pub fn count_listed(&mut self, pairs: RecordsPlus<'_>) -> Result<(), AllocError>
+        requires few { length (pairs_in pairs) < counter_end }
         requires below { AreBelow (looked_up_from self.old (pairs_in pairs)) }
         ensures ok { OnOk result (self.new ≡ looked_up_from self.old (pairs_in pairs.entry)) }
         ensures err { OnErr result (self.new ≡ self.old) }
     {
         reserve_nodes(&mut self.table, pairs)?;
         self.len = count_all(&mut self.table, self.len, pairs);
+        let names = pair_count(pairs) as u64;
+        self.most_lookups = self.most_lookups.saturating_add(names);
         Ok(())
     }
 
@@ -210,6 +227,7 @@ impl<C: CountTable> CountedNodes<C> {
     {
         self.table.clear();
         self.len = 0;
+        self.most_lookups = 0;
     }
 
     /// Id, generation and lookup count of each counted node, in rising id.

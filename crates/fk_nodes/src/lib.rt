@@ -9,4 +9,5 @@ mod told;
 
 pub use counted_nodes::CountedNodes;
 pub use entry_use::EntryUse;
-pub use listed::{count_and_bind, forget_stale, names_listed, pair_count};
+pub use listed::{count_and_bind, forget_stale, names_listed};
+pub use lookups::pair_count;

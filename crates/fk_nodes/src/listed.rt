@@ -174,18 +174,6 @@ pub fn names_listed<A: Allocator + Copy>(
     Ok(names)
 }
 
-/// How many names a list has.
-pub fn pair_count(pairs: RecordsPlus<'_>) -> usize
-    requires { length (pairs_in pairs) < counter_end }
-    ensures { result ≡ length (pairs_in pairs.entry) }
-{
-    let mut count = 0;
-    for _pair in pairs {
-        count += 1;
-    }
-    count
-}
-
 /// Counts the names of a list that tell files, and puts those in force of which the entry can be used, from this time
 /// in milliseconds on.
 ///
@@ -200,6 +188,7 @@ pub fn count_and_bind<A: Allocator + Copy, C: CountTable>(
     pairs: RecordsPlus<'_>,
 ) -> Result<(), AllocError>
     requires clock { clock + max_validity < 2 ^ 64 }
+    requires few { length (pairs_in pairs) < counter_end }
     requires below { AreBelow (looked_up_from nodes.old (pairs_in pairs)) }
     ensures err_names { OnErr result (names.new.names ≡ names.old.names) }
     ensures err_nodes { OnErr result (nodes.new ≡ nodes.old) }

@@ -1,10 +1,11 @@
-//! How the nodes that names of a list tell are counted in a table.
+//! How many names a list has, and how the nodes that they tell are counted in a table.
 
 ghost use Rattle.std.specs.Prelude.{◌≡◌, ◌<◌, ◌+◌, ◌^◌, ℕ, length, nat_lt, is_none, OnOk};
 ghost use Rattle.std.specs.Option.{ForSome};
 ghost use Rattle.fk_wire.specs.Records.{direntplus_content};
 ghost use Rattle.fuse_frames.specs.ReplyTies.{pair_in};
 ghost use Rattle.fuse_spec.specs.Values.Maps.{get};
+ghost use Rattle.fuse_spec.specs.Values.Numbers.{counter_end};
 ghost use Rattle.fuse_spec.specs.Files.Operations.{listed_by};
 ghost use Rattle.fuse_spec.specs.Kernel.Replies.{use_counted};
 ghost use Rattle.fk_nodes.specs.LookedUp.{looked_up_by_use, looked_up_listed, looked_up_from, AreBelow};
@@ -17,6 +18,18 @@ use fk_lookup_count::CountTable;
 use fk_wire::{DirentPlus, RecordsPlus};
 use fuse_spec::Entry;
 use std::alloc::AllocError;
+
+/// How many names a list has.
+pub fn pair_count(pairs: RecordsPlus<'_>) -> usize
+    requires { length (pairs_in pairs) < counter_end }
+    ensures { result ≡ length (pairs_in pairs.entry) }
+{
+    let mut count = 0;
+    for _pair in pairs {
+        count += 1;
+    }
+    count
+}
 
 /// Makes room for the node that a name tells.
 fn reserve_node<C: CountTable>(table: &mut C, pair: &DirentPlus<'_>) -> Result<(), AllocError>
