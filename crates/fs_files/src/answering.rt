@@ -62,6 +62,7 @@ impl<S: NodeStore> Files<S> {
     }
 
     /// An operation.
+    #[inline(always)]
     fn ask(
         &mut self,
         operation: &HeldOperation<S::Heap>,
@@ -140,6 +141,7 @@ impl<S: NodeStore> Files<S> {
 }
 
 /// Whether each of these nodes is still held under its generation.
+#[inline(always)]
 pub(crate) fn are_held<S: NodeStore>(nodes: &Nodes<S>, named: Named) -> bool
     ensures { result ≡ is_still_held nodes.now.table (named_in named) }
 {

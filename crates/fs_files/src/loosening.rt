@@ -31,6 +31,7 @@ impl<S: NodeStore> Files<S> {
     }
 
     /// The same of what a request asks.
+    #[inline(always)]
     fn loosened(&self, body: &HeldBody<S::Heap>) -> Option<u64>
         ensures { (v : ValidityValue) (m : MinorValue) → result
             ≡ loosened (server_at m self.now v) (asked_of body.now) }
@@ -44,6 +45,7 @@ impl<S: NodeStore> Files<S> {
 }
 
 /// The file that an operation takes a name from for good.
+#[inline(always)]
 fn unnamed_by<A: Allocator + Copy, S: NodeStore>(
     tree: &Tree<A>,
     nodes: &Nodes<S>,

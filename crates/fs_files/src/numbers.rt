@@ -20,6 +20,7 @@ use fs_nodes::NodeStore;
 impl<S: NodeStore> Files<S> {
     /// Whether the counters have the numbers that performing a held request draws. Where its reply is lost it draws
     /// only those of the tree.
+    #[inline(always)]
     pub fn has_numbers(&self, held: &HeldRequest<S::Heap>, is_lost: bool) -> bool
         requires { AreHeldBelow self.now.nodes }
         ensures has { (v : ValidityValue) (m : MinorValue) → result ≡ true
@@ -29,9 +30,19 @@ impl<S: NodeStore> Files<S> {
             → LacksNumber (tree_said (server_at m self.now v) held.now) self.now.nodes self.now.handles is_lost
             (said (server_at m self.now v) held.now) }
     {
-        if self.has_numbers_for_any() {
-            return true;
-        }
+        self.has_numbers_for_any() || self.has_numbers_planned(held, is_lost)
+    }
+
+    /// The same, by what performing the request draws.
+    fn has_numbers_planned(&self, held: &HeldRequest<S::Heap>, is_lost: bool) -> bool
+        requires { AreHeldBelow self.now.nodes }
+        ensures has { (v : ValidityValue) (m : MinorValue) → result ≡ true
+            → HasNumbers (tree_said (server_at m self.now v) held.now) self.now.nodes self.now.handles is_lost
+            (said (server_at m self.now v) held.now) }
+        ensures lacks { (v : ValidityValue) (m : MinorValue) → result ≡ false
+            → LacksNumber (tree_said (server_at m self.now v) held.now) self.now.nodes self.now.handles is_lost
+            (said (server_at m self.now v) held.now) }
+    {
         let plan = self.plan_for(held);
         plan.births <= self.tree.births_left()
             && plan.serials <= self.tree.serials_left()
@@ -39,6 +50,7 @@ impl<S: NodeStore> Files<S> {
     }
 
     /// Whether each counter has as many numbers left as any request draws, so that none need be planned.
+    #[inline(always)]
     fn has_numbers_for_any(&self) -> bool
         ensures births { result ≡ true → self.now.tree.next_birth < 2 ^ 62 }
         ensures serials { result ≡ true → self.now.tree.next_serial < 2 ^ 62 }

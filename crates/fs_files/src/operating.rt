@@ -23,6 +23,7 @@ use fuse_spec::{Operation, Validity};
 use std::alloc::{AllocError, Allocator};
 
 /// Does an operation that nothing refuses. Where memory is wanting the tree is as before.
+#[inline(always)]
 pub(crate) fn operate<A: Allocator + Copy, S: NodeStore>(
     tree: &mut Tree<A>,
     nodes: &Nodes<S>,
@@ -68,6 +69,7 @@ pub(crate) fn operate<A: Allocator + Copy, S: NodeStore>(
 }
 
 /// A LOOKUP.
+#[inline(always)]
 fn look_up<A: Allocator + Copy>(
     tree: &Tree<A>,
     directory: u64,
@@ -91,6 +93,7 @@ fn look_up<A: Allocator + Copy>(
 }
 
 /// A GETATTR.
+#[inline(always)]
 fn attributes<A: Allocator + Copy>(tree: &Tree<A>, file: u64) -> Outcome<A>
     requires { file < 2 ^ 62 }
     ensures { (v : ValidityValue) → Operates v tree.now (getattr file) result tree.now }

@@ -15,6 +15,7 @@ use fuse_spec::Operation;
 use std::alloc::Allocator;
 
 /// The first refusal of an operation, if any.
+#[inline(always)]
 pub(crate) fn refusal_of<A: Allocator + Copy, S: NodeStore>(
     tree: &Tree<A>,
     nodes: &Nodes<S>,
