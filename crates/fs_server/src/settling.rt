@@ -26,11 +26,12 @@ impl<S: NodeStore> ServerOf<S> {
         ensures refused { OnErr result (self.new ≡ self.old) }
         ensures effect { MatchResult result (λ _. Settles self.old settled self.new) (HasNoCopy self.old settled) }
     {
-        let Some(copy) = self.copies.remove(settled.number) else {
+        let Some(copy) = self.copies.get(settled.number) else {
             return Err(Refusal::NoSuch);
         };
         settle_files(&mut self.files, copy.reply(), settled.result);
-        drop_kept(&mut self.kept, &copy);
+        drop_kept(&mut self.kept, copy);
+        let _settled = self.copies.remove(settled.number);
         Ok(())
     }
 }
