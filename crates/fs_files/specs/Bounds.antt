@@ -1,10 +1,11 @@
 -- How far counts and births go, and what is known of the files that have nodes and open numbers.
-use Rattle.std.specs.Prelude.{◌≡◌, ◌≢◌, ◌<◌, ◌≤◌, ◌^◌, ℕ, false, Option, None, Some, IsSome, IsTrue, T}
+use Rattle.std.specs.Prelude.{◌≡◌, ◌≢◌, ◌<◌, ◌≤◌, ℕ, false, Option, None, Some, IsSome, IsTrue, T}
 use Rattle.std.specs.FinMap.{is_sorted}
 use Rattle.std.specs.Ordering.{nat_cmp}
 use Rattle.fuse_spec.specs.Values.Maps.{get}
 use Rattle.fuse_spec.specs.Files.Trees.{Tree, is_nameless, kind_of}
 use Rattle.fuse_spec.specs.Server.Nodes.{NodeTable, HeldNode, HandleTable, IsUnheld, OpenNumber}
+use Rattle.fuse_spec.specs.Values.Numbers.{counter_end}
 use Rattle.fs_tree.specs.Outcomes.{is_regular}
 
 -- no node has more lookups than this
@@ -13,7 +14,7 @@ AreCounted most nodes = (id : ℕ) (row : HeldNode) → get nodes.rows id ≡ So
 
 -- every node has fewer lookups than the end of counters
 abbrev pub AreHeldBelow : NodeTable → Type 0
-AreHeldBelow nodes = (id : ℕ) (row : HeldNode) → get nodes.rows id ≡ Some row → row.count < 2 ^ 62
+AreHeldBelow nodes = (id : ℕ) (row : HeldNode) → get nodes.rows id ≡ Some row → row.count < counter_end
 
 -- no open number has more uses than this
 abbrev pub AreUsed : ℕ → HandleTable → Type 0
@@ -21,7 +22,7 @@ AreUsed most handles = (fh : ℕ) (handle : OpenNumber) → get handles.handles 
 
 -- every node's file is below the end of births
 abbrev pub AreLow : NodeTable → Type 0
-AreLow nodes = (id : ℕ) (row : HeldNode) → get nodes.rows id ≡ Some row → row.file < 2 ^ 62
+AreLow nodes = (id : ℕ) (row : HeldNode) → get nodes.rows id ≡ Some row → row.file < counter_end
 
 -- the file is in the tree
 abbrev pub IsThere : Tree → ℕ → Type 0

@@ -1,8 +1,9 @@
 -- What files take that get nodes one after another.
-use Rattle.std.specs.Prelude.{◌≡◌, ◌<◌, ◌+◌, ◌^◌, ◌||◌, ℕ, Bool, List, [], ◌∷◌, Some, cond, count_by, map, nat_eq}
+use Rattle.std.specs.Prelude.{◌≡◌, ◌<◌, ◌+◌, ◌||◌, ℕ, Bool, List, [], ◌∷◌, Some, cond, count_by, map, nat_eq}
 use Rattle.std.specs.List.{list_any}
 use Rattle.fuse_spec.specs.Values.Maps.{Map, get, values}
 use Rattle.fuse_spec.specs.Server.Nodes.{HeldNode, NodeTable, MayName, file_of, given}
+use Rattle.fuse_spec.specs.Values.Numbers.{counter_end}
 use Rattle.fuse_spec.specs.declared.Entry.{Entry}
 
 -- whether a file has a node
@@ -31,7 +32,7 @@ node_in (e ∷ rows) file = cond (nat_eq e.1.file file) e.0 (node_in rows file)
 -- the file's node has lookups below the end of counters, once these files are given their nodes
 abbrev pub IsCountable : NodeTable → List ℕ → ℕ → Type 0
 IsCountable t files file = (id : ℕ) (row : HeldNode) → get t.rows id ≡ Some row → row.file ≡ file
-    → row.count + count_by (nat_eq file) files < 2 ^ 62
+    → row.count + count_by (nat_eq file) files < counter_end
 
 -- the same for each of some files
 abbrev pub AreCountable : NodeTable → (files some : List ℕ) → Type 0

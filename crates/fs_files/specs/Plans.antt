@@ -1,8 +1,9 @@
 -- Which numbers a request draws.
-use Rattle.std.specs.Prelude.{◌≡◌, ◌<◌, ◌≤◌, ◌+◌, ◌^◌, ◌⊎◌, ℕ, Bool, true, false, length}
+use Rattle.std.specs.Prelude.{◌≡◌, ◌<◌, ◌≤◌, ◌+◌, ◌⊎◌, ℕ, Bool, true, false, length}
 use Rattle.fuse_spec.specs.Files.Operations.{Reply, files_in_reply, opens_in_reply}
 use Rattle.fuse_spec.specs.Files.Trees.{Tree}
 use Rattle.fuse_spec.specs.Server.Nodes.{NodeTable, HandleTable, counts_out}
+use Rattle.fuse_spec.specs.Values.Numbers.{counter_end}
 use Rattle.fs_files.specs.Giving.{generations_after}
 use Rattle.fs_files.specs.declared.plan.Plan.{Plan}
 
@@ -17,16 +18,16 @@ pub record Draws (tree new : Tree) (reply : Reply ℕ ℕ) (plan : Plan) : Type 
 -- end of counters. Where it is lost, no node and no open number is given.
 pub record HasNumbers (new : Tree) (nodes : NodeTable) (handles : HandleTable) (lost : Bool)
     (reply : Reply ℕ ℕ) : Type 0 where
-  pub births : new.next_birth ≤ 2 ^ 62
-  pub serials : new.next_serial ≤ 2 ^ 62
-  pub generations : lost ≡ false → generations_after nodes (files_in_reply reply) ≤ 2 ^ 62
+  pub births : new.next_birth ≤ counter_end
+  pub serials : new.next_serial ≤ counter_end
+  pub generations : lost ≡ false → generations_after nodes (files_in_reply reply) ≤ counter_end
   pub counts : lost ≡ false → counts_out nodes (files_in_reply reply) ≡ false
-  pub numbers : lost ≡ false → handles.next_fh + length (opens_in_reply reply) ≤ 2 ^ 62
+  pub numbers : lost ≡ false → handles.next_fh + length (opens_in_reply reply) ≤ counter_end
 
 -- A counter from which it draws is at its end, or a node's lookups come to it.
 abbrev pub LacksNumber : (new : Tree) (nodes : NodeTable) (handles : HandleTable) (lost : Bool) (reply : Reply ℕ ℕ)
     → Type 0
 LacksNumber new nodes handles lost reply =
-    (2 ^ 62 < new.next_birth) ⊎ ((2 ^ 62 < new.next_serial) ⊎ ((lost ≡ false)
-    × ((2 ^ 62 < generations_after nodes (files_in_reply reply))
-    ⊎ ((counts_out nodes (files_in_reply reply) ≡ true) ⊎ (2 ^ 62 < handles.next_fh + length (opens_in_reply reply))))))
+    (counter_end < new.next_birth) ⊎ ((counter_end < new.next_serial) ⊎ ((lost ≡ false)
+    × ((counter_end < generations_after nodes (files_in_reply reply))
+    ⊎ ((counts_out nodes (files_in_reply reply) ≡ true) ⊎ (counter_end < handles.next_fh + length (opens_in_reply reply))))))

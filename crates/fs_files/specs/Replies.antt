@@ -1,7 +1,7 @@
 -- What replies say.
-use Rattle.std.specs.Prelude.{◌≡◌, ◌≢◌, ◌≤◌, ◌<◌, ◌+◌, ◌-◌, ◌*◌, ◌^◌, ℕ, [], Option, Some, None, All, IsTrue, Vec, length, map, vec_capacity}
+use Rattle.std.specs.Prelude.{◌≡◌, ◌≢◌, ◌≤◌, ◌<◌, ◌+◌, ◌-◌, ◌*◌, ℕ, [], Option, Some, None, All, IsTrue, Vec, length, map, vec_capacity}
 use Rattle.std.specs.Int.RustNames.{bit_and}
-use Rattle.fuse_spec.specs.Values.Numbers.{max_transfer, max_validity}
+use Rattle.fuse_spec.specs.Values.Numbers.{counter_end, max_transfer, max_validity}
 use Rattle.fuse_spec.specs.Files.Operations as operation
 use Rattle.fuse_spec.specs.Files.Operations.{Dirent, Reply, errno_of, reply_with}
 use Rattle.fuse_spec.specs.Kernel.Messages.{WireReply}
@@ -23,7 +23,7 @@ use Rattle.fs_files.specs.declared.replies.Outcome.TheVariants as outcome
 
 -- A name in a list is of a file of the tree that was born before the end of births.
 abbrev pub IsListable : Tree → Dirent → Type 0
-IsListable tree d = (1 ≤ d.ino) × (d.ino - 1 < 2 ^ 62) × IsThere tree (d.ino - 1)
+IsListable tree d = (1 ≤ d.ino) × (d.ino - 1 < counter_end) × IsThere tree (d.ino - 1)
 
 -- What a minor answers to an INIT that offers the flags that it takes up.
 pub record IsAgreed (major minor flags : ℕ) : Type 0 where
@@ -116,8 +116,8 @@ module _ {A : Type 0} where
   -- An outcome whose file is in this tree, below the end of births, and regular if it is opened; or whose reply can be
   -- written, and names no file.
   abbrev pub IsRepliable : Tree → Outcome A → Type 0
-  IsRepliable tree (outcome.Found file) = (file < 2 ^ 62) × IsThere tree file
-  IsRepliable tree (outcome.Created file) = (file < 2 ^ 62) × IsThere tree file × IsTrue (is_regular tree file)
+  IsRepliable tree (outcome.Found file) = (file < counter_end) × IsThere tree file
+  IsRepliable tree (outcome.Created file) = (file < counter_end) × IsThere tree file × IsTrue (is_regular tree file)
   IsRepliable tree (outcome.Opened file) = IsTrue (is_regular tree file)
   IsRepliable tree (outcome.ListedPlus records) = AreRecordBytes records.items
       × (128 * length (names_in records.items) + length records.items ≤ max_transfer)

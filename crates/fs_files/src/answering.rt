@@ -1,9 +1,9 @@
 //! Held requests are performed on the tree.
 
-ghost use Rattle.std.specs.Prelude.{◌≡◌, ◌≤◌, ◌^◌, IfOk, OnErr, OnOk};
+ghost use Rattle.std.specs.Prelude.{◌≡◌, ◌≤◌, IfOk, OnErr, OnOk};
 ghost use Rattle.fuse_spec.specs.Kernel.Messages.{asks, release};
 ghost use Rattle.fuse_spec.specs.Server.Nodes.{is_open, file_of};
-ghost use Rattle.fuse_spec.specs.Values.Numbers.{max_validity};
+ghost use Rattle.fuse_spec.specs.Values.Numbers.{counter_end, max_validity};
 ghost use Rattle.fuse_spec.specs.Server.Performs.{is_open_for, is_still_held};
 ghost use Rattle.fuse_spec.specs.declared.Validity.{Validity as ValidityValue};
 ghost use Rattle.fs_files.specs.Performing.{ComesTo, handles_by, handles_said, said, said_by, tree_said, tree_by};
@@ -32,8 +32,8 @@ impl<S: NodeStore> Files<S> {
         validity: Validity,
         minor: Minor,
     ) -> Result<Outcome<S::Heap>, AllocError>
-        requires births { (tree_said (server_at minor self.old validity) held.now).next_birth ≤ 2 ^ 62 }
-        requires serials { (tree_said (server_at minor self.old validity) held.now).next_serial ≤ 2 ^ 62 }
+        requires births { (tree_said (server_at minor self.old validity) held.now).next_birth ≤ counter_end }
+        requires serials { (tree_said (server_at minor self.old validity) held.now).next_serial ≤ counter_end }
         requires day { validity.missing_ms ≤ max_validity }
         ensures err { OnErr result (self.new ≡ self.old) }
         ensures says { IfOk result (λ outcome. outcome_reply validity.found_ms outcome
@@ -69,9 +69,9 @@ impl<S: NodeStore> Files<S> {
         validity: Validity,
     ) -> Result<Outcome<S::Heap>, AllocError>
         requires births { (tree_by (server_of self.old validity)
-            (asks (operation_of operation.now))).next_birth ≤ 2 ^ 62 }
+            (asks (operation_of operation.now))).next_birth ≤ counter_end }
         requires serials { (tree_by (server_of self.old validity)
-            (asks (operation_of operation.now))).next_serial ≤ 2 ^ 62 }
+            (asks (operation_of operation.now))).next_serial ≤ counter_end }
         requires day { validity.missing_ms ≤ max_validity }
         ensures err { OnErr result (self.new ≡ self.old) }
         ensures ok { IfOk result (λ outcome. ComesTo (server_of self.old validity)

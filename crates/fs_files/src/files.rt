@@ -6,6 +6,7 @@ ghost use Rattle.fuse_spec.specs.declared.Validity.{Validity as ValidityValue};
 ghost use Rattle.fuse_spec.specs.Server.Nodes.{handle_back, handle_more, is_held, row_more, taken_back, OpenNumber};
 ghost use Rattle.fuse_spec.specs.Server.Copies.{row_back};
 ghost use Rattle.fuse_spec.specs.Server.Server.{count_in, is_file_held};
+ghost use Rattle.fuse_spec.specs.Values.Numbers.{counter_end};
 ghost use Rattle.fs_nodes.specs.Rows.{listed};
 ghost use Rattle.fs_nodes.specs.Sound.{IsSound};
 ghost use Rattle.fs_tree.specs.Outcomes.{only_root, without_unheld};
@@ -78,10 +79,10 @@ impl<S: NodeStore> Files<S> {
 
     /// No counter has given a number past its end, 2^62.
     pub fn within(&self)
-        ensures births { nat_lt (2 ^ 62) self.now.tree.next_birth ≡ false }
-        ensures serials { nat_lt (2 ^ 62) self.now.tree.next_serial ≡ false }
-        ensures generations { nat_lt (2 ^ 62) self.now.nodes.next_generation ≡ false }
-        ensures numbers { nat_lt (2 ^ 62) self.now.handles.next_fh ≡ false }
+        ensures births { nat_lt counter_end self.now.tree.next_birth ≡ false }
+        ensures serials { nat_lt counter_end self.now.tree.next_serial ≡ false }
+        ensures generations { nat_lt counter_end self.now.nodes.next_generation ≡ false }
+        ensures numbers { nat_lt counter_end self.now.handles.next_fh ≡ false }
     {
         let _births = self.tree.births_left();
         let _serials = self.tree.serials_left();
@@ -151,7 +152,7 @@ impl<S: NodeStore> Files<S> {
 
     /// Counts one use more of an open number, if it is in use.
     pub fn count_number_again(&mut self, fh: u64)
-        requires { AreUsed (2 ^ 62) self.old.handles }
+        requires { AreUsed counter_end self.old.handles }
         ensures tree { self.new.tree ≡ self.old.tree }
         ensures nodes { self.new.nodes ≡ self.old.nodes }
         ensures handles { self.new.handles ≡ handle_more self.old.handles fh }

@@ -6,6 +6,7 @@ ghost use Rattle.fuse_spec.specs.Values.Maps.{get, values};
 ghost use Rattle.fuse_spec.specs.Server.Nodes.{HeldNode, counts_out, row_of, file_of, is_held, given, row_more, taken_back, MayName, IsUnheld};
 ghost use Rattle.fuse_spec.specs.Server.Server.{count_in, generation_in, is_known};
 ghost use Rattle.fuse_spec.specs.Server.Copies.{row_back};
+ghost use Rattle.fuse_spec.specs.Values.Numbers.{counter_end};
 ghost use Rattle.fs_nodes.specs.Rows.{listed};
 ghost use Rattle.fs_nodes.specs.Sound.{IsSound};
 ghost use Rattle.fs_files.specs.Bounds.{AreCounted, AreHeldBelow};
@@ -68,7 +69,7 @@ impl<S: NodeStore> Nodes<S> {
 
     /// How many generations are left below 2^62.
     pub fn generations_left(&self) -> u64
-        ensures { result + self.now.table.next_generation ≡ 2 ^ 62 }
+        ensures { result + self.now.table.next_generation ≡ counter_end }
     {
         self.store.generations_left()
     }
@@ -187,7 +188,7 @@ impl<S: NodeStore> Nodes<S> {
     /// them, and each node's lookups are so far from their end. No node is looked at.
     pub(crate) fn can_give_any(&self) -> bool
         ensures { result ≡ true → (files : List ℕ) → length files ≤ 32
-            → (generations_after self.now.table files ≤ 2 ^ 62) × (counts_out self.now.table files ≡ false) }
+            → (generations_after self.now.table files ≤ counter_end) × (counts_out self.now.table files ≡ false) }
     {
         self.store.keeps_sound();
         MOST_NAMES as u64 <= self.store.generations_left()
@@ -263,7 +264,7 @@ impl<S: NodeStore> Nodes<S> {
     /// Counts one lookup of a file, and gives its nodeid and generation.
     pub fn give(&mut self, file: u64) -> (u64, u64)
         requires room { 0 < self.old.room }
-        requires generation { IsUnheld self.old.table file → self.old.table.next_generation < 2 ^ 62 }
+        requires generation { IsUnheld self.old.table file → self.old.table.next_generation < counter_end }
         requires count { (id : ℕ) (row : HeldNode) → get self.old.table.rows id ≡ Some row → row.count + 1 < 2 ^ 64 }
         ensures id { MayName self.old.table file result.0 }
         ensures two { 2 ≤ result.0 }

@@ -2,7 +2,7 @@
 
 ghost use Rattle.std.specs.Prelude.{◌≡◌, ◌≢◌, ◌<◌, ◌≤◌, ◌+◌, ◌*◌, ◌^◌, ◌++◌, [], ℕ, All, IsTrue, List, None, Some, cond, length, map, vec_capacity};
 ghost use Rattle.fuse_spec.specs.Server.Nodes.{IsUnheld, handle_opened};
-ghost use Rattle.fuse_spec.specs.Values.Numbers.{max_transfer, max_validity};
+ghost use Rattle.fuse_spec.specs.Values.Numbers.{counter_end, max_transfer, max_validity};
 ghost use Rattle.fuse_spec.specs.Files.Operations.{files_in_reply, files_listed, first_listed, opens_in_reply};
 ghost use Rattle.fuse_spec.specs.Calls.Paths.{is_dots};
 ghost use Rattle.fuse_spec.specs.Server.Performs.{entry_for};
@@ -40,9 +40,9 @@ impl<S: NodeStore> Files<S> {
         requires spare { HasSpare spare 0 (outcome_names outcome) }
         requires repliable { IsRepliable self.old.tree outcome }
         requires generations { generations_after self.old.nodes
-            (files_in_reply (outcome_reply found_ms outcome)) ≤ 2 ^ 62 }
+            (files_in_reply (outcome_reply found_ms outcome)) ≤ counter_end }
         requires numbers { self.old.handles.next_fh + length
-            (opens_in_reply (outcome_reply found_ms outcome)) ≤ 2 ^ 62 }
+            (opens_in_reply (outcome_reply found_ms outcome)) ≤ counter_end }
         requires counted { AreHeldBelow self.old.nodes }
         requires day { found_ms ≤ max_validity }
         ensures gives { GivesNumbers self.old (outcome_reply found_ms outcome) result self.new }
@@ -87,7 +87,7 @@ impl<S: NodeStore> Files<S> {
         requires room { length (names_in records.items) ≤ self.old.node_room }
         requires spare { HasSpare spare 0 (length (names_in records.items)) }
         requires generations { generations_after self.old.nodes
-            (files_listed (map (pair_listed 0) (names_in records.items))) ≤ 2 ^ 62 }
+            (files_listed (map (pair_listed 0) (names_in records.items))) ≤ counter_end }
         requires counted { AreHeldBelow self.old.nodes }
         requires day { found_ms ≤ max_validity }
         ensures given { GivenEach self.old.nodes (files_listed
@@ -119,7 +119,7 @@ impl<S: NodeStore> Files<S> {
         requires few { length (names_in records.now) ≤ 32 }
         requires room { length (names_in records.now) ≤ self.old.node_room }
         requires generations { generations_after self.old.nodes
-            (files_listed (map (pair_listed 0) (names_in records.now))) ≤ 2 ^ 62 }
+            (files_listed (map (pair_listed 0) (names_in records.now))) ≤ counter_end }
         requires counted { AreHeldBelow self.old.nodes }
         ensures given { GivenEach self.old.nodes (files_listed
             (map (pair_listed 0) (names_in records.now))) self.new.nodes }
@@ -137,7 +137,7 @@ impl<S: NodeStore> Files<S> {
         requires few { length (listed_in records) ≤ 32 }
         requires room { length (listed_in records) ≤ self.old.node_room }
         requires generations { generations_after self.old.nodes
-            (files_listed (map (pair_listed 0) (listed_in records))) ≤ 2 ^ 62 }
+            (files_listed (map (pair_listed 0) (listed_in records))) ≤ counter_end }
         requires counted { AreHeldBelow self.old.nodes }
         ensures given { GivenEach self.old.nodes (files_listed
             (map (pair_listed 0) (listed_in records.entry))) self.new.nodes }
@@ -151,11 +151,11 @@ impl<S: NodeStore> Files<S> {
 
     /// Counts a lookup of the file of a name, unless that is `.` or `..`.
     fn give_named(&mut self, name: &[u8], file: u64)
-        requires file { file < 2 ^ 62 }
+        requires file { file < counter_end }
         requires there { IsThere self.old.tree file }
         requires room { 0 < self.old.node_room }
         requires generations { generations_after self.old.nodes
-            (first_listed (cond (is_dots name.now) None (Some file)) []) ≤ 2 ^ 62 }
+            (first_listed (cond (is_dots name.now) None (Some file)) []) ≤ counter_end }
         requires counted { AreCounted (2 ^ 63) self.old.nodes }
         ensures given { GivenEach self.old.nodes (first_listed
             (cond (is_dots name.now) None (Some file)) []) self.new.nodes }
@@ -197,7 +197,7 @@ impl<S: NodeStore> Files<S> {
 
     /// The entry of a file: by its node, or by the root's where it has none.
     fn entry_of(&self, file: u64) -> Entry
-        requires { file < 2 ^ 62 }
+        requires { file < counter_end }
         ensures { result ≡ entry_for (node_in self.now.nodes.rows) self.now.nodes self.now.tree file }
     {
         let nodes = &self.known.nodes;
@@ -212,10 +212,10 @@ impl<S: NodeStore> Files<S> {
     /// Counts a lookup of a file, and gives the entry with its node.
     #[inline(always)]
     fn give(&mut self, file: u64) -> Entry
-        requires file { file < 2 ^ 62 }
+        requires file { file < counter_end }
         requires there { IsThere self.old.tree file }
         requires room { 0 < self.old.node_room }
-        requires generation { IsUnheld self.old.nodes file → self.old.nodes.next_generation < 2 ^ 62 }
+        requires generation { IsUnheld self.old.nodes file → self.old.nodes.next_generation < counter_end }
         requires counted { AreCounted (2 ^ 63) self.old.nodes }
         ensures gives { GivesEntry self.old.tree self.old.nodes file self.new.nodes result }
         ensures node { result.nodeid ≢ 0 }
@@ -236,7 +236,7 @@ impl<S: NodeStore> Files<S> {
     /// Gives a file the next open number.
     fn open(&mut self, file: u64) -> u64
         requires room { 0 < self.old.open_room }
-        requires number { self.old.handles.next_fh < 2 ^ 62 }
+        requires number { self.old.handles.next_fh < counter_end }
         requires regular { IsTrue (is_regular self.old.tree file) }
         ensures fh { result ≡ self.old.handles.next_fh }
         ensures handles { self.new.handles ≡ handle_opened self.old.handles file }

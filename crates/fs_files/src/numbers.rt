@@ -1,8 +1,9 @@
 //! Whether the counters have the numbers that a held request draws.
 
-ghost use Rattle.std.specs.Prelude.{◌≡◌, ◌≤◌, ◌<◌, ◌+◌, ◌^◌, ◌⊎◌, ℕ, List, true, false, length, nat_le};
+ghost use Rattle.std.specs.Prelude.{◌≡◌, ◌≤◌, ◌<◌, ◌+◌, ◌⊎◌, ℕ, List, true, false, length, nat_le};
 ghost use Rattle.fuse_spec.specs.Kernel.Messages.{asks};
 ghost use Rattle.fuse_spec.specs.Server.Nodes.{counts_out};
+ghost use Rattle.fuse_spec.specs.Values.Numbers.{counter_end};
 ghost use Rattle.fuse_spec.specs.declared.Minor.{Minor as MinorValue};
 ghost use Rattle.fuse_spec.specs.declared.Validity.{Validity as ValidityValue};
 ghost use Rattle.fs_files.specs.Bounds.{AreHeldBelow};
@@ -52,11 +53,11 @@ impl<S: NodeStore> Files<S> {
     /// Whether each counter has as many numbers left as any request draws, so that none need be planned.
     #[inline(always)]
     fn has_numbers_for_any(&self) -> bool
-        ensures births { result ≡ true → self.now.tree.next_birth < 2 ^ 62 }
-        ensures serials { result ≡ true → self.now.tree.next_serial < 2 ^ 62 }
-        ensures numbers { result ≡ true → self.now.handles.next_fh < 2 ^ 62 }
+        ensures births { result ≡ true → self.now.tree.next_birth < counter_end }
+        ensures serials { result ≡ true → self.now.tree.next_serial < counter_end }
+        ensures numbers { result ≡ true → self.now.handles.next_fh < counter_end }
         ensures nodes { result ≡ true → (files : List ℕ) → length files ≤ 32
-            → (generations_after self.now.nodes files ≤ 2 ^ 62) × (counts_out self.now.nodes files ≡ false) }
+            → (generations_after self.now.nodes files ≤ counter_end) × (counts_out self.now.nodes files ≡ false) }
     {
         self.tree.births_left() > 0
             && self.tree.serials_left() > 0
@@ -95,9 +96,9 @@ impl<S: NodeStore> Files<S> {
     /// comes to its end.
     fn can_give_nodes(&self, files: &[u64]) -> bool
         requires { AreHeldBelow self.now.nodes }
-        ensures can { result ≡ true → (generations_after self.now.nodes files.now ≤ 2 ^ 62)
+        ensures can { result ≡ true → (generations_after self.now.nodes files.now ≤ counter_end)
             × (counts_out self.now.nodes files.now ≡ false) }
-        ensures cannot { result ≡ false → (2 ^ 62 < generations_after self.now.nodes files.now)
+        ensures cannot { result ≡ false → (counter_end < generations_after self.now.nodes files.now)
             ⊎ (counts_out self.now.nodes files.now ≡ true) }
     {
         let nodes = &self.known.nodes;
@@ -106,7 +107,7 @@ impl<S: NodeStore> Files<S> {
 
     /// Whether so many open numbers are left.
     fn can_open(&self, opens: u64) -> bool
-        ensures { result ≡ nat_le (self.now.handles.next_fh + opens) (2 ^ 62) }
+        ensures { result ≡ nat_le (self.now.handles.next_fh + opens) counter_end }
     {
         opens <= self.known.handles.numbers_left()
     }

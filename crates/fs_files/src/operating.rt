@@ -1,9 +1,9 @@
 //! Operations that nothing refuses.
 
-ghost use Rattle.std.specs.Prelude.{◌≡◌, ◌≤◌, ◌<◌, ◌^◌, true, None, IfOk, OnErr, OnOk, map};
+ghost use Rattle.std.specs.Prelude.{◌≡◌, ◌≤◌, ◌<◌, true, None, IfOk, OnErr, OnOk, map};
 ghost use Rattle.fuse_spec.specs.declared.Validity.{Validity as ValidityValue};
 ghost use Rattle.fuse_spec.specs.Files.FileOperations.{refusal, tree_unrefused};
-ghost use Rattle.fuse_spec.specs.Values.Numbers.{max_validity};
+ghost use Rattle.fuse_spec.specs.Values.Numbers.{counter_end, max_validity};
 ghost use Rattle.fuse_spec.specs.Files.Operations.{create, getattr, link, lookup, mkdir, read, rename, rmdir, unlink, write};
 ghost use Rattle.fuse_spec.specs.Files.TreeShape.{WritesRegular};
 ghost use Rattle.fs_files.specs.Bounds.{AreLow, AreThere, IsThere};
@@ -32,8 +32,8 @@ pub(crate) fn operate<A: Allocator + Copy, S: NodeStore>(
     alloc: A,
 ) -> Result<Outcome<A>, AllocError>
     requires unrefused { refusal tree.old (on_files nodes.now.table operation.now) ≡ None }
-    requires births { (tree_unrefused tree.old (on_files nodes.now.table operation.now)).next_birth ≤ 2 ^ 62 }
-    requires serials { (tree_unrefused tree.old (on_files nodes.now.table operation.now)).next_serial ≤ 2 ^ 62 }
+    requires births { (tree_unrefused tree.old (on_files nodes.now.table operation.now)).next_birth ≤ counter_end }
+    requires serials { (tree_unrefused tree.old (on_files nodes.now.table operation.now)).next_serial ≤ counter_end }
     requires low { AreLow nodes.now.table }
     requires there { AreThere tree.old nodes.now.table }
     requires regular { WritesRegular tree.old (on_files nodes.now.table operation.now) }
@@ -95,7 +95,7 @@ fn look_up<A: Allocator + Copy>(
 /// A GETATTR.
 #[inline(always)]
 fn attributes<A: Allocator + Copy>(tree: &Tree<A>, file: u64) -> Outcome<A>
-    requires { file < 2 ^ 62 }
+    requires { file < counter_end }
     ensures { (v : ValidityValue) → Operates v tree.now (getattr file) result tree.now }
 {
     let attributes = tree.getattr(file);
@@ -110,8 +110,8 @@ fn make_directory<A: Allocator + Copy>(
     directory: u64,
     name: &[u8],
 ) -> Result<Outcome<A>, AllocError>
-    requires births { tree.old.next_birth < 2 ^ 62 }
-    requires serials { tree.old.next_serial < 2 ^ 62 }
+    requires births { tree.old.next_birth < counter_end }
+    requires serials { tree.old.next_serial < counter_end }
     ensures ok { IfOk result (λ outcome. (v : ValidityValue)
         → Operates v tree.old (mkdir directory name.now) outcome tree.new) }
     ensures err { OnErr result (tree.new ≡ tree.old) }
@@ -128,8 +128,8 @@ fn make_file<A: Allocator + Copy>(
     directory: u64,
     name: &[u8],
 ) -> Result<Outcome<A>, AllocError>
-    requires births { tree.old.next_birth < 2 ^ 62 }
-    requires serials { tree.old.next_serial < 2 ^ 62 }
+    requires births { tree.old.next_birth < counter_end }
+    requires serials { tree.old.next_serial < counter_end }
     ensures ok { IfOk result (λ outcome. (v : ValidityValue)
         → Operates v tree.old (create directory name.now) outcome tree.new) }
     ensures err { OnErr result (tree.new ≡ tree.old) }
@@ -175,7 +175,7 @@ fn move_file<A: Allocator + Copy>(
     new: &[u8],
 ) -> Result<Outcome<A>, AllocError>
     requires unrefused { refusal tree.old (rename directory old.now new_directory new.now) ≡ None }
-    requires serials { (tree_unrefused tree.old (rename directory old.now new_directory new.now)).next_serial ≤ 2 ^ 62 }
+    requires serials { (tree_unrefused tree.old (rename directory old.now new_directory new.now)).next_serial ≤ counter_end }
     ensures ok { IfOk result (λ outcome. (v : ValidityValue)
         → Operates v tree.old (rename directory old.now new_directory new.now) outcome tree.new) }
     ensures err { OnErr result (tree.new ≡ tree.old) }
@@ -196,8 +196,8 @@ fn link_file<A: Allocator + Copy>(
     directory: u64,
     name: &[u8],
 ) -> Result<Outcome<A>, AllocError>
-    requires serials { tree.old.next_serial < 2 ^ 62 }
-    requires low { file < 2 ^ 62 }
+    requires serials { tree.old.next_serial < counter_end }
+    requires low { file < counter_end }
     requires there { IsThere tree.old file }
     ensures ok { IfOk result (λ outcome. (v : ValidityValue)
         → Operates v tree.old (link file directory name.now) outcome tree.new) }

@@ -1,6 +1,7 @@
 //! The records of a READDIR.
 
-ghost use Rattle.std.specs.Prelude.{◌≡◌, ◌<◌, ◌^◌, All, IfOk, OnOk, map};
+ghost use Rattle.std.specs.Prelude.{◌≡◌, ◌<◌, All, IfOk, OnOk, map};
+ghost use Rattle.fuse_spec.specs.Values.Numbers.{counter_end};
 ghost use Rattle.fk_wire.specs.Dirents.{dirents, HaveRecordNames};
 ghost use Rattle.fk_wire.specs.Fields.{InRange, spellings};
 ghost use Rattle.fk_wire.specs.Records.{dirent_content};
@@ -17,7 +18,7 @@ pub(crate) fn record_bytes<A: Allocator>(
     alloc: A,
     records: &[Record<'_>],
 ) -> Result<Vec<u8, A>, AllocError>
-    requires { All (λ (r : RecordValue). r.file < 2 ^ 62) records.now }
+    requires { All (λ (r : RecordValue). r.file < counter_end) records.now }
     ensures items { IfOk result (λ bytes. bytes.items ≡ spellings (dirents (map record_of records.now))) }
     ensures fits { OnOk result (InRange (dirents (map record_of records.now))) }
     ensures named { OnOk result (HaveRecordNames (map record_of records.now)) }

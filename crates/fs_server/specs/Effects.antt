@@ -1,5 +1,5 @@
 -- What each call of the server does, and what it is refused for.
-use Rattle.std.specs.Prelude.{◌≡◌, ◌<◌, ◌^◌, ℕ, Bool, true, false, nat_eq, List, Option, Some, None}
+use Rattle.std.specs.Prelude.{◌≡◌, ◌<◌, ℕ, Bool, true, false, nat_eq, List, Option, Some, None}
 use Rattle.fuse_spec.specs.Values.Maps.{get}
 use Rattle.fuse_spec.specs.Kernel.Messages.{Forget, RequestBody, Request, WireReply}
 use Rattle.fuse_spec.specs.Files.Operations.{errno_of}
@@ -11,6 +11,7 @@ use Rattle.fuse_spec.specs.Server.Copies.{given_back, files_named, handles_back,
 use Rattle.fuse_spec.specs.Server.Taking.{taking}
 use Rattle.fuse_spec.specs.Kernel.Refusals.{refusal_in, accepted}
 use Rattle.fuse_spec.specs.Server.Refusals.{is_past_end, to_perform, to_send_again}
+use Rattle.fuse_spec.specs.Values.Numbers.{counter_end}
 use Rattle.fuse_spec.specs.declared.Entry.{Entry}
 use Rattle.fuse_spec.specs.declared.ReplyResult.{ReplyResult}
 use Rattle.fuse_spec.specs.declared.Taken.{Taken}
@@ -189,7 +190,7 @@ pub record CanSendAgain (s : Server) (unique : ℕ) : Type 0 where
   pub there : get s.kept unique ≡ Some kept
   pub current : is_current s kept.wire ≡ true
   pub counts : counts_out s.nodes (files_named s kept.wire) ≡ false
-  pub number : s.next_copy < 2 ^ 62
+  pub number : s.next_copy < counter_end
 
 -- One more copy of a kept reply is sent, and what it names is counted once more.
 pub record SendsAgain (old : Server) (unique : ℕ) (copy : Sent) (new : Server) : Type 0 where

@@ -1,7 +1,7 @@
 -- What is true of the server after each event.
-use Rattle.std.specs.Prelude.{◌≡◌, ◌≢◌, ◌≤◌, ◌^◌, ℕ, None}
+use Rattle.std.specs.Prelude.{◌≡◌, ◌≢◌, ◌≤◌, ℕ, None}
 use Rattle.fuse_spec.specs.Values.Maps.{Map, get}
-use Rattle.fuse_spec.specs.Values.Numbers.{max_validity}
+use Rattle.fuse_spec.specs.Values.Numbers.{counter_end, max_validity}
 use Rattle.fuse_spec.specs.declared.Validity.{Validity}
 use Rattle.fs_files.specs.Bounds.{AreHeldBelow, AreNamed, AreUsed}
 use Rattle.fs_files.specs.Values.{FilesState}
@@ -20,6 +20,6 @@ pub record IsSound {V W X : Type 0} (files : FilesState) (held : Map V) (kept : 
   pub below : AreHeldBelow files.nodes
   pub used : AreUsed coming files.handles
   pub named : AreNamed files.tree files.nodes files.handles
-  pub numbers : coming ≤ 2 ^ 62
+  pub numbers : coming ≤ counter_end
   pub found_day : validity.found_ms ≤ max_validity
   pub missing_day : validity.missing_ms ≤ max_validity

@@ -1,5 +1,5 @@
 -- What is taken of a request, by its node and by what it asks.
-use Rattle.std.specs.Prelude.{◌≡◌, ◌<◌, ◌^◌, ℕ, Bool, true, false, ◌||◌, not, List, [], ◌∷◌, None, map, nat_lt, is_some}
+use Rattle.std.specs.Prelude.{◌≡◌, ◌<◌, ℕ, Bool, true, false, ◌||◌, not, List, [], ◌∷◌, None, map, nat_lt, is_some}
 use Rattle.std.specs.List.{list_all, list_any}
 use Rattle.fuse_spec.specs.Values.Maps.{get}
 use Rattle.fuse_spec.specs.Kernel.Messages.{Forget, RequestBody, forget, batch_forget, interrupt}
@@ -11,6 +11,7 @@ use Rattle.fk_wire.specs.Requests as wire
 use Rattle.fk_wire.specs.Requests.{RequestContent, RequestMessage, Spells}
 use Rattle.fuse_frames.specs.RequestTies.{body_in, body_or}
 use Rattle.fuse_spec.specs.Server.Refusals.{is_past_end}
+use Rattle.fuse_spec.specs.Values.Numbers.{counter_end}
 
 -- what a request of this node asks
 abbrev pub body_of : ℕ → RequestContent → RequestBody
@@ -93,4 +94,4 @@ pub record IsTakeable (s : Server) (bytes : List ℕ) (m : RequestMessage) : Typ
   pub only : (n : RequestMessage) → Spells bytes n → m ≡ n
   pub faultless : IsFaultless s m.unique m.nodeid m.content
   pub within : is_past_end s ≡ false
-  pub number : answers s m.nodeid m.content ≡ true → s.next_copy < 2 ^ 62
+  pub number : answers s m.nodeid m.content ≡ true → s.next_copy < counter_end

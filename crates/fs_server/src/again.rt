@@ -1,11 +1,12 @@
 //! More copies of kept replies are sent.
 
-ghost use Rattle.std.specs.Prelude.{◌≡◌, ◌^◌, ◌⊎◌, ◌&&◌, false, OnErr, IfOk, IfErr, IfSome, IfNone, is_some};
+ghost use Rattle.std.specs.Prelude.{◌≡◌, ◌⊎◌, ◌&&◌, false, OnErr, IfOk, IfErr, IfSome, IfNone, is_some};
 ghost use Rattle.std.specs.List.{list_all};
 ghost use Rattle.fuse_spec.specs.Values.Maps.{get};
 ghost use Rattle.fuse_spec.specs.Server.Nodes.{counts_out, is_held};
 ghost use Rattle.fuse_spec.specs.Server.Copies.{handles_counted, rows_counted};
 ghost use Rattle.fuse_spec.specs.Files.Operations.{files_in_reply, opens_in_reply};
+ghost use Rattle.fuse_spec.specs.Values.Numbers.{counter_end};
 ghost use Rattle.fuse_spec.specs.declared.Entry.{Entry as ReplyEntry};
 ghost use Rattle.fuse_spec.specs.declared.Refusal.TheVariants.{NoMemory};
 ghost use Rattle.fs_files.specs.Bounds.{AreHeldBelow, AreUsed};
@@ -124,7 +125,7 @@ fn are_held<S: NodeStore>(files: &Files<S>, entries: &[Entry]) -> bool
 fn count_again<S: NodeStore>(files: &mut Files<S>, reply: &SentReply<S::Heap>)
     requires counts { counts_out files.old.nodes (files_of files.old.nodes (files_in_reply (sent_wire reply.now)))
         ≡ false }
-    requires used { AreUsed (2 ^ 62) files.old.handles }
+    requires used { AreUsed counter_end files.old.handles }
     ensures tree { files.new.tree ≡ files.old.tree }
     ensures nodes { files.new.nodes ≡ rows_counted files.old.nodes (files_in_reply (sent_wire reply.now)) }
     ensures handles { files.new.handles ≡ handles_counted files.old.handles (opens_in_reply (sent_wire reply.now)) }

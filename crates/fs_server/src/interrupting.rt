@@ -1,10 +1,11 @@
 //! INTERRUPTs are taken.
 
-ghost use Rattle.std.specs.Prelude.{◌≡◌, ◌<◌, ◌^◌, true, false, None, Some, OnErr, IfErr, IfOk};
+ghost use Rattle.std.specs.Prelude.{◌≡◌, ◌<◌, true, false, None, Some, OnErr, IfErr, IfOk};
 ghost use Rattle.fuse_spec.specs.Values.Maps.{get, put};
 ghost use Rattle.fuse_spec.specs.Kernel.Messages.{interrupt as asked};
 ghost use Rattle.fuse_spec.specs.Server.Server.{HeldRequest as HeldState};
 ghost use Rattle.fuse_spec.specs.Server.Taking.{taking};
+ghost use Rattle.fuse_spec.specs.Values.Numbers.{counter_end};
 ghost use Rattle.fuse_spec.specs.declared.Taken.TheVariants.{Again as AgainWord};
 ghost use Rattle.fs_server.specs.declared.server.ServerFault.TheVariants.{Memory as MemoryFault};
 ghost use Rattle.fs_server.specs.Interrupts.{AsksAgain, Interrupts};
@@ -31,7 +32,7 @@ impl<S: NodeStore> ServerOf<S> {
         unique: u64,
         original: u64,
     ) -> Result<Took<S::Heap>, ServerFault>
-        requires { is_answered_now self.old (asked original) ≡ true → self.old.next_copy < 2 ^ 62 }
+        requires { is_answered_now self.old (asked original) ≡ true → self.old.next_copy < counter_end }
         ensures refused { OnErr result (self.new ≡ self.old) }
         ensures fault { IfErr result (λ fault. fault ≡ MemoryFault) }
         ensures answered { OnErr result ((taking self.old unique (asked original)).word ≡ AgainWord) }
@@ -62,7 +63,7 @@ impl<S: NodeStore> ServerOf<S> {
 
     /// Answers an INTERRUPT with EAGAIN. The reply is not kept.
     fn ask_again(&mut self, unique: u64) -> Result<Took<S::Heap>, ServerFault>
-        requires { self.old.next_copy < 2 ^ 62 }
+        requires { self.old.next_copy < counter_end }
         ensures refused { OnErr result (self.new ≡ self.old) }
         ensures fault { IfErr result (λ fault. fault ≡ MemoryFault) }
         ensures sent { IfOk result (λ took. AsksAgain self.old unique took self.new) }
