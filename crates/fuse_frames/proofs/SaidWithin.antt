@@ -1,7 +1,7 @@
 -- Bodies of replies that go with what a call asked.
-use Rattle.std.proofs.Common.{◌≡◌, ℕ, ◌+◌, ◌-◌, ◌*◌, ◌/◌, List, [], ◌∷◌, length, map, Some, refl, ap, subst, arith}
-use Rattle.std.specs.Prelude.{nat_le, sum_by}
-use Rattle.fuse_spec.specs.Kernel.Messages.{WireReply, asks}
+use Rattle.std.proofs.Common.{◌≡◌, ℕ, ◌+◌, ◌-◌, ◌*◌, ◌/◌, true, List, [], ◌∷◌, length, map, Some, refl, ap, sym, subst, ◌∙◌, arith}
+use Rattle.std.specs.Prelude.{nat_le, sum_by, ℤ, pos}
+use Rattle.fuse_spec.specs.Kernel.Messages.{asks}
 use Rattle.fuse_spec.specs.Files.Operations as reply
 use Rattle.fk_wire.specs.Dirents.{DirentContent, DirentPlusContent, dirent_fields, dirents, direntpluses}
 use Rattle.fk_wire.specs.RecordEnds.{padding}
@@ -9,16 +9,14 @@ use Rattle.fk_wire.specs.Entries.{EntryContent, missing, found, entry_fields}
 use Rattle.fk_wire.specs.Fields.{Field, ReadsAs}
 use Rattle.std.proofs.lemmas.List.Sums.{sum_by-cons}
 use Rattle.fk_wire.specs.Opcodes.{served}
-use Rattle.fk_wire.specs.Replies.{ReplyContent, empty_reply, entry_reply, attr_reply, open_reply, bytes_reply, write_reply, create_reply, records_reply, plus_reply, reply_kind, kind_of_content, reply_body}
+use Rattle.fk_wire.specs.Replies.{ReplyContent, empty_reply, entry_reply, attr_reply, open_reply, bytes_reply, write_reply, create_reply, records_reply, plus_reply, reply_kind, kind_of_content, reply_body, SpellsReply}
 use Rattle.fuse_spec.specs.declared.Opened.{Opened}
 use Rattle.fuse_spec.specs.Files.Operations.{Operation, lookup, getattr, mkdir, create, unlink, rmdir, rename, link, opening, readdir, readdirplus, read, write}
 use Rattle.fuse_spec.specs.Kernel.Replies.{goes_with}
 use Rattle.fuse_spec.specs.Files.Trees.{record_length, pair_length}
 use Rattle.fuse_frames.specs.ReplyTies.{wire_body, dirent_in, pair_in}
 use Rattle.fuse_frames.specs.RequestTies.{asked_opcode}
-use Rattle.fuse_frames.specs.DecodedReplies.{Says}
 use Rattle.fuse_frames.specs.ReplySaid.{is_within}
-use Rattle.fuse_frames.proofs.ReplyCases.{by_reply}
 
 -- a record with its padding
 pad_is : (n : ℕ) → 24 + n + padding n ≡ (31 + n) / 8 * 8
@@ -65,7 +63,7 @@ pairs_end (p ∷ ps) place bytes reads =
 fits : (operation : Operation ℕ Opened) (content : ReplyContent) (bytes : List ℕ)
     → reply_kind served (asked_opcode (asks operation)) ≡ Some (kind_of_content content)
     → ReadsAs 16 (reply_body content) bytes
-    → goes_with operation (wire_body content) ≡ is_within operation (length bytes) (wire_body content)
+    → goes_with operation (wire_body content) ≡ is_within operation (length bytes) content
 fits (lookup d w) (entry_reply (missing s n)) bytes is reads = refl
 fits (lookup d w) (entry_reply (found x g s n a)) bytes is reads = refl
 fits (lookup d w) content bytes is reads = cc
@@ -105,27 +103,32 @@ fits (read o f size) content bytes is reads = cc
 fits (write o f b) (write_reply n) bytes is reads = refl
 fits (write o f b) content bytes is reads = cc
 
--- an error goes with any
-failed_goes : (operation : Operation ℕ Opened) (len errno : ℕ)
-    → goes_with operation (reply.failed errno) ≡ is_within operation len (reply.failed errno)
-failed_goes (lookup d w) len errno = refl
-failed_goes (getattr x) len errno = refl
-failed_goes (mkdir d n) len errno = refl
-failed_goes (create d n) len errno = refl
-failed_goes (unlink d n) len errno = refl
-failed_goes (rmdir d n) len errno = refl
-failed_goes (rename d o e n) len errno = refl
-failed_goes (link x d n) len errno = refl
-failed_goes (opening x) len errno = refl
-failed_goes (readdir d a z) len errno = refl
-failed_goes (readdirplus d a z) len errno = refl
-failed_goes (read o f z) len errno = refl
-failed_goes (write o f b) len errno = refl
+-- a body without an error
+pub content_fits : (operation : Operation ℕ Opened) (bytes : List ℕ) (unique : ℕ) (error : ℤ) (content : ReplyContent)
+    → error ≡ pos 0 → SpellsReply (asked_opcode (asks operation)) bytes
+    (record { unique = unique; error = error; content = content })
+    → goes_with operation (wire_body content) ≡ is_within operation (length bytes) content
+content_fits operation bytes unique error content none spells =
+    by (subst (λ (z : ℤ). SpellsReply (asked_opcode (asks operation)) bytes
+    (record { unique = unique; error = z; content = content })) none spells)
+  where
+    by : SpellsReply (asked_opcode (asks operation)) bytes
+        (record { unique = unique; error = pos 0; content = content })
+        → goes_with operation (wire_body content) ≡ is_within operation (length bytes) content
+    by s = fits operation content bytes (s.2.1 ∙ ap Some (sym s.2.2)) s.5.1.1.1
 
--- What is said to an operation goes with it if it is within what was asked.
-pub says_within : (operation : Operation ℕ Opened) (bytes : List ℕ) (wire : WireReply)
-    → Says (asked_opcode (asks operation)) bytes wire → goes_with operation wire ≡ is_within operation (length bytes) wire
-says_within operation bytes =
-    by_reply (asked_opcode (asks operation)) bytes
-    (λ (wire : WireReply). goes_with operation wire ≡ is_within operation (length bytes) wire)
-    (failed_goes operation (length bytes)) (λ content is reads. fits operation content bytes is reads)
+-- an error goes with any
+pub failed_goes : (operation : Operation ℕ Opened) (errno : ℕ) → goes_with operation (reply.failed errno) ≡ true
+failed_goes (lookup d w) errno = refl
+failed_goes (getattr x) errno = refl
+failed_goes (mkdir d n) errno = refl
+failed_goes (create d n) errno = refl
+failed_goes (unlink d n) errno = refl
+failed_goes (rmdir d n) errno = refl
+failed_goes (rename d o e n) errno = refl
+failed_goes (link x d n) errno = refl
+failed_goes (opening x) errno = refl
+failed_goes (readdir d a z) errno = refl
+failed_goes (readdirplus d a z) errno = refl
+failed_goes (read o f z) errno = refl
+failed_goes (write o f b) errno = refl

@@ -2,6 +2,7 @@
 use Rattle.std.specs.Prelude.{◌≡◌, ◌≤◌, ℕ, ◌-◌, Bool, true, List, length, map, nat_le}
 use Rattle.std.specs.Borrow.{Bor}
 use Rattle.fk_wire.specs.Records.{records_in, pluses_in}
+use Rattle.fk_wire.specs.Replies.{ReplyContent, write_reply}
 use Rattle.fk_wire.specs.declared.records.Records.{Records}
 use Rattle.fk_wire.specs.declared.records_plus.RecordsPlus.{RecordsPlus}
 use Rattle.fuse_spec.specs.declared.Entry.{Entry}
@@ -44,13 +45,10 @@ pub record SaysTo (operation : Operation ℕ Opened) (bytes : List ℕ) (said : 
   pub goes : goes_with operation (wire_of said) ≡ true
   pub day : LastsADay said
 
--- Whether what a frame of so many bytes says is no longer than was asked, nor tells of more written than was sent.
-abbrev pub is_within : Operation ℕ Opened → ℕ → WireReply → Bool
-is_within (readdir d after size) len (reply.failed errno) = true
-is_within (readdir d after size) len wire = nat_le (len - 16) size
-is_within (readdirplus d after size) len (reply.failed errno) = true
-is_within (readdirplus d after size) len wire = nat_le (len - 16) size
-is_within (read o offset size) len (reply.failed errno) = true
-is_within (read o offset size) len wire = nat_le (len - 16) size
-is_within (write o offset bytes) len (reply.written size) = nat_le size (length bytes)
-is_within operation len wire = true
+-- Whether a body in a frame of so many bytes is no longer than was asked, nor tells of more written than was sent.
+abbrev pub is_within : Operation ℕ Opened → ℕ → ReplyContent → Bool
+is_within (readdir d after size) len content = nat_le (len - 16) size
+is_within (readdirplus d after size) len content = nat_le (len - 16) size
+is_within (read o offset size) len content = nat_le (len - 16) size
+is_within (write o offset bytes) len (write_reply size) = nat_le size (length bytes)
+is_within operation len content = true

@@ -123,21 +123,17 @@ pub fn said_to<'a>(opcode: Opcode, head: ReplyHead, bytes: &'a [u8]) -> Option<R
     Some(said_by(body))
 }
 
-/// Whether what a frame of so many bytes says is no longer than was asked, nor tells of more written than was sent. An
-/// error is.
+/// Whether a body in a frame of so many bytes is no longer than was asked, nor tells of more written than was sent.
 #[inline(always)]
-fn is_within_asked(asked: &Operation<&[u8]>, len: usize, said: &ReplySaid<'_>) -> bool
-    ensures { result ≡ is_within (operation_of (λ s. s.now) asked.now) len (wire_of said.now) }
+fn is_within_asked(asked: &Operation<&[u8]>, len: usize, body: &ReplyBody<'_>) -> bool
+    ensures { result ≡ is_within (operation_of (λ s. s.now) asked.now) len (reply_content body.now) }
 {
     match asked {
         Operation::Readdir { size, .. }
         | Operation::Readdirplus { size, .. }
-        | Operation::Read { size, .. } => match said {
-            Reply::Failed { .. } => true,
-            _ => len.saturating_sub(16) <= *size as usize,
-        },
-        Operation::Write { bytes, .. } => match said {
-            Reply::Written { size } => *size as usize <= bytes.len(),
+        | Operation::Read { size, .. } => len.saturating_sub(16) <= *size as usize,
+        Operation::Write { bytes, .. } => match body {
+            ReplyBody::Write { size } => *size as usize <= bytes.len(),
             _ => true,
         },
         _ => true,
@@ -157,11 +153,14 @@ pub fn said_to_call<'a>(
         → Says (asked_opcode (asks (operation_of (λ s. s.now) asked.now))) bytes.now wire
         → goes_with (operation_of (λ s. s.now) asked.now) wire ≡ false) }
 {
-    let Some(said) = said_to(opcode_asked(asked), head, bytes) else {
+    let Ok(body) = read_reply_body(head, opcode_asked(asked), bytes) else {
         return None;
     };
-    if !is_within_asked(asked, bytes.len(), &said) {
+    if let Some(errno) = failure(head.error) {
+        return Some(Reply::Failed { errno });
+    }
+    if !is_within_asked(asked, bytes.len(), &body) {
         return None;
     }
-    Some(said)
+    Some(said_by(body))
 }
