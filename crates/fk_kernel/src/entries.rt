@@ -187,7 +187,7 @@ impl<Q: QueueTable<Purpose> + Drop, C: CountTable<Heap = Q::Heap> + Drop> Kernel
         ensures refusal { IfErr result (λ refusal. refusal ≡ Refusal.NoMemory) }
         ensures ok { OnOk result (self.new ≡ record self.old { queues = after_forget self.old.queues node 1 }) }
     {
-        let Some(forgets) = self.nodes.most().checked_add(1) else {
+        let Some(forgets) = self.nodes.node_count().checked_add(1) else {
             return Err(Refusal::NoMemory);
         };
         let Ok(()) = self.queues.reserve(0, forgets) else {
@@ -218,7 +218,7 @@ impl<Q: QueueTable<Purpose> + Drop, C: CountTable<Heap = Q::Heap> + Drop> Kernel
         ensures ok { OnOk result (reply_written self.old unique (reply.found entry.now valid_ms)
             ≡ (WriteResult.Accepted, self.new)) }
     {
-        let Some(forgets) = self.nodes.most().checked_add(1) else {
+        let Some(forgets) = self.nodes.node_count().checked_add(1) else {
             return Err(Refusal::NoMemory);
         };
         let Some(requests) = self.closing.len().checked_add(1) else {
@@ -269,7 +269,7 @@ impl<Q: QueueTable<Purpose> + Drop, C: CountTable<Heap = Q::Heap> + Drop> Kernel
         ensures ok { OnOk result (reply_written self.old unique (reply.found entry.now valid_ms)
             ≡ (WriteResult.Accepted, self.new)) }
     {
-        let Some(forgets) = self.nodes.most().checked_add(1) else {
+        let Some(forgets) = self.nodes.node_count().checked_add(1) else {
             return Err(Refusal::NoMemory);
         };
         let Ok(()) = self.queues.reserve(0, forgets) else {
@@ -306,7 +306,7 @@ impl<Q: QueueTable<Purpose> + Drop, C: CountTable<Heap = Q::Heap> + Drop> Kernel
         ensures ok { OnOk result (reply_written self.old unique (reply.created entry.now valid_ms fh)
             ≡ (WriteResult.Accepted, self.new)) }
     {
-        let Some(forgets) = self.nodes.most().checked_add(1) else {
+        let Some(forgets) = self.nodes.node_count().checked_add(1) else {
             return Err(Refusal::NoMemory);
         };
         let Ok(()) = self.queues.reserve(0, forgets) else {

@@ -63,7 +63,7 @@ impl<C: CountTable> CountedNodes<C> {
     }
 
     /// How many nodes are counted.
-    pub fn most(&self) -> usize
+    pub fn node_count(&self) -> usize
         ensures { result ≡ length self.now }
     {
         self.len

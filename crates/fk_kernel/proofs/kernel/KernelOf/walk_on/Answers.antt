@@ -109,7 +109,7 @@ invariant_of-self-in-Waits g c =
     let kept = c.answer-kept.ensures.room.forgets in
     let reserved = c.in-Ok.ensures.forgets in
     let queued = c.enqueue-unique.ensures.forgets_room in
-    let most = c.most.ensures in
+    let most = c.node_count.ensures in
     let room : length k.nodes + 1 ≤ (g.Q.QueueTable.room c.answer-kept.new.self).forgets =
     omega (arith, c.in-Some.ensures) in
     let fits = rw (← c.self.view_is) at c.requires.fits in
@@ -154,7 +154,7 @@ invariant_of-self-in-Answered g c =
     let there = there_is (get k.calls.entries c.args.call) (ap is_some here) in
     let kept = c.answer-kept.ensures.room.forgets in
     let reserved = c.in-Ok.ensures.forgets in
-    let most = c.most.ensures in
+    let most = c.node_count.ensures in
     let room : length k.nodes + 1 ≤ (g.Q.QueueTable.room c.answer-kept.new.self).forgets =
     omega (arith, c.in-Some.ensures) in
     let fits = rw (← c.self.view_is) at c.requires.fits in
