@@ -111,9 +111,9 @@ impl<S: NodeStore> ServerOf<S> {
         let errno = errno(&reply);
         let copy = ReplyCopy::new(number, framed(&reply, room, unique));
         let sent = SentCopy::new(unique, copied(&reply, spare_copy), number);
-        let _held = self.held.remove(unique);
-        self.kept.put(unique, KeptReply::new(reply, number));
         self.copies.put(number, sent);
+        self.kept.put(unique, KeptReply::new(reply, number));
+        let _held = self.held.remove(unique);
         self.next_copy = number + 1;
         Ok(Done {
             errno,
