@@ -3,11 +3,11 @@
 ghost use Rattle.std.specs.Prelude.{◌≡◌, ◌≢◌, ℕ, ◌↔◌, ◌||◌, true, false, None, nat_lt, not, is_some, IsTrue, IfErr, IfOk, IfNone, IfSome};
 ghost use Rattle.std.specs.List.{list_all, list_any};
 ghost use Rattle.fuse_spec.specs.Values.Maps.{get};
-ghost use Rattle.fuse_spec.specs.Server.Server.{count_in, forgotten, is_forgettable, is_known, nodes_of_body};
+ghost use Rattle.fuse_spec.specs.Server.Server.{count_in, forgotten, is_forgettable};
 ghost use Rattle.fk_wire.specs.Pairs.{pairs_in};
 ghost use Rattle.fk_wire.specs.declared.opcode.Opcode.TheVariants as op;
 ghost use Rattle.fk_wire.specs.Requests.{RequestMessage, Spells, opcode_of, request_content, request_message};
-ghost use Rattle.fuse_frames.specs.RequestTies.{AsksNothing, body_asking, body_in};
+ghost use Rattle.fuse_frames.specs.RequestTies.{body_in};
 ghost use Rattle.fs_server.specs.declared.server.ServerFault.TheVariants.{Memory as MemoryFault};
 ghost use Rattle.fs_server.specs.Effects.{AnswersFrame, CanTake, RefusesFrame, request_fault};
 ghost use Rattle.fs_server.specs.Taking.{IsFaultless, IsTakeable, answers, forgets_too_many, is_spoken, knows};
@@ -16,11 +16,10 @@ use crate::server::{ServerFault, ServerOf};
 use fk_wire::{
     Opcode, Pairs, Request, RequestBody, opcode_of_code, read_request, read_request_head,
 };
-use fs_files::{Nodes, body_node, header_node};
+use fs_files::Nodes;
 use fs_nodes::NodeStore;
-use fuse_frames::operation_asked;
+use fuse_spec::Minor;
 use fuse_spec::limits::COUNTER_END;
-use fuse_spec::{Minor, Operation};
 
 impl<S: NodeStore> ServerOf<S> {
     /// Why `take` refuses a frame, want of memory aside. Where it gives none, only memory can be wanting.
@@ -78,6 +77,7 @@ impl<S: NodeStore> ServerOf<S> {
     }
 
     /// What is wrong with a request, want of memory and of a number aside.
+    #[inline(always)]
     fn request_fault(&self, request: &Request<'_>) -> Option<ServerFault>
         ensures fault { result ≡ request_fault self.now request.now.unique
             (body_in request.now.nodeid (request_content request.now.body)) }
@@ -136,36 +136,19 @@ fn is_spoken(minor: Minor, nodeid: u64, body: &RequestBody<'_>) -> bool
 }
 
 /// Whether each node is held that a request names or whose lookups it gives back.
+#[inline(always)]
 fn names_known<S: NodeStore>(nodes: &Nodes<S>, nodeid: u64, body: &RequestBody<'_>) -> bool
-    ensures { result ≡ knows nodes.now.table nodeid (request_content body.now) }
-{
-    match operation_asked(nodeid, body) {
-        Some(operation) => operation_known(nodes, &operation),
-        None => others_known(nodes, nodeid, body),
-    }
-}
-
-/// The same of an operation.
-fn operation_known<S: NodeStore>(nodes: &Nodes<S>, operation: &Operation<&[u8]>) -> bool
-    ensures { result ≡ list_all (is_known nodes.now.table) (nodes_of_body (body_asking operation.now)) }
-{
-    let is_known = nodes.is_known(header_node(operation));
-    match body_node(operation) {
-        Some(other) => is_known && nodes.is_known(other),
-        None => is_known,
-    }
-}
-
-/// The same of a request that asks no operation.
-fn others_known<S: NodeStore>(nodes: &Nodes<S>, nodeid: u64, body: &RequestBody<'_>) -> bool
-    requires { AsksNothing (body_in nodeid (request_content body.now)) }
     ensures { result ≡ knows nodes.now.table nodeid (request_content body.now) }
 {
     match body {
         RequestBody::Forget { .. } => nodes.is_counted(nodeid),
         RequestBody::BatchForget { pairs } => are_counted(nodes, *pairs),
-        RequestBody::Release { .. } => nodes.is_known(nodeid),
-        _ => true,
+        RequestBody::Init { .. } | RequestBody::Interrupt { .. } => true,
+        RequestBody::Rename { newdir, .. } => nodes.is_known(nodeid) && nodes.is_known(*newdir),
+        RequestBody::Link { oldnodeid, .. } => {
+            nodes.is_known(nodeid) && nodes.is_known(*oldnodeid)
+        }
+        _ => nodes.is_known(nodeid),
     }
 }
 

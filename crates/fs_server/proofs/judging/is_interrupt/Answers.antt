@@ -1,4 +1,3 @@
-use Rattle.std.proofs.Common.{sym, ◌∙◌}
 use Rattle.fk_wire.specs.Opcodes.{served}
 use Rattle.fk_wire.proofs.OneRequest.{no_fault}
 use Rattle.fs_server.proofs.judging.is_interrupt.Goals as goal
