@@ -1,12 +1,15 @@
-//! Steps of a kernel, and what each must give.
+//! Steps of a kernel over any tables, and what each must give. A method that is called of a kernel over maps and slabs costs some six
+//! seconds more to check than one of a kernel over any.
 
 use crate::tests::digits::{spells, unhex};
 use crate::tests::tried::{Outcome, Tried, judged, run_all};
 use fail_at::FailAt;
-use fk_kernel::{Answer, Call, Kernel, ListedName};
+use fk_kernel::{Answer, Call, KernelOf, ListedName};
+use fk_lookup_count::{CountTable, KernelNodes};
+use fk_queues::{QueueTable, Queues};
 use fk_wire::Opcode;
 use fuse_frames::RequestFrame;
-use fuse_spec::{Attributes, IntrEffect, Kind, Refusal, WriteResult};
+use fuse_spec::{Attributes, IntrEffect, Kind, Purpose, Refusal, WriteResult};
 use std::alloc::{AllocError, Allocator, Global};
 use std::process::Abort;
 
@@ -137,24 +140,30 @@ fn read_as<A: Allocator>(
     }
 }
 
-fn mounts<A: Allocator + Copy>(kernel: &mut Kernel<A>, wanted: Result<(), Refusal>) -> Outcome {
+fn mounts<Q: QueueTable<Purpose> + Drop, C: CountTable<Heap = Q::Heap> + Drop>(
+    kernel: &mut KernelOf<Q, C>,
+    wanted: Result<(), Refusal>,
+) -> Outcome {
     gives(kernel.mount(), wanted)
 }
 
-fn gives_up<A: Allocator + Copy>(kernel: &mut Kernel<A>, wanted: Result<(), Refusal>) -> Outcome {
+fn gives_up<Q: QueueTable<Purpose> + Drop, C: CountTable<Heap = Q::Heap> + Drop>(
+    kernel: &mut KernelOf<Q, C>,
+    wanted: Result<(), Refusal>,
+) -> Outcome {
     gives(kernel.abort(), wanted)
 }
 
-fn begins<A: Allocator + Copy>(
-    kernel: &mut Kernel<A>,
+fn begins<Q: QueueTable<Purpose> + Drop, C: CountTable<Heap = Q::Heap> + Drop>(
+    kernel: &mut KernelOf<Q, C>,
     call: Call<'_>,
     wanted: Result<u64, Refusal>,
 ) -> Outcome {
     gives(kernel.begin(&call), wanted)
 }
 
-fn reads_pending<A: Allocator + Copy>(
-    kernel: &mut Kernel<A>,
+fn reads_pending<Q: QueueTable<Purpose> + Drop, C: CountTable<Heap = Q::Heap> + Drop>(
+    kernel: &mut KernelOf<Q, C>,
     alloc: Global,
     place: u64,
     wanted: Reads,
@@ -162,16 +171,16 @@ fn reads_pending<A: Allocator + Copy>(
     read_as(alloc, kernel.read_pending(place), wanted)
 }
 
-fn reads_interrupt<A: Allocator + Copy>(
-    kernel: &mut Kernel<A>,
+fn reads_interrupt<Q: QueueTable<Purpose> + Drop, C: CountTable<Heap = Q::Heap> + Drop>(
+    kernel: &mut KernelOf<Q, C>,
     alloc: Global,
     wanted: Reads,
 ) -> Outcome {
     read_as(alloc, kernel.read_interrupt(), wanted)
 }
 
-fn reads_forgets<A: Allocator + Copy>(
-    kernel: &mut Kernel<A>,
+fn reads_forgets<Q: QueueTable<Purpose> + Drop, C: CountTable<Heap = Q::Heap> + Drop>(
+    kernel: &mut KernelOf<Q, C>,
     alloc: Global,
     count: u64,
     wanted: Reads,
@@ -211,16 +220,16 @@ fn bytes_of(alloc: Global, written: Written) -> Result<Vec<u8>, AllocError> {
     }
 }
 
-fn writes<A: Allocator + Copy>(
-    kernel: &mut Kernel<A>,
+fn writes<Q: QueueTable<Purpose> + Drop, C: CountTable<Heap = Q::Heap> + Drop>(
+    kernel: &mut KernelOf<Q, C>,
     bytes: &[u8],
     wanted: WriteResult,
 ) -> Outcome {
     gives(kernel.write(bytes), Ok(wanted))
 }
 
-fn writes_row<A: Allocator + Copy>(
-    kernel: &mut Kernel<A>,
+fn writes_row<Q: QueueTable<Purpose> + Drop, C: CountTable<Heap = Q::Heap> + Drop>(
+    kernel: &mut KernelOf<Q, C>,
     alloc: Global,
     written: Written,
     wanted: WriteResult,
@@ -231,16 +240,16 @@ fn writes_row<A: Allocator + Copy>(
     }
 }
 
-fn ticks<A: Allocator + Copy>(
-    kernel: &mut Kernel<A>,
+fn ticks<Q: QueueTable<Purpose> + Drop, C: CountTable<Heap = Q::Heap> + Drop>(
+    kernel: &mut KernelOf<Q, C>,
     milliseconds: u64,
     wanted: Result<u64, Refusal>,
 ) -> Outcome {
     gives(kernel.tick(milliseconds), wanted)
 }
 
-fn drops<A: Allocator + Copy>(
-    kernel: &mut Kernel<A>,
+fn drops<Q: QueueTable<Purpose> + Drop, C: CountTable<Heap = Q::Heap> + Drop>(
+    kernel: &mut KernelOf<Q, C>,
     directory: u64,
     name: &str,
     wanted: Result<(), Refusal>,
@@ -248,16 +257,16 @@ fn drops<A: Allocator + Copy>(
     gives(kernel.drop_name(directory, name.as_bytes()), wanted)
 }
 
-fn evicts<A: Allocator + Copy>(
-    kernel: &mut Kernel<A>,
+fn evicts<Q: QueueTable<Purpose> + Drop, C: CountTable<Heap = Q::Heap> + Drop>(
+    kernel: &mut KernelOf<Q, C>,
     node: u64,
     wanted: Result<u64, Refusal>,
 ) -> Outcome {
     gives(kernel.evict(node), wanted)
 }
 
-fn interrupts<A: Allocator + Copy>(
-    kernel: &mut Kernel<A>,
+fn interrupts<Q: QueueTable<Purpose> + Drop, C: CountTable<Heap = Q::Heap> + Drop>(
+    kernel: &mut KernelOf<Q, C>,
     call: u64,
     fatal: bool,
     wanted: Result<IntrEffect, Refusal>,
@@ -298,26 +307,38 @@ fn is_told<A: Allocator>(answer: &Answer<A>, told: Told) -> bool {
 }
 
 /// Whether the lowest answered call has this number and this answer.
-fn answers<A: Allocator + Copy>(kernel: &mut Kernel<A>, number: u64, told: Told) -> bool {
+fn answers<Q: QueueTable<Purpose> + Drop, C: CountTable<Heap = Q::Heap> + Drop>(
+    kernel: &mut KernelOf<Q, C>,
+    number: u64,
+    told: Told,
+) -> bool {
     match kernel.collect() {
         Some((given, answer)) => given == number && is_told(&answer, told),
         None => false,
     }
 }
 
-fn are_unanswered<A: Allocator + Copy>(kernel: &Kernel<A>, calls: usize) -> bool {
+fn are_unanswered<Q: QueueTable<Purpose> + Drop, C: CountTable<Heap = Q::Heap> + Drop>(
+    kernel: &KernelOf<Q, C>,
+    calls: usize,
+) -> bool {
     kernel.answered() == 0 && kernel.unanswered() == calls
 }
 
-fn lists<A: Allocator + Copy>(kernel: &Kernel<A>, heap: A, nodes: &[(u64, u64, u64)]) -> Outcome {
+fn lists<Q: QueueTable<Purpose> + Drop, C: CountTable<Heap = Q::Heap> + Drop>(
+    kernel: &KernelOf<Q, C>,
+    heap: Q::Heap,
+    nodes: &[(u64, u64, u64)],
+) -> Outcome {
     match kernel.nodes(heap) {
         Ok(given) => judged(given.as_slice() == nodes),
         Err(AllocError) => Outcome::NoMemory,
     }
 }
 
-impl<A: Allocator + Copy> Tried<A, Row> for Kernel<A> {
-    fn attempt(&mut self, heap: A, alloc: Global, row: Row) -> Outcome {
+impl<Q: QueueTable<Purpose> + Drop, C: CountTable<Heap = Q::Heap> + Drop> Tried<Q::Heap, Row>
+    for KernelOf<Q, C> {
+    fn attempt(&mut self, heap: Q::Heap, alloc: Global, row: Row) -> Outcome {
         match row {
             Row::Mount(wanted) => mounts(self, wanted),
             Row::Abort(wanted) => gives_up(self, wanted),
@@ -337,7 +358,20 @@ impl<A: Allocator + Copy> Tried<A, Row> for Kernel<A> {
     }
 }
 
-/// Tries the rows of some lists on a new kernel, which takes its memory from a heap.
+/// Tries the rows of some lists on a new kernel over any tables.
+fn run_over<Q: QueueTable<Purpose> + Drop, C: CountTable<Heap = Q::Heap> + Drop>(
+    rt: &impl Abort,
+    heap: Q::Heap,
+    refusing: &FailAt<Global>,
+    alloc: Global,
+    lists: &[&[Row]],
+    name: &str,
+) {
+    let kernel: KernelOf<Q, C> = KernelOf::new(heap);
+    run_all(rt, kernel, heap, refusing, alloc, lists, name);
+}
+
+/// Tries the rows of some lists on a new kernel over maps and slabs, which takes its memory from a heap.
 fn run_on<A: Allocator + Copy>(
     rt: &impl Abort,
     heap: A,
@@ -346,8 +380,7 @@ fn run_on<A: Allocator + Copy>(
     lists: &[&[Row]],
     name: &str,
 ) {
-    let kernel: Kernel<A> = Kernel::new(heap);
-    run_all(rt, kernel, heap, refusing, alloc, lists, name);
+    run_over::<Queues<Purpose, A>, KernelNodes<A>>(rt, heap, refusing, alloc, lists, name);
 }
 
 /// Tries the rows of two lists on a new kernel, and refuses no growth.

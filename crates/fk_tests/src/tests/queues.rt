@@ -288,22 +288,24 @@ fn runs<A: Copy, T: QueueTable<u64, Heap = A> + Tried<A, Row> + Drop>(
     runs
 }
 
+/// Of each representation.
+fn runs_of_both<A: Allocator + Copy>(
+    rt: &impl Abort,
+    heap: A,
+    refusing: &FailAt<Global>,
+    alloc: Global,
+) -> (u64, u64) {
+    (
+        runs::<A, Queues<u64, A>>(rt, heap, refusing, alloc),
+        runs::<A, ListQueues<u64, A>>(rt, heap, refusing, alloc),
+    )
+}
+
 #[test]
 fn calls_with_each_growth_refused(rt: HostRuntime) -> Result<(), Fail> {
     let heap = FailAt::new(rt.alloc());
-    let of_maps = runs::<&FailAt<Global>, Queues<u64, &FailAt<Global>>>(
-        &rt,
-        &heap,
-        &heap,
-        rt.alloc(),
-    );
+    let (of_maps, of_lists) = runs_of_both(&rt, &heap, &heap, rt.alloc());
     assert!(rt; 3 < of_maps && of_maps < 60, "maps");
-    let of_lists = runs::<&FailAt<Global>, ListQueues<u64, &FailAt<Global>>>(
-        &rt,
-        &heap,
-        &heap,
-        rt.alloc(),
-    );
     assert!(rt; 3 < of_lists && of_lists < 60, "lists");
     Ok(())
 }
