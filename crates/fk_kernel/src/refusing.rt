@@ -168,7 +168,7 @@ impl<Q: QueueTable<Purpose> + Drop, C: CountTable<Heap = Q::Heap> + Drop> Kernel
             (first_use (use_of self.now.nodes entry.now) usable)) }
     {
         self.counts_within();
-        // Counts are far from their end as a rule: then one look is enough.
+        // Counts are far from their end as a rule: then no node is looked up.
         if !self.nodes.counts_out(entry) {
             return false;
         }

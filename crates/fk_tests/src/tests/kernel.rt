@@ -1,5 +1,5 @@
-//! Steps of a kernel over any tables, and what each must give. A method that is called of a kernel over maps and slabs costs some six
-//! seconds more to check than one of a kernel over any.
+//! Steps of a kernel over any tables, and what each must give: a method that is called of a kernel over maps and slabs
+//! takes some six seconds more to check.
 
 use crate::tests::digits::{spells, unhex};
 use crate::tests::tried::{Outcome, Tried, judged, run_all};
