@@ -389,7 +389,7 @@ fn run_made<S: NodeStore + Drop>(
 }
 
 /// Tries the rows of two lists on new servers with each growth refused in turn: how many runs that took.
-pub fn runs_refused<S: NodeStore + Drop>(
+fn runs_refused<S: NodeStore + Drop>(
     rt: &impl Abort,
     heap: S::Heap,
     refusing: &FailAt<Global>,
@@ -406,7 +406,36 @@ pub fn runs_refused<S: NodeStore + Drop>(
     Ok(runs)
 }
 
-/// Tries the rows of two lists on a new server over each table of nodes, and refuses no growth.
+/// The same over the table of nodes and over the list.
+pub fn runs_of_both<A: Allocator + Copy>(
+    rt: &impl Abort,
+    heap: A,
+    refusing: &FailAt<Global>,
+    alloc: Global,
+    first: &[Row],
+    rows: &[Row],
+    name: &str,
+) -> Result<(u64, u64), AllocError> {
+    let of_table = runs_refused::<NodeTable<A>>(rt, heap, refusing, alloc, first, rows, name)?;
+    let of_list = runs_refused::<ListNodes<A>>(rt, heap, refusing, alloc, first, rows, name)?;
+    Ok((of_table, of_list))
+}
+
+/// Tries the rows of two lists on a new server over the table of nodes, and on one over the list.
+fn run_both<A: Allocator + Copy>(
+    rt: &impl Abort,
+    heap: A,
+    refusing: &FailAt<Global>,
+    alloc: Global,
+    first: &[Row],
+    rows: &[Row],
+    name: &str,
+) -> Result<(), AllocError> {
+    run_made::<NodeTable<A>>(rt, heap, refusing, alloc, first, rows, name)?;
+    run_made::<ListNodes<A>>(rt, heap, refusing, alloc, first, rows, name)
+}
+
+/// The same, and refuses no growth.
 pub fn run_on_new(
     rt: &impl Abort,
     alloc: Global,
@@ -415,6 +444,5 @@ pub fn run_on_new(
     name: &str,
 ) -> Result<(), AllocError> {
     let refusing = FailAt::new(alloc);
-    run_made::<NodeTable>(rt, alloc, &refusing, alloc, first, rows, name)?;
-    run_made::<ListNodes>(rt, alloc, &refusing, alloc, first, rows, name)
+    run_both(rt, alloc, &refusing, alloc, first, rows, name)
 }

@@ -1,10 +1,8 @@
 //! Names that are listed together with their files, each of which is counted (linux/fuse.h, struct fuse_direntplus).
 
-use crate::tests::frames::{Asks, Row, run_on_new, runs_refused};
+use crate::tests::frames::{Asks, Row, run_on_new, runs_of_both};
 use fail_at::FailAt;
-use fs_nodes::{ListNodes, NodeTable};
 use fuse_spec::{Taken, WriteResult};
-use std::alloc::Global;
 use std::test::Fail;
 
 /// The directory `a`, node 2 of generation 1, and the file `bb`, node 3 of generation 2, in the reply under unique 8.
@@ -184,7 +182,7 @@ fn files_are_counted(rt: HostRuntime) -> Result<(), Fail> {
 #[test]
 fn each_growth_refused(rt: HostRuntime) -> Result<(), Fail> {
     let heap = FailAt::new(rt.alloc());
-    let of_table = runs_refused::<NodeTable<&FailAt<Global>>>(
+    let (of_table, of_list) = runs_of_both(
         &rt,
         &heap,
         &heap,
@@ -194,15 +192,6 @@ fn each_growth_refused(rt: HostRuntime) -> Result<(), Fail> {
         "copied",
     )?;
     assert!(rt; 20 < of_table && of_table < 400, "table: {of_table}");
-    let of_list = runs_refused::<ListNodes<&FailAt<Global>>>(
-        &rt,
-        &heap,
-        &heap,
-        rt.alloc(),
-        &START,
-        &COPIED,
-        "copied",
-    )?;
     assert!(rt; 20 < of_list && of_list < 400, "list: {of_list}");
     Ok(())
 }

@@ -171,22 +171,24 @@ fn runs<A: Copy, T: NodeStore<Heap = A> + Tried<A, Row> + Drop>(
     runs
 }
 
+/// Of each representation.
+fn runs_of_both<A: Allocator + Copy>(
+    rt: &impl Abort,
+    heap: A,
+    refusing: &FailAt<Global>,
+    alloc: Global,
+) -> (u64, u64) {
+    (
+        runs::<A, NodeTable<A>>(rt, heap, refusing, alloc),
+        runs::<A, ListNodes<A>>(rt, heap, refusing, alloc),
+    )
+}
+
 #[test]
 fn calls_with_each_growth_refused(rt: HostRuntime) -> Result<(), Fail> {
     let heap = FailAt::new(rt.alloc());
-    let of_table = runs::<&FailAt<Global>, NodeTable<&FailAt<Global>>>(
-        &rt,
-        &heap,
-        &heap,
-        rt.alloc(),
-    );
+    let (of_table, of_list) = runs_of_both(&rt, &heap, &heap, rt.alloc());
     assert!(rt; 4 < of_table && of_table < 40, "table");
-    let of_list = runs::<&FailAt<Global>, ListNodes<&FailAt<Global>>>(
-        &rt,
-        &heap,
-        &heap,
-        rt.alloc(),
-    );
     assert!(rt; 3 < of_list && of_list < 40, "list");
     Ok(())
 }

@@ -1,10 +1,8 @@
 //! The reply to each operation, byte for byte (linux/fuse.h), also with each growth refused in turn.
 
-use crate::tests::frames::{Asks, Row, runs_refused};
+use crate::tests::frames::{Asks, Row, runs_of_both};
 use fail_at::FailAt;
-use fs_nodes::{ListNodes, NodeTable};
 use fuse_spec::{Taken, WriteResult};
-use std::alloc::Global;
 use std::test::Fail;
 
 /// Each operation, under validities of 1.5 and 0.25 seconds. Each copy is settled.
@@ -160,7 +158,7 @@ static COPIES: [Row; 16] = [
 #[test]
 fn each_growth_refused(rt: HostRuntime) -> Result<(), Fail> {
     let heap = FailAt::new(rt.alloc());
-    let of_table = runs_refused::<NodeTable<&FailAt<Global>>>(
+    let (of_table, of_list) = runs_of_both(
         &rt,
         &heap,
         &heap,
@@ -170,15 +168,6 @@ fn each_growth_refused(rt: HostRuntime) -> Result<(), Fail> {
         "replies",
     )?;
     assert!(rt; 40 < of_table && of_table < 400, "table: {of_table}");
-    let of_list = runs_refused::<ListNodes<&FailAt<Global>>>(
-        &rt,
-        &heap,
-        &heap,
-        rt.alloc(),
-        &REPLIES,
-        &COPIES,
-        "replies",
-    )?;
     assert!(rt; 40 < of_list && of_list < 400, "list: {of_list}");
     Ok(())
 }
