@@ -10,4 +10,5 @@ mod lines;
 mod over_links;
 mod over_lists;
 mod rows;
+mod stepped;
 mod want;

@@ -1,6 +1,7 @@
 //! An envelope that is carried over a link in order, and to a reader that has it to give.
 
-ghost use Rattle.std.specs.Prelude.{◌≡◌};
+ghost use Rattle.std.specs.Prelude.{◌≡◌, []};
+ghost use Rattle.fw_link.specs.Carrying.{IsEmpty};
 
 use super::cutting::REQUEST;
 use fw_link::{
@@ -55,7 +56,28 @@ impl<L: LinkInOrder + Drop> LinkInOrder for Watched<L> {
         L.stays_idle first.link last.link h idle carried whole };
 }
 
-/// Whether the request is carried over a link in memory, and what was put and what was got are its bytes.
+/// Whether the request is carried over a watched link, and what was put and what was got are its bytes.
+fn carries<L: LinkInOrder + Drop>(
+    cutter: &mut Cutter,
+    carrier: &mut Carrier,
+    watched: &mut Watched<L>,
+) -> bool
+    requires empty { IsEmpty carrier.old }
+    requires idle { L.is_idle watched.old.link }
+{
+    let is_cut = cutter.feed(&REQUEST).is_ok();
+    let is_carried = match cutter.envelope() {
+        Some(envelope) => carrier
+            .carry_in_order(watched, Side::Kernel, &envelope)
+            .is_ok(),
+        None => false,
+    };
+    let is_same = watched.put.as_slice() == REQUEST.as_slice()
+        && watched.got.as_slice() == REQUEST.as_slice();
+    is_cut && is_carried && is_same && watched.failures() == 0
+}
+
+/// The same of a link in memory.
 fn is_carried_in_order(alloc: Global) -> Result<bool, AllocError> {
     let mut cutter = Cutter::new(alloc)?;
     let mut carrier = Carrier::new(alloc)?;
@@ -64,16 +86,7 @@ fn is_carried_in_order(alloc: Global) -> Result<bool, AllocError> {
         put: Vec::new(alloc),
         got: Vec::new(alloc),
     };
-    let is_cut = cutter.feed(&REQUEST).is_ok();
-    let is_carried = match cutter.envelope() {
-        Some(envelope) => carrier
-            .carry_in_order(&mut watched, Side::Kernel, &envelope)
-            .is_ok(),
-        None => false,
-    };
-    let is_same = watched.put.as_slice() == REQUEST.as_slice()
-        && watched.got.as_slice() == REQUEST.as_slice();
-    Ok(is_cut && is_carried && is_same && watched.failures() == 0)
+    Ok(carries(&mut cutter, &mut carrier, &mut watched))
 }
 
 #[test]
@@ -82,20 +95,32 @@ fn in_order(rt: HostRuntime) -> Result<(), Fail> {
     Ok(())
 }
 
-/// Whether the request is carried over a link whose reader gives it, into a writer to this room.
-fn is_carried_to_reader(alloc: Global, room: &mut [u8]) -> Result<bool, AllocError> {
-    let mut cutter = Cutter::new(alloc)?;
-    let mut carrier = Carrier::new(alloc)?;
-    let mut spelled = Vec::new(alloc);
+/// Whether the request is carried over a link whose reader gives it, into a writer to this room. It is spelled in an empty list.
+fn carries_to_reader(
+    cutter: &mut Cutter,
+    carrier: &mut Carrier,
+    spelled: &mut Vec<u8>,
+    room: &mut [u8],
+) -> Result<bool, AllocError>
+    requires empty { IsEmpty carrier.old }
+    requires none { spelled.old.items ≡ [] }
+{
     let is_cut = cutter.feed(&REQUEST).is_ok();
     let Some(envelope) = cutter.envelope() else {
         return Ok(false);
     };
-    put_envelope(&mut spelled, &envelope)?;
+    put_envelope(spelled, &envelope)?;
     let mut none = [0u8; 0];
     let mut link = StreamLink::new(b"".as_slice(), room, spelled.as_slice(), &mut none[..]);
     let is_carried = carrier.carry_to_reader(&mut link, &envelope).is_ok();
     Ok(is_cut && is_carried && link.failures() == 0)
+}
+
+/// The same of a new carrier.
+fn is_carried_to_reader(alloc: Global, room: &mut [u8]) -> Result<bool, AllocError> {
+    let mut cutter = Cutter::new(alloc)?;
+    let mut carrier = Carrier::new(alloc)?;
+    carries_to_reader(&mut cutter, &mut carrier, &mut Vec::new(alloc), room)
 }
 
 #[test]

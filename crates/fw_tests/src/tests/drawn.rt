@@ -1,8 +1,10 @@
 //! Lists of events that are drawn, each run on a world over maps and slabs and on one over plain lists.
 
+use super::growths::write_nodes;
+use super::stepped::{Stepped, Visits, visit_list_worlds, visit_worlds};
 use fw_script::write_record;
-use fw_world::{Call, Event, ListWorld, Minor, Outcome, Pick, Record, Tables, World, WorldOf, run};
-use std::alloc::{Allocator, Global};
+use fw_world::{Call, Event, Minor, Outcome, Pick, Record};
+use std::alloc::{AllocError, Allocator, Global};
 use std::test::Fail;
 
 /// How many lists are drawn, and how many events each has.
@@ -186,14 +188,14 @@ fn event(drawn: &mut Drawn, seen: &Seen) -> Event<'static> {
 }
 
 /// Runs an event, and prints its records.
-fn print_event<T: Tables>(
-    world: &mut WorldOf<T>,
+fn print_event<W: Stepped<Global>>(
+    world: &mut W,
     event: &Event<'_>,
-    records: &mut Vec<Record<T::Heap>, T::Heap>,
+    records: &mut Vec<Record<Global>>,
     out: &mut Vec<u8>,
 ) -> bool {
     records.clear();
-    if run(world, std::slice::from_ref(event), records).is_err() {
+    if world.run(std::slice::from_ref(event), records).is_err() {
         return false;
     }
     for record in records.as_slice() {
@@ -204,67 +206,105 @@ fn print_event<T: Tables>(
     true
 }
 
-/// Whether the nodes of both sides are the same in both worlds.
-fn has_same_nodes(maps: &World, lists: &ListWorld) -> bool {
-    let (Ok(counted), Ok(listed)) = (maps.kernel_nodes(), lists.kernel_nodes()) else {
+/// Prints the nodes of both sides.
+fn print_nodes<W: Stepped<Global>>(world: &W, out: &mut Vec<u8>) -> bool {
+    let (Ok(counted), Ok(held)) = (world.kernel_nodes(), world.server_nodes()) else {
         return false;
     };
-    let (Ok(held), Ok(kept)) = (maps.server_nodes(), lists.server_nodes()) else {
-        return false;
-    };
-    counted.as_slice() == listed.as_slice() && held.as_slice() == kept.as_slice()
+    write_nodes(out, "kernel", &counted).is_ok() && write_nodes(out, "server", &held).is_ok()
 }
 
-/// Runs one list on both worlds, and tells whether both record the same and end with the same nodes.
-fn runs_alike(
+/// Runs one list on a world, and prints its records and the nodes with which it ends.
+fn print_list<W: Stepped<Global>>(
     alloc: Global,
-    maps: &mut World,
-    lists: &mut ListWorld,
+    world: &mut W,
     drawn: &mut Drawn,
     seen: &mut Seen,
+    out: &mut Vec<u8>,
 ) -> bool {
     let mut records = Vec::new(alloc);
-    let mut listed = Vec::new(alloc);
-    let mut out = Vec::new(alloc);
-    let mut other = Vec::new(alloc);
     for place in 0..EVENTS {
         let event = match START.get(place as usize) {
             Some(event) => *event,
             None => event(drawn, seen),
         };
-        if !print_event(maps, &event, &mut records, &mut out)
-            || !print_event(lists, &event, &mut listed, &mut other)
-        {
+        if !print_event(world, &event, &mut records, out) {
             return false;
         }
         if let Some(record) = records.first() {
             seen.note(record);
         }
     }
-    out.as_slice() == other.as_slice() && has_same_nodes(maps, lists)
+    print_nodes(world, out)
 }
 
-/// Draws a list, and tells whether it runs alike on a new world of each kind.
+/// A list on a new world.
+#[derive(Drop)]
+struct List<'a> {
+    drawn: &'a mut Drawn,
+    accepted: &'a mut u64,
+    out: &'a mut Vec<u8>,
+    is_printed: bool,
+}
+
+impl Visits<Global> for List<'_> {
+    fn visit<W: Stepped<Global> + Drop>(&mut self, alloc: Global) -> Result<(), AllocError> {
+        let mut seen = Seen {
+            unique: 2,
+            call: 0,
+            accepted: *self.accepted,
+        };
+        let mut world = W::made(alloc).ok_or(AllocError)?;
+        self.is_printed = print_list(alloc, &mut world, self.drawn, &mut seen, self.out);
+        *self.accepted = seen.accepted;
+        Ok(())
+    }
+}
+
+/// Whether a list is printed on a new world over maps and slabs.
+fn is_printed_over_maps(
+    alloc: Global,
+    drawn: &mut Drawn,
+    accepted: &mut u64,
+    out: &mut Vec<u8>,
+) -> bool {
+    let is_printed = false;
+    let mut list = List {
+        drawn,
+        accepted,
+        out,
+        is_printed,
+    };
+    visit_worlds(&mut list, alloc).is_ok() && list.is_printed
+}
+
+/// The same over plain lists.
+fn is_printed_over_lists(
+    alloc: Global,
+    drawn: &mut Drawn,
+    accepted: &mut u64,
+    out: &mut Vec<u8>,
+) -> bool {
+    let is_printed = false;
+    let mut list = List {
+        drawn,
+        accepted,
+        out,
+        is_printed,
+    };
+    visit_list_worlds(&mut list, alloc).is_ok() && list.is_printed
+}
+
+/// Draws a list, and tells whether it prints the same on a new world of each kind. It is drawn for each from the same state, and so the
+/// same events as long as both record the same.
 fn is_alike(alloc: Global, drawn: &mut Drawn, accepted: &mut u64) -> bool {
-    let mut seen = Seen {
-        unique: 2,
-        call: 0,
-        accepted: *accepted,
-    };
-    let Ok(mut maps) = World::new(alloc) else {
-        return false;
-    };
-    let is_alike = match ListWorld::new(alloc) {
-        Ok(mut lists) => {
-            let is_alike = runs_alike(alloc, &mut maps, &mut lists, drawn, &mut seen);
-            drop(lists);
-            is_alike
-        }
-        Err(_) => false,
-    };
-    drop(maps);
-    *accepted = seen.accepted;
-    is_alike
+    let mut again = Drawn { state: drawn.state };
+    let mut accepted_again = 0;
+    let mut out = Vec::new(alloc);
+    let mut other = Vec::new(alloc);
+    is_printed_over_maps(alloc, drawn, accepted, &mut out)
+        && is_printed_over_lists(alloc, &mut again, &mut accepted_again, &mut other)
+        && out.as_slice() == other.as_slice()
 }
 
 #[test]

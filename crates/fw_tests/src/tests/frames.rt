@@ -1,7 +1,8 @@
 //! The frame that each event of a mount put, of a world and of a session.
 
-use fw_link::MemoryLink;
-use fw_world::{Event, Minor, Outcome, Pick, Refusal, Session, World};
+use super::stepped::{Stepped, Visits, visit_sessions, visit_worlds};
+use fw_world::{Event, Minor, Pick};
+use std::alloc::{AllocError, Global};
 use std::process::Abort;
 use std::test::Fail;
 
@@ -55,56 +56,43 @@ static ROWS: [Row; 6] = [
     },
 ];
 
-/// What takes the events, and shows the frame of each.
-trait Framed {
-    fn step(&mut self, event: &Event<'_>) -> Result<Outcome, Refusal>;
-
-    fn frame_of(&self, outcome: &Outcome) -> Option<&[u8]>;
-}
-
-impl Framed for World {
-    fn step(&mut self, event: &Event<'_>) -> Result<Outcome, Refusal> {
-        World::step(self, event)
-    }
-
-    fn frame_of(&self, outcome: &Outcome) -> Option<&[u8]> {
-        World::frame_of(self, outcome)
-    }
-}
-
-impl Framed for Session<MemoryLink> {
-    fn step(&mut self, event: &Event<'_>) -> Result<Outcome, Refusal> {
-        Session::step(self, event)
-    }
-
-    fn frame_of(&self, outcome: &Outcome) -> Option<&[u8]> {
-        Session::frame_of(self, outcome)
-    }
-}
-
 /// Whether a row's event puts its frame.
-fn puts_frame<F: Framed>(framed: &mut F, row: &Row) -> bool {
+fn puts_frame<W: Stepped<Global>>(framed: &mut W, row: &Row) -> bool {
     match framed.step(&row.event) {
         Ok(outcome) => framed.frame_of(&outcome) == row.frame,
         Err(_) => false,
     }
 }
 
-fn check_frames<F: Framed + Drop>(rt: &impl Abort, framed: F, name: &str) {
-    let mut framed = framed;
-    for (place, row) in ROWS.iter().enumerate() {
-        assert!(rt; puts_frame(&mut framed, row), "{name} row {place}");
+/// The rows on a new one.
+#[derive(Drop)]
+struct Frames<'a, R: Abort> {
+    rt: &'a R,
+    name: &'static str,
+}
+
+impl<R: Abort> Visits<Global> for Frames<'_, R> {
+    fn visit<W: Stepped<Global> + Drop>(&mut self, alloc: Global) -> Result<(), AllocError> {
+        let mut framed = W::made(alloc).ok_or(AllocError)?;
+        let name = self.name;
+        for (place, row) in ROWS.iter().enumerate() {
+            assert!(self.rt; puts_frame(&mut framed, row), "{name} row {place}");
+        }
+        Ok(())
     }
 }
 
 #[test]
 fn frame_of_each_event_of_a_mount(rt: HostRuntime) -> Result<(), Fail> {
-    check_frames(&rt, World::new(rt.alloc())?, "world");
-    let link = MemoryLink::new(rt.alloc())?;
-    check_frames(
-        &rt,
-        Session::new(rt.alloc(), link).ok().ok_or("memory")?,
-        "session",
-    );
+    let mut of_world = Frames {
+        rt: &rt,
+        name: "world",
+    };
+    visit_worlds(&mut of_world, rt.alloc())?;
+    let mut of_session = Frames {
+        rt: &rt,
+        name: "session",
+    };
+    visit_sessions(&mut of_session, rt.alloc())?;
     Ok(())
 }

@@ -2,13 +2,10 @@
 //! a whole run.
 
 use super::rows::{Row, lists};
+use super::stepped::{Stepped, Visits, visit_list_worlds, visit_sessions, visit_worlds};
 use fail_at::FailAt;
-use fw_link::MemoryLink;
 use fw_script::{Line, read_hex, read_line, write_hex, write_record};
-use fw_world::{
-    Answer, Call, Event, ListWorldIn, Outcome, Record, Refusal, Session, Tables, WorldIn, WorldOf,
-    run,
-};
+use fw_world::{Call, Event, Outcome, Record, Refusal};
 use std::alloc::{AllocError, Allocator, Global};
 use std::io;
 use std::io::Write;
@@ -20,88 +17,6 @@ const MOST: u64 = 1_000_000;
 
 /// The most answers that an event may give: as many calls may be unanswered.
 const MOST_ANSWERS: u64 = 64;
-
-/// What takes the events of a row.
-trait Stepped<A: Allocator + Copy>: Sized {
-    fn made(alloc: A) -> Option<Self>;
-
-    fn step(&mut self, event: &Event<'_>) -> Result<Outcome, Refusal>;
-
-    fn run(&mut self, events: &[Event<'_>], records: &mut Vec<Record<A>, A>) -> Result<(), usize>;
-
-    fn collect(&mut self) -> Option<(u64, Answer<A>)>;
-
-    fn last_put(&self) -> Option<&[u8]>;
-
-    fn kernel_nodes(&self) -> Result<Vec<(u64, u64, u64), A>, Refusal>;
-
-    fn server_nodes(&self) -> Result<Vec<(u64, u64, u64), A>, Refusal>;
-}
-
-impl<T: Tables> Stepped<T::Heap> for WorldOf<T> {
-    fn made(alloc: T::Heap) -> Option<WorldOf<T>> {
-        WorldOf::new(alloc).ok()
-    }
-
-    fn step(&mut self, event: &Event<'_>) -> Result<Outcome, Refusal> {
-        WorldOf::step(self, event)
-    }
-
-    fn run(
-        &mut self,
-        events: &[Event<'_>],
-        records: &mut Vec<Record<T::Heap>, T::Heap>,
-    ) -> Result<(), usize> {
-        run(self, events, records)
-    }
-
-    fn collect(&mut self) -> Option<(u64, Answer<T::Heap>)> {
-        WorldOf::collect(self)
-    }
-
-    fn last_put(&self) -> Option<&[u8]> {
-        WorldOf::last_put(self)
-    }
-
-    fn kernel_nodes(&self) -> Result<Vec<(u64, u64, u64), T::Heap>, Refusal> {
-        WorldOf::kernel_nodes(self)
-    }
-
-    fn server_nodes(&self) -> Result<Vec<(u64, u64, u64), T::Heap>, Refusal> {
-        WorldOf::server_nodes(self)
-    }
-}
-
-impl<A: Allocator + Copy> Stepped<A> for Session<MemoryLink<A>, A> {
-    fn made(alloc: A) -> Option<Session<MemoryLink<A>, A>> {
-        let link = MemoryLink::new(alloc).ok()?;
-        Session::new(alloc, link).ok()
-    }
-
-    fn step(&mut self, event: &Event<'_>) -> Result<Outcome, Refusal> {
-        Session::step(self, event)
-    }
-
-    fn run(&mut self, events: &[Event<'_>], records: &mut Vec<Record<A>, A>) -> Result<(), usize> {
-        Session::run(self, events, records)
-    }
-
-    fn collect(&mut self) -> Option<(u64, Answer<A>)> {
-        Session::collect(self)
-    }
-
-    fn last_put(&self) -> Option<&[u8]> {
-        Session::last_put(self)
-    }
-
-    fn kernel_nodes(&self) -> Result<Vec<(u64, u64, u64), A>, Refusal> {
-        Session::kernel_nodes(self)
-    }
-
-    fn server_nodes(&self) -> Result<Vec<(u64, u64, u64), A>, Refusal> {
-        Session::server_nodes(self)
-    }
-}
 
 /// The bytes that the calls of a script put into files, one after another.
 fn bytes_of_writes(alloc: Global, script: &str) -> Result<Vec<u8>, AllocError> {
@@ -183,7 +98,11 @@ fn step<A: Allocator + Copy, W: Stepped<A> + Drop>(
 }
 
 /// The nodes of one side as they are printed.
-fn write_nodes(out: &mut Vec<u8>, side: &str, nodes: &[(u64, u64, u64)]) -> io::Result<()> {
+pub(super) fn write_nodes(
+    out: &mut Vec<u8>,
+    side: &str,
+    nodes: &[(u64, u64, u64)],
+) -> io::Result<()> {
     write!(out, "{side}")?;
     for (node, generation, count) in nodes {
         write!(out, " {node}:{generation}:{count}")?;
@@ -466,30 +385,29 @@ fn check_rows<A: Allocator + Copy, W: Stepped<A> + Drop>(
     Ok(())
 }
 
-/// The same of worlds over maps and slabs.
-fn check_worlds<A: Allocator + Copy>(
-    rt: &impl Abort,
-    alloc: A,
+/// The same of what is visited. The list of records has a heap of its own.
+#[derive(Drop)]
+struct Refused<'a, A: Allocator + Copy, R: Abort> {
+    rt: &'a R,
     of_records: A,
-    heap: &FailAt<Global>,
-    of_refused_records: &FailAt<Global>,
+    heap: &'a FailAt<Global>,
+    of_refused_records: &'a FailAt<Global>,
     outer: Global,
-    rows: &[Row],
-) -> Result<(), AllocError> {
-    check_rows::<A, WorldIn<A>>(rt, alloc, of_records, heap, of_refused_records, outer, rows)
+    rows: &'static [Row],
 }
 
-/// The same of worlds over plain lists.
-fn check_list_worlds<A: Allocator + Copy>(
-    rt: &impl Abort,
-    alloc: A,
-    of_records: A,
-    heap: &FailAt<Global>,
-    of_refused_records: &FailAt<Global>,
-    outer: Global,
-    rows: &[Row],
-) -> Result<(), AllocError> {
-    check_rows::<A, ListWorldIn<A>>(rt, alloc, of_records, heap, of_refused_records, outer, rows)
+impl<A: Allocator + Copy, R: Abort> Visits<A> for Refused<'_, A, R> {
+    fn visit<W: Stepped<A> + Drop>(&mut self, alloc: A) -> Result<(), AllocError> {
+        check_rows::<A, W>(
+            self.rt,
+            alloc,
+            self.of_records,
+            self.heap,
+            self.of_refused_records,
+            self.outer,
+            self.rows,
+        )
+    }
 }
 
 #[test]
@@ -497,14 +415,16 @@ fn each_growth_of_each_row_refused(rt: HostRuntime) -> Result<(), Fail> {
     let heap = FailAt::new(rt.alloc());
     let of_records = FailAt::new(rt.alloc());
     for rows in lists() {
-        check_worlds(
-            &rt,
+        visit_worlds(
+            &mut Refused {
+                rt: &rt,
+                of_records: &of_records,
+                heap: &heap,
+                of_refused_records: &of_records,
+                outer: rt.alloc(),
+                rows,
+            },
             &heap,
-            &of_records,
-            &heap,
-            &of_records,
-            rt.alloc(),
-            rows,
         )?;
     }
     Ok(())
@@ -515,14 +435,16 @@ fn each_growth_of_each_row_over_lists_refused(rt: HostRuntime) -> Result<(), Fai
     let heap = FailAt::new(rt.alloc());
     let of_records = FailAt::new(rt.alloc());
     for rows in lists() {
-        check_list_worlds(
-            &rt,
+        visit_list_worlds(
+            &mut Refused {
+                rt: &rt,
+                of_records: &of_records,
+                heap: &heap,
+                of_refused_records: &of_records,
+                outer: rt.alloc(),
+                rows,
+            },
             &heap,
-            &of_records,
-            &heap,
-            &of_records,
-            rt.alloc(),
-            rows,
         )?;
     }
     Ok(())
@@ -533,14 +455,16 @@ fn each_growth_of_each_row_over_a_link_refused(rt: HostRuntime) -> Result<(), Fa
     let heap = FailAt::new(rt.alloc());
     let of_records = FailAt::new(rt.alloc());
     for rows in lists() {
-        check_rows::<_, Session<MemoryLink<_>, _>>(
-            &rt,
+        visit_sessions(
+            &mut Refused {
+                rt: &rt,
+                of_records: &of_records,
+                heap: &heap,
+                of_refused_records: &of_records,
+                outer: rt.alloc(),
+                rows,
+            },
             &heap,
-            &of_records,
-            &heap,
-            &of_records,
-            rt.alloc(),
-            rows,
         )?;
     }
     Ok(())

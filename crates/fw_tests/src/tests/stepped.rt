@@ -1,0 +1,130 @@
+//! Worlds over any tables and sessions over a link in memory, as tests of events see them.
+
+use fw_link::MemoryLink;
+use fw_world::{
+    Answer, Event, ListWorldIn, Outcome, Record, Refusal, Session, Tables, WorldIn, WorldOf, run,
+};
+use std::alloc::{AllocError, Allocator};
+
+/// What takes events. Tests of events are generic over it: only here a method is called of a world or of a session, each of which costs
+/// more to check than what the tests do with it.
+pub(super) trait Stepped<A: Allocator + Copy>: Sized {
+    fn made(alloc: A) -> Option<Self>;
+
+    fn step(&mut self, event: &Event<'_>) -> Result<Outcome, Refusal>;
+
+    fn run(&mut self, events: &[Event<'_>], records: &mut Vec<Record<A>, A>) -> Result<(), usize>;
+
+    fn collect(&mut self) -> Option<(u64, Answer<A>)>;
+
+    fn last_put(&self) -> Option<&[u8]>;
+
+    fn frame_of(&self, outcome: &Outcome) -> Option<&[u8]>;
+
+    fn kernel_nodes(&self) -> Result<Vec<(u64, u64, u64), A>, Refusal>;
+
+    fn server_nodes(&self) -> Result<Vec<(u64, u64, u64), A>, Refusal>;
+}
+
+impl<T: Tables> Stepped<T::Heap> for WorldOf<T> {
+    fn made(alloc: T::Heap) -> Option<WorldOf<T>> {
+        WorldOf::new(alloc).ok()
+    }
+
+    fn step(&mut self, event: &Event<'_>) -> Result<Outcome, Refusal> {
+        WorldOf::step(self, event)
+    }
+
+    fn run(
+        &mut self,
+        events: &[Event<'_>],
+        records: &mut Vec<Record<T::Heap>, T::Heap>,
+    ) -> Result<(), usize> {
+        run(self, events, records)
+    }
+
+    fn collect(&mut self) -> Option<(u64, Answer<T::Heap>)> {
+        WorldOf::collect(self)
+    }
+
+    fn last_put(&self) -> Option<&[u8]> {
+        WorldOf::last_put(self)
+    }
+
+    fn frame_of(&self, outcome: &Outcome) -> Option<&[u8]> {
+        WorldOf::frame_of(self, outcome)
+    }
+
+    fn kernel_nodes(&self) -> Result<Vec<(u64, u64, u64), T::Heap>, Refusal> {
+        WorldOf::kernel_nodes(self)
+    }
+
+    fn server_nodes(&self) -> Result<Vec<(u64, u64, u64), T::Heap>, Refusal> {
+        WorldOf::server_nodes(self)
+    }
+}
+
+impl<A: Allocator + Copy> Stepped<A> for Session<MemoryLink<A>, A> {
+    fn made(alloc: A) -> Option<Session<MemoryLink<A>, A>> {
+        let link = MemoryLink::new(alloc).ok()?;
+        Session::new(alloc, link).ok()
+    }
+
+    fn step(&mut self, event: &Event<'_>) -> Result<Outcome, Refusal> {
+        Session::step(self, event)
+    }
+
+    fn run(&mut self, events: &[Event<'_>], records: &mut Vec<Record<A>, A>) -> Result<(), usize> {
+        Session::run(self, events, records)
+    }
+
+    fn collect(&mut self) -> Option<(u64, Answer<A>)> {
+        Session::collect(self)
+    }
+
+    fn last_put(&self) -> Option<&[u8]> {
+        Session::last_put(self)
+    }
+
+    fn frame_of(&self, outcome: &Outcome) -> Option<&[u8]> {
+        Session::frame_of(self, outcome)
+    }
+
+    fn kernel_nodes(&self) -> Result<Vec<(u64, u64, u64), A>, Refusal> {
+        Session::kernel_nodes(self)
+    }
+
+    fn server_nodes(&self) -> Result<Vec<(u64, u64, u64), A>, Refusal> {
+        Session::server_nodes(self)
+    }
+}
+
+/// What is done with new ones of one type.
+pub(super) trait Visits<A: Allocator + Copy> {
+    fn visit<W: Stepped<A> + Drop>(&mut self, alloc: A) -> Result<(), AllocError>;
+}
+
+/// Of worlds over maps and slabs. Here alone their type is named, as in the next two: each function that names one costs some fifteen
+/// seconds to check.
+pub(super) fn visit_worlds<A: Allocator + Copy, V: Visits<A>>(
+    visits: &mut V,
+    alloc: A,
+) -> Result<(), AllocError> {
+    visits.visit::<WorldIn<A>>(alloc)
+}
+
+/// Of worlds over plain lists.
+pub(super) fn visit_list_worlds<A: Allocator + Copy, V: Visits<A>>(
+    visits: &mut V,
+    alloc: A,
+) -> Result<(), AllocError> {
+    visits.visit::<ListWorldIn<A>>(alloc)
+}
+
+/// Of sessions over a link in memory.
+pub(super) fn visit_sessions<A: Allocator + Copy, V: Visits<A>>(
+    visits: &mut V,
+    alloc: A,
+) -> Result<(), AllocError> {
+    visits.visit::<Session<MemoryLink<A>, A>>(alloc)
+}
