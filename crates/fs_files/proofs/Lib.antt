@@ -3,7 +3,6 @@ pub mod Performed
 pub mod Listing
 pub mod PairListing
 pub mod FilesListed
-pub mod Agreed
 pub mod Lookups
 pub mod DrawsFew
 pub mod EntriesPut

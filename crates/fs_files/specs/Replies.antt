@@ -1,17 +1,13 @@
 -- What replies say.
 use Rattle.std.specs.Prelude.{◌≡◌, ◌≢◌, ◌≤◌, ◌<◌, ◌+◌, ◌-◌, ◌*◌, ℕ, [], Option, Some, None, All, IsTrue, Vec, length, map, vec_capacity}
-use Rattle.std.specs.Int.RustNames.{bit_and}
 use Rattle.fuse_spec.specs.Values.Numbers.{counter_end, max_transfer, max_validity}
 use Rattle.fuse_spec.specs.Files.Operations as operation
 use Rattle.fuse_spec.specs.Files.Operations.{Dirent, Reply, errno_of, reply_with}
 use Rattle.fuse_spec.specs.Kernel.Messages.{WireReply}
-use Rattle.fuse_spec.specs.Server.Performs.{flags_known, minor_number}
 use Rattle.fuse_spec.specs.declared.Entry.{Entry}
-use Rattle.fuse_spec.specs.declared.Minor.{Minor}
 use Rattle.fuse_spec.specs.Files.Trees.{Tree}
 use Rattle.fs_tree.specs.Outcomes.{is_regular}
 use Rattle.fs_files.specs.Bounds.{IsThere}
-use Rattle.fk_wire.specs.Requests.{known_flags}
 use Rattle.fuse_frames.specs.Replies.{reply_of}
 use Rattle.fuse_frames.specs.declared.reply.Reply.{Reply as Said}
 use Rattle.fuse_frames.specs.declared.reply.Reply.TheVariants as said
@@ -24,13 +20,6 @@ use Rattle.fs_files.specs.declared.replies.Outcome.TheVariants as outcome
 -- A name in a list is of a file of the tree that was born before the end of births.
 abbrev pub IsListable : Tree → Dirent → Type 0
 IsListable tree d = (1 ≤ d.ino) × (d.ino - 1 < counter_end) × IsThere tree (d.ino - 1)
-
--- What a minor answers to an INIT that offers the flags that it takes up.
-pub record IsAgreed (major minor flags : ℕ) : Type 0 where
-  pub spoken : Minor
-  pub major_is : major ≡ 7
-  pub minor_is : minor ≡ minor_number spoken
-  pub flags_are : bit_and flags (flags_known spoken) ≡ flags
 
 -- What is sent as a reply.
 abbrev pub SentReply : Type 0 → Type 0
@@ -76,7 +65,6 @@ module _ {A : Type 0} where
   IsSendable (said.Created entry valid fh) = (entry.nodeid ≢ 0) × (valid ≤ max_validity)
   IsSendable (said.Listed records) = AreRecordBytes records.items × (length records.items ≤ max_transfer)
   IsSendable (said.Content bytes) = length bytes.items ≤ max_transfer
-  IsSendable (said.Agreed major minor flags) = IsAgreed major minor (bit_and flags.0 known_flags)
   IsSendable (said.Failed errno) = (1 ≤ errno) × (errno ≤ 511)
   IsSendable reply = Unit {0}
 

@@ -6,8 +6,7 @@ ghost use Rattle.fk_wire.specs.Requests.{known_flags};
 ghost use Rattle.fuse_spec.specs.Values.Numbers.{max_transfer};
 ghost use Rattle.fuse_spec.specs.Files.Operations as reply;
 ghost use Rattle.fuse_spec.specs.Files.Operations.{errno_of, files_in_reply};
-ghost use Rattle.fuse_spec.specs.Server.Performs.{init_reply, minor_number};
-ghost use Rattle.fuse_spec.specs.declared.Minor.{Minor as MinorValue};
+ghost use Rattle.fuse_spec.specs.Server.Performs.{init_reply};
 ghost use Rattle.fuse_frames.specs.ReplyTies.{dirent_in};
 ghost use Rattle.fs_files.specs.Listed.{AreRecordBytes, dirents_in};
 ghost use Rattle.fs_files.specs.Replies.{opened_in, sent_len, sent_names, sent_wire, HasSpare, NamesNothing, IsSendable};
@@ -160,7 +159,11 @@ pub fn framed<A: Allocator>(reply: &SentReply<A>, room: ReplyRoom<A>, unique: u6
         Reply::ListedPlus(names) => names.framed(room, unique),
         Reply::Content(bytes) => room.content(unique, bytes),
         Reply::Written { size } => room.written(unique, *size),
-        Reply::Agreed { minor, flags, .. } => room.agreed(unique, minor_of(*minor), *flags),
+        Reply::Agreed {
+            major,
+            minor,
+            flags,
+        } => room.agreed(unique, *major, *minor, *flags),
         Reply::Done => room.done(unique),
         Reply::Failed { errno } => room.failed(unique, *errno),
     }
@@ -185,13 +188,6 @@ pub(crate) fn agreement<A: Allocator>(minor: Minor, offered: InitFlags) -> SentR
             flags: offered,
         },
     }
-}
-
-/// The minor that has this number, which is 15 or 31.
-fn minor_of(number: u32) -> Minor
-    ensures { (minor : MinorValue) → number ≡ minor_number minor → result ≡ minor }
-{
-    if number == 15 { Minor::M15 } else { Minor::M31 }
 }
 
 /// An empty vector with these bytes, for which it has room.

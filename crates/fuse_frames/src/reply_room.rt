@@ -6,19 +6,17 @@ ghost use Rattle.fk_wire.specs.Dirents.{dirents};
 ghost use Rattle.fk_wire.specs.Fields.{sizes};
 ghost use Rattle.fk_wire.specs.Opcodes.{served};
 ghost use Rattle.fk_wire.specs.Records.{records_in};
-ghost use Rattle.fk_wire.specs.Replies.{init_reply as init_content, reply_body, reply_content, kind_of_content, reply_kind};
+ghost use Rattle.fk_wire.specs.Replies.{reply_body, reply_content, kind_of_content, reply_kind};
 ghost use Rattle.fk_wire.specs.Requests.{known_flags};
 ghost use Rattle.fuse_spec.specs.Values.Numbers.{max_transfer, max_validity};
 ghost use Rattle.fuse_spec.specs.Files.Operations as reply;
-ghost use Rattle.fuse_spec.specs.Server.Performs.{flags_known, init_reply, minor_number};
 ghost use Rattle.fuse_frames.specs.ReplyTies.{FitsRoom, content_of, dirent_in, dirent_of, pairs_told, wire_body};
 ghost use Rattle.fuse_frames.specs.ReplyTies.{attr_of as attr_written};
 
 use crate::listing::put_listing;
 use crate::reply_frame::ReplyFrame;
-use bitflags::Flags;
 use fk_wire::{Attr, InitFlags, Opcode, Records, Reply, ReplyBody, put_listing_head};
-use fuse_spec::{Attributes, Entry, Kind, Minor};
+use fuse_spec::{Attributes, Entry, Kind};
 use std::alloc::{AllocError, Allocator, Global};
 use std::marker::Model;
 
@@ -69,11 +67,19 @@ impl<A: Allocator> ReplyRoom<A> {
         ReplyFrame::written(opcode, self.bytes, &reply)
     }
 
-    /// The answer to an INIT that offers these flags: the minor that is spoken, and those of the flags that it knows.
-    pub fn agreed(self, unique: u64, minor: Minor, offered: InitFlags) -> ReplyFrame<A>
-        ensures { result ≡ record { unique = unique; wire = init_reply minor (bit_and offered.0 known_flags) } }
+    /// The answer to an INIT: the version that is stated, and the flags that are taken up.
+    pub fn agreed(self, unique: u64, major: u32, minor: u32, flags: InitFlags) -> ReplyFrame<A>
+        ensures { result ≡ record {
+          unique = unique;
+          wire = reply.agreed major minor (bit_and flags.0 known_flags);
+        } }
     {
-        self.said(unique, Opcode::Init, agreement(minor, offered))
+        let body = ReplyBody::Init {
+            major,
+            minor,
+            flags,
+        };
+        self.said(unique, Opcode::Init, body)
     }
 
     /// The answer to a LOOKUP that found nothing: the name is missing for so many milliseconds, at most a day.
@@ -194,26 +200,6 @@ impl<A: Allocator> ReplyRoom<A> {
             body: ReplyBody::Empty,
         };
         ReplyFrame::written(Opcode::Release, self.bytes, &reply)
-    }
-}
-
-/// What is agreed on at INIT: the minor that is spoken, and those of the offered flags that it knows.
-#[tactic(auto, using(crate::proofs::Agreements::known_again, crate::proofs::Agreements::read_alone))]
-fn agreement(minor: Minor, offered: InitFlags) -> ReplyBody<'static>
-    ensures { reply_content result ≡ init_content 7 (minor_number minor)
-        (bit_and (bit_and offered.0 known_flags) (flags_known minor)) }
-{
-    match minor {
-        Minor::M15 => ReplyBody::Init {
-            major: 7,
-            minor: 15,
-            flags: offered.intersection(InitFlags::ASYNC_READ),
-        },
-        Minor::M31 => ReplyBody::Init {
-            major: 7,
-            minor: 31,
-            flags: offered,
-        },
     }
 }
 
