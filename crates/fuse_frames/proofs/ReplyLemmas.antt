@@ -4,15 +4,13 @@ use Rattle.std.specs.Prelude.{ℤ, pos, negsuc}
 use Rattle.std.specs.Int.{w32, cast_unsigned, cast_signed}
 use Rattle.std.proofs.lemmas.Bool.Decides.{eqb_tells}
 use Rattle.std.proofs.lemmas.Int.{ints, to_z-of_z}
-use Rattle.fk_wire.specs.declared.fault.WireFault.{WireFault}
+use Rattle.fk_wire.specs.Decoded.{decoded_reply}
 use Rattle.fk_wire.specs.declared.opcode.Opcode.{Opcode}
 use Rattle.fk_wire.specs.declared.opcode.Opcode.TheVariants as op
 use Rattle.fk_wire.specs.Entries.{missing, found}
-use Rattle.fk_wire.specs.Fields.{number_at}
 use Rattle.fk_wire.specs.Opcodes.{served}
 use Rattle.fk_wire.specs.Replies.{ReplyContent, empty_reply, entry_reply, attr_reply, open_reply, bytes_reply, write_reply, init_reply, create_reply, records_reply, plus_reply, ReplyMessage, GoesWith, WrittenReply, reply_kind, knows_kind, kind_of_content, IsErrorNumber}
-use Rattle.fk_wire.specs.ReplyFaults.{ReplyFaultIsAt}
-use Rattle.fk_wire.proofs.OneReply.{decoded_reply_is, no_reply_fault, error_fits}
+use Rattle.fk_wire.proofs.OneReply.{decoded_reply_is, error_fits}
 use Rattle.fk_wire.proofs.Frames.{spells_reply}
 use Rattle.fuse_spec.specs.declared.Opened.{Opened}
 use Rattle.fuse_spec.specs.Kernel.Messages.{WireReply, asks}
@@ -20,14 +18,25 @@ use Rattle.fuse_spec.specs.Values.Numbers.{max_validity}
 use Rattle.fuse_spec.specs.Files.Operations as reply
 use Rattle.fuse_spec.specs.Files.Operations.{Operation}
 use Rattle.fuse_spec.specs.Kernel.Replies.{goes_with, is_init_reply, is_empty_reply}
-use Rattle.fuse_frames.specs.ReplyTies.{SaysReply, IsReplyFrame, Framed, framed_by, framed_in, message_of, content_of, error_of, has_reply, wire_said, wire_body, milliseconds}
+use Rattle.fuse_frames.specs.ReplyTies.{SaysReply, IsReplyFrame, Framed, framed_by, said_in, message_of, content_of, error_of, has_reply, wire_said, wire_body, milliseconds}
 use Rattle.fuse_frames.specs.RequestTies.{asked_opcode}
 
 -- the bytes spell one reply to an opcode
+one_message : (o : Opcode) (bytes : List ℕ) (m : ReplyMessage) → GoesWith served o m → WrittenReply m bytes
+    → decoded_reply o bytes ≡ m
+one_message o bytes m goes w = decoded_reply_is o bytes m (spells_reply served o m bytes goes w)
+
 pub one_framed : (o : Opcode) (bytes : List ℕ) (m : ReplyMessage) → GoesWith served o m → WrittenReply m bytes
-    → framed_in o bytes ≡ framed_by m
-unfolding framed_in
-one_framed o bytes m goes w = ap framed_by (decoded_reply_is o bytes m (spells_reply served o m bytes goes w))
+    → record { unique = m.unique; wire = said_in o bytes } ≡ framed_by m
+unfolding said_in
+one_framed o bytes m goes w = ap (λ (n : ReplyMessage). record { unique = m.unique; wire = (framed_by n).wire })
+    (one_message o bytes m goes w)
+
+-- Two messages that are written so have one unique.
+pub one_unique : (o : Opcode) (bytes : List ℕ) (m n : ReplyMessage) → GoesWith served o m → WrittenReply m bytes
+    → GoesWith served o n → WrittenReply n bytes → m.unique ≡ n.unique
+one_unique o bytes m n goes w goes_too w_too =
+    ap (λ (x : ReplyMessage). x.unique) (sym (one_message o bytes m goes w) ∙ one_message o bytes n goes_too w_too)
 
 -- What is written as a message that is a reply's is that reply's frame.
 frame_of : (o : Opcode) (bytes : List ℕ) (m : ReplyMessage) → GoesWith served o m → WrittenReply m bytes
@@ -40,9 +49,9 @@ frame_of o bytes m goes w exact =
     }
 
 pub is_framed : (o : Opcode) (bytes : List ℕ) (m : ReplyMessage) → GoesWith served o m → WrittenReply m bytes
-    → m ≡ message_of (framed_by m) → IsReplyFrame o bytes (framed_in o bytes)
-is_framed o bytes m goes w exact = subst (λ (f : Framed). IsReplyFrame o bytes f) (sym (one_framed o bytes m goes w))
-    (frame_of o bytes m goes w exact)
+    → m ≡ message_of (framed_by m) → IsReplyFrame o bytes (record { unique = m.unique; wire = said_in o bytes })
+is_framed o bytes m goes w exact = subst (λ (f : Framed). IsReplyFrame o bytes f)
+    (sym (one_framed o bytes m goes w)) (frame_of o bytes m goes w exact)
 
 -- a validity in milliseconds, in whole seconds and the rest as nanoseconds, reads as itself
 pub reads_as_itself : (ms : ℕ) → ms ≤ max_validity → milliseconds (ms / 1000) (ms % 1000 * 1000000) ≡ ms
@@ -218,16 +227,6 @@ module _ (o : Opcode) (bytes : List ℕ) (f : Framed) (frame : IsReplyFrame o by
   empty is =
       let kind = empty_kind f.wire is in
       (says_as op.Release empty_reply refl kind, says_as op.Interrupt empty_reply refl kind)
-
-  -- The head that is read is the frame's.
-  pub unique_read : (read : List ℕ) → read ≡ bytes → (unique : ℕ) → unique ≡ number_at 8 8 read → unique ≡ f.unique
-  unique_read read same unique is = is ∙ ap (number_at 8 8) same ∙
-      (spells_reply served o (message_of f) bytes frame.goes frame.written).5.1.1.0
-
-  pub no_fault : (read : List ℕ) → read ≡ bytes → (fault : WireFault) → ReplyFaultIsAt served o read fault → ⊥
-  no_fault read same fault is = no_reply_fault served o bytes (message_of f) fault
-      (spells_reply served o (message_of f) bytes frame.goes frame.written)
-      (subst (λ (x : List ℕ). ReplyFaultIsAt served o x fault) same is)
 
 -- ---- an error of a reply
 

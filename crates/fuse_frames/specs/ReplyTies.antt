@@ -182,8 +182,8 @@ pub record IsReplyFrame (o : Opcode) (bytes : List ℕ) (framed : Framed) : Type
   pub says : wire_said (error_of framed.wire) (content_of framed.wire) ≡ framed.wire
 
 -- What the bytes of a reply are, where they spell anything.
-unfoldable pub framed_in : Opcode → List ℕ → Framed
-framed_in o bytes = framed_by (decoded_reply o bytes)
+unfoldable pub said_in : Opcode → List ℕ → WireReply
+said_in o bytes = (framed_by (decoded_reply o bytes)).wire
 
 -- the opcodes that are replied to
 abbrev pub has_reply : Opcode → Bool

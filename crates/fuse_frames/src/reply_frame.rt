@@ -10,7 +10,7 @@ ghost use Rattle.fuse_spec.specs.Kernel.Replies.{goes_with, is_init_reply, is_em
 ghost use Rattle.fuse_frames.specs.ReplyTies.{SaysReply, IsReplyFrame, FitsRoom, framed_by, message_of};
 ghost use Rattle.fuse_frames.specs.RequestTies.{asked_opcode};
 
-use fk_wire::{Opcode, Reply, read_reply_head, write_reply};
+use fk_wire::{Opcode, Reply, write_reply};
 use fuse_spec::Opened;
 use std::alloc::{Allocator, Global};
 use std::marker::Model;
@@ -19,20 +19,22 @@ use std::marker::Model;
 #[derive(Drop)]
 pub struct ReplyFrame<A: Allocator = Global> {
     opcode: Opcode,
+    unique: u64,
     bytes: Vec<u8, A>,
 }
 
 impl<A: Allocator> Model for ReplyFrame<A> {
     ghost use Rattle.std.specs.Coded.{codes};
-    ghost use Rattle.fuse_frames.specs.ReplyTies.{Framed, IsReplyFrame, framed_in};
+    ghost use Rattle.fuse_frames.specs.ReplyTies.{Framed, IsReplyFrame, said_in};
 
     ghost Value = { Framed };
 
     ghost coded = { Prim.hlevel (codes) };
 
-    ghost view = { λ f. framed_in f.opcode f.bytes.items };
+    ghost view = { λ f. record { unique = f.unique; wire = said_in f.opcode f.bytes.items } };
 
-    ghost invariant = { λ f. IsReplyFrame f.opcode f.bytes.items (framed_in f.opcode f.bytes.items) };
+    ghost invariant = { λ f. IsReplyFrame f.opcode f.bytes.items
+        (record { unique = f.unique; wire = said_in f.opcode f.bytes.items }) };
 }
 
 impl<A: Allocator> ReplyFrame<A> {
@@ -40,11 +42,7 @@ impl<A: Allocator> ReplyFrame<A> {
     pub fn unique(&self) -> u64
         ensures { result ≡ self.now.unique }
     {
-        match read_reply_head(&self.bytes) {
-            Ok(head) => head.unique,
-            // The invariant rules this out.
-            Err(_) => 0,
-        }
+        self.unique
     }
 
     /// The frame's bytes: the one frame in which the reply is written. They say it to the requests that it may reply
@@ -75,18 +73,25 @@ impl<A: Allocator> ReplyFrame<A> {
     {
         let mut bytes = bytes;
         write_reply(&mut bytes, reply).unwrap();
-        ReplyFrame { opcode, bytes }
+        ReplyFrame {
+            opcode,
+            unique: reply.unique,
+            bytes,
+        }
     }
 
-    /// The frame of a reply of READDIRPLUS, whose bytes are written. They are written as `message_of` has it.
-    pub(crate) fn listing(bytes: Vec<u8, A>) -> ReplyFrame<A>
+    /// The frame of a reply of READDIRPLUS under a unique, whose bytes are written. They are written as `message_of` has
+    /// it.
+    pub(crate) fn listing(unique: u64, bytes: Vec<u8, A>) -> ReplyFrame<A>
         requires { (message : ReplyMessage) × GoesWith served Opcode.Readdirplus message
-            × WrittenReply message bytes.items × (message ≡ message_of (framed_by message)) }
+            × WrittenReply message bytes.items × (message ≡ message_of (framed_by message))
+            × (unique ≡ message.unique) }
         ensures { (message : ReplyMessage) → GoesWith served Opcode.Readdirplus message
             → WrittenReply message bytes.items → result ≡ framed_by message }
     {
         ReplyFrame {
             opcode: Opcode::Readdirplus,
+            unique,
             bytes,
         }
     }

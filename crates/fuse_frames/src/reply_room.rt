@@ -163,7 +163,7 @@ impl<A: Allocator> ReplyRoom<A> {
         let size = 128 * entries.len() + records.byte_len();
         put_listing_head(&mut bytes, unique, size);
         put_listing(&mut bytes, entries, records, found_ms);
-        ReplyFrame::listing(bytes)
+        ReplyFrame::listing(unique, bytes)
     }
 
     /// The answer to WRITE: how many bytes were written.

@@ -1,4 +1,4 @@
-use Rattle.std.proofs.Common.{◌≡◌, ◌+◌, ◌*◌, ◌∷◌, ◌++◌, ◌∙◌, ℕ, List, [], length, ap, arith}
+use Rattle.std.proofs.Common.{◌≡◌, ◌+◌, ◌*◌, ◌∷◌, ◌++◌, ◌∙◌, ℕ, List, [], length, refl, ap, arith}
 use Rattle.fk_wire.specs.Dirents.{direntpluses}
 use Rattle.fk_wire.specs.Fields.{sizes, spellings, u32, u64}
 use Rattle.fk_wire.specs.Records.{records_in}
@@ -32,6 +32,7 @@ listing-requires g c =
       listing_goes unique ps,
       written,
       listing_exact unique c.args.found_ms es ds c.requires.valid c.requires.types,
+      refl,
     )
 
 pub returns : goal.returns
