@@ -187,9 +187,7 @@ impl<Q: QueueTable<Purpose> + Drop, C: CountTable<Heap = Q::Heap> + Drop> Kernel
         ensures refusal { IfErr result (λ refusal. refusal ≡ Refusal.NoMemory) }
         ensures ok { OnOk result (self.new ≡ record self.old { queues = after_forget self.old.queues node 1 }) }
     {
-        let Some(forgets) = self.nodes.node_count().checked_add(1) else {
-            return Err(Refusal::NoMemory);
-        };
+        let forgets = self.nodes.node_count() + 1;
         let Ok(()) = self.queues.reserve(0, forgets) else {
             return Err(Refusal::NoMemory);
         };
@@ -218,9 +216,7 @@ impl<Q: QueueTable<Purpose> + Drop, C: CountTable<Heap = Q::Heap> + Drop> Kernel
         ensures ok { OnOk result (reply_written self.old unique (reply.found entry.now valid_ms)
             ≡ (WriteResult.Accepted, self.new)) }
     {
-        let Some(forgets) = self.nodes.node_count().checked_add(1) else {
-            return Err(Refusal::NoMemory);
-        };
+        let forgets = self.nodes.node_count() + 1;
         let Some(requests) = self.closing.len().checked_add(1) else {
             return Err(Refusal::NoMemory);
         };
@@ -269,9 +265,7 @@ impl<Q: QueueTable<Purpose> + Drop, C: CountTable<Heap = Q::Heap> + Drop> Kernel
         ensures ok { OnOk result (reply_written self.old unique (reply.found entry.now valid_ms)
             ≡ (WriteResult.Accepted, self.new)) }
     {
-        let Some(forgets) = self.nodes.node_count().checked_add(1) else {
-            return Err(Refusal::NoMemory);
-        };
+        let forgets = self.nodes.node_count() + 1;
         let Ok(()) = self.queues.reserve(0, forgets) else {
             return Err(Refusal::NoMemory);
         };
@@ -306,9 +300,7 @@ impl<Q: QueueTable<Purpose> + Drop, C: CountTable<Heap = Q::Heap> + Drop> Kernel
         ensures ok { OnOk result (reply_written self.old unique (reply.created entry.now valid_ms fh)
             ≡ (WriteResult.Accepted, self.new)) }
     {
-        let Some(forgets) = self.nodes.node_count().checked_add(1) else {
-            return Err(Refusal::NoMemory);
-        };
+        let forgets = self.nodes.node_count() + 1;
         let Ok(()) = self.queues.reserve(0, forgets) else {
             return Err(Refusal::NoMemory);
         };

@@ -69,9 +69,7 @@ impl<Q: QueueTable<Purpose> + Drop, C: CountTable<Heap = Q::Heap> + Drop> Kernel
             return Err(Refusal::NoMemory);
         };
         // A forget of each name that is stale, and of each node that is new.
-        let Some(forgets) = self.nodes.node_count().checked_add(2 * pair_count(pairs)) else {
-            return Err(Refusal::NoMemory);
-        };
+        let forgets = self.nodes.node_count() + 2 * pair_count(pairs);
         let Ok(()) = self.queues.reserve(0, forgets) else {
             return Err(Refusal::NoMemory);
         };

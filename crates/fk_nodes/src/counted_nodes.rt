@@ -62,10 +62,12 @@ impl<C: CountTable> CountedNodes<C> {
         }
     }
 
-    /// How many nodes are counted.
+    /// How many nodes are counted: fewer than 2^63, since memory holds no more.
     pub fn node_count(&self) -> usize
-        ensures { result ≡ length self.now }
+        ensures count { result ≡ length self.now }
+        ensures few { result < 2 ^ 63 }
     {
+        self.table.keeps_sound();
         self.len
     }
 

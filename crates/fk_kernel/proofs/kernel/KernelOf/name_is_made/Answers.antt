@@ -25,9 +25,9 @@ invariant_of-self-2 g c =
     let waits : is_some (waiting s c.args.unique) ≡ true = rw (← c.self.view_is) at (ap is_some c.requires.waits) in
     let kept = c.answer-kept.ensures.room.forgets in
     let reserved = c.in-Ok.ensures.forgets in
-    let most = c.node_count.ensures in
+    let most = c.node_count-forgets.ensures.count in
     let room : length k.nodes + 1 ≤ (g.Q.QueueTable.room c.answer-kept.new.self).forgets =
-    omega (arith, c.in-Some.ensures) in
+    omega arith in
     let fits = rw (← c.self.view_is) at c.requires.fits in
     rw (c.answer-kept.ensures.state, c.reserve.ensures.state, c.in-Ok-bind_entry.ensures.nodes)
     (record {

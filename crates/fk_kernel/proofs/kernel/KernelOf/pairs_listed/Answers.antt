@@ -28,9 +28,9 @@ invariant_of-self-2 g c =
     let kept = c.answer-kept.ensures.room.forgets in
     let given = c.forget_stale.ensures.forgets in
     let reserved = c.in-Ok-reserve.ensures.forgets in
-    let most = c.node_count.ensures in
+    let most = c.node_count.ensures.count in
     let room : length k.nodes + length pairs ≤ (g.Q.QueueTable.room c.answer-kept.new.self).forgets =
-    omega (arith, c.in-Some.ensures, c.pair_count.ensures) in
+    omega (arith, c.pair_count.ensures) in
     rw c.in-Ok-count_and_bind.ensures.nodes
     (record {
       numbers = old.numbers;

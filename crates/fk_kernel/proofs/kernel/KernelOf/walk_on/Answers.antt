@@ -109,9 +109,9 @@ invariant_of-self-in-Waits g c =
     let kept = c.answer-kept.ensures.room.forgets in
     let reserved = c.in-Ok.ensures.forgets in
     let queued = c.enqueue-unique.ensures.forgets_room in
-    let most = c.node_count.ensures in
+    let most = c.node_count-forgets.ensures.count in
     let room : length k.nodes + 1 ≤ (g.Q.QueueTable.room c.answer-kept.new.self).forgets =
-    omega (arith, c.in-Some.ensures) in
+    omega arith in
     let fits = rw (← c.self.view_is) at c.requires.fits in
     let counted = looked_up_counted k.nodes (g.Q.QueueTable.room k.queues).forgets
     (g.Q.QueueTable.room c.answer-kept.new.self).forgets old.nodes room c.args.entry.now fits in
@@ -134,7 +134,7 @@ invariant_of-self-in-Waits g c =
         c.in-Ok.ensures.requests,
         c.answer-kept.ensures.room.requests,
         c.enqueue-unique.ensures.requests_room,
-        c.in-Some-checked_add.ensures,
+        c.in-Some.ensures,
         c.len.ensures,
       );
       nodes = still_counted _ (g.Q.QueueTable.room c.answer-kept.new.self).forgets
@@ -154,9 +154,9 @@ invariant_of-self-in-Answered g c =
     let there = there_is (get k.calls.entries c.args.call) (ap is_some here) in
     let kept = c.answer-kept.ensures.room.forgets in
     let reserved = c.in-Ok.ensures.forgets in
-    let most = c.node_count.ensures in
+    let most = c.node_count-forgets.ensures.count in
     let room : length k.nodes + 1 ≤ (g.Q.QueueTable.room c.answer-kept.new.self).forgets =
-    omega (arith, c.in-Some.ensures) in
+    omega arith in
     let fits = rw (← c.self.view_is) at c.requires.fits in
     rw (
       c.answer-kept.ensures.state,
