@@ -13,7 +13,6 @@ ghost use Rattle.fs_files.specs.Values.{on_files};
 
 use crate::held::HeldOperation;
 use crate::nodes::Nodes;
-use crate::operation_nodes::header_node;
 use crate::records::record_bytes;
 use crate::replies::Outcome;
 use fs_nodes::NodeStore;
@@ -43,7 +42,7 @@ pub(crate) fn operate<A: Allocator + Copy, S: NodeStore>(
     ensures err { OnErr result (tree.new ≡ tree.old) }
 {
     tree.keeps_shape();
-    let file = nodes.file_of(header_node(operation));
+    let file = nodes.file_of(operation.header_node());
     match operation {
         Operation::Lookup { name, .. } => Ok(look_up(tree, file, name, validity)),
         Operation::Getattr { .. } => Ok(attributes(tree, file)),

@@ -8,7 +8,6 @@ ghost use Rattle.fs_files.specs.Values.{on_files};
 
 use crate::held::HeldOperation;
 use crate::nodes::Nodes;
-use crate::operation_nodes::header_node;
 use fs_nodes::NodeStore;
 use fs_tree::{Tree, TreeError};
 use fuse_spec::Operation;
@@ -23,7 +22,7 @@ pub(crate) fn refusal_of<A: Allocator + Copy, S: NodeStore>(
 ) -> Option<TreeError>
     ensures { Refuses (refusal tree.now (on_files nodes.now.table operation.now)) result }
 {
-    let file = nodes.file_of(header_node(operation));
+    let file = nodes.file_of(operation.header_node());
     match operation {
         Operation::Lookup { .. } | Operation::Readdir { .. } => refusal_of_directory(tree, file),
         Operation::Readdirplus { .. } => refusal_of_directory(tree, file),

@@ -7,7 +7,7 @@ ghost use Rattle.fs_files.specs.Values.{asked_of, named_in, operation_of};
 ghost use Rattle.fs_server.specs.Taking.{body_of, generations_of, held_for, is_held};
 
 use fk_wire::{Request, RequestBody};
-use fs_files::{HeldBody, HeldOperation, HeldRequest, Named, Nodes, body_node, header_node, owned};
+use fs_files::{HeldBody, HeldOperation, HeldRequest, Named, Nodes, owned};
 use fs_nodes::NodeStore;
 use fuse_frames::operation_asked;
 use fuse_spec::Opened;
@@ -68,8 +68,8 @@ fn nodes_of_operation<A: Allocator, S: NodeStore>(
 ) -> Named
     ensures { named_in result ≡ generations_of nodes.now.table (asks (operation_of operation.now)) }
 {
-    let node = nodes.named(header_node(operation));
-    match body_node(operation) {
+    let node = nodes.named(operation.header_node());
+    match operation.body_node() {
         Some(other) => Named::Two(node, nodes.named(other)),
         None => Named::One(node),
     }

@@ -1,6 +1,7 @@
 -- Bytes say one request, and what is written is said.
 use Rattle.std.proofs.Common.{◌≡◌, ℕ, List, [], ◌++◌, Option, Some, refl, sym, ap, subst, ◌∙◌}
 use Rattle.std.specs.Prelude.{true}
+use Rattle.std.specs.Borrow.{Bor}
 use Rattle.fk_wire.specs.declared.fault.WireFault.{WireFault}
 use Rattle.fk_wire.specs.declared.opcode.Opcode.{Opcode}
 use Rattle.fk_wire.specs.Requests as wire
@@ -10,11 +11,14 @@ use Rattle.fk_wire.specs.Fields.{number_at}
 use Rattle.fk_wire.specs.Faults.{FaultIsAt}
 use Rattle.fk_wire.proofs.OneRequest.{decoded_is, no_fault, same_code}
 use Rattle.fk_wire.proofs.Frames.{spells}
+use Rattle.fuse_spec.specs.Files.OperationNodes.{header_node}
 use Rattle.fuse_spec.specs.Kernel.Messages.{RequestBody, Request}
 use Rattle.fuse_spec.specs.Server.Server.{knows}
+use Rattle.fuse_spec.specs.declared.asked.Operation.{Operation as Asked}
+use Rattle.fuse_spec.specs.declared.asked.Operation.TheVariants as asked
 use Rattle.fuse_spec.specs.declared.Minor.{Minor}
 use Rattle.fuse_spec.specs.declared.Minor.TheVariants.{M15, M31}
-use Rattle.fuse_frames.specs.RequestTies.{SaysRequest, SaysRequestAt, codec_minor, IsRequestFrame, request_in, body_in, body_or, asked_opcode, content_of}
+use Rattle.fuse_frames.specs.RequestTies.{SaysRequest, SaysRequestAt, codec_minor, IsRequestFrame, request_in, body_in, body_or, body_asking, asked_opcode, content_of, Asks}
 
 pub frame_says : (bytes : List ℕ) (request : Request) → IsRequestFrame bytes request → SaysRequest bytes request
 frame_says bytes request h = record {
@@ -122,3 +126,19 @@ said_at minor bytes request h =
       unique = h.0.unique;
       says = h.0.says;
     }
+
+-- An operation is asked of the node of its request's header.
+pub asked_at : (o : Asked (Bor (List ℕ))) → Asks (body_in (header_node o) (content_of (body_asking o))) o
+asked_at (asked.Lookup d name) = refl
+asked_at (asked.Getattr x) = refl
+asked_at (asked.Mkdir d name) = refl
+asked_at (asked.Create d name) = refl
+asked_at (asked.Unlink d name) = refl
+asked_at (asked.Rmdir d name) = refl
+asked_at (asked.Rename d old e new) = refl
+asked_at (asked.Link x d name) = refl
+asked_at (asked.Open x) = refl
+asked_at (asked.Readdir d after size) = refl
+asked_at (asked.Readdirplus d after size) = refl
+asked_at (asked.Read opened offset size) = refl
+asked_at (asked.Write opened offset bytes) = refl

@@ -79,25 +79,6 @@ fn transfer_asked<'a>(nodeid: u64, body: &RequestBody<'a>) -> Option<Operation<&
     }
 }
 
-/// The node of the request that asks an operation.
-pub(crate) fn node_of(operation: &Operation<&[u8]>) -> u64
-    ensures { Asks (body_in result (content_of (body_asking operation.now))) operation.now }
-{
-    match operation {
-        Operation::Lookup { directory, .. }
-        | Operation::Mkdir { directory, .. }
-        | Operation::Create { directory, .. }
-        | Operation::Unlink { directory, .. }
-        | Operation::Rmdir { directory, .. }
-        | Operation::Rename { directory, .. }
-        | Operation::Link { directory, .. }
-        | Operation::Readdir { directory, .. }
-        | Operation::Readdirplus { directory, .. } => *directory,
-        Operation::Getattr { node } | Operation::Open { node } => *node,
-        Operation::Read { opened, .. } | Operation::Write { opened, .. } => opened.nodeid,
-    }
-}
-
 /// The body of the request that asks an operation.
 pub(crate) fn body_of<'a>(operation: &Operation<&'a [u8]>) -> RequestBody<'a>
     ensures { request_content result ≡ content_of (body_asking operation.now) }

@@ -7,7 +7,7 @@ ghost use Rattle.fuse_spec.specs.Values.Numbers.{init_flags};
 ghost use Rattle.fuse_spec.specs.World.Worlds.{forget_body};
 ghost use Rattle.fuse_frames.specs.RequestTies.{IsRequestFrame, body_asking, body_in, content_of, asked_opcode};
 
-use crate::operations::{body_of, node_of};
+use crate::operations::body_of;
 use crate::pair_bytes::pair_bytes;
 use bitflags::Flags;
 use fk_wire::{
@@ -109,7 +109,7 @@ impl<A: Allocator> RequestFrame<A> {
     ) -> Result<RequestFrame<A>, AllocError>
         ensures { IfOk result (λ frame. frame ≡ record { unique = unique; body = body_asking operation.now }) }
     {
-        let nodeid = node_of(operation);
+        let nodeid = operation.header_node();
         let body = body_of(operation);
         framed(
             alloc,

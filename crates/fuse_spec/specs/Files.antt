@@ -4,3 +4,4 @@ pub mod AskedOperations
 pub mod Trees
 pub mod FileOperations
 pub mod TreeShape
+pub mod OperationNodes

@@ -5,6 +5,7 @@
 mod asked;
 pub mod errno;
 pub mod limits;
+mod operation_nodes;
 pub mod worked_runs;
 
 pub use asked::Operation;
