@@ -8,7 +8,6 @@ use Rattle.fuse_spec.specs.declared.Validity.{Validity}
 use Rattle.fuse_spec.specs.Values.Numbers.{max_transfer}
 use Rattle.fuse_spec.specs.Files.Operations as operation
 use Rattle.fuse_spec.specs.Files.Operations.{Operation, files_in}
-use Rattle.fuse_spec.specs.Files.Operations as asked
 use Rattle.fuse_spec.specs.Files.Operations.{Asked}
 use Rattle.fuse_spec.specs.Files.Operations.{opened_nodes}
 use Rattle.fuse_spec.specs.Kernel.Messages.{RequestBody, init, asks, release}
@@ -83,7 +82,7 @@ named_in (Two node other) = (node.nodeid, node.generation) ∷ (other.nodeid, ot
 module _ {A : Type 0} where
   -- the operation that a held request asks
   abbrev pub operation_of : HeldOperation A → Operation ℕ Opened
-  operation_of o = asked.operation_of (λ (v : Vec ℕ A). v.items) o
+  operation_of o = operation.operation_of (λ (v : Vec ℕ A). v.items) o
 
   -- what a held request asks
   abbrev pub asked_of : HeldBody A → RequestBody
