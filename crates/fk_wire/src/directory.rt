@@ -1,6 +1,7 @@
 //! Records and pairs, written one by one.
 
-ghost use Rattle.std.specs.Prelude.{◌≡◌, ◌≢◌, ◌≤◌, ◌+◌, ◌<◌, ◌^◌, length, OnOk, OnErr, IfErr, ◌++◌, ◌∷◌, [], vec_len, vec_capacity};
+ghost use Rattle.std.specs.Prelude.{◌≡◌, ◌≢◌, ◌≤◌, ◌+◌, ◌<◌, ◌^◌, length, OnOk, OnErr};
+ghost use Rattle.std.specs.Prelude.{IfErr, ◌++◌, ◌∷◌, [], vec_len, vec_capacity};
 ghost use Rattle.fk_wire.specs.Fields.{InRange, sizes, spellings, u32, u64, IsRecordName};
 ghost use Rattle.fk_wire.specs.Entries.{IsEntry, entry_content, entry_fields};
 ghost use Rattle.fk_wire.specs.Dirents.{dirents, dirent_fields, direntpluses};

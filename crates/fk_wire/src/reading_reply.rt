@@ -1,10 +1,13 @@
 //! Frames as replies.
 
-ghost use Rattle.std.specs.Prelude.{◌≡◌, ◌≢◌, ◌≤◌, ◌<◌, ◌+◌, ℕ, List, Option, Some, None, length, OnOk, IfOk, IfErr, IsOkAnd, if◌then◌else◌};
+ghost use Rattle.std.specs.Prelude.{◌≡◌, ◌≢◌, ◌≤◌, ◌<◌, ◌+◌, ℕ, List, Option, Some, None};
+ghost use Rattle.std.specs.Prelude.{length, OnOk, IfOk, IfErr, IsOkAnd, if◌then◌else◌};
 ghost use Rattle.fk_wire.specs.Fields.{ReadsAs};
-ghost use Rattle.fk_wire.specs.Replies.{ReplyMessage, SpellsReply, SpellsReplyAt, IsReplyContent, HasReplyNames, reply_body, reply_content, kind_of as the_kind_of, reply_kind as the_reply_kind, kind_of_content, headed, reply_message, states_15};
-ghost use Rattle.fk_wire.specs.Decoded.{decoded_reply};
-ghost use Rattle.fk_wire.specs.ReplyFaults.{FillsReply, ReplyBodyFaultIs, ReplyFaultIs, ReplyFaultIsAt, IsReplyHead, IsReplyHeadFault};
+ghost use Rattle.fk_wire.specs.Replies.{ReplyMessage, SpellsReply, SpellsReplyAt, IsReplyContent, HasReplyNames};
+ghost use Rattle.fk_wire.specs.Replies.{reply_body, reply_content, kind_of_content, headed, reply_message, states_15};
+ghost use Rattle.fk_wire.specs.Replies.{decoded_reply};
+ghost use Rattle.fk_wire.specs.ReplyFaults.{FillsReply, ReplyBodyFaultIs, ReplyFaultIs, ReplyFaultIsAt};
+ghost use Rattle.fk_wire.specs.ReplyFaults.{IsReplyHead, IsReplyHeadFault};
 ghost use Rattle.fk_wire.specs.declared.opcode.Opcode.{Opcode};
 ghost use Rattle.fk_wire.specs.declared.opcode.Minor.{Minor};
 ghost use Rattle.fk_wire.specs.declared.fault.WireFault.TheVariants.{Body as BodyFault};
@@ -13,43 +16,12 @@ use crate::entry::{attr_at, entry_at, is_timed};
 use crate::fault::WireFault;
 use crate::flags::offered;
 use crate::limits::{MAX_FRAME, is_error_number};
-use crate::opcode::{Minor, Opcode, is_known, served_minor};
+use crate::opcode::{Minor, Opcode, reply_kind_at, served_minor};
 use crate::records::Records;
 use crate::records_plus::RecordsPlus;
 use crate::reply::{Reply, ReplyBody, ReplyHead, ReplyKind};
 use crate::writing_reply::error_word;
 use fk_fields::{i32_at, u32_at, u64_at};
-
-/// The kind of body in the replies to an opcode.
-fn kind_of(opcode: Opcode) -> Option<ReplyKind>
-    ensures { result ≡ the_kind_of opcode }
-{
-    match opcode {
-        Opcode::Lookup | Opcode::Mkdir | Opcode::Link => Some(ReplyKind::Entry),
-        Opcode::Getattr => Some(ReplyKind::Attr),
-        Opcode::Unlink | Opcode::Rmdir | Opcode::Rename | Opcode::Release | Opcode::Interrupt =>
-            Some(ReplyKind::Empty),
-        Opcode::Open => Some(ReplyKind::Open),
-        Opcode::Read => Some(ReplyKind::Bytes),
-        Opcode::Write => Some(ReplyKind::Write),
-        Opcode::Init => Some(ReplyKind::Init),
-        Opcode::Readdir => Some(ReplyKind::Records),
-        Opcode::Readdirplus => Some(ReplyKind::RecordsPlus),
-        Opcode::Create => Some(ReplyKind::Create),
-        Opcode::Forget | Opcode::BatchForget => None,
-    }
-}
-
-/// The kind of body in the replies to an opcode that the minor version knows.
-fn reply_kind(minor: Minor, opcode: Opcode) -> Option<ReplyKind>
-    ensures { result ≡ the_reply_kind minor opcode }
-{
-    if is_known(minor, opcode) {
-        kind_of(opcode)
-    } else {
-        None
-    }
-}
 
 /// How long an INIT reply is that states this version.
 pub(crate) fn init_size(major: u32, minor: u32) -> usize
@@ -182,7 +154,7 @@ fn body_after(
     ensures ok { IfOk result (λ body. SpellsReplyAt minor opcode bytes.now (headed head body)) }
     ensures fault { IfErr result (ReplyFaultIsAt minor opcode bytes.now) }
 {
-    let Some(kind) = reply_kind(minor, opcode) else {
+    let Some(kind) = reply_kind_at(minor, opcode) else {
         return Err(WireFault::Opcode);
     };
     if bytes.len() > MAX_FRAME {

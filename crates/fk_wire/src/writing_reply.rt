@@ -1,11 +1,14 @@
 //! Replies as frames.
 
-ghost use Rattle.std.specs.Prelude.{◌≡◌, ◌≢◌, ◌≤◌, ◌<◌, ◌+◌, ◌++◌, ◌↔◌, ℕ, List, [], false, length, IsTrue, OnOk, OnErr, IfErr, vec_len, vec_capacity};
+ghost use Rattle.std.specs.Prelude.{◌≡◌, ◌≢◌, ◌≤◌, ◌<◌, ◌+◌, ◌++◌, ◌↔◌, ℕ, List, [], false, length};
+ghost use Rattle.std.specs.Prelude.{IsTrue, OnOk, OnErr, IfErr, vec_len, vec_capacity};
 ghost use Rattle.std.specs.Int.{cast_unsigned, w32};
 ghost use Rattle.std.specs.Int.RustNames.{bit_and};
 ghost use Rattle.fk_wire.specs.Fields.{InRange, sizes, spellings};
 ghost use Rattle.fk_wire.specs.Requests.{known_flags};
-ghost use Rattle.fk_wire.specs.Replies.{ReplyMessage, WrittenReply, WrittenReplyAt, GoesWith, SpellsReplyAt, IsReplyContent, reply_body, open_fields, init_fields, init_end, reply_content, kind_of_content, knows_kind, reply_message};
+ghost use Rattle.fk_wire.specs.Replies.{ReplyMessage, WrittenReply, WrittenReplyAt, GoesWith, SpellsReplyAt};
+ghost use Rattle.fk_wire.specs.Replies.{IsReplyContent, reply_body, open_fields, init_fields, init_end, reply_content};
+ghost use Rattle.fk_wire.specs.Replies.{kind_of_content, knows_kind, reply_message};
 ghost use Rattle.fk_wire.specs.ReplyFaults.{ReplyRefusalIs, ReplyRefusalIsAt};
 ghost use Rattle.fk_wire.specs.declared.reply.ReplyKind.TheVariants.{Empty as EmptyKind};
 ghost use Rattle.fk_wire.specs.declared.fault.WireFault.TheVariants.{Memory as MemoryFault};
