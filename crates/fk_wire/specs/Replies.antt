@@ -155,6 +155,11 @@ HasReplyNames (records_reply ds) = HaveRecordNames ds
 HasReplyNames (plus_reply ps) = HavePlusNames ps
 HasReplyNames content = Unit {0}
 
+-- The frame's bytes after its header are this body, of this kind.
+abbrev pub IsReplyBodyOf : ReplyKind → List ℕ → ReplyBody → Type 0
+IsReplyBodyOf k bytes body = (kind_of_content (reply_content body) ≡ k) × IsReplyContent (reply_content body)
+    × HasReplyNames (reply_content body) × ReadsAs 16 (reply_body (reply_content body)) bytes
+
 -- An error is 0 or a negated error number, down to -511.
 abbrev pub IsErrorNumber : ℤ → Type 0
 IsErrorNumber z = (z ≤ℤ pos 0) × (negsuc 510 ≤ℤ z)

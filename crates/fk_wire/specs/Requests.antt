@@ -133,6 +133,11 @@ request_body (interrupt unique) = u64 unique ∷ []
 -- struct fuse_batch_forget_in: count, dummy; and the pairs
 request_body (batch_forget forgets) = u32 (length forgets) ∷ free32 0 ∷ forget_ones forgets
 
+-- The frame's bytes after its header are this body, of a request of this opcode.
+abbrev pub IsBodyOf : Opcode → List ℕ → RequestBody → Type 0
+IsBodyOf o bytes body = (opcode_of (request_content body) ≡ o)
+    × ReadsAs 40 (request_body (request_content body)) bytes
+
 -- the name from a place to the end of a frame, without its NUL byte
 abbrev pub name_from : ℕ → List ℕ → List ℕ
 name_from place bytes = take (length bytes - (place + 1)) (drop place bytes)

@@ -1,13 +1,13 @@
 //! The bodies of requests' frames, by opcode: read from a frame, and written at the end of a vector.
 
 ghost use Rattle.std.specs.Prelude.{◌≡◌, ◌≢◌, ◌≤◌, ◌<◌, ◌+◌, ◌*◌, ◌^◌, ◌++◌, ◌↔◌, IfOk, IfErr, IsTrue, ℕ};
-ghost use Rattle.std.specs.Prelude.{length, vec_len, vec_capacity};
+ghost use Rattle.std.specs.Prelude.{if◌then◌else◌, length, vec_len, vec_capacity};
 ghost use Rattle.std.specs.Int.RustNames.{bit_and};
-ghost use Rattle.fk_wire.specs.Fields.{ReadsAs, InRange, AreNamed, sizes, spellings};
+ghost use Rattle.fk_wire.specs.Fields.{InRange, AreNamed, sizes, spellings};
 ghost use Rattle.fk_wire.specs.Pairs.{pairs_in, forget_ones};
-ghost use Rattle.fk_wire.specs.Requests.{request_content, opcode_of, request_body, range, known_flags};
+ghost use Rattle.fk_wire.specs.Requests.{IsBodyOf, request_content, request_body, range, known_flags};
 ghost use Rattle.fk_wire.specs.Requests.{getattr, mkdir, release, init, create, batch_forget};
-ghost use Rattle.fk_wire.specs.Opcodes.{shape_of, name_after};
+ghost use Rattle.fk_wire.specs.Opcodes.{shape_of, exactly, name_after};
 ghost use Rattle.fk_wire.specs.Faults.{BodyFaultIs};
 ghost use Rattle.fk_wire.specs.declared.opcode.Opcode.{Opcode};
 
@@ -28,8 +28,7 @@ use std::alloc::Allocator;
 #[inline(always)]
 fn named_body(opcode: Opcode, bytes: &[u8], place: usize) -> Result<RequestBody<'_>, WireFault>
     requires { shape_of opcode ≡ name_after place }
-    ensures ok { IfOk result (λ b. (opcode_of (request_content b) ≡ opcode)
-        × ReadsAs 40 (request_body (request_content b)) bytes.now) }
+    ensures ok { IfOk result (IsBodyOf opcode bytes.now) }
     ensures err { IfErr result (BodyFaultIs (shape_of opcode) bytes.now) }
 {
     let name = one_name(bytes, place)?;
@@ -50,8 +49,7 @@ fn named_body(opcode: Opcode, bytes: &[u8], place: usize) -> Result<RequestBody<
 /// `struct fuse_rename_in` and the two names.
 #[inline(always)]
 fn rename_body(bytes: &[u8]) -> Result<RequestBody<'_>, WireFault>
-    ensures ok { IfOk result (λ b. (opcode_of (request_content b) ≡ Opcode.Rename)
-        × ReadsAs 40 (request_body (request_content b)) bytes.now) }
+    ensures ok { IfOk result (IsBodyOf Opcode.Rename bytes.now) }
     ensures err { IfErr result (BodyFaultIs (shape_of Opcode.Rename) bytes.now) }
 {
     let (old, new) = two_names(bytes, 48)?;
@@ -62,8 +60,7 @@ fn rename_body(bytes: &[u8]) -> Result<RequestBody<'_>, WireFault>
 /// `struct fuse_read_in`.
 #[inline(always)]
 fn read_body(bytes: &[u8]) -> Result<RequestBody<'_>, WireFault>
-    ensures ok { IfOk result (λ b. (opcode_of (request_content b) ≡ Opcode.Read)
-        × ReadsAs 40 (request_body (request_content b)) bytes.now) }
+    ensures ok { IfOk result (IsBodyOf Opcode.Read bytes.now) }
     ensures err { IfErr result (BodyFaultIs (shape_of Opcode.Read) bytes.now) }
 {
     fixed(bytes, 80)?;
@@ -76,8 +73,7 @@ fn read_body(bytes: &[u8]) -> Result<RequestBody<'_>, WireFault>
 /// `struct fuse_write_in` and the data.
 #[inline(always)]
 fn write_body(bytes: &[u8]) -> Result<RequestBody<'_>, WireFault>
-    ensures ok { IfOk result (λ b. (opcode_of (request_content b) ≡ Opcode.Write)
-        × ReadsAs 40 (request_body (request_content b)) bytes.now) }
+    ensures ok { IfOk result (IsBodyOf Opcode.Write bytes.now) }
     ensures err { IfErr result (BodyFaultIs (shape_of Opcode.Write) bytes.now) }
 {
     let data = with_bytes(bytes)?;
@@ -93,8 +89,7 @@ fn write_body(bytes: &[u8]) -> Result<RequestBody<'_>, WireFault>
 /// `struct fuse_release_in`.
 #[inline(always)]
 fn release_body(bytes: &[u8]) -> Result<RequestBody<'_>, WireFault>
-    ensures ok { IfOk result (λ b. (opcode_of (request_content b) ≡ Opcode.Release)
-        × ReadsAs 40 (request_body (request_content b)) bytes.now) }
+    ensures ok { IfOk result (IsBodyOf Opcode.Release bytes.now) }
     ensures err { IfErr result (BodyFaultIs (shape_of Opcode.Release) bytes.now) }
 {
     fixed(bytes, 64)?;
@@ -105,8 +100,7 @@ fn release_body(bytes: &[u8]) -> Result<RequestBody<'_>, WireFault>
 /// `struct fuse_init_in`.
 #[inline(always)]
 fn init_body(bytes: &[u8]) -> Result<RequestBody<'_>, WireFault>
-    ensures ok { IfOk result (λ b. (opcode_of (request_content b) ≡ Opcode.Init)
-        × ReadsAs 40 (request_body (request_content b)) bytes.now) }
+    ensures ok { IfOk result (IsBodyOf Opcode.Init bytes.now) }
     ensures err { IfErr result (BodyFaultIs (shape_of Opcode.Init) bytes.now) }
 {
     fixed(bytes, 56)?;
@@ -120,37 +114,26 @@ fn init_body(bytes: &[u8]) -> Result<RequestBody<'_>, WireFault>
     })
 }
 
-/// `struct fuse_read_in` of a READDIR.
+/// `struct fuse_read_in` of a READDIR, or with `plus` of a READDIRPLUS.
 #[inline(always)]
-fn readdir_body(bytes: &[u8]) -> Result<RequestBody<'_>, WireFault>
-    ensures ok { IfOk result (λ b. (opcode_of (request_content b) ≡ Opcode.Readdir)
-        × ReadsAs 40 (request_body (request_content b)) bytes.now) }
-    ensures err { IfErr result (BodyFaultIs (shape_of Opcode.Readdir) bytes.now) }
+fn list_body(plus: bool, bytes: &[u8]) -> Result<RequestBody<'_>, WireFault>
+    ensures ok { IfOk result (IsBodyOf (if plus then Opcode.Readdirplus else Opcode.Readdir) bytes.now) }
+    ensures err { IfErr result (BodyFaultIs (exactly 80) bytes.now) }
 {
     fixed(bytes, 80)?;
     let offset = u64_at(bytes, 48);
     let size = u32_at(bytes, 56);
-    Ok(RequestBody::Readdir { offset, size })
-}
-
-/// `struct fuse_read_in` of a READDIRPLUS.
-#[inline(always)]
-fn readdirplus_body(bytes: &[u8]) -> Result<RequestBody<'_>, WireFault>
-    ensures ok { IfOk result (λ b. (opcode_of (request_content b) ≡ Opcode.Readdirplus)
-        × ReadsAs 40 (request_body (request_content b)) bytes.now) }
-    ensures err { IfErr result (BodyFaultIs (shape_of Opcode.Readdirplus) bytes.now) }
-{
-    fixed(bytes, 80)?;
-    let offset = u64_at(bytes, 48);
-    let size = u32_at(bytes, 56);
-    Ok(RequestBody::Readdirplus { offset, size })
+    Ok(if plus {
+        RequestBody::Readdirplus { offset, size }
+    } else {
+        RequestBody::Readdir { offset, size }
+    })
 }
 
 /// `struct fuse_batch_forget_in` and the pairs.
 #[inline(always)]
 fn batch_forget_body(bytes: &[u8]) -> Result<RequestBody<'_>, WireFault>
-    ensures ok { IfOk result (λ b. (opcode_of (request_content b) ≡ Opcode.BatchForget)
-        × ReadsAs 40 (request_body (request_content b)) bytes.now) }
+    ensures ok { IfOk result (IsBodyOf Opcode.BatchForget bytes.now) }
     ensures err { IfErr result (BodyFaultIs (shape_of Opcode.BatchForget) bytes.now) }
 {
     let pairs = with_pairs(bytes)?;
@@ -161,8 +144,7 @@ fn batch_forget_body(bytes: &[u8]) -> Result<RequestBody<'_>, WireFault>
 #[inline(always)]
 fn other_body(opcode: Opcode, bytes: &[u8]) -> Result<RequestBody<'_>, WireFault>
     requires { (place : ℕ) → shape_of opcode ≢ name_after place }
-    ensures ok { IfOk result (λ b. (opcode_of (request_content b) ≡ opcode)
-        × ReadsAs 40 (request_body (request_content b)) bytes.now) }
+    ensures ok { IfOk result (IsBodyOf opcode bytes.now) }
     ensures err { IfErr result (BodyFaultIs (shape_of opcode) bytes.now) }
 {
     match opcode {
@@ -189,8 +171,8 @@ fn other_body(opcode: Opcode, bytes: &[u8]) -> Result<RequestBody<'_>, WireFault
         Opcode::Write => write_body(bytes),
         Opcode::Release => release_body(bytes),
         Opcode::Init => init_body(bytes),
-        Opcode::Readdir => readdir_body(bytes),
-        Opcode::Readdirplus => readdirplus_body(bytes),
+        Opcode::Readdir => list_body(false, bytes),
+        Opcode::Readdirplus => list_body(true, bytes),
         Opcode::BatchForget => batch_forget_body(bytes),
         _ => Err(WireFault::Body),
     }
@@ -199,8 +181,7 @@ fn other_body(opcode: Opcode, bytes: &[u8]) -> Result<RequestBody<'_>, WireFault
 /// The body of a frame under this opcode.
 #[inline(always)]
 pub(crate) fn body_of(opcode: Opcode, bytes: &[u8]) -> Result<RequestBody<'_>, WireFault>
-    ensures ok { IfOk result (λ b. (opcode_of (request_content b) ≡ opcode)
-        × ReadsAs 40 (request_body (request_content b)) bytes.now) }
+    ensures ok { IfOk result (IsBodyOf opcode bytes.now) }
     ensures err { IfErr result (BodyFaultIs (shape_of opcode) bytes.now) }
 {
     match name_place(opcode) {

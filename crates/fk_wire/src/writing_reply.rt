@@ -126,7 +126,7 @@ fn put_init<A: Allocator>(out: &mut Vec<u8, A>, major: u32, minor: u32, flags: I
     }
 }
 
-#[tactic(auto, using(std::proofs::Common::append_assoc, crate::proofs::Spelled::entry_and, crate::proofs::Spelled::entry_in_range, crate::proofs::Spelled::sizes_of_entry))]
+#[tactic(auto, using(std::proofs::Common::append_assoc, crate::proofs::Spelled::written_entries))]
 fn put_reply_body<A: Allocator>(out: &mut Vec<u8, A>, body: &ReplyBody<'_>)
     requires { vec_len out.old + sizes (reply_body (reply_content body.now)) ≤ vec_capacity out.old }
     ensures items { out.new.items ≡ out.old.items ++ spellings (reply_body (reply_content body.now)) }
