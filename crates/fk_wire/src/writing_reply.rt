@@ -23,7 +23,7 @@ use crate::limits::{MAX_FRAME, is_error_number};
 use crate::opcode::{Minor, Opcode, served_minor};
 use crate::reading_reply::init_size;
 use crate::reply::{Reply, ReplyBody};
-use crate::room::{put_bytes, put_two_u32, put_u16, put_u32, put_u64};
+use crate::room::{put_bytes, put_two_u32, put_u32, put_u64, put_zeros};
 use std::alloc::Allocator;
 
 /// The error number as the header has it.
@@ -96,8 +96,8 @@ fn put_init_end<A: Allocator>(out: &mut Vec<u8, A>)
     ensures { out.new.items ≡ out.old.items ++ spellings (init_end false) }
 {
     put_u32(out, 1);
-    put_u16(out, 0);
-    put_u16(out, 0);
+    put_zeros(out, 2);
+    put_zeros(out, 2);
     put_u32(out, 0);
     put_u32(out, 0);
     put_u32(out, 0);
@@ -118,8 +118,8 @@ fn put_init<A: Allocator>(out: &mut Vec<u8, A>, major: u32, minor: u32, flags: I
     put_u32(out, minor);
     put_u32(out, 0);
     put_u32(out, flags.known());
-    put_u16(out, 0);
-    put_u16(out, 0);
+    put_zeros(out, 2);
+    put_zeros(out, 2);
     put_u32(out, 4096);
     if init_size(major, minor) == 80 {
         put_init_end(out);
