@@ -6,7 +6,7 @@ ghost use Rattle.std.specs.Int.RustNames.{bit_and};
 ghost use Rattle.fk_wire.specs.Fields.{InRange, AreNamed, sizes, spellings};
 ghost use Rattle.fk_wire.specs.Pairs.{pairs_in, forget_ones};
 ghost use Rattle.fk_wire.specs.Requests.{IsBodyOf, request_content, request_body, range, known_flags};
-ghost use Rattle.fk_wire.specs.Requests.{getattr, mkdir, release, init, create, batch_forget};
+ghost use Rattle.fk_wire.specs.Requests.{getattr, mkdir, rename, release, init, create, batch_forget};
 ghost use Rattle.fk_wire.specs.Opcodes.{shape_of, exactly, name_after};
 ghost use Rattle.fk_wire.specs.Faults.{BodyFaultIs};
 ghost use Rattle.fk_wire.specs.declared.opcode.Opcode.{Opcode};
@@ -289,6 +289,17 @@ fn put_mkdir<A: Allocator>(out: &mut Vec<u8, A>, name: &[u8])
     put_name(out, name);
 }
 
+/// A `struct fuse_rename_in`, and the two names.
+#[tactic(auto, using(std::proofs::Common::append_assoc))]
+fn put_rename<A: Allocator>(out: &mut Vec<u8, A>, newdir: u64, old: &[u8], new: &[u8])
+    requires { vec_len out.old + (8 + (length old.now + 1) + (length new.now + 1)) ≤ vec_capacity out.old }
+    ensures { out.new.items ≡ out.old.items ++ spellings (request_body (rename newdir old.now new.now)) }
+{
+    put_u64(out, newdir);
+    put_name(out, old);
+    put_name(out, new);
+}
+
 /// A `struct fuse_release_in`.
 #[tactic(auto, using(std::proofs::Common::append_assoc))]
 fn put_release<A: Allocator>(out: &mut Vec<u8, A>, fh: u64)
@@ -355,19 +366,12 @@ pub(crate) fn put_body<A: Allocator>(out: &mut Vec<u8, A>, body: &RequestBody<'_
         RequestBody::Forget { nlookup } => put_u64(out, *nlookup),
         RequestBody::Getattr => put_getattr(out),
         RequestBody::Mkdir { name } => put_mkdir(out, name),
-        RequestBody::Rename { newdir, old, new } => {
-            put_u64(out, *newdir);
-            put_name(out, old);
-            put_name(out, new);
-        }
+        RequestBody::Rename { newdir, old, new } => put_rename(out, *newdir, old, new),
         RequestBody::Link { oldnodeid, name } => {
             put_u64(out, *oldnodeid);
             put_name(out, name);
         }
-        RequestBody::Open => {
-            put_u32(out, 0);
-            put_u32(out, 0);
-        }
+        RequestBody::Open => put_two_u32(out, 0, 0),
         RequestBody::Read { fh, offset, size } => put_range(out, *fh, *offset, *size),
         RequestBody::Write { fh, offset, bytes } => {
             put_range(out, *fh, *offset, bytes.len() as u32);

@@ -89,7 +89,7 @@ fn entry_of(bytes: &[u8]) -> Result<ReplyBody<'_>, WireFault>
     Ok(ReplyBody::Entry { entry })
 }
 
-/// The body of a CREATE's reply.
+/// The body of a new open file's reply.
 fn create_of(bytes: &[u8]) -> Result<ReplyBody<'_>, WireFault>
     ensures ok { IfOk result (IsReplyBodyOf ReplyKind.Create bytes.now) }
     ensures err { IfErr result (ReplyBodyFaultIs ReplyKind.Create bytes.now) }
@@ -97,6 +97,16 @@ fn create_of(bytes: &[u8]) -> Result<ReplyBody<'_>, WireFault>
     let entry = first_entry(bytes, 160)?;
     let fh = u64_at(bytes, 144);
     Ok(ReplyBody::Create { entry, fh })
+}
+
+/// The body of a reply with attributes.
+fn attr_of(bytes: &[u8]) -> Result<ReplyBody<'_>, WireFault>
+    ensures ok { IfOk result (IsReplyBodyOf ReplyKind.Attr bytes.now) }
+    ensures err { IfErr result (ReplyBodyFaultIs ReplyKind.Attr bytes.now) }
+{
+    reply_of_size(bytes, 120)?;
+    let attr = attr_at(bytes, 32);
+    Ok(ReplyBody::Attr { attr })
 }
 
 /// The body of this kind.
@@ -111,11 +121,7 @@ fn body_of(kind: ReplyKind, bytes: &[u8]) -> Result<ReplyBody<'_>, WireFault>
             Ok(ReplyBody::Empty)
         }
         ReplyKind::Entry => entry_of(bytes),
-        ReplyKind::Attr => {
-            reply_of_size(bytes, 120)?;
-            let attr = attr_at(bytes, 32);
-            Ok(ReplyBody::Attr { attr })
-        }
+        ReplyKind::Attr => attr_of(bytes),
         ReplyKind::Open => {
             reply_of_size(bytes, 32)?;
             let fh = u64_at(bytes, 16);
