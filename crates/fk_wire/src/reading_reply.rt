@@ -64,6 +64,7 @@ fn init_of(bytes: &[u8]) -> Result<ReplyBody<'_>, WireFault>
 }
 
 /// The entry with which the body of a frame of so many bytes begins.
+#[inline(always)]
 fn first_entry(bytes: &[u8], size: usize) -> Result<Entry, WireFault>
     requires { 144 ≤ size }
     ensures ok { IfOk result (λ e. (length bytes.now ≡ size) × IsEntry (entry_content e)
