@@ -2,6 +2,7 @@
 #![tactic(auto)]
 
 mod arguments;
+mod call_line;
 mod form;
 mod frame;
 mod hex_text;
