@@ -4,11 +4,11 @@
 use super::machine::{Machine, MachineTest, try_on_list_world, try_on_session, try_on_world};
 use super::rows::{Row, lists};
 use fail_at::FailAt;
-use fw_script::{Line, read_hex, read_line, write_hex, write_record};
+use fw_script::{Line, OutputRefused, read_hex, read_line, write_hex, write_record};
 use fw_world::{Call, Event, Outcome, Record, Refusal};
 use std::alloc::{AllocError, Allocator, Global};
 use std::io;
-use std::io::Write;
+use std::io::{ErrorKind, Write};
 use std::process::Abort;
 use std::test::Fail;
 
@@ -97,6 +97,11 @@ fn step<A: Allocator + Copy, W: Machine<A> + Drop>(
     }
 }
 
+/// The error of a text that cannot grow.
+fn no_room(_: OutputRefused) -> io::Error {
+    io::Error::from(ErrorKind::OutOfMemory)
+}
+
 /// The nodes of one side as they are printed.
 pub(super) fn write_nodes(
     out: &mut Vec<u8>,
@@ -132,7 +137,7 @@ fn write_both<A: Allocator + Copy, W: Machine<A> + Drop>(
 fn write_frame(out: &mut Vec<u8>, frame: Option<&[u8]>) -> io::Result<()> {
     if let Some(frame) = frame {
         write!(out, "frame ")?;
-        write_hex(out, frame)?;
+        write_hex(out, frame).map_err(no_room)?;
         writeln!(out)?;
     }
     Ok(())
@@ -150,7 +155,7 @@ fn write_event<A: Allocator + Copy, W: Machine<A> + Drop>(
         Ok(outcome) => Record::Outcome(outcome),
         Err(refusal) => Record::Refused(refusal),
     };
-    write_record(out, &record)?;
+    write_record(out, &record).map_err(no_room)?;
     if hex {
         write_frame(out, world.last_put())?;
     }
@@ -159,7 +164,7 @@ fn write_event<A: Allocator + Copy, W: Machine<A> + Drop>(
             break;
         };
         let record = Record::Answered { call, answer };
-        write_record(out, &record)?;
+        write_record(out, &record).map_err(no_room)?;
     }
     Ok(())
 }
@@ -257,7 +262,7 @@ fn runs_all<A: Allocator + Copy, W: Machine<A> + Drop>(
 /// Prints records.
 fn write_records<A: Allocator>(records: &[Record<A>], out: &mut Vec<u8>) -> io::Result<()> {
     for record in records {
-        write_record(out, record)?;
+        write_record(out, record).map_err(no_room)?;
     }
     Ok(())
 }
