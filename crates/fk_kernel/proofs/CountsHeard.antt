@@ -24,9 +24,9 @@ use Rattle.fuse_spec.specs.Calls.Vfs.{CallState, walking, doing, using, asked}
 use Rattle.fuse_spec.proofs.Tables.{get_put_here}
 use Rattle.fk_syscalls.specs.Values.{AsksWhole}
 use Rattle.std.specs.Borrow.{Bor}
-use Rattle.fuse_spec.specs.Files.AskedOperations.{operation_of}
-use Rattle.fuse_spec.specs.declared.asked.Operation.{Operation as Asked}
-use Rattle.fuse_spec.specs.declared.asked.Operation.TheVariants as asks
+use Rattle.fuse_spec.specs.Files.Operations.{operation_of}
+use Rattle.fuse_spec.specs.Files.Operations.{Asked}
+use Rattle.fuse_spec.specs.declared.operation.Operation.TheVariants as asks
 use Rattle.fuse_spec.specs.Kernel.Refusals.{is_counted_out}
 use Rattle.fk_nodes.specs.LookedUp.{looked_up_from, AreBelow, SomeOut}
 use Rattle.fk_nodes.proofs.Judged.{looked_up_is}

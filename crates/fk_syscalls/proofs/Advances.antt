@@ -1,7 +1,9 @@
 -- What a call comes to, by where names in force leave its walk.
 use Rattle.std.proofs.Common.{◌≡◌, ℕ, Bool, true, false, cond, true≢false, List, [], ◌∷◌, ◌++◌, Option, Some, None, Result, Ok, Err, drop, nat_eq, refl, ap, sym, ◌∙◌, arith}
-use Rattle.std.specs.Prelude.{OnErr, IfOk, is_some, ◌||◌}
+use Rattle.std.specs.Prelude.{OnErr, IfOk, is_some, is_none, ◌||◌, ◌&&◌, Vec, map, flat_map, option_to_list, unwrap_or}
 use Rattle.std.specs.Option.{MatchOption}
+use Rattle.fuse_spec.specs.Files.Operations as op
+use Rattle.fuse_spec.specs.Files.Operations.{files_in, opened_nodes}
 use Rattle.fuse_spec.specs.Calls.Begins.{Beginning, beginning}
 use Rattle.fk_syscalls.specs.declared.state.Next.{Next}
 use Rattle.fk_syscalls.specs.Values.{IsBegun}
@@ -11,17 +13,18 @@ use Rattle.fuse_spec.specs.Calls.Answers.{failed}
 use Rattle.fuse_spec.specs.Kernel.Kernel.{nodes_of_state}
 use Rattle.fuse_spec.specs.Values.Maps.{Map, NameMap}
 use Rattle.fuse_spec.specs.Calls.Calls.{Call}
-use Rattle.fuse_spec.specs.Calls.Walks as final
 use Rattle.std.specs.List.{list_any}
 use Rattle.fuse_spec.specs.Calls.Paths.{Name, split}
 use Rattle.fuse_spec.specs.Calls.Vfs.{CallState, walking, Vfs, Advance, look, asking, no_more, answered, after_walk, after_beginning, walks_on, begun, numbered}
-use Rattle.fuse_spec.specs.Calls.Walks.{WalkPlan, WalkStop, FinalOperation, last, rename, link, go, after_stop, after_last, rename_from, link_to, files_of_plan, unknown, missing, arrived}
+use Rattle.fuse_spec.specs.Calls.Walks.{WalkPlan, WalkStop, FinalOperation, operation_at, last, rename, link, go, after_stop, after_last, files_of_plan, unknown, missing, arrived}
 use Rattle.fuse_spec.specs.declared.Binding.{Binding}
 use Rattle.fuse_spec.specs.declared.Opened.{Opened}
 use Rattle.fk_syscalls.specs.Walks.{known, stop_at}
 use Rattle.fk_syscalls.specs.Words.{words_from, behind_first}
-use Rattle.fk_syscalls.specs.Plans.{IsLast, plan_of}
-use Rattle.fk_syscalls.specs.States.{walking_at, state_of, HasNames, Asks}
+use Rattle.fk_syscalls.specs.Plans.{IsLast, IsSoundPlan, NamesEnd, names_end, plan_of}
+use Rattle.fk_syscalls.specs.declared.plan.Plan.{Plan}
+use Rattle.fk_syscalls.specs.declared.plan.Plan.TheVariants.{Last, Rename, Link}
+use Rattle.fk_syscalls.specs.States.{IsSoundAim, walking_at, state_of, HasNames, Asks}
 use Rattle.fk_syscalls.specs.declared.state.Aim.{Aim}
 use Rattle.fk_syscalls.specs.declared.state.Aim.TheVariants.{Walks, Reads, Writes}
 use Rattle.std.proofs.lemmas.Bool.Decides.{nat_tests}
@@ -71,15 +74,15 @@ module _ (c : Vfs Opened) (names : NameMap Binding) (clock : ℕ) (has : HasName
 
   pub renames : (from : ℕ) (words : List Name) (old : Name) (more : List Name) (new : Name) (node : ℕ)
       → go (known names clock) from words ≡ arrived node
-      → walks_on c call from words (rename old more new) ≡ walks_on c call c.root more (last (rename_from node old new))
+      → walks_on c call from words (rename old more new) ≡ walks_on c call c.root more (last (op.rename (Some node) old None new))
   renames from words old more new node stop = walks words (rename old more new) from ∙ ap
-      (after words (rename old more new)) stop ∙ same_walk (rename_from node old new) (go (look c) c.root more)
+      (after words (rename old more new)) stop ∙ same_walk (op.rename (Some node) old None new) (go (look c) c.root more)
 
   pub links : (from : ℕ) (words : List Name) (more : List Name) (name : Name) (node : ℕ)
       → go (known names clock) from words ≡ arrived node
-      → walks_on c call from words (link more name) ≡ walks_on c call c.root more (last (link_to node name))
+      → walks_on c call from words (link more name) ≡ walks_on c call c.root more (last (op.link (Some node) None name))
   links from words more name node stop = walks words (link more name) from ∙ ap
-      (after words (link more name)) stop ∙ same_walk (link_to node name) (go (look c) c.root more)
+      (after words (link more name)) stop ∙ same_walk (op.link (Some node) None name) (go (look c) c.root more)
 
   -- from the root
   pub root_is : (words : List Name) (plan : WalkPlan ℕ)
@@ -195,36 +198,75 @@ module _ {A : Type 0} (names : NameMap Binding) (clock : ℕ) (opens : Map Opene
       (first.0, ap (after_beginning (numbered c) c.next_call) (same c is) ∙ first.1)
 
 -- Which nodes a call names that walks, or whose walks are over.
-either : (a b : Bool) → (a || (b || false)) ≡ (b || (a || false))
-either true true = refl
-either true false = refl
-either false true = refl
-either false false = refl
+module _ (node at : ℕ) where
+  abbrev among : List ℕ → Bool
+  among = list_any (nat_eq node)
 
-pub names_walked : (node at : ℕ) (words : List Name) (plan : WalkPlan ℕ)
-    → list_any (nat_eq node) (nodes_of_state (walking_at at words plan))
-    ≡ (nat_eq node at || list_any (nat_eq node) (files_of_plan plan))
-names_walked node at (word ∷ words) plan = refl
-names_walked node at [] (rename old words new) = refl
-names_walked node at [] (link words name) = refl
-names_walked node at [] (last final.stat) = refl
-names_walked node at [] (last (final.list after)) = refl
-names_walked node at [] (last (final.listplus after)) = refl
-names_walked node at [] (last final.opening) = refl
-names_walked node at [] (last (final.mkdir name)) = refl
-names_walked node at [] (last (final.create name)) = refl
-names_walked node at [] (last (final.unlink name)) = refl
-names_walked node at [] (last (final.rmdir name)) = refl
-names_walked node at [] (last (rename_from directory old new)) = either (nat_eq node directory) (nat_eq node at)
-names_walked node at [] (last (link_to file name)) = refl
+  at_none : (e n l a : Bool) → l ≡ ((n && e) || a) → (e || l) ≡ (((true || n) && e) || a)
+  at_none true n l a h = refl
+  at_none false true l a h = h
+  at_none false false l a h = h
+
+  at_some : (d e n l a : Bool) → l ≡ ((n && e) || a) → (d || l) ≡ ((n && e) || (d || a))
+  at_some true true true l a h = refl
+  at_some true true false l a h = refl
+  at_some true false true l a h = refl
+  at_some true false false l a h = refl
+  at_some false e n l a h = h
+
+  -- files of an operation, by what is put in where it names none
+  put_in : (files : List (Option ℕ)) → among (map (λ (named : Option ℕ). unwrap_or named at) files)
+      ≡ ((list_any is_none files && nat_eq node at) || among (flat_map option_to_list files))
+  put_in [] = refl
+  put_in (None ∷ files) = at_none (nat_eq node at) (list_any is_none files)
+      (among (map (λ (named : Option ℕ). unwrap_or named at) files)) (among (flat_map option_to_list files)) (put_in files)
+  put_in (Some file ∷ files) = at_some (nat_eq node file) (nat_eq node at) (list_any is_none files)
+      (among (map (λ (named : Option ℕ). unwrap_or named at) files)) (among (flat_map option_to_list files)) (put_in files)
+
+  files_at : (final : FinalOperation ℕ) → files_in opened_nodes (operation_at {O = Opened} final at)
+      ≡ map (λ (named : Option ℕ). unwrap_or named at) (files_in (λ o. []) final)
+  files_at (op.lookup d name) = refl
+  files_at (op.getattr x) = refl
+  files_at (op.mkdir d name) = refl
+  files_at (op.create d name) = refl
+  files_at (op.unlink d name) = refl
+  files_at (op.rmdir d name) = refl
+  files_at (op.rename d old e new) = refl
+  files_at (op.link x d name) = refl
+  files_at (op.opening x) = refl
+  files_at (op.readdir d after size) = refl
+  files_at (op.readdirplus d after size) = refl
+  files_at (op.read o offset size) = elim o [ ]
+  files_at (op.write o offset bytes) = elim o [ ]
+
+  at_end_named : (final : FinalOperation ℕ) → names_end final ≡ true
+      → among (files_in opened_nodes (operation_at {O = Opened} final at))
+      ≡ (nat_eq node at || among (files_of_plan (last final)))
+  at_end_named final ends = ap among (files_at final) ∙ put_in (files_in (λ o. []) final) ∙ ap
+      (λ (n : Bool). (n && nat_eq node at) || among (files_of_plan (last final))) ends
+
+  pub names_walked : (words : List Name) (plan : WalkPlan ℕ) → NamesEnd plan
+      → among (nodes_of_state (walking_at at words plan)) ≡ (nat_eq node at || among (files_of_plan plan))
+  names_walked (word ∷ words) plan ends = refl
+  names_walked [] (rename old words new) ends = refl
+  names_walked [] (link words name) ends = refl
+  names_walked [] (last final) ends = at_end_named final ends
+
+pub plan_ends : {A : Type 0} (plan : Plan (Vec ℕ A)) → IsSoundPlan (λ s. s.items) plan
+    → NamesEnd (plan_of (λ s. s.items) plan)
+plan_ends (Last final) sound = sound.ends
+plan_ends (Rename old words at new) sound = tt
+plan_ends (Link words at name) sound = tt
 
 -- A call names the node at which it stands.
 itself : (node at : ℕ) → at ≡ node → nat_eq node at ≡ true
 itself node at same = grind (arith, nat_tests)
 
-pub names_self : {A : Type 0} (node at : ℕ) (words : List Name) (aim : Aim A) → at ≡ node
+pub names_self : {A : Type 0} (node at : ℕ) (words : List Name) (place : Option ℕ) (aim : Aim A)
+    → IsSoundAim place aim → at ≡ node
     → list_any (nat_eq node) (nodes_of_state (state_of at words aim)) ≡ true
-names_self node at words (Walks plan) same = names_walked node at words (plan_of (λ s. s.items) plan) ∙ ap
+names_self node at words place (Walks plan) sound same =
+    names_walked node at words (plan_of (λ s. s.items) plan) (plan_ends plan sound.0) ∙ ap
     (λ (b : Bool). b || list_any (nat_eq node) (files_of_plan (plan_of (λ s. s.items) plan))) (itself node at same)
-names_self node at words (Reads handle fh offset size) same = ap (λ (b : Bool). b || false) (itself node at same)
-names_self node at words (Writes handle fh offset bytes) same = ap (λ (b : Bool). b || false) (itself node at same)
+names_self node at words place (Reads handle fh offset size) sound same = ap (λ (b : Bool). b || false) (itself node at same)
+names_self node at words place (Writes handle fh offset bytes) sound same = ap (λ (b : Bool). b || false) (itself node at same)

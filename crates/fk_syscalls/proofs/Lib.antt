@@ -5,3 +5,4 @@ pub mod FaultlessWords
 pub mod Parents
 pub mod BytesLeft
 pub mod Advances
+pub mod NamesStay

@@ -1,20 +1,22 @@
 -- What contracts see of calls.
-use Rattle.std.specs.Prelude.{◌≡◌, ℕ, List, map}
+use Rattle.std.specs.Prelude.{◌≡◌, ℕ, List, None, All, map}
 use Rattle.std.specs.Borrow.{Bor}
 use Rattle.fuse_spec.specs.Calls.Answers.{failed}
 use Rattle.fuse_spec.specs.Calls.Answers as answer
 use Rattle.fuse_spec.specs.Calls.Begins.{Beginning}
 use Rattle.fuse_spec.specs.Calls.Calls as call
 use Rattle.fuse_spec.specs.Values.Maps.{NameMap}
-use Rattle.fuse_spec.specs.Values.Numbers.{max_transfer}
+use Rattle.fuse_spec.specs.Calls.Paths.{Name}
+use Rattle.fuse_spec.specs.Calls.Walks.{FinalOperation}
 use Rattle.fuse_spec.specs.Files.Operations as op
 use Rattle.fuse_spec.specs.Calls.Vfs.{Vfs, Advance, asking, no_more, answered, after_beginning}
-use Rattle.fuse_spec.specs.declared.asked.Operation.{Operation as Asked}
-use Rattle.fuse_spec.specs.declared.asked.Operation.TheVariants as asks
+use Rattle.fuse_spec.specs.Files.Operations.{Asked}
 use Rattle.fuse_spec.specs.declared.Binding.{Binding}
 use Rattle.fuse_spec.specs.declared.Opened.{Opened}
 use Rattle.fk_syscalls.specs.Words.{IsWord}
 use Rattle.fk_syscalls.specs.States.{HasNames}
+use Rattle.fk_syscalls.specs.declared.beginning.Change.{Change}
+use Rattle.fk_syscalls.specs.declared.beginning.Change.TheVariants as change
 use Rattle.fk_syscalls.specs.declared.call.Answer.{Answer}
 use Rattle.fk_syscalls.specs.declared.call.Answer.TheVariants.{Done, Attributes, Listing, Content, Written, Failed}
 use Rattle.fk_syscalls.specs.declared.call.ListedName.{ListedName}
@@ -39,6 +41,13 @@ call_of (Read handle offset size) = call.read handle offset size
 call_of (Write handle offset bytes) = call.write handle offset bytes.now
 call_of (Close handle) = call.close handle
 
+-- A change of the directory to which the walk leads, by this name.
+abbrev pub changes : Change → Name → FinalOperation ℕ
+changes change.Mkdir name = op.mkdir None name
+changes change.Create name = op.create None name
+changes change.Unlink name = op.unlink None name
+changes change.Rmdir name = op.rmdir None name
+
 -- The call closes no file.
 abbrev pub ClosesNone : Call → Type 0
 ClosesNone (Close handle) = ⊥
@@ -59,20 +68,7 @@ answer_of (Failed errno) = answer.failed errno
 
 -- The names that are asked for or given, if there are some, are words of a path without a fault.
 abbrev pub AsksWord : Asked (Bor (List ℕ)) → Type 0
-AsksWord (asks.Lookup directory name) = IsWord name.now
-AsksWord (asks.Mkdir directory name) = IsWord name.now
-AsksWord (asks.Create directory name) = IsWord name.now
-AsksWord (asks.Unlink directory name) = IsWord name.now
-AsksWord (asks.Rmdir directory name) = IsWord name.now
-AsksWord (asks.Rename directory old newdir new) = IsWord old.now × IsWord new.now
-AsksWord (asks.Link node directory name) = IsWord name.now
-AsksWord asked = Unit {0}
-
--- A list is asked for in as many bytes as one read gives.
-abbrev pub AsksWhole : {S : Type 0} → Asked S → Type 0
-AsksWhole (asks.Readdir directory after size) = size ≡ max_transfer
-AsksWhole (asks.Readdirplus directory after size) = size ≡ max_transfer
-AsksWhole asked = Unit {0}
+AsksWord asked = All IsWord (op.names_in (op.operation_of (λ s. s.now) asked))
 
 -- Where a step leaves a call.
 abbrev pub comes_to : {A : Type 0} → Vfs Opened → ℕ → Next A → Advance Opened

@@ -1,26 +1,28 @@
 //! How a call begins.
 
-ghost use Rattle.std.specs.Prelude.{◌≡◌, ℕ, false, length, IfOk, OnErr};
+ghost use Rattle.std.specs.Prelude.{◌≡◌, ℕ, false, length, None, IfOk, OnErr};
 ghost use Rattle.fuse_spec.specs.Calls.Begins.{sets_out, whole_path, parent_path, using as using_file};
 ghost use Rattle.fuse_spec.specs.Values.Maps.{get};
 ghost use Rattle.fuse_spec.specs.Files.Operations as op;
+ghost use Rattle.fuse_spec.specs.Files.Operations.{operation_of};
 ghost use Rattle.fuse_spec.specs.Calls.Vfs.{CallState as State, Vfs, numbered, begun, asking, after_beginning};
 ghost use Rattle.fuse_spec.specs.Calls.Walks.{last, rename, link};
 ghost use Rattle.fuse_spec.specs.declared.Opened.{Opened};
-ghost use Rattle.fk_syscalls.specs.Words.{words_from, AreWords};
-ghost use Rattle.fk_syscalls.specs.Plans.{final_change, final_of, plan_of, IsSoundFinal, IsSoundPlan};
+ghost use Rattle.fk_syscalls.specs.Words.{words_from, AreWords, IsWord};
+ghost use Rattle.fuse_spec.specs.Values.Numbers.{max_transfer};
+ghost use Rattle.fk_syscalls.specs.Plans.{plan_of, IsSoundFinal, IsSoundPlan};
 ghost use Rattle.fk_syscalls.specs.States.{HasNames, Asks};
-ghost use Rattle.fk_syscalls.specs.Values.{call_of, comes_to, ClosesNone, IsBegun};
+ghost use Rattle.fk_syscalls.specs.Values.{call_of, changes, comes_to, ClosesNone, IsBegun};
 
 use crate::call::Call;
 use crate::path::{first_word, parent_of};
-use crate::plan::{Change, FinalOperation, Plan};
+use crate::plan::{FinalOperation, Plan};
 use crate::state::{CallState, Next, ROOT};
 use crate::walk::walk;
 use fk_dentry::Bindings;
 use fuse_spec::errno::{EBADF, EINVAL, ENOENT};
-use fuse_spec::limits::MAX_FILE;
-use fuse_spec::{Opened, limits};
+use fuse_spec::limits::{self, MAX_FILE};
+use fuse_spec::{Opened, Operation};
 use fuse_tables::Table;
 use std::alloc::{AllocError, Allocator};
 
@@ -47,16 +49,18 @@ pub fn begin<A: Allocator + Copy>(
         → (state : State Opened) × (begun false c (call_of call.now) ≡ asking (numbered c) c.next_call state)) }
 {
     match call {
-        Call::Stat { path } => begin_whole(alloc, names, clock, path, FinalOperation::Stat),
-        Call::List { path, after } => {
-            let operation = FinalOperation::List { after: *after };
+        Call::Stat { path } => {
+            let operation = Operation::Getattr { node: None };
             begin_whole(alloc, names, clock, path, operation)
         }
+        Call::List { path, after } => { begin_whole(alloc, names, clock, path, list_from(*after)) }
         Call::ListPlus { path, after } => {
-            let operation = FinalOperation::ListPlus { after: *after };
+            begin_whole(alloc, names, clock, path, list_with_files_from(*after))
+        }
+        Call::Open { path } => {
+            let operation = Operation::Open { node: None };
             begin_whole(alloc, names, clock, path, operation)
         }
-        Call::Open { path } => begin_whole(alloc, names, clock, path, FinalOperation::Open),
         Call::Mkdir { path } => begin_change(alloc, names, clock, path, Change::Mkdir),
         Call::Create { path } => begin_change(alloc, names, clock, path, Change::Create),
         Call::Unlink { path } => begin_change(alloc, names, clock, path, Change::Unlink),
@@ -78,6 +82,56 @@ pub fn begin<A: Allocator + Copy>(
     }
 }
 
+/// A list of names behind an offset, of the directory to which the walk leads.
+fn list_from<'a>(after: u64) -> FinalOperation<&'a [u8]>
+    ensures operation { operation_of (λ s. s.now) result ≡ op.readdir None after max_transfer }
+    ensures sound { IsSoundFinal (λ s. s.now) result }
+{
+    Operation::Readdir {
+        directory: None,
+        after,
+        size: limits::MAX_TRANSFER,
+    }
+}
+
+/// The same, with each name's file.
+fn list_with_files_from<'a>(after: u64) -> FinalOperation<&'a [u8]>
+    ensures operation { operation_of (λ s. s.now) result ≡ op.readdirplus None after max_transfer }
+    ensures sound { IsSoundFinal (λ s. s.now) result }
+{
+    Operation::Readdirplus {
+        directory: None,
+        after,
+        size: limits::MAX_TRANSFER,
+    }
+}
+
+/// A change of a directory by one name.
+#[derive(Clone, Copy)]
+enum Change {
+    Mkdir,
+    Create,
+    Unlink,
+    Rmdir,
+}
+
+impl Change {
+    /// The change, by this name, of the directory to which the walk leads.
+    fn of_name(self, name: &[u8]) -> FinalOperation<&[u8]>
+        requires { IsWord name.now }
+        ensures operation { operation_of (λ s. s.now) result ≡ changes self name.now }
+        ensures sound { IsSoundFinal (λ s. s.now) result }
+    {
+        let directory = None;
+        match self {
+            Change::Mkdir => Operation::Mkdir { directory, name },
+            Change::Create => Operation::Create { directory, name },
+            Change::Unlink => Operation::Unlink { directory, name },
+            Change::Rmdir => Operation::Rmdir { directory, name },
+        }
+    }
+}
+
 /// A call of which all words are walked.
 fn begin_whole<A: Allocator + Copy>(
     alloc: A,
@@ -88,9 +142,9 @@ fn begin_whole<A: Allocator + Copy>(
 ) -> Result<Next<A>, AllocError>
     requires { IsSoundFinal (λ s. s.now) operation }
     ensures begun { IfOk result (IsBegun names.now.names clock
-        (whole_path path.now (λ words. sets_out words (last (final_of (λ s. s.now) operation.entry))))) }
+        (whole_path path.now (λ words. sets_out words (last (operation_of (λ s. s.now) operation.entry))))) }
     ensures wanting { OnErr result (Asks names.now.names clock
-        (whole_path path.now (λ words. sets_out words (last (final_of (λ s. s.now) operation.entry))))) }
+        (whole_path path.now (λ words. sets_out words (last (operation_of (λ s. s.now) operation.entry))))) }
 {
     match first_word(path) {
         Ok(at) => set_out(alloc, names, clock, path, at, Plan::Last(operation)),
@@ -107,14 +161,14 @@ fn begin_change<A: Allocator + Copy>(
     change: Change,
 ) -> Result<Next<A>, AllocError>
     ensures begun { IfOk result (IsBegun names.now.names clock
-        (parent_path path.now (λ words name. sets_out words (last (final_change change name))))) }
+        (parent_path path.now (λ words name. sets_out words (last (changes change name))))) }
     ensures wanting { OnErr result (Asks names.now.names clock
-        (parent_path path.now (λ words name. sets_out words (last (final_change change name))))) }
+        (parent_path path.now (λ words name. sets_out words (last (changes change name))))) }
 {
     match parent_of(path) {
         Ok(parent) => {
             let name = parent.name;
-            let plan = Plan::Last(FinalOperation::Change { change, name });
+            let plan = Plan::Last(change.of_name(name));
             set_out(alloc, names, clock, parent.words, parent.at, plan)
         }
         Err(errno) => Ok(Next::Answered { errno }),
@@ -214,16 +268,18 @@ fn set_out<A: Allocator + Copy>(
             at,
             new,
         } => {
-            let operation = FinalOperation::RenameFrom {
-                directory: stop.node,
+            let operation = Operation::Rename {
+                directory: Some(stop.node),
                 old,
+                newdir: None,
                 new,
             };
             set_out_again(alloc, names, clock, words, at, operation)
         }
         Plan::Link { words, at, name } => {
-            let operation = FinalOperation::LinkTo {
-                file: stop.node,
+            let operation = Operation::Link {
+                node: Some(stop.node),
+                directory: None,
                 name,
             };
             set_out_again(alloc, names, clock, words, at, operation)
@@ -243,9 +299,9 @@ fn set_out_again<A: Allocator + Copy>(
     requires words { AreWords words.now at }
     requires sound { IsSoundFinal (λ s. s.now) operation }
     ensures begun { IfOk result (IsBegun names.now.names clock
-        (sets_out (words_from words.now at) (last (final_of (λ s. s.now) operation.entry)))) }
+        (sets_out (words_from words.now at) (last (operation_of (λ s. s.now) operation.entry)))) }
     ensures wanting { OnErr result (Asks names.now.names clock
-        (sets_out (words_from words.now at) (last (final_of (λ s. s.now) operation.entry)))) }
+        (sets_out (words_from words.now at) (last (operation_of (λ s. s.now) operation.entry)))) }
 {
     match walk(names, clock, ROOT, words, at) {
         Some(stop) => {

@@ -8,15 +8,15 @@ ghost use Rattle.fuse_spec.specs.Calls.Paths.{Name};
 ghost use Rattle.fuse_spec.specs.Calls.Vfs.{Vfs, walking, using, asked, walks_on};
 ghost use Rattle.fuse_spec.specs.Calls.Walks.{WalkPlan, last, go, arrived};
 ghost use Rattle.fk_syscalls.specs.Words.{words_from, AreWords};
-ghost use Rattle.fk_syscalls.specs.Plans.{final_of, plan_of, IsSoundFinal, IsSoundPlan};
+ghost use Rattle.fk_syscalls.specs.Plans.{plan_of, AsksWhole, IsSoundFinal, IsSoundPlan};
 ghost use Rattle.fk_syscalls.specs.States.{walking_at, IsSoundLentCall, IsWalking, StandsAt, used_by, HasNames};
 ghost use Rattle.fk_syscalls.specs.NewNames.{with_name};
 ghost use Rattle.fk_syscalls.specs.Walks.{known};
-ghost use Rattle.fk_syscalls.specs.Values.{AsksWord, AsksWhole, comes_to};
-ghost use Rattle.fuse_spec.specs.Files.AskedOperations.{operation_of};
+ghost use Rattle.fk_syscalls.specs.Values.{AsksWord, comes_to};
+ghost use Rattle.fuse_spec.specs.Files.Operations.{operation_of};
 
 use crate::new_name::{NewName, walk_past};
-use crate::plan::{FinalOperation, Plan, asked_at};
+use crate::plan::{FinalOperation, Plan};
 use crate::walk::walk;
 use crate::words::{next_place, word_at};
 use fk_dentry::Bindings;
@@ -93,7 +93,7 @@ fn second_walk<A: Allocator + Copy>(
     requires words { AreWords words.items at }
     requires sound { IsSoundFinal (λ s. s.items) operation }
     ensures { (c : Vfs Opened) (call : ℕ) → HasNames c names.now.names clock
-        → walks_on c call c.root (words_from words.items at) (last (final_of (λ s. s.items) operation))
+        → walks_on c call c.root (words_from words.items at) (last (operation_of (λ s. s.items) operation))
         ≡ comes_to c call result }
 {
     match walk(names, clock, ROOT, &words, at) {
@@ -133,15 +133,20 @@ fn arrived_at<A: Allocator + Copy>(
             at,
             new,
         } => {
-            let operation = FinalOperation::RenameFrom {
-                directory: node,
+            let operation = Operation::Rename {
+                directory: Some(node),
                 old,
+                newdir: None,
                 new,
             };
             second_walk(names, clock, words, at, operation)
         }
         Plan::Link { words, at, name } => {
-            let operation = FinalOperation::LinkTo { file: node, name };
+            let operation = Operation::Link {
+                node: Some(node),
+                directory: None,
+                name,
+            };
             second_walk(names, clock, words, at, operation)
         }
     }
@@ -311,7 +316,7 @@ impl<A: Allocator + Copy> CallState<A> {
                     // Ruled out: a second walk follows the first at once.
                     return Operation::Getattr { node: self.node };
                 };
-                asked_at(operation, self.node)
+                operation.at(self.node)
             }
             Aim::Reads {
                 fh,

@@ -1,5 +1,4 @@
 pub mod Values
-pub mod Owning
 pub mod Bounds
 pub mod Listed
 pub mod Props

@@ -1,6 +1,5 @@
 -- What contracts see of held requests and of the files that are served.
 use Rattle.std.specs.Prelude.{ℕ, false, List, [], ◌∷◌, Option, Some, None, Vec}
-use Rattle.std.specs.Borrow.{Bor}
 use Rattle.std.specs.Int.RustNames.{bit_and}
 use Rattle.fuse_spec.specs.declared.Minor.{Minor}
 use Rattle.fuse_spec.specs.declared.Minor.TheVariants.{M31}
@@ -9,9 +8,8 @@ use Rattle.fuse_spec.specs.declared.Validity.{Validity}
 use Rattle.fuse_spec.specs.Values.Numbers.{max_transfer}
 use Rattle.fuse_spec.specs.Files.Operations as operation
 use Rattle.fuse_spec.specs.Files.Operations.{Operation, files_in}
-use Rattle.fuse_spec.specs.Files.AskedOperations as asked
-use Rattle.fuse_spec.specs.declared.asked.Operation.{Operation as Asked}
-use Rattle.fuse_spec.specs.Kernel.Kernel.{opened_nodes}
+use Rattle.fuse_spec.specs.Files.Operations.{Asked}
+use Rattle.fuse_spec.specs.Files.Operations.{opened_nodes}
 use Rattle.fuse_spec.specs.Kernel.Messages.{RequestBody, init, asks, release}
 use Rattle.fuse_spec.specs.Server.Nodes.{NodeTable, HandleTable}
 use Rattle.fuse_spec.specs.Server.Performs.{file_operation_of}
@@ -81,14 +79,10 @@ named_in Nothing = []
 named_in (One node) = (node.nodeid, node.generation) ∷ []
 named_in (Two node other) = (node.nodeid, node.generation) ∷ (other.nodeid, other.generation) ∷ []
 
--- the operation whose names and bytes are lent
-abbrev pub lent_operation : Asked (Bor (List ℕ)) → Operation ℕ Opened
-lent_operation o = asked.operation_of (λ s. s.now) o
-
 module _ {A : Type 0} where
   -- the operation that a held request asks
   abbrev pub operation_of : HeldOperation A → Operation ℕ Opened
-  operation_of o = asked.operation_of (λ (v : Vec ℕ A). v.items) o
+  operation_of o = operation.operation_of (λ (v : Vec ℕ A). v.items) o
 
   -- what a held request asks
   abbrev pub asked_of : HeldBody A → RequestBody

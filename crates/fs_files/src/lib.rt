@@ -12,7 +12,6 @@ mod nodes;
 mod numbering;
 mod numbers;
 mod operating;
-mod owning;
 mod plan;
 mod records;
 mod refusing;
@@ -23,7 +22,6 @@ pub use files::Files;
 pub use held::{HeldBody, HeldOperation, HeldRequest, Named, NamedNode};
 pub use listed_names::ListedNames;
 pub use nodes::Nodes;
-pub use owning::owned;
 pub use replies::{
     Outcome, SentReply, body_len, copied, errno, file_entries, framed, name_count, opened,
 };

@@ -4,7 +4,7 @@ use Rattle.std.specs.Prelude.{is_some, nat_lt}
 use Rattle.fuse_spec.specs.Values.Maps.{get}
 use Rattle.std.specs.List.{list_all}
 use Rattle.fuse_spec.specs.Files.Operations.{files_in}
-use Rattle.fuse_spec.specs.Kernel.Kernel.{opened_nodes}
+use Rattle.fuse_spec.specs.Files.Operations.{opened_nodes}
 use Rattle.fuse_spec.specs.Kernel.Messages.{RequestBody, Request, init, asks, release, forget, batch_forget, interrupt}
 use Rattle.fuse_spec.specs.Server.Server as server
 use Rattle.fuse_spec.specs.Server.Server.{RequestFault, Server, unknown_opcode, unknown_node, too_many_forgets, repeated_unique, is_known, is_forgettable, count_in, forgotten, holding, forgetting}

@@ -7,7 +7,7 @@ ghost use Rattle.fs_files.specs.Values.{asked_of, named_in, operation_of};
 ghost use Rattle.fs_server.specs.Taking.{body_of, generations_of, held_for, is_held};
 
 use fk_wire::{Request, RequestBody};
-use fs_files::{HeldBody, HeldOperation, HeldRequest, Named, Nodes, owned};
+use fs_files::{HeldBody, HeldOperation, HeldRequest, Named, Nodes};
 use fs_nodes::NodeStore;
 use fuse_frames::operation_asked;
 use fuse_spec::Opened;
@@ -38,7 +38,7 @@ fn held_body<A: Allocator + Copy>(
     ensures { IfOk result (λ held. asked_of held ≡ body_of nodeid (request_content body.now)) }
 {
     if let Some(operation) = operation_asked(nodeid, body) {
-        let operation = owned(alloc, &operation)?;
+        let operation = operation.to_owned(alloc)?;
         return Ok(HeldBody::Asks { operation });
     }
     match body {

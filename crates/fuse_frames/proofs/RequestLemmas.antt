@@ -11,11 +11,11 @@ use Rattle.fk_wire.specs.Fields.{number_at}
 use Rattle.fk_wire.specs.Faults.{FaultIsAt}
 use Rattle.fk_wire.proofs.OneRequest.{decoded_is, no_fault, same_code}
 use Rattle.fk_wire.proofs.Frames.{spells}
-use Rattle.fuse_spec.specs.Files.OperationNodes.{header_node}
+use Rattle.fuse_spec.specs.Files.Operations.{header_node}
 use Rattle.fuse_spec.specs.Kernel.Messages.{RequestBody, Request}
 use Rattle.fuse_spec.specs.Server.Server.{knows}
-use Rattle.fuse_spec.specs.declared.asked.Operation.{Operation as Asked}
-use Rattle.fuse_spec.specs.declared.asked.Operation.TheVariants as asked
+use Rattle.fuse_spec.specs.Files.Operations.{Asked}
+use Rattle.fuse_spec.specs.declared.operation.Operation.TheVariants as asked
 use Rattle.fuse_spec.specs.declared.Minor.{Minor}
 use Rattle.fuse_spec.specs.declared.Minor.TheVariants.{M15, M31}
 use Rattle.fuse_frames.specs.RequestTies.{SaysRequest, SaysRequestAt, codec_minor, IsRequestFrame, request_in, body_in, body_or, body_asking, asked_opcode, content_of, Asks}

@@ -10,8 +10,8 @@ use Rattle.fk_wire.specs.Decoded.{decoded}
 use Rattle.fuse_spec.specs.declared.Minor.{Minor}
 use Rattle.fuse_spec.specs.declared.Minor.TheVariants.{M15, M31}
 use Rattle.fuse_spec.specs.Files.Operations as operation
-use Rattle.fuse_spec.specs.Files.AskedOperations.{operation_of}
-use Rattle.fuse_spec.specs.declared.asked.Operation.{Operation as Asked}
+use Rattle.fuse_spec.specs.Files.Operations.{operation_of}
+use Rattle.fuse_spec.specs.Files.Operations.{Asked}
 use Rattle.fuse_spec.specs.Kernel.Messages.{RequestBody, Request, init, asks, release, forget, batch_forget, interrupt}
 
 -- what a request of a node asks, if the machine has it

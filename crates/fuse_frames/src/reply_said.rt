@@ -9,7 +9,7 @@ ghost use Rattle.fuse_spec.specs.Files.Operations as reply;
 ghost use Rattle.fuse_spec.specs.Kernel.Replies.{goes_with};
 ghost use Rattle.fuse_frames.specs.ReplyTies.{wire_body, wire_said, no_entry};
 ghost use Rattle.fuse_frames.specs.RequestTies.{asked_opcode};
-ghost use Rattle.fuse_spec.specs.Files.AskedOperations.{operation_of};
+ghost use Rattle.fuse_spec.specs.Files.Operations.{operation_of};
 ghost use Rattle.fuse_frames.specs.DecodedReplies.{Says, IsNoReply};
 ghost use Rattle.fuse_frames.specs.ReplySaid.{wire_of, LastsADay, SaysTo, is_within};
 

@@ -1,7 +1,6 @@
 -- What each operation does to a tree of files, and which error it has.
 pub mod Operations
-pub mod AskedOperations
+pub mod OwnedOperations
 pub mod Trees
 pub mod FileOperations
 pub mod TreeShape
-pub mod OperationNodes

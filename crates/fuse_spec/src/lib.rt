@@ -2,13 +2,12 @@
 //! share; and worked runs, computed over the definitions.
 #![tactic(auto)]
 
-mod asked;
 pub mod errno;
 pub mod limits;
-mod operation_nodes;
+mod operation;
 pub mod worked_runs;
 
-pub use asked::Operation;
+pub use operation::{NoOpenFile, Operation};
 
 /// How far a request has come. The mark belongs to the request: the next request of the same call starts unread.
 #[derive(Clone, Copy, Debug, PartialEq, Eq)]

@@ -8,7 +8,7 @@ use Rattle.fuse_spec.specs.declared.QueuedRequest.{QueuedRequest}
 use Rattle.fuse_spec.specs.declared.Counted.{Counted}
 use Rattle.fuse_spec.specs.Values.Maps.{Map, get}
 use Rattle.fuse_spec.specs.Values.Numbers.{eintr}
-use Rattle.fuse_spec.specs.Files.Operations.{Operation, Reply, opening, created, opened, failed, files_in_reply, opens_in_reply}
+use Rattle.fuse_spec.specs.Files.Operations.{Operation, Reply, opening, created, opened, failed, files_in_reply, opens_in_reply, OperationAlike, ReplyAlike}
 use Rattle.fuse_spec.specs.Calls.Vfs.{CallState, asked}
 use Rattle.fuse_spec.specs.Kernel.Queues.{pending, request_under, is_unread}
 use Rattle.fuse_spec.specs.Kernel.Messages.{Request, asks, release, interrupt, WireReply}
@@ -23,7 +23,7 @@ use Rattle.fuse_spec.specs.Kernel.QueueCalls.{waiting}
 use Rattle.fuse_spec.specs.World.Worlds.{World, Sent}
 use Rattle.fuse_spec.specs.Reference.Plain.{Plain, Ask}
 use Rattle.fuse_spec.specs.Reference.Plain as plain
-use Rattle.fuse_spec.specs.Claim.Denotes.{Denotes, MeansIn, MeansOpenIn, generation_known, OperationAlike, ReplyAlike, Names, Opens}
+use Rattle.fuse_spec.specs.Claim.Denotes.{Denotes, MeansIn, MeansOpenIn, generation_known, Names, Opens}
 use Rattle.fuse_theorem.specs.Unperformed.{unperformed}
 
 -- No two nodes of the server's table have the same file.

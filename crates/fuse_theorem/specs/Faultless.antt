@@ -5,9 +5,10 @@ use Rattle.fuse_spec.specs.declared.Opened.{Opened}
 use Rattle.fuse_spec.specs.Kernel.Kernel.{is_live}
 use Rattle.fuse_spec.specs.Values.Maps.{get, values}
 use Rattle.fuse_spec.specs.Kernel.Messages.{Forget, Request, asks}
+use Rattle.fuse_spec.specs.Files.Operations.{readdirplus}
 use Rattle.fuse_spec.specs.Server.Server.{Kept, forgets_of, knows}
 use Rattle.fuse_spec.specs.Calls.Vfs.{CallState, walking, doing, using}
-use Rattle.fuse_spec.specs.Calls.Walks.{WalkPlan, last, listplus}
+use Rattle.fuse_spec.specs.Calls.Walks.{WalkPlan, last}
 use Rattle.fuse_spec.specs.World.Worlds.{World}
 
 -- A forget is of a node from 2 up, and of one lookup at least.
@@ -16,7 +17,7 @@ IsForget f = (2 ≤ f.0) × (1 ≤ f.1)
 
 -- What is asked at the end of a walk, a call, and a request, that 7.15 knows.
 abbrev pub OldPlan : WalkPlan ℕ → Type 0
-OldPlan (last (listplus after)) = ⊥
+OldPlan (last (readdirplus named after size)) = ⊥
 OldPlan plan = Unit {0}
 
 abbrev pub OldState : CallState Opened → Type 0

@@ -6,7 +6,6 @@ use Rattle.fuse_spec.specs.Calls.Paths.{Name, words_of, parent_and_last}
 use Rattle.fuse_spec.specs.Files.Operations.{Operation}
 use Rattle.fuse_spec.specs.Files.Operations as op
 use Rattle.fuse_spec.specs.Calls.Walks.{WalkPlan, last, rename, link}
-use Rattle.fuse_spec.specs.Calls.Walks as final
 use Rattle.fuse_spec.specs.Calls.Calls.{Call}
 use Rattle.fuse_spec.specs.Calls.Calls as call
 
@@ -40,14 +39,14 @@ closing handle (Some opened) = closes handle opened
 
 -- How each call begins; of two paths the first is judged first. (this project's rule)
 abbrev pub beginning : {F O : Type 0} → Map O → Call → Beginning F O
-beginning opens (call.stat path) = whole_path path (λ words. sets_out words (last final.stat))
-beginning opens (call.list path after) = whole_path path (λ words. sets_out words (last (final.list after)))
-beginning opens (call.listplus path after) = whole_path path (λ words. sets_out words (last (final.listplus after)))
-beginning opens (call.opening path) = whole_path path (λ words. sets_out words (last final.opening))
-beginning opens (call.mkdir path) = parent_path path (λ words name. sets_out words (last (final.mkdir name)))
-beginning opens (call.create path) = parent_path path (λ words name. sets_out words (last (final.create name)))
-beginning opens (call.unlink path) = parent_path path (λ words name. sets_out words (last (final.unlink name)))
-beginning opens (call.rmdir path) = parent_path path (λ words name. sets_out words (last (final.rmdir name)))
+beginning opens (call.stat path) = whole_path path (λ words. sets_out words (last (op.getattr None)))
+beginning opens (call.list path after) = whole_path path (λ words. sets_out words (last (op.readdir None after max_transfer)))
+beginning opens (call.listplus path after) = whole_path path (λ words. sets_out words (last (op.readdirplus None after max_transfer)))
+beginning opens (call.opening path) = whole_path path (λ words. sets_out words (last (op.opening None)))
+beginning opens (call.mkdir path) = parent_path path (λ words name. sets_out words (last (op.mkdir None name)))
+beginning opens (call.create path) = parent_path path (λ words name. sets_out words (last (op.create None name)))
+beginning opens (call.unlink path) = parent_path path (λ words name. sets_out words (last (op.unlink None name)))
+beginning opens (call.rmdir path) = parent_path path (λ words name. sets_out words (last (op.rmdir None name)))
 beginning opens (call.rename old new) = parent_path old
     (λ words from. parent_path new (λ more to. sets_out words (rename from more to)))
 beginning opens (call.link old new) = whole_path old

@@ -7,7 +7,7 @@ use Rattle.fuse_spec.specs.Values.Maps.{Map, get, get_name}
 use Rattle.fuse_spec.specs.Values.Numbers.{eintr}
 use Rattle.fuse_spec.specs.Calls.Calls.{lists_files_at}
 use Rattle.fuse_spec.specs.declared.Phase.TheVariants.{Ready}
-use Rattle.fuse_spec.specs.Files.Operations.{Operation, failed}
+use Rattle.fuse_spec.specs.Files.Operations.{Operation, failed, OptionAlike, OperationAlike, ReplyAlike}
 use Rattle.fuse_spec.specs.Files.Trees.{Tree, is_nameless}
 use Rattle.fuse_spec.specs.Calls.Vfs.{CallState, Vfs, asked}
 use Rattle.fuse_spec.specs.Kernel.Queues.{pending, request_under, is_signalled}
@@ -17,7 +17,7 @@ use Rattle.fuse_spec.specs.Server.Nodes.{NodeTable, HandleTable, is_open}
 use Rattle.fuse_spec.specs.Server.Server.{Server, HeldRequest, Kept, is_file_held}
 use Rattle.fuse_spec.specs.World.Worlds.{World, Sent}
 use Rattle.fuse_spec.specs.Reference.Plain.{Plain, Ask, Stage, waiting, performed, declined}
-use Rattle.fuse_spec.specs.Claim.Denotes.{Denotes, MeansIn, MeansOpenIn, Names, Opens, OptionAlike, OperationAlike, ReplyAlike, StateAlike, BindingAlike}
+use Rattle.fuse_spec.specs.Claim.Denotes.{Denotes, MeansIn, MeansOpenIn, Names, Opens, StateAlike, BindingAlike}
 
 -- The server's tree is the plain tree, less the nameless files that no node and no open number holds.
 pub record TreeAlike (s : Server) (tree : Tree) : Type 0 where

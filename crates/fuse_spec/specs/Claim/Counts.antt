@@ -1,7 +1,7 @@
 -- What keeps the counts of the two sides together: Balance, Held and AtRest.
 use Rattle.std.specs.Prelude.{◌≡◌, ◌≢◌, ◌≤◌, ℕ, ◌+◌, true, cond, List, [], ◌∷◌, ◌++◌, Option, Some, None, nat_eq, sum_by, count_by, All, is_some, MatchOption}
 use Rattle.fuse_spec.specs.Values.Maps.{get, values, get_name}
-use Rattle.fuse_spec.specs.Files.Operations.{Operation, read, write, files_in_reply, opens_in_reply}
+use Rattle.fuse_spec.specs.Files.Operations.{Operation, read, write, files_in_reply, opens_in_reply, OptionAlike}
 use Rattle.fuse_spec.specs.declared.Binding.{Binding}
 use Rattle.fuse_spec.specs.declared.Opened.{Opened}
 use Rattle.fuse_spec.specs.declared.Entry.{Entry}
@@ -18,7 +18,7 @@ use Rattle.fuse_spec.specs.Kernel.Kernel.{Kernel, is_live, body_of, nodes_of_sta
 use Rattle.fuse_spec.specs.Server.Nodes.{HeldNode, OpenNumber, row_of, is_open, file_of}
 use Rattle.fuse_spec.specs.Server.Server.{Server, HeldRequest, Copy, count_in, forgotten, forgets_of, fault_of, nodes_of_body}
 use Rattle.fuse_spec.specs.World.Worlds.{World, Sent}
-use Rattle.fuse_spec.specs.Claim.Denotes.{Denotes, MeansIn, MeansOpenIn, OptionAlike}
+use Rattle.fuse_spec.specs.Claim.Denotes.{Denotes, MeansIn, MeansOpenIn}
 
 -- The kernel's count of a node, which is 0 where it counts none. (libfuse, low-level: lookup)
 abbrev pub counted : Option Counted → ℕ

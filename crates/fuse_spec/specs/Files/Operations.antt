@@ -1,8 +1,11 @@
 -- What is asked of a file system and what it answers, for any way F of naming a file and O of naming an open file.
-use Rattle.std.specs.Prelude.{ℕ, cond, List, [], ◌∷◌, Option, Some, None, map, option_map}
+use Rattle.std.specs.Prelude.{◌≡◌, ℕ, cond, List, [], ◌∷◌, Option, Some, None, map, option_map}
 use Rattle.fuse_spec.specs.Calls.Paths.{Name, is_dots}
 use Rattle.fuse_spec.specs.declared.Kind.{Kind}
 use Rattle.fuse_spec.specs.declared.Attributes.{Attributes}
+use Rattle.fuse_spec.specs.declared.Opened.{Opened}
+use Rattle.fuse_spec.specs.declared.operation.Operation.{Operation as OperationValue}
+use Rattle.fuse_spec.specs.declared.operation.Operation.TheVariants as value
 
 -- One operation of a call, by its opcode, with files named as F says and open files as O says. (linux/fuse.h, enum
 -- fuse_opcode)
@@ -67,6 +70,26 @@ operation_with f g (readdirplus d after size) = readdirplus (f d) after size
 operation_with f g (read o offset size) = read (g o) offset size
 operation_with f g (write o offset bytes) = write (g o) offset bytes
 
+-- The operation that a value of the code is, whose names and bytes are read by this.
+abbrev pub operation_of : {S N O : Type 0} → (S → List ℕ) → OperationValue S N O → Operation N O
+operation_of bytes_of (value.Lookup directory name) = lookup directory (bytes_of name)
+operation_of bytes_of (value.Getattr node) = getattr node
+operation_of bytes_of (value.Mkdir directory name) = mkdir directory (bytes_of name)
+operation_of bytes_of (value.Create directory name) = create directory (bytes_of name)
+operation_of bytes_of (value.Unlink directory name) = unlink directory (bytes_of name)
+operation_of bytes_of (value.Rmdir directory name) = rmdir directory (bytes_of name)
+operation_of bytes_of (value.Rename directory old newdir new) = rename directory (bytes_of old) newdir (bytes_of new)
+operation_of bytes_of (value.Link node directory name) = link node directory (bytes_of name)
+operation_of bytes_of (value.Open node) = opening node
+operation_of bytes_of (value.Readdir directory after size) = readdir directory after size
+operation_of bytes_of (value.Readdirplus directory after size) = readdirplus directory after size
+operation_of bytes_of (value.Read o offset size) = read o offset size
+operation_of bytes_of (value.Write o offset bytes) = write o offset (bytes_of bytes)
+
+-- One that the kernel asks or the server holds, by nodeids.
+abbrev pub Asked : Type 0 → Type 0
+Asked S = OperationValue S ℕ Opened
+
 -- The same name in a list, with its file named in another way.
 abbrev pub pair_with : {F G : Type 0} → (F → G) → DirentPlus F → DirentPlus G
 pair_with f pair = record { file = option_map f pair.file; valid = pair.valid; dirent = pair.dirent }
@@ -102,6 +125,52 @@ files_in h (readdir d after size) = d ∷ []
 files_in h (readdirplus d after size) = d ∷ []
 files_in h (read o offset size) = h o
 files_in h (write o offset bytes) = h o
+
+-- The node of an open file.
+abbrev pub opened_nodes : Opened → List ℕ
+opened_nodes o = o.nodeid ∷ []
+
+-- The next four are the nodes that an operation names: that of its request's header, and the one that the request's body
+-- names besides, which is the directory of a RENAME's new name or the file that a LINK gives one more name.
+-- (linux/fuse.h, struct fuse_in_header, struct fuse_rename_in, struct fuse_link_in)
+abbrev first_of : List ℕ → ℕ
+first_of [] = 0
+first_of (node ∷ nodes) = node
+
+abbrev second_of : List ℕ → Option ℕ
+second_of (node ∷ other ∷ nodes) = Some other
+second_of nodes = None
+
+abbrev pub header_node : {S : Type 0} → Asked S → ℕ
+header_node o = first_of (files_in opened_nodes (operation_of (λ s. []) o))
+
+abbrev pub body_node : {S : Type 0} → Asked S → Option ℕ
+body_node o = second_of (files_in opened_nodes (operation_of (λ s. []) o))
+
+-- The names that an operation looks up, makes or takes away.
+abbrev pub names_in : {F O : Type 0} → Operation F O → List Name
+names_in (lookup d name) = name ∷ []
+names_in (mkdir d name) = name ∷ []
+names_in (create d name) = name ∷ []
+names_in (unlink d name) = name ∷ []
+names_in (rmdir d name) = name ∷ []
+names_in (rename d old e new) = old ∷ new ∷ []
+names_in (link x d name) = name ∷ []
+names_in (getattr x) = []
+names_in (opening x) = []
+names_in (readdir d after size) = []
+names_in (readdirplus d after size) = []
+names_in (read o offset size) = []
+names_in (write o offset bytes) = []
+
+-- The directory and the name that the entry of a reply is of, where the reply to the operation has one.
+-- (linux/fuse.h, struct fuse_entry_out)
+abbrev pub entry_place : {F O : Type 0} → Operation F O → Option (F × Name)
+entry_place (lookup d name) = Some (d, name)
+entry_place (mkdir d name) = Some (d, name)
+entry_place (create d name) = Some (d, name)
+entry_place (link x d name) = Some (d, name)
+entry_place operation = None
 
 -- The next three are the files that are listed with their names, in order; `.` and `..` are listed without.
 -- (linux/fuse.h, struct fuse_direntplus)
@@ -161,3 +230,58 @@ errno_of (content bytes) = 0
 errno_of (written size) = 0
 errno_of (agreed major minor flags) = 0
 errno_of done = 0
+
+-- ---- two that are alike
+
+-- What follows holds for any relation R of the files' names, and S of the open files'.
+
+-- Two that are both there and alike, or both none.
+abbrev pub OptionAlike : {X Y : Type 0} → (X → Y → Type 0) → Option X → Option Y → Type 0
+OptionAlike R None None = Unit {0}
+OptionAlike R (Some x) (Some y) = R x y
+OptionAlike R None (Some y) = ⊥
+OptionAlike R (Some x) None = ⊥
+
+-- The same operation, on files that R says are the same and open files that S says are.
+abbrev pub OperationAlike : {F O G P : Type 0} → (F → G → Type 0) → (O → P → Type 0) → Operation F O → Operation G P
+    → Type 0
+OperationAlike R S (lookup d name) (lookup e other) = R d e × (name ≡ other)
+OperationAlike R S (getattr x) (getattr y) = R x y
+OperationAlike R S (mkdir d name) (mkdir e other) = R d e × (name ≡ other)
+OperationAlike R S (create d name) (create e other) = R d e × (name ≡ other)
+OperationAlike R S (unlink d name) (unlink e other) = R d e × (name ≡ other)
+OperationAlike R S (rmdir d name) (rmdir e other) = R d e × (name ≡ other)
+OperationAlike R S (rename d old e new) (rename f old' g new') = R d f × (old ≡ old') × R e g × (new ≡ new')
+OperationAlike R S (link x d name) (link y e other) = R x y × R d e × (name ≡ other)
+OperationAlike R S (opening x) (opening y) = R x y
+OperationAlike R S (readdir d after size) (readdir e after' size') = R d e × (after ≡ after') × (size ≡ size')
+OperationAlike R S (readdirplus d after size) (readdirplus e after' size') = R d e × (after ≡ after') × (size ≡ size')
+OperationAlike R S (read o offset size) (read p offset' size') = S o p × (offset ≡ offset') × (size ≡ size')
+OperationAlike R S (write o offset bytes) (write p offset' bytes') = S o p × (offset ≡ offset') × (bytes ≡ bytes')
+OperationAlike R S a b = ⊥
+
+-- The same names in a list, each with a file that R says is the same, where it has one.
+abbrev pub PairAlike : {F G : Type 0} → (F → G → Type 0) → DirentPlus F → DirentPlus G → Type 0
+PairAlike R x y = OptionAlike R (listed_by x) (listed_by y) × (x.valid ≡ y.valid) × (x.dirent ≡ y.dirent)
+
+abbrev pub PairsAlike : {F G : Type 0} → (F → G → Type 0) → List (DirentPlus F) → List (DirentPlus G) → Type 0
+PairsAlike R [] [] = Unit {0}
+PairsAlike R (x ∷ xs) (y ∷ ys) = PairAlike R x y × PairsAlike R xs ys
+PairsAlike R [] (y ∷ ys) = ⊥
+PairsAlike R (x ∷ xs) [] = ⊥
+
+-- The same reply, with files that R says are the same and open files that S says are.
+abbrev pub ReplyAlike : {F O G P : Type 0} → (F → G → Type 0) → (O → P → Type 0) → Reply F O → Reply G P → Type 0
+ReplyAlike R S (found x valid) (found y valid') = R x y × (valid ≡ valid')
+ReplyAlike R S (missing valid) (missing valid') = valid ≡ valid'
+ReplyAlike R S (created x valid o) (created y valid' p) = R x y × (valid ≡ valid') × S o p
+ReplyAlike R S (opened o) (opened p) = S o p
+ReplyAlike R S (attributes a) (attributes b) = a ≡ b
+ReplyAlike R S (listed xs) (listed ys) = xs ≡ ys
+ReplyAlike R S (listed_plus xs) (listed_plus ys) = PairsAlike R xs ys
+ReplyAlike R S (content xs) (content ys) = xs ≡ ys
+ReplyAlike R S (written n) (written m) = n ≡ m
+ReplyAlike R S (agreed a b x) (agreed c d y) = (a ≡ c) × (b ≡ d) × (x ≡ y)
+ReplyAlike R S done done = Unit {0}
+ReplyAlike R S (failed a) (failed b) = a ≡ b
+ReplyAlike R S a b = ⊥

@@ -12,7 +12,7 @@ use Rattle.fuse_spec.specs.declared.IntrEffect.{IntrEffect}
 use Rattle.fuse_spec.specs.declared.IntrEffect.TheVariants.{Dequeued, Flagged, Queued, None as NoEffect}
 use Rattle.fuse_spec.specs.Values.Maps.{Map, get, put, remove, values}
 use Rattle.fuse_spec.specs.Values.Numbers.{eintr, init_flags}
-use Rattle.fuse_spec.specs.Files.Operations.{Operation, files_in}
+use Rattle.fuse_spec.specs.Files.Operations.{Operation, files_in, opened_nodes}
 use Rattle.fuse_spec.specs.Calls.Walks.{files_of_plan}
 use Rattle.fuse_spec.specs.declared.Minor.{Minor}
 use Rattle.fuse_spec.specs.declared.Minor.TheVariants.{M15, M31}
@@ -205,10 +205,6 @@ abbrev pub call_signalled : Kernel → ℕ → CallState Opened → Bool → Int
 call_signalled k call state fatal = signalled_at k call state fatal (request_of k call)
 
 -- ---- nodes in use
-
--- The node of an open file.
-abbrev pub opened_nodes : Opened → List ℕ
-opened_nodes opened = opened.nodeid ∷ []
 
 -- The nodes that a call stands on or names.
 abbrev pub nodes_of_state : CallState Opened → List ℕ

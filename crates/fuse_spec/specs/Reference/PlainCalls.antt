@@ -1,15 +1,15 @@
 -- The system calls of the plain world in words of its own. It shares with the kernel's side types alone, and how the
 -- text of a path is read.
-use Rattle.std.specs.Prelude.{◌≡◌, ◌⊎◌, ◌≤◌, ◌<◌, ℕ, ◌+◌, Bool, true, false, List, [], ◌∷◌, ◌++◌, Option, Some, None, Ok, Err, length, map}
+use Rattle.std.specs.Prelude.{◌≡◌, ◌⊎◌, ◌≤◌, ◌<◌, ℕ, ◌+◌, Bool, true, false, List, [], ◌∷◌, ◌++◌, Option, Some, None, Ok, Err, length, map, sum_by}
 use Rattle.fuse_spec.specs.declared.Attributes.{Attributes}
 use Rattle.fuse_spec.specs.declared.Binding.{Binding}
 use Rattle.fuse_spec.specs.Values.Maps.{Map, get, put, remove, get_name, put_name, remove_name}
 use Rattle.fuse_spec.specs.Values.Numbers.{ebadf, einval, enoent, eio, max_file, max_transfer}
 use Rattle.fuse_spec.specs.Calls.Paths.{Name, is_dots, words_of}
-use Rattle.fuse_spec.specs.Files.Operations.{Operation, Reply, Dirent, DirentPlus}
+use Rattle.fuse_spec.specs.Files.Operations.{Operation, OperationAlike, Reply, Dirent, DirentPlus}
 use Rattle.fuse_spec.specs.Files.Operations as op
+use Rattle.fuse_spec.specs.Files.Trees.{record_length, pair_length}
 use Rattle.fuse_spec.specs.Calls.Walks.{FinalOperation, WalkPlan, WalkStop, unknown, missing, arrived, last, rename, link}
-use Rattle.fuse_spec.specs.Calls.Walks as final
 use Rattle.fuse_spec.specs.Calls.Calls.{Call}
 use Rattle.fuse_spec.specs.Calls.Calls as call
 use Rattle.fuse_spec.specs.Calls.Answers.{Answer}
@@ -53,19 +53,15 @@ pub data Walks (c : Vfs ℕ) : ℕ → List Name → WalkStop ℕ → Type 0 whe
   has_to_ask : (at : ℕ) (word : Name) (words : List Name) → IsNotInForce c at word
       → Walks c at (word ∷ words) (unknown at word words)
 
--- What is asked at the file to which the last walk led. (Linux VFS)
-pub data AsksAt : FinalOperation ℕ → ℕ → Operation ℕ ℕ → Type 0 where
-  attributes_of : (file : ℕ) → AsksAt final.stat file (op.getattr file)
-  names_in : (after file : ℕ) → AsksAt (final.list after) file (op.readdir file after max_transfer)
-  names_and_files_in : (after file : ℕ) → AsksAt (final.listplus after) file (op.readdirplus file after max_transfer)
-  to_open : (file : ℕ) → AsksAt final.opening file (op.opening file)
-  to_mkdir : (name : Name) (file : ℕ) → AsksAt (final.mkdir name) file (op.mkdir file name)
-  to_create : (name : Name) (file : ℕ) → AsksAt (final.create name) file (op.create file name)
-  to_unlink : (name : Name) (file : ℕ) → AsksAt (final.unlink name) file (op.unlink file name)
-  to_rmdir : (name : Name) (file : ℕ) → AsksAt (final.rmdir name) file (op.rmdir file name)
-  to_rename : (directory : ℕ) (old new : Name) (file : ℕ)
-      → AsksAt (final.rename_from directory old new) file (op.rename directory old file new)
-  to_link : (linked : ℕ) (name : Name) (file : ℕ) → AsksAt (final.link_to linked name) file (op.link linked file name)
+-- A file that the operation at the end of a walk names: where it names none, the one to which the last walk led. (Linux
+-- VFS)
+abbrev pub IsNamedAt : (file : ℕ) → Option ℕ → ℕ → Type 0
+IsNamedAt file None other = other ≡ file
+IsNamedAt file (Some named) other = other ≡ named
+
+-- What is asked at the file to which the last walk led: the same operation, on those files. (Linux VFS)
+abbrev pub AsksAt : FinalOperation ℕ → ℕ → Operation ℕ ℕ → Type 0
+AsksAt last_one file operation = OperationAlike (IsNamedAt file) (λ o p. ⊥) last_one operation
 
 -- The call is answered, and waits no longer. (Linux VFS)
 abbrev pub is_answered : Vfs ℕ → ℕ → Answer → Vfs ℕ
@@ -89,11 +85,11 @@ pub data GoesOn (c : Vfs ℕ) (number : ℕ) : ℕ → List Name → WalkPlan �
       → GoesOn c number at words (last last_one) (is_waiting c number (doing operation)) (Some operation)
   renames : (at : ℕ) (words : List Name) (old : Name) (more : List Name) (new : Name) (file : ℕ) (after : Vfs ℕ)
       (asked : Option (Operation ℕ ℕ)) → Walks c at words (arrived file)
-      → GoesOn c number c.root more (last (final.rename_from file old new)) after asked
+      → GoesOn c number c.root more (last (op.rename (Some file) old None new)) after asked
       → GoesOn c number at words (rename old more new) after asked
   links : (at : ℕ) (words more : List Name) (name : Name) (file : ℕ) (after : Vfs ℕ) (asked : Option (Operation ℕ ℕ))
       → Walks c at words (arrived file)
-      → GoesOn c number c.root more (last (final.link_to file name)) after asked
+      → GoesOn c number c.root more (last (op.link (Some file) None name)) after asked
       → GoesOn c number at words (link more name) after asked
 
 -- ---- a call begins
@@ -101,21 +97,21 @@ pub data GoesOn (c : Vfs ℕ) (number : ℕ) : ℕ → List Name → WalkPlan �
 -- The walk that a call takes. Where it makes, removes or moves a name, that is the last word of the path. (Linux VFS)
 pub data TakesWalk : Call → List Name → WalkPlan ℕ → Type 0 where
   stats : (path : List ℕ) (words : List Name) → words_of path ≡ Ok words
-      → TakesWalk (call.stat path) words (last final.stat)
+      → TakesWalk (call.stat path) words (last (op.getattr None))
   lists : (path : List ℕ) (after : ℕ) (words : List Name) → words_of path ≡ Ok words
-      → TakesWalk (call.list path after) words (last (final.list after))
+      → TakesWalk (call.list path after) words (last (op.readdir None after max_transfer))
   lists_files : (path : List ℕ) (after : ℕ) (words : List Name) → words_of path ≡ Ok words
-      → TakesWalk (call.listplus path after) words (last (final.listplus after))
+      → TakesWalk (call.listplus path after) words (last (op.readdirplus None after max_transfer))
   opens : (path : List ℕ) (words : List Name) → words_of path ≡ Ok words
-      → TakesWalk (call.opening path) words (last final.opening)
+      → TakesWalk (call.opening path) words (last (op.opening None))
   mkdirs : (path : List ℕ) (words : List Name) (name : Name) → words_of path ≡ Ok (words ++ name ∷ [])
-      → TakesWalk (call.mkdir path) words (last (final.mkdir name))
+      → TakesWalk (call.mkdir path) words (last (op.mkdir None name))
   creates : (path : List ℕ) (words : List Name) (name : Name) → words_of path ≡ Ok (words ++ name ∷ [])
-      → TakesWalk (call.create path) words (last (final.create name))
+      → TakesWalk (call.create path) words (last (op.create None name))
   unlinks : (path : List ℕ) (words : List Name) (name : Name) → words_of path ≡ Ok (words ++ name ∷ [])
-      → TakesWalk (call.unlink path) words (last (final.unlink name))
+      → TakesWalk (call.unlink path) words (last (op.unlink None name))
   rmdirs : (path : List ℕ) (words : List Name) (name : Name) → words_of path ≡ Ok (words ++ name ∷ [])
-      → TakesWalk (call.rmdir path) words (last (final.rmdir name))
+      → TakesWalk (call.rmdir path) words (last (op.rmdir None name))
   renames : (old new : List ℕ) (words more : List Name) (from to : Name) → words_of old ≡ Ok (words ++ from ∷ [])
       → words_of new ≡ Ok (more ++ to ∷ []) → TakesWalk (call.rename old new) words (rename from more to)
   links : (old new : List ℕ) (words more : List Name) (name : Name) → words_of old ≡ Ok words
@@ -188,6 +184,26 @@ is_reply_to (op.readdirplus directory after size) (op.listed_plus pairs) = true
 is_reply_to (op.read file offset size) (op.content bytes) = true
 is_reply_to (op.write file offset bytes) (op.written size) = true
 is_reply_to operation reply = false
+
+-- The reply is one to the operation: an open file is the file that is created or opened, and no more is listed, read or
+-- written than was asked.
+abbrev pub RepliesTo : Operation ℕ ℕ → Reply ℕ ℕ → Type 0
+RepliesTo (op.lookup d name) (op.found x valid) = Unit {0}
+RepliesTo (op.lookup d name) (op.missing valid) = Unit {0}
+RepliesTo (op.getattr x) (op.attributes a) = Unit {0}
+RepliesTo (op.mkdir d name) (op.found x valid) = Unit {0}
+RepliesTo (op.create d name) (op.created x valid o) = o ≡ x
+RepliesTo (op.unlink d name) op.done = Unit {0}
+RepliesTo (op.rmdir d name) op.done = Unit {0}
+RepliesTo (op.rename d old e new) op.done = Unit {0}
+RepliesTo (op.link x d name) (op.found y valid) = Unit {0}
+RepliesTo (op.opening x) (op.opened o) = o ≡ x
+RepliesTo (op.readdir d after size) (op.listed records) = sum_by record_length records ≤ size
+RepliesTo (op.readdirplus d after size) (op.listed_plus pairs) = sum_by pair_length pairs ≤ size
+RepliesTo (op.read o offset size) (op.content bytes) = length bytes ≤ size
+RepliesTo (op.write o offset bytes) (op.written size) = size ≤ length bytes
+RepliesTo operation (op.failed errno) = Unit {0}
+RepliesTo operation reply = ⊥
 
 -- Names of a list come into force in the directory, one after another: each with its file, but `.` and `..` and those
 -- that have none. (linux/fuse.h, struct fuse_direntplus)

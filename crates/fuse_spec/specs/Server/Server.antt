@@ -2,13 +2,12 @@
 use Rattle.std.specs.Prelude.{ℕ, ◌+◌, Bool, true, false, ◌&&◌, ◌||◌, cond, not, List, [], ◌∷◌, Option, Some, None, nat_eq, nat_lt, filter, map, is_some, sum_by}
 use Rattle.std.specs.List.{list_any, list_all}
 use Rattle.fuse_spec.specs.Values.Maps.{Map, get, put, values}
-use Rattle.fuse_spec.specs.Files.Operations.{readdirplus, files_in}
+use Rattle.fuse_spec.specs.Files.Operations.{readdirplus, files_in, opened_nodes}
 use Rattle.fuse_spec.specs.Files.Trees.{Tree, is_nameless}
 use Rattle.fuse_spec.specs.declared.Validity.{Validity}
 use Rattle.fuse_spec.specs.declared.Minor.{Minor}
 use Rattle.fuse_spec.specs.declared.Minor.TheVariants.{M15, M31}
 use Rattle.fuse_spec.specs.Kernel.Messages.{Forget, RequestBody, init, asks, release, forget, batch_forget, interrupt, Request, WireReply}
-use Rattle.fuse_spec.specs.Kernel.Kernel.{opened_nodes}
 use Rattle.fuse_spec.specs.Server.Nodes.{NodeTable, HeldNode, row_of, taken_back, HandleTable, OpenNumber}
 
 -- A request that is held until it is performed: what it asks, the nodes that it names with their generations at that

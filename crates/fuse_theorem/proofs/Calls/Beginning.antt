@@ -4,11 +4,11 @@ use Rattle.std.specs.Prelude.{nat_lt}
 use Rattle.fuse_spec.specs.Values.Maps.{Map, get}
 use Rattle.fuse_spec.specs.Values.Numbers.{max_file, max_transfer}
 use Rattle.fuse_spec.specs.Calls.Paths.{Name, words_of, parent_and_last}
-use Rattle.fuse_spec.specs.Files.Operations.{Operation}
+use Rattle.fuse_spec.specs.Files.Operations.{Operation, OptionAlike, OperationAlike}
 use Rattle.fuse_spec.specs.Calls.Calls.{Call}
 use Rattle.fuse_spec.specs.Calls.Calls as call
 use Rattle.fuse_spec.specs.Calls.Begins.{Beginning, faulty, sets_out, uses, closes, whole_path, parent_path, using, closing, beginning}
-use Rattle.fuse_spec.specs.Claim.Denotes.{OptionAlike, OperationAlike, WalkPlanAlike}
+use Rattle.fuse_spec.specs.Claim.Denotes.{WalkPlanAlike}
 
 module _ {F O G P : Type 0} (R : F → G → Type 0) (S : O → P → Type 0) where
   abbrev pub BeginningAlike : Beginning F O → Beginning G P → Type 0
@@ -64,13 +64,14 @@ module _ {F O G P : Type 0} (R : F → G → Type 0) (S : O → P → Type 0) wh
       → ((handle : ℕ) → OptionAlike S (get opens handle) (get others handle)) → (c : Call)
       → BeginningAlike (beginning opens c) (beginning others c)
   beginning_alike opens others same (call.stat path) = whole_alike path _ _ (λ words. (refl, tt))
-  beginning_alike opens others same (call.list path after) = whole_alike path _ _ (λ words. (refl, refl))
-  beginning_alike opens others same (call.listplus path after) = whole_alike path _ _ (λ words. (refl, refl))
+  beginning_alike opens others same (call.list path after) = whole_alike path _ _ (λ words. (refl, (tt, refl, refl)))
+  beginning_alike opens others same (call.listplus path after) = whole_alike path _ _
+      (λ words. (refl, (tt, refl, refl)))
   beginning_alike opens others same (call.opening path) = whole_alike path _ _ (λ words. (refl, tt))
-  beginning_alike opens others same (call.mkdir path) = parent_alike path _ _ (λ words name. (refl, refl))
-  beginning_alike opens others same (call.create path) = parent_alike path _ _ (λ words name. (refl, refl))
-  beginning_alike opens others same (call.unlink path) = parent_alike path _ _ (λ words name. (refl, refl))
-  beginning_alike opens others same (call.rmdir path) = parent_alike path _ _ (λ words name. (refl, refl))
+  beginning_alike opens others same (call.mkdir path) = parent_alike path _ _ (λ words name. (refl, (tt, refl)))
+  beginning_alike opens others same (call.create path) = parent_alike path _ _ (λ words name. (refl, (tt, refl)))
+  beginning_alike opens others same (call.unlink path) = parent_alike path _ _ (λ words name. (refl, (tt, refl)))
+  beginning_alike opens others same (call.rmdir path) = parent_alike path _ _ (λ words name. (refl, (tt, refl)))
   beginning_alike opens others same (call.rename old new) =
       parent_alike old _ _ (λ words from. parent_alike new _ _ (λ more to. (refl, (refl, refl, refl))))
   beginning_alike opens others same (call.link old new) =

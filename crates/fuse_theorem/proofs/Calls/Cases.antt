@@ -2,8 +2,7 @@
 use Rattle.std.proofs.Common.{◌≡◌, ℕ, List}
 use Rattle.fuse_spec.specs.Calls.Paths.{Name}
 use Rattle.fuse_spec.specs.declared.Attributes.{Attributes}
-use Rattle.fuse_spec.specs.Files.Operations.{Operation, lookup, getattr, mkdir, create, unlink, rmdir, rename, link, opening, readdir, readdirplus, read, write, Reply, found, missing, created, opened, attributes, listed, listed_plus, content, written, agreed, done, failed, Dirent, DirentPlus}
-use Rattle.fuse_spec.specs.Claim.Denotes.{OperationAlike, PairsAlike, ReplyAlike}
+use Rattle.fuse_spec.specs.Files.Operations.{Operation, lookup, getattr, mkdir, create, unlink, rmdir, rename, link, opening, readdir, readdirplus, read, write, Reply, found, missing, created, opened, attributes, listed, listed_plus, content, written, agreed, done, failed, Dirent, DirentPlus, OperationAlike, PairsAlike, ReplyAlike}
 
 pub data SameOperation {F O G P : Type 0} (R : F → G → Type 0) (S : O → P → Type 0) : Operation F O → Operation G P
     → Type 0 where

@@ -19,7 +19,8 @@ use Rattle.fuse_spec.specs.Calls.Paths.{Name, words_of, parent_and_last}
 use Rattle.fuse_spec.specs.Kernel.Replies.{kernel_reply}
 use Rattle.fuse_spec.specs.Calls.Walks.{files_of_plan}
 use Rattle.fuse_spec.specs.Calls.Vfs.{CallState, walking, doing, using, asked, Vfs, begun, bound, unbound, after_beginning, numbered}
-use Rattle.fuse_spec.specs.Kernel.Kernel.{opened_nodes, nodes_of_state}
+use Rattle.fuse_spec.specs.Files.Operations.{opened_nodes}
+use Rattle.fuse_spec.specs.Kernel.Kernel.{nodes_of_state}
 use Rattle.fuse_theorem.specs.KnownNodes.{IsKnown, VfsKnown}
 use Rattle.fuse_theorem.proofs.Calls.KnownWalks.{OpenKnown, answered_known, asking_known, opened_known, bound_known, unbound_known, walks_on_known}
 use Rattle.fuse_theorem.proofs.Lists.Values.{All-gone, All-get}

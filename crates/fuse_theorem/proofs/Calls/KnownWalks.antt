@@ -1,19 +1,21 @@
 -- A step of a call leads from known nodes to known nodes.
 use Rattle.std.proofs.Common.{◌≡◌, ℕ, ◌+◌, Bool, true, false, not, cond, List, [], ◌∷◌, Option, Some, None, refl, ap, sym, subst, ◌∙◌, inl, inr, All}
-use Rattle.std.specs.Prelude.{nat_lt}
+use Rattle.std.specs.Prelude.{nat_lt, ◌++◌, option_to_list, unwrap_or}
 use Rattle.std.specs.Ordering.{eq_by_cmp}
 use Rattle.std.proofs.lemmas.Bool.{cases_eq}
-use Rattle.std.proofs.lemmas.List.Elements.{All-nil, All-cons, All-head}
+use Rattle.std.proofs.lemmas.List.Elements.{All-nil, All-cons, All-head, All-tail}
 use Rattle.fuse_spec.specs.declared.Binding.{Binding}
 use Rattle.fuse_spec.specs.declared.Counted.{Counted}
 use Rattle.fuse_spec.specs.declared.Opened.{Opened}
 use Rattle.fuse_spec.specs.Calls.Answers.{Answer}
 use Rattle.fuse_spec.specs.Values.Maps.{Map, place_cmp, get_name}
-use Rattle.fuse_spec.specs.Files.Operations.{files_in}
+use Rattle.fuse_spec.specs.Files.Operations.{files_in, lookup, getattr, mkdir, create, unlink, rmdir, opening, readdir, readdirplus, read, write}
+use Rattle.fuse_spec.specs.Files.Operations as op
 use Rattle.fuse_spec.specs.Calls.Paths.{Name}
-use Rattle.fuse_spec.specs.Calls.Walks.{FinalOperation, stat, list, opening, mkdir, create, unlink, rmdir, rename_from, link_to, WalkPlan, last, rename, link, operation_at, WalkStop, unknown, missing, arrived, go, Walked, looks_up, finds_none, asks, after_last, after_stop, walk, files_of_plan, listplus}
+use Rattle.fuse_spec.specs.Calls.Walks.{FinalOperation, WalkPlan, last, rename, link, operation_at, WalkStop, unknown, missing, arrived, go, Walked, looks_up, finds_none, asks, after_last, after_stop, walk, files_of_plan}
 use Rattle.fuse_spec.specs.Calls.Vfs.{CallState, walking, doing, Vfs, answered, asking, bound, unbound, opened_by, valid_at, look, after_walk, walks_on}
-use Rattle.fuse_spec.specs.Kernel.Kernel.{opened_nodes, nodes_of_state}
+use Rattle.fuse_spec.specs.Files.Operations.{opened_nodes}
+use Rattle.fuse_spec.specs.Kernel.Kernel.{nodes_of_state}
 use Rattle.fuse_spec.proofs.Tables.{name_put, name_gone, name_put_there}
 use Rattle.fuse_theorem.specs.KnownNodes.{IsKnown, VfsKnown}
 use Rattle.fuse_theorem.proofs.Lists.Values.{All-put, All-gone}
@@ -65,18 +67,36 @@ module _ (nodes : Map Counted) where
       by (Some None) e rest = tt
       by (Some (Some file)) e rest = rest file (leads at word file e)
 
+  -- the nodes that the operation at the end of a walk names
+  named_known : (named : Option ℕ) (others : List ℕ) (file : ℕ) → All (IsKnown nodes) (option_to_list named ++ others)
+      → K file → K (unwrap_or named file)
+  named_known None others file h g = g
+  named_known (Some id) others file h g = only id others h
+
+  others_known : (named : Option ℕ) (others : List ℕ) → All (IsKnown nodes) (option_to_list named ++ others)
+      → All (IsKnown nodes) others
+  others_known None others h = h
+  others_known (Some id) others h = All-tail (IsKnown nodes) id others h
+
   final_known : (final : FinalOperation ℕ) (file : ℕ) → All (IsKnown nodes) (files_of_plan (last final)) → K file
       → All (IsKnown nodes) (files_in opened_nodes (operation_at {O = Opened} final file))
-  final_known stat file h g = one file g
-  final_known (list after) file h g = one file g
-  final_known (listplus after) file h g = one file g
-  final_known opening file h g = one file g
-  final_known (mkdir name) file h g = one file g
-  final_known (create name) file h g = one file g
-  final_known (unlink name) file h g = one file g
-  final_known (rmdir name) file h g = one file g
-  final_known (rename_from directory old new) file h g = two directory file (only directory [] h) g
-  final_known (link_to linked name) file h g = two file linked g (only linked [] h)
+  final_known (lookup d name) file h g = one (unwrap_or d file) (named_known d [] file h g)
+  final_known (getattr x) file h g = one (unwrap_or x file) (named_known x [] file h g)
+  final_known (mkdir d name) file h g = one (unwrap_or d file) (named_known d [] file h g)
+  final_known (create d name) file h g = one (unwrap_or d file) (named_known d [] file h g)
+  final_known (unlink d name) file h g = one (unwrap_or d file) (named_known d [] file h g)
+  final_known (rmdir d name) file h g = one (unwrap_or d file) (named_known d [] file h g)
+  final_known (op.rename d old e new) file h g =
+      two (unwrap_or d file) (unwrap_or e file) (named_known d (option_to_list e ++ []) file h g)
+      (named_known e [] file (others_known d (option_to_list e ++ []) h) g)
+  final_known (op.link x d name) file h g =
+      two (unwrap_or d file) (unwrap_or x file) (named_known d (option_to_list x ++ []) file h g)
+      (named_known x [] file (others_known d (option_to_list x ++ []) h) g)
+  final_known (opening x) file h g = one (unwrap_or x file) (named_known x [] file h g)
+  final_known (readdir d after size) file h g = one (unwrap_or d file) (named_known d [] file h g)
+  final_known (readdirplus d after size) file h g = one (unwrap_or d file) (named_known d [] file h g)
+  final_known (read o offset size) file h g = elim o [ ]
+  final_known (write o offset bytes) file h g = elim o [ ]
 
   last_known : (final : FinalOperation ℕ) (stop : WalkStop ℕ) → All (IsKnown nodes) (files_of_plan (last final))
       → StopKnown stop → WalkedKnown (after_last final stop)
@@ -101,8 +121,8 @@ module _ (nodes : Map Counted) where
       by (link more name) missing named g = tt
       by (last final) (arrived file) named g = final_known final file named g
       by (rename old more new) (arrived file) named g =
-          last_known (rename_from file old new) (go seen root more) (one file g) (stops_known seen leads more root top)
-      by (link more name) (arrived file) named g = last_known (link_to file name) (go seen root more) (one file g)
+          last_known (op.rename (Some file) old None new) (go seen root more) (one file g) (stops_known seen leads more root top)
+      by (link more name) (arrived file) named g = last_known (op.link (Some file) None name) (go seen root more) (one file g)
           (stops_known seen leads more root top)
 
   -- ---- the system calls' side

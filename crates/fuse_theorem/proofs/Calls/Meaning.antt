@@ -1,15 +1,15 @@
 -- Operations that are alike stay alike where what their files mean is said in another way.
-use Rattle.std.proofs.Common.{◌≡◌, ℕ, zero, suc, List, [], ◌∷◌, map, refl, ap, subst, ◌∙◌, arith}
-use Rattle.std.specs.Prelude.{Contains}
-use Rattle.fuse_spec.specs.Files.Operations.{Operation, lookup, getattr, mkdir, create, unlink, rmdir, rename, link, opening, readdir, readdirplus, read, write, files_in}
+use Rattle.std.proofs.Common.{◌≡◌, ℕ, zero, suc, List, [], ◌∷◌, ◌++◌, Option, Some, None, map, refl, ap, subst, ◌∙◌, arith}
+use Rattle.std.specs.Prelude.{Contains, option_to_list}
+use Rattle.fuse_spec.specs.Files.Operations.{Operation, lookup, getattr, mkdir, create, unlink, rmdir, rename, link, opening, readdir, readdirplus, read, write, files_in, opened_nodes, OptionAlike, OperationAlike}
 use Rattle.fuse_spec.specs.declared.Opened.{Opened}
 use Rattle.fuse_spec.specs.declared.Counted.{Counted}
 use Rattle.fuse_spec.specs.Values.Maps.{Map}
 use Rattle.fuse_spec.specs.Claim.Counts.{opens_of}
-use Rattle.fuse_spec.specs.Kernel.Kernel.{opened_nodes}
 use Rattle.fuse_spec.specs.Server.Nodes.{NodeTable, HandleTable, row_of}
 use Rattle.fuse_spec.specs.Server.Server.{generation_in}
-use Rattle.fuse_spec.specs.Claim.Denotes.{Means, MeansOpen, OperationAlike}
+use Rattle.fuse_spec.specs.Claim.Denotes.{FinalAlike, Means, MeansOpen}
+use Rattle.fuse_spec.specs.Calls.Walks.{FinalOperation, last, files_of_plan}
 use Rattle.fuse_spec.specs.Claim.Alike.{Meant, MeantOpen}
 
 pub first_of : {X : Type 0} (x : X) (xs : List X) → Contains (x ∷ xs) x
@@ -43,6 +43,50 @@ operation_more R R' S S' (read o offset size) (read o' offset' size') f g h =
 operation_more R R' S S' (write o offset bytes) (write o' offset' bytes') f g h =
     (g o o' (first_of o.nodeid []) (first_of o []) h.0, h.1, h.2)
 operation_more R R' S S' a b f g h = absurd h
+
+pub next_of : {X : Type 0} (y : X) (xs : List X) (x : X) → Contains xs x → Contains (y ∷ xs) x
+next_of y xs x (k, lt, is) = (suc k, omega (arith, lt), is)
+
+-- .. and so of the operation at the end of a walk
+module _ (R R' : ℕ → ℕ → Type 0) where
+  abbrev Within : List ℕ → Type 0
+  Within ids = (id file : ℕ) → Contains ids id → R id file → R' id file
+
+  named_within : (d e : Option ℕ) (others : List ℕ) → Within (option_to_list d ++ others) → OptionAlike R d e
+      → OptionAlike R' d e
+  named_within None None others f h = h
+  named_within (Some x) (Some y) others f h = f x y (first_of x others) h
+  named_within None (Some y) others f h = absurd h
+  named_within (Some x) None others f h = absurd h
+
+  others_within : (d : Option ℕ) (others : List ℕ) → Within (option_to_list d ++ others) → Within others
+  others_within None others f = f
+  others_within (Some x) others f = λ id file among. f id file (next_of x others id among)
+
+  pub final_within : (a b : FinalOperation ℕ) → Within (files_of_plan (last a)) → FinalAlike R a b → FinalAlike R' a b
+  final_within (lookup d name) (lookup e other) f h = (named_within d e [] f h.0, h.1)
+  final_within (mkdir d name) (mkdir e other) f h = (named_within d e [] f h.0, h.1)
+  final_within (create d name) (create e other) f h = (named_within d e [] f h.0, h.1)
+  final_within (unlink d name) (unlink e other) f h = (named_within d e [] f h.0, h.1)
+  final_within (rmdir d name) (rmdir e other) f h = (named_within d e [] f h.0, h.1)
+  final_within (getattr x) (getattr y) f h = named_within x y [] f h
+  final_within (opening x) (opening y) f h = named_within x y [] f h
+  final_within (readdir d after size) (readdir e after' size') f h = (named_within d e [] f h.0, h.1, h.2)
+  final_within (readdirplus d after size) (readdirplus e after' size') f h = (named_within d e [] f h.0, h.1, h.2)
+  final_within (rename d old e new) (rename d' old' e' new') f h = (
+    named_within d d' (option_to_list e ++ []) f h.0,
+    h.1,
+    named_within e e' [] (others_within d (option_to_list e ++ []) f) h.2,
+    h.3,
+  )
+  final_within (link x d name) (link y e other) f h = (
+    named_within x y [] (others_within d (option_to_list x ++ []) f) h.0,
+    named_within d e (option_to_list x ++ []) f h.1,
+    h.2,
+  )
+  final_within (read o offset size) b f h = elim o [ ]
+  final_within (write o offset bytes) b f h = elim o [ ]
+  final_within a b f h = absurd h
 
 Contains-map : {X Y : Type 0} (f : X → Y) (xs : List X) (x : X) → Contains xs x → Contains (map f xs) (f x)
 Contains-map f [] x at = absurd (let lt = at.1 in omega (arith, lt))

@@ -43,16 +43,19 @@ OldWalk (final.asks operation) = knows M15 (asks operation) ≡ true
 
 final_old : (f : FinalOperation ℕ) (file : ℕ) → OldPlan (last f)
     → knows M15 (asks (operation_at {O = Opened} f file)) ≡ true
-final_old final.stat file h = refl
-final_old (final.list after) file h = refl
-final_old (final.listplus after) file h = absurd h
-final_old final.opening file h = refl
-final_old (final.mkdir name) file h = refl
-final_old (final.create name) file h = refl
-final_old (final.unlink name) file h = refl
-final_old (final.rmdir name) file h = refl
-final_old (final.rename_from directory old new) file h = refl
-final_old (final.link_to linked name) file h = refl
+final_old (op.lookup d name) file h = refl
+final_old (op.getattr x) file h = refl
+final_old (op.mkdir d name) file h = refl
+final_old (op.create d name) file h = refl
+final_old (op.unlink d name) file h = refl
+final_old (op.rmdir d name) file h = refl
+final_old (op.rename d from e to) file h = refl
+final_old (op.link x d name) file h = refl
+final_old (op.opening x) file h = refl
+final_old (op.readdir d after size) file h = refl
+final_old (op.readdirplus d after size) file h = absurd h
+final_old (op.read o offset size) file h = refl
+final_old (op.write o offset bytes) file h = refl
 
 last_old : (f : FinalOperation ℕ) (stop : WalkStop ℕ) → OldPlan (last f) → OldWalk (after_last f stop)
 last_old f (unknown at word words) h = h
@@ -65,8 +68,8 @@ stop_old seen root plan (unknown at word words) h = h
 stop_old seen root plan missing h = tt
 stop_old seen root (last f) (arrived file) h = final_old f file h
 stop_old seen root (rename old words new) (arrived file) h =
-    last_old (final.rename_from file old new) (go seen root words) tt
-stop_old seen root (link words name) (arrived file) h = last_old (final.link_to file name) (go seen root words) tt
+    last_old (op.rename (Some file) old None new) (go seen root words) tt
+stop_old seen root (link words name) (arrived file) h = last_old (op.link (Some file) None name) (go seen root words) tt
 
 -- ---- the calls
 

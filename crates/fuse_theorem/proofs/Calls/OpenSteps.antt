@@ -13,7 +13,7 @@ use Rattle.fuse_spec.specs.Claim.Counts.{opens_of, opens_in}
 use Rattle.fuse_spec.specs.Kernel.Kernel.{closed_by}
 use Rattle.fuse_spec.specs.Values.Maps.{Map, get}
 use Rattle.fuse_spec.specs.Kernel.Messages.{WireReply}
-use Rattle.fuse_spec.specs.Files.Operations.{Operation, getattr, mkdir, create, unlink, rmdir, rename, link, opening, readdir, readdirplus, read, write, Reply, found, missing, created, opened, attributes, listed, listed_plus, content, written, done, failed}
+use Rattle.fuse_spec.specs.Files.Operations.{Operation, lookup, getattr, mkdir, create, unlink, rmdir, rename, link, opening, readdir, readdirplus, read, write, Reply, found, missing, created, opened, attributes, listed, listed_plus, content, written, done, failed}
 use Rattle.fuse_spec.specs.Calls.Paths.{Name, words_of, parent_and_last}
 use Rattle.fuse_spec.specs.Kernel.Replies.{kernel_reply, goes_with}
 use Rattle.fuse_spec.specs.Calls.Vfs.{CallState, walking, doing, using, Vfs, look, answered, asking, bound, unbound, opened_by, after_walk, after_beginning}
@@ -59,16 +59,19 @@ asking_steps c call state uses_it = record {
 -- ---- walks end in no read or write
 
 final_plain : (final : FinalOperation ℕ) (file : ℕ) → opens_of (operation_at {O = Opened} final file) ≡ []
-final_plain walks.stat file = refl
-final_plain (walks.list after) file = refl
-final_plain (walks.listplus after) file = refl
-final_plain walks.opening file = refl
-final_plain (walks.mkdir name) file = refl
-final_plain (walks.create name) file = refl
-final_plain (walks.unlink name) file = refl
-final_plain (walks.rmdir name) file = refl
-final_plain (walks.rename_from directory old new) file = refl
-final_plain (walks.link_to linked name) file = refl
+final_plain (lookup d name) file = refl
+final_plain (getattr x) file = refl
+final_plain (mkdir d name) file = refl
+final_plain (create d name) file = refl
+final_plain (unlink d name) file = refl
+final_plain (rmdir d name) file = refl
+final_plain (rename d old e new) file = refl
+final_plain (link x d name) file = refl
+final_plain (opening x) file = refl
+final_plain (readdir d after size) file = refl
+final_plain (readdirplus d after size) file = refl
+final_plain (read o offset size) file = elim o [ ]
+final_plain (write o offset bytes) file = elim o [ ]
 
 abbrev WalkPlain : Walked ℕ Opened → Type 0
 WalkPlain (looks_up d word words plan) = Unit {0}
@@ -92,8 +95,8 @@ walk_plain seen root at words plan = by plan (go seen at words)
     by (walks.rename old more new) walks.missing = tt
     by (walks.link more name) walks.missing = tt
     by (last final) (arrived file) = final_plain final file
-    by (walks.rename old more new) (arrived file) = last_plain (walks.rename_from file old new) (go seen root more)
-    by (walks.link more name) (arrived file) = last_plain (walks.link_to file name) (go seen root more)
+    by (walks.rename old more new) (arrived file) = last_plain (rename (Some file) old None new) (go seen root more)
+    by (walks.link more name) (arrived file) = last_plain (link (Some file) None name) (go seen root more)
 
 walked_steps : (c : Vfs Opened) (call : ℕ) (x : Walked ℕ Opened) → WalkPlain x
     → CallSteps c (after_walk c call x).vfs call None

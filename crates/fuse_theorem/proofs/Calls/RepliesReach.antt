@@ -4,13 +4,13 @@ use Rattle.std.proofs.Common.{◌≡◌, ℕ, cond, Bool, true, false, true≢fa
 use Rattle.std.specs.Prelude.{nat_lt}
 use Rattle.fuse_spec.specs.Values.Maps.{get_name}
 use Rattle.fuse_spec.specs.Calls.Paths.{Name}
-use Rattle.fuse_spec.specs.Files.Operations.{Operation, Dirent, DirentPlus, listed_by, Reply}
+use Rattle.fuse_spec.specs.Files.Operations.{Operation, Dirent, DirentPlus, listed_by, Reply, OptionAlike, OperationAlike, ReplyAlike, PairsAlike}
 use Rattle.fuse_spec.specs.Calls.Walks.{WalkPlan, Walked, looks_up, finds_none, asks, walk}
 use Rattle.fuse_spec.specs.Calls.Answers as answer
 use Rattle.fuse_spec.specs.declared.Binding.{Binding}
 use Rattle.fuse_spec.specs.Calls.Vfs.{CallState, walking, doing, using, Vfs, Advance, answered, bound, unbound, opened_by, asking, no_more, valid_at, look, after_walk, walks_on, asked}
 use Rattle.fuse_spec.specs.Calls.CallReplies.{name_listed, names_listed, all_bound, operation_replied, call_replied}
-use Rattle.fuse_spec.specs.Claim.Denotes.{OptionAlike, OperationAlike, ReplyAlike, StateAlike, BindingAlike, WalkPlanAlike, PairsAlike}
+use Rattle.fuse_spec.specs.Claim.Denotes.{StateAlike, BindingAlike, WalkPlanAlike}
 use Rattle.fuse_spec.specs.Claim.Alike.{VfsAlike}
 use Rattle.fuse_spec.proofs.Tables.{put_alike}
 use Rattle.fuse_theorem.specs.Numbering.{IsOneToOne}

@@ -6,7 +6,8 @@ use Rattle.fuse_spec.specs.Values.Maps.{Map, put, place_cmp, get_name, put_name,
 use Rattle.fuse_spec.specs.Calls.Answers.{Answer}
 use Rattle.fuse_spec.specs.declared.Binding.{Binding}
 use Rattle.fuse_spec.specs.Calls.Vfs.{Vfs, answered, bound, unbound, opened_by}
-use Rattle.fuse_spec.specs.Claim.Denotes.{OptionAlike, StateAlike, BindingAlike}
+use Rattle.fuse_spec.specs.Claim.Denotes.{StateAlike, BindingAlike}
+use Rattle.fuse_spec.specs.Files.Operations.{OptionAlike}
 use Rattle.fuse_spec.specs.Claim.Alike.{VfsAlike}
 use Rattle.fuse_theorem.specs.Numbering.{IsOneToOne}
 use Rattle.fuse_spec.proofs.Tables.{put_alike, gone_alike, name_put, name_put_there, name_gone, tie_alike}

@@ -6,7 +6,7 @@ use Rattle.fuse_spec.specs.Calls.Answers as answer
 use Rattle.fuse_spec.specs.Calls.Answers.{Answer}
 use Rattle.fuse_spec.specs.Calls.Begins.{Beginning, faulty, sets_out, uses, closes, beginning}
 use Rattle.fuse_spec.specs.Calls.Vfs.{using, Vfs, numbered, begun, after_beginning, later}
-use Rattle.fuse_spec.specs.Claim.Denotes.{OptionAlike}
+use Rattle.fuse_spec.specs.Files.Operations.{OptionAlike}
 use Rattle.fuse_spec.specs.Claim.Alike.{VfsAlike}
 use Rattle.fuse_spec.proofs.Tables.{gone_alike}
 use Rattle.fuse_theorem.specs.Numbering.{IsOneToOne}

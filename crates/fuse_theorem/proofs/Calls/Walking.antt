@@ -1,9 +1,11 @@
 -- Walks over files that are named in two ways, alike under R, come to the same.
 use Rattle.std.proofs.Common.{◌≡◌, List, [], ◌∷◌, Option, Some, None, refl, subst}
+use Rattle.std.specs.Prelude.{unwrap_or}
 use Rattle.fuse_spec.specs.Calls.Paths.{Name}
 use Rattle.fuse_spec.specs.Calls.Walks.{FinalOperation, WalkPlan, last, rename, link, WalkStop, unknown, missing, arrived, go, Walked, looks_up, finds_none, asks, after_last, after_stop, walk, operation_at}
-use Rattle.fuse_spec.specs.Calls.Walks as final
-use Rattle.fuse_spec.specs.Claim.Denotes.{OptionAlike, OperationAlike, FinalAlike, WalkPlanAlike}
+use Rattle.fuse_spec.specs.Files.Operations as op
+use Rattle.fuse_spec.specs.Claim.Denotes.{FinalAlike, WalkPlanAlike}
+use Rattle.fuse_spec.specs.Files.Operations.{lookup, getattr, mkdir, create, unlink, rmdir, opening, readdir, readdirplus, read, write, OptionAlike, OperationAlike}
 
 module _ {F O G P : Type 0} (R : F → G → Type 0) (S : O → P → Type 0) where
   -- where a walk stops
@@ -45,18 +47,31 @@ module _ {F O G P : Type 0} (R : F → G → Type 0) (S : O → P → Type 0) wh
     go_alike (word ∷ words) d e r = step_alike word words d e (look d word) (see e word) r (leads d e word r)
         (λ x y h. go_alike words x y h)
 
+    -- where both name none, the files to which the walks led
+    named_alike : (a : Option F) (b : Option G) (x : F) (y : G) → OptionAlike R a b → R x y
+        → R (unwrap_or a x) (unwrap_or b y)
+    named_alike None None x y h r = r
+    named_alike (Some a) (Some b) x y h r = h
+    named_alike None (Some b) x y h r = absurd h
+    named_alike (Some a) None x y h r = absurd h
+
     pub operation_alike : (a : FinalOperation F) (b : FinalOperation G) (x : F) (y : G) → FinalAlike R a b → R x y
         → OperationAlike {O = O} {P = P} R S (operation_at a x) (operation_at b y)
-    operation_alike final.stat final.stat x y h r = r
-    operation_alike (final.list after) (final.list after') x y h r = (r, h, refl)
-    operation_alike (final.listplus after) (final.listplus after') x y h r = (r, h, refl)
-    operation_alike final.opening final.opening x y h r = r
-    operation_alike (final.mkdir name) (final.mkdir other) x y h r = (r, h)
-    operation_alike (final.create name) (final.create other) x y h r = (r, h)
-    operation_alike (final.unlink name) (final.unlink other) x y h r = (r, h)
-    operation_alike (final.rmdir name) (final.rmdir other) x y h r = (r, h)
-    operation_alike (final.rename_from d old new) (final.rename_from e old' new') x y h r = (h.0, h.1, r, h.2)
-    operation_alike (final.link_to d name) (final.link_to e name') x y h r = (h.0, r, h.1)
+    operation_alike (lookup d name) (lookup e other) x y h r = (named_alike d e x y h.0 r, h.1)
+    operation_alike (mkdir d name) (mkdir e other) x y h r = (named_alike d e x y h.0 r, h.1)
+    operation_alike (create d name) (create e other) x y h r = (named_alike d e x y h.0 r, h.1)
+    operation_alike (unlink d name) (unlink e other) x y h r = (named_alike d e x y h.0 r, h.1)
+    operation_alike (rmdir d name) (rmdir e other) x y h r = (named_alike d e x y h.0 r, h.1)
+    operation_alike (getattr a) (getattr b) x y h r = named_alike a b x y h r
+    operation_alike (opening a) (opening b) x y h r = named_alike a b x y h r
+    operation_alike (readdir d after size) (readdir e after' size') x y h r = (named_alike d e x y h.0 r, h.1, h.2)
+    operation_alike (readdirplus d after size) (readdirplus e after' size') x y h r = (named_alike d e x y h.0 r, h.1, h.2)
+    operation_alike (op.rename d old e new) (op.rename d' old' e' new') x y h r =
+        (named_alike d d' x y h.0 r, h.1, named_alike e e' x y h.2 r, h.3)
+    operation_alike (op.link a d name) (op.link b e other) x y h r =
+        (named_alike a b x y h.0 r, named_alike d e x y h.1 r, h.2)
+    operation_alike (read o offset size) b x y h r = elim o [ ]
+    operation_alike (write o offset bytes) b x y h r = elim o [ ]
     operation_alike a b x y h r = absurd h
 
     last_alike : (a : FinalOperation F) (b : FinalOperation G) (s : WalkStop F) (t : WalkStop G) → FinalAlike R a b
@@ -80,9 +95,9 @@ module _ {F O G P : Type 0} (R : F → G → Type 0) (S : O → P → Type 0) wh
       stop_alike x y missing missing h r = tt
       stop_alike (last a) (last b) (arrived d) (arrived e) h r = operation_alike a b d e h r
       stop_alike (rename old words new) (rename old' words' new') (arrived d) (arrived e) h r =
-          second_alike (final.rename_from d old new) (final.rename_from e old' new') words words' (r, h.0, h.2) h.1
+          second_alike (op.rename (Some d) old None new) (op.rename (Some e) old' None new') words words' (r, h.0, tt, h.2) h.1
       stop_alike (link words name) (link words' name') (arrived d) (arrived e) h r =
-          second_alike (final.link_to d name) (final.link_to e name') words words' (r, h.1) h.0
+          second_alike (op.link (Some d) None name) (op.link (Some e) None name') words words' (r, tt, h.1) h.0
       stop_alike x y (unknown d word words) missing h r = absurd r
       stop_alike x y (unknown d word words) (arrived e) h r = absurd r
       stop_alike x y missing (unknown e word words) h r = absurd r

@@ -10,7 +10,8 @@ use Rattle.fuse_spec.specs.Values.Maps.{Map, get}
 use Rattle.fuse_spec.specs.Kernel.Messages.{RequestBody, asks}
 use Rattle.fuse_spec.specs.Files.Operations.{Operation, files_in}
 use Rattle.fuse_spec.specs.Calls.Vfs.{CallState, walking, doing, using, asked}
-use Rattle.fuse_spec.specs.Kernel.Kernel.{Kernel, asked_by, body_of, opened_nodes, nodes_of_state}
+use Rattle.fuse_spec.specs.Files.Operations.{opened_nodes}
+use Rattle.fuse_spec.specs.Kernel.Kernel.{Kernel, asked_by, body_of, nodes_of_state}
 use Rattle.fuse_spec.specs.Server.Nodes.{NodeTable, row_of, is_row_of, is_held}
 use Rattle.fuse_spec.specs.Server.Performs.{is_still_held}
 use Rattle.fuse_spec.specs.Server.Server.{HeldRequest, generation_in, nodes_of_body}

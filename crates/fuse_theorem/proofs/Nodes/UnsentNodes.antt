@@ -12,7 +12,8 @@ use Rattle.fuse_spec.specs.Values.Maps.{get, values}
 use Rattle.fuse_spec.specs.Kernel.Messages.{RequestBody, init, asks, release, forget, batch_forget, interrupt}
 use Rattle.fuse_spec.specs.Files.Operations.{files_in}
 use Rattle.fuse_spec.specs.Calls.Vfs.{CallState, walking, doing, using, asked}
-use Rattle.fuse_spec.specs.Kernel.Kernel.{Kernel, asked_by, body_of, opened_nodes, nodes_of_state, is_released_by, is_pinned, is_bound}
+use Rattle.fuse_spec.specs.Files.Operations.{opened_nodes}
+use Rattle.fuse_spec.specs.Kernel.Kernel.{Kernel, asked_by, body_of, nodes_of_state, is_released_by, is_pinned, is_bound}
 use Rattle.fuse_spec.specs.Server.Server.{nodes_of_body}
 use Rattle.fuse_spec.specs.World.Worlds.{World}
 use Rattle.fuse_spec.specs.World.Events.{Event, Outcome}

@@ -10,7 +10,7 @@ use Rattle.fuse_spec.specs.Kernel.Messages.{WireReply}
 use Rattle.fuse_spec.specs.Files.Operations.{Operation, create, opening, created, opened, failed, files_in}
 use Rattle.fuse_spec.specs.Kernel.QueueCalls.{waiting}
 use Rattle.fuse_spec.specs.Calls.Vfs.{CallState, asked}
-use Rattle.fuse_spec.specs.Kernel.Kernel.{opened_nodes}
+use Rattle.fuse_spec.specs.Files.Operations.{opened_nodes}
 use Rattle.fuse_spec.specs.Server.Nodes.{NodeTable, HandleTable, file_of, is_open}
 use Rattle.fuse_spec.specs.Reference.Plain.{Plain}
 use Rattle.fuse_spec.specs.Kernel.Replies.{kernel_reply, goes_with}

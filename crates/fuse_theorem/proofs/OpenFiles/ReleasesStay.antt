@@ -10,7 +10,8 @@ use Rattle.fuse_spec.specs.declared.Purpose.{Purpose}
 use Rattle.fuse_spec.specs.declared.Purpose.TheVariants as purpose
 use Rattle.fuse_spec.specs.declared.QueuedRequest.{QueuedRequest}
 use Rattle.fuse_spec.specs.Claim.Counts.{opens_of}
-use Rattle.fuse_spec.specs.Kernel.Kernel.{Kernel, asked_by, body_of, opened_nodes, is_released_by, is_pinned, is_bound}
+use Rattle.fuse_spec.specs.Files.Operations.{opened_nodes}
+use Rattle.fuse_spec.specs.Kernel.Kernel.{Kernel, asked_by, body_of, is_released_by, is_pinned, is_bound}
 use Rattle.fuse_spec.specs.Values.Maps.{Map, get, remove, values}
 use Rattle.fuse_spec.specs.Kernel.Messages.{RequestBody, release, WireReply}
 use Rattle.fuse_spec.specs.Files.Operations.{Operation, read, write, files_in}

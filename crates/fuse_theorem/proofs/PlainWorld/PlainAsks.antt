@@ -20,7 +20,8 @@ use Rattle.fuse_spec.specs.Calls.CallReplies.{call_replied}
 use Rattle.fuse_spec.specs.Calls.Vfs.{CallState, begun}
 use Rattle.fuse_spec.specs.Reference.Plain.{Plain, Ask, Stage, waiting, performed, declined, asking, call_put, ask_performed, ask_declined, ask_delivered, ask_interrupted, ask_noted, ask_marked, plain_later, name_dropped, plain_aborted, plain_mounted, first_plain}
 use Rattle.fuse_spec.specs.Reference.PlainSteps.{where_so, serving_ask, serving, delivering_to_call, delivering_reply, delivering, signalled_ask, signalling, marking, takes, Takes}
-use Rattle.fuse_spec.specs.Reference.PlainReplies.{RepliesTo, AskServed, AsksServed}
+use Rattle.fuse_spec.specs.Reference.PlainReplies.{AskServed, AsksServed}
+use Rattle.fuse_spec.specs.Reference.PlainCalls.{RepliesTo}
 use Rattle.fuse_theorem.proofs.Nodes.NodesSound.{put_found, left_found}
 
 -- ---- replies

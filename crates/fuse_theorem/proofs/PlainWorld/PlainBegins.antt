@@ -7,7 +7,6 @@ use Rattle.fuse_spec.specs.Values.Numbers.{einval, max_file, max_transfer}
 use Rattle.fuse_spec.specs.Calls.Paths.{Name, words_of, parent_and_last}
 use Rattle.fuse_spec.specs.Files.Operations as op
 use Rattle.fuse_spec.specs.Calls.Walks.{WalkPlan, last, rename, link}
-use Rattle.fuse_spec.specs.Calls.Walks as final
 use Rattle.fuse_spec.specs.Calls.Calls.{Call}
 use Rattle.fuse_spec.specs.Calls.Calls as call
 use Rattle.fuse_spec.specs.Calls.Begins.{Beginning, faulty, sets_out, uses, whole_path, parent_path, using, closing, beginning}
@@ -127,33 +126,33 @@ module _ (c : Vfs ℕ) (number : ℕ) where
   pub begins : (x : Call) → BeginsBy x (beginning c.opens x)
   begins (call.stat path) = along (call.stat path) path _
       (λ errno e. fails (call.stat path) errno (plain.of_stat path errno e))
-      (λ words e. sets (call.stat path) words (last final.stat) (plain.stats path words e))
+      (λ words e. sets (call.stat path) words (last (op.getattr None)) (plain.stats path words e))
   begins (call.list path after) =
       along (call.list path after) path _ (λ errno e. fails (call.list path after) errno
-      (plain.of_list path after errno e)) (λ words e. sets (call.list path after) words (last (final.list after))
+      (plain.of_list path after errno e)) (λ words e. sets (call.list path after) words (last (op.readdir None after max_transfer))
       (plain.lists path after words e))
   begins (call.listplus path after) =
       along (call.listplus path after) path _ (λ errno e. fails (call.listplus path after) errno
       (plain.of_listplus path after errno e)) (λ words e. sets (call.listplus path after) words
-      (last (final.listplus after)) (plain.lists_files path after words e))
+      (last (op.readdirplus None after max_transfer)) (plain.lists_files path after words e))
   begins (call.opening path) = along (call.opening path) path _
       (λ errno e. fails (call.opening path) errno (plain.of_open path errno e))
-      (λ words e. sets (call.opening path) words (last final.opening) (plain.opens path words e))
+      (λ words e. sets (call.opening path) words (last (op.opening None)) (plain.opens path words e))
   begins (call.mkdir path) =
       up_to_last (call.mkdir path) path _ (λ errno none. fails (call.mkdir path) errno
-      (plain.of_mkdir path errno none)) (λ words name e. sets (call.mkdir path) words (last (final.mkdir name))
+      (plain.of_mkdir path errno none)) (λ words name e. sets (call.mkdir path) words (last (op.mkdir None name))
       (plain.mkdirs path words name e))
   begins (call.create path) =
       up_to_last (call.create path) path _ (λ errno none. fails (call.create path) errno
-      (plain.of_create path errno none)) (λ words name e. sets (call.create path) words (last (final.create name))
+      (plain.of_create path errno none)) (λ words name e. sets (call.create path) words (last (op.create None name))
       (plain.creates path words name e))
   begins (call.unlink path) =
       up_to_last (call.unlink path) path _ (λ errno none. fails (call.unlink path) errno
-      (plain.of_unlink path errno none)) (λ words name e. sets (call.unlink path) words (last (final.unlink name))
+      (plain.of_unlink path errno none)) (λ words name e. sets (call.unlink path) words (last (op.unlink None name))
       (plain.unlinks path words name e))
   begins (call.rmdir path) =
       up_to_last (call.rmdir path) path _ (λ errno none. fails (call.rmdir path) errno
-      (plain.of_rmdir path errno none)) (λ words name e. sets (call.rmdir path) words (last (final.rmdir name))
+      (plain.of_rmdir path errno none)) (λ words name e. sets (call.rmdir path) words (last (op.rmdir None name))
       (plain.rmdirs path words name e))
   begins (call.rename old new) =
       up_to_last (call.rename old new) old _ (λ errno none. fails (call.rename old new) errno

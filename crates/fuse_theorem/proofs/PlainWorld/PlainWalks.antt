@@ -1,14 +1,15 @@
 -- A walk of the plain world is one in its own words, and so is how a call goes on.
 use Rattle.std.proofs.Common.{◌≡◌, ℕ, ◌≤◌, Bool, true, false, cond, List, [], ◌∷◌, Option, Some, None, refl, subst, arith}
-use Rattle.std.specs.Prelude.{nat_lt}
+use Rattle.std.specs.Prelude.{nat_lt, unwrap_or}
 use Rattle.std.proofs.lemmas.Bool.Decides.{nat_tests}
 use Rattle.fuse_spec.specs.declared.Binding.{Binding}
 use Rattle.fuse_spec.specs.Values.Maps.{get_name}
 use Rattle.fuse_spec.specs.Calls.Paths.{Name}
 use Rattle.fuse_spec.specs.Calls.Walks.{FinalOperation, WalkPlan, last, rename, link, WalkStop, unknown, missing, arrived, go, after_last, after_stop, operation_at}
-use Rattle.fuse_spec.specs.Calls.Walks as final
+use Rattle.fuse_spec.specs.Files.Operations.{lookup, getattr, mkdir, create, unlink, rmdir, opening, readdir, readdirplus, read, write}
+use Rattle.fuse_spec.specs.Files.Operations as op
 use Rattle.fuse_spec.specs.Calls.Vfs.{Vfs, Advance, valid_at, look, after_walk, walks_on}
-use Rattle.fuse_spec.specs.Reference.PlainCalls.{IsNotInForce, Walks, AsksAt, GoesOn}
+use Rattle.fuse_spec.specs.Reference.PlainCalls.{IsNotInForce, Walks, IsNamedAt, AsksAt, GoesOn}
 use Rattle.fuse_spec.specs.Reference.PlainCalls as plain
 
 -- Where a call's walk leaves it, in words.
@@ -16,17 +17,24 @@ abbrev pub GoesOnTo : Vfs ℕ → ℕ → ℕ → List Name → WalkPlan ℕ →
 GoesOnTo c number at words plan went = GoesOn c number at words plan went.vfs went.operation
 
 -- The operation at the last file is what is asked there.
-asks_at : (last_one : FinalOperation ℕ) (file : ℕ) → AsksAt last_one file (operation_at last_one file)
-asks_at final.stat file = plain.attributes_of file
-asks_at (final.list after) file = plain.names_in after file
-asks_at (final.listplus after) file = plain.names_and_files_in after file
-asks_at final.opening file = plain.to_open file
-asks_at (final.mkdir name) file = plain.to_mkdir name file
-asks_at (final.create name) file = plain.to_create name file
-asks_at (final.unlink name) file = plain.to_unlink name file
-asks_at (final.rmdir name) file = plain.to_rmdir name file
-asks_at (final.rename_from directory old new) file = plain.to_rename directory old new file
-asks_at (final.link_to linked name) file = plain.to_link linked name file
+named_at : (named : Option ℕ) (file : ℕ) → IsNamedAt file named (unwrap_or named file)
+named_at None file = refl
+named_at (Some other) file = refl
+
+asks_at : (final : FinalOperation ℕ) (file : ℕ) → AsksAt final file (operation_at final file)
+asks_at (lookup d name) file = (named_at d file, refl)
+asks_at (getattr x) file = named_at x file
+asks_at (mkdir d name) file = (named_at d file, refl)
+asks_at (create d name) file = (named_at d file, refl)
+asks_at (unlink d name) file = (named_at d file, refl)
+asks_at (rmdir d name) file = (named_at d file, refl)
+asks_at (op.rename d old e new) file = (named_at d file, refl, named_at e file, refl)
+asks_at (op.link x d name) file = (named_at x file, named_at d file, refl)
+asks_at (opening x) file = named_at x file
+asks_at (readdir d after size) file = (named_at d file, refl, refl)
+asks_at (readdirplus d after size) file = (named_at d file, refl, refl)
+asks_at (read o offset size) file = elim o [ ]
+asks_at (write o offset bytes) file = elim o [ ]
 
 module _ (c : Vfs ℕ) where
   -- where a walk stops whose first word finds this
@@ -88,13 +96,13 @@ module _ (c : Vfs ℕ) where
     after_first_walk at words (last last_one) (arrived file) walked =
         plain.asks_operation at words last_one file (operation_at last_one file) walked (asks_at last_one file)
     after_first_walk at words (rename old more new) (arrived file) walked =
-        let went = after_walk c number (after_last (final.rename_from file old new) (go (look c) c.root more)) in
+        let went = after_walk c number (after_last (op.rename (Some file) old None new) (go (look c) c.root more)) in
         GoesOn.renames at words old more new file went.vfs went.operation walked
-        (after_last_walk c.root more (final.rename_from file old new) (go (look c) c.root more) (walks more c.root))
+        (after_last_walk c.root more (op.rename (Some file) old None new) (go (look c) c.root more) (walks more c.root))
     after_first_walk at words (link more name) (arrived file) walked =
-        let went = after_walk c number (after_last (final.link_to file name) (go (look c) c.root more)) in
+        let went = after_walk c number (after_last (op.link (Some file) None name) (go (look c) c.root more)) in
         GoesOn.links at words more name file went.vfs went.operation walked
-        (after_last_walk c.root more (final.link_to file name) (go (look c) c.root more) (walks more c.root))
+        (after_last_walk c.root more (op.link (Some file) None name) (go (look c) c.root more) (walks more c.root))
 
     -- A call goes on as it does in words.
     pub goes_on : (at : ℕ) (words : List Name) (plan : WalkPlan ℕ)

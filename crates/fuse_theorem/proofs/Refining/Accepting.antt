@@ -7,7 +7,7 @@ use Rattle.fuse_spec.specs.declared.ReplyResult.{ReplyResult}
 use Rattle.fuse_spec.specs.declared.WriteResult.{WriteResult}
 use Rattle.fuse_spec.specs.declared.WriteResult.TheVariants.{Accepted}
 use Rattle.fuse_spec.specs.Values.Maps.{Map, get}
-use Rattle.fuse_spec.specs.Files.Operations.{Reply, files_in_reply}
+use Rattle.fuse_spec.specs.Files.Operations.{Reply, files_in_reply, OptionAlike, ReplyAlike}
 use Rattle.fuse_spec.specs.Calls.Vfs.{CallState, walking, doing, using, asked, Advance}
 use Rattle.fuse_spec.specs.Calls.CallReplies.{call_replied}
 use Rattle.fuse_spec.specs.Kernel.QueueCalls.{without}
@@ -17,7 +17,7 @@ use Rattle.fuse_spec.specs.World.Worlds.{World, Sent, after_write}
 use Rattle.fuse_spec.specs.World.Events as event
 use Rattle.fuse_spec.specs.Reference.Plain.{Plain, Ask, Stage, ask_delivered}
 use Rattle.fuse_spec.specs.Reference.PlainSteps.{Takes, delivering, delivering_reply, delivering_to_call, where_so}
-use Rattle.fuse_spec.specs.Claim.Denotes.{MeansIn, MeansOpenIn, OptionAlike, StateAlike, ReplyAlike}
+use Rattle.fuse_spec.specs.Claim.Denotes.{MeansIn, MeansOpenIn, StateAlike}
 use Rattle.fuse_spec.specs.Claim.Alike.{Alike}
 use Rattle.fuse_spec.proofs.QueueSoundness.{IsSound-without}
 use Rattle.fuse_theorem.specs.Numbering.{IsNumbered}

@@ -10,7 +10,7 @@ use Rattle.fuse_spec.specs.declared.WriteResult.{WriteResult}
 use Rattle.fuse_spec.specs.declared.WriteResult.TheVariants.{Accepted}
 use Rattle.fuse_spec.specs.Values.Maps.{get}
 use Rattle.fuse_spec.specs.Calls.Answers as answer
-use Rattle.fuse_spec.specs.Files.Operations.{Operation, failed}
+use Rattle.fuse_spec.specs.Files.Operations.{Operation, failed, OptionAlike}
 use Rattle.fuse_spec.specs.Calls.Vfs.{CallState, walking, doing, using, asked, answered}
 use Rattle.fuse_spec.specs.Kernel.QueueCalls.{without}
 use Rattle.fuse_spec.specs.Kernel.Messages.{WireReply}
@@ -20,7 +20,7 @@ use Rattle.fuse_spec.specs.World.Worlds.{World, Sent, after_write}
 use Rattle.fuse_spec.specs.World.Events as event
 use Rattle.fuse_spec.specs.Reference.Plain.{Plain, Ask, Stage, ask_interrupted}
 use Rattle.fuse_spec.specs.Reference.PlainSteps.{Takes, delivering, delivering_reply, where_so}
-use Rattle.fuse_spec.specs.Claim.Denotes.{MeansIn, MeansOpenIn, OptionAlike, StateAlike, generation_known}
+use Rattle.fuse_spec.specs.Claim.Denotes.{MeansIn, MeansOpenIn, StateAlike, generation_known}
 use Rattle.fuse_spec.specs.Claim.Alike.{Alike}
 use Rattle.fuse_spec.proofs.QueueSoundness.{IsSound-without}
 use Rattle.fuse_theorem.specs.Numbering.{IsNumbered}

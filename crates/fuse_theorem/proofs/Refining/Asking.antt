@@ -12,7 +12,7 @@ use Rattle.fuse_spec.specs.declared.Purpose.TheVariants as purpose
 use Rattle.fuse_spec.specs.declared.Mark.TheVariants.{Unread}
 use Rattle.fuse_spec.specs.declared.QueuedRequest.{QueuedRequest}
 use Rattle.fuse_spec.specs.Values.Maps.{Map, get, put}
-use Rattle.fuse_spec.specs.Files.Operations.{Operation}
+use Rattle.fuse_spec.specs.Files.Operations.{Operation, OptionAlike, OperationAlike}
 use Rattle.fuse_spec.specs.Calls.Vfs.{CallState, asked, Advance}
 use Rattle.fuse_spec.specs.Kernel.Queues.{QueueState, pending, request_under, is_unread, is_signalled, IsSound}
 use Rattle.fuse_spec.specs.Kernel.QueueCalls.{after_enqueue}
@@ -21,7 +21,7 @@ use Rattle.fuse_spec.specs.Kernel.Kernel.{Kernel, is_live, is_aborted, body_of, 
 use Rattle.fuse_spec.specs.Server.Server.{Kept}
 use Rattle.fuse_spec.specs.World.Worlds.{World, Sent}
 use Rattle.fuse_spec.specs.Reference.Plain.{Plain, Ask, waiting, asking, going_on}
-use Rattle.fuse_spec.specs.Claim.Denotes.{MeansIn, MeansOpenIn, OptionAlike, OperationAlike}
+use Rattle.fuse_spec.specs.Claim.Denotes.{MeansIn, MeansOpenIn}
 use Rattle.fuse_spec.specs.Claim.Alike.{TreeAlike, RequestBodyAsked, PurposeAsked, RequestsAlike, IsPaired, StageTold, Alike}
 use Rattle.fuse_spec.proofs.Tables.{get_put_here, get_put_there}
 use Rattle.fuse_spec.proofs.QueueSoundness.{lookup-next}

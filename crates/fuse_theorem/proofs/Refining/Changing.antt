@@ -4,7 +4,7 @@ use Rattle.std.proofs.lemmas.Bool.{cases_eq}
 use Rattle.fuse_spec.specs.declared.Purpose.{Purpose}
 use Rattle.fuse_spec.specs.declared.QueuedRequest.{QueuedRequest}
 use Rattle.fuse_spec.specs.Values.Maps.{get, put}
-use Rattle.fuse_spec.specs.Files.Operations.{Operation}
+use Rattle.fuse_spec.specs.Files.Operations.{Operation, OperationAlike}
 use Rattle.fuse_spec.specs.Kernel.Queues.{pending, request_under, is_signalled}
 use Rattle.fuse_spec.specs.Kernel.Messages.{Request}
 use Rattle.fuse_spec.specs.Kernel.Kernel.{body_of, request_of}
@@ -12,7 +12,7 @@ use Rattle.fuse_spec.specs.Calls.Vfs.{asked}
 use Rattle.fuse_spec.specs.Server.Server.{HeldRequest, Kept}
 use Rattle.fuse_spec.specs.World.Worlds.{World, Sent}
 use Rattle.fuse_spec.specs.Reference.Plain.{Plain, Ask}
-use Rattle.fuse_spec.specs.Claim.Denotes.{MeansIn, MeansOpenIn, OperationAlike}
+use Rattle.fuse_spec.specs.Claim.Denotes.{MeansIn, MeansOpenIn}
 use Rattle.fuse_spec.specs.Claim.Alike.{RequestBodyAsked, PurposeAsked, Meant, MeantOpen, StageTold, Alike}
 use Rattle.fuse_spec.proofs.Tables.{get_put_here, get_put_there}
 use Rattle.fuse_theorem.proofs.Refining.Asking.{match_more, asked_beside}

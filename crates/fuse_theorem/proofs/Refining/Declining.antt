@@ -4,7 +4,7 @@ use Rattle.fuse_spec.specs.declared.Opened.{Opened}
 use Rattle.fuse_spec.specs.declared.Purpose.{Purpose}
 use Rattle.fuse_spec.specs.declared.QueuedRequest.{QueuedRequest}
 use Rattle.fuse_spec.specs.Values.Maps.{Map, put, remove}
-use Rattle.fuse_spec.specs.Files.Operations.{Operation, failed, errno_of}
+use Rattle.fuse_spec.specs.Files.Operations.{Operation, failed, errno_of, OperationAlike}
 use Rattle.fuse_spec.specs.Kernel.Queues.{pending}
 use Rattle.fuse_spec.specs.Kernel.Messages.{Request, WireReply}
 use Rattle.fuse_spec.specs.Server.Server.{Server, HeldRequest, Kept, Copy, is_file_held, without_unheld_files}
@@ -15,7 +15,6 @@ use Rattle.fuse_spec.specs.World.Events as event
 use Rattle.fuse_spec.specs.Reference.Plain.{Plain, Ask, Stage, ask_declined}
 use Rattle.fuse_spec.specs.Reference.Plain as plain
 use Rattle.fuse_spec.specs.Reference.PlainSteps.{Takes, serving, serving_ask, where_so}
-use Rattle.fuse_spec.specs.Claim.Denotes.{OperationAlike}
 use Rattle.fuse_spec.specs.Claim.Alike.{AskedBy, RequestBodyAsked, Meant, MeantOpen, StageTold, Alike}
 use Rattle.fuse_spec.proofs.Tables.{get_put_here, get_gone_here}
 use Rattle.fuse_theorem.specs.Conditions.{CanDecline}

@@ -11,7 +11,8 @@ use Rattle.fuse_spec.specs.Values.Numbers.{econnaborted}
 use Rattle.fuse_spec.specs.Calls.Answers.{Answer, failed}
 use Rattle.fuse_spec.specs.Calls.Vfs.{Vfs, all_answered, given_up}
 use Rattle.fuse_spec.specs.Server.Nodes.{NodeTable}
-use Rattle.fuse_spec.specs.Claim.Denotes.{Means, OptionAlike, StateAlike}
+use Rattle.fuse_spec.specs.Claim.Denotes.{Means, StateAlike}
+use Rattle.fuse_spec.specs.Files.Operations.{OptionAlike}
 use Rattle.fuse_spec.specs.Claim.Alike.{VfsAlike}
 use Rattle.fuse_spec.proofs.Tables.{get_put}
 

@@ -9,11 +9,11 @@ use Rattle.fuse_spec.specs.declared.Counted.{Counted}
 use Rattle.fuse_spec.specs.declared.Entry.{Entry}
 use Rattle.fuse_spec.specs.declared.Opened.{Opened}
 use Rattle.fuse_spec.specs.Values.Maps.{Map, get, put}
-use Rattle.fuse_spec.specs.Files.Operations.{Operation, create, opening, Reply, found, missing, created, opened, attributes, listed, listed_plus, content, written, agreed, done, failed, files_in_reply, DirentPlus, listed_by, first_listed, files_listed, pair_with}
+use Rattle.fuse_spec.specs.Files.Operations.{Operation, create, opening, Reply, found, missing, created, opened, attributes, listed, listed_plus, content, written, agreed, done, failed, files_in_reply, DirentPlus, listed_by, first_listed, files_listed, pair_with, OperationAlike, ReplyAlike, OptionAlike, PairsAlike}
 use Rattle.fuse_spec.specs.Kernel.Messages.{WireReply}
 use Rattle.fuse_spec.specs.Server.Nodes.{NodeTable, HandleTable, OpenNumber, is_open, is_file_of}
 use Rattle.fuse_spec.specs.Kernel.Replies.{goes_with, usable, useless, stale, use_counted, use_of, first_use, counted_more, looked_up, kernel_reply}
-use Rattle.fuse_spec.specs.Claim.Denotes.{Denotes, Names, Opens, generation_known, Means, MeansOpen, OperationAlike, ReplyAlike, OptionAlike, PairsAlike}
+use Rattle.fuse_spec.specs.Claim.Denotes.{Denotes, Names, Opens, generation_known, Means, MeansOpen}
 use Rattle.fuse_spec.proofs.Tables.{get_put_here, get_put_there}
 use Rattle.fuse_theorem.specs.Numbering.{IsOneToOne}
 use Rattle.fuse_theorem.specs.Conditions.{OneId, OpensItsFile, IsUsable}

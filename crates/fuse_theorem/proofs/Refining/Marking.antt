@@ -7,7 +7,7 @@ use Rattle.fuse_spec.specs.declared.QueuedRequest.{QueuedRequest}
 use Rattle.fuse_spec.specs.Values.Maps.{Map, get, put}
 use Rattle.fuse_spec.specs.Values.Maps as maps
 use Rattle.fuse_spec.specs.Values.Numbers.{eagain}
-use Rattle.fuse_spec.specs.Files.Operations.{failed}
+use Rattle.fuse_spec.specs.Files.Operations.{failed, OperationAlike}
 use Rattle.fuse_spec.specs.Kernel.Queues.{pending}
 use Rattle.fuse_spec.specs.Kernel.Messages.{RequestBody, init, asks, release, forget, batch_forget, interrupt, Request}
 use Rattle.fuse_spec.specs.Server.Server.{HeldRequest, Kept}
@@ -16,7 +16,7 @@ use Rattle.fuse_spec.specs.World.Worlds.{World, after_take}
 use Rattle.fuse_spec.specs.World.Events as event
 use Rattle.fuse_spec.specs.Reference.Plain.{Plain, Ask, ask_marked}
 use Rattle.fuse_spec.specs.Reference.PlainSteps.{Takes, marking}
-use Rattle.fuse_spec.specs.Claim.Denotes.{MeansIn, MeansOpenIn, OperationAlike}
+use Rattle.fuse_spec.specs.Claim.Denotes.{MeansIn, MeansOpenIn}
 use Rattle.fuse_spec.specs.Claim.Alike.{RequestBodyAsked, Meant, MeantOpen, Alike}
 use Rattle.fuse_spec.proofs.Tables.{get_put_here, get_put_there, get_gone_here, get_gone_there}
 use Rattle.fuse_theorem.specs.Conditions.{IsInterrupt}

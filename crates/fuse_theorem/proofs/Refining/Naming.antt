@@ -11,12 +11,12 @@ use Rattle.std.specs.FinMap.Entries.{by_order}
 use Rattle.std.proofs.lemmas.Bool.{cases_eq}
 use Rattle.std.proofs.lemmas.List.Elements.{All-head, All-tail, All-nil, All-cons}
 use Rattle.fuse_spec.specs.Values.Maps.{Map, get, put, values}
-use Rattle.fuse_spec.specs.Files.Operations.{Reply, found, missing, created, opened, attributes, listed, listed_plus, content, written, agreed, done, failed, files_in_reply, opens_in_reply, files_listed}
+use Rattle.fuse_spec.specs.Files.Operations.{Reply, found, missing, created, opened, attributes, listed, listed_plus, content, written, agreed, done, failed, files_in_reply, opens_in_reply, files_listed, ReplyAlike}
 use Rattle.fuse_spec.specs.Files.Trees.{Tree}
 use Rattle.fuse_spec.specs.Server.Nodes.{HeldNode, NodeTable, row_of, root_row, MayName, IsUnheld, MayChoose, given, given_row, all_given, OpenNumber, HandleTable, is_open, is_file_of, handle_opened, all_opened}
 use Rattle.fuse_spec.specs.Server.Server.{generation_in}
 use Rattle.fuse_spec.specs.Server.Performs.{wire_of, entry_for}
-use Rattle.fuse_spec.specs.Claim.Denotes.{Denotes, ReplyAlike, Names, Opens}
+use Rattle.fuse_spec.specs.Claim.Denotes.{Denotes, Names, Opens}
 use Rattle.fuse_spec.proofs.Tables.{get_put_here, get_put_there}
 use Rattle.fuse_theorem.proofs.Calls.Finding.{same_is, other_is}
 

@@ -16,7 +16,8 @@ use Rattle.fuse_spec.specs.Kernel.Messages.{RequestBody, init, asks, release, fo
 use Rattle.fuse_spec.specs.Kernel.Kernel.{is_live, body_of}
 use Rattle.fuse_spec.specs.World.Worlds.{World}
 use Rattle.fuse_spec.specs.Reference.Plain.{Plain, Ask, ask_noted}
-use Rattle.fuse_spec.specs.Claim.Denotes.{MeansIn, MeansOpenIn, OperationAlike}
+use Rattle.fuse_spec.specs.Claim.Denotes.{MeansIn, MeansOpenIn}
+use Rattle.fuse_spec.specs.Files.Operations.{OperationAlike}
 use Rattle.fuse_spec.specs.Claim.Alike.{RequestBodyAsked, PurposeAsked, Meant, MeantOpen, Alike}
 use Rattle.fuse_spec.proofs.Tables.{get_put_here}
 use Rattle.fuse_spec.proofs.QueueReadings.{request_under-mark_other}

@@ -4,8 +4,7 @@ use Rattle.std.specs.Prelude.{Contains, nat_le, sum_by}
 use Rattle.std.proofs.lemmas.List.Sums.{sum_by-cons}
 use Rattle.std.proofs.lemmas.List.Elements.{All-nil, All-cons, All-head, All-tail}
 use Rattle.fuse_spec.specs.Calls.Paths.{is_dots}
-use Rattle.fuse_spec.specs.Files.Operations.{Dirent, DirentPlus, listed_by, first_listed, files_listed, pair_with, Reply, found, missing, created, opened, attributes, listed, listed_plus, content, written, agreed, done, failed, reply_with, files_in_reply}
-use Rattle.fuse_spec.specs.Claim.Denotes.{OptionAlike, PairsAlike}
+use Rattle.fuse_spec.specs.Files.Operations.{Dirent, DirentPlus, listed_by, first_listed, files_listed, pair_with, Reply, found, missing, created, opened, attributes, listed, listed_plus, content, written, agreed, done, failed, reply_with, files_in_reply, OptionAlike, PairsAlike}
 use Rattle.fuse_spec.specs.Files.Trees.{Tree, Named, record_length, pair_length, pair_of, fitting_pairs}
 
 -- ---- the same names, with the files named in another way

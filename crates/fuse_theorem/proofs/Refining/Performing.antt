@@ -6,7 +6,7 @@ use Rattle.fuse_spec.specs.declared.Opened.{Opened}
 use Rattle.fuse_spec.specs.declared.Purpose.{Purpose}
 use Rattle.fuse_spec.specs.declared.QueuedRequest.{QueuedRequest}
 use Rattle.fuse_spec.specs.Values.Maps.{Map, get, put, remove, values}
-use Rattle.fuse_spec.specs.Files.Operations.{Operation, lookup, getattr, mkdir, create, unlink, rmdir, rename, link, opening, readdir, readdirplus, read, write, Reply, found, missing, created, opened, attributes, listed, listed_plus, content, written, agreed, done, failed, files_in_reply, opens_in_reply, errno_of}
+use Rattle.fuse_spec.specs.Files.Operations.{Operation, lookup, getattr, mkdir, create, unlink, rmdir, rename, link, opening, readdir, readdirplus, read, write, Reply, found, missing, created, opened, attributes, listed, listed_plus, content, written, agreed, done, failed, files_in_reply, opens_in_reply, errno_of, OperationAlike}
 use Rattle.fuse_spec.specs.Files.Trees.{Tree, Named}
 use Rattle.fuse_spec.specs.Files.FileOperations.{FileOperation, reply_by, tree_after, refusal}
 use Rattle.fuse_spec.specs.Kernel.Queues.{pending}
@@ -20,7 +20,7 @@ use Rattle.fuse_spec.specs.World.Events as event
 use Rattle.fuse_spec.specs.Reference.Plain.{Plain, Ask, Stage, ask_performed}
 use Rattle.fuse_spec.specs.Reference.Plain as plain
 use Rattle.fuse_spec.specs.Reference.PlainSteps.{Takes, serving, serving_ask, where_so}
-use Rattle.fuse_spec.specs.Claim.Denotes.{OperationAlike, MeansIn, Denotes}
+use Rattle.fuse_spec.specs.Claim.Denotes.{MeansIn, Denotes}
 use Rattle.fuse_spec.specs.Claim.Alike.{TreeAlike, AskedBy, RequestBodyAsked, Meant, MeantOpen, StageTold, Alike}
 use Rattle.fuse_spec.proofs.Tables.{get_put_here, get_gone_here}
 use Rattle.fuse_theorem.specs.Numbering.{IsOneToOne}

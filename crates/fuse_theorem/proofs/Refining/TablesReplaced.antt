@@ -7,9 +7,9 @@ use Rattle.fuse_spec.specs.declared.Counted.{Counted}
 use Rattle.fuse_spec.specs.declared.Entry.{Entry}
 use Rattle.fuse_spec.specs.declared.Opened.{Opened}
 use Rattle.fuse_spec.specs.Values.Maps.{Map, get, get_name}
-use Rattle.fuse_spec.specs.Files.Operations.{Operation, Reply, found, missing, created, opened, attributes, listed, listed_plus, content, written, agreed, done, failed, files_in_reply, opens_in_reply}
-use Rattle.fuse_spec.specs.Calls.Walks.{FinalOperation, WalkPlan, last}
-use Rattle.fuse_spec.specs.Calls.Walks as final
+use Rattle.fuse_spec.specs.Files.Operations.{Operation, Reply, found, missing, created, opened, attributes, listed, listed_plus, content, written, agreed, done, failed, files_in_reply, opens_in_reply, OptionAlike, OperationAlike, ReplyAlike}
+use Rattle.fuse_spec.specs.Calls.Walks.{WalkPlan, last}
+use Rattle.fuse_spec.specs.Calls.Walks as walks
 use Rattle.fuse_spec.specs.Files.Trees.{Tree}
 use Rattle.fuse_spec.specs.Calls.Vfs.{CallState, walking, doing, using, asked, Vfs}
 use Rattle.fuse_spec.specs.Kernel.Queues.{pending, is_signalled}
@@ -20,11 +20,11 @@ use Rattle.fuse_spec.specs.World.Worlds.{World, Sent}
 use Rattle.fuse_spec.specs.Kernel.Messages.{RequestBody, init, asks, release, forget, batch_forget, interrupt, WireReply}
 use Rattle.fuse_spec.specs.Reference.Plain.{Plain, Ask, Stage, waiting, performed, declined}
 use Rattle.fuse_spec.specs.Server.Nodes.{NodeTable, HandleTable, is_open}
-use Rattle.fuse_spec.specs.Claim.Denotes.{OptionAlike, OperationAlike, ReplyAlike, FinalAlike, WalkPlanAlike, StateAlike, BindingAlike, Names, Opens, Denotes, generation_known, Means, MeansOpen, MeansIn, MeansOpenIn}
+use Rattle.fuse_spec.specs.Claim.Denotes.{WalkPlanAlike, StateAlike, BindingAlike, Names, Opens, Denotes, generation_known, Means, MeansOpen, MeansIn, MeansOpenIn}
 use Rattle.fuse_spec.specs.Claim.Alike.{TreeAlike, VfsAlike, RequestBodyAsked, Meant, MeantOpen, StageTold, Alike}
 use Rattle.fuse_theorem.specs.Numbering.{IsOneToOne}
 use Rattle.fuse_theorem.proofs.Refining.Asking.{match_more}
-use Rattle.fuse_theorem.proofs.Calls.Meaning.{operation_more, first_of}
+use Rattle.fuse_theorem.proofs.Calls.Meaning.{operation_more, final_within, first_of}
 
 -- ---- what is alike under R and S is alike under what they imply
 
@@ -36,23 +36,10 @@ option_more R R' f None (Some y) h = absurd h
 option_more R R' f (Some x) None h = absurd h
 
 module _ (R R' : ℕ → ℕ → Type 0) (more : (id file : ℕ) → R id file → R' id file) where
-  pub final_more : (a b : FinalOperation ℕ) → FinalAlike R a b → FinalAlike R' a b
-  final_more final.stat final.stat h = h
-  final_more (final.list after) (final.list after') h = h
-  final_more (final.listplus after) (final.listplus after') h = h
-  final_more final.opening final.opening h = h
-  final_more (final.mkdir name) (final.mkdir other) h = h
-  final_more (final.create name) (final.create other) h = h
-  final_more (final.unlink name) (final.unlink other) h = h
-  final_more (final.rmdir name) (final.rmdir other) h = h
-  final_more (final.rename_from d old new) (final.rename_from e old' new') h = (more d e h.0, h.1, h.2)
-  final_more (final.link_to x name) (final.link_to y other) h = (more x y h.0, h.1)
-  final_more a b h = absurd h
-
   pub plan_more : (a b : WalkPlan ℕ) → WalkPlanAlike R a b → WalkPlanAlike R' a b
-  plan_more (last a) (last b) h = final_more a b h
-  plan_more (final.rename old words new) (final.rename old' words' new') h = h
-  plan_more (final.link words name) (final.link words' name') h = h
+  plan_more (last a) (last b) h = final_within R R' a b (λ id file among r. more id file r) h
+  plan_more (walks.rename old words new) (walks.rename old' words' new') h = h
+  plan_more (walks.link words name) (walks.link words' name') h = h
   plan_more a b h = absurd h
 
   pub binding_more : (a b : Binding) → BindingAlike R a b → BindingAlike R' a b

@@ -5,7 +5,7 @@ use Rattle.std.proofs.lemmas.List.Elements.{All-push}
 use Rattle.fuse_spec.specs.Values.Maps.{get, put}
 use Rattle.fuse_spec.specs.Files.Operations.{files_in}
 use Rattle.fuse_spec.specs.Kernel.Messages.{RequestBody, init, asks, release, forget, batch_forget, interrupt, Request, WireReply}
-use Rattle.fuse_spec.specs.Kernel.Kernel.{opened_nodes}
+use Rattle.fuse_spec.specs.Files.Operations.{opened_nodes}
 use Rattle.fuse_spec.specs.Server.Nodes.{row_of}
 use Rattle.fuse_spec.specs.Server.Server.{HeldRequest, holding, sending, nodes_of_body, generation_in}
 use Rattle.fuse_spec.specs.World.Worlds.{World, Sent}

@@ -1,6 +1,6 @@
 -- The tables of nodes change, and nothing that is in use loses its meaning: all stays alike, though some nodes mean
 -- nothing any more.
-use Rattle.std.proofs.Common.{◌≡◌, ◌≢◌, ℕ, suc, Bool, true, false, List, [], ◌∷◌, Option, Some, None, get_or, refl, arith, All}
+use Rattle.std.proofs.Common.{◌≡◌, ◌≢◌, ℕ, Bool, true, false, List, Option, Some, None, get_or, refl, All}
 use Rattle.std.specs.Prelude.{Contains, MatchOption}
 use Rattle.fuse_spec.specs.declared.Binding.{Binding}
 use Rattle.fuse_spec.specs.declared.Counted.{Counted}
@@ -8,9 +8,9 @@ use Rattle.fuse_spec.specs.declared.Opened.{Opened}
 use Rattle.fuse_spec.specs.declared.Purpose.{Purpose}
 use Rattle.fuse_spec.specs.declared.Purpose.TheVariants as purpose
 use Rattle.fuse_spec.specs.Values.Maps.{Map, get, get_name}
-use Rattle.fuse_spec.specs.Files.Operations.{Operation, lookup}
-use Rattle.fuse_spec.specs.Calls.Walks.{FinalOperation, WalkPlan, last, files_of_plan}
-use Rattle.fuse_spec.specs.Calls.Walks as final
+use Rattle.fuse_spec.specs.Files.Operations.{Operation, lookup, OptionAlike, OperationAlike}
+use Rattle.fuse_spec.specs.Calls.Walks.{WalkPlan, last, files_of_plan}
+use Rattle.fuse_spec.specs.Calls.Walks as walks
 use Rattle.fuse_spec.specs.Files.Trees.{Tree}
 use Rattle.fuse_spec.specs.Calls.Vfs.{CallState, walking, doing, using, asked}
 use Rattle.fuse_spec.specs.Kernel.Queues.{pending, is_signalled}
@@ -21,35 +21,18 @@ use Rattle.fuse_spec.specs.World.Worlds.{World, Sent}
 use Rattle.fuse_spec.specs.Kernel.Messages.{RequestBody, Request, init, asks, release, forget, batch_forget, interrupt}
 use Rattle.fuse_spec.specs.Reference.Plain.{Plain, Ask}
 use Rattle.fuse_spec.specs.Server.Nodes.{NodeTable, HandleTable}
-use Rattle.fuse_spec.specs.Claim.Denotes.{OptionAlike, OperationAlike, FinalAlike, WalkPlanAlike, StateAlike, BindingAlike, Means, MeansOpen, MeansIn, MeansOpenIn}
+use Rattle.fuse_spec.specs.Claim.Denotes.{WalkPlanAlike, StateAlike, BindingAlike, Means, MeansOpen, MeansIn, MeansOpenIn}
 use Rattle.fuse_spec.specs.Claim.Alike.{TreeAlike, VfsAlike, RequestBodyAsked, Meant, MeantOpen, StageTold, Alike}
-use Rattle.fuse_theorem.proofs.Calls.Meaning.{operation_more, first_of}
+use Rattle.fuse_theorem.proofs.Calls.Meaning.{operation_more, final_within, first_of, next_of}
 
 -- ---- what is alike under R and S is alike under what they imply of what stands in it
 
-pub next_of : {X : Type 0} (y : X) (xs : List X) (x : X) → Contains xs x → Contains (y ∷ xs) x
-next_of y xs x (k, lt, is) = (suc k, omega (arith, lt), is)
-
 module _ (R R' : ℕ → ℕ → Type 0) where
-  pub final_within : (a b : FinalOperation ℕ) → ((id file : ℕ) → Contains (files_of_plan (last a)) id → R id file
-      → R' id file) → FinalAlike R a b → FinalAlike R' a b
-  final_within final.stat final.stat f h = h
-  final_within (final.list after) (final.list after') f h = h
-  final_within (final.listplus after) (final.listplus after') f h = h
-  final_within final.opening final.opening f h = h
-  final_within (final.mkdir name) (final.mkdir other) f h = h
-  final_within (final.create name) (final.create other) f h = h
-  final_within (final.unlink name) (final.unlink other) f h = h
-  final_within (final.rmdir name) (final.rmdir other) f h = h
-  final_within (final.rename_from d old new) (final.rename_from e old' new') f h = (f d e (first_of d []) h.0, h.1, h.2)
-  final_within (final.link_to x name) (final.link_to y other) f h = (f x y (first_of x []) h.0, h.1)
-  final_within a b f h = absurd h
-
   pub plan_within : (a b : WalkPlan ℕ) → ((id file : ℕ) → Contains (files_of_plan a) id → R id file → R' id file)
       → WalkPlanAlike R a b → WalkPlanAlike R' a b
-  plan_within (last a) (last b) f h = final_within a b f h
-  plan_within (final.rename old words new) (final.rename old' words' new') f h = h
-  plan_within (final.link words name) (final.link words' name') f h = h
+  plan_within (last a) (last b) f h = final_within R R' a b f h
+  plan_within (walks.rename old words new) (walks.rename old' words' new') f h = h
+  plan_within (walks.link words name) (walks.link words' name') f h = h
   plan_within a b f h = absurd h
 
   pub binding_within : (a b : Binding) → ((target file : ℕ) → a.target ≡ Some target → R target file → R' target file)

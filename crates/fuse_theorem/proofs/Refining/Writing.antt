@@ -6,7 +6,7 @@ use Rattle.fuse_spec.specs.declared.Purpose.TheVariants as purpose
 use Rattle.fuse_spec.specs.declared.QueuedRequest.{QueuedRequest}
 use Rattle.fuse_spec.specs.declared.ReplyResult.{ReplyResult}
 use Rattle.fuse_spec.specs.Values.Maps.{get}
-use Rattle.fuse_spec.specs.Files.Operations.{Reply}
+use Rattle.fuse_spec.specs.Files.Operations.{Reply, ReplyAlike}
 use Rattle.fuse_spec.specs.Calls.Answers as answer
 use Rattle.fuse_spec.specs.Calls.Vfs.{CallState, walking, doing, using, Advance, answered, no_more}
 use Rattle.fuse_spec.specs.Calls.CallReplies.{call_replied}
@@ -15,7 +15,7 @@ use Rattle.fuse_spec.specs.Kernel.QueueCalls.{without}
 use Rattle.fuse_spec.specs.Kernel.Kernel.{Kernel, is_live, advanced, after_use}
 use Rattle.fuse_spec.specs.World.Worlds.{World, Sent}
 use Rattle.fuse_spec.specs.Reference.Plain.{Plain, Ask, waiting, performed, declined, going_on, ask_delivered, ask_interrupted}
-use Rattle.fuse_spec.specs.Claim.Denotes.{MeansIn, MeansOpenIn, StateAlike, ReplyAlike}
+use Rattle.fuse_spec.specs.Claim.Denotes.{MeansIn, MeansOpenIn, StateAlike}
 use Rattle.fuse_spec.specs.Claim.Alike.{StageTold, Alike}
 use Rattle.fuse_spec.proofs.QueueSoundness.{IsSound-without}
 use Rattle.fuse_theorem.specs.Numbering.{IsOneToOne, IsNumbered}

@@ -9,13 +9,13 @@ use Rattle.fuse_spec.specs.declared.Entry.{Entry}
 use Rattle.fuse_spec.specs.declared.Opened.{Opened}
 use Rattle.fuse_spec.specs.Values.Maps.{Map, get}
 use Rattle.fuse_spec.specs.Kernel.Messages.{WireReply}
-use Rattle.fuse_spec.specs.Files.Operations.{Operation, Reply, Dirent}
+use Rattle.fuse_spec.specs.Files.Operations.{Operation, Reply, Dirent, OperationAlike, ReplyAlike}
 use Rattle.fuse_spec.specs.Files.FileOperations.{FileOperation}
 use Rattle.fuse_spec.specs.Server.Nodes.{NodeTable, HandleTable, HeldNode, is_open}
 use Rattle.fuse_spec.specs.Files.Trees.{record_length, pair_length}
-use Rattle.fuse_spec.specs.Claim.Denotes.{Denotes, generation_known, Means, Names, Opens, OperationAlike, ReplyAlike}
+use Rattle.fuse_spec.specs.Claim.Denotes.{Denotes, generation_known, Means, Names, Opens}
 use Rattle.fuse_spec.specs.Kernel.Replies.{goes_with, Use, usable, first_use, use_of, use_counted, use_of_all}
-use Rattle.fuse_spec.specs.Reference.PlainReplies.{RepliesTo}
+use Rattle.fuse_spec.specs.Reference.PlainCalls.{RepliesTo}
 use Rattle.fuse_theorem.specs.Conditions.{OpensItsFile}
 use Rattle.fuse_theorem.specs.Lookups.{IsHeldAs}
 use Rattle.fuse_theorem.proofs.Calls.Cases.{SameOperation, both_lookup, both_getattr, both_mkdir, both_create, both_unlink, both_rmdir, both_rename, both_link, both_opening, both_readdir, both_readdirplus, both_read, both_write, same_operation, SameReply, same_found, same_missing, same_created, same_opened, same_attributes, same_listed, same_listed_plus, same_content, same_written, same_done, same_failed, same_reply}

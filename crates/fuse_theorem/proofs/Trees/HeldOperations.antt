@@ -1,11 +1,11 @@
 -- The server performs the very operation of the ask: its operation, with each node replaced by the file that it
 -- denotes.
 use Rattle.std.proofs.Common.{◌≡◌, ℕ, List, ap, ◌∙◌}
-use Rattle.fuse_spec.specs.Files.Operations.{Operation, lookup, getattr, mkdir, create, unlink, rmdir, rename, link, opening, readdir, readdirplus, read, write, operation_with}
+use Rattle.fuse_spec.specs.Files.Operations.{Operation, lookup, getattr, mkdir, create, unlink, rmdir, rename, link, opening, readdir, readdirplus, read, write, operation_with, OperationAlike}
 use Rattle.fuse_spec.specs.declared.Opened.{Opened}
 use Rattle.fuse_spec.specs.Server.Nodes.{NodeTable, HandleTable, file_of, file_in}
 use Rattle.fuse_spec.specs.Server.Performs.{file_operation_of}
-use Rattle.fuse_spec.specs.Claim.Denotes.{OperationAlike, Denotes}
+use Rattle.fuse_spec.specs.Claim.Denotes.{Denotes}
 use Rattle.fuse_spec.specs.Claim.Alike.{Meant, MeantOpen}
 use Rattle.fuse_theorem.proofs.Calls.Cases.{SameOperation, both_lookup, both_getattr, both_mkdir, both_create, both_unlink, both_rmdir, both_rename, both_link, both_opening, both_readdir, both_readdirplus, both_read, both_write, same_operation}
 

@@ -13,12 +13,12 @@ returns-in-Stat-clause-wanting g c = first_asks c.args.names.now.names c.args.cl
 pub returns-in-List-clause-wanting : goal.returns-in-List-clause-wanting
 returns-in-List-clause-wanting g c = first_asks c.args.names.now.names c.args.clock c.args.opens.now.entries
     (call_of c.args.call.now) _
-    (λ vfs. rw c.in-List.is refl) c.begin_whole-in-List.result c.begin_whole-in-List.ensures.wanting
+    (λ vfs. rw (c.in-List.is, ← c.list_from.ensures.operation) refl) c.begin_whole-in-List.result c.begin_whole-in-List.ensures.wanting
 
 pub returns-in-ListPlus-clause-wanting : goal.returns-in-ListPlus-clause-wanting
 returns-in-ListPlus-clause-wanting g c = first_asks c.args.names.now.names c.args.clock c.args.opens.now.entries
     (call_of c.args.call.now) _
-    (λ vfs. rw c.in-ListPlus.is refl) c.begin_whole-in-ListPlus.result c.begin_whole-in-ListPlus.ensures.wanting
+    (λ vfs. rw (c.in-ListPlus.is, ← c.list_with_files_from.ensures.operation) refl) c.begin_whole-in-ListPlus.result c.begin_whole-in-ListPlus.ensures.wanting
 
 pub returns-in-Open-clause-wanting : goal.returns-in-Open-clause-wanting
 returns-in-Open-clause-wanting g c = first_asks c.args.names.now.names c.args.clock c.args.opens.now.entries

@@ -1,8 +1,11 @@
 use Rattle.fuse_spec.specs.Calls.Begins.{sets_out}
 use Rattle.fuse_spec.specs.Calls.Walks.{last}
-use Rattle.fk_syscalls.specs.Plans.{final_change}
+use Rattle.fk_syscalls.specs.Values.{changes}
 use Rattle.fk_syscalls.proofs.beginning.begin_change.Goals as goal
 
 pub returns-in-Ok-clause-wanting : goal.returns-in-Ok-clause-wanting
-returns-in-Ok-clause-wanting g c = rw (c.in-Ok.ensures.parts
-    (λ words name. sets_out words (last (final_change c.args.change name)))) c.set_out.ensures.wanting
+returns-in-Ok-clause-wanting g c = rw (
+  c.in-Ok.ensures.parts
+      (λ words name. sets_out words (last (changes c.args.change name))),
+  ← c.of_name.ensures.operation,
+) c.set_out.ensures.wanting

@@ -1,7 +1,8 @@
-use Rattle.std.proofs.Common.{◌≡◌, ℕ, [], sym, ap, ◌∙◌}
+use Rattle.std.proofs.Common.{◌≡◌, ℕ, [], sym, ap, ◌∙◌, Some, None}
+use Rattle.fuse_spec.specs.Files.Operations as op
 use Rattle.fuse_spec.specs.Calls.Begins.{sets_out}
 use Rattle.fuse_spec.specs.Calls.Vfs.{Vfs, after_beginning}
-use Rattle.fuse_spec.specs.Calls.Walks.{go, arrived, last, rename, link, rename_from, link_to}
+use Rattle.fuse_spec.specs.Calls.Walks.{go, arrived, last, rename, link}
 use Rattle.fuse_spec.specs.declared.Opened.{Opened}
 use Rattle.fk_syscalls.specs.Plans.{plan_of, IsLast}
 use Rattle.fk_syscalls.specs.States.{walking_at, HasNames}
@@ -37,6 +38,18 @@ returns-in_err-state-clause-wanting g c =
           (words_from words stop.at) ends c.in-Some.ensures.stop,
     ))
 
+pub returns-in_ok-state-in-Last-clause-begun : goal.returns-in_ok-state-in-Last-clause-begun
+returns-in_ok-state-in-Last-clause-begun g c = λ vfs call has.
+    let words = c.args.words.now in
+    let names = c.args.names.now.names in
+    let from = words_from words c.args.at in
+    let plan = plan_of (λ s. s.now) c.args.plan in
+    let stop = c.in-Some.stop in
+    let none = none_left words stop.at (sym c.is_some.ensures ∙ c.if-is_some.false) in
+    let ends : IsLast plan = rw c.in-Last.is tt in
+    rw c.in_ok-state-in-Last.ensures (all_root_waits vfs names c.args.clock has call from plan stop.node []
+    (λ e. ends) (c.in-Some.ensures.stop ∙ ap (stop_at stop.node) none))
+
 pub returns-in_err-state-in-Last-clause-wanting : goal.returns-in_err-state-in-Last-clause-wanting
 returns-in_err-state-in-Last-clause-wanting g c =
     let words = c.args.words.now in
@@ -65,11 +78,11 @@ returns-in-Rename-clause-begun g c =
     let more = words_from r.words.now r.at in
     let same : (vfs : Vfs Opened) (call : ℕ) → HasNames vfs names c.args.clock
     → after_beginning vfs call (sets_out from (rename r.old.now more r.new.now))
-    ≡ after_beginning vfs call (sets_out more (last (rename_from stop.node r.old.now r.new.now))) =
+    ≡ after_beginning vfs call (sets_out more (last (op.rename (Some stop.node) r.old.now None r.new.now))) =
     λ vfs call has. root_is vfs names c.args.clock has call from
     (rename r.old.now more r.new.now) ∙ renames vfs names c.args.clock has call 1 from r.old.now more r.new.now stop.node arrives in
     rw r.is (begun_so names c.args.clock (sets_out from (rename r.old.now more r.new.now))
-    (sets_out more (last (rename_from stop.node r.old.now r.new.now))) same c.set_out_again.result c.set_out_again.ensures.begun)
+    (sets_out more (last (op.rename (Some stop.node) r.old.now None r.new.now))) same c.set_out_again.result c.set_out_again.ensures.begun)
 
 pub returns-in-Rename-clause-wanting : goal.returns-in-Rename-clause-wanting
 returns-in-Rename-clause-wanting g c =
@@ -84,11 +97,11 @@ returns-in-Rename-clause-wanting g c =
     let more = words_from r.words.now r.at in
     let same : (vfs : Vfs Opened) (call : ℕ) → HasNames vfs names c.args.clock
     → after_beginning vfs call (sets_out from (rename r.old.now more r.new.now))
-    ≡ after_beginning vfs call (sets_out more (last (rename_from stop.node r.old.now r.new.now))) =
+    ≡ after_beginning vfs call (sets_out more (last (op.rename (Some stop.node) r.old.now None r.new.now))) =
     λ vfs call has. root_is vfs names c.args.clock has call from
     (rename r.old.now more r.new.now) ∙ renames vfs names c.args.clock has call 1 from r.old.now more r.new.now stop.node arrives in
     rw r.is (asks_so names c.args.clock (sets_out from (rename r.old.now more r.new.now))
-    (sets_out more (last (rename_from stop.node r.old.now r.new.now))) same c.set_out_again.result c.set_out_again.ensures.wanting)
+    (sets_out more (last (op.rename (Some stop.node) r.old.now None r.new.now))) same c.set_out_again.result c.set_out_again.ensures.wanting)
 
 pub returns-in-Link-clause-begun : goal.returns-in-Link-clause-begun
 returns-in-Link-clause-begun g c =
@@ -103,11 +116,11 @@ returns-in-Link-clause-begun g c =
     let more = words_from r.words.now r.at in
     let same : (vfs : Vfs Opened) (call : ℕ) → HasNames vfs names c.args.clock
     → after_beginning vfs call (sets_out from (link more r.name.now))
-    ≡ after_beginning vfs call (sets_out more (last (link_to stop.node r.name.now))) =
+    ≡ after_beginning vfs call (sets_out more (last (op.link (Some stop.node) None r.name.now))) =
     λ vfs call has. root_is vfs names c.args.clock has call from
     (link more r.name.now) ∙ links vfs names c.args.clock has call 1 from more r.name.now stop.node arrives in
     rw r.is (begun_so names c.args.clock (sets_out from (link more r.name.now))
-    (sets_out more (last (link_to stop.node r.name.now))) same c.set_out_again-in-Link.result c.set_out_again-in-Link.ensures.begun)
+    (sets_out more (last (op.link (Some stop.node) None r.name.now))) same c.set_out_again-in-Link.result c.set_out_again-in-Link.ensures.begun)
 
 pub returns-in-Link-clause-wanting : goal.returns-in-Link-clause-wanting
 returns-in-Link-clause-wanting g c =
@@ -122,8 +135,8 @@ returns-in-Link-clause-wanting g c =
     let more = words_from r.words.now r.at in
     let same : (vfs : Vfs Opened) (call : ℕ) → HasNames vfs names c.args.clock
     → after_beginning vfs call (sets_out from (link more r.name.now))
-    ≡ after_beginning vfs call (sets_out more (last (link_to stop.node r.name.now))) =
+    ≡ after_beginning vfs call (sets_out more (last (op.link (Some stop.node) None r.name.now))) =
     λ vfs call has. root_is vfs names c.args.clock has call from
     (link more r.name.now) ∙ links vfs names c.args.clock has call 1 from more r.name.now stop.node arrives in
     rw r.is (asks_so names c.args.clock (sets_out from (link more r.name.now))
-    (sets_out more (last (link_to stop.node r.name.now))) same c.set_out_again-in-Link.result c.set_out_again-in-Link.ensures.wanting)
+    (sets_out more (last (op.link (Some stop.node) None r.name.now))) same c.set_out_again-in-Link.result c.set_out_again-in-Link.ensures.wanting)

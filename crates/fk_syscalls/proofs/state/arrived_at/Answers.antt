@@ -1,6 +1,7 @@
 use Rattle.std.proofs.Common.{ap, ◌∙◌}
 use Rattle.fuse_spec.specs.Calls.Vfs.{walks_on}
-use Rattle.fk_syscalls.specs.Plans.{final_of, plan_of}
+use Rattle.fk_syscalls.specs.Plans.{plan_of}
+use Rattle.fuse_spec.specs.Files.Operations.{operation_of}
 use Rattle.fk_syscalls.specs.Words.{words_from}
 use Rattle.fk_syscalls.proofs.Advances.{renames, links, waits_at_end}
 use Rattle.fk_syscalls.proofs.state.arrived_at.Goals as goal
@@ -9,7 +10,7 @@ pub returns-in-Last : goal.returns-in-Last
 returns-in-Last g c = λ vfs call from walked has arrives.
     ap (λ p. walks_on vfs call from walked
     (plan_of (λ s. s.items) p)) c.in-Last.is ∙ waits_at_end vfs c.args.names.now.names c.args.clock has call walked
-    (final_of (λ s. s.items) c.in-Last.operation) from c.args.node arrives
+    (operation_of (λ s. s.items) c.in-Last.operation) from c.args.node arrives
 
 pub returns-in-Rename : goal.returns-in-Rename
 returns-in-Rename g c = λ vfs call from walked has arrives.

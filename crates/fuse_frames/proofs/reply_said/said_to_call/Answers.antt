@@ -4,7 +4,7 @@ use Rattle.fk_wire.specs.Replies.{reply_content, headed, SpellsReply}
 use Rattle.fk_wire.specs.declared.opcode.Opcode.{Opcode}
 use Rattle.fuse_spec.specs.Kernel.Messages.{asks}
 use Rattle.fuse_spec.specs.Kernel.Replies.{goes_with}
-use Rattle.fuse_spec.specs.Files.AskedOperations.{operation_of}
+use Rattle.fuse_spec.specs.Files.Operations.{operation_of}
 use Rattle.fuse_frames.specs.ReplyTies.{wire_said, wire_body}
 use Rattle.fuse_frames.specs.RequestTies.{asked_opcode}
 use Rattle.fuse_frames.proofs.SaidWithin.{content_fits, failed_goes}

@@ -1,5 +1,5 @@
 use Rattle.std.proofs.Common.{◌≡◌, ℕ, false, ap, sym, subst, ◌∙◌}
-use Rattle.fuse_spec.specs.Files.AskedOperations.{operation_of}
+use Rattle.fuse_spec.specs.Files.Operations.{operation_of}
 use Rattle.fuse_spec.specs.Files.Operations.{Operation}
 use Rattle.fuse_spec.specs.Values.Maps.{get}
 use Rattle.fuse_spec.specs.Kernel.Messages.{WireReply, asks}

@@ -7,14 +7,14 @@ use Rattle.fk_syscalls.specs.Words.{words_from}
 use Rattle.fk_syscalls.specs.Plans.{plan_of}
 use Rattle.fuse_spec.specs.Calls.Walks.{files_of_plan}
 use Rattle.fk_syscalls.specs.States.{state_of}
-use Rattle.fk_syscalls.proofs.Advances.{names_walked, names_self}
+use Rattle.fk_syscalls.proofs.Advances.{names_walked, names_self, plan_ends}
 use Rattle.fk_syscalls.proofs.state.CallState.names_node.Goals as goal
 
 pub returns-then-self-node : goal.returns-then-self-node
 returns-then-self-node g c =
     let self = c.self.inside in
-    rw (← c.self.view_is) (sym (names_self c.args.node self.node (words_from self.words.items self.at) self.aim
-    (search rules)))
+    rw (← c.self.view_is) (sym (names_self c.args.node self.node (words_from self.words.items self.at) self.at self.aim
+    c.self.invariant.sound (search rules)))
 
 pub returns-in-Walks : goal.returns-in-Walks
 returns-in-Walks g c =
@@ -23,6 +23,7 @@ returns-in-Walks g c =
     let words = words_from self.words.items self.at in
     let apart : nat_eq c.args.node self.node ≡ false = grind (arith, nat_tests) in
     let named = list_any (nat_eq c.args.node) (files_of_plan plan) in
-    let told = names_walked c.args.node self.node words plan ∙ ap (λ (b : Bool). b || named) apart in
+    let sound = rw c.in-Walks.is at c.self.invariant.sound in
+    let told = names_walked c.args.node self.node words plan (plan_ends c.in-Walks.plan sound.0) ∙ ap (λ (b : Bool). b || named) apart in
     rw (← c.self.view_is) (c.names_node.ensures ∙ sym told ∙ ap
     (λ aim. list_any (nat_eq c.args.node) (nodes_of_state (state_of self.node words aim))) (sym c.in-Walks.is))

@@ -1,11 +1,11 @@
-use Rattle.std.proofs.Common.{◌≡◌, sym, ap, ◌∙◌}
+use Rattle.std.proofs.Common.{◌≡◌, Some, None, sym, ap, ◌∙◌}
+use Rattle.fuse_spec.specs.Files.Operations as op
 use Rattle.std.specs.Prelude.{is_some}
 use Rattle.fuse_spec.specs.Calls.Vfs.{Advance, walks_on}
 use Rattle.fuse_spec.specs.declared.Opened.{Opened}
 use Rattle.fuse_spec.specs.Calls.Walks.{go, arrived}
 use Rattle.fk_syscalls.specs.NewNames.{with_name}
 use Rattle.fk_syscalls.specs.Plans.{plan_of, IsLast}
-use Rattle.fuse_spec.specs.Calls.Walks.{rename_from, link_to}
 use Rattle.fk_syscalls.specs.States.{walking_at}
 use Rattle.fk_syscalls.specs.Walks.{known, stop_at}
 use Rattle.fk_syscalls.specs.Words.{words_from}
@@ -99,7 +99,7 @@ returns-in-Rename g c = λ vfs call directory word words plan has walks.
     (on ∙ ap (λ p. walks_on vfs call from next (plan_of
     (λ s. s.items) p)) r.is ∙ renames vfs names c.args.clock has call from next r.old.items more r.new.items c.in-Some.stop.node arrives)
     ∙ root_asks vfs names c.args.clock has call more
-    (rename_from c.in-Some.stop.node r.old.items r.new.items) r.words.items c.walk_past-in-Rename.result stop-2 ∙ sym c.is_some-in-Rename.ensures
+    (op.rename (Some c.in-Some.stop.node) r.old.items None r.new.items) r.words.items c.walk_past-in-Rename.result stop-2 ∙ sym c.is_some-in-Rename.ensures
 
 pub returns-in-Link : goal.returns-in-Link
 returns-in-Link g c = λ vfs call directory word words plan has walks.
@@ -124,4 +124,4 @@ returns-in-Link g c = λ vfs call directory word words plan has walks.
     (on ∙ ap (λ p. walks_on vfs call from next (plan_of
     (λ s. s.items) p)) r.is ∙ links vfs names c.args.clock has call from next more r.name.items c.in-Some.stop.node arrives)
     ∙ root_asks vfs names c.args.clock has call more
-    (link_to c.in-Some.stop.node r.name.items) r.words.items c.walk_past-in-Link.result stop-2 ∙ sym c.is_some-in-Link.ensures
+    (op.link (Some c.in-Some.stop.node) None r.name.items) r.words.items c.walk_past-in-Link.result stop-2 ∙ sym c.is_some-in-Link.ensures
