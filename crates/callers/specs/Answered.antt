@@ -1,7 +1,8 @@
 -- What a server answers.
 use Rattle.std.specs.Prelude.{◌≡◌, ℕ, List, ◌++◌, None}
 use Rattle.fk_wire.specs.Requests.{RequestMessage, Spells, opcode_of}
-use Rattle.fk_wire.specs.Replies.{ReplyMessage, SpellsReply, kind_of}
+use Rattle.fk_wire.specs.Opcodes.{kind_of}
+use Rattle.fk_wire.specs.Replies.{ReplyMessage, SpellsReply}
 
 -- A frame spells a request, and what stands behind the old bytes answers it: a frame that spells a reply to a request
 -- of its opcode, under its number; or nothing, to a request that has no reply.

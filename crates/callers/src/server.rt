@@ -1,9 +1,9 @@
 //! A FUSE server whose files are one empty directory: it reads request frames and writes replies.
 
 ghost use Rattle.std.specs.Prelude.{◌≡◌, true, OnOk, OnErr, IsTrue, is_some};
-ghost use Rattle.fk_wire.specs.Opcodes.{knows, served};
+ghost use Rattle.fk_wire.specs.Opcodes.{kind_of, knows, served};
 ghost use Rattle.fk_wire.specs.Requests.{opcode_of, request_content};
-ghost use Rattle.fk_wire.specs.Replies.{GoesWith, kind_of, reply_message};
+ghost use Rattle.fk_wire.specs.Replies.{GoesWith, reply_message};
 ghost use Rattle.callers.specs.Answered.{Answers};
 
 use fk_wire::{

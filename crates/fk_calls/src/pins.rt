@@ -55,7 +55,13 @@ fn is_pinned<A: Allocator + Copy>(
 ) -> bool
     ensures { result ≡ pins calls.now.entries opens.now.entries is_releasing node }
 {
-    is_named(calls.rows(), node) || is_open(opens.rows(), node) || is_releasing
+    if is_named(calls.rows(), node) {
+        return true;
+    }
+    if is_open(opens.rows(), node) {
+        return true;
+    }
+    is_releasing
 }
 
 /// Whether a node is pinned, or a name in force, valid or not, names it.

@@ -11,12 +11,12 @@ use Rattle.fk_wire.specs.declared.opcode.Minor.{Minor}
 use Rattle.fk_wire.specs.declared.reply.ReplyKind.{ReplyKind}
 use Rattle.fk_wire.specs.declared.reply.ReplyKind.TheVariants as kind
 use Rattle.fk_wire.specs.Fields.{number_at, ReadsAs}
-use Rattle.fk_wire.specs.Opcodes.{knows, served}
-use Rattle.fk_wire.specs.RecordEnds.{record_end, end_from}
-use Rattle.fk_wire.specs.Replies.{ReplyContent, empty_reply, entry_reply, attr_reply, open_reply, bytes_reply, write_reply, init_reply, create_reply, records_reply, plus_reply, ReplyMessage, reply_kind, kind_of_content, states_15, init_end, open_fields, reply_body, IsReplyContent, HasReplyNames, IsErrorNumber, SpellsReply, SpellsReplyAt, kind_of}
+use Rattle.fk_wire.specs.Opcodes.{knows, kind_of, served}
+use Rattle.fk_wire.specs.RecordEnds.{record_end, end_from, count_from}
+use Rattle.fk_wire.specs.Replies.{ReplyContent, empty_reply, entry_reply, attr_reply, open_reply, bytes_reply, write_reply, init_reply, create_reply, records_reply, plus_reply, ReplyMessage, reply_kind, kind_of_content, states_15, init_end, open_fields, reply_body, IsReplyContent, HasReplyNames, IsErrorNumber, SpellsReply, SpellsReplyAt}
 use Rattle.fk_wire.specs.ReplyFaults.{FillsReply, HasNamesOf, ReplyBodyFaultIs, ReplyFaultIsAt}
 use Rattle.fk_wire.specs.Results.{SpellsResult}
-use Rattle.fk_wire.specs.Decoded.{count_from, record_count, reply_content_at, decoded_kind, decoded_reply}
+use Rattle.fk_wire.specs.Replies.{record_count, reply_content_at, decoded_kind, decoded_reply}
 use Rattle.fk_wire.proofs.EntryFields.{attr_is, entry_is}
 use Rattle.fk_wire.proofs.RecordLists.{record_after, one_count, one_dirent_list, one_plus_list, no_record_list, no_plus_list}
 use Rattle.fk_wire.specs.Records.{RecordsFaultIs, PlusFaultIs}

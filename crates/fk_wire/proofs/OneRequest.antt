@@ -10,9 +10,9 @@ use Rattle.fk_wire.specs.Fields.{Field, holds, free, bits, named, raw, number_at
 use Rattle.fk_wire.proofs.PairLists.{one_list, list_ends}
 use Rattle.fk_wire.specs.Requests.{RequestContent, lookup, forget, getattr, mkdir, unlink, rmdir, rename, link, opening, read, write, release, init, readdir, readdirplus, create, interrupt, batch_forget, RequestMessage, opcode_of, nodeid_field, IsNodeOf, request_body, max_frame, Spells, SpellsAt, request_message}
 use Rattle.fk_wire.specs.declared.opcode.Minor.{Minor}
-use Rattle.fk_wire.specs.Opcodes.{code_of, knows, served, has_node}
-use Rattle.fk_wire.specs.Faults.{NodeReads, shape_of, Fills, HasNames, BodyFaultIs, FaultIsAt}
-use Rattle.fk_wire.specs.Decoded.{name_from, first_from, request_content_at, opcode_from, decoded}
+use Rattle.fk_wire.specs.Requests.{name_from, first_from, request_content_at, decoded}
+use Rattle.fk_wire.specs.Opcodes.{code_of, knows, served, has_node, shape_of, opcode_from}
+use Rattle.fk_wire.specs.Faults.{NodeReads, Fills, HasNames, BodyFaultIs, FaultIsAt}
 use Rattle.fk_fields.proofs.Names.{name_is, first_is}
 
 content_is : (a : RequestContent) (bytes : List ℕ) → ReadsAs 40 (request_body a) bytes

@@ -72,6 +72,9 @@ no_records plus (suc n) place bytes zero short long e = let k =
 no_records plus (suc n) place bytes (suc count) short long e =
     no_records plus n (record_end plus place bytes) bytes count short long e
 
+-- what a count of records goes by
+pub ruleset counted_records = (none_yet, no_records, one_more, record_after)
+
 -- there is one number of records
 pub one_count : (plus : Bool) (a b place : ℕ) (bytes : List ℕ)
     → end_from plus a place bytes ≡ end_from plus b place bytes → a ≡ b

@@ -3,44 +3,11 @@ use Rattle.std.specs.Prelude.{◌≡◌, ◌≢◌, IsTrue, ◌≤◌, ◌<◌, 
 use Rattle.fk_wire.specs.declared.fault.WireFault.{WireFault}
 use Rattle.fk_wire.specs.declared.fault.WireFault.TheVariants as faults
 use Rattle.fk_wire.specs.declared.opcode.Opcode.{Opcode}
-use Rattle.fk_wire.specs.declared.opcode.Opcode.TheVariants as op
 use Rattle.fk_wire.specs.declared.opcode.Minor.{Minor}
-use Rattle.fk_wire.specs.Opcodes.{code_of, knows, served, has_node}
+use Rattle.fk_wire.specs.Opcodes.{Shape, exactly, name_after, names_after, sized, counted}
+use Rattle.fk_wire.specs.Opcodes.{code_of, knows, served, has_node, shape_of}
 use Rattle.fk_wire.specs.Fields.{number_at, named, ReadsAs, AreNamed, sizes}
 use Rattle.fk_wire.specs.Requests.{max_frame, opcode_of, IsNodeOf, RequestMessage, request_body}
-
--- The shape of a frame, header included.
-pub data Shape : Type 0 where
-  -- so many bytes
-  exactly : (size : ℕ) → Shape
-  -- so many bytes, and a name to the end
-  name_after : (size : ℕ) → Shape
-  -- so many bytes, and two names to the end
-  names_after : (size : ℕ) → Shape
-  -- 80 bytes, and as many as the number at 56 says
-  sized : Shape
-  -- 48 bytes, and as many pairs of 16 as the number at 40 says
-  counted : Shape
-
-abbrev pub shape_of : Opcode → Shape
-shape_of op.Lookup = name_after 40
-shape_of op.Forget = exactly 48
-shape_of op.Getattr = exactly 56
-shape_of op.Mkdir = name_after 48
-shape_of op.Unlink = name_after 40
-shape_of op.Rmdir = name_after 40
-shape_of op.Rename = names_after 48
-shape_of op.Link = name_after 48
-shape_of op.Open = exactly 48
-shape_of op.Read = exactly 80
-shape_of op.Write = sized
-shape_of op.Release = exactly 64
-shape_of op.Init = exactly 56
-shape_of op.Readdir = exactly 80
-shape_of op.Readdirplus = exactly 80
-shape_of op.Create = name_after 56
-shape_of op.Interrupt = exactly 48
-shape_of op.BatchForget = counted
 
 -- The frame has what its shape has, whatever its names are.
 abbrev pub Fills : Shape → List ℕ → Type 0

@@ -13,4 +13,3 @@ pub mod Puts
 pub mod Replies
 pub mod ReplyFaults
 pub mod Results
-pub mod Decoded

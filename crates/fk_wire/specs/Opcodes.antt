@@ -1,57 +1,113 @@
--- The opcodes: their numbers and names, and which a minor version knows.
-use Rattle.std.specs.Prelude.{ℕ, Bool, true, false, List, codes, if◌then◌else◌}
+-- The opcodes: a row of what is fixed for each, and which of them a minor version knows.
+use Rattle.std.specs.Prelude.{ℕ, Bool, true, false, ◌==◌, List, [], ◌∷◌, codes, if◌then◌else◌, Option, Some, None}
 use Rattle.fk_wire.specs.declared.opcode.Opcode.{Opcode}
 use Rattle.fk_wire.specs.declared.opcode.Opcode.TheVariants as op
 use Rattle.fk_wire.specs.declared.opcode.Minor.{Minor}
 use Rattle.fk_wire.specs.declared.opcode.Minor.TheVariants as minors
+use Rattle.fk_wire.specs.declared.reply.ReplyKind.{ReplyKind}
+use Rattle.fk_wire.specs.declared.reply.ReplyKind.TheVariants as kind
+
+-- The shape of a request's frame, header included.
+pub data Shape : Type 0 where
+  -- so many bytes
+  exactly : (size : ℕ) → Shape
+  -- so many bytes, and a name to the end
+  name_after : (size : ℕ) → Shape
+  -- so many bytes, and two names to the end
+  names_after : (size : ℕ) → Shape
+  -- 80 bytes, and as many as the number at 56 says
+  sized : Shape
+  -- 48 bytes, and as many pairs of 16 as the number at 40 says
+  counted : Shape
+
+-- What is fixed for an opcode.
+pub record OpcodeRow : Type 0 where
+  pub code : ℕ
+  pub name : List ℕ
+  -- whether it came after 7.15
+  pub is_later : Bool
+  -- whether its requests are about a node
+  pub has_node : Bool
+  pub shape : Shape
+  -- the kind of body in its replies, if it has replies
+  pub reply : Option ReplyKind
+
+abbrev row : (code : ℕ) (name : List ℕ) (is_later has_node : Bool) → Shape → Option ReplyKind → OpcodeRow
+row code name is_later has_node shape reply =
+    record { code = code; name = name; is_later = is_later; has_node = has_node; shape = shape; reply = reply }
+
+-- the words of the table for the two tests
+abbrev of_15 : Bool
+of_15 = false
+
+abbrev later : Bool
+later = true
+
+abbrev about_node : Bool
+about_node = true
+
+abbrev about_none : Bool
+about_none = false
+
+-- The table: number, name, whether 7.15 has it, whether it is about a node, its request's frame, its reply's body.
+abbrev pub row_of : Opcode → OpcodeRow
+row_of op.Lookup = row 1 (codes "LOOKUP") of_15 about_node (name_after 40) (Some kind.Entry)
+row_of op.Forget = row 2 (codes "FORGET") of_15 about_node (exactly 48) None
+row_of op.Getattr = row 3 (codes "GETATTR") of_15 about_node (exactly 56) (Some kind.Attr)
+row_of op.Mkdir = row 9 (codes "MKDIR") of_15 about_node (name_after 48) (Some kind.Entry)
+row_of op.Unlink = row 10 (codes "UNLINK") of_15 about_node (name_after 40) (Some kind.Empty)
+row_of op.Rmdir = row 11 (codes "RMDIR") of_15 about_node (name_after 40) (Some kind.Empty)
+row_of op.Rename = row 12 (codes "RENAME") of_15 about_node (names_after 48) (Some kind.Empty)
+row_of op.Link = row 13 (codes "LINK") of_15 about_node (name_after 48) (Some kind.Entry)
+row_of op.Open = row 14 (codes "OPEN") of_15 about_node (exactly 48) (Some kind.Open)
+row_of op.Read = row 15 (codes "READ") of_15 about_node (exactly 80) (Some kind.Bytes)
+row_of op.Write = row 16 (codes "WRITE") of_15 about_node sized (Some kind.Write)
+row_of op.Release = row 18 (codes "RELEASE") of_15 about_node (exactly 64) (Some kind.Empty)
+row_of op.Init = row 26 (codes "INIT") of_15 about_none (exactly 56) (Some kind.Init)
+row_of op.Readdir = row 28 (codes "READDIR") of_15 about_node (exactly 80) (Some kind.Records)
+row_of op.Create = row 35 (codes "CREATE") of_15 about_node (name_after 56) (Some kind.Create)
+row_of op.Interrupt = row 36 (codes "INTERRUPT") of_15 about_none (exactly 48) (Some kind.Empty)
+row_of op.BatchForget = row 42 (codes "BATCH_FORGET") later about_none counted None
+row_of op.Readdirplus = row 44 (codes "READDIRPLUS") later about_node (exactly 80) (Some kind.RecordsPlus)
+
+-- all of them
+abbrev pub opcodes : List Opcode
+opcodes = op.Lookup ∷ op.Forget ∷ op.Getattr ∷ op.Mkdir ∷ op.Unlink ∷ op.Rmdir ∷ op.Rename ∷ op.Link ∷ op.Open
+    ∷ op.Read ∷ op.Write ∷ op.Release ∷ op.Init ∷ op.Readdir ∷ op.Create ∷ op.Interrupt ∷ op.BatchForget
+    ∷ op.Readdirplus ∷ []
 
 -- the number of an opcode
 abbrev pub code_of : Opcode → ℕ
-code_of op.Lookup = 1
-code_of op.Forget = 2
-code_of op.Getattr = 3
-code_of op.Mkdir = 9
-code_of op.Unlink = 10
-code_of op.Rmdir = 11
-code_of op.Rename = 12
-code_of op.Link = 13
-code_of op.Open = 14
-code_of op.Read = 15
-code_of op.Write = 16
-code_of op.Release = 18
-code_of op.Init = 26
-code_of op.Readdir = 28
-code_of op.Create = 35
-code_of op.Interrupt = 36
-code_of op.BatchForget = 42
-code_of op.Readdirplus = 44
+code_of o = (row_of o).code
 
 -- the name of an opcode
 abbrev pub name_of : Opcode → List ℕ
-name_of op.Lookup = codes "LOOKUP"
-name_of op.Forget = codes "FORGET"
-name_of op.Getattr = codes "GETATTR"
-name_of op.Mkdir = codes "MKDIR"
-name_of op.Unlink = codes "UNLINK"
-name_of op.Rmdir = codes "RMDIR"
-name_of op.Rename = codes "RENAME"
-name_of op.Link = codes "LINK"
-name_of op.Open = codes "OPEN"
-name_of op.Read = codes "READ"
-name_of op.Write = codes "WRITE"
-name_of op.Release = codes "RELEASE"
-name_of op.Init = codes "INIT"
-name_of op.Readdir = codes "READDIR"
-name_of op.Create = codes "CREATE"
-name_of op.Interrupt = codes "INTERRUPT"
-name_of op.BatchForget = codes "BATCH_FORGET"
-name_of op.Readdirplus = codes "READDIRPLUS"
+name_of o = (row_of o).name
 
 -- whether an opcode came after 7.15
 abbrev pub is_later : Opcode → Bool
-is_later op.BatchForget = true
-is_later op.Readdirplus = true
-is_later _ = false
+is_later o = (row_of o).is_later
+
+-- whether a request of this opcode is about a node
+abbrev pub has_node : Opcode → Bool
+has_node o = (row_of o).has_node
+
+-- the shape of its frame
+abbrev pub shape_of : Opcode → Shape
+shape_of o = (row_of o).shape
+
+-- the kind of body in the replies to an opcode; the two forgets have none
+abbrev pub kind_of : Opcode → Option ReplyKind
+kind_of o = (row_of o).reply
+
+-- the first of some opcodes that has this number
+abbrev pub first_with : ℕ → List Opcode → Opcode
+first_with code [] = op.Readdirplus
+first_with code (o ∷ os) = if code == code_of o then o else first_with code os
+
+-- the opcode of a number, if there is one
+abbrev pub opcode_from : ℕ → Opcode
+opcode_from code = first_with code opcodes
 
 -- whether a minor version knows an opcode
 abbrev pub knows : Minor → Opcode → Bool
@@ -61,10 +117,3 @@ knows minors.M15 o = if is_later o then false else true
 -- the minor version of the calls that take none
 abbrev pub served : Minor
 served = minors.M31
-
--- whether a request of this opcode is about a node
-abbrev pub has_node : Opcode → Bool
-has_node op.Init = false
-has_node op.Interrupt = false
-has_node op.BatchForget = false
-has_node _ = true

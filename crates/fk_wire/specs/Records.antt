@@ -8,7 +8,8 @@ use Rattle.fk_wire.specs.declared.fault.WireFault.{WireFault}
 use Rattle.fk_wire.specs.declared.fault.WireFault.TheVariants as faults
 use Rattle.fk_wire.specs.Fields.{ReadsAs}
 use Rattle.fk_wire.specs.Entries.{entry_content}
-use Rattle.fk_wire.specs.Dirents.{DirentContent, DirentPlusContent, dirents, dirents_from, direntpluses, direntpluses_from, HaveRecordNames, HavePlusNames, HaveEntries}
+use Rattle.fk_wire.specs.Dirents.{DirentContent, DirentPlusContent, dirents, dirents_from, direntpluses}
+use Rattle.fk_wire.specs.Dirents.{direntpluses_from, HaveRecordNames, HavePlusNames, HaveEntries}
 
 -- what a value of the code says
 abbrev pub dirent_content : Dirent → DirentContent

@@ -1,9 +1,9 @@
--- The replies, field by field, as the structs of linux/fuse.h have them.
-use Rattle.std.specs.Prelude.{◌≡◌, ◌≢◌, ◌≤◌, ◌≤ℤ◌, ℤ, pos, negsuc, ℕ, Bool, true, false, IsTrue, ◌==◌, ◌&&◌, if◌then◌else◌, List, [], ◌∷◌, length, Option, Some, None}
-use Rattle.std.specs.Int.{cast_unsigned, w32}
+-- The replies, field by field, as the structs of linux/fuse.h have them, and what the bytes of a frame reply.
+use Rattle.std.specs.Prelude.{◌≡◌, ◌≢◌, ◌≤◌, ◌≤ℤ◌, ℤ, pos, negsuc, ℕ, ◌-◌, Bool, true, false, IsTrue, ◌==◌, ◌&&◌}
+use Rattle.std.specs.Prelude.{if◌then◌else◌, List, [], ◌∷◌, length, Option, Some, None, unwrap_or}
+use Rattle.std.specs.Int.{cast_signed, cast_unsigned, w32}
 use Rattle.std.specs.Int.RustNames.{bit_and}
 use Rattle.fk_wire.specs.declared.opcode.Opcode.{Opcode}
-use Rattle.fk_wire.specs.declared.opcode.Opcode.TheVariants as op
 use Rattle.fk_wire.specs.declared.opcode.Minor.{Minor}
 use Rattle.fk_wire.specs.declared.opcode.Minor.TheVariants as minors
 use Rattle.fk_wire.specs.declared.entry.Attr.{Attr}
@@ -13,10 +13,13 @@ use Rattle.fk_wire.specs.declared.reply.ReplyBody.{ReplyBody}
 use Rattle.fk_wire.specs.declared.reply.ReplyBody.TheVariants as view
 use Rattle.fk_wire.specs.declared.reply.Reply.{Reply}
 use Rattle.fk_wire.specs.declared.reply.ReplyHead.{ReplyHead}
-use Rattle.fk_wire.specs.Fields.{Field, raw, free, u32, u64, free32, free64, bits, ReadsAs, InRange, AreNamed, spellings}
-use Rattle.fk_wire.specs.Opcodes.{knows, served}
-use Rattle.fk_wire.specs.Entries.{EntryContent, IsEntry, entry_content, entry_fields, attr_fields}
-use Rattle.fk_wire.specs.Dirents.{DirentContent, DirentPlusContent, dirents, direntpluses, HaveRecordNames, HavePlusNames, HaveEntries}
+use Rattle.fk_wire.specs.Fields.{Field, raw, free, u32, u64, free32, free64, bits, number_at, bytes_at}
+use Rattle.fk_wire.specs.Fields.{ReadsAs, InRange, AreNamed, spellings}
+use Rattle.fk_wire.specs.Opcodes.{knows, kind_of, served}
+use Rattle.fk_wire.specs.Entries.{EntryContent, IsEntry, entry_content, entry_fields, attr_fields, attr_at, entry_at}
+use Rattle.fk_wire.specs.RecordEnds.{count_from}
+use Rattle.fk_wire.specs.Dirents.{DirentContent, DirentPlusContent, dirents, direntpluses}
+use Rattle.fk_wire.specs.Dirents.{dirents_from, direntpluses_from, HaveRecordNames, HavePlusNames, HaveEntries}
 use Rattle.fk_wire.specs.Records.{records_in, pluses_in}
 use Rattle.fk_wire.specs.Requests.{known_flags, max_frame}
 
@@ -60,28 +63,7 @@ reply_message r = record { unique = r.unique; error = r.error; content = reply_c
 abbrev pub headed : ReplyHead → ReplyBody → ReplyMessage
 headed head body = record { unique = head.unique; error = head.error; content = reply_content body }
 
--- the kind of body in the replies to an opcode; the two forgets have none
-abbrev pub kind_of : Opcode → Option ReplyKind
-kind_of op.Lookup = Some kind.Entry
-kind_of op.Forget = None
-kind_of op.Getattr = Some kind.Attr
-kind_of op.Mkdir = Some kind.Entry
-kind_of op.Unlink = Some kind.Empty
-kind_of op.Rmdir = Some kind.Empty
-kind_of op.Rename = Some kind.Empty
-kind_of op.Link = Some kind.Entry
-kind_of op.Open = Some kind.Open
-kind_of op.Read = Some kind.Bytes
-kind_of op.Write = Some kind.Write
-kind_of op.Release = Some kind.Empty
-kind_of op.Init = Some kind.Init
-kind_of op.Readdir = Some kind.Records
-kind_of op.Create = Some kind.Create
-kind_of op.Interrupt = Some kind.Empty
-kind_of op.BatchForget = None
-kind_of op.Readdirplus = Some kind.RecordsPlus
-
--- the same at a minor version, which may not know the opcode
+-- the kind of body in the replies to an opcode at a minor version, which may not know the opcode
 abbrev pub reply_kind : Minor → Opcode → Option ReplyKind
 reply_kind minor o = if knows minor o then kind_of o else None
 
@@ -115,14 +97,15 @@ states_15 major minor = (major == 7) && (minor == 15)
 -- the end of struct fuse_init_out, which 7.15 does not have: time_gran, max_pages, map_alignment, unused[8]
 abbrev pub init_end : Bool → List Field
 init_end true = []
-init_end false = free32 1 ∷ free 2 0 ∷ free 2 0 ∷ free32 0 ∷ free32 0 ∷ free32 0 ∷ free32 0 ∷ free32 0 ∷ free32 0 ∷ free32 0 ∷ free32 0 ∷ []
+init_end false = free32 1 ∷ free 2 0 ∷ free 2 0
+    ∷ free32 0 ∷ free32 0 ∷ free32 0 ∷ free32 0 ∷ free32 0 ∷ free32 0 ∷ free32 0 ∷ free32 0 ∷ []
 
 -- struct fuse_init_out: major, minor, max_readahead, flags, max_background, congestion_threshold, max_write; and its
 -- end
 abbrev pub init_fields : (major minor flags : ℕ) → List Field
 init_fields major minor flags =
-    u32 major ∷ u32 minor ∷ free32 0 ∷ bits known_flags flags ∷ free 2 0 ∷ free 2 0 ∷ free32 4096 ∷ init_end
-    (states_15 major minor)
+    u32 major ∷ u32 minor ∷ free32 0 ∷ bits known_flags flags ∷ free 2 0 ∷ free 2 0 ∷ free32 4096
+    ∷ init_end (states_15 major minor)
 
 -- the fields of a body
 abbrev pub reply_body : ReplyContent → List Field
@@ -139,6 +122,26 @@ reply_body (create_reply e fh) = entry_fields e (open_fields fh)
 reply_body (records_reply ds) = dirents ds
 reply_body (plus_reply ps) = direntpluses ps
 
+-- how many records a body of this kind has
+abbrev pub record_count : ReplyKind → List ℕ → ℕ
+record_count kind.Records bytes = count_from (length bytes) false 16 bytes
+record_count kind.RecordsPlus bytes = count_from (length bytes) true 16 bytes
+record_count k bytes = 0
+
+-- The content of a body, of a kind and with so many records, if it is one.
+abbrev pub reply_content_at : ReplyKind → ℕ → List ℕ → ReplyContent
+reply_content_at kind.Empty count bytes = empty_reply
+reply_content_at kind.Entry count bytes = entry_reply (entry_at 16 bytes)
+reply_content_at kind.Attr count bytes = attr_reply (attr_at 32 bytes)
+reply_content_at kind.Open count bytes = open_reply (number_at 16 8 bytes)
+reply_content_at kind.Bytes count bytes = bytes_reply (bytes_at 16 (length bytes - 16) bytes)
+reply_content_at kind.Write count bytes = write_reply (number_at 16 4 bytes)
+reply_content_at kind.Init count bytes = init_reply (number_at 16 4 bytes) (number_at 20 4 bytes)
+    (bit_and (number_at 28 4 bytes) known_flags)
+reply_content_at kind.Create count bytes = create_reply (entry_at 16 bytes) (number_at 144 8 bytes)
+reply_content_at kind.Records count bytes = records_reply (dirents_from count 16 bytes)
+reply_content_at kind.RecordsPlus count bytes = plus_reply (direntpluses_from count 16 bytes)
+
 -- What else a body has to be: its entries are entries.
 abbrev pub IsReplyContent : ReplyContent → Type 0
 IsReplyContent (entry_reply e) = IsEntry e
@@ -151,6 +154,11 @@ abbrev pub HasReplyNames : ReplyContent → Type 0
 HasReplyNames (records_reply ds) = HaveRecordNames ds
 HasReplyNames (plus_reply ps) = HavePlusNames ps
 HasReplyNames content = Unit {0}
+
+-- The frame's bytes after its header are this body, of this kind.
+abbrev pub IsReplyBodyOf : ReplyKind → List ℕ → ReplyBody → Type 0
+IsReplyBodyOf k bytes body = (kind_of_content (reply_content body) ≡ k) × IsReplyContent (reply_content body)
+    × HasReplyNames (reply_content body) × ReadsAs 16 (reply_body (reply_content body)) bytes
 
 -- An error is 0 or a negated error number, down to -511.
 abbrev pub IsErrorNumber : ℤ → Type 0
@@ -187,3 +195,16 @@ SpellsReply = SpellsReplyAt served
 
 abbrev pub WrittenReply : ReplyMessage → List ℕ → Type 0
 WrittenReply = WrittenReplyAt served
+
+-- the kind of body in a frame that replies to this opcode
+abbrev pub decoded_kind : Opcode → List ℕ → ReplyKind
+decoded_kind o bytes = if number_at 4 4 bytes == 0 then unwrap_or (kind_of o) kind.Empty else kind.Empty
+
+-- the reply to a request of this opcode that a frame spells
+unfoldable pub decoded_reply : Opcode → List ℕ → ReplyMessage
+decoded_reply o bytes = let k = decoded_kind o bytes in
+    record {
+      unique = number_at 8 8 bytes;
+      error = cast_signed w32 (number_at 4 4 bytes);
+      content = reply_content_at k (record_count k bytes) bytes;
+    }

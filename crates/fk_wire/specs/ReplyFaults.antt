@@ -13,7 +13,8 @@ use Rattle.fk_wire.specs.Fields.{ReadsAs, number_at, sizes}
 use Rattle.fk_wire.specs.Requests.{max_frame}
 use Rattle.fk_wire.specs.Dirents.{DirentContent, DirentPlusContent, dirents, direntpluses, HaveEntries}
 use Rattle.fk_wire.specs.Records.{AreRecords, AreRecordsPlus}
-use Rattle.fk_wire.specs.Replies.{reply_kind, knows_kind, kind_of_content, states_15, IsErrorNumber, ReplyMessage, IsAlone, IsReplyContent, HasReplyNames, reply_body}
+use Rattle.fk_wire.specs.Replies.{reply_kind, knows_kind, kind_of_content, states_15, IsErrorNumber, ReplyMessage}
+use Rattle.fk_wire.specs.Replies.{IsAlone, IsReplyContent, HasReplyNames, reply_body}
 
 -- A frame has what a body of its kind has, whatever its names are.
 abbrev pub FillsReply : ReplyKind → List ℕ → Type 0

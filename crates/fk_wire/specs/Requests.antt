@@ -1,5 +1,7 @@
--- The requests, field by field, as the structs of linux/fuse.h have them.
-use Rattle.std.specs.Prelude.{◌≡◌, ◌≤◌, IsTrue, ℕ, Bool, true, false, List, [], ◌∷◌, ◌++◌, length}
+-- The requests, field by field, as the structs of linux/fuse.h have them, and what the bytes of a frame ask.
+use Rattle.std.specs.Prelude.{◌≡◌, ◌≤◌, IsTrue, ℕ, Bool, true, false, ◌+◌, ◌-◌, ◌==◌, if◌then◌else◌}
+use Rattle.std.specs.Prelude.{List, [], ◌∷◌, ◌++◌, length, take, drop}
+use Rattle.std.specs.List.{before_first}
 use Rattle.std.specs.Int.RustNames.{bit_and}
 use Rattle.fk_wire.specs.declared.opcode.Opcode.{Opcode}
 use Rattle.fk_wire.specs.declared.opcode.Opcode.TheVariants as op
@@ -7,9 +9,10 @@ use Rattle.fk_wire.specs.declared.request.RequestBody.{RequestBody}
 use Rattle.fk_wire.specs.declared.request.RequestBody.TheVariants as view
 use Rattle.fk_wire.specs.declared.request.Request.{Request}
 use Rattle.fk_wire.specs.declared.opcode.Minor.{Minor}
-use Rattle.fk_wire.specs.Opcodes.{code_of, knows, served, has_node}
-use Rattle.fk_wire.specs.Pairs.{pairs_in, forget_ones}
-use Rattle.fk_wire.specs.Fields.{Field, named, raw, u32, u64, free32, free64, bits, ReadsAs, InRange, AreNamed, spellings}
+use Rattle.fk_wire.specs.Opcodes.{code_of, knows, served, has_node, opcode_from}
+use Rattle.fk_wire.specs.Pairs.{pairs_in, pairs_from, forget_ones}
+use Rattle.fk_wire.specs.Fields.{Field, named, raw, u32, u64, free32, free64, bits, number_at, bytes_at}
+use Rattle.fk_wire.specs.Fields.{ReadsAs, InRange, AreNamed, spellings}
 
 -- ASYNC_READ, DO_READDIRPLUS and PARALLEL_DIROPS
 abbrev pub known_flags : ℕ
@@ -130,6 +133,43 @@ request_body (interrupt unique) = u64 unique ∷ []
 -- struct fuse_batch_forget_in: count, dummy; and the pairs
 request_body (batch_forget forgets) = u32 (length forgets) ∷ free32 0 ∷ forget_ones forgets
 
+-- The frame's bytes after its header are this body, of a request of this opcode.
+abbrev pub IsBodyOf : Opcode → List ℕ → RequestBody → Type 0
+IsBodyOf o bytes body = (opcode_of (request_content body) ≡ o)
+    × ReadsAs 40 (request_body (request_content body)) bytes
+
+-- the name from a place to the end of a frame, without its NUL byte
+abbrev pub name_from : ℕ → List ℕ → List ℕ
+name_from place bytes = take (length bytes - (place + 1)) (drop place bytes)
+
+-- the first of the two names of a RENAME
+abbrev pub first_from : List ℕ → List ℕ
+first_from bytes = before_first (λ b. b == 0) (drop 48 bytes)
+
+-- what the bytes of a frame under an opcode ask, if they ask anything
+abbrev pub request_content_at : Opcode → List ℕ → RequestContent
+request_content_at op.Lookup bytes = lookup (name_from 40 bytes)
+request_content_at op.Forget bytes = forget (number_at 40 8 bytes)
+request_content_at op.Getattr bytes = getattr
+request_content_at op.Mkdir bytes = mkdir (name_from 48 bytes)
+request_content_at op.Unlink bytes = unlink (name_from 40 bytes)
+request_content_at op.Rmdir bytes = rmdir (name_from 40 bytes)
+request_content_at op.Rename bytes = let old = first_from bytes in
+    rename (number_at 40 8 bytes) old (name_from (48 + (length old + 1)) bytes)
+request_content_at op.Link bytes = link (number_at 40 8 bytes) (name_from 48 bytes)
+request_content_at op.Open bytes = opening
+request_content_at op.Read bytes = read (number_at 40 8 bytes) (number_at 48 8 bytes) (number_at 56 4 bytes)
+request_content_at op.Write bytes = write (number_at 40 8 bytes) (number_at 48 8 bytes)
+    (bytes_at 80 (number_at 56 4 bytes) bytes)
+request_content_at op.Release bytes = release (number_at 40 8 bytes)
+request_content_at op.Init bytes = init (number_at 40 4 bytes) (number_at 44 4 bytes)
+    (bit_and (number_at 52 4 bytes) known_flags)
+request_content_at op.Readdir bytes = readdir (number_at 48 8 bytes) (number_at 56 4 bytes)
+request_content_at op.Readdirplus bytes = readdirplus (number_at 48 8 bytes) (number_at 56 4 bytes)
+request_content_at op.Create bytes = create (name_from 56 bytes)
+request_content_at op.Interrupt bytes = interrupt (number_at 40 8 bytes)
+request_content_at op.BatchForget bytes = batch_forget (pairs_from (number_at 40 4 bytes) 48 bytes)
+
 -- The field of the node. It is free where a request is about none.
 abbrev pub nodeid_field : Bool → ℕ → Field
 nodeid_field true node = u64 node
@@ -170,3 +210,12 @@ Spells = SpellsAt served
 
 abbrev pub Written : RequestMessage → List ℕ → Type 0
 Written = WrittenAt served
+
+-- the request that a frame spells, if it spells one
+unfoldable pub decoded : List ℕ → RequestMessage
+decoded bytes = let o = opcode_from (number_at 4 4 bytes) in
+    record {
+      unique = number_at 8 8 bytes;
+      nodeid = (if has_node o then number_at 16 8 bytes else 0);
+      content = request_content_at o bytes;
+    }

@@ -1,38 +1,34 @@
-//! The body of a request's frame, by its opcode.
+//! The bodies of requests' frames, by opcode: read from a frame, and written at the end of a vector.
 
-ghost use Rattle.std.specs.Prelude.{◌≡◌, ◌≢◌, IfOk, IfErr, MatchOption, ℕ};
-ghost use Rattle.fk_wire.specs.Fields.{ReadsAs};
-ghost use Rattle.fk_wire.specs.Requests.{request_content, opcode_of, request_body};
-ghost use Rattle.fk_wire.specs.Faults.{shape_of, BodyFaultIs, name_after};
+ghost use Rattle.std.specs.Prelude.{◌≡◌, ◌≢◌, ◌≤◌, ◌<◌, ◌+◌, ◌*◌, ◌^◌, ◌++◌, ◌↔◌, IfOk, IfErr, IsTrue, ℕ};
+ghost use Rattle.std.specs.Prelude.{if◌then◌else◌, length, vec_len, vec_capacity};
+ghost use Rattle.std.specs.Int.RustNames.{bit_and};
+ghost use Rattle.fk_wire.specs.Fields.{InRange, AreNamed, sizes, spellings};
+ghost use Rattle.fk_wire.specs.Pairs.{pairs_in, forget_ones};
+ghost use Rattle.fk_wire.specs.Requests.{IsBodyOf, request_content, request_body, range, known_flags};
+ghost use Rattle.fk_wire.specs.Requests.{getattr, mkdir, rename, release, init, create, batch_forget};
+ghost use Rattle.fk_wire.specs.Opcodes.{shape_of, exactly, name_after};
+ghost use Rattle.fk_wire.specs.Faults.{BodyFaultIs};
 ghost use Rattle.fk_wire.specs.declared.opcode.Opcode.{Opcode};
 
 use crate::fault::WireFault;
-use crate::flags::offered;
-use crate::opcode::Opcode;
+use crate::flags::{InitFlags, offered};
+use crate::opcode::{Opcode, name_place};
+use crate::pairs::Pairs;
 use crate::request::RequestBody;
+use crate::room::{put_bytes, put_name, put_two_u32, put_two_u64, put_u32, put_u64};
 use crate::shapes::{fixed, one_name, two_names, with_bytes, with_pairs};
-use fk_fields::{u32_at, u64_at};
+use fk_fields::{is_name, u32_at, u64_at};
+use std::alloc::Allocator;
 
-/// Where the name stands in a frame under this opcode, if it has one name and ends with it.
-fn name_place(opcode: Opcode) -> Option<usize>
-    ensures { MatchOption result ((place : ℕ) → shape_of opcode ≢ name_after place)
-        (λ place. shape_of opcode ≡ name_after place) }
-{
-    match opcode {
-        Opcode::Lookup | Opcode::Unlink | Opcode::Rmdir => Some(40),
-        Opcode::Mkdir | Opcode::Link => Some(48),
-        Opcode::Create => Some(56),
-        _ => None,
-    }
-}
+// ---- read
 
 /// The body of a frame that ends with its one name. The name is looked at in one place for all six
 /// opcodes, so that there is one copy of it in the reader.
 #[inline(always)]
 fn named_body(opcode: Opcode, bytes: &[u8], place: usize) -> Result<RequestBody<'_>, WireFault>
     requires { shape_of opcode ≡ name_after place }
-    ensures ok { IfOk result (λ b. (opcode_of (request_content b) ≡ opcode)
-        × ReadsAs 40 (request_body (request_content b)) bytes.now) }
+    ensures ok { IfOk result (IsBodyOf opcode bytes.now) }
     ensures err { IfErr result (BodyFaultIs (shape_of opcode) bytes.now) }
 {
     let name = one_name(bytes, place)?;
@@ -53,8 +49,7 @@ fn named_body(opcode: Opcode, bytes: &[u8], place: usize) -> Result<RequestBody<
 /// `struct fuse_rename_in` and the two names.
 #[inline(always)]
 fn rename_body(bytes: &[u8]) -> Result<RequestBody<'_>, WireFault>
-    ensures ok { IfOk result (λ b. (opcode_of (request_content b) ≡ Opcode.Rename)
-        × ReadsAs 40 (request_body (request_content b)) bytes.now) }
+    ensures ok { IfOk result (IsBodyOf Opcode.Rename bytes.now) }
     ensures err { IfErr result (BodyFaultIs (shape_of Opcode.Rename) bytes.now) }
 {
     let (old, new) = two_names(bytes, 48)?;
@@ -65,8 +60,7 @@ fn rename_body(bytes: &[u8]) -> Result<RequestBody<'_>, WireFault>
 /// `struct fuse_read_in`.
 #[inline(always)]
 fn read_body(bytes: &[u8]) -> Result<RequestBody<'_>, WireFault>
-    ensures ok { IfOk result (λ b. (opcode_of (request_content b) ≡ Opcode.Read)
-        × ReadsAs 40 (request_body (request_content b)) bytes.now) }
+    ensures ok { IfOk result (IsBodyOf Opcode.Read bytes.now) }
     ensures err { IfErr result (BodyFaultIs (shape_of Opcode.Read) bytes.now) }
 {
     fixed(bytes, 80)?;
@@ -79,8 +73,7 @@ fn read_body(bytes: &[u8]) -> Result<RequestBody<'_>, WireFault>
 /// `struct fuse_write_in` and the data.
 #[inline(always)]
 fn write_body(bytes: &[u8]) -> Result<RequestBody<'_>, WireFault>
-    ensures ok { IfOk result (λ b. (opcode_of (request_content b) ≡ Opcode.Write)
-        × ReadsAs 40 (request_body (request_content b)) bytes.now) }
+    ensures ok { IfOk result (IsBodyOf Opcode.Write bytes.now) }
     ensures err { IfErr result (BodyFaultIs (shape_of Opcode.Write) bytes.now) }
 {
     let data = with_bytes(bytes)?;
@@ -96,8 +89,7 @@ fn write_body(bytes: &[u8]) -> Result<RequestBody<'_>, WireFault>
 /// `struct fuse_release_in`.
 #[inline(always)]
 fn release_body(bytes: &[u8]) -> Result<RequestBody<'_>, WireFault>
-    ensures ok { IfOk result (λ b. (opcode_of (request_content b) ≡ Opcode.Release)
-        × ReadsAs 40 (request_body (request_content b)) bytes.now) }
+    ensures ok { IfOk result (IsBodyOf Opcode.Release bytes.now) }
     ensures err { IfErr result (BodyFaultIs (shape_of Opcode.Release) bytes.now) }
 {
     fixed(bytes, 64)?;
@@ -108,8 +100,7 @@ fn release_body(bytes: &[u8]) -> Result<RequestBody<'_>, WireFault>
 /// `struct fuse_init_in`.
 #[inline(always)]
 fn init_body(bytes: &[u8]) -> Result<RequestBody<'_>, WireFault>
-    ensures ok { IfOk result (λ b. (opcode_of (request_content b) ≡ Opcode.Init)
-        × ReadsAs 40 (request_body (request_content b)) bytes.now) }
+    ensures ok { IfOk result (IsBodyOf Opcode.Init bytes.now) }
     ensures err { IfErr result (BodyFaultIs (shape_of Opcode.Init) bytes.now) }
 {
     fixed(bytes, 56)?;
@@ -123,37 +114,26 @@ fn init_body(bytes: &[u8]) -> Result<RequestBody<'_>, WireFault>
     })
 }
 
-/// `struct fuse_read_in` of a READDIR.
+/// `struct fuse_read_in` of a READDIR, or with `plus` of a READDIRPLUS.
 #[inline(always)]
-fn readdir_body(bytes: &[u8]) -> Result<RequestBody<'_>, WireFault>
-    ensures ok { IfOk result (λ b. (opcode_of (request_content b) ≡ Opcode.Readdir)
-        × ReadsAs 40 (request_body (request_content b)) bytes.now) }
-    ensures err { IfErr result (BodyFaultIs (shape_of Opcode.Readdir) bytes.now) }
+fn list_body(plus: bool, bytes: &[u8]) -> Result<RequestBody<'_>, WireFault>
+    ensures ok { IfOk result (IsBodyOf (if plus then Opcode.Readdirplus else Opcode.Readdir) bytes.now) }
+    ensures err { IfErr result (BodyFaultIs (exactly 80) bytes.now) }
 {
     fixed(bytes, 80)?;
     let offset = u64_at(bytes, 48);
     let size = u32_at(bytes, 56);
-    Ok(RequestBody::Readdir { offset, size })
-}
-
-/// `struct fuse_read_in` of a READDIRPLUS.
-#[inline(always)]
-fn readdirplus_body(bytes: &[u8]) -> Result<RequestBody<'_>, WireFault>
-    ensures ok { IfOk result (λ b. (opcode_of (request_content b) ≡ Opcode.Readdirplus)
-        × ReadsAs 40 (request_body (request_content b)) bytes.now) }
-    ensures err { IfErr result (BodyFaultIs (shape_of Opcode.Readdirplus) bytes.now) }
-{
-    fixed(bytes, 80)?;
-    let offset = u64_at(bytes, 48);
-    let size = u32_at(bytes, 56);
-    Ok(RequestBody::Readdirplus { offset, size })
+    Ok(if plus {
+        RequestBody::Readdirplus { offset, size }
+    } else {
+        RequestBody::Readdir { offset, size }
+    })
 }
 
 /// `struct fuse_batch_forget_in` and the pairs.
 #[inline(always)]
 fn batch_forget_body(bytes: &[u8]) -> Result<RequestBody<'_>, WireFault>
-    ensures ok { IfOk result (λ b. (opcode_of (request_content b) ≡ Opcode.BatchForget)
-        × ReadsAs 40 (request_body (request_content b)) bytes.now) }
+    ensures ok { IfOk result (IsBodyOf Opcode.BatchForget bytes.now) }
     ensures err { IfErr result (BodyFaultIs (shape_of Opcode.BatchForget) bytes.now) }
 {
     let pairs = with_pairs(bytes)?;
@@ -164,8 +144,7 @@ fn batch_forget_body(bytes: &[u8]) -> Result<RequestBody<'_>, WireFault>
 #[inline(always)]
 fn other_body(opcode: Opcode, bytes: &[u8]) -> Result<RequestBody<'_>, WireFault>
     requires { (place : ℕ) → shape_of opcode ≢ name_after place }
-    ensures ok { IfOk result (λ b. (opcode_of (request_content b) ≡ opcode)
-        × ReadsAs 40 (request_body (request_content b)) bytes.now) }
+    ensures ok { IfOk result (IsBodyOf opcode bytes.now) }
     ensures err { IfErr result (BodyFaultIs (shape_of opcode) bytes.now) }
 {
     match opcode {
@@ -192,8 +171,8 @@ fn other_body(opcode: Opcode, bytes: &[u8]) -> Result<RequestBody<'_>, WireFault
         Opcode::Write => write_body(bytes),
         Opcode::Release => release_body(bytes),
         Opcode::Init => init_body(bytes),
-        Opcode::Readdir => readdir_body(bytes),
-        Opcode::Readdirplus => readdirplus_body(bytes),
+        Opcode::Readdir => list_body(false, bytes),
+        Opcode::Readdirplus => list_body(true, bytes),
         Opcode::BatchForget => batch_forget_body(bytes),
         _ => Err(WireFault::Body),
     }
@@ -202,12 +181,213 @@ fn other_body(opcode: Opcode, bytes: &[u8]) -> Result<RequestBody<'_>, WireFault
 /// The body of a frame under this opcode.
 #[inline(always)]
 pub(crate) fn body_of(opcode: Opcode, bytes: &[u8]) -> Result<RequestBody<'_>, WireFault>
-    ensures ok { IfOk result (λ b. (opcode_of (request_content b) ≡ opcode)
-        × ReadsAs 40 (request_body (request_content b)) bytes.now) }
+    ensures ok { IfOk result (IsBodyOf opcode bytes.now) }
     ensures err { IfErr result (BodyFaultIs (shape_of opcode) bytes.now) }
 {
     match name_place(opcode) {
         Some(place) => named_body(opcode, bytes, place),
         None => other_body(opcode, bytes),
+    }
+}
+
+// ---- written
+
+/// How many bytes the body takes, or too many.
+#[tactic(auto, using(crate::proofs::Frames::sizes_of_forgets))]
+pub(crate) fn body_size(body: &RequestBody<'_>) -> usize
+    ensures small { result ≤ 4136 → result ≡ sizes (request_body (request_content body.now)) }
+    ensures large { 4136 < result → 4136 < sizes (request_body (request_content body.now)) }
+{
+    match body {
+        RequestBody::Lookup { name } | RequestBody::Unlink { name } | RequestBody::Rmdir { name } =>
+            name.len() + 1,
+        RequestBody::Mkdir { name } | RequestBody::Link { name, .. } => 8 + (name.len() + 1),
+        RequestBody::Create { name } => 16 + (name.len() + 1),
+        RequestBody::Rename { old, new, .. } => (8 + (old.len() + 1)).saturating_add(new.len() + 1),
+        RequestBody::Forget { .. } | RequestBody::Open | RequestBody::Interrupt { .. } => 8,
+        RequestBody::Getattr | RequestBody::Init { .. } => 16,
+        RequestBody::Release { .. } => 24,
+        RequestBody::Read { .. } | RequestBody::Readdir { .. } | RequestBody::Readdirplus { .. } =>
+            40,
+        RequestBody::Write { bytes, .. } => 40 + bytes.len(),
+        RequestBody::BatchForget { pairs } => 8 + 16 * pairs.count_left(),
+    }
+}
+
+/// Whether each name is one.
+#[tactic(auto, using(crate::proofs::Frames::forgets_are_named))]
+pub(crate) fn has_names(body: &RequestBody<'_>) -> bool
+    ensures { IsTrue result ↔ AreNamed (request_body (request_content body.now)) }
+{
+    match body {
+        RequestBody::Lookup { name }
+        | RequestBody::Unlink { name }
+        | RequestBody::Rmdir { name }
+        | RequestBody::Mkdir { name }
+        | RequestBody::Link { name, .. }
+        | RequestBody::Create { name } => is_name(name),
+        RequestBody::Rename { old, new, .. } => is_name(old) && is_name(new),
+        RequestBody::Forget { .. }
+        | RequestBody::Open
+        | RequestBody::Interrupt { .. }
+        | RequestBody::Getattr
+        | RequestBody::Init { .. }
+        | RequestBody::Release { .. }
+        | RequestBody::Read { .. }
+        | RequestBody::Readdir { .. }
+        | RequestBody::Readdirplus { .. }
+        | RequestBody::Write { .. }
+        | RequestBody::BatchForget { .. } => true,
+    }
+}
+
+/// A `struct fuse_read_in` or a `struct fuse_write_in`.
+#[tactic(auto, using(std::proofs::Common::append_assoc))]
+fn put_range<A: Allocator>(out: &mut Vec<u8, A>, fh: u64, offset: u64, size: u32)
+    requires { vec_len out.old + 40 ≤ vec_capacity out.old }
+    ensures items { out.new.items ≡ out.old.items ++ spellings (range fh offset size) }
+    ensures len { vec_len out.new ≡ vec_len out.old + 40 }
+    ensures capacity { vec_capacity out.old ≤ vec_capacity out.new }
+    ensures fits { InRange (range fh offset size) }
+{
+    put_two_u64(out, fh, offset);
+    put_two_u32(out, size, 0);
+    put_u64(out, 0);
+    put_two_u32(out, 0, 0);
+}
+
+/// Each a `struct fuse_forget_one`.
+fn put_pairs<A: Allocator>(out: &mut Vec<u8, A>, pairs: Pairs<'_>)
+    requires { vec_len out.old + 16 * length (pairs_in pairs) ≤ vec_capacity out.old }
+    ensures items { out.new.items ≡ out.old.items ++ spellings (forget_ones (pairs_in pairs.entry)) }
+    ensures fits { InRange (forget_ones (pairs_in pairs.entry)) }
+{
+    'pairs: for (nodeid, nlookup) in pairs {
+        put_u64(out, nodeid);
+        put_u64(out, nlookup);
+    }
+}
+
+/// A `struct fuse_getattr_in`.
+#[tactic(auto, using(std::proofs::Common::append_assoc))]
+fn put_getattr<A: Allocator>(out: &mut Vec<u8, A>)
+    requires { vec_len out.old + 16 ≤ vec_capacity out.old }
+    ensures { out.new.items ≡ out.old.items ++ spellings (request_body getattr) }
+{
+    put_two_u32(out, 0, 0);
+    put_u64(out, 0);
+}
+
+/// A `struct fuse_mkdir_in`, and the name.
+#[tactic(auto, using(std::proofs::Common::append_assoc))]
+fn put_mkdir<A: Allocator>(out: &mut Vec<u8, A>, name: &[u8])
+    requires { vec_len out.old + (8 + (length name.now + 1)) ≤ vec_capacity out.old }
+    ensures { out.new.items ≡ out.old.items ++ spellings (request_body (mkdir name.now)) }
+{
+    put_u32(out, 493);
+    put_u32(out, 0);
+    put_name(out, name);
+}
+
+/// A `struct fuse_rename_in`, and the two names.
+#[tactic(auto, using(std::proofs::Common::append_assoc))]
+fn put_rename<A: Allocator>(out: &mut Vec<u8, A>, newdir: u64, old: &[u8], new: &[u8])
+    requires { vec_len out.old + (8 + (length old.now + 1) + (length new.now + 1)) ≤ vec_capacity out.old }
+    ensures { out.new.items ≡ out.old.items ++ spellings (request_body (rename newdir old.now new.now)) }
+{
+    put_u64(out, newdir);
+    put_name(out, old);
+    put_name(out, new);
+}
+
+/// A `struct fuse_release_in`.
+#[tactic(auto, using(std::proofs::Common::append_assoc))]
+fn put_release<A: Allocator>(out: &mut Vec<u8, A>, fh: u64)
+    requires { vec_len out.old + 24 ≤ vec_capacity out.old }
+    ensures { out.new.items ≡ out.old.items ++ spellings (request_body (release fh)) }
+{
+    put_u64(out, fh);
+    put_u32(out, 0);
+    put_u32(out, 0);
+    put_u64(out, 0);
+}
+
+/// A `struct fuse_init_in`.
+#[tactic(auto, using(std::proofs::Common::append_assoc))]
+fn put_init<A: Allocator>(out: &mut Vec<u8, A>, major: u32, minor: u32, flags: InitFlags)
+    requires { vec_len out.old + 16 ≤ vec_capacity out.old }
+    ensures items { out.new.items ≡ out.old.items ++ spellings
+        (request_body (init major minor (bit_and flags.0 known_flags))) }
+    ensures fits { InRange (request_body (init major minor (bit_and flags.0 known_flags))) }
+{
+    put_u32(out, major);
+    put_u32(out, minor);
+    put_u32(out, 0);
+    put_u32(out, flags.known());
+}
+
+/// A `struct fuse_create_in`, and the name.
+#[tactic(auto, using(std::proofs::Common::append_assoc))]
+fn put_create<A: Allocator>(out: &mut Vec<u8, A>, name: &[u8])
+    requires { vec_len out.old + (16 + (length name.now + 1)) ≤ vec_capacity out.old }
+    ensures { out.new.items ≡ out.old.items ++ spellings (request_body (create name.now)) }
+{
+    put_u32(out, 0);
+    put_u32(out, 33188);
+    put_u32(out, 0);
+    put_u32(out, 0);
+    put_name(out, name);
+}
+
+/// A `struct fuse_batch_forget_in`, and the pairs.
+#[tactic(auto, using(std::proofs::Common::append_assoc))]
+fn put_batch_forget<A: Allocator>(out: &mut Vec<u8, A>, pairs: Pairs<'_>)
+    requires few { length (pairs_in pairs) < 2 ^ 32 }
+    requires room { vec_len out.old + (8 + 16 * length (pairs_in pairs)) ≤ vec_capacity out.old }
+    ensures items { out.new.items ≡ out.old.items ++ spellings (request_body (batch_forget (pairs_in pairs.entry))) }
+    ensures fits { InRange (request_body (batch_forget (pairs_in pairs.entry))) }
+{
+    put_u32(out, pairs.count_left() as u32);
+    put_u32(out, 0);
+    put_pairs(out, pairs);
+}
+
+/// Writes the body at the end.
+#[tactic(auto, using(std::proofs::Common::append_assoc, crate::proofs::Frames::sizes_of_forgets))]
+pub(crate) fn put_body<A: Allocator>(out: &mut Vec<u8, A>, body: &RequestBody<'_>)
+    requires room { vec_len out.old + sizes (request_body (request_content body.now)) ≤ vec_capacity out.old }
+    requires small { sizes (request_body (request_content body.now)) ≤ 4136 }
+    ensures items { out.new.items ≡ out.old.items ++ spellings (request_body (request_content body.now)) }
+    ensures fits { InRange (request_body (request_content body.now)) }
+{
+    match body {
+        RequestBody::Lookup { name } | RequestBody::Unlink { name } | RequestBody::Rmdir { name } =>
+            put_name(out, name),
+        RequestBody::Forget { nlookup } => put_u64(out, *nlookup),
+        RequestBody::Getattr => put_getattr(out),
+        RequestBody::Mkdir { name } => put_mkdir(out, name),
+        RequestBody::Rename { newdir, old, new } => put_rename(out, *newdir, old, new),
+        RequestBody::Link { oldnodeid, name } => {
+            put_u64(out, *oldnodeid);
+            put_name(out, name);
+        }
+        RequestBody::Open => put_two_u32(out, 0, 0),
+        RequestBody::Read { fh, offset, size } => put_range(out, *fh, *offset, *size),
+        RequestBody::Write { fh, offset, bytes } => {
+            put_range(out, *fh, *offset, bytes.len() as u32);
+            put_bytes(out, bytes);
+        }
+        RequestBody::Release { fh } => put_release(out, *fh),
+        RequestBody::Init {
+            major,
+            minor,
+            flags,
+        } => put_init(out, *major, *minor, *flags),
+        RequestBody::Readdir { offset, size } | RequestBody::Readdirplus { offset, size } => {
+            put_range(out, 0, *offset, *size)
+        }
+        RequestBody::Create { name } => put_create(out, name),
+        RequestBody::Interrupt { unique } => put_u64(out, *unique),
+        RequestBody::BatchForget { pairs } => put_batch_forget(out, *pairs),
     }
 }

@@ -1,6 +1,7 @@
 //! Records and pairs, written one by one.
 
-ghost use Rattle.std.specs.Prelude.{◌≡◌, ◌≢◌, ◌≤◌, ◌+◌, ◌<◌, ◌^◌, length, OnOk, OnErr, IfErr, ◌++◌, ◌∷◌, [], vec_len, vec_capacity};
+ghost use Rattle.std.specs.Prelude.{◌≡◌, ◌≢◌, ◌≤◌, ◌+◌, ◌<◌, ◌^◌, length, OnOk, OnErr};
+ghost use Rattle.std.specs.Prelude.{IfErr, ◌++◌, ◌∷◌, [], vec_len, vec_capacity};
 ghost use Rattle.fk_wire.specs.Fields.{InRange, sizes, spellings, u32, u64, IsRecordName};
 ghost use Rattle.fk_wire.specs.Entries.{IsEntry, entry_content, entry_fields};
 ghost use Rattle.fk_wire.specs.Dirents.{dirents, dirent_fields, direntpluses};
@@ -75,7 +76,7 @@ pub fn put_listing_head<A: Allocator>(out: &mut Vec<u8, A>, unique: u64, size: u
 
 /// Appends one pair of an entry and a record, into room that is there: `struct fuse_direntplus`. The entry's
 /// nanoseconds are less than a second, and the record's name has at most 255 bytes.
-#[tactic(auto, using(std::proofs::Common::append_assoc, crate::proofs::Spelled::entry_and, crate::proofs::Spelled::entry_in_range, crate::proofs::Spelled::sizes_of_entry))]
+#[tactic(auto, using(std::proofs::Common::append_assoc, crate::proofs::Spelled::written_entries))]
 pub fn put_listed<A: Allocator>(out: &mut Vec<u8, A>, entry: &Entry, dirent: &Dirent<'_>)
     requires room { vec_len out.old + (128 + sizes (dirent_fields
         (dirent_content dirent.now) [])) ≤ vec_capacity out.old }
@@ -116,7 +117,7 @@ pub fn put_record<A: Allocator>(out: &mut Vec<u8, A>, dirent: &Dirent<'_>) -> Re
 ///
 /// Fails with `Body` where the entry's nanoseconds are a second or more, with `Name` where the name
 /// is no record's name, and with `Memory`.
-#[tactic(auto, using(std::proofs::Common::append_assoc, crate::proofs::Spelled::entry_and, crate::proofs::Spelled::sizes_of_entry))]
+#[tactic(auto, using(std::proofs::Common::append_assoc, crate::proofs::Spelled::written_entries))]
 pub fn put_record_plus<A: Allocator>(
     out: &mut Vec<u8, A>,
     pair: &DirentPlus<'_>,

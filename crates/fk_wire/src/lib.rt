@@ -8,8 +8,9 @@
 //! The grammar stands in `specs/Requests.antt` and `specs/Replies.antt`, a line for each struct of
 //! linux/fuse.h, and in docs/PROTOCOL.md in tables. The contracts speak of it by `Spells`, `Written`,
 //! `FaultIs` and `RefusalIs`, and of replies by `SpellsReply`, `WrittenReply`, `ReplyFaultIs` and
-//! `ReplyRefusalIs`; each has a form by minor version, as `SpellsAt`. `specs/Decoded.antt` has the
-//! message of a frame as a function of its bytes.
+//! `ReplyRefusalIs`; each has a form by minor version, as `SpellsAt`. `decoded` and `decoded_reply` are
+//! the message of a frame as a function of its bytes. What is fixed for an opcode stands in one row of
+//! the table in `specs/Opcodes.antt`.
 #![tactic(auto)]
 
 mod bodies;

@@ -1,9 +1,13 @@
-//! What a request asks for, by its number.
+//! The opcodes, and what is fixed for each.
 
-ghost use Rattle.std.specs.Prelude.{◌≡◌, ◌≢◌, ◌↔◌, true, false, IsTrue, MatchOption};
-ghost use Rattle.fk_wire.specs.Opcodes.{code_of, has_node, is_later, knows, name_of, served};
+ghost use Rattle.std.specs.Prelude.{◌≡◌, ◌≢◌, ◌↔◌, ℕ, true, false, IsTrue, MatchOption};
+ghost use Rattle.fk_wire.specs.Opcodes.{code_of, has_node, is_later, kind_of, knows};
+ghost use Rattle.fk_wire.specs.Opcodes.{name_after, name_of, served, shape_of};
+ghost use Rattle.fk_wire.specs.Replies.{reply_kind};
 ghost use Rattle.fk_wire.specs.Requests.{IsNodeOf};
 ghost use Rattle.fk_wire.specs.declared.opcode.Opcode.{Opcode};
+
+use crate::reply::ReplyKind;
 
 /// The operations: those of `enum fuse_opcode` that are known here.
 #[derive(Clone, Copy, Debug, PartialEq, Eq)]
@@ -153,6 +157,50 @@ pub(crate) fn code(opcode: Opcode) -> u32
         Opcode::Interrupt => 36,
         Opcode::BatchForget => 42,
         Opcode::Readdirplus => 44,
+    }
+}
+
+/// Where the name stands in a frame under this opcode, if it has one name and ends with it.
+pub(crate) fn name_place(opcode: Opcode) -> Option<usize>
+    ensures { MatchOption result ((place : ℕ) → shape_of opcode ≢ name_after place)
+        (λ place. shape_of opcode ≡ name_after place) }
+{
+    match opcode {
+        Opcode::Lookup | Opcode::Unlink | Opcode::Rmdir => Some(40),
+        Opcode::Mkdir | Opcode::Link => Some(48),
+        Opcode::Create => Some(56),
+        _ => None,
+    }
+}
+
+/// The kind of body in the replies to an opcode.
+fn kind_of_reply(opcode: Opcode) -> Option<ReplyKind>
+    ensures { result ≡ kind_of opcode }
+{
+    match opcode {
+        Opcode::Lookup | Opcode::Mkdir | Opcode::Link => Some(ReplyKind::Entry),
+        Opcode::Getattr => Some(ReplyKind::Attr),
+        Opcode::Unlink | Opcode::Rmdir | Opcode::Rename | Opcode::Release | Opcode::Interrupt =>
+            Some(ReplyKind::Empty),
+        Opcode::Open => Some(ReplyKind::Open),
+        Opcode::Read => Some(ReplyKind::Bytes),
+        Opcode::Write => Some(ReplyKind::Write),
+        Opcode::Init => Some(ReplyKind::Init),
+        Opcode::Readdir => Some(ReplyKind::Records),
+        Opcode::Readdirplus => Some(ReplyKind::RecordsPlus),
+        Opcode::Create => Some(ReplyKind::Create),
+        Opcode::Forget | Opcode::BatchForget => None,
+    }
+}
+
+/// The kind of body in the replies to an opcode that the minor version knows.
+pub(crate) fn reply_kind_at(minor: Minor, opcode: Opcode) -> Option<ReplyKind>
+    ensures { result ≡ reply_kind minor opcode }
+{
+    if is_known(minor, opcode) {
+        kind_of_reply(opcode)
+    } else {
+        None
     }
 }
 

@@ -5,7 +5,7 @@ ghost use Rattle.fk_wire.specs.Fields.{number_at};
 ghost use Rattle.fk_wire.specs.Requests.{RequestMessage, Spells, SpellsAt, max_frame, request_message};
 ghost use Rattle.fk_wire.specs.Opcodes.{has_node};
 ghost use Rattle.fk_wire.specs.declared.opcode.Minor.{Minor};
-ghost use Rattle.fk_wire.specs.Decoded.{decoded};
+ghost use Rattle.fk_wire.specs.Requests.{decoded};
 ghost use Rattle.fk_wire.specs.Faults.{NodeReads};
 ghost use Rattle.fk_wire.specs.Faults.{FaultIs, FaultIsAt, HasLength, IsHeadFault};
 

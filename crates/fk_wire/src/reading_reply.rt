@@ -1,55 +1,27 @@
 //! Frames as replies.
 
-ghost use Rattle.std.specs.Prelude.{◌≡◌, ◌≢◌, ◌≤◌, ◌<◌, ◌+◌, ℕ, List, Option, Some, None, length, OnOk, IfOk, IfErr, IsOkAnd, if◌then◌else◌};
-ghost use Rattle.fk_wire.specs.Fields.{ReadsAs};
-ghost use Rattle.fk_wire.specs.Replies.{ReplyMessage, SpellsReply, SpellsReplyAt, IsReplyContent, HasReplyNames, reply_body, reply_content, kind_of as the_kind_of, reply_kind as the_reply_kind, kind_of_content, headed, reply_message, states_15};
-ghost use Rattle.fk_wire.specs.Decoded.{decoded_reply};
-ghost use Rattle.fk_wire.specs.ReplyFaults.{FillsReply, ReplyBodyFaultIs, ReplyFaultIs, ReplyFaultIsAt, IsReplyHead, IsReplyHeadFault};
+ghost use Rattle.std.specs.Prelude.{◌≡◌, ◌≢◌, ◌≤◌, ◌<◌, ◌+◌, ℕ, List, Option, Some, None};
+ghost use Rattle.std.specs.Prelude.{length, OnOk, IfOk, IfErr, IsOkAnd, if◌then◌else◌};
+ghost use Rattle.fk_wire.specs.Fields.{number_at};
+ghost use Rattle.fk_wire.specs.Entries.{IsEntry, entry_content, entry_at as entry_content_at};
+ghost use Rattle.fk_wire.specs.Replies.{ReplyMessage, SpellsReply, SpellsReplyAt, IsReplyBodyOf};
+ghost use Rattle.fk_wire.specs.Replies.{headed, reply_message, states_15, decoded_reply};
+ghost use Rattle.fk_wire.specs.ReplyFaults.{FillsReply, ReplyBodyFaultIs, ReplyFaultIs, ReplyFaultIsAt};
+ghost use Rattle.fk_wire.specs.ReplyFaults.{IsReplyHead, IsReplyHeadFault};
 ghost use Rattle.fk_wire.specs.declared.opcode.Opcode.{Opcode};
 ghost use Rattle.fk_wire.specs.declared.opcode.Minor.{Minor};
 ghost use Rattle.fk_wire.specs.declared.fault.WireFault.TheVariants.{Body as BodyFault};
 
-use crate::entry::{attr_at, entry_at, is_timed};
+use crate::entry::{Entry, attr_at, entry_at, is_timed};
 use crate::fault::WireFault;
 use crate::flags::offered;
 use crate::limits::{MAX_FRAME, is_error_number};
-use crate::opcode::{Minor, Opcode, is_known, served_minor};
+use crate::opcode::{Minor, Opcode, reply_kind_at, served_minor};
 use crate::records::Records;
 use crate::records_plus::RecordsPlus;
 use crate::reply::{Reply, ReplyBody, ReplyHead, ReplyKind};
 use crate::writing_reply::error_word;
 use fk_fields::{i32_at, u32_at, u64_at};
-
-/// The kind of body in the replies to an opcode.
-fn kind_of(opcode: Opcode) -> Option<ReplyKind>
-    ensures { result ≡ the_kind_of opcode }
-{
-    match opcode {
-        Opcode::Lookup | Opcode::Mkdir | Opcode::Link => Some(ReplyKind::Entry),
-        Opcode::Getattr => Some(ReplyKind::Attr),
-        Opcode::Unlink | Opcode::Rmdir | Opcode::Rename | Opcode::Release | Opcode::Interrupt =>
-            Some(ReplyKind::Empty),
-        Opcode::Open => Some(ReplyKind::Open),
-        Opcode::Read => Some(ReplyKind::Bytes),
-        Opcode::Write => Some(ReplyKind::Write),
-        Opcode::Init => Some(ReplyKind::Init),
-        Opcode::Readdir => Some(ReplyKind::Records),
-        Opcode::Readdirplus => Some(ReplyKind::RecordsPlus),
-        Opcode::Create => Some(ReplyKind::Create),
-        Opcode::Forget | Opcode::BatchForget => None,
-    }
-}
-
-/// The kind of body in the replies to an opcode that the minor version knows.
-fn reply_kind(minor: Minor, opcode: Opcode) -> Option<ReplyKind>
-    ensures { result ≡ the_reply_kind minor opcode }
-{
-    if is_known(minor, opcode) {
-        kind_of(opcode)
-    } else {
-        None
-    }
-}
 
 /// How long an INIT reply is that states this version.
 pub(crate) fn init_size(major: u32, minor: u32) -> usize
@@ -72,9 +44,7 @@ fn reply_of_size(bytes: &[u8], size: usize) -> Result<(), WireFault>
 
 /// The body of an INIT reply.
 fn init_of(bytes: &[u8]) -> Result<ReplyBody<'_>, WireFault>
-    ensures ok { IfOk result (λ b. (kind_of_content (reply_content b) ≡ ReplyKind.Init)
-        × IsReplyContent (reply_content b) × HasReplyNames (reply_content b)
-        × ReadsAs 16 (reply_body (reply_content b)) bytes.now) }
+    ensures ok { IfOk result (IsReplyBodyOf ReplyKind.Init bytes.now) }
     ensures err { IfErr result (ReplyBodyFaultIs ReplyKind.Init bytes.now) }
 {
     if bytes.len() != 40 && bytes.len() != 80 {
@@ -93,44 +63,56 @@ fn init_of(bytes: &[u8]) -> Result<ReplyBody<'_>, WireFault>
     })
 }
 
-/// The body of an entry's reply.
-fn entry_of(bytes: &[u8]) -> Result<ReplyBody<'_>, WireFault>
-    ensures ok { IfOk result (λ b. (kind_of_content (reply_content b) ≡ ReplyKind.Entry)
-        × IsReplyContent (reply_content b) × HasReplyNames (reply_content b)
-        × ReadsAs 16 (reply_body (reply_content b)) bytes.now) }
-    ensures err { IfErr result (ReplyBodyFaultIs ReplyKind.Entry bytes.now) }
+/// The entry with which the body of a frame of so many bytes begins.
+fn first_entry(bytes: &[u8], size: usize) -> Result<Entry, WireFault>
+    requires { 144 ≤ size }
+    ensures ok { IfOk result (λ e. (length bytes.now ≡ size) × IsEntry (entry_content e)
+        × (entry_content e ≡ entry_content_at 16 bytes.now)) }
+    ensures err { IfErr result (λ f. (f ≡ BodyFault)
+        × ((length bytes.now ≡ size) × (number_at 48 4 bytes.now ≤ 999999999) → ⊥)) }
 {
-    reply_of_size(bytes, 144)?;
+    reply_of_size(bytes, size)?;
     let entry = entry_at(bytes, 16);
     if is_timed(&entry) {
-        Ok(ReplyBody::Entry { entry })
+        Ok(entry)
     } else {
         Err(WireFault::Body)
     }
 }
 
-/// The body of a CREATE's reply.
+/// The body of an entry's reply.
+fn entry_of(bytes: &[u8]) -> Result<ReplyBody<'_>, WireFault>
+    ensures ok { IfOk result (IsReplyBodyOf ReplyKind.Entry bytes.now) }
+    ensures err { IfErr result (ReplyBodyFaultIs ReplyKind.Entry bytes.now) }
+{
+    let entry = first_entry(bytes, 144)?;
+    Ok(ReplyBody::Entry { entry })
+}
+
+/// The body of a new open file's reply.
 fn create_of(bytes: &[u8]) -> Result<ReplyBody<'_>, WireFault>
-    ensures ok { IfOk result (λ b. (kind_of_content (reply_content b) ≡ ReplyKind.Create)
-        × IsReplyContent (reply_content b) × HasReplyNames (reply_content b)
-        × ReadsAs 16 (reply_body (reply_content b)) bytes.now) }
+    ensures ok { IfOk result (IsReplyBodyOf ReplyKind.Create bytes.now) }
     ensures err { IfErr result (ReplyBodyFaultIs ReplyKind.Create bytes.now) }
 {
-    reply_of_size(bytes, 160)?;
-    let entry = entry_at(bytes, 16);
-    if is_timed(&entry) {
-        let fh = u64_at(bytes, 144);
-        Ok(ReplyBody::Create { entry, fh })
-    } else {
-        Err(WireFault::Body)
-    }
+    let entry = first_entry(bytes, 160)?;
+    let fh = u64_at(bytes, 144);
+    Ok(ReplyBody::Create { entry, fh })
+}
+
+/// The body of a reply with attributes.
+fn attr_of(bytes: &[u8]) -> Result<ReplyBody<'_>, WireFault>
+    ensures ok { IfOk result (IsReplyBodyOf ReplyKind.Attr bytes.now) }
+    ensures err { IfErr result (ReplyBodyFaultIs ReplyKind.Attr bytes.now) }
+{
+    reply_of_size(bytes, 120)?;
+    let attr = attr_at(bytes, 32);
+    Ok(ReplyBody::Attr { attr })
 }
 
 /// The body of this kind.
 fn body_of(kind: ReplyKind, bytes: &[u8]) -> Result<ReplyBody<'_>, WireFault>
     requires { 16 ≤ length bytes.now }
-    ensures ok { IfOk result (λ b. (kind_of_content (reply_content b) ≡ kind) × IsReplyContent (reply_content b)
-        × HasReplyNames (reply_content b) × ReadsAs 16 (reply_body (reply_content b)) bytes.now) }
+    ensures ok { IfOk result (IsReplyBodyOf kind bytes.now) }
     ensures err { IfErr result (ReplyBodyFaultIs kind bytes.now) }
 {
     match kind {
@@ -139,11 +121,7 @@ fn body_of(kind: ReplyKind, bytes: &[u8]) -> Result<ReplyBody<'_>, WireFault>
             Ok(ReplyBody::Empty)
         }
         ReplyKind::Entry => entry_of(bytes),
-        ReplyKind::Attr => {
-            reply_of_size(bytes, 120)?;
-            let attr = attr_at(bytes, 32);
-            Ok(ReplyBody::Attr { attr })
-        }
+        ReplyKind::Attr => attr_of(bytes),
         ReplyKind::Open => {
             reply_of_size(bytes, 32)?;
             let fh = u64_at(bytes, 16);
@@ -182,7 +160,7 @@ fn body_after(
     ensures ok { IfOk result (λ body. SpellsReplyAt minor opcode bytes.now (headed head body)) }
     ensures fault { IfErr result (ReplyFaultIsAt minor opcode bytes.now) }
 {
-    let Some(kind) = reply_kind(minor, opcode) else {
+    let Some(kind) = reply_kind_at(minor, opcode) else {
         return Err(WireFault::Opcode);
     };
     if bytes.len() > MAX_FRAME {

@@ -1,6 +1,7 @@
 //! The frames that tell what became of a reply. This project's own: FUSE has none.
 
-ghost use Rattle.std.specs.Prelude.{◌≡◌, ◌≢◌, ◌≤◌, ◌+◌, ◌++◌, ℕ, ℤ, length, OnOk, OnErr, IfOk, IfErr, IsOkAnd, vec_len, vec_capacity};
+ghost use Rattle.std.specs.Prelude.{◌≡◌, ◌≢◌, ◌≤◌, ◌+◌, ◌++◌, ℕ, ℤ, length, OnOk, OnErr};
+ghost use Rattle.std.specs.Prelude.{IfOk, IfErr, IsOkAnd, vec_len, vec_capacity};
 ghost use Rattle.fk_wire.specs.Fields.{spellings};
 ghost use Rattle.fk_wire.specs.Replies.{IsErrorNumber};
 ghost use Rattle.fk_wire.specs.Results.{SpellsResult, ResultFaultIs, ResultRefusalIs, result_fields};

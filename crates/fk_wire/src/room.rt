@@ -78,18 +78,6 @@ pub(crate) fn put_name<A: Allocator>(out: &mut Vec<u8, A>, name: &[u8])
 }
 
 #[tactic(auto, unfolding(fk_fields::specs::Fields::bytes_of))]
-pub(crate) fn put_u16<A: Allocator>(out: &mut Vec<u8, A>, value: u16)
-    requires { vec_len out.old + 2 ≤ vec_capacity out.old }
-    ensures items { out.new.items ≡ out.old.items ++ bytes_of 2 value }
-    ensures len { vec_len out.new ≡ vec_len out.old + 2 }
-    ensures capacity { vec_capacity out.old ≤ vec_capacity out.new }
-{
-    let mut buf = [0u8; 2];
-    LittleEndian::write_u16(&mut buf, value);
-    put_bytes(out, &buf);
-}
-
-#[tactic(auto, unfolding(fk_fields::specs::Fields::bytes_of))]
 pub(crate) fn put_zeros88<A: Allocator>(out: &mut Vec<u8, A>)
     requires { vec_len out.old + 88 ≤ vec_capacity out.old }
     ensures items { out.new.items ≡ out.old.items ++ bytes_of 88 0 }

@@ -1,11 +1,14 @@
 //! Replies as frames.
 
-ghost use Rattle.std.specs.Prelude.{◌≡◌, ◌≢◌, ◌≤◌, ◌<◌, ◌+◌, ◌++◌, ◌↔◌, ℕ, List, [], false, length, IsTrue, OnOk, OnErr, IfErr, vec_len, vec_capacity};
+ghost use Rattle.std.specs.Prelude.{◌≡◌, ◌≢◌, ◌≤◌, ◌<◌, ◌+◌, ◌++◌, ◌↔◌, ℕ, List, [], false, length};
+ghost use Rattle.std.specs.Prelude.{IsTrue, OnOk, OnErr, IfErr, vec_len, vec_capacity};
 ghost use Rattle.std.specs.Int.{cast_unsigned, w32};
 ghost use Rattle.std.specs.Int.RustNames.{bit_and};
 ghost use Rattle.fk_wire.specs.Fields.{InRange, sizes, spellings};
 ghost use Rattle.fk_wire.specs.Requests.{known_flags};
-ghost use Rattle.fk_wire.specs.Replies.{ReplyMessage, WrittenReply, WrittenReplyAt, GoesWith, SpellsReplyAt, IsReplyContent, reply_body, open_fields, init_fields, init_end, reply_content, kind_of_content, knows_kind, reply_message};
+ghost use Rattle.fk_wire.specs.Replies.{ReplyMessage, WrittenReply, WrittenReplyAt, GoesWith, SpellsReplyAt};
+ghost use Rattle.fk_wire.specs.Replies.{IsReplyContent, reply_body, open_fields, init_fields, init_end, reply_content};
+ghost use Rattle.fk_wire.specs.Replies.{kind_of_content, knows_kind, reply_message};
 ghost use Rattle.fk_wire.specs.ReplyFaults.{ReplyRefusalIs, ReplyRefusalIsAt};
 ghost use Rattle.fk_wire.specs.declared.reply.ReplyKind.TheVariants.{Empty as EmptyKind};
 ghost use Rattle.fk_wire.specs.declared.fault.WireFault.TheVariants.{Memory as MemoryFault};
@@ -20,7 +23,7 @@ use crate::limits::{MAX_FRAME, is_error_number};
 use crate::opcode::{Minor, Opcode, served_minor};
 use crate::reading_reply::init_size;
 use crate::reply::{Reply, ReplyBody};
-use crate::room::{put_bytes, put_two_u32, put_u16, put_u32, put_u64};
+use crate::room::{put_bytes, put_two_u32, put_u32, put_u64, put_zeros};
 use std::alloc::Allocator;
 
 /// The error number as the header has it.
@@ -93,8 +96,8 @@ fn put_init_end<A: Allocator>(out: &mut Vec<u8, A>)
     ensures { out.new.items ≡ out.old.items ++ spellings (init_end false) }
 {
     put_u32(out, 1);
-    put_u16(out, 0);
-    put_u16(out, 0);
+    put_zeros(out, 2);
+    put_zeros(out, 2);
     put_u32(out, 0);
     put_u32(out, 0);
     put_u32(out, 0);
@@ -115,15 +118,15 @@ fn put_init<A: Allocator>(out: &mut Vec<u8, A>, major: u32, minor: u32, flags: I
     put_u32(out, minor);
     put_u32(out, 0);
     put_u32(out, flags.known());
-    put_u16(out, 0);
-    put_u16(out, 0);
+    put_zeros(out, 2);
+    put_zeros(out, 2);
     put_u32(out, 4096);
     if init_size(major, minor) == 80 {
         put_init_end(out);
     }
 }
 
-#[tactic(auto, using(std::proofs::Common::append_assoc, crate::proofs::Spelled::entry_and, crate::proofs::Spelled::entry_in_range, crate::proofs::Spelled::sizes_of_entry))]
+#[tactic(auto, using(std::proofs::Common::append_assoc, crate::proofs::Spelled::written_entries))]
 fn put_reply_body<A: Allocator>(out: &mut Vec<u8, A>, body: &ReplyBody<'_>)
     requires { vec_len out.old + sizes (reply_body (reply_content body.now)) ≤ vec_capacity out.old }
     ensures items { out.new.items ≡ out.old.items ++ spellings (reply_body (reply_content body.now)) }

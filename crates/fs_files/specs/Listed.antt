@@ -2,7 +2,7 @@
 use Rattle.std.specs.Prelude.{◌≡◌, ◌-◌, ℕ, List, Some, false, length, map}
 use Rattle.fuse_spec.specs.Files.Operations.{Dirent, DirentPlus}
 use Rattle.fuse_spec.specs.declared.Entry.{Entry}
-use Rattle.fk_wire.specs.Decoded.{count_from}
+use Rattle.fk_wire.specs.RecordEnds.{count_from}
 use Rattle.fk_wire.specs.Dirents.{DirentContent, dirents_from}
 use Rattle.fk_wire.specs.Records.{AreRecords, records_in}
 use Rattle.fk_wire.specs.declared.records.Records.{Records}

@@ -8,7 +8,8 @@ use Rattle.fuse_frames.specs.declared.reply.Reply.{Reply}
 use Rattle.fuse_frames.specs.declared.reply.Reply.TheVariants as said
 
 -- What a reply says whose files, names of a list, names with their files, and bytes are read by these.
-module _ {F L P S G : Type 0} (file_of : F → G) (names_of : L → List Dirent) (pairs_of : P → List (DirentPlus G)) (bytes_of : S → List ℕ) where
+module _ {F L P S G : Type 0} (file_of : F → G) (names_of : L → List Dirent)
+    (pairs_of : P → List (DirentPlus G)) (bytes_of : S → List ℕ) where
   abbrev pub reply_of : Reply F L P S → reply.Reply G ℕ
   reply_of (said.Found file valid) = reply.found (file_of file) valid
   reply_of (said.Missing valid) = reply.missing valid

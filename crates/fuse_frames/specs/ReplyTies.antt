@@ -1,5 +1,6 @@
 -- A reply as its frame spells it, and as the machine of kernel and server has it.
-use Rattle.std.specs.Prelude.{◌≡◌, ◌≤◌, Bool, true, false, IsTrue, ℕ, ℤ, pos, negsuc, ◌+◌, ◌-◌, ◌*◌, ◌/◌, ◌%◌, min, cond, nat_eq, List, [], ◌∷◌, Option, Some, None, map}
+use Rattle.std.specs.Prelude.{◌≡◌, ◌≤◌, Bool, true, false, IsTrue, ℕ, ℤ, pos, negsuc, ◌+◌, ◌-◌, ◌*◌, ◌/◌, ◌%◌}
+use Rattle.std.specs.Prelude.{min, cond, nat_eq, List, [], ◌∷◌, Option, Some, None, map}
 use Rattle.std.specs.Int.RustNames.{bit_and}
 use Rattle.fk_wire.specs.declared.opcode.Opcode.{Opcode}
 use Rattle.fk_wire.specs.declared.opcode.Opcode.TheVariants as op
@@ -7,9 +8,11 @@ use Rattle.fk_wire.specs.declared.entry.Attr.{Attr}
 use Rattle.fk_wire.specs.Entries.{EntryContent, missing, found, entry_of}
 use Rattle.fk_wire.specs.Dirents.{DirentContent, DirentPlusContent}
 use Rattle.fk_wire.specs.Fields.{sizes}
-use Rattle.fk_wire.specs.Replies.{ReplyContent, empty_reply, entry_reply, attr_reply, open_reply, bytes_reply, write_reply, init_reply, create_reply, records_reply, plus_reply, ReplyMessage, GoesWith, SpellsReply, WrittenReply, IsErrorNumber, IsReplyContent, HasReplyNames, kind_of_content, knows_kind, reply_body}
+use Rattle.fk_wire.specs.Replies.{ReplyContent, empty_reply, entry_reply, attr_reply, open_reply, bytes_reply}
+use Rattle.fk_wire.specs.Replies.{write_reply, init_reply, create_reply, records_reply, plus_reply, ReplyMessage}
+use Rattle.fk_wire.specs.Replies.{GoesWith, SpellsReply, WrittenReply, IsErrorNumber, IsReplyContent, HasReplyNames}
+use Rattle.fk_wire.specs.Replies.{kind_of_content, knows_kind, reply_body, decoded_reply}
 use Rattle.fk_wire.specs.Opcodes.{served}
-use Rattle.fk_wire.specs.Decoded.{decoded_reply}
 use Rattle.fuse_spec.specs.Values.Numbers.{max_transfer, max_validity}
 use Rattle.fuse_spec.specs.Files.Operations as reply
 use Rattle.fuse_spec.specs.Files.Operations.{Dirent, DirentPlus}

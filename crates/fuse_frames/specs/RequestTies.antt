@@ -5,8 +5,7 @@ use Rattle.fk_wire.specs.declared.opcode.Opcode.{Opcode}
 use Rattle.fk_wire.specs.Requests as wire
 use Rattle.fk_wire.specs.declared.opcode.Minor.{Minor as CodecMinor}
 use Rattle.fk_wire.specs.declared.opcode.Minor.TheVariants as minors
-use Rattle.fk_wire.specs.Requests.{RequestContent, RequestMessage, SpellsAt, Written, opcode_of}
-use Rattle.fk_wire.specs.Decoded.{decoded}
+use Rattle.fk_wire.specs.Requests.{RequestContent, RequestMessage, SpellsAt, Written, opcode_of, decoded}
 use Rattle.fuse_spec.specs.declared.Minor.{Minor}
 use Rattle.fuse_spec.specs.declared.Minor.TheVariants.{M15, M31}
 use Rattle.fuse_spec.specs.Files.Operations as operation

@@ -1,5 +1,5 @@
-//! The machine's messages as frames, and what the bytes of a reply say: the one place where the grammar of frames and the
-//! machine of kernel and server meet.
+//! The machine's messages as frames, and what the bytes of a reply say: the one place where the grammar of frames and
+//! the machine of kernel and server meet.
 #![tactic(auto)]
 
 mod agreement;

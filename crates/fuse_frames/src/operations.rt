@@ -2,7 +2,8 @@
 
 ghost use Rattle.std.specs.Prelude.{◌≡◌, IfSome, IfNone};
 ghost use Rattle.fk_wire.specs.Requests.{request_content};
-ghost use Rattle.fuse_frames.specs.RequestTies.{asked_opcode, body_asking, body_in, content_of, Asks, AsksNothing, IsTransfer};
+ghost use Rattle.fuse_frames.specs.RequestTies.{asked_opcode, body_asking, body_in, content_of};
+ghost use Rattle.fuse_frames.specs.RequestTies.{Asks, AsksNothing, IsTransfer};
 
 use fk_wire::{Opcode, RequestBody};
 use fuse_spec::{Opened, Operation};

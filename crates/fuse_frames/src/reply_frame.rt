@@ -80,8 +80,8 @@ impl<A: Allocator> ReplyFrame<A> {
         }
     }
 
-    /// The frame of a reply of READDIRPLUS under a unique, whose bytes are written. They are written as `message_of` has
-    /// it.
+    /// The frame of a reply of READDIRPLUS under a unique, whose bytes are written. They are written as `message_of`
+    /// has it.
     pub(crate) fn listing(unique: u64, bytes: Vec<u8, A>) -> ReplyFrame<A>
         requires { (message : ReplyMessage) × GoesWith served Opcode.Readdirplus message
             × WrittenReply message bytes.items × (message ≡ message_of (framed_by message))

@@ -21,8 +21,8 @@ pub fn reached_worlds()
     ensures first { IsReached first_world }
     ensures next { (w : World) → IsReached w → (e : Event) (o : Outcome) (after : World) → Happens w e o after
         → IsReached after }
-    ensures handing_out { (w : World) (call : ℕ) → IsReached w
-        → IsReached (record w { kernel = record w.kernel { vfs = record w.kernel.vfs { answers = remove w.kernel.vfs.answers call } } }) }
+    ensures handing_out { (w : World) (call : ℕ) → IsReached w → let left = remove w.kernel.vfs.answers call in
+        IsReached (record w { kernel = record w.kernel { vfs = record w.kernel.vfs { answers = left } } }) }
     ensures collecting { (w : World) → IsReached w → IsReached (collected w) }
 {}
 
@@ -37,7 +37,9 @@ pub fn reached_worlds_refine()
     ensures over { (w : World) → IsReached w → (e : Event) (o : Outcome) (after : World) → Happens w e o after
         → (call : ℕ) → IsOver w call → IsOver after call }
     ensures handing_out { (w : World) → IsReached w → (call : ℕ) (p : Plain) → Refines w p
-        → Refines (record w { kernel = record w.kernel { vfs = record w.kernel.vfs { answers = remove w.kernel.vfs.answers call } } }) (plain_handed_out p call) }
+        → let left = remove w.kernel.vfs.answers call in
+        Refines (record w { kernel = record w.kernel { vfs = record w.kernel.vfs { answers = left } } })
+        (plain_handed_out p call) }
     ensures list { (w : World) → IsReached w → (events : List Event) (records : List Record) (after : World)
         → Recorded w events records after → (p : Plain) → Refines w p
         → (q : Plain) × Run w p events records after q × Refines after q }
@@ -64,6 +66,7 @@ pub fn reached_sessions_refine()
 /// events led to no more calls are unanswered than may be.
 pub fn calls_wait_one_by_one()
     ensures one_more { (w : World) (e : Event) (o : Outcome) (after : World) → Happens w e o after
-        → length after.kernel.vfs.answers + length after.kernel.vfs.calls ≤ length w.kernel.vfs.answers + length w.kernel.vfs.calls + 1 }
+        → length after.kernel.vfs.answers + length after.kernel.vfs.calls
+        ≤ length w.kernel.vfs.answers + length w.kernel.vfs.calls + 1 }
     ensures few { (w : World) → IsReached w → length w.kernel.vfs.calls ≤ max_calls }
 {}

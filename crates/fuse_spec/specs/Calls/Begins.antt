@@ -40,8 +40,10 @@ closing handle (Some opened) = closes handle opened
 -- How each call begins; of two paths the first is judged first. (this project's rule)
 abbrev pub beginning : {F O : Type 0} → Map O → Call → Beginning F O
 beginning opens (call.stat path) = whole_path path (λ words. sets_out words (last (op.getattr None)))
-beginning opens (call.list path after) = whole_path path (λ words. sets_out words (last (op.readdir None after max_transfer)))
-beginning opens (call.listplus path after) = whole_path path (λ words. sets_out words (last (op.readdirplus None after max_transfer)))
+beginning opens (call.list path after) =
+    whole_path path (λ words. sets_out words (last (op.readdir None after max_transfer)))
+beginning opens (call.listplus path after) =
+    whole_path path (λ words. sets_out words (last (op.readdirplus None after max_transfer)))
 beginning opens (call.opening path) = whole_path path (λ words. sets_out words (last (op.opening None)))
 beginning opens (call.mkdir path) = parent_path path (λ words name. sets_out words (last (op.mkdir None name)))
 beginning opens (call.create path) = parent_path path (λ words name. sets_out words (last (op.create None name)))

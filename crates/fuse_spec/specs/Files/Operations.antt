@@ -130,8 +130,8 @@ files_in h (write o offset bytes) = h o
 abbrev pub opened_nodes : Opened → List ℕ
 opened_nodes o = o.nodeid ∷ []
 
--- The next four are the nodes that an operation names: that of its request's header, and the one that the request's body
--- names besides, which is the directory of a RENAME's new name or the file that a LINK gives one more name.
+-- The next four are the nodes that an operation names: that of its request's header, and the one that the request's
+-- body names besides, which is the directory of a RENAME's new name or the file that a LINK gives one more name.
 -- (linux/fuse.h, struct fuse_in_header, struct fuse_rename_in, struct fuse_link_in)
 abbrev first_of : List ℕ → ℕ
 first_of [] = 0

@@ -1,7 +1,8 @@
 use Rattle.std.proofs.Common.{refl, sym, ◌∙◌}
 use Rattle.std.proofs.lemmas.Result.{on_ok_weaker}
 use Rattle.fk_wire.specs.Requests.{opcode_of, request_content, request_message}
-use Rattle.fk_wire.specs.Replies.{kind_of, reply_message}
+use Rattle.fk_wire.specs.Opcodes.{kind_of}
+use Rattle.fk_wire.specs.Replies.{reply_message}
 use Rattle.callers.specs.Answered.{unreplied}
 use Rattle.callers.proofs.Answering.{answered_by, none_there}
 use Rattle.callers.proofs.server.answer.Goals as goal

@@ -1,7 +1,6 @@
 use Rattle.std.proofs.Common.{refl}
-use Rattle.fk_wire.specs.Opcodes.{knows, served}
+use Rattle.fk_wire.specs.Opcodes.{kind_of, knows, served}
 use Rattle.fk_wire.specs.Requests.{opcode_of, request_content}
-use Rattle.fk_wire.specs.Replies.{kind_of}
 use Rattle.callers.proofs.Answering.{kind_there}
 use Rattle.callers.proofs.server.reply_to.Goals as goal
 

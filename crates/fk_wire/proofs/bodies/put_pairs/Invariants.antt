@@ -1,7 +1,7 @@
 use Rattle.std.proofs.Common.{◌≡◌, ◌≤◌, ◌+◌, ◌*◌, ◌++◌, length, vec_len, vec_capacity}
 use Rattle.fk_wire.specs.Fields.{InRange, spellings}
 use Rattle.fk_wire.specs.Pairs.{pairs_in, forget_ones}
-use Rattle.fk_wire.proofs.writing.put_pairs.Given as goal
+use Rattle.fk_wire.proofs.bodies.put_pairs.Given as goal
 
 abbrev pub invariant-pairs : goal.invariant-pairs
 invariant-pairs g l =
