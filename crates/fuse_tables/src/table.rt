@@ -1,15 +1,16 @@
 //! A table from numbers to values.
 
-ghost use Rattle.std.specs.Prelude.{◌≡◌, ◌+◌, ◌<◌, ◌≤◌, ◌-◌, ◌^◌, [], OnOk, OnErr, IsOk, None, length, option_map, is_some, IsSome, slice_get, slice_index_or, if◌then◌else◌, MatchOption};
+ghost use Rattle.std.specs.Prelude.{◌≡◌, ◌+◌, ◌<◌, ◌≤◌, ◌^◌, [], IsSome, MatchOption, None, OnErr, OnOk, T};
+ghost use Rattle.std.specs.Prelude.{if◌then◌else◌, is_some, length, option_map, slice_get};
 ghost use Rattle.std.specs.Option.{option_copied};
-ghost use Rattle.std.specs.Prelude.{T};
 ghost use Rattle.std.specs.Ordering.{nat_cmp};
 ghost use Rattle.std.specs.FinMap.{is_sorted};
-ghost use Rattle.std.specs.List.{insert as inserted, remove as removed};
+ghost use Rattle.std.specs.List.{insert as inserted};
 ghost use Rattle.std.specs.Vec.{vec_len, vec_capacity};
 ghost use Rattle.fuse_spec.specs.Values.Maps.{get as value_at, put as with_value, remove as without_key};
 ghost use Rattle.fuse_tables.specs.TableState.{place_of, IsRowOf};
 
+use crate::list::take_at;
 use std::alloc::{AllocError, Allocator, Global};
 use std::marker::Model;
 use std::mem::replace;
@@ -75,21 +76,6 @@ fn put_at<V: Drop, A: Allocator>(rows: &mut Vec<(u64, V), A>, place: usize, row:
     put.unwrap();
 }
 
-/// Takes out the row at a place. The last one moves no other.
-#[inline(always)]
-fn take_at<V: Drop, A: Allocator>(rows: &mut Vec<(u64, V), A>, place: usize) -> (u64, V)
-    requires { place < vec_len rows.old }
-    ensures value { result ≡ slice_index_or rows.old.items place result }
-    ensures items { rows.new.items ≡ removed rows.old.items place }
-    ensures len { vec_len rows.new + 1 ≡ vec_len rows.old }
-    ensures capacity { vec_capacity rows.new ≡ vec_capacity rows.old }
-{
-    if place == rows.len() - 1 {
-        return rows.pop().unwrap();
-    }
-    rows.remove(place)
-}
-
 impl<V: Drop, A: Allocator + Copy> Table<V, A> {
     pub fn new(alloc: A) -> Self
         ensures { result.entries ≡ [] }
@@ -122,8 +108,8 @@ impl<V: Drop, A: Allocator + Copy> Table<V, A> {
         &self.rows
     }
 
-    /// Entries stand in rising key, and memory holds fewer than 2^63. A call without effect, made where a proof rests on
-    /// that.
+    /// Entries stand in rising key, and memory holds fewer than 2^63. A call without effect, made where a proof rests
+    /// on that.
     pub fn keeps_sound(&self)
         ensures sorted { T (is_sorted nat_cmp self.now.entries) }
         ensures few { length self.now.entries < 2 ^ 63 }

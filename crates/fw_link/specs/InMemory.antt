@@ -36,8 +36,10 @@ pub moved_in_turn : {A : Type 0} (first mid last : MemoryLink A) (h k : Traffic)
     → Moved first last (in_turn h k)
 moved_in_turn first mid last h k one two =
     record {
-      to_kernel = along first.to_kernel mid.to_kernel last.to_kernel h.server_put k.server_put h.kernel_got k.kernel_got one.to_kernel two.to_kernel;
-      to_server = along first.to_server mid.to_server last.to_server h.kernel_put k.kernel_put h.server_got k.server_got one.to_server two.to_server;
+      to_kernel = along first.to_kernel mid.to_kernel last.to_kernel
+          h.server_put k.server_put h.kernel_got k.kernel_got one.to_kernel two.to_kernel;
+      to_server = along first.to_server mid.to_server last.to_server
+          h.kernel_put k.kernel_put h.server_got k.server_got one.to_server two.to_server;
     }
 
 pub moved_in_order : {A : Type 0} (first last : MemoryLink A) (h : Traffic) → IsIdle first → Moved first last h
@@ -57,6 +59,8 @@ pub stays_idle : {A : Type 0} (first last : MemoryLink A) (h : Traffic) → IsId
     → IsIdle last
 stays_idle first last h idle moved whole =
     record {
-      to_kernel = none_left first.to_kernel last.to_kernel h.server_put h.kernel_got idle.to_kernel moved.to_kernel whole.to_kernel;
-      to_server = none_left first.to_server last.to_server h.kernel_put h.server_got idle.to_server moved.to_server whole.to_server;
+      to_kernel = none_left first.to_kernel last.to_kernel
+          h.server_put h.kernel_got idle.to_kernel moved.to_kernel whole.to_kernel;
+      to_server = none_left first.to_server last.to_server
+          h.kernel_put h.server_got idle.to_server moved.to_server whole.to_server;
     }

@@ -1,6 +1,7 @@
 //! One envelope over a link.
 
-ghost use Rattle.std.specs.Prelude.{◌≡◌, ℕ, ◌<◌, ◌≤◌, ◌↔◌, ◌⊎◌, [], List, length, false, IfOk, IsTrue, Some, OnOk, OnErr, vec_len, vec_capacity};
+ghost use Rattle.std.specs.Prelude.{◌≡◌, ℕ, ◌<◌, ◌≤◌, ◌↔◌, ◌⊎◌, [], List, length, false};
+ghost use Rattle.std.specs.Prelude.{IfOk, IsTrue, Some, OnOk, OnErr, vec_len, vec_capacity};
 ghost use Rattle.fw_link.specs.Carrying.{CutsOtherwise, IsEmpty, IsLost, spelled};
 ghost use Rattle.fw_link.specs.Cutting.{Stands};
 ghost use Rattle.fw_link.specs.Envelopes.{IsEnvelope};

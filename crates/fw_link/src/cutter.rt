@@ -1,6 +1,8 @@
 //! Cuts a stream of bytes into envelopes, however it comes in pieces.
 
-ghost use Rattle.std.specs.Prelude.{◌≡◌, ℕ, ◌+◌, ◌-◌, ◌≤◌, ◌<◌, ◌++◌, ◌∷◌, ◌↔◌, ◌⊎◌, [], List, length, take, drop, min, max, Bool, true, false, slice_index, nat_lt, if◌then◌else◌, IsTrue, IsOk, IsErr, IsSome, IsSomeAnd, IfOk, IfSome, OnOk, OnErr};
+ghost use Rattle.std.specs.Prelude.{◌≡◌, ℕ, ◌+◌, ◌-◌, ◌≤◌, ◌<◌, ◌++◌, ◌∷◌, ◌↔◌, ◌⊎◌, [], List, length, take};
+ghost use Rattle.std.specs.Prelude.{drop, min, max, Bool, true, false, slice_index, nat_lt, if◌then◌else◌};
+ghost use Rattle.std.specs.Prelude.{IsTrue, IsOk, IsErr, IsSome, IsSomeAnd, IfOk, IfSome, OnOk, OnErr};
 ghost use Rattle.fw_link.specs.Cutting.{IsUpToOne, Stands};
 ghost use Rattle.fw_link.specs.Envelopes.{spelling, IsEnvelope, IsSound, IsDamaged, copy_in, first_of, len_in};
 

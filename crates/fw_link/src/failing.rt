@@ -1,6 +1,7 @@
 //! A link that fails at one envelope, for tests of what stands on links.
 
-ghost use Rattle.std.specs.Prelude.{◌≡◌, ℕ, ◌+◌, ◌-◌, ◌<◌, ◌≤◌, ◌↔◌, [], length, take, IsTrue, IsOk, IsErr, IfOk, OnOk, OnErr};
+ghost use Rattle.std.specs.Prelude.{◌≡◌, ℕ, ◌+◌, ◌-◌, ◌<◌, ◌≤◌, ◌↔◌, [], length};
+ghost use Rattle.std.specs.Prelude.{take, IsTrue, IsOk, IsErr, IfOk, OnOk, OnErr};
 ghost use Rattle.fw_link.specs.Traffic.{IsCounted, no_traffic, other_side, sent};
 ghost use Rattle.fw_link.specs.declared.failing.FailsIn.{FailsIn};
 

@@ -1,6 +1,7 @@
 //! A link in memory.
 
-ghost use Rattle.std.specs.Prelude.{◌≡◌, ℕ, ◌+◌, ◌<◌, ◌≤◌, ◌↔◌, ◌++◌, [], List, length, take, drop, min, IsTrue, IfOk, OnOk, OnErr, IsOk, vec_capacity};
+ghost use Rattle.std.specs.Prelude.{◌≡◌, ℕ, ◌+◌, ◌<◌, ◌≤◌, ◌↔◌, ◌++◌, [], List, length, take};
+ghost use Rattle.std.specs.Prelude.{drop, min, IsTrue, IfOk, OnOk, OnErr, IsOk, vec_capacity};
 ghost use Rattle.fw_link.specs.Traffic.{HasFailed, IsCounted, no_traffic, other_side, sent};
 
 use crate::envelope::LONGEST;

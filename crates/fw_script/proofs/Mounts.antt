@@ -1,8 +1,8 @@
 -- The words after `mount`.
 use Rattle.std.proofs.Common.{ℕ, List, [], ◌∷◌, arith}
 use Rattle.fw_script.specs.Words.{HasWords}
-use Rattle.fw_script.specs.Forms.{number, after_mount}
-use Rattle.fw_script.specs.Lines.{ArgumentFaultIs}
+use Rattle.fw_script.specs.Arguments.{ArgumentFaultIs, number}
+use Rattle.fw_script.specs.Forms.{after_mount}
 use Rattle.fw_script.specs.declared.line.LineFault.{LineFault}
 use Rattle.fw_script.specs.declared.line.LineFault.TheVariants.{UnknownEvent, WrongWords, BadNumber, BadText}
 

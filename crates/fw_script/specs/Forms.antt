@@ -1,13 +1,11 @@
 -- What lines begin with, and the words that follow.
 use Rattle.std.specs.Prelude.{ℕ, List, [], ◌∷◌, codes}
+use Rattle.fw_script.specs.Arguments.{Argument, number, text, signal, minor}
+use Rattle.fw_script.specs.CallLines.{call_name, after_call}
 use Rattle.fw_script.specs.declared.form.Form.{Form}
 use Rattle.fw_script.specs.declared.form.Form.TheVariants.{Word, Call, Read}
 use Rattle.fw_script.specs.declared.form.WordForm.{WordForm}
 use Rattle.fw_script.specs.declared.form.WordForm.TheVariants as word
-use Rattle.fw_script.specs.declared.form.CallForm.{CallForm}
-use Rattle.fw_script.specs.declared.form.CallForm.TheVariants as call
-use Rattle.fw_script.specs.declared.form.PathForm.{PathForm}
-use Rattle.fw_script.specs.declared.form.PathForm.TheVariants as path
 use Rattle.fw_script.specs.declared.form.ReadForm.{ReadForm}
 use Rattle.fw_script.specs.declared.form.ReadForm.TheVariants as read
 
@@ -26,25 +24,6 @@ word_name word.Evict = codes "evict"
 word_name word.Abort = codes "abort"
 word_name word.Show = codes "show"
 
--- the word after `call`
-abbrev pub path_name : PathForm → List ℕ
-path_name path.Stat = codes "stat"
-path_name path.Open = codes "open"
-path_name path.Mkdir = codes "mkdir"
-path_name path.Create = codes "create"
-path_name path.Unlink = codes "unlink"
-path_name path.Rmdir = codes "rmdir"
-
-abbrev pub call_name : CallForm → List ℕ
-call_name (call.OfPath f) = path_name f
-call_name call.List = codes "list"
-call_name call.ListPlus = codes "listplus"
-call_name call.Rename = codes "rename"
-call_name call.Link = codes "link"
-call_name call.Read = codes "read"
-call_name call.Write = codes "write"
-call_name call.Close = codes "close"
-
 -- the word after `read`
 abbrev pub read_name : ReadForm → List ℕ
 read_name read.Interrupt = codes "i"
@@ -56,14 +35,6 @@ abbrev pub name_of : Form → List (List ℕ)
 name_of (Word f) = word_name f ∷ []
 name_of (Call f) = codes "call" ∷ call_name f ∷ []
 name_of (Read f) = codes "read" ∷ read_name f ∷ []
-
--- what a word may have to be
-pub data Argument : Type 0 where
-  number : Argument
-  text : Argument
-  bytes : Argument
-  signal : Argument
-  minor : Argument
 
 -- what follows `mount`: a third word is a minor
 abbrev pub after_mount : List (List ℕ) → List Argument
@@ -78,17 +49,6 @@ after_word word.DropName words = number ∷ text ∷ []
 after_word word.Abort words = []
 after_word word.Show words = []
 after_word _ words = number ∷ []
-
--- what follows a call's name
-abbrev pub after_call : CallForm → List Argument
-after_call call.List = text ∷ number ∷ []
-after_call call.ListPlus = text ∷ number ∷ []
-after_call call.Rename = text ∷ text ∷ []
-after_call call.Link = text ∷ text ∷ []
-after_call call.Read = number ∷ number ∷ number ∷ []
-after_call call.Write = number ∷ number ∷ bytes ∷ []
-after_call call.Close = number ∷ []
-after_call (call.OfPath f) = text ∷ []
 
 -- what follows a read
 abbrev pub after_read : ReadForm → List Argument

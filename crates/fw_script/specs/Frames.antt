@@ -4,8 +4,8 @@ use Rattle.std.specs.Io.KnownBytes.{Appends}
 use Rattle.fk_wire.specs.Faults.{FaultIs}
 use Rattle.fk_wire.specs.Opcodes.{name_of}
 use Rattle.fk_wire.specs.Requests.{RequestMessage, Spells, opcode_of}
+use Rattle.fk_wire.specs.WireFaults.{fault_name, fault_number}
 use Rattle.fk_wire.specs.declared.fault.WireFault.{WireFault}
-use Rattle.fw_script.specs.Records.{wire_name, wire_number}
 
 -- of a request, and the length of its frame
 abbrev pub request_text : RequestMessage → ℕ → List ℕ
@@ -15,7 +15,7 @@ request_text m len =
 
 -- of a fault
 abbrev pub fault_text : WireFault → List ℕ
-fault_text fault = codes "fault " ++ decimal (wire_number fault) ++ codes " " ++ wire_name fault ++ codes "\n"
+fault_text fault = codes "fault " ++ decimal (fault_number fault) ++ codes " " ++ fault_name fault ++ codes "\n"
 
 -- the writer got the text of the request that the bytes spell, or else of their first fault
 abbrev pub PrintsFrame : List ℕ → (old new : Option (List ℕ)) → Type 0

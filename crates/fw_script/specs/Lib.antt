@@ -1,3 +1,5 @@
+pub mod Arguments
+pub mod CallLines
 pub mod Forms
 pub mod Frames
 pub mod HexTexts

@@ -1,9 +1,8 @@
 -- The lines that are printed.
-use Rattle.std.specs.Prelude.{ℕ, List, [], ◌∷◌, ◌++◌, Option, Some, None, ◌&&◌, nat_le, if◌then◌else◌, codes, decimal, flat_map, map}
+use Rattle.std.specs.Prelude.{ℕ, List, [], ◌∷◌, ◌++◌, Option, Some, None, ◌&&◌}
+use Rattle.std.specs.Prelude.{nat_le, if◌then◌else◌, codes, decimal, flat_map, map}
 use Rattle.hex.specs.Hex.{encode_lower}
 use Rattle.fk_wire.specs.Opcodes.{name_of}
-use Rattle.fk_wire.specs.declared.fault.WireFault.{WireFault}
-use Rattle.fk_wire.specs.declared.fault.WireFault.TheVariants as wire
 use Rattle.fw_world.specs.declared.event.Outcome.{Outcome}
 use Rattle.fw_world.specs.declared.event.Outcome.TheVariants as outcome
 use Rattle.fuse_spec.specs.declared.Taken.{Taken}
@@ -75,25 +74,6 @@ refusal_name refusal.Full = codes "Full"
 refusal_name refusal.Exhausted = codes "Exhausted"
 refusal_name refusal.BadTime = codes "BadTime"
 refusal_name refusal.LinkLost = codes "LinkLost"
-
--- the number of a frame's fault, and its name
-abbrev pub wire_number : WireFault → ℕ
-wire_number wire.Short = 1
-wire_number wire.Length = 2
-wire_number wire.Opcode = 3
-wire_number wire.Name = 4
-wire_number wire.Body = 5
-wire_number wire.ErrorRange = 6
-wire_number wire.Memory = 7
-
-abbrev pub wire_name : WireFault → List ℕ
-wire_name wire.Short = codes "Short"
-wire_name wire.Length = codes "Length"
-wire_name wire.Opcode = codes "Opcode"
-wire_name wire.Name = codes "Name"
-wire_name wire.Body = codes "Body"
-wire_name wire.ErrorRange = codes "ErrorRange"
-wire_name wire.Memory = codes "Memory"
 
 -- an outcome's line, without its line feed
 abbrev pub outcome_line : Outcome → List ℕ

@@ -1,9 +1,12 @@
 //! The words that follow the form of a line, as numbers, texts, hex and signals.
 
-ghost use Rattle.std.specs.Prelude.{◌≡◌, ◌∷◌, ◌↔◌, [], ℕ, IsTrue, List, MatchOption, MatchResult, decimal, option_copied};
-ghost use Rattle.fw_script.specs.Forms.{after_mount, bytes, number, signal, text};
+ghost use Rattle.std.specs.Prelude.{◌≡◌, ◌∷◌, ◌↔◌, [], ℕ, IsTrue, List, MatchOption};
+ghost use Rattle.std.specs.Prelude.{MatchResult, decimal, option_copied};
+ghost use Rattle.fw_script.specs.Arguments.{ArgumentFaultIs, IsMinor, IsSignal, IsText, minor_word, signal_word};
+ghost use Rattle.fw_script.specs.Arguments.{bytes, number, signal, text};
+ghost use Rattle.fw_script.specs.Forms.{after_mount};
 ghost use Rattle.fw_script.specs.HexTexts.{IsHexOrNone};
-ghost use Rattle.fw_script.specs.Lines.{ArgumentFaultIs, EndsAt, IsMinor, IsSignal, IsText, minor_word, signal_word};
+ghost use Rattle.fw_script.specs.Lines.{EndsAt};
 ghost use Rattle.fw_script.specs.Words.{words_left};
 
 use crate::hex_text::is_hex_or_none;

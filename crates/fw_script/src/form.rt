@@ -1,9 +1,10 @@
 //! What lines begin with.
 
 ghost use Rattle.std.specs.Prelude.{◌≡◌, ◌≢◌, ◌++◌, ◌∷◌, [], ℕ, List, MatchOption, option_copied};
-ghost use Rattle.fw_script.specs.Forms.{call_name, name_of, read_name, word_name};
+ghost use Rattle.fw_script.specs.Forms.{name_of, read_name, word_name};
 ghost use Rattle.fw_script.specs.Words.{words_of, words_left};
 
+use crate::call_line::{CallForm, form_of_call};
 use crate::word::split_word;
 
 /// What a line begins with: a word, or `call` or `read` and a second.
@@ -29,30 +30,6 @@ pub(crate) enum WordForm {
     Evict,
     Abort,
     Show,
-}
-
-/// The system call that begins.
-#[derive(Clone, Copy)]
-pub(crate) enum CallForm {
-    OfPath(PathForm),
-    List,
-    ListPlus,
-    Rename,
-    Link,
-    Read,
-    Write,
-    Close,
-}
-
-/// A system call with a path alone.
-#[derive(Clone, Copy)]
-pub(crate) enum PathForm {
-    Stat,
-    Open,
-    Mkdir,
-    Create,
-    Unlink,
-    Rmdir,
 }
 
 /// What is read from the kernel.
@@ -82,30 +59,6 @@ fn form_of_word(word: &[u8]) -> Option<WordForm>
         b"evict" => Some(WordForm::Evict),
         b"abort" => Some(WordForm::Abort),
         b"show" => Some(WordForm::Show),
-        _ => None,
-    }
-}
-
-/// The form that `call` and a word name.
-fn form_of_call(word: &[u8]) -> Option<CallForm>
-    ensures { MatchOption result
-        ((f : CallForm) → call_name f ≢ word.now)
-        (λ f. call_name f ≡ word.now) }
-{
-    match word {
-        b"stat" => Some(CallForm::OfPath(PathForm::Stat)),
-        b"list" => Some(CallForm::List),
-        b"listplus" => Some(CallForm::ListPlus),
-        b"open" => Some(CallForm::OfPath(PathForm::Open)),
-        b"mkdir" => Some(CallForm::OfPath(PathForm::Mkdir)),
-        b"create" => Some(CallForm::OfPath(PathForm::Create)),
-        b"unlink" => Some(CallForm::OfPath(PathForm::Unlink)),
-        b"rmdir" => Some(CallForm::OfPath(PathForm::Rmdir)),
-        b"rename" => Some(CallForm::Rename),
-        b"link" => Some(CallForm::Link),
-        b"read" => Some(CallForm::Read),
-        b"write" => Some(CallForm::Write),
-        b"close" => Some(CallForm::Close),
         _ => None,
     }
 }

@@ -5,7 +5,6 @@ ghost use Rattle.std.specs.Io.KnownBytes.{Appends};
 ghost use Rattle.fk_wire.specs.Requests.{opcode_of, request_content, request_message};
 ghost use Rattle.fw_script.specs.Frames.{PrintsFrame, fault_text, request_text};
 ghost use Rattle.fw_script.specs.HexTexts.{SpellsHex};
-ghost use Rattle.fw_script.specs.Records.{wire_name, wire_number};
 ghost use Rattle.fw_script.specs.Stops.{status_of};
 ghost use Rattle.hex.specs.Hex.{IsBytes};
 
@@ -15,36 +14,6 @@ use fk_wire::{Opcode, Request, RequestBody, WireFault, read_request};
 use std::alloc::Allocator;
 use std::io;
 use std::io::Write;
-
-/// The number of a frame's fault.
-fn number_of_fault(fault: WireFault) -> u8
-    ensures { result ≡ wire_number fault }
-{
-    match fault {
-        WireFault::Short => 1,
-        WireFault::Length => 2,
-        WireFault::Opcode => 3,
-        WireFault::Name => 4,
-        WireFault::Body => 5,
-        WireFault::ErrorRange => 6,
-        WireFault::Memory => 7,
-    }
-}
-
-/// The name of a frame's fault.
-fn name_of_fault(fault: WireFault) -> &'static str
-    ensures { result.now ≡ wire_name fault }
-{
-    match fault {
-        WireFault::Short => "Short",
-        WireFault::Length => "Length",
-        WireFault::Opcode => "Opcode",
-        WireFault::Name => "Name",
-        WireFault::Body => "Body",
-        WireFault::ErrorRange => "ErrorRange",
-        WireFault::Memory => "Memory",
-    }
-}
 
 /// Writes `OPNAME UNIQUE NODE LEN`.
 fn write_request_line<W: Write>(out: &mut W, request: &Request<'_>, len: usize) -> io::Result<()>
@@ -61,8 +30,9 @@ fn write_request_line<W: Write>(out: &mut W, request: &Request<'_>, len: usize) 
 fn write_fault_line<W: Write>(out: &mut W, fault: WireFault) -> io::Result<()>
     ensures { OnOk result (Appends (W.contents out.old) (W.contents out.new) (fault_text fault)) }
 {
-    let number = number_of_fault(fault);
-    writeln!(out, "fault {number} {}", name_of_fault(fault))
+    let number = fault.number();
+    let name = fault.name();
+    writeln!(out, "fault {number} {name}")
 }
 
 /// Writes what a frame is: `OPNAME UNIQUE NODE LEN`, or `fault N NAME`.

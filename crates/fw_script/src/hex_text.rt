@@ -1,13 +1,14 @@
 //! Bytes as lower-case hex, two digits a byte.
 
-ghost use Rattle.std.specs.Prelude.{◌≡◌, ◌↔◌, ◌<◌, ◌≤◌, ◌*◌, ℕ, List, All, Err, IfOk, IsTrue, OnOk, length, slice_index};
+ghost use Rattle.std.specs.Prelude.{◌≡◌, ◌↔◌, ◌<◌, ◌≤◌, ◌*◌, ℕ, List, All, Err};
+ghost use Rattle.std.specs.Prelude.{IfOk, IsTrue, OnOk, length, slice_index};
 ghost use Rattle.std.specs.Io.KnownBytes.{Appends};
 ghost use Rattle.hex.specs.Hex.{IsBytes, encode_lower, lower_digits};
 ghost use Rattle.fw_script.specs.HexTexts.{IsHex, IsHexOrNone, IsLowerDigit, SpellsHex, hex_or_none};
 ghost use Rattle.fw_script.specs.declared.hex_text.HexFault.TheVariants.{BadHex, NoMemory};
 
+use crate::output::{OutputRefused, write_text};
 use std::alloc::{AllocError, Allocator};
-use std::io;
 use std::io::Write;
 
 /// Why a text is not read as bytes.
@@ -110,18 +111,18 @@ pub(crate) fn read_hex_or_none<A: Allocator>(
 const BLOCK: usize = 32;
 
 /// Writes no more bytes than a block as lower-case hex, in one write.
-fn write_block<W: Write>(out: &mut W, bytes: &[u8]) -> io::Result<()>
+fn write_block<W: Write>(out: &mut W, bytes: &[u8]) -> Result<(), OutputRefused>
     requires { length bytes.now ≤ 32 }
     ensures { OnOk result (Appends (W.contents out.old) (W.contents out.new) (encode_lower bytes.now)) }
 {
     let mut digits = [0; 2 * BLOCK];
     let text = &mut digits[..2 * bytes.len()];
     let _encoded = hex::encode_to_slice(bytes, text);
-    out.write_all(text)
+    write_text(out, text)
 }
 
 /// Writes bytes as lower-case hex.
-pub fn write_hex<W: Write>(out: &mut W, bytes: &[u8]) -> io::Result<()>
+pub fn write_hex<W: Write>(out: &mut W, bytes: &[u8]) -> Result<(), OutputRefused>
     ensures { OnOk result (Appends (W.contents out.old) (W.contents out.new) (encode_lower bytes.now)) }
 {
     let mut written = 0;
@@ -133,11 +134,11 @@ pub fn write_hex<W: Write>(out: &mut W, bytes: &[u8]) -> io::Result<()>
 }
 
 /// Writes bytes as lower-case hex, `-` for none.
-pub(crate) fn write_hex_or_none<W: Write>(out: &mut W, bytes: &[u8]) -> io::Result<()>
+pub(crate) fn write_hex_or_none<W: Write>(out: &mut W, bytes: &[u8]) -> Result<(), OutputRefused>
     ensures { OnOk result (Appends (W.contents out.old) (W.contents out.new) (hex_or_none bytes.now)) }
 {
     if bytes.is_empty() {
-        return out.write_all(b"-");
+        return write_text(out, b"-");
     }
     write_hex(out, bytes)
 }

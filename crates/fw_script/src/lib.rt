@@ -2,6 +2,7 @@
 #![tactic(auto)]
 
 mod arguments;
+mod call_line;
 mod form;
 mod frame;
 mod hex_text;
@@ -9,6 +10,7 @@ mod line;
 mod lines;
 mod machine;
 mod number;
+mod output;
 mod print;
 mod records;
 mod script;
@@ -21,6 +23,7 @@ pub use frame::run_frame;
 pub use hex_text::{HexFault, read_hex, write_hex};
 pub use line::{Line, LineFault, read_line};
 pub use number::read_number;
+pub use output::OutputRefused;
 pub use records::write_record;
 pub use script::{Script, run_lists, run_over, run_script};
 pub use stop::{cannot_read, no_memory, socket_failed};

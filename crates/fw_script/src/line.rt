@@ -1,16 +1,17 @@
 //! Lines as events.
 
 ghost use Rattle.std.specs.Prelude.{◌≡◌, ◌∷◌, [], MatchResult, codes, option_copied};
-ghost use Rattle.fw_script.specs.Forms.{after_call, after_read, after_word, call_name, path_name, read_name, word_name};
-ghost use Rattle.fw_script.specs.Lines.{ArgumentFaultIs, FaultIs, HasTexts, IsText, Names, spelled_call};
+ghost use Rattle.fw_script.specs.Arguments.{ArgumentFaultIs};
+ghost use Rattle.fw_script.specs.Forms.{after_read, after_word, read_name, word_name};
+ghost use Rattle.fw_script.specs.Lines.{FaultIs, Names};
 ghost use Rattle.fw_script.specs.Words.{words_left, words_of};
 
 use crate::arguments::{
-    no_words, number_and_signal, number_and_text, one_number, one_text, text_and_number,
-    three_numbers, two_numbers_and_hex, two_numbers_and_minor, two_texts,
+    no_words, number_and_signal, number_and_text, one_number, two_numbers_and_minor,
 };
-use crate::form::{CallForm, Form, PathForm, ReadForm, WordForm, split_form};
-use fw_world::{Call, Event, Pick};
+use crate::call_line::line_of_call;
+use crate::form::{Form, ReadForm, WordForm, split_form};
+use fw_world::{Event, Pick};
 
 /// Why a line is no event: the first fault in their order.
 #[derive(Clone, Copy)]
@@ -80,69 +81,6 @@ fn line_of_word(form: WordForm, rest: Option<&[u8]>) -> Result<Line<'_>, LineFau
         }
     };
     Ok(Line::Event(event))
-}
-
-/// A call with a path alone.
-fn call_of_path(form: PathForm, path: &[u8]) -> Call<'_>
-    requires { IsText path.now }
-    ensures words { spelled_call result ≡ path_name form ∷ path.entry.now ∷ [] }
-    ensures texts { HasTexts result }
-{
-    match form {
-        PathForm::Stat => Call::Stat { path },
-        PathForm::Open => Call::Open { path },
-        PathForm::Mkdir => Call::Mkdir { path },
-        PathForm::Create => Call::Create { path },
-        PathForm::Unlink => Call::Unlink { path },
-        PathForm::Rmdir => Call::Rmdir { path },
-    }
-}
-
-/// What the line of a call says.
-fn line_of_call(form: CallForm, rest: Option<&[u8]>) -> Result<Line<'_>, LineFault>
-    ensures { let words = words_left (option_copied rest.entry) in MatchResult result
-        (λ l. Names l (codes "call" ∷ call_name form ∷ words))
-        (ArgumentFaultIs (after_call form) words) }
-{
-    let call = match form {
-        CallForm::OfPath(form) => call_of_path(form, one_text(rest)?),
-        CallForm::List => {
-            let (path, after) = text_and_number(rest)?;
-            Call::List { path, after }
-        }
-        CallForm::ListPlus => {
-            let (path, after) = text_and_number(rest)?;
-            Call::ListPlus { path, after }
-        }
-        CallForm::Rename => {
-            let (old, new) = two_texts(rest)?;
-            Call::Rename { old, new }
-        }
-        CallForm::Link => {
-            let (old, new) = two_texts(rest)?;
-            Call::Link { old, new }
-        }
-        CallForm::Read => {
-            let (handle, offset, size) = three_numbers(rest)?;
-            Call::Read {
-                handle,
-                offset,
-                size,
-            }
-        }
-        CallForm::Write => {
-            let (handle, offset, hex) = two_numbers_and_hex(rest)?;
-            return Ok(Line::CallWrite {
-                handle,
-                offset,
-                hex,
-            });
-        }
-        CallForm::Close => Call::Close {
-            handle: one_number(rest)?,
-        },
-    };
-    Ok(Line::Event(Event::Call(call)))
 }
 
 /// What the line of a read says.

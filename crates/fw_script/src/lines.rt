@@ -1,14 +1,16 @@
 //! The lines of a script.
 
-ghost use Rattle.std.specs.Prelude.{◌≡◌, ◌≢◌, ◌↔◌, ℕ, All, Err, IfErr, IfOk, IfSome, IsTrue, MatchResult, option_copied};
+ghost use Rattle.std.specs.Prelude.{◌≡◌, ◌≢◌, ◌↔◌, ℕ, All, Err, IfErr, IfOk};
+ghost use Rattle.std.specs.Prelude.{IfSome, IsTrue, MatchResult, option_copied};
 ghost use Rattle.std.specs.Iterator.{YieldsFirstRef, item_count};
 ghost use Rattle.fw_script.specs.Lines.{IsWritten};
 ghost use Rattle.fw_script.specs.Stops.{status_of};
 ghost use Rattle.fw_script.specs.declared.stop.Stop.TheVariants.{BadLine, NoMemory};
-ghost use Rattle.fw_script.specs.Scripts.{FirstFaultIs, IsGoodLine, IsGoodScript, IsPassedOver, LineFaultIs, lines_left, lines_of};
+ghost use Rattle.fw_script.specs.Scripts.{FirstFaultIs, IsGoodLine, IsGoodScript};
+ghost use Rattle.fw_script.specs.Scripts.{IsPassedOver, LineFaultIs, lines_left, lines_of};
 
 use crate::line::{Line, LineFault, read_line};
-use crate::split::split_once;
+use crate::split::{find_far, split_at_first};
 use crate::stop::Stop;
 use std::alloc::Allocator;
 
@@ -35,7 +37,8 @@ impl<'a> Iterator for Lines<'a> {
     ghost remaining = { item_count (λ lines. lines_left (option_copied lines.rest)) };
 
     fn next(&mut self) -> Option<&'a [u8]> {
-        let (line, rest) = split_once(self.rest?, b'\n');
+        let text = self.rest?;
+        let (line, rest) = split_at_first(text, b'\n', find_far(text, b'\n'));
         self.rest = rest;
         Some(line)
     }
@@ -65,7 +68,8 @@ fn read_any(line: &[u8]) -> Result<Option<Line<'_>>, LineFault>
 #[cold]
 fn refused_lines(script: &[u8]) -> Stop<'static>
     ensures status { status_of result ≢ 5 }
-    ensures bad { (number : ℕ) (fault : LineFault) → result ≡ BadLine number fault → FirstFaultIs script.now number fault }
+    ensures bad { (number : ℕ) (fault : LineFault) → result ≡ BadLine number fault
+        → FirstFaultIs script.now number fault }
     ensures memory { result ≡ NoMemory → IsGoodScript script.now }
 {
     let mut number = 0;
@@ -85,7 +89,8 @@ pub(crate) fn read_lines<A: Allocator>(
 ) -> Result<Vec<Line<'_>, A>, Stop<'static>>
     ensures good { IfOk result (λ lines. IsGoodScript script.now × All IsWritten lines.items) }
     ensures refused { IfErr result (λ stop. status_of stop ≢ 5) }
-    ensures bad { (number : ℕ) (fault : LineFault) → result ≡ Err (BadLine number fault) → FirstFaultIs script.now number fault }
+    ensures bad { (number : ℕ) (fault : LineFault) → result ≡ Err (BadLine number fault)
+        → FirstFaultIs script.now number fault }
     ensures memory { result ≡ Err NoMemory → IsGoodScript script.now }
 {
     let mut lines = Vec::new(alloc);

@@ -1,6 +1,7 @@
 //! Numbers as words.
 
-ghost use Rattle.std.specs.Prelude.{◌≡◌, ◌<◌, ◌^◌, ◌≤◌, ◌↔◌, ◌⊎◌, ℕ, IfSome, IfNone, IsTrue, Some, decimal, length, slice_index};
+ghost use Rattle.std.specs.Prelude.{◌≡◌, ◌<◌, ◌^◌, ◌≤◌, ◌↔◌, ◌⊎◌, ℕ, IfSome, IfNone};
+ghost use Rattle.std.specs.Prelude.{IsTrue, Some, decimal, length, slice_index};
 ghost use Rattle.std.specs.Str.Parse.{AllDigits, digits_value};
 
 /// Whether a word is empty, or begins with a zero before another byte.

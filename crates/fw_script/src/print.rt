@@ -3,7 +3,8 @@
 ghost use Rattle.std.specs.Prelude.{◌≡◌, ◌+◌, ◌≤◌, ◌++◌, codes, decimal, length};
 ghost use Rattle.fw_world.specs.declared.event.Outcome.TheVariants as outcome;
 ghost use Rattle.fk_wire.specs.Opcodes.{name_of};
-ghost use Rattle.fw_script.specs.Records.{attributes_words, effect_word, kind_word, outcome_line, refusal_name, refusal_number, result_number, taken_word};
+ghost use Rattle.fw_script.specs.Records.{attributes_words, effect_word, kind_word, outcome_line, refusal_name};
+ghost use Rattle.fw_script.specs.Records.{refusal_number, result_number, taken_word};
 
 use crate::short_text::ShortText;
 use fk_wire::Opcode;
@@ -11,7 +12,7 @@ use fw_world::{Attributes, IntrEffect, Kind, Outcome, Refusal, Taken, WriteResul
 
 /// Puts what became of a taken request, in one word, before a text.
 #[inline(always)]
-fn put_taken(text: &mut ShortText, taken: Taken)
+fn put_taken_word(text: &mut ShortText, taken: Taken)
     requires { length text.old ≤ 60 }
     ensures text { text.new ≡ taken_word taken ++ text.old }
     ensures room { length text.new ≤ 14 + length text.old }
@@ -40,7 +41,7 @@ fn word_of_effect(effect: IntrEffect) -> &'static str
 
 /// Puts the result of a reply's write as its error number, 0, ENOENT or EINVAL, before a text.
 #[inline(always)]
-fn put_result(text: &mut ShortText, written: WriteResult)
+fn put_result_number(text: &mut ShortText, written: WriteResult)
     requires { length text.old ≤ 60 }
     ensures text { text.new ≡ result_number written ++ text.old }
     ensures room { length text.new ≤ 14 + length text.old }
@@ -99,7 +100,7 @@ fn word_of_opcode(opcode: Opcode) -> &'static str
 }
 
 /// Puts a space and a number before a text.
-fn put_number(text: &mut ShortText, number: u64)
+fn put_spaced_number(text: &mut ShortText, number: u64)
     requires { length text.old ≤ 100 }
     ensures text { text.new ≡ codes " " ++ decimal number ++ text.old }
     ensures room { length text.new ≤ 21 + length text.old }
@@ -109,113 +110,115 @@ fn put_number(text: &mut ShortText, number: u64)
 }
 
 /// Puts a word and a number before a text.
-fn put_numbered(text: &mut ShortText, first: &[u8], number: u64)
+fn put_word_and_number(text: &mut ShortText, first: &[u8], number: u64)
     requires { (length first.now ≤ 14) × (length text.old ≤ 90) }
     ensures { text.new ≡ first.now ++ codes " " ++ decimal number ++ text.old }
 {
-    put_number(text, number);
+    put_spaced_number(text, number);
     text.put(first);
 }
 
 /// Puts a word and two numbers before a text.
-fn put_counted(text: &mut ShortText, first: &[u8], number: u64, count: u64)
+fn put_word_and_two_numbers(text: &mut ShortText, first: &[u8], number: u64, count: u64)
     requires { (length first.now ≤ 14) × (length text.old ≤ 60) }
     ensures { text.new ≡ first.now ++ codes " " ++ decimal number ++ codes " " ++ decimal count ++ text.old }
 {
-    put_number(text, count);
-    put_numbered(text, first, number);
+    put_spaced_number(text, count);
+    put_word_and_number(text, first, number);
 }
 
 /// Puts a word, a number and a space before a text.
 #[inline(always)]
-fn put_before_word(text: &mut ShortText, first: &[u8], number: u64)
+fn put_word_number_space(text: &mut ShortText, first: &[u8], number: u64)
     requires { (length first.now ≤ 14) × (length text.old ≤ 80) }
     ensures { text.new ≡ first.now ++ codes " " ++ decimal number ++ codes " " ++ text.old }
 {
     text.put_byte(b' ');
-    put_numbered(text, first, number);
+    put_word_and_number(text, first, number);
 }
 
 /// Puts a word, a number and a word before a text.
-fn put_worded(text: &mut ShortText, first: &[u8], number: u64, word: &str)
+fn put_word_number_word(text: &mut ShortText, first: &[u8], number: u64, word: &str)
     requires { (length first.now ≤ 14) × (length word.now ≤ 14) × (length text.old ≤ 60) }
     ensures { text.new ≡ first.now ++ codes " " ++ decimal number ++ codes " " ++ word.now ++ text.old }
 {
     text.put(word.as_bytes());
-    put_before_word(text, first, number);
+    put_word_number_space(text, first, number);
 }
 
 /// Puts the line of a taken request before a text.
-fn put_taking(text: &mut ShortText, unique: u64, word: Taken)
+fn put_taken_line(text: &mut ShortText, unique: u64, word: Taken)
     requires { length text.old ≤ 1 }
     ensures { text.new ≡ outcome_line (outcome.Taken unique word) ++ text.old }
 {
-    put_taken(text, word);
-    put_before_word(text, b"taken", unique);
+    put_taken_word(text, word);
+    put_word_number_space(text, b"taken", unique);
 }
 
 /// Puts the line of a written reply, or of a settled one, before a text.
 #[inline(always)]
-fn put_resulting(text: &mut ShortText, first: &[u8], unique: u64, written: WriteResult)
+fn put_result_line(text: &mut ShortText, first: &[u8], unique: u64, written: WriteResult)
     requires { (length first.now ≤ 14) × (length text.old ≤ 1) }
     ensures { text.new ≡ first.now ++ codes " " ++ decimal unique ++ codes " " ++ result_number written ++ text.old }
 {
-    put_result(text, written);
-    put_before_word(text, first, unique);
+    put_result_number(text, written);
+    put_word_number_space(text, first, unique);
 }
 
 /// Puts the line of a read before a text.
-fn put_read(text: &mut ShortText, unique: u64, opcode: Opcode, len: usize)
+fn put_read_line(text: &mut ShortText, unique: u64, opcode: Opcode, len: usize)
     requires { length text.old ≤ 1 }
     ensures { text.new ≡ outcome_line (outcome.Read unique opcode len) ++ text.old }
 {
-    put_number(text, len as u64);
-    put_worded(text, b"read", unique, word_of_opcode(opcode));
+    put_spaced_number(text, len as u64);
+    put_word_number_word(text, b"read", unique, word_of_opcode(opcode));
 }
 
 /// Puts the line of a performed request before a text.
-fn put_done(text: &mut ShortText, unique: u64, errno: u32, len: usize)
+fn put_done_line(text: &mut ShortText, unique: u64, errno: u32, len: usize)
     requires { length text.old ≤ 1 }
     ensures { text.new ≡ outcome_line (outcome.Done unique errno len) ++ text.old }
 {
-    put_number(text, len as u64);
-    put_counted(text, b"done", unique, u64::from(errno));
+    put_spaced_number(text, len as u64);
+    put_word_and_two_numbers(text, b"done", unique, u64::from(errno));
 }
 
 /// Puts the line of a request that was performed after an abort before a text.
-fn put_lost(text: &mut ShortText, unique: u64, errno: u32)
+fn put_lost_line(text: &mut ShortText, unique: u64, errno: u32)
     requires { length text.old ≤ 1 }
     ensures { text.new ≡ outcome_line (outcome.Lost unique errno) ++ text.old }
 {
     text.put(b" lost");
-    put_counted(text, b"done", unique, u64::from(errno));
+    put_word_and_two_numbers(text, b"done", unique, u64::from(errno));
 }
 
 /// Puts the line of an outcome, as `read 4 LOOKUP 42`, before a text.
-pub(crate) fn put_outcome(text: &mut ShortText, outcome: Outcome)
+pub(crate) fn put_outcome_line(text: &mut ShortText, outcome: Outcome)
     requires { length text.old ≤ 1 }
     ensures { text.new ≡ outcome_line outcome ++ text.old }
 {
     match outcome {
         Outcome::Mounted => text.put(b"mounted"),
-        Outcome::Begun { call } => put_numbered(text, b"call", call),
+        Outcome::Begun { call } => put_word_and_number(text, b"call", call),
         Outcome::Read {
             unique,
             opcode,
             len,
-        } => put_read(text, unique, opcode, len),
-        Outcome::Taken { unique, word } => put_taking(text, unique, word),
-        Outcome::Done { unique, errno, len } => put_done(text, unique, errno, len),
-        Outcome::Lost { unique, errno } => put_lost(text, unique, errno),
-        Outcome::SentAgain { unique, len } => put_counted(text, b"again", unique, len as u64),
-        Outcome::Written { unique, result } => put_resulting(text, b"written", unique, result),
-        Outcome::Settled { unique, result } => put_resulting(text, b"settled", unique, result),
+        } => put_read_line(text, unique, opcode, len),
+        Outcome::Taken { unique, word } => put_taken_line(text, unique, word),
+        Outcome::Done { unique, errno, len } => put_done_line(text, unique, errno, len),
+        Outcome::Lost { unique, errno } => put_lost_line(text, unique, errno),
+        Outcome::SentAgain { unique, len } => put_word_and_two_numbers(
+            text, b"again", unique, len as u64,
+        ),
+        Outcome::Written { unique, result } => put_result_line(text, b"written", unique, result),
+        Outcome::Settled { unique, result } => put_result_line(text, b"settled", unique, result),
         Outcome::Interrupted { call, effect } => {
-            put_worded(text, b"interrupted", call, word_of_effect(effect))
+            put_word_number_word(text, b"interrupted", call, word_of_effect(effect))
         }
-        Outcome::Now { clock } => put_numbered(text, b"now", clock),
+        Outcome::Now { clock } => put_word_and_number(text, b"now", clock),
         Outcome::Dropped => text.put(b"dropped"),
-        Outcome::Evicted { node, count } => put_counted(text, b"evicted", node, count),
+        Outcome::Evicted { node, count } => put_word_and_two_numbers(text, b"evicted", node, count),
         Outcome::Aborted => text.put(b"aborted"),
     }
 }
@@ -232,9 +235,9 @@ pub(crate) fn put_attributes(text: &mut ShortText, attributes: Attributes)
         size,
         nlink,
     } = attributes;
-    put_number(text, u64::from(nlink));
-    put_number(text, size);
-    put_number(text, ino);
+    put_spaced_number(text, u64::from(nlink));
+    put_spaced_number(text, size);
+    put_spaced_number(text, ino);
     text.put(word_of_kind(kind).as_bytes());
     text.put(b"0 ");
 }

@@ -1,15 +1,20 @@
 //! Records as the lines that are printed.
 
-ghost use Rattle.std.specs.Prelude.{◌≡◌, ◌≤◌, ◌++◌, ◌↔◌, [], All, IsTrue, OnOk, codes, decimal, flat_map, length, map, option_copied};
+ghost use Rattle.std.specs.Prelude.{◌≡◌, ◌≤◌, ◌++◌, ◌↔◌, All, IsTrue, OnOk};
+ghost use Rattle.std.specs.Prelude.{codes, decimal, flat_map, length, map, option_copied};
 ghost use Rattle.std.specs.Io.KnownBytes.{Appends};
-ghost use Rattle.fw_script.specs.Records.{answer_text, attributes_words, event_text, frame_text, kind_word, listed_words, outcome_line, record_text, refusal_name, refusal_number, shown_byte};
+ghost use Rattle.fw_script.specs.Records.{answer_text, event_text, frame_text, outcome_line, put_text, record_text};
+ghost use Rattle.fw_script.specs.Records.{attributes_words, kind_word, listed_words, refusal_name, refusal_number};
+ghost use Rattle.fw_script.specs.Records.{shown_byte};
 
 use crate::hex_text::{write_hex, write_hex_or_none};
-use crate::print::{name_of_refusal, number_of_refusal, put_attributes, put_outcome, word_of_kind};
+use crate::output::{OutputRefused, write_text};
+use crate::print::{
+    name_of_refusal, number_of_refusal, put_attributes, put_outcome_line, word_of_kind,
+};
 use crate::short_text::ShortText;
 use fw_world::{Answer, Attributes, Kind, ListedName, Outcome, Record, Refusal};
 use std::alloc::Allocator;
-use std::io;
 use std::io::Write;
 
 /// How a byte of a name is printed: `?` stands for one outside 33 to 126.
@@ -31,20 +36,20 @@ fn is_shown_as_is(name: &[u8]) -> bool
 }
 
 /// Writes a name.
-fn write_name<W: Write>(out: &mut W, name: &[u8]) -> io::Result<()>
+fn write_name<W: Write>(out: &mut W, name: &[u8]) -> Result<(), OutputRefused>
     ensures { OnOk result (Appends (W.contents out.old) (W.contents out.new) (map shown_byte name.now)) }
 {
     if is_shown_as_is(name) {
-        return out.write_all(name);
+        return write_text(out, name);
     }
     for byte in name {
-        out.write_all(&[shown(*byte)])?;
+        write_text(out, &[shown(*byte)])?;
     }
     Ok(())
 }
 
 /// Writes what follows a listed name, as `:OFF:KIND`.
-fn write_place<W: Write>(out: &mut W, offset: u64, kind: Kind) -> io::Result<()>
+fn write_place<W: Write>(out: &mut W, offset: u64, kind: Kind) -> Result<(), OutputRefused>
     ensures { OnOk result (Appends (W.contents out.old) (W.contents out.new)
         (codes ":" ++ decimal offset ++ codes ":" ++ kind_word kind)) }
 {
@@ -53,20 +58,26 @@ fn write_place<W: Write>(out: &mut W, offset: u64, kind: Kind) -> io::Result<()>
     text.put_byte(b':');
     text.put_number(offset);
     text.put_byte(b':');
-    out.write_all(text.bytes())
+    write_text(out, text.bytes())
 }
 
 /// Writes a listed name, as ` NAME:OFF:KIND`.
-fn write_listed<A: Allocator, W: Write>(out: &mut W, listed: &ListedName<A>) -> io::Result<()>
+fn write_listed<A: Allocator, W: Write>(
+    out: &mut W,
+    listed: &ListedName<A>,
+) -> Result<(), OutputRefused>
     ensures { OnOk result (Appends (W.contents out.old) (W.contents out.new) (listed_words listed.now)) }
 {
-    out.write_all(b" ")?;
+    write_text(out, b" ")?;
     write_name(out, listed.name.as_slice())?;
     write_place(out, listed.offset, listed.kind)
 }
 
 /// Writes listed names one after another.
-fn write_listing<A: Allocator, W: Write>(out: &mut W, names: &[ListedName<A>]) -> io::Result<()>
+fn write_listing<A: Allocator, W: Write>(
+    out: &mut W,
+    names: &[ListedName<A>],
+) -> Result<(), OutputRefused>
     ensures { OnOk result (Appends (W.contents out.old) (W.contents out.new) (flat_map listed_words names.now)) }
 {
     for listed in names {
@@ -86,7 +97,7 @@ fn put_call(text: &mut ShortText, call: u64)
 }
 
 /// Writes what an answered call's line begins with, and a word.
-fn write_start<W: Write>(out: &mut W, call: u64, word: &[u8]) -> io::Result<()>
+fn write_start<W: Write>(out: &mut W, call: u64, word: &[u8]) -> Result<(), OutputRefused>
     requires { length word.now ≤ 2 }
     ensures { OnOk result (Appends (W.contents out.old) (W.contents out.new)
         (codes "answer " ++ decimal call ++ codes " " ++ word.now)) }
@@ -94,11 +105,15 @@ fn write_start<W: Write>(out: &mut W, call: u64, word: &[u8]) -> io::Result<()>
     let mut text = ShortText::new();
     text.put(word);
     put_call(&mut text, call);
-    out.write_all(text.bytes())
+    write_text(out, text.bytes())
 }
 
 /// Writes the line of a call that is answered with attributes.
-fn write_attributes<W: Write>(out: &mut W, call: u64, attributes: Attributes) -> io::Result<()>
+fn write_attributes<W: Write>(
+    out: &mut W,
+    call: u64,
+    attributes: Attributes,
+) -> Result<(), OutputRefused>
     ensures { OnOk result (Appends (W.contents out.old) (W.contents out.new)
         (codes "answer " ++ decimal call ++ codes " " ++ attributes_words attributes ++ codes "\n")) }
 {
@@ -106,11 +121,16 @@ fn write_attributes<W: Write>(out: &mut W, call: u64, attributes: Attributes) ->
     text.put_byte(b'\n');
     put_attributes(&mut text, attributes);
     put_call(&mut text, call);
-    out.write_all(text.bytes())
+    write_text(out, text.bytes())
 }
 
 /// Writes the line of a call that is answered with a word and a number after it.
-fn write_counted<W: Write>(out: &mut W, call: u64, word: &[u8], number: u64) -> io::Result<()>
+fn write_counted<W: Write>(
+    out: &mut W,
+    call: u64,
+    word: &[u8],
+    number: u64,
+) -> Result<(), OutputRefused>
     requires { length word.now ≤ 2 }
     ensures { OnOk result (Appends (W.contents out.old) (W.contents out.new)
         (codes "answer " ++ decimal call ++ codes " " ++ word.now ++ decimal number ++ codes "\n")) }
@@ -120,7 +140,7 @@ fn write_counted<W: Write>(out: &mut W, call: u64, word: &[u8], number: u64) -> 
     text.put_number(number);
     text.put(word);
     put_call(&mut text, call);
-    out.write_all(text.bytes())
+    write_text(out, text.bytes())
 }
 
 /// Writes the line of an answered call.
@@ -128,7 +148,7 @@ fn write_answered<A: Allocator, W: Write>(
     out: &mut W,
     call: u64,
     answer: &Answer<A>,
-) -> io::Result<()>
+) -> Result<(), OutputRefused>
     ensures { OnOk result (Appends (W.contents out.old) (W.contents out.new) (answer_text call answer.now)) }
 {
     match answer {
@@ -137,12 +157,12 @@ fn write_answered<A: Allocator, W: Write>(
         Answer::Listing(names) => {
             write_start(out, call, b"0")?;
             write_listing(out, names.as_slice())?;
-            out.write_all(b"\n")
+            write_text(out, b"\n")
         }
         Answer::Content(bytes) => {
             write_start(out, call, b"0 ")?;
             write_hex_or_none(out, bytes.as_slice())?;
-            out.write_all(b"\n")
+            write_text(out, b"\n")
         }
         Answer::Written { size } => write_counted(out, call, b"0 ", u64::from(*size)),
         Answer::Failed { errno } => write_counted(out, call, b"", u64::from(*errno)),
@@ -150,7 +170,7 @@ fn write_answered<A: Allocator, W: Write>(
 }
 
 /// Writes the line of a refused event.
-fn write_refused<W: Write>(out: &mut W, refusal: Refusal) -> io::Result<()>
+fn write_refused<W: Write>(out: &mut W, refusal: Refusal) -> Result<(), OutputRefused>
     ensures { OnOk result (Appends (W.contents out.old) (W.contents out.new)
         (codes "refused " ++ decimal (refusal_number refusal) ++ codes " " ++ refusal_name refusal ++ codes "\n")) }
 {
@@ -160,110 +180,93 @@ fn write_refused<W: Write>(out: &mut W, refusal: Refusal) -> io::Result<()>
     text.put_byte(b' ');
     text.put_number(u64::from(number_of_refusal(refusal)));
     text.put(b"refused ");
-    out.write_all(text.bytes())
-}
-
-/// Puts the line of an outcome into a text of no bytes.
-#[inline(always)]
-fn put_line(text: &mut ShortText, outcome: Outcome)
-    requires { text.old ≡ [] }
-    ensures { text.new ≡ outcome_line outcome ++ codes "\n" }
-{
-    text.put_byte(b'\n');
-    put_outcome(text, outcome);
+    write_text(out, text.bytes())
 }
 
 /// Writes the line of an outcome.
-fn write_outcome<W: Write>(out: &mut W, outcome: Outcome) -> io::Result<()>
+#[inline(always)]
+fn write_outcome<W: Write>(out: &mut W, outcome: Outcome) -> Result<(), OutputRefused>
     ensures { OnOk result (Appends (W.contents out.old) (W.contents out.new) (outcome_line outcome ++ codes "\n")) }
 {
     let mut text = ShortText::new();
-    put_line(&mut text, outcome);
-    out.write_all(text.bytes())
+    text.put_byte(b'\n');
+    put_outcome_line(&mut text, outcome);
+    write_text(out, text.bytes())
 }
 
 /// Writes a record's line.
-pub fn write_record<A: Allocator, W: Write>(out: &mut W, record: &Record<A>) -> io::Result<()>
+pub fn write_record<A: Allocator, W: Write>(
+    out: &mut W,
+    record: &Record<A>,
+) -> Result<(), OutputRefused>
     ensures { OnOk result (Appends (W.contents out.old) (W.contents out.new) (record_text «record».now)) }
 {
     match record {
         Record::Outcome(outcome) => write_outcome(out, *outcome),
         Record::Refused(refusal) => write_refused(out, *refusal),
-        Record::LinkLost => out.write_all(b"link lost\n"),
+        Record::LinkLost => write_text(out, b"link lost\n"),
         Record::Answered { call, answer } => write_answered(out, *call, answer),
     }
 }
 
 /// Writes the line of a frame that was put.
-fn write_frame<W: Write>(out: &mut W, frame: &[u8]) -> io::Result<()>
+fn write_frame<W: Write>(out: &mut W, frame: &[u8]) -> Result<(), OutputRefused>
     ensures { OnOk result (Appends (W.contents out.old) (W.contents out.new) (frame_text frame.now)) }
 {
-    out.write_all(b"frame ")?;
+    write_text(out, b"frame ")?;
     write_hex(out, frame)?;
-    out.write_all(b"\n")
+    write_text(out, b"\n")
 }
 
-/// Writes the line of an outcome, and tells whether the output took it: the error of an output is large, and a run asks
-/// only whether there is one.
-#[inline(always)]
-fn is_outcome_written<W: Write>(out: &mut W, outcome: Outcome) -> bool
-    ensures { IsTrue result → Appends (W.contents out.old) (W.contents out.new) (outcome_line outcome ++ codes "\n") }
-{
-    let mut text = ShortText::new();
-    put_line(&mut text, outcome);
-    out.write_all(text.bytes()).is_ok()
-}
-
-/// The same of any record.
-fn is_record_written<A: Allocator, W: Write>(out: &mut W, record: &Record<A>) -> bool
-    ensures { IsTrue result → Appends (W.contents out.old) (W.contents out.new) (record_text «record».now) }
-{
-    write_record(out, record).is_ok()
-}
-
-/// The same of the frame that was put, if there is one.
-fn is_frame_written<W: Write>(out: &mut W, frame: &[u8]) -> bool
-    ensures { IsTrue result → Appends (W.contents out.old) (W.contents out.new) (frame_text frame.now) }
-{
-    write_frame(out, frame).is_ok()
-}
-
-/// The same of answers, of which most events have none.
-fn are_answers_written<A: Allocator, W: Write>(out: &mut W, answers: &[Record<A>]) -> bool
-    ensures { IsTrue result → Appends (W.contents out.old) (W.contents out.new) (flat_map record_text answers.now) }
+/// Writes the lines of answers, of which most events have none.
+fn write_answers<A: Allocator, W: Write>(
+    out: &mut W,
+    answers: &[Record<A>],
+) -> Result<(), OutputRefused>
+    ensures { OnOk result (Appends (W.contents out.old) (W.contents out.new) (flat_map record_text answers.now)) }
 {
     for answer in answers {
-        if !is_record_written(out, answer) {
-            return false;
-        }
+        write_record(out, answer)?;
     }
-    true
+    Ok(())
 }
 
-/// The same of an event's records, and after the first of the frame that was put.
+/// Writes the line of an event's first record. Most are outcomes, whose writing is laid in here.
 #[inline(always)]
-pub(crate) fn are_records_written<A: Allocator, W: Write>(
+fn write_first<A: Allocator, W: Write>(out: &mut W, first: &Record<A>) -> Result<(), OutputRefused>
+    ensures { OnOk result (Appends (W.contents out.old) (W.contents out.new) (record_text first.now)) }
+{
+    match first {
+        Record::Outcome(outcome) => write_outcome(out, *outcome),
+        _ => write_record(out, first),
+    }
+}
+
+/// Writes the line of a frame that was put, if there is one.
+#[inline(always)]
+fn write_put<W: Write>(out: &mut W, frame: Option<&[u8]>) -> Result<(), OutputRefused>
+    ensures { OnOk result (Appends (W.contents out.old) (W.contents out.new) (put_text (option_copied frame.entry))) }
+{
+    match frame {
+        Some(frame) => write_frame(out, frame),
+        None => Ok(()),
+    }
+}
+
+/// Writes the lines of an event's records, and after the first that of the frame that was put, if there is one.
+#[inline(always)]
+pub(crate) fn write_event<A: Allocator, W: Write>(
     out: &mut W,
     records: &[Record<A>],
     frame: Option<&[u8]>,
-) -> bool
-    ensures { IsTrue result → Appends (W.contents out.old) (W.contents out.new)
-        (event_text records.now (option_copied frame.entry)) }
+) -> Result<(), OutputRefused>
+    ensures { OnOk result (Appends (W.contents out.old) (W.contents out.new)
+        (event_text records.now (option_copied frame.entry))) }
 {
     let Some((first, answers)) = records.split_first() else {
-        return true;
+        return Ok(());
     };
-    let is_written = match first {
-        Record::Outcome(outcome) => is_outcome_written(out, *outcome),
-        _ => is_record_written(out, first),
-    };
-    if !is_written {
-        return false;
-    }
-    if let Some(frame) = frame {
-        if !is_frame_written(out, frame) {
-            return false;
-        }
-    }
-    are_answers_written(out, answers)
+    write_first(out, first)?;
+    write_put(out, frame)?;
+    write_answers(out, answers)
 }

@@ -12,13 +12,13 @@ use crate::hex_text::read_hex_or_none;
 use crate::line::Line;
 use crate::lines::read_lines;
 use crate::machine::Machine;
-use crate::records::are_records_written;
+use crate::output::{OutputRefused, write_text};
+use crate::records::write_event;
 use crate::short_text::ShortText;
 use crate::stop::Stop;
 use fw_link::Link;
 use fw_world::{Call, Event, Lists, Maps, Record, Session, Tables, WorldOf};
 use std::alloc::{Allocator, Global};
-use std::io;
 use std::io::{ErrorKind, Read, Write};
 use std::slice::from_ref;
 
@@ -59,10 +59,7 @@ fn run_event<A: Allocator + Copy, M: Machine<A>, W: Write>(
         return Err(Stop::NoMemory);
     }
     let frame = frame_put(machine, hex);
-    if !are_records_written(out, records.as_slice(), frame) {
-        return Err(Stop::OutputRefused);
-    }
-    Ok(())
+    write_event(out, records.as_slice(), frame).map_err(|_| Stop::OutputRefused)
 }
 
 /// The event that a call is which puts bytes into an open file. Its bytes are read from hex.
@@ -88,7 +85,7 @@ fn event_of_write<'a, A: Allocator>(
 }
 
 /// Writes a node: its id, its generation and its lookup count.
-fn write_node<W: Write>(out: &mut W, node: (u64, u64, u64)) -> io::Result<()>
+fn write_node<W: Write>(out: &mut W, node: (u64, u64, u64)) -> Result<(), OutputRefused>
     ensures { OnOk result (Appends (W.contents out.old) (W.contents out.new) (node_words node)) }
 {
     let (id, generation, count) = node;
@@ -99,11 +96,11 @@ fn write_node<W: Write>(out: &mut W, node: (u64, u64, u64)) -> io::Result<()>
     text.put_byte(b':');
     text.put_number(id);
     text.put_byte(b' ');
-    out.write_all(text.bytes())
+    write_text(out, text.bytes())
 }
 
 /// Writes nodes one after another.
-fn write_list<W: Write>(out: &mut W, nodes: &[(u64, u64, u64)]) -> io::Result<()>
+fn write_list<W: Write>(out: &mut W, nodes: &[(u64, u64, u64)]) -> Result<(), OutputRefused>
     ensures { OnOk result (Appends (W.contents out.old) (W.contents out.new) (flat_map node_words nodes.now)) }
 {
     for node in nodes {
@@ -113,12 +110,16 @@ fn write_list<W: Write>(out: &mut W, nodes: &[(u64, u64, u64)]) -> io::Result<()
 }
 
 /// Writes the line of one side's nodes.
-fn write_nodes<W: Write>(out: &mut W, side: &str, nodes: &[(u64, u64, u64)]) -> io::Result<()>
+fn write_nodes<W: Write>(
+    out: &mut W,
+    side: &str,
+    nodes: &[(u64, u64, u64)],
+) -> Result<(), OutputRefused>
     ensures { OnOk result (Appends (W.contents out.old) (W.contents out.new) (nodes_text side.now nodes.now)) }
 {
-    out.write_all(side.as_bytes())?;
+    write_text(out, side.as_bytes())?;
     write_list(out, nodes)?;
-    out.write_all(b"\n")
+    write_text(out, b"\n")
 }
 
 /// Writes the nodes that the kernel counts and those that the server holds.

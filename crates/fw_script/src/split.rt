@@ -1,4 +1,8 @@
 //! A text, split at a byte.
+//!
+//! The byte is searched for in two ways. `find_far` looks at many bytes at once, but takes longer to begin: it is for
+//! lines and last words, which may have thousands of bytes. `find_near` looks at one byte after another, which is
+//! sooner where the place is among the first ten or so: it is for the words that a line begins with.
 
 ghost use Rattle.std.specs.Prelude.{◌≡◌, ◌∷◌, ◌==◌, option_copied, position};
 ghost use Rattle.std.specs.List.{slice_split};
@@ -6,16 +10,16 @@ ghost use Rattle.fw_script.specs.Words.{parts_left};
 
 use memchr::memchr;
 
-/// The place of the first separator.
-fn first_place(text: &[u8], separator: u8) -> Option<usize>
+/// The place of the first separator, which may be far.
+pub(crate) fn find_far(text: &[u8], separator: u8) -> Option<usize>
     ensures { result ≡ position (λ byte. byte == separator) text.now }
 {
     memchr(separator, text)
 }
 
-/// The same, byte by byte: sooner where the place is among the first ten or so.
+/// The place of the first separator, which is near as a rule.
 #[inline(always)]
-fn near_place(text: &[u8], separator: u8) -> Option<usize>
+pub(crate) fn find_near(text: &[u8], separator: u8) -> Option<usize>
     ensures { result ≡ position (λ byte. byte == separator) text.now }
 {
     text.iter().position(|byte| *byte == separator)
@@ -23,7 +27,11 @@ fn near_place(text: &[u8], separator: u8) -> Option<usize>
 
 /// What stands before the first separator, whose place this is, and what stands after it, if there is one.
 #[inline(always)]
-fn split_at_first(text: &[u8], separator: u8, first: Option<usize>) -> (&[u8], Option<&[u8]>)
+pub(crate) fn split_at_first(
+    text: &[u8],
+    separator: u8,
+    first: Option<usize>,
+) -> (&[u8], Option<&[u8]>)
     requires { first ≡ position (λ byte. byte == separator) text.now }
     ensures { slice_split (λ byte. byte == separator) text.now
         ≡ result.0.now ∷ parts_left separator (option_copied result.1) }
@@ -32,22 +40,4 @@ fn split_at_first(text: &[u8], separator: u8, first: Option<usize>) -> (&[u8], O
         Some(end) => (&text[..end], Some(&text[end + 1..])),
         None => (text, None),
     }
-}
-
-/// What stands before the first separator, and what stands after it, if there is one.
-#[inline(always)]
-pub(crate) fn split_once(text: &[u8], separator: u8) -> (&[u8], Option<&[u8]>)
-    ensures { slice_split (λ byte. byte == separator) text.now
-        ≡ result.0.now ∷ parts_left separator (option_copied result.1) }
-{
-    split_at_first(text, separator, first_place(text, separator))
-}
-
-/// The same of a text whose first part is short.
-#[inline(always)]
-pub(crate) fn split_near(text: &[u8], separator: u8) -> (&[u8], Option<&[u8]>)
-    ensures { slice_split (λ byte. byte == separator) text.now
-        ≡ result.0.now ∷ parts_left separator (option_copied result.1) }
-{
-    split_at_first(text, separator, near_place(text, separator))
 }

@@ -3,21 +3,21 @@
 ghost use Rattle.std.specs.Prelude.{◌≡◌, ◌∷◌, [], MatchOption, option_copied};
 ghost use Rattle.fw_script.specs.Words.{words_of, words_left, HasWords};
 
-use crate::split::{split_near, split_once};
+use crate::split::{find_far, find_near, split_at_first};
 
 /// The first word of a text, which is short as a rule, and the text after the space that ends it, if a space does.
 #[inline(always)]
 pub(crate) fn split_word(text: &[u8]) -> (&[u8], Option<&[u8]>)
     ensures { words_of text.now ≡ result.0.now ∷ words_left (option_copied result.1) }
 {
-    split_near(text, b' ')
+    split_at_first(text, b' ', find_near(text, b' '))
 }
 
 /// The same of a text whose first word may be long.
 fn split_long_word(text: &[u8]) -> (&[u8], Option<&[u8]>)
     ensures { words_of text.now ≡ result.0.now ∷ words_left (option_copied result.1) }
 {
-    split_once(text, b' ')
+    split_at_first(text, b' ', find_far(text, b' '))
 }
 
 /// The one word of the rest of a line, if it is one and not empty.

@@ -1,5 +1,5 @@
-//! What no clause and no row says: faults of lines as printed, readers and writers that fail, growths that are refused, bytes fed
-//! to a cutter, rows over links and over plain lists, and lists of events that are drawn.
+//! What no clause and no row says: faults of lines as printed, readers and writers that fail, growths that are refused,
+//! bytes fed to a cutter, rows over links and over plain lists, and lists of events that are drawn.
 
 mod carried;
 mod cutting;
@@ -7,8 +7,8 @@ mod drawn;
 mod frames;
 mod growths;
 mod lines;
+mod machine;
 mod over_links;
 mod over_lists;
 mod rows;
-mod stepped;
 mod want;

@@ -79,15 +79,15 @@ pub after_result : (old made new : List ReplyResult) (number unique : ℕ) (resu
 after_result old made new number unique result sent same appended number_is unique_is =
     appended ∙ (λ i. same i ++ record { number = number_is i; unique = unique_is i; result = result } ∷ [])
 
--- Events led to a world still as an answer is handed out.
-pub handed_out : {X : Type 0} (w : World) (kernel : Kernel) (o : Option (ℕ × X)) → IfNone o (kernel ≡ w.kernel)
+-- Events led to a world still as the answer of a call is collected.
+pub call_collected_reached : {X : Type 0} (w : World) (kernel : Kernel) (o : Option (ℕ × X)) → IfNone o (kernel ≡ w.kernel)
     → IfSome o (λ r. kernel ≡ record w.kernel {
       vfs =
           record w.kernel.vfs { answers = remove w.kernel.vfs.answers r.0 };
     })
     → IsReached w → IsReached (record w { kernel = kernel })
-handed_out w kernel None none some sound = subst (λ (k : Kernel). IsReached (record w { kernel = k })) (sym none) sound
-handed_out w kernel (Some r) none some sound =
+call_collected_reached w kernel None none some sound = subst (λ (k : Kernel). IsReached (record w { kernel = k })) (sym none) sound
+call_collected_reached w kernel (Some r) none some sound =
     subst (λ (k : Kernel). IsReached (record w { kernel = k })) (sym some) (handed_out_reached w r.0 sound)
 
 -- A copy that is sent goes onto its link, or none is sent.

@@ -45,7 +45,7 @@ steps_over old mid new e o true here happens same aborts =
     gives_up mid new (happens_as old mid e o here happens)
     (happens_as mid new abort aborted (reached_next old here e o mid happens) (aborts refl))
 
--- A plain world that the world refines is refined still, as the answer of one call is handed out in both.
+-- A plain world that the world refines is refined still, as the answer of one call is collected in both.
 pub collect_refines : {X : Type 0} (old : World) (kernel : Kernel) → IsReached old → (o : Option (ℕ × X))
     → IfSome o (λ r. kernel ≡ record old.kernel {
       vfs =

@@ -14,8 +14,8 @@ abbrev pub calls_not_over : World → ℕ
 calls_not_over w = length w.kernel.vfs.answers + length w.kernel.vfs.calls
 
 -- The world once the answer of one call is collected.
-abbrev pub handed_out : World → ℕ → World
-handed_out w call = record w {
+abbrev pub call_collected : World → ℕ → World
+call_collected w call = record w {
   kernel = record w.kernel { vfs = record w.kernel.vfs { answers = remove w.kernel.vfs.answers call } };
 }
 

@@ -11,7 +11,8 @@ use Rattle.fk_syscalls.specs.Values.{call_of, answer_of}
 use Rattle.fs_server.specs.declared.server.ServerFault.{ServerFault}
 use Rattle.fs_server.specs.declared.server.ServerFault.TheVariants as fault
 use Rattle.fw_world.specs.declared.event.Event.{Event}
-use Rattle.fw_world.specs.declared.event.Event.TheVariants.{Mount, Call, Read, Take, Do, Again, Write, Settle, Interrupt, Tick, DropName, Evict, Abort}
+use Rattle.fw_world.specs.declared.event.Event.TheVariants.{Mount, Call, Read, Take, Do, Again, Write, Settle}
+use Rattle.fw_world.specs.declared.event.Event.TheVariants.{Interrupt, Tick, DropName, Evict, Abort}
 use Rattle.fw_world.specs.declared.event.Pick.{Pick}
 use Rattle.fw_world.specs.declared.event.Pick.TheVariants as pick
 use Rattle.fw_world.specs.declared.event.Outcome.{Outcome}

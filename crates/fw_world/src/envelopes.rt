@@ -3,7 +3,8 @@
 ghost use Rattle.std.specs.Prelude.{◌≡◌, ◌≢◌, ◌≤◌, [], OnErr, OnOk, vec_capacity};
 ghost use Rattle.fk_wire.specs.Results.{SpellsResult};
 ghost use Rattle.fw_link.specs.Carrying.{IsEmpty};
-ghost use Rattle.fw_world.specs.Sends.{Carries, IsLostOn, IsOut, IsSent, Loses, SendsReply, SendsRequest, SendsResult, error_of};
+ghost use Rattle.fw_world.specs.Sends.{Carries, IsLostOn, IsOut, IsSent, Loses};
+ghost use Rattle.fw_world.specs.Sends.{SendsReply, SendsRequest, SendsResult, error_of};
 ghost use Rattle.fw_world.specs.Values.{outcome_of};
 
 use crate::event::Outcome;

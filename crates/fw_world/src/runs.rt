@@ -1,6 +1,7 @@
 //! Whole lists of events.
 
-ghost use Rattle.std.specs.Prelude.{◌≡◌, ◌+◌, ◌*◌, ◌<◌, ◌≤◌, ◌++◌, ◌∷◌, [], false, List, IsTrue, IfErr, IfNone, IfSome, OnErr, ◌^◌, length, map};
+ghost use Rattle.std.specs.Prelude.{◌≡◌, ◌+◌, ◌*◌, ◌<◌, ◌≤◌, ◌++◌, ◌∷◌, [], false, List};
+ghost use Rattle.std.specs.Prelude.{IsTrue, IfErr, IfNone, IfSome, OnErr, ◌^◌, length, map};
 ghost use Rattle.std.specs.Vec.{vec_len, vec_capacity};
 ghost use Rattle.fuse_spec.specs.World.Records.{answers_of, collected};
 ghost use Rattle.fuse_theorem.specs.Recorded.{Recorded};

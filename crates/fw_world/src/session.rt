@@ -1,6 +1,7 @@
 //! A world whose two sides talk over a link of bytes.
 
-ghost use Rattle.std.specs.Prelude.{◌≡◌, ◌≤◌, [], false, true, Err, IfErr, IfOk, IfNone, IfSome, OnErr, option_map, slice_get, vec_capacity};
+ghost use Rattle.std.specs.Prelude.{◌≡◌, ◌≤◌, [], false, true, Err, IfErr, IfOk, IfNone};
+ghost use Rattle.std.specs.Prelude.{IfSome, OnErr, option_map, slice_get, vec_capacity};
 ghost use Rattle.fuse_spec.specs.World.Events.{abort, aborted};
 ghost use Rattle.fuse_spec.specs.Claim.Counts.{Keeps};
 ghost use Rattle.fuse_spec.specs.Reference.Plain.{Plain, first_plain};
@@ -12,7 +13,7 @@ ghost use Rattle.fw_link.specs.Carrying.{IsEmpty};
 ghost use Rattle.fuse_theorem.specs.Reached.{IsReached};
 ghost use Rattle.fw_world.specs.Frames.{IsFrameOf, IsLastFrame, IsShown};
 ghost use Rattle.fw_world.specs.OverLinks.{StepsOver, session_of};
-ghost use Rattle.fw_world.specs.Runs.{handed_out};
+ghost use Rattle.fw_world.specs.Runs.{call_collected};
 ghost use Rattle.fw_world.specs.Sends.{IsLostOn, IsOut, IsSent, LosesIn};
 ghost use Rattle.fw_world.specs.Values.{counted_nodes, event_of, held_nodes, outcome_of};
 
@@ -154,12 +155,12 @@ impl<L: Link + Drop, A: Allocator + Copy> Session<L, A> {
         self.is_lost
     }
 
-    /// Hands out, once, the answer of the lowest answered call.
+    /// Collects, once, the answer of the lowest answered call.
     pub fn collect(&mut self) -> Option<(u64, Answer<A>)>
         ensures answer { option_map (λ r. (r.0, answer_of r.1)) result
             ≡ slice_get self.old.world.kernel.vfs.answers 0 }
         ensures none { IfNone result (self.new.world ≡ self.old.world) }
-        ensures taken { IfSome result (λ r. self.new.world ≡ handed_out self.old.world r.0) }
+        ensures taken { IfSome result (λ r. self.new.world ≡ call_collected self.old.world r.0) }
         ensures link { (self.new.link ≡ self.old.link) × (self.new.is_lost ≡ self.old.is_lost) }
         ensures refines { IfSome result (λ r. (p : Plain) → Refines self.old.world p →
             Refines self.new.world (plain_handed_out p r.0)) }

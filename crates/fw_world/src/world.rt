@@ -1,6 +1,7 @@
 //! The world.
 
-ghost use Rattle.std.specs.Prelude.{◌≡◌, ◌≤◌, ◌<◌, ◌++◌, ◌∷◌, [], ℕ, List, true, false, OnErr, IfOk, IfErr, IfNone, IfSome, length, option_map, slice_get};
+ghost use Rattle.std.specs.Prelude.{◌≡◌, ◌≤◌, ◌<◌, ◌++◌, ◌∷◌, [], ℕ, List, true, false, OnErr};
+ghost use Rattle.std.specs.Prelude.{IfOk, IfErr, IfNone, IfSome, length, option_map, slice_get};
 ghost use Rattle.std.specs.Vec.{vec_len, vec_capacity};
 ghost use Rattle.fuse_spec.specs.World.Events as event;
 ghost use Rattle.fuse_spec.specs.Kernel.Refusals.{or_no_memory};
@@ -15,13 +16,14 @@ ghost use Rattle.fk_syscalls.specs.Values.{call_of, answer_of};
 ghost use Rattle.fs_server.specs.Effects.{AnswersFrame};
 ghost use Rattle.fw_world.specs.declared.world.LastPut.TheVariants.{Request};
 ghost use Rattle.fw_world.specs.Frames.{IsCopyFrame, IsFrameOf, IsLastFrame, IsShown};
-ghost use Rattle.fw_world.specs.Runs.{StepsAs, handed_out};
-ghost use Rattle.fw_world.specs.Values.{counted_nodes, event_of, held_nodes, outcome_of, read_of, refusal_for, with_copy};
+ghost use Rattle.fw_world.specs.Runs.{StepsAs, call_collected};
+ghost use Rattle.fw_world.specs.Values.{counted_nodes, event_of, held_nodes};
+ghost use Rattle.fw_world.specs.Values.{outcome_of, read_of, refusal_for, with_copy};
 
 mod last_sent;
 
 use crate::event::{Event, Outcome, Pick};
-use crate::links::{clear_links, take_out};
+use crate::links::clear_links;
 use crate::tables::{Lists, Maps, Tables};
 use fk_kernel::{Answer, Call, KernelOf};
 use fk_lookup_count::CountTable;
@@ -31,6 +33,7 @@ use fs_server::{ServerFault, ServerOf};
 use fuse_frames::{ReplyCopy, RequestFrame};
 use fuse_spec::limits::MAX_VALIDITY;
 use fuse_spec::{Minor, Purpose, Refusal, ReplyResult, Taken};
+use fuse_tables::take_at;
 use std::alloc::{Allocator, Global};
 use std::marker::Model;
 
@@ -131,10 +134,11 @@ impl<T: Tables> WorldOf<T> {
         ensures refines { IfOk result (λ outcome. StepsAs self.old (event_of event.now) (outcome_of outcome) self.new) }
     {
         self.keeps_protocol();
-        self.happen(event)
+        self.dispatch(event)
     }
 
-    fn happen(&mut self, event: &Event<'_>) -> Result<Outcome, Refusal>
+    /// The same, by the kind of the event.
+    fn dispatch(&mut self, event: &Event<'_>) -> Result<Outcome, Refusal>
         ensures err { OnErr result (self.new ≡ self.old) }
         ensures refusal { IfErr result (RefusedWith self.old (event_of event.now)) }
         ensures happens { IfOk result (λ outcome. Happens self.old (event_of event.now) (outcome_of outcome) self.new) }
@@ -162,11 +166,11 @@ impl<T: Tables> WorldOf<T> {
         }
     }
 
-    /// Hands out, once, the answer of the lowest answered call.
+    /// Collects, once, the answer of the lowest answered call.
     pub fn collect(&mut self) -> Option<(u64, Answer<T::Heap>)>
         ensures answer { option_map (λ r. (r.0, answer_of r.1)) result ≡ slice_get self.old.kernel.vfs.answers 0 }
         ensures none { IfNone result (self.new ≡ self.old) }
-        ensures taken { IfSome result (λ r. self.new ≡ handed_out self.old r.0) }
+        ensures taken { IfSome result (λ r. self.new ≡ call_collected self.old r.0) }
         ensures refines { IfSome result (λ r. (p : Plain) → Refines self.old p
             → Refines self.new (plain_handed_out p r.0)) }
     {
@@ -452,7 +456,7 @@ impl<T: Tables> WorldOf<T> {
                 return Err(refusal_of(fault));
             }
         };
-        let _request = take_out(&mut self.requests, place);
+        let _request = take_at(&mut self.requests, place);
         within(&self.kernel, &self.server);
         self.last_put = reply_put(&took.copy);
         append_if_any(&mut self.replies, took.copy);
@@ -538,7 +542,7 @@ impl<T: Tables> WorldOf<T> {
             }
         };
         within(&self.kernel, &self.server);
-        let _copy = take_out(&mut self.replies, place);
+        let _copy = take_at(&mut self.replies, place);
         self.results.push_reserved(ReplyResult {
             number,
             unique,
@@ -564,7 +568,7 @@ impl<T: Tables> WorldOf<T> {
         if let Err(refusal) = self.server.settle(settled) {
             return Err(refusal);
         }
-        let _settled = take_out(&mut self.results, place);
+        let _settled = take_at(&mut self.results, place);
         Ok(Outcome::Settled {
             unique: settled.unique,
             result: settled.result,

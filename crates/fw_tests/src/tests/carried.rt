@@ -95,7 +95,8 @@ fn in_order(rt: HostRuntime) -> Result<(), Fail> {
     Ok(())
 }
 
-/// Whether the request is carried over a link whose reader gives it, into a writer to this room. It is spelled in an empty list.
+/// Whether the request is carried over a link whose reader gives it, into a writer to this room. It is spelled in an
+/// empty list.
 fn carries_to_reader(
     cutter: &mut Cutter,
     carrier: &mut Carrier,

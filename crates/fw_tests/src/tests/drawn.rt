@@ -1,7 +1,7 @@
 //! Lists of events that are drawn, each run on a world over maps and slabs and on one over plain lists.
 
 use super::growths::write_nodes;
-use super::stepped::{Stepped, Visits, visit_list_worlds, visit_worlds};
+use super::machine::{Machine, MachineTest, try_on_list_world, try_on_world};
 use fw_script::write_record;
 use fw_world::{Call, Event, Minor, Outcome, Pick, Record};
 use std::alloc::{AllocError, Allocator, Global};
@@ -188,7 +188,7 @@ fn event(drawn: &mut Drawn, seen: &Seen) -> Event<'static> {
 }
 
 /// Runs an event, and prints its records.
-fn print_event<W: Stepped<Global>>(
+fn print_event<W: Machine<Global>>(
     world: &mut W,
     event: &Event<'_>,
     records: &mut Vec<Record<Global>>,
@@ -207,7 +207,7 @@ fn print_event<W: Stepped<Global>>(
 }
 
 /// Prints the nodes of both sides.
-fn print_nodes<W: Stepped<Global>>(world: &W, out: &mut Vec<u8>) -> bool {
+fn print_nodes<W: Machine<Global>>(world: &W, out: &mut Vec<u8>) -> bool {
     let (Ok(counted), Ok(held)) = (world.kernel_nodes(), world.server_nodes()) else {
         return false;
     };
@@ -215,7 +215,7 @@ fn print_nodes<W: Stepped<Global>>(world: &W, out: &mut Vec<u8>) -> bool {
 }
 
 /// Runs one list on a world, and prints its records and the nodes with which it ends.
-fn print_list<W: Stepped<Global>>(
+fn print_list<W: Machine<Global>>(
     alloc: Global,
     world: &mut W,
     drawn: &mut Drawn,
@@ -247,14 +247,14 @@ struct List<'a> {
     is_printed: bool,
 }
 
-impl Visits<Global> for List<'_> {
-    fn visit<W: Stepped<Global> + Drop>(&mut self, alloc: Global) -> Result<(), AllocError> {
+impl MachineTest<Global> for List<'_> {
+    fn try_on<W: Machine<Global> + Drop>(&mut self, alloc: Global) -> Result<(), AllocError> {
         let mut seen = Seen {
             unique: 2,
             call: 0,
             accepted: *self.accepted,
         };
-        let mut world = W::made(alloc).ok_or(AllocError)?;
+        let mut world = W::new(alloc).ok_or(AllocError)?;
         self.is_printed = print_list(alloc, &mut world, self.drawn, &mut seen, self.out);
         *self.accepted = seen.accepted;
         Ok(())
@@ -275,7 +275,7 @@ fn is_printed_over_maps(
         out,
         is_printed,
     };
-    visit_worlds(&mut list, alloc).is_ok() && list.is_printed
+    try_on_world(&mut list, alloc).is_ok() && list.is_printed
 }
 
 /// The same over plain lists.
@@ -292,11 +292,11 @@ fn is_printed_over_lists(
         out,
         is_printed,
     };
-    visit_list_worlds(&mut list, alloc).is_ok() && list.is_printed
+    try_on_list_world(&mut list, alloc).is_ok() && list.is_printed
 }
 
-/// Draws a list, and tells whether it prints the same on a new world of each kind. It is drawn for each from the same state, and so the
-/// same events as long as both record the same.
+/// Draws a list, and tells whether it prints the same on a new world of each kind. It is drawn for each from the same
+/// state, and so the same events as long as both record the same.
 fn is_alike(alloc: Global, drawn: &mut Drawn, accepted: &mut u64) -> bool {
     let mut again = Drawn { state: drawn.state };
     let mut accepted_again = 0;

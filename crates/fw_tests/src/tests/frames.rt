@@ -1,6 +1,6 @@
 //! The frame that each event of a mount put, of a world and of a session.
 
-use super::stepped::{Stepped, Visits, visit_sessions, visit_worlds};
+use super::machine::{Machine, MachineTest, try_on_session, try_on_world};
 use fw_world::{Event, Minor, Pick};
 use std::alloc::{AllocError, Global};
 use std::process::Abort;
@@ -57,7 +57,7 @@ static ROWS: [Row; 6] = [
 ];
 
 /// Whether a row's event puts its frame.
-fn puts_frame<W: Stepped<Global>>(framed: &mut W, row: &Row) -> bool {
+fn puts_frame<W: Machine<Global>>(framed: &mut W, row: &Row) -> bool {
     match framed.step(&row.event) {
         Ok(outcome) => framed.frame_of(&outcome) == row.frame,
         Err(_) => false,
@@ -71,9 +71,9 @@ struct Frames<'a, R: Abort> {
     name: &'static str,
 }
 
-impl<R: Abort> Visits<Global> for Frames<'_, R> {
-    fn visit<W: Stepped<Global> + Drop>(&mut self, alloc: Global) -> Result<(), AllocError> {
-        let mut framed = W::made(alloc).ok_or(AllocError)?;
+impl<R: Abort> MachineTest<Global> for Frames<'_, R> {
+    fn try_on<W: Machine<Global> + Drop>(&mut self, alloc: Global) -> Result<(), AllocError> {
+        let mut framed = W::new(alloc).ok_or(AllocError)?;
         let name = self.name;
         for (place, row) in ROWS.iter().enumerate() {
             assert!(self.rt; puts_frame(&mut framed, row), "{name} row {place}");
@@ -88,11 +88,11 @@ fn frame_of_each_event_of_a_mount(rt: HostRuntime) -> Result<(), Fail> {
         rt: &rt,
         name: "world",
     };
-    visit_worlds(&mut of_world, rt.alloc())?;
+    try_on_world(&mut of_world, rt.alloc())?;
     let mut of_session = Frames {
         rt: &rt,
         name: "session",
     };
-    visit_sessions(&mut of_session, rt.alloc())?;
+    try_on_session(&mut of_session, rt.alloc())?;
     Ok(())
 }

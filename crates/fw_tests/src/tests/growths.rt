@@ -1,14 +1,14 @@
-//! Each growth of each row, refused in turn, of a world and of a session: those of its events, and those of the list of records of
-//! a whole run.
+//! Each growth of each row, refused in turn, of a world and of a session: those of its events, and those of the list of
+//! records of a whole run.
 
+use super::machine::{Machine, MachineTest, try_on_list_world, try_on_session, try_on_world};
 use super::rows::{Row, lists};
-use super::stepped::{Stepped, Visits, visit_list_worlds, visit_sessions, visit_worlds};
 use fail_at::FailAt;
-use fw_script::{Line, read_hex, read_line, write_hex, write_record};
+use fw_script::{Line, OutputRefused, read_hex, read_line, write_hex, write_record};
 use fw_world::{Call, Event, Outcome, Record, Refusal};
 use std::alloc::{AllocError, Allocator, Global};
 use std::io;
-use std::io::Write;
+use std::io::{ErrorKind, Write};
 use std::process::Abort;
 use std::test::Fail;
 
@@ -78,9 +78,9 @@ fn takes_no_memory(event: &Event<'_>) -> bool {
     )
 }
 
-/// Steps. Where a growth was refused, the step must be refused, and for want of memory it is tried again; where none was, memory is not
-/// wanting. Else it is `NoMemory`, which no row has.
-fn step<A: Allocator + Copy, W: Stepped<A> + Drop>(
+/// Steps. Where a growth was refused, the step must be refused, and for want of memory it is tried again; where none
+/// was, memory is not wanting. Else it is `NoMemory`, which no row has.
+fn step<A: Allocator + Copy, W: Machine<A> + Drop>(
     heap: &FailAt<Global>,
     world: &mut W,
     event: &Event<'_>,
@@ -97,6 +97,11 @@ fn step<A: Allocator + Copy, W: Stepped<A> + Drop>(
     }
 }
 
+/// The error of a text that cannot grow.
+fn no_room(_: OutputRefused) -> io::Error {
+    io::Error::from(ErrorKind::OutOfMemory)
+}
+
 /// The nodes of one side as they are printed.
 pub(super) fn write_nodes(
     out: &mut Vec<u8>,
@@ -107,12 +112,11 @@ pub(super) fn write_nodes(
     for (node, generation, count) in nodes {
         write!(out, " {node}:{generation}:{count}")?;
     }
-    writeln!(out)?;
-    Ok(())
+    writeln!(out)
 }
 
 /// Prints the nodes of both sides. No growth is refused meanwhile.
-fn write_both<A: Allocator + Copy, W: Stepped<A> + Drop>(
+fn write_both<A: Allocator + Copy, W: Machine<A> + Drop>(
     heap: &FailAt<Global>,
     world: &W,
     out: &mut Vec<u8>,
@@ -133,14 +137,14 @@ fn write_both<A: Allocator + Copy, W: Stepped<A> + Drop>(
 fn write_frame(out: &mut Vec<u8>, frame: Option<&[u8]>) -> io::Result<()> {
     if let Some(frame) = frame {
         write!(out, "frame ")?;
-        write_hex(out, frame)?;
+        write_hex(out, frame).map_err(no_room)?;
         writeln!(out)?;
     }
     Ok(())
 }
 
 /// Runs an event, and prints what it came to and what it answered.
-fn write_event<A: Allocator + Copy, W: Stepped<A> + Drop>(
+fn write_event<A: Allocator + Copy, W: Machine<A> + Drop>(
     heap: &FailAt<Global>,
     world: &mut W,
     event: &Event<'_>,
@@ -151,7 +155,7 @@ fn write_event<A: Allocator + Copy, W: Stepped<A> + Drop>(
         Ok(outcome) => Record::Outcome(outcome),
         Err(refusal) => Record::Refused(refusal),
     };
-    write_record(out, &record)?;
+    write_record(out, &record).map_err(no_room)?;
     if hex {
         write_frame(out, world.last_put())?;
     }
@@ -160,13 +164,13 @@ fn write_event<A: Allocator + Copy, W: Stepped<A> + Drop>(
             break;
         };
         let record = Record::Answered { call, answer };
-        write_record(out, &record)?;
+        write_record(out, &record).map_err(no_room)?;
     }
     Ok(())
 }
 
 /// Runs the steps of a row, and prints what they come to.
-fn write_steps<A: Allocator + Copy, W: Stepped<A> + Drop>(
+fn write_steps<A: Allocator + Copy, W: Machine<A> + Drop>(
     heap: &FailAt<Global>,
     world: &mut W,
     steps: &[Option<Event<'_>>],
@@ -183,15 +187,15 @@ fn write_steps<A: Allocator + Copy, W: Stepped<A> + Drop>(
 }
 
 /// What takes events, which is made again where a growth of it was refused.
-fn made_at_last<A: Allocator + Copy, W: Stepped<A> + Drop>(alloc: A) -> Option<W> {
-    match W::made(alloc) {
+fn made_at_last<A: Allocator + Copy, W: Machine<A> + Drop>(alloc: A) -> Option<W> {
+    match W::new(alloc) {
         Some(world) => Some(world),
-        None => W::made(alloc),
+        None => W::new(alloc),
     }
 }
 
 /// Whether the steps of a row print on a new world what they must.
-fn prints_the_row<A: Allocator + Copy, W: Stepped<A> + Drop>(
+fn prints_the_row<A: Allocator + Copy, W: Machine<A> + Drop>(
     alloc: A,
     heap: &FailAt<Global>,
     row: &Row,
@@ -208,7 +212,7 @@ fn prints_the_row<A: Allocator + Copy, W: Stepped<A> + Drop>(
 }
 
 /// Runs the steps of a row with each growth refused in turn.
-fn check_steps<A: Allocator + Copy, W: Stepped<A> + Drop>(
+fn check_steps<A: Allocator + Copy, W: Machine<A> + Drop>(
     rt: &impl Abort,
     alloc: A,
     heap: &FailAt<Global>,
@@ -239,9 +243,9 @@ fn events_of<A: Allocator>(records: &[Record<A>]) -> usize {
     events
 }
 
-/// Runs a list of events. Where a growth of the records was refused, and nowhere else, it ends before an event, with the records of
-/// those before; then it goes on from there.
-fn runs_all<A: Allocator + Copy, W: Stepped<A> + Drop>(
+/// Runs a list of events. Where a growth of the records was refused, and nowhere else, it ends before an event, with
+/// the records of those before; then it goes on from there.
+fn runs_all<A: Allocator + Copy, W: Machine<A> + Drop>(
     heap: &FailAt<Global>,
     world: &mut W,
     events: &[Event<'_>],
@@ -258,13 +262,14 @@ fn runs_all<A: Allocator + Copy, W: Stepped<A> + Drop>(
 /// Prints records.
 fn write_records<A: Allocator>(records: &[Record<A>], out: &mut Vec<u8>) -> io::Result<()> {
     for record in records {
-        write_record(out, record)?;
+        write_record(out, record).map_err(no_room)?;
     }
     Ok(())
 }
 
-/// Whether a run of all events on a new world gives the records that it must. The list of records has a heap of its own.
-fn gives_the_records<A: Allocator + Copy, W: Stepped<A> + Drop>(
+/// Whether a run of all events on a new world gives the records that it must. The list of records has a heap of its
+/// own.
+fn gives_the_records<A: Allocator + Copy, W: Machine<A> + Drop>(
     alloc: A,
     of_records: A,
     heap: &FailAt<Global>,
@@ -274,7 +279,7 @@ fn gives_the_records<A: Allocator + Copy, W: Stepped<A> + Drop>(
 ) -> bool {
     out.clear();
     let mut records = Vec::new(of_records);
-    let Some(mut world) = W::made(alloc) else {
+    let Some(mut world) = W::new(alloc) else {
         return false;
     };
     let is_run = runs_all(heap, &mut world, events, &mut records);
@@ -283,7 +288,7 @@ fn gives_the_records<A: Allocator + Copy, W: Stepped<A> + Drop>(
 }
 
 /// Runs all events of a row with each growth of the list of records refused in turn.
-fn check_run<A: Allocator + Copy, W: Stepped<A> + Drop>(
+fn check_run<A: Allocator + Copy, W: Machine<A> + Drop>(
     rt: &impl Abort,
     alloc: A,
     of_records: A,
@@ -335,7 +340,7 @@ fn lines_of_records(alloc: Global, output: &str) -> Result<Vec<u8>, AllocError> 
 }
 
 /// Each growth of the events of a row, refused in turn.
-fn check_row<A: Allocator + Copy, W: Stepped<A> + Drop>(
+fn check_row<A: Allocator + Copy, W: Machine<A> + Drop>(
     rt: &impl Abort,
     alloc: A,
     heap: &FailAt<Global>,
@@ -349,7 +354,7 @@ fn check_row<A: Allocator + Copy, W: Stepped<A> + Drop>(
 }
 
 /// Each growth of the records of a row, refused in turn.
-fn check_records<A: Allocator + Copy, W: Stepped<A> + Drop>(
+fn check_records<A: Allocator + Copy, W: Machine<A> + Drop>(
     rt: &impl Abort,
     alloc: A,
     of_records: A,
@@ -369,7 +374,7 @@ fn check_records<A: Allocator + Copy, W: Stepped<A> + Drop>(
 }
 
 /// Both of each row. What runs and the list of records have a heap each.
-fn check_rows<A: Allocator + Copy, W: Stepped<A> + Drop>(
+fn check_rows<A: Allocator + Copy, W: Machine<A> + Drop>(
     rt: &impl Abort,
     alloc: A,
     of_records: A,
@@ -396,8 +401,8 @@ struct Refused<'a, A: Allocator + Copy, R: Abort> {
     rows: &'static [Row],
 }
 
-impl<A: Allocator + Copy, R: Abort> Visits<A> for Refused<'_, A, R> {
-    fn visit<W: Stepped<A> + Drop>(&mut self, alloc: A) -> Result<(), AllocError> {
+impl<A: Allocator + Copy, R: Abort> MachineTest<A> for Refused<'_, A, R> {
+    fn try_on<W: Machine<A> + Drop>(&mut self, alloc: A) -> Result<(), AllocError> {
         check_rows::<A, W>(
             self.rt,
             alloc,
@@ -415,7 +420,7 @@ fn each_growth_of_each_row_refused(rt: HostRuntime) -> Result<(), Fail> {
     let heap = FailAt::new(rt.alloc());
     let of_records = FailAt::new(rt.alloc());
     for rows in lists() {
-        visit_worlds(
+        try_on_world(
             &mut Refused {
                 rt: &rt,
                 of_records: &of_records,
@@ -435,7 +440,7 @@ fn each_growth_of_each_row_over_lists_refused(rt: HostRuntime) -> Result<(), Fai
     let heap = FailAt::new(rt.alloc());
     let of_records = FailAt::new(rt.alloc());
     for rows in lists() {
-        visit_list_worlds(
+        try_on_list_world(
             &mut Refused {
                 rt: &rt,
                 of_records: &of_records,
@@ -455,7 +460,7 @@ fn each_growth_of_each_row_over_a_link_refused(rt: HostRuntime) -> Result<(), Fa
     let heap = FailAt::new(rt.alloc());
     let of_records = FailAt::new(rt.alloc());
     for rows in lists() {
-        visit_sessions(
+        try_on_session(
             &mut Refused {
                 rt: &rt,
                 of_records: &of_records,

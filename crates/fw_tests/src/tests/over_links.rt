@@ -66,8 +66,8 @@ fn is_after_loss(lines: &str) -> bool {
     true
 }
 
-/// Whether what is printed is a beginning of what a row prints, then the lost link, and then what comes after that. Each
-/// event has its line.
+/// Whether what is printed is a beginning of what a row prints, then the lost link, and then what comes after that.
+/// Each event has its line.
 fn is_cut_off(row: &Row, printed: &str) -> bool {
     match printed.split_once("link lost\n") {
         Some((before, after)) => row.output.starts_with(before) && is_after_loss(after),

@@ -130,8 +130,8 @@ fn each_growth_refused_in_a_script(rt: HostRuntime) -> Result<(), Fail> {
     Ok(())
 }
 
-/// The status with which a script ends whose third line is bad: 1 where that line is reported, 3 where want of memory is,
-/// and nothing else is written.
+/// The status with which a script ends whose third line is bad: 1 where that line is reported, 3 where want of memory
+/// is, and nothing else is written.
 fn status_of_a_bad_script<A: Allocator + Copy>(alloc: A, outer: Global) -> Option<u8> {
     let mut input = b"mount 1000 0\nread p 0\nreed p 0\n".as_slice();
     let mut out = Vec::new(outer);
@@ -149,8 +149,8 @@ fn status_of_a_bad_script<A: Allocator + Copy>(alloc: A, outer: Global) -> Optio
     }
 }
 
-/// A bad line is reported though the list of the lines before it cannot grow; only where the script's text cannot be kept
-/// is memory wanting.
+/// A bad line is reported though the list of the lines before it cannot grow; only where the script's text cannot be
+/// kept is memory wanting.
 #[test]
 fn bad_line_comes_before_want_of_memory(rt: HostRuntime) -> Result<(), Fail> {
     let heap = FailAt::new(rt.alloc());

@@ -1,6 +1,7 @@
 //! Whole lists of events over a link.
 
-ghost use Rattle.std.specs.Prelude.{◌≡◌, ◌+◌, ◌*◌, ◌<◌, ◌≤◌, ◌++◌, ◌∷◌, [], false, if◌then◌else◌, List, IsTrue, IfErr, OnErr, length, map};
+ghost use Rattle.std.specs.Prelude.{◌≡◌, ◌+◌, ◌*◌, ◌<◌, ◌≤◌, ◌++◌, ◌∷◌, [], false};
+ghost use Rattle.std.specs.Prelude.{if◌then◌else◌, List, IsTrue, IfErr, OnErr, length, map};
 ghost use Rattle.std.specs.Vec.{vec_len, vec_capacity};
 ghost use Rattle.fw_world.specs.OverLinks.{RecordedOver, RunsOver, session_of};
 ghost use Rattle.fw_world.specs.Runs.{calls_not_over, events_run};

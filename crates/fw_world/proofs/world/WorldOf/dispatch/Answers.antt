@@ -1,7 +1,7 @@
 use Rattle.fuse_spec.specs.World.Events as event
 use Rattle.fw_world.proofs.Parts.{world_of}
 use Rattle.fw_world.proofs.Refusing.{refused_with}
-use Rattle.fw_world.proofs.world.WorldOf.happen.Goals as goal
+use Rattle.fw_world.proofs.world.WorldOf.dispatch.Goals as goal
 
 pub returns-in-Tick-clause-refusal : goal.returns-in-Tick-clause-refusal
 returns-in-Tick-clause-refusal g c = rw (c.in-Tick.is, ← c.self.view_is)

@@ -2,7 +2,7 @@ use Rattle.std.proofs.Common.{take}
 use Rattle.std.specs.Prelude.{flat_map}
 use Rattle.std.specs.Io.KnownBytes.{Appends}
 use Rattle.fw_script.specs.Records.{record_text}
-use Rattle.fw_script.proofs.records.are_answers_written.Given as goal
+use Rattle.fw_script.proofs.records.write_answers.Given as goal
 
 abbrev pub invariant-loop-answer : goal.invariant-loop-answer
 invariant-loop-answer g l =

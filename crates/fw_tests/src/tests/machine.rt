@@ -6,10 +6,10 @@ use fw_world::{
 };
 use std::alloc::{AllocError, Allocator};
 
-/// What takes events. Tests of events are generic over it: only here a method is called of a world or of a session, each of which costs
-/// more to check than what the tests do with it.
-pub(super) trait Stepped<A: Allocator + Copy>: Sized {
-    fn made(alloc: A) -> Option<Self>;
+/// What takes events: a world or a session. Tests of events are generic over it: only here a method is called of a
+/// world or of a session, each of which costs more to check than what the tests do with it.
+pub(super) trait Machine<A: Allocator + Copy>: Sized {
+    fn new(alloc: A) -> Option<Self>;
 
     fn step(&mut self, event: &Event<'_>) -> Result<Outcome, Refusal>;
 
@@ -26,8 +26,8 @@ pub(super) trait Stepped<A: Allocator + Copy>: Sized {
     fn server_nodes(&self) -> Result<Vec<(u64, u64, u64), A>, Refusal>;
 }
 
-impl<T: Tables> Stepped<T::Heap> for WorldOf<T> {
-    fn made(alloc: T::Heap) -> Option<WorldOf<T>> {
+impl<T: Tables> Machine<T::Heap> for WorldOf<T> {
+    fn new(alloc: T::Heap) -> Option<WorldOf<T>> {
         WorldOf::new(alloc).ok()
     }
 
@@ -64,8 +64,8 @@ impl<T: Tables> Stepped<T::Heap> for WorldOf<T> {
     }
 }
 
-impl<A: Allocator + Copy> Stepped<A> for Session<MemoryLink<A>, A> {
-    fn made(alloc: A) -> Option<Session<MemoryLink<A>, A>> {
+impl<A: Allocator + Copy> Machine<A> for Session<MemoryLink<A>, A> {
+    fn new(alloc: A) -> Option<Session<MemoryLink<A>, A>> {
         let link = MemoryLink::new(alloc).ok()?;
         Session::new(alloc, link).ok()
     }
@@ -99,32 +99,32 @@ impl<A: Allocator + Copy> Stepped<A> for Session<MemoryLink<A>, A> {
     }
 }
 
-/// What is done with new ones of one type.
-pub(super) trait Visits<A: Allocator + Copy> {
-    fn visit<W: Stepped<A> + Drop>(&mut self, alloc: A) -> Result<(), AllocError>;
+/// What is tried on a new machine of one type.
+pub(super) trait MachineTest<A: Allocator + Copy> {
+    fn try_on<W: Machine<A> + Drop>(&mut self, alloc: A) -> Result<(), AllocError>;
 }
 
-/// Of worlds over maps and slabs. Here alone their type is named, as in the next two: each function that names one costs some fifteen
-/// seconds to check.
-pub(super) fn visit_worlds<A: Allocator + Copy, V: Visits<A>>(
-    visits: &mut V,
+/// On a world over maps and slabs. Here alone its type is named, as in the next two: each function that names one costs
+/// some fifteen seconds to check.
+pub(super) fn try_on_world<A: Allocator + Copy, T: MachineTest<A>>(
+    test: &mut T,
     alloc: A,
 ) -> Result<(), AllocError> {
-    visits.visit::<WorldIn<A>>(alloc)
+    test.try_on::<WorldIn<A>>(alloc)
 }
 
-/// Of worlds over plain lists.
-pub(super) fn visit_list_worlds<A: Allocator + Copy, V: Visits<A>>(
-    visits: &mut V,
+/// On a world over plain lists.
+pub(super) fn try_on_list_world<A: Allocator + Copy, T: MachineTest<A>>(
+    test: &mut T,
     alloc: A,
 ) -> Result<(), AllocError> {
-    visits.visit::<ListWorldIn<A>>(alloc)
+    test.try_on::<ListWorldIn<A>>(alloc)
 }
 
-/// Of sessions over a link in memory.
-pub(super) fn visit_sessions<A: Allocator + Copy, V: Visits<A>>(
-    visits: &mut V,
+/// On a session over a link in memory.
+pub(super) fn try_on_session<A: Allocator + Copy, T: MachineTest<A>>(
+    test: &mut T,
     alloc: A,
 ) -> Result<(), AllocError> {
-    visits.visit::<Session<MemoryLink<A>, A>>(alloc)
+    test.try_on::<Session<MemoryLink<A>, A>>(alloc)
 }
