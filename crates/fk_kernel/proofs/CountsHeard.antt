@@ -1,10 +1,9 @@
 -- The counted nodes after a reply to the request of a call.
-use Rattle.std.proofs.Common.{◌≡◌, ℕ, ◌≤◌, ◌<◌, ◌%◌, Bool, true, false, true≢false, List, [], ◌∷◌, length, Option, Some, None, T, nat_eq, refl, ap, sym, subst, ◌∙◌, arith}
-use Rattle.std.specs.Prelude.{nat_le, sum_by}
+use Rattle.std.proofs.Common.{◌≡◌, ℕ, ◌≤◌, ◌<◌, ◌%◌, Bool, true, false, List, [], ◌∷◌, Option, Some, None, T, nat_eq, refl, ap, sym, subst, ◌∙◌, arith}
+use Rattle.std.specs.Prelude.{nat_le}
 use Rattle.std.specs.FinMap.{is_sorted}
 use Rattle.std.specs.Ordering.{nat_cmp}
 use Rattle.std.proofs.lemmas.Bool.Decides.{nat_tests}
-use Rattle.std.proofs.lemmas.List.Sums.{sum_by-cons}
 use Rattle.fuse_spec.specs.declared.Counted.{Counted}
 use Rattle.fuse_spec.specs.declared.Entry.{Entry}
 use Rattle.fuse_spec.specs.declared.Opened.{Opened}
@@ -14,24 +13,18 @@ use Rattle.fuse_spec.specs.Calls.Answers as answer
 use Rattle.fuse_spec.specs.Kernel.Kernel.{Kernel, asking_for, after_use, released}
 use Rattle.fuse_spec.specs.Values.Maps.{Map, get}
 use Rattle.fuse_spec.specs.Kernel.Messages.{WireReply}
-use Rattle.fuse_spec.specs.Values.Numbers.{counter_end, max_transfer}
+use Rattle.fuse_spec.specs.Values.Numbers.{counter_end}
 use Rattle.fuse_spec.specs.Files.Operations as reply
 use Rattle.fuse_spec.specs.Files.Operations.{Operation, DirentPlus, files_in_reply, files_listed}
 use Rattle.fuse_spec.specs.Kernel.QueueCalls.{waiting, without}
 use Rattle.fuse_spec.specs.Kernel.Replies.{Use, usable, useless, stale, first_use, use_of, counted_more, looked_up, judged, reply_received, goes_with, reply_judged, use_of_reply, without_stale, reply_written}
-use Rattle.fuse_spec.specs.Files.Trees.{pair_length}
 use Rattle.fuse_spec.specs.Calls.Vfs.{CallState, walking, doing, using, asked}
 use Rattle.fuse_spec.proofs.Tables.{get_put_here}
-use Rattle.fk_syscalls.specs.Values.{AsksWhole}
-use Rattle.std.specs.Borrow.{Bor}
-use Rattle.fuse_spec.specs.Files.Operations.{operation_of}
-use Rattle.fuse_spec.specs.Files.Operations.{Asked}
-use Rattle.fuse_spec.specs.declared.operation.Operation.TheVariants as asks
 use Rattle.fuse_spec.specs.Kernel.Refusals.{is_counted_out}
 use Rattle.fk_nodes.specs.LookedUp.{looked_up_from, AreBelow, SomeOut}
 use Rattle.fk_nodes.proofs.Judged.{looked_up_is}
 use Rattle.fk_nodes.proofs.Outs.{out_below, some_out, none_out, one_below, sorted_from}
-use Rattle.fk_kernel.specs.Entries.{Awaits, IsFew, looked_up_by_all, nodes_heard}
+use Rattle.fk_kernel.specs.Entries.{Awaits, looked_up_by_all, nodes_heard}
 use Rattle.fk_kernel.proofs.Replied.{goes_is, wrong_is, ended}
 
 -- ---- what leaves the counts as they are
@@ -122,28 +115,3 @@ pairs_out nodes pairs sorted true out within =
 pairs_out nodes pairs sorted false out within = sym
     (ap is_counted_out (looked_up_is nodes pairs) ∙ none_out (looked_up_from nodes pairs) (sorted_from pairs nodes sorted)
     (within refl))
-
--- ---- a list with files has few names
-
-few_long : (pairs : List (DirentPlus Entry)) → length pairs ≤ sum_by pair_length pairs
-few_long [] = omega arith
-few_long (pair ∷ pairs) =
-    let rest = few_long pairs in
-    let sum = sum_by-cons pair_length pair pairs in
-    omega (arith, rest, sum)
-
-few_within : (pairs : List (DirentPlus Entry)) (size : ℕ) → size ≡ max_transfer
-    → nat_le (sum_by pair_length pairs) size ≡ true → length pairs < counter_end
-few_within pairs size is goes =
-    let long = few_long pairs in
-    let most : sum_by pair_length pairs ≤ size = at_most (sum_by pair_length pairs) size goes in
-    omega (arith, long, most, is)
-  where
-    at_most : (m n : ℕ) → nat_le m n ≡ true → m ≤ n
-    at_most m n is = grind (arith, nat_tests)
-
-pub said_few : (a : Asked (Bor (List ℕ))) → AsksWhole a → (wire : WireReply)
-    → goes_with (operation_of (λ s. s.now) a) wire ≡ true → IsFew wire
-said_few (asks.Readdirplus directory after size) whole (reply.listed_plus pairs) goes = few_within pairs size whole goes
-said_few a whole (reply.listed_plus pairs) goes = absurd (true≢false (sym goes))
-said_few a whole wire goes = tt

@@ -5,7 +5,7 @@ use Rattle.std.specs.Ordering.{nat_cmp, is_eq}
 use Rattle.std.proofs.lemmas.Bool.{cases_eq}
 use Rattle.fuse_spec.specs.Values.Maps.{Map, get, put, remove}
 use Rattle.fuse_spec.proofs.Tables.{cmp_same, get_put_there, get_gone_here}
-use Rattle.fk_kernel.specs.Soundness.{IsSound}
+use Rattle.fk_kernel.specs.Soundness.{AreSoundCalls}
 pub use Rattle.fk_nodes.proofs.Lengths.{length_put, length_kept, gone_none, length_gone, gone_absent}
 
 module _ {V : Type 0} where
@@ -35,9 +35,9 @@ module _ {V : Type 0} where
   none_is (Some v) e = absurd (true≢false e)
 
 module _ {V W : Type 0} (calls : Map V) (answers : Map W) (free coming : ℕ)
-    (old : IsSound calls answers free coming) where
+    (old : AreSoundCalls calls answers free coming) where
   pub sound_begun_answered : (w : W) (free' : ℕ) → coming < 2 ^ 62 → length calls ≤ free'
-      → IsSound calls (put answers coming w) free' (coming + 1)
+      → AreSoundCalls calls (put answers coming w) free' (coming + 1)
   sound_begun_answered w free' low room =
       record {
         calls_below = λ n le. old.calls_below n (omega arith);
@@ -50,7 +50,7 @@ module _ {V W : Type 0} (calls : Map V) (answers : Map W) (free coming : ℕ)
       }
 
   pub sound_begun_asking : (v : V) (free' : ℕ) → coming < 2 ^ 62 → length calls + 1 ≤ free'
-      → IsSound (put calls coming v) answers free' (coming + 1)
+      → AreSoundCalls (put calls coming v) answers free' (coming + 1)
   sound_begun_asking v free' low room =
       let long = length_put calls coming v in
       record {
@@ -67,7 +67,7 @@ module _ {V W : Type 0} (calls : Map V) (answers : Map W) (free coming : ℕ)
       }
 
   pub sound_answered : (call : ℕ) (w : W) (free' : ℕ) → get calls call ≢ None → free ≤ free' + 1
-      → IsSound (remove calls call) (put answers call w) free' coming
+      → AreSoundCalls (remove calls call) (put answers call w) free' coming
   sound_answered call w free' there room =
       let short = length_gone calls call there in
       let fits = old.room in
@@ -88,7 +88,7 @@ module _ {V W : Type 0} (calls : Map V) (answers : Map W) (free coming : ℕ)
 
   -- a call that is there waits for something else
   pub sound_walks : (call : ℕ) (v : V) → get calls call ≢ None → length (put calls call v) ≡ length calls
-      → IsSound (put calls call v) answers free coming
+      → AreSoundCalls (put calls call v) answers free coming
   sound_walks call v there same =
       let fits = old.room in
       record {
@@ -105,7 +105,7 @@ module _ {V W : Type 0} (calls : Map V) (answers : Map W) (free coming : ℕ)
         next = old.next;
       }
 
-  pub sound_collected : (call : ℕ) (free' : ℕ) → free ≤ free' → IsSound calls (remove answers call) free' coming
+  pub sound_collected : (call : ℕ) (free' : ℕ) → free ≤ free' → AreSoundCalls calls (remove answers call) free' coming
   sound_collected call free' room =
       let fits = old.room in
       record {

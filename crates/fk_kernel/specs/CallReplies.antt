@@ -9,7 +9,7 @@ use Rattle.fuse_spec.specs.declared.Opened.{Opened}
 use Rattle.fuse_frames.specs.RequestTies.{asked_opcode}
 use Rattle.fuse_spec.specs.Kernel.Refusals.{is_counted_out, is_past_end}
 use Rattle.fuse_frames.specs.ReplySaid.{LentReply, wire_of, LastsADay}
-use Rattle.fk_kernel.specs.Entries.{Awaits, IsFew, nodes_heard}
+use Rattle.fk_kernel.specs.Entries.{Awaits, nodes_heard}
 use Rattle.fk_kernel.specs.AwaitedReplies.{Says}
 
 -- The bytes say this to the call, it goes with what the call asked, and it exhausts no counter.
@@ -18,7 +18,6 @@ pub record IsCallReply (k : Kernel) (unique call : ℕ) (operation : Operation �
   pub says : Says (asked_opcode (asks operation)) bytes (wire_of said)
   pub awaits : Awaits (get k.vfs.calls call) (wire_of said)
   pub day : LastsADay said
-  pub few : IsFew (wire_of said)
   pub within : is_past_end (reply_written k unique (wire_of said)).1 ≡ false
   pub counts : is_counted_out (nodes_heard k.nodes (wire_of said)) ≡ false
 

@@ -1,5 +1,5 @@
 -- What replies are to the calls that asked for them.
-use Rattle.std.specs.Prelude.{◌≡◌, ◌<◌, ℕ, List, length, Option, Some, None, true, false, is_some}
+use Rattle.std.specs.Prelude.{◌≡◌, ◌<◌, ℕ, List, Option, Some, None, true, false, is_some}
 use Rattle.std.specs.List.{list_any}
 use Rattle.fuse_spec.specs.declared.Opened.{Opened}
 use Rattle.fuse_spec.specs.Kernel.Kernel.{Kernel, is_using}
@@ -11,7 +11,6 @@ use Rattle.fuse_spec.specs.Calls.Paths.{Name}
 use Rattle.fuse_spec.specs.Kernel.Replies.{Use, usable, useless, stale, goes_with, looked_up, reply_judged, use_of_reply}
 use Rattle.fuse_spec.specs.declared.Counted.{Counted}
 use Rattle.fuse_spec.specs.declared.Entry.{Entry}
-use Rattle.fuse_spec.specs.Values.Numbers.{counter_end}
 use Rattle.fuse_spec.specs.Kernel.Uniques.{numbers_left_from}
 use Rattle.fuse_spec.specs.Calls.Vfs.{CallState, walking, doing, using}
 use Rattle.fuse_spec.specs.Calls.Walks.{WalkPlan}
@@ -85,11 +84,6 @@ pub record ListsPlus (standing : Option (CallState Opened)) : Type 0 where
   pub after : ℕ
   pub size : ℕ
   pub is : standing ≡ Some (doing (readdirplus directory after size))
-
--- A list with files has few names.
-abbrev pub IsFew : WireReply → Type 0
-IsFew (reply.listed_plus pairs) = length pairs < counter_end
-IsFew wire = Unit {0}
 
 -- The counts after the entries of a reply that are judged so.
 abbrev pub looked_up_by_all : Map Counted → List Entry → Use → Map Counted

@@ -16,7 +16,7 @@ use Rattle.fk_queues.specs.Room.{Room}
 
 -- No call of the next number or a later one is there, none is both unanswered and answered, and there is room to answer
 -- all.
-pub record IsSound {V W : Type 0} (calls : Map V) (answers : Map W) (free coming : ℕ) : Type 0 where
+pub record AreSoundCalls {V W : Type 0} (calls : Map V) (answers : Map W) (free coming : ℕ) : Type 0 where
   pub calls_below : (n : ℕ) → coming ≤ n → get calls n ≡ None
   pub answers_below : (n : ℕ) → coming ≤ n → get answers n ≡ None
   pub apart : (n : ℕ) → get calls n ≢ None → get answers n ≡ None
@@ -41,7 +41,7 @@ pub record AreCounted (nodes : Map Counted) (forgets : ℕ) : Type 0 where
 pub record IsSoundKernel {W : Type 0} (phase : Phase) (calls : Map (CallState Opened)) (answers : Map W)
     (free coming : ℕ) (opens closing : Map Opened) (queues : QueueState Purpose) (space : Room) (known : Map Counted)
     (clock : ℕ) : Type 0 where
-  pub numbers : IsSound calls answers free coming
+  pub numbers : AreSoundCalls calls answers free coming
   -- where no mount is live there is no call
   pub idle : is_live phase ≡ false → calls ≡ []
   pub sorted : T (is_sorted nat_cmp calls)

@@ -52,8 +52,9 @@ impl<Q: QueueTable<Purpose> + Drop, C: CountTable<Heap = Q::Heap> + Drop> Kernel
     pub fn collect(&mut self) -> Option<(u64, Answer<Q::Heap>)>
         ensures answer { option_map (λ r. (r.0, answer_of r.1)) result ≡ slice_get self.old.vfs.answers 0 }
         ensures none { IfNone result (self.new ≡ self.old) }
-        ensures taken { IfSome result
-            (λ r. self.new ≡ record self.old { vfs = record self.old.vfs { answers = remove self.old.vfs.answers r.0 } }) }
+        ensures taken { IfSome result (λ r. self.new ≡ record self.old {
+          vfs = record self.old.vfs { answers = remove self.old.vfs.answers r.0 };
+        }) }
     {
         let Some(call) = self.answers.first_key() else {
             return None;

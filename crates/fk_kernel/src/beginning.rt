@@ -12,6 +12,7 @@ ghost use Rattle.fuse_spec.specs.Kernel.QueueCalls.{after_enqueue};
 ghost use Rattle.fuse_spec.specs.Values.Numbers.{counter_end};
 
 use crate::kernel::KernelOf;
+use crate::queue_room::reserve_request;
 use fk_calls::{StoredAnswer, is_full};
 use fk_lookup_count::CountTable;
 use fk_queues::QueueTable;
@@ -146,12 +147,7 @@ impl<Q: QueueTable<Purpose> + Drop, C: CountTable<Heap = Q::Heap> + Drop> Kernel
         let Ok(()) = self.calls.reserve(1) else {
             return Err(Refusal::NoMemory);
         };
-        let Some(requests) = self.closing.len().checked_add(1) else {
-            return Err(Refusal::NoMemory);
-        };
-        let Ok(()) = self.queues.reserve(requests, 0) else {
-            return Err(Refusal::NoMemory);
-        };
+        reserve_request(&mut self.queues, &self.closing)?;
         let call = self.next_call;
         let _unique = self.queues.enqueue(Purpose::Call(call));
         self.calls.put(call, state);

@@ -1,6 +1,6 @@
 //! How replies are taken that name a file: to a LOOKUP, MKDIR, LINK, CREATE or OPEN.
 
-ghost use Rattle.std.specs.Prelude.{◌≡◌, ◌≢◌, ◌<◌, ◌^◌, ◌+◌, [], ◌∷◌, ◌≤◌, ◌%◌, ℕ, List, Some, None, Ok, OnOk, OnErr, IfOk, IfErr, true, false, is_some, nat_eq};
+ghost use Rattle.std.specs.Prelude.{◌≡◌, ◌≢◌, ◌<◌, ◌^◌, ◌+◌, [], ◌∷◌, ◌≤◌, ◌%◌, ℕ, length, List, Some, None, Ok, OnOk, OnErr, IfOk, IfErr, true, false, is_some, nat_eq};
 ghost use Rattle.fuse_spec.specs.Calls.Answers.{failed};
 ghost use Rattle.fuse_spec.specs.Values.Maps.{get, remove};
 ghost use Rattle.fuse_spec.specs.Calls.Vfs.{CallState as State, walking, doing, asked, answered, bound};
@@ -17,8 +17,10 @@ ghost use Rattle.std.specs.Option.{ForSome};
 ghost use Rattle.fuse_spec.specs.Values.Maps.{Place, put_name};
 ghost use Rattle.fk_kernel.specs.Entries.{place_of, Awaits, LooksUp, Makes, Creates, Opens, nodes_heard};
 ghost use Rattle.fk_nodes.specs.Uses.{use_meant};
+ghost use Rattle.fk_queues.specs.Room.{KeepsRoom};
 
 use crate::kernel::KernelOf;
+use crate::queue_room::{reserve_forgets, reserve_request};
 use fk_calls::{StoredAnswer, bind_missing};
 use fk_dentry::Bindings;
 use fk_lookup_count::CountTable;
@@ -28,23 +30,32 @@ use fk_syscalls::{Answer, CallState, Next};
 use fuse_spec::errno::{EIO, ENOENT};
 use fuse_spec::{Entry, Opened, Operation, Purpose, Refusal, WriteResult};
 use fuse_tables::Table;
-use std::alloc::{AllocError, Allocator};
+use std::alloc::Allocator;
 
-/// The word or name that a call asks for leads to the node of an entry until a time, and one lookup more of the node is
-/// counted.
+/// The name that a call looks up or makes leads to the node of an entry until a time. One lookup more of the node is
+/// counted, and its forget has room.
+///
+/// # Errors
+///
+/// `NoMemory`. Only room was made.
 #[inline(always)]
-fn bind_entry<A: Allocator + Copy, C: CountTable>(
-    calls: &Table<CallState<A>, A>,
-    names: &mut Bindings<A>,
+fn bind_entry<Q: QueueTable<Purpose>, C: CountTable>(
+    calls: &Table<CallState<Q::Heap>, Q::Heap>,
+    queues: &mut Q,
+    names: &mut Bindings<Q::Heap>,
     nodes: &mut CountedNodes<C>,
     call: u64,
     entry: &Entry,
     until: u64,
-) -> Result<(), AllocError>
+) -> Result<(), Refusal>
     requires alike { ForSome (get nodes.old entry.now.nodeid) (λ counted. counted.generation ≡ entry.now.generation) }
     requires fits { ForSome (get nodes.old entry.now.nodeid) (λ counted. counted.count + 1 < 2 ^ 64) }
     requires names_one { (state : State OpenedFile) × (place : Place) × (get calls.now.entries call ≡ Some state)
         × (place_of (asked state) ≡ Some place) }
+    ensures state { Q.state queues.new ≡ Q.state queues.old }
+    ensures kept { KeepsRoom (Q.room queues.old) (Q.room queues.new) }
+    ensures room { OnOk result (length nodes.old + 1 ≤ (Q.room queues.new).forgets) }
+    ensures refusal { IfErr result (λ refusal. refusal ≡ Refusal.NoMemory) }
     ensures err_names { OnErr result (names.new.names ≡ names.old.names) }
     ensures err_nodes { OnErr result (nodes.new ≡ nodes.old) }
     ensures names { OnOk result ((state : State OpenedFile) (place : Place) → get calls.now.entries call ≡ Some state
@@ -52,6 +63,7 @@ fn bind_entry<A: Allocator + Copy, C: CountTable>(
         ≡ put_name names.old.names place (record { target = Some entry.now.nodeid; until = until })) }
     ensures nodes { OnOk result (nodes.new ≡ looked_up nodes.old (entry.now ∷ [])) }
 {
+    reserve_forgets(queues, nodes, 1)?;
     let Some(waiting) = calls.get(call) else {
         return Ok(());
     };
@@ -66,8 +78,12 @@ fn bind_entry<A: Allocator + Copy, C: CountTable>(
     else {
         return Ok(());
     };
-    names.reserve(directory, name)?;
-    nodes.count_lookup(entry)?;
+    let Ok(()) = names.reserve(directory, name) else {
+        return Err(Refusal::NoMemory);
+    };
+    let Ok(()) = nodes.count_lookup(entry) else {
+        return Err(Refusal::NoMemory);
+    };
     names.put(directory, name, Some(entry.nodeid), until);
     Ok(())
 }
@@ -109,7 +125,7 @@ impl<Q: QueueTable<Purpose> + Drop, C: CountTable<Heap = Q::Heap> + Drop> Kernel
                     self.name_is_made(unique, call, entry, valid_ms)
                 }
             }
-            EntryUse::Useless => {
+            EntryUse::InvalidNodeid => {
                 self.answer_call(unique, call, Answer::Failed { errno: EIO });
                 Ok(())
             }
@@ -138,7 +154,7 @@ impl<Q: QueueTable<Purpose> + Drop, C: CountTable<Heap = Q::Heap> + Drop> Kernel
     {
         match self.use_of(entry) {
             EntryUse::Usable => self.file_is_made(unique, call, entry, valid_ms, fh),
-            EntryUse::Useless => {
+            EntryUse::InvalidNodeid => {
                 self.answer_call(unique, call, Answer::Failed { errno: EIO });
                 Ok(())
             }
@@ -187,10 +203,7 @@ impl<Q: QueueTable<Purpose> + Drop, C: CountTable<Heap = Q::Heap> + Drop> Kernel
         ensures refusal { IfErr result (λ refusal. refusal ≡ Refusal.NoMemory) }
         ensures ok { OnOk result (self.new ≡ record self.old { queues = after_forget self.old.queues node 1 }) }
     {
-        let forgets = self.nodes.node_count() + 1;
-        let Ok(()) = self.queues.reserve(0, forgets) else {
-            return Err(Refusal::NoMemory);
-        };
+        reserve_forgets(&mut self.queues, &self.nodes, 1)?;
         self.queues.forget(node, 1);
         Ok(())
     }
@@ -216,18 +229,10 @@ impl<Q: QueueTable<Purpose> + Drop, C: CountTable<Heap = Q::Heap> + Drop> Kernel
         ensures ok { OnOk result (reply_written self.old unique (reply.found entry.now valid_ms)
             ≡ (WriteResult.Accepted, self.new)) }
     {
-        let forgets = self.nodes.node_count() + 1;
-        let Some(requests) = self.closing.len().checked_add(1) else {
-            return Err(Refusal::NoMemory);
-        };
-        let Ok(()) = self.queues.reserve(requests, forgets) else {
-            return Err(Refusal::NoMemory);
-        };
+        reserve_request(&mut self.queues, &self.closing)?;
         let until = self.clock.saturating_add(valid_ms);
-        let (names, nodes) = (&mut self.names, &mut self.nodes);
-        let Ok(()) = bind_entry(&self.calls, names, nodes, call, entry, until) else {
-            return Err(Refusal::NoMemory);
-        };
+        let (queues, names, nodes) = (&mut self.queues, &mut self.names, &mut self.nodes);
+        bind_entry(&self.calls, queues, names, nodes, call, entry, until)?;
         let _kept = self.queues.answer(unique);
         let Some(state) = self.calls.remove(call) else {
             return Ok(());
@@ -265,17 +270,10 @@ impl<Q: QueueTable<Purpose> + Drop, C: CountTable<Heap = Q::Heap> + Drop> Kernel
         ensures ok { OnOk result (reply_written self.old unique (reply.found entry.now valid_ms)
             ≡ (WriteResult.Accepted, self.new)) }
     {
-        let forgets = self.nodes.node_count() + 1;
-        let Ok(()) = self.queues.reserve(0, forgets) else {
-            return Err(Refusal::NoMemory);
-        };
         let until = self.clock.saturating_add(valid_ms);
-        let (names, nodes) = (&mut self.names, &mut self.nodes);
-        let Ok(()) = bind_entry(&self.calls, names, nodes, call, entry, until) else {
-            return Err(Refusal::NoMemory);
-        };
-        let _kept = self.queues.answer(unique);
-        self.finish(call, Answer::Done);
+        let (queues, names, nodes) = (&mut self.queues, &mut self.names, &mut self.nodes);
+        bind_entry(&self.calls, queues, names, nodes, call, entry, until)?;
+        self.answer_call(unique, call, Answer::Done);
         Ok(())
     }
 
@@ -300,18 +298,12 @@ impl<Q: QueueTable<Purpose> + Drop, C: CountTable<Heap = Q::Heap> + Drop> Kernel
         ensures ok { OnOk result (reply_written self.old unique (reply.created entry.now valid_ms fh)
             ≡ (WriteResult.Accepted, self.new)) }
     {
-        let forgets = self.nodes.node_count() + 1;
-        let Ok(()) = self.queues.reserve(0, forgets) else {
-            return Err(Refusal::NoMemory);
-        };
         let Ok(()) = self.opens.reserve(1) else {
             return Err(Refusal::NoMemory);
         };
         let until = self.clock.saturating_add(valid_ms);
-        let (names, nodes) = (&mut self.names, &mut self.nodes);
-        let Ok(()) = bind_entry(&self.calls, names, nodes, call, entry, until) else {
-            return Err(Refusal::NoMemory);
-        };
+        let (queues, names, nodes) = (&mut self.queues, &mut self.names, &mut self.nodes);
+        bind_entry(&self.calls, queues, names, nodes, call, entry, until)?;
         let nodeid = entry.nodeid;
         let _kept = self.queues.answer(unique);
         let _state = self.calls.remove(call);

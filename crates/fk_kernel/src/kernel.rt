@@ -76,7 +76,8 @@ impl<Q: QueueTable<Purpose>, C: CountTable<Heap = Q::Heap>> Model for KernelOf<Q
       lists_files = k.lists_files;
     } };
 
-    ghost invariant = { λ k. IsSoundKernel k.phase k.calls.entries k.answers.entries k.answers.room k.next_call k.opens.entries k.closing.entries (Q.state k.queues) (Q.room k.queues) k.nodes k.clock };
+    ghost invariant = { λ k. IsSoundKernel k.phase k.calls.entries k.answers.entries k.answers.room k.next_call
+        k.opens.entries k.closing.entries (Q.state k.queues) (Q.room k.queues) k.nodes k.clock };
 }
 
 impl<Q: QueueTable<Purpose> + Drop, C: CountTable<Heap = Q::Heap> + Drop> KernelOf<Q, C> {

@@ -12,6 +12,7 @@ mod evict;
 mod kernel;
 mod listing;
 mod open_files;
+mod queue_room;
 mod read_forgets;
 mod reading;
 mod refusing;

@@ -1,48 +1,24 @@
-//! How the names of a list are taken, alone or with their files.
+//! How the names of a list with their files are taken.
 
-ghost use Rattle.std.specs.Prelude.{◌≡◌, ◌%◌, ℕ, Some, OnOk, OnErr, IfOk, IfErr, false, map, nat_eq};
-ghost use Rattle.fk_syscalls.specs.Values.{dirent_of};
-ghost use Rattle.fk_wire.specs.Records.{records_in};
-ghost use Rattle.fuse_frames.specs.ReplyTies.{dirent_in};
+ghost use Rattle.std.specs.Prelude.{◌≡◌, ◌%◌, ℕ, Some, OnOk, OnErr, IfErr, false, nat_eq};
 ghost use Rattle.fuse_spec.specs.Values.Maps.{get};
 ghost use Rattle.fuse_spec.specs.Files.Operations as reply;
 ghost use Rattle.fuse_spec.specs.Files.Operations.{readdirplus};
 ghost use Rattle.fuse_spec.specs.Kernel.QueueCalls.{waiting};
 ghost use Rattle.fuse_spec.specs.Kernel.Replies.{reply_written};
 ghost use Rattle.fuse_spec.specs.Calls.Vfs.{doing};
-ghost use Rattle.fk_kernel.specs.Entries.{Awaits, ListsPlus, IsFew, nodes_heard};
+ghost use Rattle.fk_kernel.specs.Entries.{Awaits, nodes_heard};
 ghost use Rattle.fuse_spec.specs.Kernel.Refusals.{is_counted_out};
 ghost use Rattle.fk_nodes.specs.ListedFiles.{pairs_in};
 
 use crate::kernel::KernelOf;
+use crate::queue_room::reserve_forgets;
 use fk_lookup_count::CountTable;
-use fk_nodes::{count_and_bind, forget_stale, names_listed, pair_count};
+use fk_nodes::{count_and_bind, forget_stale, names_of_direntpluses};
 use fk_queues::QueueTable;
-use fk_syscalls::{Answer, ListedName};
-use fk_wire::{Records, RecordsPlus};
-use fuse_frames::kind_of_type;
+use fk_syscalls::Answer;
+use fk_wire::RecordsPlus;
 use fuse_spec::{Operation, Purpose, Refusal, WriteResult};
-use std::alloc::{AllocError, Allocator};
-
-/// A copy of the names that records list.
-pub(crate) fn names_in<A: Allocator + Copy>(
-    alloc: A,
-    records: Records<'_>,
-) -> Result<Vec<ListedName<A>, A>, AllocError>
-    ensures { IfOk result (λ names. map dirent_of names.items ≡ map dirent_in (records_in records.entry)) }
-{
-    let mut names = Vec::new(alloc);
-    for record in records {
-        let name = record.name.to_vec(alloc)?;
-        names.push(ListedName {
-            ino: record.ino,
-            offset: record.off,
-            kind: kind_of_type(record.kind),
-            name,
-        })?;
-    }
-    Ok(names)
-}
 
 impl<Q: QueueTable<Purpose> + Drop, C: CountTable<Heap = Q::Heap> + Drop> KernelOf<Q, C> {
     /// The call is answered the names that a directory lists with their files. Each is counted and in force from now
@@ -57,7 +33,6 @@ impl<Q: QueueTable<Purpose> + Drop, C: CountTable<Heap = Q::Heap> + Drop> Kernel
         requires even { nat_eq (unique % 2) 1 ≡ false }
         requires waits { waiting self.old.queues unique ≡ Some (Purpose.Call call) }
         requires awaits { Awaits (get self.old.vfs.calls call) (reply.listed_plus (pairs_in pairs)) }
-        requires few { IsFew (reply.listed_plus (pairs_in pairs)) }
         requires counts { is_counted_out (nodes_heard self.old.nodes (reply.listed_plus (pairs_in pairs))) ≡ false }
         ensures err { OnErr result (self.new ≡ self.old) }
         ensures refusal { IfErr result (λ refusal. refusal ≡ Refusal.NoMemory) }
@@ -65,14 +40,11 @@ impl<Q: QueueTable<Purpose> + Drop, C: CountTable<Heap = Q::Heap> + Drop> Kernel
             ≡ (WriteResult.Accepted, self.new)) }
     {
         let directory = self.directory_listed(call);
-        let Ok(listed) = names_listed(self.alloc, pairs) else {
+        let Ok(listed) = names_of_direntpluses(self.alloc, pairs) else {
             return Err(Refusal::NoMemory);
         };
         // A forget of each name that is stale, and of each node that is new.
-        let forgets = self.nodes.node_count() + 2 * pair_count(pairs);
-        let Ok(()) = self.queues.reserve(0, forgets) else {
-            return Err(Refusal::NoMemory);
-        };
+        reserve_forgets(&mut self.queues, &self.nodes, 2 * pairs.count_left())?;
         let (names, nodes) = (&mut self.names, &mut self.nodes);
         let Ok(()) = count_and_bind(names, nodes, directory, self.clock, pairs) else {
             return Err(Refusal::NoMemory);

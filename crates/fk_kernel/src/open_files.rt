@@ -17,6 +17,7 @@ ghost use Rattle.fk_kernel.specs.Entries.{EndsWithin, EndsPast};
 ghost use Rattle.fk_kernel.specs.Refused.{begun_refusal};
 
 use crate::kernel::KernelOf;
+use crate::queue_room::reserve_request;
 use fk_calls::{StoredAnswer, is_in_other_use, is_in_use};
 use fk_lookup_count::CountTable;
 use fk_queues::QueueTable;
@@ -105,12 +106,7 @@ impl<Q: QueueTable<Purpose> + Drop, C: CountTable<Heap = Q::Heap> + Drop> Kernel
         let Ok(()) = self.answers.reserve(MAX_CALLS) else {
             return Err(Refusal::NoMemory);
         };
-        let Some(requests) = self.closing.len().checked_add(1) else {
-            return Err(Refusal::NoMemory);
-        };
-        let Ok(()) = self.queues.reserve(requests, 0) else {
-            return Err(Refusal::NoMemory);
-        };
+        reserve_request(&mut self.queues, &self.closing)?;
         let call = self.next_call;
         let _file = self.opens.remove(handle);
         let _unique = self.queues.enqueue(Purpose::Release(opened));
@@ -141,12 +137,7 @@ impl<Q: QueueTable<Purpose> + Drop, C: CountTable<Heap = Q::Heap> + Drop> Kernel
         let Ok(()) = self.closing.reserve(1) else {
             return Err(Refusal::NoMemory);
         };
-        let Some(requests) = self.closing.len().checked_add(1) else {
-            return Err(Refusal::NoMemory);
-        };
-        let Ok(()) = self.queues.reserve(requests, 0) else {
-            return Err(Refusal::NoMemory);
-        };
+        reserve_request(&mut self.queues, &self.closing)?;
         let call = self.next_call;
         let _file = self.opens.remove(handle);
         self.closing.put(handle, opened);

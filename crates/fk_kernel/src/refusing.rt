@@ -10,7 +10,7 @@ ghost use Rattle.fuse_spec.specs.Kernel.QueueCalls.{waiting};
 ghost use Rattle.fuse_spec.specs.Kernel.Uniques.{numbers_left_from};
 ghost use Rattle.fuse_spec.specs.Calls.Vfs.{asked};
 ghost use Rattle.fuse_spec.specs.Kernel.Replies.{usable, first_use, use_of, reply_written};
-ghost use Rattle.fk_kernel.specs.Entries.{Awaits, EndsWithin, LooksUp, IsFew, looked_up_by_all, nodes_heard};
+ghost use Rattle.fk_kernel.specs.Entries.{Awaits, EndsWithin, LooksUp, looked_up_by_all, nodes_heard};
 ghost use Rattle.fuse_spec.specs.Kernel.Refusals.{is_counted_out, is_past, is_past_end};
 ghost use Rattle.fk_kernel.specs.CallReplies.{IsCallReply, SaysNone};
 ghost use Rattle.fk_kernel.specs.Refused.{PassesEnd, WritePasses};
@@ -133,7 +133,6 @@ impl<Q: QueueTable<Purpose> + Drop, C: CountTable<Heap = Q::Heap> + Drop> Kernel
         requires waits { waiting self.now.queues unique ≡ Some (Purpose.Call call) }
         requires unanswered { get self.now.vfs.calls call ≡ Some state.now }
         requires awaits { Awaits (get self.now.vfs.calls call) (wire_of said.now) }
-        requires few { IsFew (wire_of said.now) }
         requires day { LastsADay said.now }
         requires ends { EndsWithin self.now call }
         ensures past { result ≡ true → is_past (reply_written self.now unique (wire_of said.now)).1 ≡ true }
@@ -149,7 +148,6 @@ impl<Q: QueueTable<Purpose> + Drop, C: CountTable<Heap = Q::Heap> + Drop> Kernel
 
     /// Whether what is said to a call would bring a node's count to the end of counters.
     fn counts_past(&self, said: &ReplySaid<'_>) -> bool
-        requires { IsFew (wire_of said.now) }
         ensures { result ≡ is_counted_out (nodes_heard self.now.nodes (wire_of said.now)) }
     {
         self.counts_within();
@@ -232,7 +230,7 @@ impl<Q: QueueTable<Purpose> + Drop, C: CountTable<Heap = Q::Heap> + Drop> Kernel
                     false
                 }
             }
-            EntryUse::Useless => false,
+            EntryUse::InvalidNodeid => false,
             EntryUse::Stale => false,
         }
     }

@@ -7,7 +7,7 @@ ghost use Rattle.fuse_spec.specs.Files.Operations as reply;
 ghost use Rattle.fuse_spec.specs.Kernel.QueueCalls.{waiting};
 ghost use Rattle.fuse_spec.specs.Kernel.Replies.{reply_written};
 ghost use Rattle.fuse_spec.specs.declared.Opened.{Opened as OpenedFile};
-ghost use Rattle.fk_kernel.specs.Entries.{Awaits, EndsWithin, IsFew, nodes_heard};
+ghost use Rattle.fk_kernel.specs.Entries.{Awaits, EndsWithin, nodes_heard};
 ghost use Rattle.fuse_spec.specs.Kernel.Refusals.{is_counted_out, is_past_end};
 ghost use Rattle.fk_kernel.specs.Refused.{IsWriteRefusal, PassesEnd};
 ghost use Rattle.fuse_frames.specs.ReplySaid.{wire_of, LastsADay};
@@ -18,9 +18,9 @@ ghost use Rattle.fuse_spec.specs.Kernel.Messages.{WireReply};
 ghost use Rattle.fuse_spec.specs.Values.Numbers.{max_validity};
 
 use crate::kernel::KernelOf;
-use crate::listing::names_in;
 use fk_calls::{result_of, unbind};
 use fk_lookup_count::CountTable;
+use fk_nodes::names_of_dirents;
 use fk_queues::QueueTable;
 use fk_syscalls::Answer;
 use fk_wire::{Opcode, Records, ReplyHead, read_reply_body};
@@ -56,13 +56,13 @@ impl<Q: QueueTable<Purpose> + Drop, C: CountTable<Heap = Q::Heap> + Drop> Kernel
             Ok(said) => said,
             Err(refusal) => return Err(refusal),
         };
-        let told = result_of(said.is_some());
+        let written = result_of(said.is_some());
         let Some(said) = said else {
             self.end_call(head.unique, call, Answer::Failed { errno: EIO });
-            return Ok(told);
+            return Ok(written);
         };
         match self.replied(head.unique, call, said) {
-            Ok(()) => Ok(told),
+            Ok(()) => Ok(written),
             Err(refusal) => Err(refusal),
         }
     }
@@ -74,7 +74,6 @@ impl<Q: QueueTable<Purpose> + Drop, C: CountTable<Heap = Q::Heap> + Drop> Kernel
         requires awaits { Awaits (get self.old.vfs.calls call) (wire_of said) }
         requires day { LastsADay said }
         requires ends { EndsWithin self.old call }
-        requires few { IsFew (wire_of said) }
         requires within { is_past_end (reply_written self.old unique (wire_of said)).1 ≡ false }
         requires counts { is_counted_out (nodes_heard self.old.nodes (wire_of said)) ≡ false }
         ensures err { OnErr result (self.new ≡ self.old) }
@@ -124,7 +123,7 @@ impl<Q: QueueTable<Purpose> + Drop, C: CountTable<Heap = Q::Heap> + Drop> Kernel
         ensures ok { OnOk result (reply_written self.old unique
             (reply.listed (map dirent_in (records_in records.entry))) ≡ (WriteResult.Accepted, self.new)) }
     {
-        let Ok(names) = names_in(self.alloc, records) else {
+        let Ok(names) = names_of_dirents(self.alloc, records) else {
             return Err(Refusal::NoMemory);
         };
         self.end_call(unique, call, Answer::Listing(names));

@@ -11,7 +11,7 @@ use Rattle.fuse_spec.specs.Values.Numbers.{counter_end}
 use Rattle.fuse_spec.specs.Files.Operations.{DirentPlus, listed_by}
 use Rattle.fuse_spec.specs.Kernel.Replies.{Use, usable, useless, stale, use_counted, use_of, counted_more}
 use Rattle.fuse_spec.proofs.Tables.{get_put_here, get_put_there}
-use Rattle.fk_nodes.specs.LookedUp.{looked_up_by_use, looked_up_listed, looked_up_from, tells, times_listed, LeavesBelow, AreBelow, SomeOut}
+use Rattle.fk_nodes.specs.LookedUp.{looked_up_by_use, looked_up_listed, looked_up_from, is_of_node, times_listed, LeavesBelow, AreBelow, SomeOut}
 
 itself : (n : ℕ) → nat_eq n n ≡ true
 itself n = elim (eqb_tells n n) [ inl h ↦ h.0 | inr h ↦ absurd (h.1 refl) ]
@@ -55,7 +55,7 @@ module _ (nodes : Map Counted) (id : ℕ) (c : Counted) (file : nat_lt id 2 ≡ 
     | inr ne ↦ other m n ne ∙ sym (other n m (λ e. ne (sym e)))
   ]
 
-  told_once : (g : Entry) → get (looked_up_listed nodes (Some g)) id ≡ Some (more_if (tells id c.generation (Some g)) c)
+  told_once : (g : Entry) → get (looked_up_listed nodes (Some g)) id ≡ Some (more_if (is_of_node id c.generation (Some g)) c)
   told_once g = elim (cases_eq g.nodeid id) [
     | inl same ↦
         ap (λ (u : Use). get (looked_up_by_use nodes g u) id) (use_here g same) ∙ here_by g same
@@ -68,7 +68,7 @@ module _ (nodes : Map Counted) (id : ℕ) (c : Counted) (file : nat_lt id 2 ≡ 
         (λ (b : Bool). Some (more_if (b && nat_eq g.generation c.generation) c)) (sym (other g.nodeid id ne))
   ]
 
-  pub counted_told : (o : Option Entry) → get (looked_up_listed nodes o) id ≡ Some (more_if (tells id c.generation o) c)
+  pub counted_told : (o : Option Entry) → get (looked_up_listed nodes o) id ≡ Some (more_if (is_of_node id c.generation o) c)
   counted_told None = at
   counted_told (Some g) = told_once g
 
@@ -78,7 +78,7 @@ pub counted_times : (pairs : List (DirentPlus Entry)) (nodes : Map Counted) (id 
     → get (looked_up_from nodes pairs) id ≡ Some (record c { count = c.count + times_listed id c.generation pairs })
 counted_times [] nodes id c file at = at ∙ ap (λ (n : ℕ). Some (record c { count = n })) (omega arith)
 counted_times (pair ∷ pairs) nodes id c file at =
-    by (tells id c.generation (listed_by pair)) (counted_told nodes id c file at (listed_by pair))
+    by (is_of_node id c.generation (listed_by pair)) (counted_told nodes id c file at (listed_by pair))
     (λ (d : Counted) here. counted_times pairs (looked_up_listed nodes (listed_by pair)) id d file here)
   where
     by : (b : Bool) → get (looked_up_listed nodes (listed_by pair)) id ≡ Some (more_if b c)
@@ -122,7 +122,7 @@ pub times_few : (id generation : ℕ) (pairs : List (DirentPlus Entry)) → time
 times_few id generation [] = omega arith
 times_few id generation (pair ∷ pairs) =
     let rest = times_few id generation pairs in
-    elim (tells id generation (listed_by pair)) as (λ b. cond b (suc (times_listed id generation pairs))
+    elim (is_of_node id generation (listed_by pair)) as (λ b. cond b (suc (times_listed id generation pairs))
     (times_listed id generation pairs) ≤ length (pair ∷ pairs)) [ true ↦ omega arith | false ↦ omega arith ]
 
 -- it is counted once, or not at all
@@ -179,7 +179,7 @@ module _ (nodes : Map Counted) (pairs : List (DirentPlus Entry)) (id : ℕ) (c :
   abbrev times : ℕ
   times = times_listed id c.generation pairs
 
-  one_leaves : (o : Option Entry) → tells id c.generation o ≡ true → LeavesBelow nodes pairs o
+  one_leaves : (o : Option Entry) → is_of_node id c.generation o ≡ true → LeavesBelow nodes pairs o
       → c.count + times < counter_end
   one_leaves None told leaves = absurd (true≢false (sym told))
   one_leaves (Some g) told leaves = elim (eqb_tells g.nodeid id) [
@@ -204,10 +204,10 @@ module _ (nodes : Map Counted) (pairs : List (DirentPlus Entry)) (id : ℕ) (c :
       (λ (pair : DirentPlus Entry). LeavesBelow nodes pairs (listed_by pair)) some
       → (times_listed id c.generation some ≡ 0) ⊎ (c.count + times < counter_end)
   some_leaves [] leaves = inl refl
-  some_leaves (pair ∷ rest) leaves = by (tells id c.generation (listed_by pair)) refl
+  some_leaves (pair ∷ rest) leaves = by (is_of_node id c.generation (listed_by pair)) refl
       (some_leaves rest (All-tail (λ (x : DirentPlus Entry). LeavesBelow nodes pairs (listed_by x)) pair rest leaves))
     where
-      by : (b : Bool) → tells id c.generation (listed_by pair) ≡ b
+      by : (b : Bool) → is_of_node id c.generation (listed_by pair) ≡ b
           → (times_listed id c.generation rest ≡ 0) ⊎ (c.count + times < counter_end)
           → (cond b (suc (times_listed id c.generation rest)) (times_listed id c.generation rest) ≡ 0)
           ⊎ (c.count + times < counter_end)

@@ -7,31 +7,31 @@ use Rattle.fuse_spec.specs.Kernel.Queues.{QueueState}
 use Rattle.fuse_spec.specs.declared.Purpose.{Purpose}
 use Rattle.fuse_spec.specs.Kernel.Replies.{Use, usable, useless, stale, stale_in, each_forgotten}
 use Rattle.fk_dentry.specs.NamesInForce.{NamesInForce, HasRoom}
-use Rattle.fk_nodes.specs.ListedFiles.{HasToldRoom, HaveToldRoom}
+use Rattle.fk_nodes.specs.ListedFiles.{HasNameRoom, HaveNameRoom}
 
 -- Those of the names behind which the others are left have room.
 pub record RoomBehind (names : NamesInForce) (directory : ℕ) (all left : List (DirentPlus Entry)) : Type 0 where
   pub done : List (DirentPlus Entry)
   pub parts : all ≡ done ++ left
-  pub rooms : HaveToldRoom names directory done
+  pub rooms : HaveNameRoom names directory done
 
 abbrev Keeps : NamesInForce → NamesInForce → Type 0
 Keeps old new = (other : Place) → HasRoom old other → HasRoom new other
 
 kept_one : (old new : NamesInForce) (directory : ℕ) (pair : DirentPlus Entry) (o : Option Entry) → Keeps old new
-    → HasToldRoom old directory pair o → HasToldRoom new directory pair o
+    → HasNameRoom old directory pair o → HasNameRoom new directory pair o
 kept_one old new directory pair None kept room = tt
 kept_one old new directory pair (Some g) kept room = kept (directory, pair.dirent.name) room
 
 pub kept_rooms : (old new : NamesInForce) (directory : ℕ) (pairs : List (DirentPlus Entry)) → Keeps old new
-    → HaveToldRoom old directory pairs → HaveToldRoom new directory pairs
+    → HaveNameRoom old directory pairs → HaveNameRoom new directory pairs
 kept_rooms old new directory [] kept rooms = tt
 kept_rooms old new directory (pair ∷ pairs) kept rooms =
     (kept_one old new directory pair (listed_by pair) kept rooms.0, kept_rooms old new directory pairs kept rooms.1)
 
 one_more : (names : NamesInForce) (directory : ℕ) (done : List (DirentPlus Entry)) (pair : DirentPlus Entry)
-    → HaveToldRoom names directory done → HasToldRoom names directory pair (listed_by pair)
-    → HaveToldRoom names directory (done ++ pair ∷ [])
+    → HaveNameRoom names directory done → HasNameRoom names directory pair (listed_by pair)
+    → HaveNameRoom names directory (done ++ pair ∷ [])
 one_more names directory [] pair rooms room = (room, tt)
 one_more names directory (first ∷ done) pair rooms room = (rooms.0, one_more names directory done pair rooms.1 room)
 
@@ -41,7 +41,7 @@ none_behind names directory all = record { done = []; parts = refl; rooms = tt }
 
 pub room_made : (old new : NamesInForce) (directory : ℕ) (all left rest : List (DirentPlus Entry))
     (pair : DirentPlus Entry) → RoomBehind old directory all left → left ≡ pair ∷ rest → Keeps old new
-    → HasToldRoom new directory pair (listed_by pair)
+    → HasNameRoom new directory pair (listed_by pair)
     → RoomBehind new directory all rest
 room_made old new directory all left rest pair behind is kept room = record {
   done = behind.done ++ pair ∷ [];
@@ -51,9 +51,9 @@ room_made old new directory all left rest pair behind is kept room = record {
 }
 
 pub all_behind : (names : NamesInForce) (directory : ℕ) (all left : List (DirentPlus Entry))
-    → RoomBehind names directory all left → left ≡ [] → HaveToldRoom names directory all
+    → RoomBehind names directory all left → left ≡ [] → HaveNameRoom names directory all
 all_behind names directory all left behind none =
-    subst (HaveToldRoom names directory) (sym (behind.parts ∙ ap
+    subst (HaveNameRoom names directory) (sym (behind.parts ∙ ap
     (λ (ps : List (DirentPlus Entry)). behind.done ++ ps) none ∙ append-nil behind.done)) behind.rooms
 
 -- the forget of one node and of those behind it

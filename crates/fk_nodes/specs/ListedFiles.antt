@@ -17,15 +17,15 @@ abbrev pub pairs_in : RecordsPlus → List (DirentPlus Entry)
 pairs_in records = map pair_in (pluses_in records)
 
 -- A name that tells a file has room.
-abbrev pub HasToldRoom : NamesInForce → (directory : ℕ) → DirentPlus Entry → Option Entry → Type 0
-HasToldRoom names directory pair None = Unit {0}
-HasToldRoom names directory pair (Some g) = HasRoom names (directory, pair.dirent.name)
+abbrev pub HasNameRoom : NamesInForce → (directory : ℕ) → DirentPlus Entry → Option Entry → Type 0
+HasNameRoom names directory pair None = Unit {0}
+HasNameRoom names directory pair (Some g) = HasRoom names (directory, pair.dirent.name)
 
 -- Each name of a list that tells a file has room.
-abbrev pub HaveToldRoom : NamesInForce → (directory : ℕ) → List (DirentPlus Entry) → Type 0
-HaveToldRoom names directory [] = Unit {0}
-HaveToldRoom names directory (pair ∷ pairs) = HasToldRoom names directory pair (listed_by pair)
-    × HaveToldRoom names directory pairs
+abbrev pub HaveNameRoom : NamesInForce → (directory : ℕ) → List (DirentPlus Entry) → Type 0
+HaveNameRoom names directory [] = Unit {0}
+HaveNameRoom names directory (pair ∷ pairs) = HasNameRoom names directory pair (listed_by pair)
+    × HaveNameRoom names directory pairs
 
 -- The names in force once those of a list are, each judged by these counts.
 abbrev pub names_judged : (now directory : ℕ) → Map Counted → NameMap Binding → List (DirentPlus Entry)

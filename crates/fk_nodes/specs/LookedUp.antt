@@ -33,14 +33,14 @@ stale_by nodes [] = []
 stale_by nodes (pair ∷ pairs) = stale_in (use_of_listed nodes (listed_by pair)) ++ stale_by nodes pairs
 
 -- Whether a name tells this node under this generation.
-abbrev pub tells : (id generation : ℕ) → Option Entry → Bool
-tells id generation None = false
-tells id generation (Some g) = nat_eq g.nodeid id && nat_eq g.generation generation
+abbrev pub is_of_node : (id generation : ℕ) → Option Entry → Bool
+is_of_node id generation None = false
+is_of_node id generation (Some g) = nat_eq g.nodeid id && nat_eq g.generation generation
 
 -- How many names of a list do.
 abbrev pub times_listed : (id generation : ℕ) → List (DirentPlus Entry) → ℕ
 times_listed id generation [] = 0
-times_listed id generation (pair ∷ pairs) = cond (tells id generation (listed_by pair))
+times_listed id generation (pair ∷ pairs) = cond (is_of_node id generation (listed_by pair))
     (suc (times_listed id generation pairs)) (times_listed id generation pairs)
 
 -- No node's count has come to the end of counters.

@@ -7,5 +7,5 @@ use Rattle.fk_nodes.specs.declared.entry_use.EntryUse.TheVariants as entry
 -- whether an entry of this node can be used
 abbrev pub use_meant : ℕ → EntryUse → Use
 use_meant node entry.Usable = usable
-use_meant node entry.Useless = useless
+use_meant node entry.InvalidNodeid = useless
 use_meant node entry.Stale = stale node

@@ -15,8 +15,8 @@ ghost use Rattle.fk_nodes.specs.ListedFiles.{pairs_in};
 ghost use Rattle.fk_nodes.specs.Uses.{use_meant};
 
 use crate::entry_use::EntryUse;
-use crate::lookups::{count_all, pair_count, reserve_nodes, tell_more};
-use crate::told::told;
+use crate::listed_entry::entry_of;
+use crate::lookups::{count_all, lists_more_than, reserve_nodes};
 use fk_lookup_count::CountTable;
 use fk_wire::{DirentPlus, RecordsPlus};
 use fuse_spec::limits::COUNTER_END;
@@ -93,7 +93,7 @@ impl<C: CountTable> CountedNodes<C> {
         ensures { use_meant entry.now.nodeid result ≡ use_of self.now entry.now }
     {
         if entry.nodeid < 2 {
-            return EntryUse::Useless;
+            return EntryUse::InvalidNodeid;
         }
         match self.generation_of(entry.nodeid) {
             Some(generation) if generation != entry.generation => EntryUse::Stale,
@@ -158,7 +158,7 @@ impl<C: CountTable> CountedNodes<C> {
         ensures within { result ≡ false → LeavesBelow self.now (pairs_in pairs.entry)
             (listed_by (pair_in (direntplus_content pair.now))) }
     {
-        let Some(entry) = told(pair) else {
+        let Some(entry) = entry_of(pair) else {
             return false;
         };
         if entry.nodeid < 2 {
@@ -171,18 +171,17 @@ impl<C: CountTable> CountedNodes<C> {
             return false;
         }
         let left = COUNTER_END - 1 - counted.count;
-        tell_more(pairs, entry.nodeid, entry.generation, left)
+        lists_more_than(pairs, entry.nodeid, entry.generation, left)
     }
 
     /// Whether a node's count comes to the end of counters once the names of a list are counted, each judged by the
     /// counts that those before it left. Takes no memory.
     pub fn listed_count_out(&self, pairs: RecordsPlus<'_>) -> bool
-        requires below { AreBelow self.now }
-        requires few { length (pairs_in pairs) < counter_end }
+        requires { AreBelow self.now }
         ensures out { result ≡ true → SomeOut (looked_up_from self.now (pairs_in pairs.entry)) }
         ensures within { result ≡ false → AreBelow (looked_up_from self.now (pairs_in pairs.entry)) }
     {
-        let names = pair_count(pairs) as u64;
+        let names = pairs.count_left() as u64;
         // Counts are far from their end as a rule: then none is looked up.
         if self.most_lookups.saturating_add(names) < COUNTER_END {
             return false;
@@ -201,14 +200,13 @@ impl<C: CountTable> CountedNodes<C> {
     ///
     /// Memory was wanting. Nothing changed.
     pub fn count_listed(&mut self, pairs: RecordsPlus<'_>) -> Result<(), AllocError>
-        requires few { length (pairs_in pairs) < counter_end }
-        requires below { AreBelow (looked_up_from self.old (pairs_in pairs)) }
+        requires { AreBelow (looked_up_from self.old (pairs_in pairs)) }
         ensures ok { OnOk result (self.new ≡ looked_up_from self.old (pairs_in pairs.entry)) }
         ensures err { OnErr result (self.new ≡ self.old) }
     {
         reserve_nodes(&mut self.table, pairs)?;
         self.len = count_all(&mut self.table, self.len, pairs);
-        let names = pair_count(pairs) as u64;
+        let names = pairs.count_left() as u64;
         self.most_lookups = self.most_lookups.saturating_add(names);
         Ok(())
     }

@@ -5,7 +5,7 @@
 pub enum EntryUse {
     Usable,
     /// It names the root or no node.
-    Useless,
+    InvalidNodeid,
     /// Its node is counted under another generation.
     Stale,
 }

@@ -4,10 +4,11 @@
 mod counted_nodes;
 mod entry_use;
 mod listed;
+mod listed_entry;
+mod listed_names;
 mod lookups;
-mod told;
 
 pub use counted_nodes::CountedNodes;
 pub use entry_use::EntryUse;
-pub use listed::{count_and_bind, forget_stale, names_listed};
-pub use lookups::pair_count;
+pub use listed::{count_and_bind, forget_stale};
+pub use listed_names::{names_of_direntpluses, names_of_dirents};

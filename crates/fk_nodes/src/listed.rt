@@ -1,28 +1,25 @@
 //! What the names of a list with their files make of the names in force and of the queues.
 
-ghost use Rattle.std.specs.Prelude.{◌≡◌, ◌≤◌, ◌<◌, ◌+◌, ◌^◌, ℕ, length, map, None, OnOk, OnErr, IfOk};
+ghost use Rattle.std.specs.Prelude.{◌≡◌, ◌≤◌, ◌<◌, ◌+◌, ◌^◌, ℕ, length, None, OnOk, OnErr};
 ghost use Rattle.fuse_frames.specs.ReplyTies.{pair_in};
 ghost use Rattle.fk_wire.specs.Records.{direntplus_content};
 ghost use Rattle.fuse_spec.specs.Calls.CallReplies.{name_listed};
 ghost use Rattle.fuse_spec.specs.Values.Maps.{Place};
-ghost use Rattle.fuse_spec.specs.Values.Numbers.{counter_end, max_validity};
+ghost use Rattle.fuse_spec.specs.Values.Numbers.{max_validity};
 ghost use Rattle.fuse_spec.specs.Files.Operations.{listed_by, pair_with};
 ghost use Rattle.fuse_spec.specs.Kernel.Replies.{each_forgotten, stale_in, use_of_listed};
 ghost use Rattle.fuse_spec.specs.declared.Entry.{Entry as NodeEntry};
 ghost use Rattle.fk_dentry.specs.NamesInForce.{HasRoom};
-ghost use Rattle.fk_syscalls.specs.Values.{dirent_of};
 ghost use Rattle.fk_nodes.specs.LookedUp.{judged_in, looked_up_from, stale_by, AreBelow};
-ghost use Rattle.fk_nodes.specs.ListedFiles.{pairs_in, HasToldRoom, HaveToldRoom, names_judged};
+ghost use Rattle.fk_nodes.specs.ListedFiles.{pairs_in, HasNameRoom, HaveNameRoom, names_judged};
 
 use crate::counted_nodes::CountedNodes;
 use crate::entry_use::EntryUse;
-use crate::told::{told, valid_ms};
+use crate::listed_entry::{entry_of, valid_ms};
 use fk_dentry::Bindings;
 use fk_lookup_count::CountTable;
 use fk_queues::QueueTable;
-use fk_syscalls::ListedName;
 use fk_wire::{DirentPlus, RecordsPlus};
-use fuse_frames::kind_of_type;
 use fuse_spec::Purpose;
 use std::alloc::{AllocError, Allocator};
 
@@ -33,11 +30,11 @@ fn reserve_name<A: Allocator + Copy>(
     pair: &DirentPlus<'_>,
 ) -> Result<(), AllocError>
     ensures names { names.new.names ≡ names.old.names }
-    ensures room { OnOk result (HasToldRoom names.new directory (pair_in (direntplus_content pair.now))
+    ensures room { OnOk result (HasNameRoom names.new directory (pair_in (direntplus_content pair.now))
         (listed_by (pair_in (direntplus_content pair.now)))) }
     ensures kept { (other : Place) → HasRoom names.old other → HasRoom names.new other }
 {
-    match told(pair) {
+    match entry_of(pair) {
         Some(_) => names.reserve(directory, pair.dirent.name),
         None => Ok(()),
     }
@@ -54,7 +51,7 @@ fn reserve_listed<A: Allocator + Copy>(
     pairs: RecordsPlus<'_>,
 ) -> Result<(), AllocError>
     ensures names { names.new.names ≡ names.old.names }
-    ensures room { OnOk result (HaveToldRoom names.new directory (pairs_in pairs.entry)) }
+    ensures room { OnOk result (HaveNameRoom names.new directory (pairs_in pairs.entry)) }
 {
     for pair in pairs {
         reserve_name(names, directory, &pair)?;
@@ -70,7 +67,7 @@ fn bind_name<A: Allocator + Copy, C: CountTable>(
     clock: u64,
     pair: &DirentPlus<'_>,
 )
-    requires room { HasToldRoom names.old directory (pair_in (direntplus_content pair.now))
+    requires room { HasNameRoom names.old directory (pair_in (direntplus_content pair.now))
         (listed_by (pair_in (direntplus_content pair.now))) }
     requires clock { clock + max_validity < 2 ^ 64 }
     ensures names { names.new.names ≡ name_listed clock directory names.old.names
@@ -79,7 +76,7 @@ fn bind_name<A: Allocator + Copy, C: CountTable>(
         (judged_in nodes.now (pair_in (direntplus_content pair.now))))) }
     ensures kept { (other : Place) → HasRoom names.old other → HasRoom names.new other }
 {
-    let Some(entry) = told(pair) else {
+    let Some(entry) = entry_of(pair) else {
         return;
     };
     match nodes.use_of(&entry) {
@@ -87,7 +84,7 @@ fn bind_name<A: Allocator + Copy, C: CountTable>(
             let until = clock + valid_ms(pair);
             names.put(directory, pair.dirent.name, Some(entry.nodeid), until);
         }
-        EntryUse::Useless => {}
+        EntryUse::InvalidNodeid => {}
         EntryUse::Stale => {}
     }
 }
@@ -100,7 +97,7 @@ fn bind_listed<A: Allocator + Copy, C: CountTable>(
     clock: u64,
     pairs: RecordsPlus<'_>,
 )
-    requires room { HaveToldRoom names.old directory (pairs_in pairs) }
+    requires room { HaveNameRoom names.old directory (pairs_in pairs) }
     requires clock { clock + max_validity < 2 ^ 64 }
     ensures { names.new.names ≡ names_judged clock directory nodes.now names.old.names (pairs_in pairs.entry) }
 {
@@ -121,12 +118,12 @@ fn forget_one<Q: QueueTable<Purpose>, C: CountTable>(
     ensures requests { (Q.room queues.old).requests ≤ (Q.room queues.new).requests }
     ensures forgets { (Q.room queues.old).forgets ≤ (Q.room queues.new).forgets + 1 }
 {
-    let Some(entry) = told(pair) else {
+    let Some(entry) = entry_of(pair) else {
         return;
     };
     match nodes.use_of(&entry) {
         EntryUse::Stale => queues.forget(entry.nodeid, 1),
-        EntryUse::Useless => {}
+        EntryUse::InvalidNodeid => {}
         EntryUse::Usable => {}
     }
 }
@@ -149,31 +146,6 @@ pub fn forget_stale<Q: QueueTable<Purpose>, C: CountTable>(
     }
 }
 
-/// A copy of the names of a list.
-///
-/// # Errors
-///
-/// Memory was wanting.
-pub fn names_listed<A: Allocator + Copy>(
-    alloc: A,
-    pairs: RecordsPlus<'_>,
-) -> Result<Vec<ListedName<A>, A>, AllocError>
-    ensures { IfOk result (λ names. map dirent_of names.items ≡ map (λ pair. pair.dirent) (pairs_in pairs.entry)) }
-{
-    let mut names = Vec::new(alloc);
-    for pair in pairs {
-        let record = pair.dirent;
-        let name = record.name.to_vec(alloc)?;
-        names.push(ListedName {
-            ino: record.ino,
-            offset: record.off,
-            kind: kind_of_type(record.kind),
-            name,
-        })?;
-    }
-    Ok(names)
-}
-
 /// Counts the names of a list that tell files, and puts those in force of which the entry can be used, from this time
 /// in milliseconds on.
 ///
@@ -188,7 +160,6 @@ pub fn count_and_bind<A: Allocator + Copy, C: CountTable>(
     pairs: RecordsPlus<'_>,
 ) -> Result<(), AllocError>
     requires clock { clock + max_validity < 2 ^ 64 }
-    requires few { length (pairs_in pairs) < counter_end }
     requires below { AreBelow (looked_up_from nodes.old (pairs_in pairs)) }
     ensures err_names { OnErr result (names.new.names ≡ names.old.names) }
     ensures err_nodes { OnErr result (nodes.new ≡ nodes.old) }

@@ -1,43 +1,31 @@
-//! How many names a list has, and how the nodes that they tell are counted in a table.
+//! How the nodes that the names of a list tell are counted in a table.
 
 ghost use Rattle.std.specs.Prelude.{◌≡◌, ◌<◌, ◌+◌, ◌^◌, ℕ, length, nat_lt, is_none, OnOk};
 ghost use Rattle.std.specs.Option.{ForSome};
 ghost use Rattle.fk_wire.specs.Records.{direntplus_content};
 ghost use Rattle.fuse_frames.specs.ReplyTies.{pair_in};
 ghost use Rattle.fuse_spec.specs.Values.Maps.{get};
-ghost use Rattle.fuse_spec.specs.Values.Numbers.{counter_end};
 ghost use Rattle.fuse_spec.specs.Files.Operations.{listed_by};
 ghost use Rattle.fuse_spec.specs.Kernel.Replies.{use_counted};
 ghost use Rattle.fk_nodes.specs.LookedUp.{looked_up_by_use, looked_up_listed, looked_up_from, AreBelow};
-ghost use Rattle.fk_nodes.specs.LookedUp.{tells, times_listed};
+ghost use Rattle.fk_nodes.specs.LookedUp.{is_of_node, times_listed};
 ghost use Rattle.fk_nodes.specs.Rooms.{HasNodeRoom, HaveNodeRoom};
 ghost use Rattle.fk_nodes.specs.ListedFiles.{pairs_in};
 
-use crate::told::told;
+use crate::listed_entry::entry_of;
 use fk_lookup_count::CountTable;
 use fk_wire::{DirentPlus, RecordsPlus};
 use fuse_spec::Entry;
 use std::alloc::AllocError;
 
-/// How many names a list has.
-pub fn pair_count(pairs: RecordsPlus<'_>) -> usize
-    requires { length (pairs_in pairs) < counter_end }
-    ensures { result ≡ length (pairs_in pairs.entry) }
-{
-    let mut count = 0;
-    for _pair in pairs {
-        count += 1;
-    }
-    count
-}
-
 /// Makes room for the node that a name tells.
 fn reserve_node<C: CountTable>(table: &mut C, pair: &DirentPlus<'_>) -> Result<(), AllocError>
     ensures counted { C.counted table.new ≡ C.counted table.old }
-    ensures room { OnOk result (HasNodeRoom (C.has_room table.new) (listed_by (pair_in (direntplus_content pair.now)))) }
+    ensures room { OnOk result (HasNodeRoom (C.has_room table.new)
+        (listed_by (pair_in (direntplus_content pair.now)))) }
     ensures kept { (other : ℕ) → C.has_room table.old other → C.has_room table.new other }
 {
-    match told(pair) {
+    match entry_of(pair) {
         Some(entry) if entry.nodeid >= 2 => table.reserve(entry.nodeid),
         _ => Ok(()),
     }
@@ -78,7 +66,7 @@ fn count_one<C: CountTable>(table: &mut C, entry: &Entry) -> bool
 
 /// Counts one lookup more of the node that a name tells, if its entry can be used. Is given how many nodes are counted,
 /// and gives how many are then.
-fn count_told<C: CountTable>(table: &mut C, len: usize, pair: &DirentPlus<'_>) -> usize
+fn count_pair<C: CountTable>(table: &mut C, len: usize, pair: &DirentPlus<'_>) -> usize
     requires room { HasNodeRoom (C.has_room table.old) (listed_by (pair_in (direntplus_content pair.now))) }
     requires below { AreBelow (C.counted table.old) }
     requires len { len ≡ length (C.counted table.old) }
@@ -87,7 +75,7 @@ fn count_told<C: CountTable>(table: &mut C, len: usize, pair: &DirentPlus<'_>) -
     ensures kept { (other : ℕ) → C.has_room table.old other → C.has_room table.new other }
     ensures len { result ≡ length (C.counted table.new) }
 {
-    let Some(entry) = told(pair) else {
+    let Some(entry) = entry_of(pair) else {
         return len;
     };
     if entry.nodeid < 2 {
@@ -111,28 +99,28 @@ pub(crate) fn count_all<C: CountTable>(table: &mut C, len: usize, pairs: Records
 {
     let mut len = len;
     for pair in pairs {
-        len = count_told(table, len, &pair);
+        len = count_pair(table, len, &pair);
     }
     len
 }
 
 /// Whether a name tells a node under a generation.
-fn tells_node(pair: &DirentPlus<'_>, id: u64, generation: u64) -> bool
-    ensures { result ≡ tells id generation (listed_by (pair_in (direntplus_content pair.now))) }
+fn is_pair_of(pair: &DirentPlus<'_>, id: u64, generation: u64) -> bool
+    ensures { result ≡ is_of_node id generation (listed_by (pair_in (direntplus_content pair.now))) }
 {
-    match told(pair) {
+    match entry_of(pair) {
         Some(entry) => entry.nodeid == id && entry.generation == generation,
         None => false,
     }
 }
 
 /// Whether more than so many names of a list tell a node under a generation.
-pub(crate) fn tell_more(pairs: RecordsPlus<'_>, id: u64, generation: u64, limit: u64) -> bool
+pub(crate) fn lists_more_than(pairs: RecordsPlus<'_>, id: u64, generation: u64, limit: u64) -> bool
     ensures { result ≡ nat_lt limit (times_listed id generation (pairs_in pairs.entry)) }
 {
     let mut left = limit;
     for pair in pairs {
-        if tells_node(&pair, id, generation) {
+        if is_pair_of(&pair, id, generation) {
             if left == 0 {
                 return true;
             }

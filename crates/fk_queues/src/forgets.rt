@@ -84,7 +84,8 @@ impl<A: Allocator + Copy> ForgetList<A> {
     /// Takes the first forgets out.
     pub(crate) fn drop_first(&mut self, count: usize)
         ensures items { self.new.items.items ≡ drop count self.old.items.items }
-        ensures room { deque_capacity self.old.items - deque_len self.old.items ≤ deque_capacity self.new.items - deque_len self.new.items }
+        ensures room { deque_capacity self.old.items - deque_len self.old.items
+            ≤ deque_capacity self.new.items - deque_len self.new.items }
     {
         for _ in 0..count {
             let _gone = self.items.pop_front();

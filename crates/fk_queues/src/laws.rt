@@ -27,7 +27,8 @@ pub fn read_pending_moves_one<W>()
         pending (after_read_pending s place) ≡ remove (pending s) place }
     ensures processing { (s : QueueState W) (place : ℕ) (e : ℕ × QueuedRequest W) → IsSound s
         → slice_get (pending s) place ≡ Some e →
-        AddsOne (e.0, record { mark = mark_read e.1.mark; kept = e.1.kept }) (processing s) (processing (after_read_pending s place)) }
+        AddsOne (e.0, record { mark = mark_read e.1.mark; kept = e.1.kept }) (processing s)
+        (processing (after_read_pending s place)) }
 {}
 
 /// An answer takes its request out of processing, and leaves the pending ones as they are.

@@ -1,5 +1,5 @@
 -- Lists of records in a frame, each after so many other bytes.
-use Rattle.std.proofs.Common.{◌≡◌, ℕ, Bool, true, false, zero, suc, ◌+◌, ◌-◌, ◌≤◌, ◌<◌, List, [], ◌∷◌, length, refl, sym, ap, subst, ◌∙◌, arith, add-one}
+use Rattle.std.proofs.Common.{◌≡◌, ℕ, Bool, true, false, zero, suc, ◌+◌, ◌-◌, ◌*◌, ◌≤◌, ◌<◌, List, [], ◌∷◌, length, refl, sym, ap, subst, ◌∙◌, arith, add-one}
 use Rattle.std.proofs.Common.{drop, take}
 use Rattle.std.specs.Prelude.{◌↔◌}
 use Rattle.std.proofs.lemmas.List.{length-take-le, length-drop}
@@ -310,6 +310,24 @@ sizes_of_direntpluses (suc count) place bytes e =
 
 pub pluses_left : (r : RecordsPlus) → r.place + sizes (direntpluses (pluses_in r)) ≡ length r.bytes.now
 pluses_left r = sizes_of_direntpluses r.left r.place r.bytes.now r.ends
+
+direntpluses_count : (count place : ℕ) (bytes : List ℕ) → length (direntpluses_from count place bytes) ≡ count
+direntpluses_count zero place bytes = refl
+direntpluses_count (suc count) place bytes = ap suc (direntpluses_count count (record_end true place bytes) bytes)
+
+pub pluses_count : (r : RecordsPlus) → length (pluses_in r) ≡ r.left
+pluses_count r = direntpluses_count r.left r.place r.bytes.now
+
+-- a pair has 152 bytes at least
+pairs_end_after : (count place : ℕ) (bytes : List ℕ) → place + 152 * count ≤ end_from true count place bytes
+unfolding end_from record_end
+pairs_end_after zero place bytes = omega arith
+pairs_end_after (suc count) place bytes =
+    let rest = pairs_end_after count (record_end true place bytes) bytes in
+    omega (arith, rest)
+
+pub pluses_long : (r : RecordsPlus) → 152 * r.left ≤ length r.bytes.now
+pluses_long r = omega (arith, pairs_end_after r.left r.place r.bytes.now, r.ends)
 
 entry_is_named : (e : EntryContent) (after : List Field) → AreNamed after → AreNamed (entry_fields e after)
 entry_is_named (missing valid nsec) after h = h

@@ -1,6 +1,6 @@
 //! The pairs of a READDIRPLUS reply, as its frame has them.
 
-ghost use Rattle.std.specs.Prelude.{◌≡◌, ◌≤◌, ◌<◌, ◌+◌, ◌-◌, ◌^◌, ℕ, true, length};
+ghost use Rattle.std.specs.Prelude.{◌≡◌, ◌≤◌, ◌<◌, ◌+◌, ◌-◌, ◌^◌, ℕ, true, length, ◌*◌};
 ghost use Rattle.fk_wire.specs.RecordEnds.{end_from, NamesFrom, TimesFrom};
 ghost use Rattle.fk_wire.specs.Props.{NamesFrom-prop, TimesFrom-prop};
 
@@ -61,6 +61,16 @@ impl<'a> RecordsPlus<'a> {
             Ok(records) => Some(records),
             Err(_fault) => None,
         }
+    }
+
+    /// How many pairs are left. Each has 152 bytes or more.
+    #[tactic(auto, using(crate::proofs::RecordLists::pluses_count, crate::proofs::RecordLists::pluses_long))]
+    pub fn count_left(&self) -> usize
+        ensures count { result ≡ length (pluses_in self.now) }
+        ensures bound { 152 * result < 2 ^ 63 }
+    {
+        let _len = self.bytes.len();
+        self.left
     }
 
     /// How many bytes are left.

@@ -23,12 +23,22 @@ mod operations;
 mod paths;
 mod signals;
 
+/// The queues of a kernel's requests, over which a step is generic.
+trait RequestQueues: QueueTable<Purpose> + Drop {}
+
+impl<Q: QueueTable<Purpose> + Drop> RequestQueues for Q {}
+
+/// A kernel's table of lookup counts.
+trait LookupCounts: CountTable + Drop {}
+
+impl<C: CountTable + Drop> LookupCounts for C {}
+
 /// The inode number, the offset, the kind and the bytes of a name that is listed.
 type Listed = (u64, u64, Kind, &'static str);
 
 /// What a call is answered.
 #[derive(Clone, Copy)]
-enum Told {
+enum Expected {
     Done,
     Errno(u32),
     Attributes(Attributes),
@@ -80,7 +90,7 @@ enum Row {
     /// A signal to a call, fatal or not, and its effect.
     Signal(u64, bool, Result<IntrEffect, Refusal>),
     /// The lowest answered call, and its answer.
-    Answered(u64, Told),
+    Answered(u64, Expected),
     /// No call is answered, and so many are not.
     Unanswered(usize),
     /// The counted nodes in rising id, each with its generation and its count.
@@ -140,21 +150,21 @@ fn read_as<A: Allocator>(
     }
 }
 
-fn mounts<Q: QueueTable<Purpose> + Drop, C: CountTable<Heap = Q::Heap> + Drop>(
+fn mounts<Q: RequestQueues, C: LookupCounts<Heap = Q::Heap>>(
     kernel: &mut KernelOf<Q, C>,
     wanted: Result<(), Refusal>,
 ) -> Outcome {
     gives(kernel.mount(), wanted)
 }
 
-fn gives_up<Q: QueueTable<Purpose> + Drop, C: CountTable<Heap = Q::Heap> + Drop>(
+fn gives_up<Q: RequestQueues, C: LookupCounts<Heap = Q::Heap>>(
     kernel: &mut KernelOf<Q, C>,
     wanted: Result<(), Refusal>,
 ) -> Outcome {
     gives(kernel.abort(), wanted)
 }
 
-fn begins<Q: QueueTable<Purpose> + Drop, C: CountTable<Heap = Q::Heap> + Drop>(
+fn begins<Q: RequestQueues, C: LookupCounts<Heap = Q::Heap>>(
     kernel: &mut KernelOf<Q, C>,
     call: Call<'_>,
     wanted: Result<u64, Refusal>,
@@ -162,7 +172,7 @@ fn begins<Q: QueueTable<Purpose> + Drop, C: CountTable<Heap = Q::Heap> + Drop>(
     gives(kernel.begin(&call), wanted)
 }
 
-fn reads_pending<Q: QueueTable<Purpose> + Drop, C: CountTable<Heap = Q::Heap> + Drop>(
+fn reads_pending<Q: RequestQueues, C: LookupCounts<Heap = Q::Heap>>(
     kernel: &mut KernelOf<Q, C>,
     alloc: Global,
     place: u64,
@@ -171,7 +181,7 @@ fn reads_pending<Q: QueueTable<Purpose> + Drop, C: CountTable<Heap = Q::Heap> + 
     read_as(alloc, kernel.read_pending(place), wanted)
 }
 
-fn reads_interrupt<Q: QueueTable<Purpose> + Drop, C: CountTable<Heap = Q::Heap> + Drop>(
+fn reads_interrupt<Q: RequestQueues, C: LookupCounts<Heap = Q::Heap>>(
     kernel: &mut KernelOf<Q, C>,
     alloc: Global,
     wanted: Reads,
@@ -179,7 +189,7 @@ fn reads_interrupt<Q: QueueTable<Purpose> + Drop, C: CountTable<Heap = Q::Heap> 
     read_as(alloc, kernel.read_interrupt(), wanted)
 }
 
-fn reads_forgets<Q: QueueTable<Purpose> + Drop, C: CountTable<Heap = Q::Heap> + Drop>(
+fn reads_forgets<Q: RequestQueues, C: LookupCounts<Heap = Q::Heap>>(
     kernel: &mut KernelOf<Q, C>,
     alloc: Global,
     count: u64,
@@ -220,7 +230,7 @@ fn bytes_of(alloc: Global, written: Written) -> Result<Vec<u8>, AllocError> {
     }
 }
 
-fn writes<Q: QueueTable<Purpose> + Drop, C: CountTable<Heap = Q::Heap> + Drop>(
+fn writes<Q: RequestQueues, C: LookupCounts<Heap = Q::Heap>>(
     kernel: &mut KernelOf<Q, C>,
     bytes: &[u8],
     wanted: WriteResult,
@@ -228,7 +238,7 @@ fn writes<Q: QueueTable<Purpose> + Drop, C: CountTable<Heap = Q::Heap> + Drop>(
     gives(kernel.write(bytes), Ok(wanted))
 }
 
-fn writes_row<Q: QueueTable<Purpose> + Drop, C: CountTable<Heap = Q::Heap> + Drop>(
+fn writes_row<Q: RequestQueues, C: LookupCounts<Heap = Q::Heap>>(
     kernel: &mut KernelOf<Q, C>,
     alloc: Global,
     written: Written,
@@ -240,7 +250,7 @@ fn writes_row<Q: QueueTable<Purpose> + Drop, C: CountTable<Heap = Q::Heap> + Dro
     }
 }
 
-fn ticks<Q: QueueTable<Purpose> + Drop, C: CountTable<Heap = Q::Heap> + Drop>(
+fn ticks<Q: RequestQueues, C: LookupCounts<Heap = Q::Heap>>(
     kernel: &mut KernelOf<Q, C>,
     milliseconds: u64,
     wanted: Result<u64, Refusal>,
@@ -248,7 +258,7 @@ fn ticks<Q: QueueTable<Purpose> + Drop, C: CountTable<Heap = Q::Heap> + Drop>(
     gives(kernel.tick(milliseconds), wanted)
 }
 
-fn drops<Q: QueueTable<Purpose> + Drop, C: CountTable<Heap = Q::Heap> + Drop>(
+fn drops<Q: RequestQueues, C: LookupCounts<Heap = Q::Heap>>(
     kernel: &mut KernelOf<Q, C>,
     directory: u64,
     name: &str,
@@ -257,7 +267,7 @@ fn drops<Q: QueueTable<Purpose> + Drop, C: CountTable<Heap = Q::Heap> + Drop>(
     gives(kernel.drop_name(directory, name.as_bytes()), wanted)
 }
 
-fn evicts<Q: QueueTable<Purpose> + Drop, C: CountTable<Heap = Q::Heap> + Drop>(
+fn evicts<Q: RequestQueues, C: LookupCounts<Heap = Q::Heap>>(
     kernel: &mut KernelOf<Q, C>,
     node: u64,
     wanted: Result<u64, Refusal>,
@@ -265,7 +275,7 @@ fn evicts<Q: QueueTable<Purpose> + Drop, C: CountTable<Heap = Q::Heap> + Drop>(
     gives(kernel.evict(node), wanted)
 }
 
-fn interrupts<Q: QueueTable<Purpose> + Drop, C: CountTable<Heap = Q::Heap> + Drop>(
+fn interrupts<Q: RequestQueues, C: LookupCounts<Heap = Q::Heap>>(
     kernel: &mut KernelOf<Q, C>,
     call: u64,
     fatal: bool,
@@ -293,39 +303,39 @@ fn are_names<A: Allocator>(given: &[ListedName<A>], names: &[Listed]) -> bool {
     true
 }
 
-fn is_told<A: Allocator>(answer: &Answer<A>, told: Told) -> bool {
-    match (answer, told) {
-        (Answer::Done, Told::Done) => true,
-        (Answer::Failed { errno: given }, Told::Errno(errno)) => *given == errno,
-        (Answer::Attributes(given), Told::Attributes(attributes)) => *given == attributes,
-        (Answer::Listing(given), Told::Names(names)) => are_names(given, names),
-        (Answer::Listing(given), Told::NamesLength(count)) => given.len() == count,
-        (Answer::Content(given), Told::Bytes(text)) => given.as_slice() == text.as_bytes(),
-        (Answer::Written { size: given }, Told::Written(size)) => *given == size,
+fn is_answer<A: Allocator>(answer: &Answer<A>, expected: Expected) -> bool {
+    match (answer, expected) {
+        (Answer::Done, Expected::Done) => true,
+        (Answer::Failed { errno: given }, Expected::Errno(errno)) => *given == errno,
+        (Answer::Attributes(given), Expected::Attributes(attributes)) => *given == attributes,
+        (Answer::Listing(given), Expected::Names(names)) => are_names(given, names),
+        (Answer::Listing(given), Expected::NamesLength(count)) => given.len() == count,
+        (Answer::Content(given), Expected::Bytes(text)) => given.as_slice() == text.as_bytes(),
+        (Answer::Written { size: given }, Expected::Written(size)) => *given == size,
         _ => false,
     }
 }
 
 /// Whether the lowest answered call has this number and this answer.
-fn answers<Q: QueueTable<Purpose> + Drop, C: CountTable<Heap = Q::Heap> + Drop>(
+fn answers<Q: RequestQueues, C: LookupCounts<Heap = Q::Heap>>(
     kernel: &mut KernelOf<Q, C>,
     number: u64,
-    told: Told,
+    expected: Expected,
 ) -> bool {
     match kernel.collect() {
-        Some((given, answer)) => given == number && is_told(&answer, told),
+        Some((given, answer)) => given == number && is_answer(&answer, expected),
         None => false,
     }
 }
 
-fn are_unanswered<Q: QueueTable<Purpose> + Drop, C: CountTable<Heap = Q::Heap> + Drop>(
+fn are_unanswered<Q: RequestQueues, C: LookupCounts<Heap = Q::Heap>>(
     kernel: &KernelOf<Q, C>,
     calls: usize,
 ) -> bool {
     kernel.answered() == 0 && kernel.unanswered() == calls
 }
 
-fn lists<Q: QueueTable<Purpose> + Drop, C: CountTable<Heap = Q::Heap> + Drop>(
+fn lists<Q: RequestQueues, C: LookupCounts<Heap = Q::Heap>>(
     kernel: &KernelOf<Q, C>,
     heap: Q::Heap,
     nodes: &[(u64, u64, u64)],
@@ -336,8 +346,7 @@ fn lists<Q: QueueTable<Purpose> + Drop, C: CountTable<Heap = Q::Heap> + Drop>(
     }
 }
 
-impl<Q: QueueTable<Purpose> + Drop, C: CountTable<Heap = Q::Heap> + Drop> Tried<Q::Heap, Row>
-    for KernelOf<Q, C> {
+impl<Q: RequestQueues, C: LookupCounts<Heap = Q::Heap>> Tried<Q::Heap, Row> for KernelOf<Q, C> {
     fn attempt(&mut self, heap: Q::Heap, alloc: Global, row: Row) -> Outcome {
         match row {
             Row::Mount(wanted) => mounts(self, wanted),
@@ -351,7 +360,7 @@ impl<Q: QueueTable<Purpose> + Drop, C: CountTable<Heap = Q::Heap> + Drop> Tried<
             Row::DropName(directory, name, wanted) => drops(self, directory, name, wanted),
             Row::Evict(node, wanted) => evicts(self, node, wanted),
             Row::Signal(call, fatal, wanted) => interrupts(self, call, fatal, wanted),
-            Row::Answered(number, told) => judged(answers(self, number, told)),
+            Row::Answered(number, expected) => judged(answers(self, number, expected)),
             Row::Unanswered(calls) => judged(are_unanswered(self, calls)),
             Row::Nodes(nodes) => lists(self, heap, nodes),
         }
@@ -359,7 +368,7 @@ impl<Q: QueueTable<Purpose> + Drop, C: CountTable<Heap = Q::Heap> + Drop> Tried<
 }
 
 /// Tries the rows of some lists on a new kernel over any tables.
-fn run_over<Q: QueueTable<Purpose> + Drop, C: CountTable<Heap = Q::Heap> + Drop>(
+fn run_over<Q: RequestQueues, C: LookupCounts<Heap = Q::Heap>>(
     rt: &impl Abort,
     heap: Q::Heap,
     refusing: &FailAt<Global>,

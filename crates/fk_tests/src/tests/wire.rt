@@ -1,4 +1,5 @@
-//! Frames from outside, laid out by hand from linux/fuse.h: read and written back byte for byte, or refused by their first fault.
+//! Frames from outside, laid out by hand from linux/fuse.h: read and written back byte for byte, or refused by their
+//! first fault.
 
 use crate::tests::digits::{spells, unhex};
 use crate::tests::tried::{Outcome, Tried, judged, run};
@@ -498,7 +499,8 @@ static FAULTY_REPLIES: [Row; 17] = [
         "90000000 00000000 0400000000000000 0200000000000000 0100000000000000 0100000000000000 0000000000000000 00ca9a3b 00000000 0200000000000000 0000000000000000 0000000000000000 0000000000000000 0000000000000000 0000000000000000 00000000 00000000 00000000 ed410000 01000000 00000000 00000000 00000000 00100000 00000000",
         WireFault::Body,
     ),
-    // a record that says more than there is, a name with a slash, one in front of a record that is too long, and a name of no byte
+    // a record that says more than there is, a name with a slash, one in front of a record that is too long, and a
+    // name of no byte
     Row::FaultyReply(
         Opcode::Readdir,
         "30000000 00000000 0400000000000000 0200000000000000 0100000000000000 09000000 04000000 6100000000000000",

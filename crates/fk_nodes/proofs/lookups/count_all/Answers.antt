@@ -11,8 +11,8 @@ use Rattle.fk_nodes.proofs.Counting.{below_before}
 use Rattle.fk_nodes.proofs.NodeRooms.{kept_rooms}
 use Rattle.fk_nodes.proofs.lookups.count_all.Goals as goal
 
-pub count_told-len-requires-clause-below : goal.count_told-len-requires-clause-below
-count_told-len-requires-clause-below g c =
+pub count_pair-len-requires-clause-below : goal.count_pair-len-requires-clause-below
+count_pair-len-requires-clause-below g c =
     below_before (g.C.CountTable.counted c.loop-pair.table) (pairs_in c.loop-pair.pair-iterator)
     (subst AreBelow (sym c.loop-pair.invariant.counted) c.requires.below)
 
@@ -23,10 +23,10 @@ loop-pair-preserved g c =
     let rooms = subst (HaveNodeRoom (g.C.CountTable.has_room c.loop-pair.table)) left c.loop-pair.invariant.room in
     record {
       counted =
-          ap (λ (m : Map Counted). looked_up_from m rest) c.count_told-len.ensures.counted
+          ap (λ (m : Map Counted). looked_up_from m rest) c.count_pair-len.ensures.counted
           ∙ sym (ap (λ (ps : List (DirentPlus Entry)). looked_up_from (g.C.CountTable.counted c.loop-pair.table) ps) left)
           ∙ c.loop-pair.invariant.counted;
       room = kept_rooms (g.C.CountTable.has_room c.loop-pair.table)
-          (g.C.CountTable.has_room c.count_told-len.new.table) rest c.count_told-len.ensures.kept rooms.1;
-      len = c.count_told-len.ensures.len;
+          (g.C.CountTable.has_room c.count_pair-len.new.table) rest c.count_pair-len.ensures.kept rooms.1;
+      len = c.count_pair-len.ensures.len;
     }

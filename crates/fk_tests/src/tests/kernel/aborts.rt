@@ -1,6 +1,6 @@
 //! Aborts, and mounts after them and on a live mount.
 
-use super::{Reads, Row, START, Told, Written, run_on_new};
+use super::{Expected, Reads, Row, START, Written, run_on_new};
 use fk_kernel::Call;
 use fk_wire::Opcode;
 use fuse_spec::{IntrEffect, Refusal, WriteResult};
@@ -13,8 +13,8 @@ static ABORTED: [Row; 24] = [
     Row::Read(0, Reads::Head(4, Opcode::Mkdir)),
     Row::Signal(1, false, Ok(IntrEffect::Queued)),
     Row::Abort(Ok(())),
-    Row::Answered(1, Told::Errno(103)),
-    Row::Answered(2, Told::Errno(103)),
+    Row::Answered(1, Expected::Errno(103)),
+    Row::Answered(2, Expected::Errno(103)),
     Row::Unanswered(0),
     Row::Abort(Err(Refusal::NotReady)),
     Row::Read(0, Reads::Refused(Refusal::NotReady)),
@@ -32,7 +32,7 @@ static ABORTED: [Row; 24] = [
         WriteResult::NoEntry,
     ),
     Row::Begin(Call::Stat { path: b"a" }, Ok(3)),
-    Row::Answered(3, Told::Errno(107)),
+    Row::Answered(3, Expected::Errno(107)),
     // the mount after it begins anew; 7.38 is taken as 7.31
     Row::Mount(Ok(())),
     Row::Read(0, Reads::Head(2, Opcode::Init)),
@@ -55,7 +55,7 @@ static MOUNTED_ANEW: [Row; 15] = [
         Written::Whole("10000000 ffffffff 0400000000000000"),
         WriteResult::Accepted,
     ),
-    Row::Answered(1, Told::Errno(1)),
+    Row::Answered(1, Expected::Errno(1)),
     Row::Begin(Call::Mkdir { path: b"/a" }, Ok(2)),
     Row::Read(0, Reads::Head(6, Opcode::Mkdir)),
     Row::Write(
@@ -64,7 +64,7 @@ static MOUNTED_ANEW: [Row; 15] = [
         ),
         WriteResult::Accepted,
     ),
-    Row::Answered(2, Told::Done),
+    Row::Answered(2, Expected::Done),
     // no call is unanswered, and no file open
     Row::Mount(Ok(())),
     Row::Nodes(&[]),
@@ -89,7 +89,7 @@ static ABORTED_WHILE_OPEN: [Row; 11] = [
         ),
         WriteResult::Accepted,
     ),
-    Row::Answered(1, Told::Done),
+    Row::Answered(1, Expected::Done),
     Row::Mount(Err(Refusal::Busy)),
     Row::Abort(Ok(())),
     Row::Mount(Ok(())),
@@ -101,7 +101,7 @@ static ABORTED_WHILE_OPEN: [Row; 11] = [
         WriteResult::Accepted,
     ),
     Row::Begin(Call::Close { handle: 1 }, Ok(2)),
-    Row::Answered(2, Told::Errno(9)),
+    Row::Answered(2, Expected::Errno(9)),
 ];
 
 #[test]

@@ -1,6 +1,6 @@
 //! Each beginning of a reply, and the reply with a byte more: none is taken.
 
-use super::{Reads, Row, START, Told, Written, run_on_new};
+use super::{Expected, Reads, Row, START, Written, run_on_new};
 use fk_kernel::Call;
 use fk_wire::Opcode;
 use fuse_spec::{IntrEffect, WriteResult};
@@ -97,7 +97,7 @@ static READ: [Row; 6] = [
         Written::Whole("20000000 00000000 0400000000000000 0100000000000000 00000000 00000000"),
         WriteResult::Accepted,
     ),
-    Row::Answered(1, Told::Done),
+    Row::Answered(1, Expected::Done),
     Row::Begin(
         Call::Read {
             handle: 1,
@@ -117,7 +117,7 @@ static WRITTEN: [Row; 6] = [
         Written::Whole("20000000 00000000 0400000000000000 0100000000000000 00000000 00000000"),
         WriteResult::Accepted,
     ),
-    Row::Answered(1, Told::Done),
+    Row::Answered(1, Expected::Done),
     Row::Begin(
         Call::Write {
             handle: 1,
@@ -137,9 +137,9 @@ static CLOSED: [Row; 7] = [
         Written::Whole("20000000 00000000 0400000000000000 0100000000000000 00000000 00000000"),
         WriteResult::Accepted,
     ),
-    Row::Answered(1, Told::Done),
+    Row::Answered(1, Expected::Done),
     Row::Begin(Call::Close { handle: 1 }, Ok(2)),
-    Row::Answered(2, Told::Done),
+    Row::Answered(2, Expected::Done),
     Row::Read(0, Reads::Head(6, Opcode::Release)),
 ];
 
@@ -308,8 +308,8 @@ fn led_to(opcode: Opcode) -> &'static [Row] {
     }
 }
 
-/// Writes so many bytes of a reply and of a byte more, with the reply's `len` or their own: the writer gets Invalid, and the call EIO
-/// or, where it is to wait, nothing.
+/// Writes so many bytes of a reply and of a byte more, with the reply's `len` or their own: the writer gets Invalid, and
+/// the call EIO or, where it is to wait, nothing.
 fn check_cut(
     rt: &impl Abort,
     alloc: Global,
@@ -320,7 +320,7 @@ fn check_cut(
     let mut rows = led_to(case.opcode).to_vec(alloc)?;
     rows.push(Row::Write(Written::Cut(case.reply, len, is_own), WriteResult::Invalid))?;
     rows.push(match case.call {
-        Some(call) if is_own && len >= 16 => Row::Answered(call, Told::Errno(5)),
+        Some(call) if is_own && len >= 16 => Row::Answered(call, Expected::Errno(5)),
         _ => Row::Unanswered(case.waiting),
     })?;
     run_on_new(rt, alloc, &START, &rows, case.opcode.name());

@@ -1,6 +1,6 @@
 //! Bytes that no server of this project sends.
 
-use super::{Reads, Row, START, Told, Written, run_on_new};
+use super::{Expected, Reads, Row, START, Written, run_on_new};
 use fk_kernel::Call;
 use fk_wire::Opcode;
 use fuse_spec::{Kind, Refusal, WriteResult};
@@ -53,7 +53,7 @@ static WAITING: [Row; 17] = [
         Written::Whole("10000000 01feffff 0400000000000000"),
         WriteResult::Accepted,
     ),
-    Row::Answered(1, Told::Errno(511)),
+    Row::Answered(1, Expected::Errno(511)),
     // the request ended with it
     Row::Write(
         Written::Whole("10000000 01feffff 0400000000000000"),
@@ -72,7 +72,7 @@ static SHORT_ENTRY: [Row; 5] = [
         ),
         WriteResult::Invalid,
     ),
-    Row::Answered(1, Told::Errno(5)),
+    Row::Answered(1, Expected::Errno(5)),
     Row::Nodes(&[]),
 ];
 
@@ -84,7 +84,7 @@ static ERROR_WITH_BODY: [Row; 4] = [
         Written::Whole("18000000 feffffff 0400000000000000 0000000000000000"),
         WriteResult::Invalid,
     ),
-    Row::Answered(1, Told::Errno(5)),
+    Row::Answered(1, Expected::Errno(5)),
 ];
 
 /// An entry that is valid for a second of nanoseconds.
@@ -97,7 +97,7 @@ static NANOSECONDS: [Row; 6] = [
         ),
         WriteResult::Invalid,
     ),
-    Row::Answered(1, Told::Errno(5)),
+    Row::Answered(1, Expected::Errno(5)),
     Row::Nodes(&[]),
     Row::Forget(1, Reads::Refused(Refusal::NoSuch)),
 ];
@@ -112,7 +112,7 @@ static NAMES_THE_ROOT: [Row; 6] = [
         ),
         WriteResult::Accepted,
     ),
-    Row::Answered(1, Told::Errno(5)),
+    Row::Answered(1, Expected::Errno(5)),
     Row::Nodes(&[]),
     Row::Forget(1, Reads::Refused(Refusal::NoSuch)),
 ];
@@ -127,7 +127,7 @@ static ANOTHER_GENERATION: [Row; 12] = [
         ),
         WriteResult::Accepted,
     ),
-    Row::Answered(1, Told::Done),
+    Row::Answered(1, Expected::Done),
     Row::Tick(1000, Ok(1000)),
     Row::Begin(Call::Stat { path: b"/a" }, Ok(2)),
     Row::Read(0, Reads::Head(6, Opcode::Lookup)),
@@ -137,7 +137,7 @@ static ANOTHER_GENERATION: [Row; 12] = [
         ),
         WriteResult::Accepted,
     ),
-    Row::Answered(2, Told::Errno(5)),
+    Row::Answered(2, Expected::Errno(5)),
     Row::Nodes(&[(2, 1, 1)]),
     Row::Forget(2, Reads::Refused(Refusal::NoSuch)),
     Row::Forget(
@@ -158,7 +158,7 @@ static NO_NODE: [Row; 6] = [
         ),
         WriteResult::Accepted,
     ),
-    Row::Answered(1, Told::Errno(5)),
+    Row::Answered(1, Expected::Errno(5)),
     Row::Forget(1, Reads::Refused(Refusal::NoSuch)),
     Row::Nodes(&[]),
 ];
@@ -181,7 +181,7 @@ static UNUSUAL_NAMES: [Row; 4] = [
     ),
     Row::Answered(
         1,
-        Told::Names(&[(1, 1, Kind::Directory, "."), (2, 2, Kind::Other, "l")]),
+        Expected::Names(&[(1, 1, Kind::Directory, "."), (2, 2, Kind::Other, "l")]),
     ),
 ];
 
@@ -201,7 +201,7 @@ static SLASH_IN_NAME: [Row; 4] = [
         ),
         WriteResult::Invalid,
     ),
-    Row::Answered(1, Told::Errno(5)),
+    Row::Answered(1, Expected::Errno(5)),
 ];
 
 /// A list of 4,128 bytes, where 4,096 were asked.
@@ -222,7 +222,7 @@ static LONG_LIST: [Row; 4] = [
         ),
         WriteResult::Invalid,
     ),
-    Row::Answered(1, Told::Errno(5)),
+    Row::Answered(1, Expected::Errno(5)),
 ];
 
 /// A list of 4,096 bytes.
@@ -243,7 +243,7 @@ static WHOLE_LIST: [Row; 4] = [
         ),
         WriteResult::Accepted,
     ),
-    Row::Answered(1, Told::NamesLength(128)),
+    Row::Answered(1, Expected::NamesLength(128)),
 ];
 
 /// Reads of 10 bytes: a reply of 11, and one of 10.
@@ -256,7 +256,7 @@ static LONG_READ: [Row; 12] = [
         ),
         WriteResult::Accepted,
     ),
-    Row::Answered(1, Told::Done),
+    Row::Answered(1, Expected::Done),
     Row::Begin(
         Call::Read {
             handle: 1,
@@ -270,7 +270,7 @@ static LONG_READ: [Row; 12] = [
         Written::Whole("1b000000 00000000 0600000000000000 0000000000000000000000"),
         WriteResult::Invalid,
     ),
-    Row::Answered(2, Told::Errno(5)),
+    Row::Answered(2, Expected::Errno(5)),
     Row::Begin(
         Call::Read {
             handle: 1,
@@ -284,7 +284,7 @@ static LONG_READ: [Row; 12] = [
         Written::Whole("1a000000 00000000 0800000000000000 61616161616161616161"),
         WriteResult::Accepted,
     ),
-    Row::Answered(3, Told::Bytes("aaaaaaaaaa")),
+    Row::Answered(3, Expected::Bytes("aaaaaaaaaa")),
 ];
 
 /// Writes of two bytes: a reply of three, and one of one.
@@ -297,7 +297,7 @@ static LONG_WRITE: [Row; 12] = [
         ),
         WriteResult::Accepted,
     ),
-    Row::Answered(1, Told::Done),
+    Row::Answered(1, Expected::Done),
     Row::Begin(
         Call::Write {
             handle: 1,
@@ -311,7 +311,7 @@ static LONG_WRITE: [Row; 12] = [
         Written::Whole("18000000 00000000 0600000000000000 03000000 00000000"),
         WriteResult::Invalid,
     ),
-    Row::Answered(2, Told::Errno(5)),
+    Row::Answered(2, Expected::Errno(5)),
     Row::Begin(
         Call::Write {
             handle: 1,
@@ -325,7 +325,7 @@ static LONG_WRITE: [Row; 12] = [
         Written::Whole("18000000 00000000 0800000000000000 01000000 00000000"),
         WriteResult::Accepted,
     ),
-    Row::Answered(3, Told::Written(1)),
+    Row::Answered(3, Expected::Written(1)),
 ];
 
 /// A CREATE whose entry is of a counted node under another generation.
@@ -338,7 +338,7 @@ static CREATED_UNLIKE: [Row; 13] = [
         ),
         WriteResult::Accepted,
     ),
-    Row::Answered(1, Told::Done),
+    Row::Answered(1, Expected::Done),
     Row::Begin(Call::Create { path: b"/b" }, Ok(2)),
     Row::Read(0, Reads::Head(6, Opcode::Create)),
     Row::Write(
@@ -347,7 +347,7 @@ static CREATED_UNLIKE: [Row; 13] = [
         ),
         WriteResult::Accepted,
     ),
-    Row::Answered(2, Told::Errno(5)),
+    Row::Answered(2, Expected::Errno(5)),
     // the open number is given up: nothing is released, and the call has no open file
     Row::Read(0, Reads::Refused(Refusal::NoSuch)),
     Row::Forget(2, Reads::Refused(Refusal::NoSuch)),
@@ -358,7 +358,7 @@ static CREATED_UNLIKE: [Row; 13] = [
         ),
     ),
     Row::Begin(Call::Close { handle: 2 }, Ok(3)),
-    Row::Answered(3, Told::Errno(9)),
+    Row::Answered(3, Expected::Errno(9)),
 ];
 
 /// A CREATE whose entry names the root.
@@ -371,7 +371,7 @@ static CREATED_ROOT: [Row; 12] = [
         ),
         WriteResult::Accepted,
     ),
-    Row::Answered(1, Told::Done),
+    Row::Answered(1, Expected::Done),
     Row::Begin(Call::Create { path: b"/b" }, Ok(2)),
     Row::Read(0, Reads::Head(6, Opcode::Create)),
     Row::Write(
@@ -380,12 +380,12 @@ static CREATED_ROOT: [Row; 12] = [
         ),
         WriteResult::Accepted,
     ),
-    Row::Answered(2, Told::Errno(5)),
+    Row::Answered(2, Expected::Errno(5)),
     // the open number is given up: nothing is released, and the call has no open file
     Row::Read(0, Reads::Refused(Refusal::NoSuch)),
     Row::Forget(1, Reads::Refused(Refusal::NoSuch)),
     Row::Begin(Call::Close { handle: 2 }, Ok(3)),
-    Row::Answered(3, Told::Errno(9)),
+    Row::Answered(3, Expected::Errno(9)),
 ];
 
 /// A CREATE whose entry names no node.
@@ -398,7 +398,7 @@ static CREATED_NOTHING: [Row; 12] = [
         ),
         WriteResult::Accepted,
     ),
-    Row::Answered(1, Told::Done),
+    Row::Answered(1, Expected::Done),
     Row::Begin(Call::Create { path: b"/b" }, Ok(2)),
     Row::Read(0, Reads::Head(6, Opcode::Create)),
     Row::Write(
@@ -407,12 +407,12 @@ static CREATED_NOTHING: [Row; 12] = [
         ),
         WriteResult::Accepted,
     ),
-    Row::Answered(2, Told::Errno(5)),
+    Row::Answered(2, Expected::Errno(5)),
     // the open number is given up: nothing is released, and the call has no open file
     Row::Read(0, Reads::Refused(Refusal::NoSuch)),
     Row::Forget(1, Reads::Refused(Refusal::NoSuch)),
     Row::Begin(Call::Close { handle: 2 }, Ok(3)),
-    Row::Answered(3, Told::Errno(9)),
+    Row::Answered(3, Expected::Errno(9)),
 ];
 
 /// Any reply ends a RELEASE.
@@ -425,9 +425,9 @@ static RELEASED: [Row; 13] = [
         ),
         WriteResult::Accepted,
     ),
-    Row::Answered(1, Told::Done),
+    Row::Answered(1, Expected::Done),
     Row::Begin(Call::Close { handle: 1 }, Ok(2)),
-    Row::Answered(2, Told::Done),
+    Row::Answered(2, Expected::Done),
     Row::Read(0, Reads::Head(6, Opcode::Release)),
     Row::Evict(2, Err(Refusal::Busy)),
     Row::Write(

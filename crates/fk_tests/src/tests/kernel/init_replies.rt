@@ -1,6 +1,6 @@
 //! Replies to INIT: by one that agrees on nothing the mount is aborted, and one of 7.15 makes it ready.
 
-use super::{Reads, Row, Told, Written, run_on_new};
+use super::{Expected, Reads, Row, Written, run_on_new};
 use fk_kernel::Call;
 use fk_wire::Opcode;
 use fuse_spec::{Refusal, WriteResult};
@@ -17,7 +17,8 @@ static READ: [Row; 2] = [
     Row::Read(0, Reads::Head(2, Opcode::Init)),
 ];
 
-/// The mount is aborted: INIT is answered, calls are answered ENOTCONN, also for a faulty path, and a new mount may come.
+/// The mount is aborted: INIT is answered, calls are answered ENOTCONN, also for a faulty path, and a new mount may
+/// come.
 static ABORTED: [Row; 12] = [
     Row::Read(0, Reads::Refused(Refusal::NotReady)),
     Row::Abort(Err(Refusal::NotReady)),
@@ -26,9 +27,9 @@ static ABORTED: [Row; 12] = [
         WriteResult::NoEntry,
     ),
     Row::Begin(Call::Stat { path: b"/" }, Ok(1)),
-    Row::Answered(1, Told::Errno(107)),
+    Row::Answered(1, Expected::Errno(107)),
     Row::Begin(Call::Stat { path: b"a" }, Ok(2)),
-    Row::Answered(2, Told::Errno(107)),
+    Row::Answered(2, Expected::Errno(107)),
     Row::Mount(Ok(())),
     Row::Read(0, Reads::Head(2, Opcode::Init)),
     Row::Write(
@@ -96,8 +97,8 @@ static EARLY: [Row; 4] = [
     ),
 ];
 
-/// A reply of 7.15: a call is not answered, names are listed without their files, whatever flags are taken up, and the next mount
-/// offers 7.31 again, of which a reply may leave out FUSE_DO_READDIRPLUS.
+/// A reply of 7.15: a call is not answered, names are listed without their files, whatever flags are taken up, and the
+/// next mount offers 7.31 again, of which a reply may leave out FUSE_DO_READDIRPLUS.
 static OF_MINOR_15: [Row; 22] = [
     Row::Write(
         Written::Whole(
@@ -122,8 +123,8 @@ static OF_MINOR_15: [Row; 22] = [
         ),
     ),
     Row::Abort(Ok(())),
-    Row::Answered(1, Told::Errno(103)),
-    Row::Answered(2, Told::Errno(103)),
+    Row::Answered(1, Expected::Errno(103)),
+    Row::Answered(2, Expected::Errno(103)),
     Row::Mount(Ok(())),
     Row::Read(
         0,
@@ -146,7 +147,7 @@ static OF_MINOR_15: [Row; 22] = [
     ),
     Row::Read(0, Reads::Head(4, Opcode::Readdir)),
     Row::Abort(Ok(())),
-    Row::Answered(3, Told::Errno(103)),
+    Row::Answered(3, Expected::Errno(103)),
     Row::Mount(Ok(())),
     Row::Read(0, Reads::Head(2, Opcode::Init)),
     Row::Write(

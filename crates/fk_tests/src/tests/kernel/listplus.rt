@@ -1,6 +1,6 @@
 //! Names that a directory lists with their files: which are counted and in force, and which are forgotten.
 
-use super::{Reads, Row, START, Told, Written, run_on};
+use super::{Expected, Reads, Row, START, Written, run_on};
 use fail_at::FailAt;
 use fk_kernel::Call;
 use fk_wire::Opcode;
@@ -9,8 +9,8 @@ use std::alloc::{Allocator, Global};
 use std::process::Abort;
 use std::test::Fail;
 
-/// Two names of one node count two; `.`, a name without a node, the root and a node under another generation count and bind nothing,
-/// and of the last one lookup is forgotten.
+/// Two names of one node count two; `.`, a name without a node, the root and a node under another generation count and
+/// bind nothing, and of the last one lookup is forgotten.
 static COUNTED_AND_BOUND: [Row; 12] = [
     Row::Begin(
         Call::ListPlus {
@@ -33,7 +33,7 @@ static COUNTED_AND_BOUND: [Row; 12] = [
     ),
     Row::Answered(
         1,
-        Told::Names(&[
+        Expected::Names(&[
             (5, 1, Kind::Directory, "."),
             (9, 2, Kind::Regular, "z"),
             (2, 3, Kind::Regular, "a"),
@@ -76,7 +76,7 @@ static LONGEST: [Row; 8] = [
         ),
         WriteResult::Accepted,
     ),
-    Row::Answered(5, Told::NamesLength(25)),
+    Row::Answered(5, Expected::NamesLength(25)),
     Row::Nodes(&[(2, 7, 27)]),
     Row::Begin(
         Call::ListPlus {
@@ -97,7 +97,10 @@ static LONGEST: [Row; 8] = [
 ];
 
 /// The call is answered that the reply was wrong, and nothing is counted.
-static TOO_LONG: [Row; 2] = [Row::Answered(6, Told::Errno(5)), Row::Nodes(&[(2, 7, 27)])];
+static TOO_LONG: [Row; 2] = [
+    Row::Answered(6, Expected::Errno(5)),
+    Row::Nodes(&[(2, 7, 27)]),
+];
 
 /// The lists once on a new kernel.
 fn run_lists<A: Allocator + Copy>(

@@ -1,6 +1,6 @@
 //! Open files: when they are released, and what is asked of none.
 
-use super::{Reads, Row, START, Told, Written, run_on_new};
+use super::{Expected, Reads, Row, START, Written, run_on_new};
 use fk_kernel::Call;
 use fk_wire::Opcode;
 use fuse_spec::{IntrEffect, Refusal, WriteResult};
@@ -16,7 +16,7 @@ static CLOSED_WHILE_READ: [Row; 16] = [
         ),
         WriteResult::Accepted,
     ),
-    Row::Answered(1, Told::Done),
+    Row::Answered(1, Expected::Done),
     Row::Begin(
         Call::Read {
             handle: 1,
@@ -27,7 +27,7 @@ static CLOSED_WHILE_READ: [Row; 16] = [
     ),
     Row::Read(0, Reads::Head(6, Opcode::Read)),
     Row::Begin(Call::Close { handle: 1 }, Ok(3)),
-    Row::Answered(3, Told::Done),
+    Row::Answered(3, Expected::Done),
     Row::Read(0, Reads::Refused(Refusal::NoSuch)),
     // it is not open any more, and is released behind the read
     Row::Begin(
@@ -38,12 +38,12 @@ static CLOSED_WHILE_READ: [Row; 16] = [
         },
         Ok(4),
     ),
-    Row::Answered(4, Told::Errno(9)),
+    Row::Answered(4, Expected::Errno(9)),
     Row::Write(
         Written::Whole("12000000 00000000 0600000000000000 6869"),
         WriteResult::Accepted,
     ),
-    Row::Answered(2, Told::Bytes("hi")),
+    Row::Answered(2, Expected::Bytes("hi")),
     Row::Read(0, Reads::Head(8, Opcode::Release)),
     Row::Write(
         Written::Whole("10000000 00000000 0800000000000000"),
@@ -62,7 +62,7 @@ static CLOSED_WHILE_UNREAD: [Row; 16] = [
         ),
         WriteResult::Accepted,
     ),
-    Row::Answered(1, Told::Done),
+    Row::Answered(1, Expected::Done),
     Row::Begin(
         Call::Read {
             handle: 1,
@@ -80,15 +80,15 @@ static CLOSED_WHILE_UNREAD: [Row; 16] = [
         Ok(3),
     ),
     Row::Begin(Call::Close { handle: 1 }, Ok(4)),
-    Row::Answered(4, Told::Done),
+    Row::Answered(4, Expected::Done),
     Row::Signal(2, true, Ok(IntrEffect::Dequeued)),
-    Row::Answered(2, Told::Errno(4)),
+    Row::Answered(2, Expected::Errno(4)),
     Row::Read(0, Reads::Head(8, Opcode::Write)),
     Row::Write(
         Written::Whole("10000000 e4ffffff 0800000000000000"),
         WriteResult::Accepted,
     ),
-    Row::Answered(3, Told::Errno(28)),
+    Row::Answered(3, Expected::Errno(28)),
     Row::Read(
         0,
         Reads::Frame(
@@ -112,7 +112,7 @@ static ARGUMENTS: [Row; 22] = [
         ),
         WriteResult::Accepted,
     ),
-    Row::Answered(1, Told::Done),
+    Row::Answered(1, Expected::Done),
     Row::Begin(
         Call::Read {
             handle: 2,
@@ -121,7 +121,7 @@ static ARGUMENTS: [Row; 22] = [
         },
         Ok(2),
     ),
-    Row::Answered(2, Told::Errno(9)),
+    Row::Answered(2, Expected::Errno(9)),
     Row::Begin(
         Call::Read {
             handle: 1,
@@ -130,7 +130,7 @@ static ARGUMENTS: [Row; 22] = [
         },
         Ok(3),
     ),
-    Row::Answered(3, Told::Errno(22)),
+    Row::Answered(3, Expected::Errno(22)),
     Row::Begin(
         Call::Read {
             handle: 1,
@@ -139,7 +139,7 @@ static ARGUMENTS: [Row; 22] = [
         },
         Ok(4),
     ),
-    Row::Answered(4, Told::Errno(22)),
+    Row::Answered(4, Expected::Errno(22)),
     Row::Begin(
         Call::Write {
             handle: 1,
@@ -148,7 +148,7 @@ static ARGUMENTS: [Row; 22] = [
         },
         Ok(5),
     ),
-    Row::Answered(5, Told::Errno(22)),
+    Row::Answered(5, Expected::Errno(22)),
     Row::Begin(
         Call::Read {
             handle: 1,
@@ -162,13 +162,13 @@ static ARGUMENTS: [Row; 22] = [
         Written::Whole("10000000 00000000 0600000000000000"),
         WriteResult::Accepted,
     ),
-    Row::Answered(6, Told::Bytes("")),
+    Row::Answered(6, Expected::Bytes("")),
     Row::Begin(Call::Close { handle: 2 }, Ok(7)),
-    Row::Answered(7, Told::Errno(9)),
+    Row::Answered(7, Expected::Errno(9)),
     Row::Begin(Call::Close { handle: 1 }, Ok(8)),
-    Row::Answered(8, Told::Done),
+    Row::Answered(8, Expected::Done),
     Row::Begin(Call::Close { handle: 1 }, Ok(9)),
-    Row::Answered(9, Told::Errno(9)),
+    Row::Answered(9, Expected::Errno(9)),
 ];
 
 #[test]

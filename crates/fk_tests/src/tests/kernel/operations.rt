@@ -1,6 +1,7 @@
-//! Each operation: the frame of its request, byte for byte (linux/fuse.h), and what its reply comes to, also with each growth refused in turn.
+//! Each operation: the frame of its request, byte for byte (linux/fuse.h), and what its reply comes to, also with each
+//! growth refused in turn.
 
-use super::{Reads, Row, START, Told, Written, run_on};
+use super::{Expected, Reads, Row, START, Written, run_on};
 use fail_at::FailAt;
 use fk_kernel::Call;
 use fk_wire::Opcode;
@@ -25,9 +26,9 @@ static FOUND_AND_MADE: [Row; 24] = [
         ),
         WriteResult::Accepted,
     ),
-    Row::Answered(1, Told::Errno(2)),
+    Row::Answered(1, Expected::Errno(2)),
     Row::Begin(Call::Stat { path: b"/m" }, Ok(2)),
-    Row::Answered(2, Told::Errno(2)),
+    Row::Answered(2, Expected::Errno(2)),
     Row::Tick(250, Ok(250)),
     Row::Begin(Call::Stat { path: b"/m" }, Ok(3)),
     Row::Read(0, Reads::Head(6, Opcode::Lookup)),
@@ -35,7 +36,7 @@ static FOUND_AND_MADE: [Row; 24] = [
         Written::Whole("10000000 feffffff 0600000000000000"),
         WriteResult::Accepted,
     ),
-    Row::Answered(3, Told::Errno(2)),
+    Row::Answered(3, Expected::Errno(2)),
     Row::Begin(Call::Stat { path: b"/" }, Ok(4)),
     Row::Read(
         0,
@@ -51,7 +52,7 @@ static FOUND_AND_MADE: [Row; 24] = [
     ),
     Row::Answered(
         4,
-        Told::Attributes(Attributes {
+        Expected::Attributes(Attributes {
             kind: Kind::Directory,
             ino: 1,
             size: 0,
@@ -71,7 +72,7 @@ static FOUND_AND_MADE: [Row; 24] = [
         ),
         WriteResult::Accepted,
     ),
-    Row::Answered(5, Told::Done),
+    Row::Answered(5, Expected::Done),
     Row::Begin(Call::Create { path: b"/d/f" }, Ok(6)),
     Row::Read(
         0,
@@ -85,7 +86,7 @@ static FOUND_AND_MADE: [Row; 24] = [
         ),
         WriteResult::Accepted,
     ),
-    Row::Answered(6, Told::Done),
+    Row::Answered(6, Expected::Done),
     Row::Nodes(&[(2, 7, 1), (3, 8, 1)]),
 ];
 
@@ -109,7 +110,7 @@ static FILES_AND_LISTS: [Row; 20] = [
         Written::Whole("18000000 00000000 0e00000000000000 02000000 00000000"),
         WriteResult::Accepted,
     ),
-    Row::Answered(7, Told::Written(2)),
+    Row::Answered(7, Expected::Written(2)),
     Row::Begin(
         Call::Read {
             handle: 6,
@@ -128,7 +129,7 @@ static FILES_AND_LISTS: [Row; 20] = [
         Written::Whole("12000000 00000000 1000000000000000 6869"),
         WriteResult::Accepted,
     ),
-    Row::Answered(8, Told::Bytes("hi")),
+    Row::Answered(8, Expected::Bytes("hi")),
     Row::Begin(
         Call::Link {
             old: b"/d/f",
@@ -148,7 +149,7 @@ static FILES_AND_LISTS: [Row; 20] = [
         ),
         WriteResult::Accepted,
     ),
-    Row::Answered(9, Told::Done),
+    Row::Answered(9, Expected::Done),
     Row::Begin(Call::Open { path: b"/g" }, Ok(10)),
     Row::Read(
         0,
@@ -160,7 +161,7 @@ static FILES_AND_LISTS: [Row; 20] = [
         Written::Whole("20000000 00000000 1400000000000000 0600000000000000 00000000 00000000"),
         WriteResult::Accepted,
     ),
-    Row::Answered(10, Told::Done),
+    Row::Answered(10, Expected::Done),
     Row::Begin(
         Call::List {
             path: b"/",
@@ -182,7 +183,7 @@ static FILES_AND_LISTS: [Row; 20] = [
     ),
     Row::Answered(
         11,
-        Told::Names(&[
+        Expected::Names(&[
             (2, 4, Kind::Directory, "d"),
             (1, 5, Kind::Directory, ".."),
             (9, 6, Kind::Other, "link"),
@@ -209,7 +210,7 @@ static RENAMED_AND_REMOVED: [Row; 12] = [
         Written::Whole("10000000 00000000 1800000000000000"),
         WriteResult::Accepted,
     ),
-    Row::Answered(12, Told::Done),
+    Row::Answered(12, Expected::Done),
     Row::Begin(Call::Unlink { path: b"/g" }, Ok(13)),
     Row::Read(
         0,
@@ -221,7 +222,7 @@ static RENAMED_AND_REMOVED: [Row; 12] = [
         Written::Whole("10000000 00000000 1a00000000000000"),
         WriteResult::Accepted,
     ),
-    Row::Answered(13, Told::Done),
+    Row::Answered(13, Expected::Done),
     Row::Begin(Call::Rmdir { path: b"/d" }, Ok(14)),
     Row::Read(
         0,
@@ -233,7 +234,7 @@ static RENAMED_AND_REMOVED: [Row; 12] = [
         Written::Whole("10000000 d9ffffff 1c00000000000000"),
         WriteResult::Accepted,
     ),
-    Row::Answered(14, Told::Errno(39)),
+    Row::Answered(14, Expected::Errno(39)),
 ];
 
 /// A call is signalled, and its INTERRUPT read; files are closed, and nodes given up.
@@ -249,9 +250,9 @@ static SIGNALLED_AND_GIVEN_UP: [Row; 27] = [
         Written::Whole("10000000 fcffffff 1e00000000000000"),
         WriteResult::Accepted,
     ),
-    Row::Answered(15, Told::Errno(4)),
+    Row::Answered(15, Expected::Errno(4)),
     Row::Begin(Call::Close { handle: 6 }, Ok(16)),
-    Row::Answered(16, Told::Done),
+    Row::Answered(16, Expected::Done),
     Row::Read(
         0,
         Reads::Frame(
@@ -263,7 +264,7 @@ static SIGNALLED_AND_GIVEN_UP: [Row; 27] = [
         WriteResult::Accepted,
     ),
     Row::Begin(Call::Close { handle: 10 }, Ok(17)),
-    Row::Answered(17, Told::Done),
+    Row::Answered(17, Expected::Done),
     Row::Read(0, Reads::Head(34, Opcode::Release)),
     Row::Evict(3, Err(Refusal::Busy)),
     Row::Write(
@@ -298,7 +299,7 @@ static WALKED: [Row; 25] = [
         ),
         WriteResult::Accepted,
     ),
-    Row::Answered(18, Told::Done),
+    Row::Answered(18, Expected::Done),
     Row::Begin(Call::Stat { path: b"/p/q/r" }, Ok(19)),
     Row::Read(
         0,
@@ -325,7 +326,7 @@ static WALKED: [Row; 25] = [
         ),
         WriteResult::Accepted,
     ),
-    Row::Answered(19, Told::Errno(5)),
+    Row::Answered(19, Expected::Errno(5)),
     Row::Begin(
         Call::Rename {
             old: b"/p/q/r",
@@ -355,7 +356,7 @@ static WALKED: [Row; 25] = [
         Written::Whole("10000000 feffffff 2e00000000000000"),
         WriteResult::Accepted,
     ),
-    Row::Answered(20, Told::Errno(2)),
+    Row::Answered(20, Expected::Errno(2)),
     Row::Begin(
         Call::Link {
             old: b"/p/q",
@@ -375,7 +376,7 @@ static WALKED: [Row; 25] = [
         ),
         WriteResult::Accepted,
     ),
-    Row::Answered(21, Told::Errno(2)),
+    Row::Answered(21, Expected::Errno(2)),
     Row::Unanswered(0),
     Row::Nodes(&[(4, 9, 1), (5, 9, 1), (6, 9, 1)]),
     Row::DropName(4, "q", Ok(())),

@@ -1,6 +1,6 @@
 //! Signals to calls, and replies to INTERRUPTs (fuse.rst).
 
-use super::{Reads, Row, START, Told, Written, run_on_new};
+use super::{Expected, Reads, Row, START, Written, run_on_new};
 use fk_kernel::Call;
 use fk_wire::Opcode;
 use fuse_spec::{IntrEffect, Refusal, WriteResult};
@@ -44,7 +44,7 @@ static KNOWN: [Row; 0] = [];
 
 /// The call is answered EINTR, and its request is gone.
 static DEQUEUED: [Row; 4] = [
-    Row::Answered(1, Told::Errno(4)),
+    Row::Answered(1, Expected::Errno(4)),
     Row::Read(0, Reads::Refused(Refusal::NoSuch)),
     Row::Interrupt(Reads::Refused(Refusal::NoSuch)),
     Row::Unanswered(1),
@@ -105,7 +105,8 @@ static FATAL_DEQUEUED: [Row; 1] = [Row::Signal(1, true, Ok(IntrEffect::Dequeued)
 /// A fatal signal to the first.
 static FATAL_QUEUED: [Row; 1] = [Row::Signal(1, true, Ok(IntrEffect::Queued))];
 
-/// How far the request has come, whether INTERRUPTs are known, the signal and its effect, and what is there to read afterwards.
+/// How far the request has come, whether INTERRUPTs are known, the signal and its effect, and what is there to read
+/// afterwards.
 static SIGNALS: [Cell; 16] = [
     (
         "unread, soft",
@@ -264,7 +265,7 @@ static ENDED: [Row; 4] = [
         Written::Whole("10000000 ffffffff 0400000000000000"),
         WriteResult::Accepted,
     ),
-    Row::Answered(1, Told::Errno(1)),
+    Row::Answered(1, Expected::Errno(1)),
 ];
 
 /// The second is signalled.
@@ -508,7 +509,7 @@ static MARKS: [Row; 40] = [
         Written::Whole("10000000 fcffffff 0400000000000000"),
         WriteResult::Accepted,
     ),
-    Row::Answered(1, Told::Errno(4)),
+    Row::Answered(1, Expected::Errno(4)),
     Row::Signal(1, false, Err(Refusal::NoSuch)),
     Row::Signal(9, true, Err(Refusal::NoSuch)),
     Row::Begin(Call::Stat { path: b"/a/b" }, Ok(3)),
@@ -546,7 +547,7 @@ static MARKS: [Row; 40] = [
         ),
         WriteResult::Accepted,
     ),
-    Row::Answered(3, Told::Errno(2)),
+    Row::Answered(3, Expected::Errno(2)),
     // after ENOSYS a fatal signal still takes an unread request away
     Row::Write(
         Written::Whole("10000000 daffffff 0700000000000000"),
@@ -555,7 +556,7 @@ static MARKS: [Row; 40] = [
     Row::Begin(Call::Stat { path: b"/" }, Ok(4)),
     Row::Signal(4, false, Ok(IntrEffect::None)),
     Row::Signal(4, true, Ok(IntrEffect::Dequeued)),
-    Row::Answered(4, Told::Errno(4)),
+    Row::Answered(4, Expected::Errno(4)),
     Row::Unanswered(1),
 ];
 

@@ -40,7 +40,7 @@ invariant_of-self-2 g c =
       c.in-Ok.ensures.entries,
       c.remove-file.ensures.entries,
       c.enqueue-unique.ensures.state,
-      c.reserve-2.ensures.state,
+      c.reserve_request.ensures.state,
     )
     (record {
       numbers = numbers;
@@ -50,14 +50,12 @@ invariant_of-self-2 g c =
           (shut_files k.calls.entries k.opens.entries k.closing.entries k.next_call old.files c.args.handle);
       releases = omega (
         arith,
-        c.in-Ok-reserve.ensures.requests,
+        c.in_ok-reserve_request.ensures.room,
         c.enqueue-unique.ensures.requests_room,
-        c.in-Some.ensures,
-        c.len.ensures,
       );
       nodes = still_counted k.nodes (g.Q.QueueTable.room k.queues).forgets
           (g.Q.QueueTable.room c.enqueue-unique.new.self).forgets old.nodes
-          (omega (arith, c.reserve-2.ensures.kept.forgets, c.enqueue-unique.ensures.forgets_room));
+          (omega (arith, c.reserve_request.ensures.kept.forgets, c.enqueue-unique.ensures.forgets_room));
       clock_low = old.clock_low;
     })
 
@@ -81,7 +79,7 @@ returns-clause-begun g c =
       c.in-Ok.ensures.entries,
       c.remove-file.ensures.entries,
       c.enqueue-unique.ensures.state,
-      c.reserve-2.ensures.state,
+      c.reserve_request.ensures.state,
       c.new.ensures,
       gone_absent k.calls.entries k.next_call fresh_inside,
     ) refl

@@ -1,4 +1,5 @@
-use Rattle.std.proofs.Common.{◌≡◌, ◌≢◌, ◌≤◌, ◌<◌, ◌^◌, length, Some, None, refl, sym, ap, arith}
+use Rattle.std.proofs.Common.{◌≡◌, ◌≢◌, ◌≤◌, ◌<◌, ◌^◌, length, Some, None, refl, sym, ap, ◌∙◌, arith}
+use Rattle.std.proofs.lemmas.Result.{err_from_is_err_and}
 use Rattle.fuse_spec.specs.Values.Maps.{get}
 use Rattle.fuse_spec.specs.Kernel.Refusals.{or_no_memory}
 use Rattle.fk_kernel.proofs.Closes.{closes_in_use, used_unrefused}
@@ -39,8 +40,8 @@ returns-in_default-reserve-clause-refusal g c =
     let judged = used_unrefused now c.args.handle c.args.opened c.requires.not_aborted c.requires.open none fresh c.requires.ready c.requires.few c.requires.number c.requires.used high in
     sym (ap or_no_memory judged)
 
-pub returns-in_default-checked_add-clause-refusal : goal.returns-in_default-checked_add-clause-refusal
-returns-in_default-checked_add-clause-refusal g c =
+pub returns-in_err-reserve_request-clause-refusal : goal.returns-in_err-reserve_request-clause-refusal
+returns-in_err-reserve_request-clause-refusal g c =
     let now = c.args.self.now in
     let k = c.self.inside in
     let old = c.self.invariant in
@@ -53,23 +54,8 @@ returns-in_default-checked_add-clause-refusal g c =
     rw (← c.self.view_is) (old.numbers.calls_below k.next_call (omega arith)) in
     let high : now.queues.next ≤ 2 ^ 62 = rw (← c.self.view_is) c.keeps_sound.ensures.next.high in
     let judged = used_unrefused now c.args.handle c.args.opened c.requires.not_aborted c.requires.open none fresh c.requires.ready c.requires.few c.requires.number c.requires.used high in
-    sym (ap or_no_memory judged)
-
-pub returns-in_default-reserve-2-clause-refusal : goal.returns-in_default-reserve-2-clause-refusal
-returns-in_default-reserve-2-clause-refusal g c =
-    let now = c.args.self.now in
-    let k = c.self.inside in
-    let old = c.self.invariant in
-    let here : get k.opens.entries c.args.handle ≡ Some c.args.opened = rw (← c.self.view_is) at c.requires.open in
-    let there : get k.opens.entries c.args.handle ≢ None =
-    some_not_none (get k.opens.entries c.args.handle) c.args.opened here in
-    let none : get now.closing c.args.handle ≡ None =
-    rw (← c.self.view_is) (old.files.closed_once c.args.handle there) in
-    let fresh : get now.vfs.calls now.vfs.next_call ≡ None =
-    rw (← c.self.view_is) (old.numbers.calls_below k.next_call (omega arith)) in
-    let high : now.queues.next ≤ 2 ^ 62 = rw (← c.self.view_is) c.keeps_sound.ensures.next.high in
-    let judged = used_unrefused now c.args.handle c.args.opened c.requires.not_aborted c.requires.open none fresh c.requires.ready c.requires.few c.requires.number c.requires.used high in
-    sym (ap or_no_memory judged)
+    let p = err_from_is_err_and c.from_residual.result c.from_residual.ensures.1 in
+    rw (p.1, p.2) (c.in_err-reserve_request.ensures.refusal ∙ sym (ap or_no_memory judged))
 
 pub invariant_of-self-2 : goal.invariant_of-self-2
 invariant_of-self-2 g c =
@@ -85,14 +71,14 @@ invariant_of-self-2 g c =
     let here : get k.opens.entries c.args.handle ≡ Some c.args.opened = rw (← c.self.view_is) at c.requires.open in
     let there = some_not_none (get k.opens.entries c.args.handle) c.args.opened here in
     let long = length_put k.closing.entries c.args.handle c.args.opened in
-    let closed = rw c.in-Ok-reserve.ensures.entries at c.len.ensures in
+    let reserved_request = rw c.in-Ok-reserve.ensures.entries at c.in_ok-reserve_request.ensures.room in
     rw (
       c.put-2.ensures.entries,
       c.in-Ok.ensures.entries,
       c.remove-file.ensures.entries,
       c.put.ensures.entries,
       c.in-Ok-reserve.ensures.entries,
-      c.reserve-3.ensures.state,
+      c.reserve_request.ensures.state,
     )
     (record {
       numbers = numbers;
@@ -100,9 +86,9 @@ invariant_of-self-2 g c =
       sorted = old.sorted;
       files = numbered_files k.calls.entries _ _ k.next_call
           (closed_files k.calls.entries k.opens.entries k.closing.entries k.next_call old.files c.args.handle c.args.opened there);
-      releases = omega (arith, long, c.in-Ok-reserve-2.ensures.requests, c.in-Some.ensures, closed);
+      releases = omega (arith, long, reserved_request);
       nodes = still_counted k.nodes (g.Q.QueueTable.room k.queues).forgets
-          (g.Q.QueueTable.room c.reserve-3.new.self).forgets old.nodes c.reserve-3.ensures.kept.forgets;
+          (g.Q.QueueTable.room c.reserve_request.new.queues).forgets old.nodes c.reserve_request.ensures.kept.forgets;
       clock_low = old.clock_low;
     })
 
@@ -135,4 +121,4 @@ returns-clause-begun g c =
     let fresh : get now.vfs.calls now.vfs.next_call ≡ None =
     rw (← c.self.view_is) (old.numbers.calls_below k.next_call (omega arith)) in
     let fresh_inside : get k.calls.entries k.next_call ≡ None = old.numbers.calls_below k.next_call (omega arith) in
-    rw (closes_in_use now c.args.handle c.args.opened c.requires.not_aborted c.requires.open none fresh c.requires.used, ← c.self.view_is, c.put-2.ensures.entries, c.in-Ok.ensures.entries, c.remove-file.ensures.entries, c.put.ensures.entries, c.in-Ok-reserve.ensures.entries, c.reserve-3.ensures.state, c.new.ensures, gone_absent k.calls.entries k.next_call fresh_inside) refl
+    rw (closes_in_use now c.args.handle c.args.opened c.requires.not_aborted c.requires.open none fresh c.requires.used, ← c.self.view_is, c.put-2.ensures.entries, c.in-Ok.ensures.entries, c.remove-file.ensures.entries, c.put.ensures.entries, c.in-Ok-reserve.ensures.entries, c.reserve_request.ensures.state, c.new.ensures, gone_absent k.calls.entries k.next_call fresh_inside) refl

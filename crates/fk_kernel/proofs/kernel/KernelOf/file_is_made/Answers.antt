@@ -26,18 +26,17 @@ invariant_of-self-2 g c =
     let waits : is_some (waiting s c.args.unique) ≡ true = rw (← c.self.view_is) at (ap is_some c.requires.waits) in
     let there = some_not_none (get k.calls.entries c.args.call) (doing (create made.directory made.name)) here in
     let kept = c.answer-kept.ensures.room.forgets in
-    let reserved = c.in-Ok.ensures.forgets in
-    let most = c.node_count-forgets.ensures.count in
+    let reserved = c.in_ok-bind_entry.ensures.room in
     let room : length k.nodes + 1 ≤ (g.Q.QueueTable.room c.answer-kept.new.self).forgets =
     omega arith in
     let fits = rw (← c.self.view_is) at c.requires.fits in
     rw (
       c.answer-kept.ensures.state,
-      c.reserve.ensures.state,
-      c.in-Ok-bind_entry.ensures.nodes,
+      c.bind_entry.ensures.state,
+      c.in_ok-bind_entry.ensures.nodes,
       c.remove-state.ensures.entries,
       c.put.ensures.entries,
-      c.in-Ok-reserve.ensures.entries,
+      c.in-Ok.ensures.entries,
       c.put-2.ensures.entries,
     )
     (record {
@@ -45,7 +44,7 @@ invariant_of-self-2 g c =
       idle = λ down. rw (old.idle down) refl;
       sorted = sorted_gone k.calls.entries c.args.call old.sorted;
       files = opened_files k.calls.entries k.opens.entries k.closing.entries k.next_call old.files old.numbers.calls_below c.args.call (record { nodeid = c.args.entry.now.nodeid; fh = c.args.fh }) there;
-      releases = omega (arith, old.releases, c.reserve.ensures.kept.requests, c.answer-kept.ensures.room.requests);
+      releases = omega (arith, old.releases, c.bind_entry.ensures.kept.requests, c.answer-kept.ensures.room.requests);
       nodes = looked_up_counted k.nodes (g.Q.QueueTable.room k.queues).forgets
           (g.Q.QueueTable.room c.answer-kept.new.self).forgets old.nodes room c.args.entry.now fits;
       clock_low = old.clock_low;
@@ -64,18 +63,18 @@ returns-clause-ok g c =
     let day = c.requires.day in
     let until : c.saturating_add-until.result ≡ k.clock + c.args.valid_ms =
     omega (arith, c.saturating_add-until.ensures) in
-    let names = c.in-Ok-bind_entry.ensures.names (doing (create made.directory made.name))
+    let names = c.in_ok-bind_entry.ensures.names (doing (create made.directory made.name))
     (made.directory, made.name) here refl in
     rw (
       c.answer-kept.ensures.state,
-      c.reserve.ensures.state,
+      c.bind_entry.ensures.state,
       answered_is s c.args.unique waits,
       names,
       until,
-      c.in-Ok-bind_entry.ensures.nodes,
+      c.in_ok-bind_entry.ensures.nodes,
       c.remove-state.ensures.entries,
       c.put.ensures.entries,
-      c.in-Ok-reserve.ensures.entries,
+      c.in-Ok.ensures.entries,
       c.put-2.ensures.entries,
       c.new.ensures,
       ← c.self.view_is,

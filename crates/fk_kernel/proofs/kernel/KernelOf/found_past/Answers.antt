@@ -21,10 +21,10 @@ returns-else-looks_up-clause-within g c = λ stays.
     let aw = c.requires.awaits in
     made_within now c.args.unique c.args.call c.requires.even c.requires.waits c.within.ensures c.args.entry.now c.args.valid_ms aw (sym c.in-Usable.ensures) (λ d w ws p e. c.looks_up.ensures.other c.if-looks_up.false d w ws p (sym c.requires.unanswered ∙ aw.at ∙ e))
 
-pub returns-in-Useless-clause-within : goal.returns-in-Useless-clause-within
-returns-in-Useless-clause-within g c = λ stays.
+pub returns-in-InvalidNodeid-clause-within : goal.returns-in-InvalidNodeid-clause-within
+returns-in-InvalidNodeid-clause-within g c = λ stays.
     let now = c.args.self.now in
-    useless_within now c.args.unique c.args.call c.requires.even c.requires.waits c.within.ensures c.args.entry.now c.args.valid_ms c.requires.awaits (sym c.in-Useless.ensures)
+    useless_within now c.args.unique c.args.call c.requires.even c.requires.waits c.within.ensures c.args.entry.now c.args.valid_ms c.requires.awaits (sym c.in-InvalidNodeid.ensures)
 
 pub returns-in-Stale-clause-within : goal.returns-in-Stale-clause-within
 returns-in-Stale-clause-within g c = λ stays.

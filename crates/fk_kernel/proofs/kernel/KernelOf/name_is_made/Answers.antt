@@ -1,9 +1,7 @@
-use Rattle.std.proofs.Common.{◌≡◌, ◌≤◌, ◌+◌, length, true, Some, ap, arith}
-use Rattle.std.specs.Prelude.{is_some}
+use Rattle.std.proofs.Common.{◌≡◌, ◌+◌, Some, arith}
 use Rattle.fuse_spec.specs.Values.Maps.{get}
-use Rattle.fuse_spec.specs.Kernel.QueueCalls.{waiting}
 use Rattle.fuse_spec.specs.Calls.Vfs.{doing}
-use Rattle.fk_kernel.proofs.Nodes.{looked_up_counted, answered_is}
+use Rattle.fk_kernel.proofs.Nodes.{looked_up_counted}
 use Rattle.fk_kernel.proofs.Replied.{made_found}
 use Rattle.fk_kernel.proofs.CallStates.{makes_place}
 use Rattle.fk_kernel.proofs.kernel.KernelOf.name_is_made.Goals as goal
@@ -20,48 +18,38 @@ bind_entry-requires-clause-names_one g c =
 pub invariant_of-self-2 : goal.invariant_of-self-2
 invariant_of-self-2 g c =
     let k = c.self.inside in
-    let s = g.Q.QueueTable.state k.queues in
     let old = c.self.invariant in
-    let waits : is_some (waiting s c.args.unique) ≡ true = rw (← c.self.view_is) at (ap is_some c.requires.waits) in
-    let kept = c.answer-kept.ensures.room.forgets in
-    let reserved = c.in-Ok.ensures.forgets in
-    let most = c.node_count-forgets.ensures.count in
-    let room : length k.nodes + 1 ≤ (g.Q.QueueTable.room c.answer-kept.new.self).forgets =
-    omega arith in
     let fits = rw (← c.self.view_is) at c.requires.fits in
-    rw (c.answer-kept.ensures.state, c.reserve.ensures.state, c.in-Ok-bind_entry.ensures.nodes)
+    rw (c.bind_entry.ensures.state, c.in_ok-bind_entry.ensures.nodes)
     (record {
       numbers = old.numbers;
       idle = old.idle;
       sorted = old.sorted;
       files = old.files;
-      releases = omega (arith, old.releases, c.reserve.ensures.kept.requests, c.answer-kept.ensures.room.requests);
+      releases = omega (arith, old.releases, c.bind_entry.ensures.kept.requests);
       nodes = looked_up_counted k.nodes (g.Q.QueueTable.room k.queues).forgets
-          (g.Q.QueueTable.room c.answer-kept.new.self).forgets old.nodes room c.args.entry.now fits;
+          (g.Q.QueueTable.room c.bind_entry.new.queues).forgets old.nodes c.in_ok-bind_entry.ensures.room
+          c.args.entry.now fits;
       clock_low = old.clock_low;
     })
 
 pub returns-clause-ok : goal.returns-clause-ok
 returns-clause-ok g c =
     let k = c.self.inside in
-    let s = g.Q.QueueTable.state k.queues in
     let makes = c.requires.makes in
-    let waits : is_some (waiting s c.args.unique) ≡ true = rw (← c.self.view_is) at (ap is_some c.requires.waits) in
     let here : get k.calls.entries c.args.call ≡ Some (doing makes.operation) = rw (← c.self.view_is) at makes.is in
     let low = c.self.invariant.clock_low in
     let day = c.requires.day in
     let until : c.saturating_add-until.result ≡ k.clock + c.args.valid_ms =
     omega (arith, c.saturating_add-until.ensures) in
-    let names = c.in-Ok-bind_entry.ensures.names (doing makes.operation) makes.place here
+    let names = c.in_ok-bind_entry.ensures.names (doing makes.operation) makes.place here
     (makes_place makes.operation makes.place makes.makes) in
     rw (
-      c.finish.ensures,
-      c.answer-kept.ensures.state,
-      c.reserve.ensures.state,
-      answered_is s c.args.unique waits,
+      c.answer_call.ensures,
+      c.bind_entry.ensures.state,
       names,
       until,
-      c.in-Ok-bind_entry.ensures.nodes,
+      c.in_ok-bind_entry.ensures.nodes,
       ← c.self.view_is,
     )
     (rw (← c.self.view_is) at

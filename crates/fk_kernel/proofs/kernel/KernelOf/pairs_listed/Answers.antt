@@ -1,4 +1,5 @@
 use Rattle.std.proofs.Common.{◌≡◌, ℕ, ◌+◌, ◌≤◌, true, length, Some, ap, sym, subst, ◌∙◌, arith}
+use Rattle.std.proofs.lemmas.List.{length-map}
 use Rattle.std.specs.Prelude.{is_some}
 use Rattle.fuse_spec.specs.Values.Maps.{get}
 use Rattle.fuse_spec.specs.Files.Operations as reply
@@ -7,6 +8,8 @@ use Rattle.fuse_spec.specs.Kernel.QueueCalls.{waiting}
 use Rattle.fuse_spec.specs.Kernel.Replies.{each_forgotten, goes_with}
 use Rattle.fuse_spec.specs.Calls.Vfs.{doing, asked}
 use Rattle.fuse_spec.specs.declared.Opened.{Opened}
+use Rattle.fk_wire.specs.Records.{pluses_in}
+use Rattle.fuse_frames.specs.ReplyTies.{pair_in}
 use Rattle.fk_nodes.specs.LookedUp.{looked_up_from, stale_by}
 use Rattle.fk_nodes.specs.ListedFiles.{pairs_in}
 use Rattle.fk_kernel.proofs.CountsHeard.{pairs_below}
@@ -27,10 +30,9 @@ invariant_of-self-2 g c =
     let below = rw (← c.self.view_is) at (pairs_below c.args.self.now.nodes pairs c.requires.counts) in
     let kept = c.answer-kept.ensures.room.forgets in
     let given = c.forget_stale.ensures.forgets in
-    let reserved = c.in-Ok-reserve.ensures.forgets in
-    let most = c.node_count.ensures.count in
+    let reserved = c.in_ok-reserve_forgets.ensures.room in
     let room : length k.nodes + length pairs ≤ (g.Q.QueueTable.room c.answer-kept.new.self).forgets =
-    omega (arith, c.pair_count.ensures) in
+    omega (arith, c.count_left.ensures.count, length-map (pluses_in c.args.pairs) pair_in) in
     rw c.in-Ok-count_and_bind.ensures.nodes
     (record {
       numbers = old.numbers;
@@ -40,7 +42,7 @@ invariant_of-self-2 g c =
       releases = omega (
         arith,
         old.releases,
-        c.reserve.ensures.kept.requests,
+        c.reserve_forgets.ensures.kept.requests,
         c.forget_stale.ensures.requests,
         c.answer-kept.ensures.room.requests,
       );
@@ -70,7 +72,7 @@ returns-clause-ok g c =
       c.finish.ensures,
       c.answer-kept.ensures.state,
       c.forget_stale.ensures.state,
-      c.reserve.ensures.state,
+      c.reserve_forgets.ensures.state,
       c.in-Ok-count_and_bind.ensures.names,
       c.in-Ok-count_and_bind.ensures.nodes,
       answered_is (each_forgotten s stale) c.args.unique waits,

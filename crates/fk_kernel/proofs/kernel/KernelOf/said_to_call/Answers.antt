@@ -12,7 +12,7 @@ use Rattle.fuse_spec.specs.Kernel.Refusals.{is_counted_out, is_past_end}
 use Rattle.fk_nodes.proofs.Outs.{or_none}
 use Rattle.fuse_frames.specs.ReplySaid.{wire_of}
 use Rattle.fk_kernel.specs.AwaitedReplies.{Says, reply_to, awaited_by_call, wrong_body_to}
-use Rattle.fk_kernel.proofs.CountsHeard.{said_few, wrong_nodes}
+use Rattle.fk_kernel.proofs.CountsHeard.{wrong_nodes}
 use Rattle.fk_kernel.proofs.PastEnds.{passes, said_passes, none_passes, wrong_to_call}
 use Rattle.fk_kernel.proofs.Replied.{ends_over, judged_op}
 use Rattle.fk_kernel.proofs.Within.{wrong_within}
@@ -39,10 +39,6 @@ returns-then-ends_past-clause-past g c =
       awaits = awaits;
       past = λ wire means. ends_over now c.args.head.unique c.args.call c.requires.even c.requires.waits p stands wire;
     }
-
-pub said_past-requires-clause-few : goal.said_past-requires-clause-few
-said_past-requires-clause-few g c = said_few c.asks.result c.asks.ensures.size
-    (wire_of c.in-Some.said) c.in-Some.ensures.said.goes
 
 pub returns-then-said_past-clause-past : goal.returns-then-said_past-clause-past
 returns-then-said_past-clause-past g c =
@@ -78,7 +74,6 @@ returns-else-said_past-clause-said g c =
         goes = said.goes;
       };
       day = said.day;
-      few = said_few c.asks.result c.asks.ensures.size (wire_of c.in-Some.said) said.goes;
       within = c.said_past.ensures.within c.if-said_past.false;
       counts = c.said_past.ensures.counts c.if-said_past.false;
     }

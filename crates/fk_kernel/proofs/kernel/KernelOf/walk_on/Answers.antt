@@ -35,8 +35,8 @@ found-requires g c =
     let stands = c.requires.looks_up in
     let here : get k.calls.entries c.args.call ≡ Some (walking stands.directory stands.word stands.words stands.plan) =
     rw (← c.self.view_is) at stands.is in
-    let state : c.in-Some-remove.state ≡ walking stands.directory stands.word stands.words stands.plan =
-    cc (here, c.remove.ensures.value, c.in-Some-remove.is) in
+    let state : c.in-Some.state ≡ walking stands.directory stands.word stands.words stands.plan =
+    cc (here, c.remove.ensures.value, c.in-Some.is) in
     subst IsWalking (sym state) tt
 
 pub enqueue-unique-requires-clause-number : goal.enqueue-unique-requires-clause-number
@@ -47,14 +47,14 @@ enqueue-unique-requires-clause-number g c =
     let here : get k.calls.entries c.args.call ≡ Some (walking stands.directory stands.word stands.words stands.plan) =
     rw (← c.self.view_is) at stands.is in
     let waits : is_some (waiting s c.args.unique) ≡ true = rw (← c.self.view_is) at (ap is_some c.requires.waits) in
-    let state : c.in-Some-remove.state ≡ walking stands.directory stands.word stands.words stands.plan =
-    cc (here, c.remove.ensures.value, c.in-Some-remove.is) in
+    let state : c.in-Some.state ≡ walking stands.directory stands.word stands.words stands.plan =
+    cc (here, c.remove.ensures.value, c.in-Some.is) in
     let now = c.args.self.now in
     let low = c.self.invariant.clock_low in
     let day = c.requires.day in
     let until : c.saturating_add-until.result ≡ k.clock + c.args.valid_ms =
     omega (arith, c.saturating_add-until.ensures) in
-    let names = c.in-Ok-bind_entry.ensures.names (walking stands.directory stands.word stands.words stands.plan)
+    let names = c.in_ok-bind_entry.ensures.names (walking stands.directory stands.word stands.words stands.plan)
     (stands.directory, stands.word) here refl in
     let vfs : Vfs Opened = bound now.vfs stands.directory stands.word (Some c.args.entry.now.nodeid) c.args.valid_ms in
     let has : HasNames vfs c.bind_entry.new.names.names k.clock =
@@ -73,7 +73,7 @@ enqueue-unique-requires-clause-number g c =
     (lookup_found now c.args.unique c.args.call c.requires.even c.requires.waits stands.directory stands.word stands.words stands.plan stands.is c.args.entry.now c.args.valid_ms c.requires.usable))
     ∙ c.requires.within in
     let left = asked_left now.queues.next now.vfs.next_call asks in
-    rw (c.answer-kept.ensures.state, c.reserve.ensures.state, answered_is s c.args.unique waits)
+    rw (c.answer-kept.ensures.state, c.bind_entry.ensures.state, c.reserve_request.ensures.state, answered_is s c.args.unique waits)
     (rw (← c.self.view_is) at left)
 
 pub put-requires-clause-absent : goal.put-requires-clause-absent
@@ -87,14 +87,14 @@ invariant_of-self-in-Waits g c =
     let here : get k.calls.entries c.args.call ≡ Some (walking stands.directory stands.word stands.words stands.plan) =
     rw (← c.self.view_is) at stands.is in
     let waits : is_some (waiting s c.args.unique) ≡ true = rw (← c.self.view_is) at (ap is_some c.requires.waits) in
-    let state : c.in-Some-remove.state ≡ walking stands.directory stands.word stands.words stands.plan =
-    cc (here, c.remove.ensures.value, c.in-Some-remove.is) in
+    let state : c.in-Some.state ≡ walking stands.directory stands.word stands.words stands.plan =
+    cc (here, c.remove.ensures.value, c.in-Some.is) in
     let now = c.args.self.now in
     let low = c.self.invariant.clock_low in
     let day = c.requires.day in
     let until : c.saturating_add-until.result ≡ k.clock + c.args.valid_ms =
     omega (arith, c.saturating_add-until.ensures) in
-    let names = c.in-Ok-bind_entry.ensures.names (walking stands.directory stands.word stands.words stands.plan)
+    let names = c.in_ok-bind_entry.ensures.names (walking stands.directory stands.word stands.words stands.plan)
     (stands.directory, stands.word) here refl in
     let vfs : Vfs Opened = bound now.vfs stands.directory stands.word (Some c.args.entry.now.nodeid) c.args.valid_ms in
     let has : HasNames vfs c.bind_entry.new.names.names k.clock =
@@ -107,9 +107,8 @@ invariant_of-self-in-Waits g c =
     let some : is_some (get k.calls.entries c.args.call) ≡ true = ap is_some here in
     let there = there_is (get k.calls.entries c.args.call) some in
     let kept = c.answer-kept.ensures.room.forgets in
-    let reserved = c.in-Ok.ensures.forgets in
+    let reserved = c.in_ok-bind_entry.ensures.room in
     let queued = c.enqueue-unique.ensures.forgets_room in
-    let most = c.node_count-forgets.ensures.count in
     let room : length k.nodes + 1 ≤ (g.Q.QueueTable.room c.answer-kept.new.self).forgets =
     omega arith in
     let fits = rw (← c.self.view_is) at c.requires.fits in
@@ -118,8 +117,9 @@ invariant_of-self-in-Waits g c =
     rw (
       c.enqueue-unique.ensures.state,
       c.answer-kept.ensures.state,
-      c.reserve.ensures.state,
-      c.in-Ok-bind_entry.ensures.nodes,
+      c.bind_entry.ensures.state,
+      c.reserve_request.ensures.state,
+      c.in_ok-bind_entry.ensures.nodes,
       c.put.ensures.entries,
       c.remove.ensures.entries,
       put_gone k.calls.entries c.args.call c.in-Waits.state old.sorted,
@@ -131,11 +131,10 @@ invariant_of-self-in-Waits g c =
       files = walking_files k.calls.entries k.opens.entries k.closing.entries k.next_call old.files c.args.call c.in-Waits.state there;
       releases = omega (
         arith,
-        c.in-Ok.ensures.requests,
+        c.in_ok-reserve_request.ensures.room,
+        c.bind_entry.ensures.kept.requests,
         c.answer-kept.ensures.room.requests,
         c.enqueue-unique.ensures.requests_room,
-        c.in-Some.ensures,
-        c.len.ensures,
       );
       nodes = still_counted _ (g.Q.QueueTable.room c.answer-kept.new.self).forgets
           (g.Q.QueueTable.room c.enqueue-unique.new.self).forgets counted queued;
@@ -153,15 +152,15 @@ invariant_of-self-in-Answered g c =
     let old = c.self.invariant in
     let there = there_is (get k.calls.entries c.args.call) (ap is_some here) in
     let kept = c.answer-kept.ensures.room.forgets in
-    let reserved = c.in-Ok.ensures.forgets in
-    let most = c.node_count-forgets.ensures.count in
+    let reserved = c.in_ok-bind_entry.ensures.room in
     let room : length k.nodes + 1 ≤ (g.Q.QueueTable.room c.answer-kept.new.self).forgets =
     omega arith in
     let fits = rw (← c.self.view_is) at c.requires.fits in
     rw (
       c.answer-kept.ensures.state,
-      c.reserve.ensures.state,
-      c.in-Ok-bind_entry.ensures.nodes,
+      c.bind_entry.ensures.state,
+      c.reserve_request.ensures.state,
+      c.in_ok-bind_entry.ensures.nodes,
       c.put-in-Answered.ensures.entries,
       c.remove.ensures.entries,
     )
@@ -170,7 +169,13 @@ invariant_of-self-in-Answered g c =
       idle = λ down. absurd (there (ap (λ m. get m c.args.call) (old.idle down)));
       sorted = sorted_gone k.calls.entries c.args.call old.sorted;
       files = answered_files k.calls.entries k.opens.entries k.closing.entries k.next_call old.files c.args.call;
-      releases = omega (arith, old.releases, c.reserve.ensures.kept.requests, c.answer-kept.ensures.room.requests);
+      releases = omega (
+        arith,
+        old.releases,
+        c.reserve_request.ensures.kept.requests,
+        c.bind_entry.ensures.kept.requests,
+        c.answer-kept.ensures.room.requests,
+      );
       nodes = looked_up_counted k.nodes (g.Q.QueueTable.room k.queues).forgets
           (g.Q.QueueTable.room c.answer-kept.new.self).forgets old.nodes room c.args.entry.now fits;
       clock_low = old.clock_low;
@@ -184,14 +189,14 @@ returns-in-Waits-clause-ok g c =
     let here : get k.calls.entries c.args.call ≡ Some (walking stands.directory stands.word stands.words stands.plan) =
     rw (← c.self.view_is) at stands.is in
     let waits : is_some (waiting s c.args.unique) ≡ true = rw (← c.self.view_is) at (ap is_some c.requires.waits) in
-    let state : c.in-Some-remove.state ≡ walking stands.directory stands.word stands.words stands.plan =
-    cc (here, c.remove.ensures.value, c.in-Some-remove.is) in
+    let state : c.in-Some.state ≡ walking stands.directory stands.word stands.words stands.plan =
+    cc (here, c.remove.ensures.value, c.in-Some.is) in
     let now = c.args.self.now in
     let low = c.self.invariant.clock_low in
     let day = c.requires.day in
     let until : c.saturating_add-until.result ≡ k.clock + c.args.valid_ms =
     omega (arith, c.saturating_add-until.ensures) in
-    let names = c.in-Ok-bind_entry.ensures.names (walking stands.directory stands.word stands.words stands.plan)
+    let names = c.in_ok-bind_entry.ensures.names (walking stands.directory stands.word stands.words stands.plan)
     (stands.directory, stands.word) here refl in
     let vfs : Vfs Opened = bound now.vfs stands.directory stands.word (Some c.args.entry.now.nodeid) c.args.valid_ms in
     let has : HasNames vfs c.bind_entry.new.names.names k.clock =
@@ -213,11 +218,12 @@ returns-in-Waits-clause-ok g c =
       ← c.self.view_is,
       c.enqueue-unique.ensures.state,
       c.answer-kept.ensures.state,
-      c.reserve.ensures.state,
+      c.bind_entry.ensures.state,
+      c.reserve_request.ensures.state,
       answered_is s c.args.unique waits,
       names,
       until,
-      c.in-Ok-bind_entry.ensures.nodes,
+      c.in_ok-bind_entry.ensures.nodes,
       c.put.ensures.entries,
       c.remove.ensures.entries,
       put_gone k.calls.entries c.args.call c.in-Waits.state c.self.invariant.sorted,
@@ -231,14 +237,14 @@ returns-in-Answered-clause-ok g c =
     let here : get k.calls.entries c.args.call ≡ Some (walking stands.directory stands.word stands.words stands.plan) =
     rw (← c.self.view_is) at stands.is in
     let waits : is_some (waiting s c.args.unique) ≡ true = rw (← c.self.view_is) at (ap is_some c.requires.waits) in
-    let state : c.in-Some-remove.state ≡ walking stands.directory stands.word stands.words stands.plan =
-    cc (here, c.remove.ensures.value, c.in-Some-remove.is) in
+    let state : c.in-Some.state ≡ walking stands.directory stands.word stands.words stands.plan =
+    cc (here, c.remove.ensures.value, c.in-Some.is) in
     let now = c.args.self.now in
     let low = c.self.invariant.clock_low in
     let day = c.requires.day in
     let until : c.saturating_add-until.result ≡ k.clock + c.args.valid_ms =
     omega (arith, c.saturating_add-until.ensures) in
-    let names = c.in-Ok-bind_entry.ensures.names (walking stands.directory stands.word stands.words stands.plan)
+    let names = c.in_ok-bind_entry.ensures.names (walking stands.directory stands.word stands.words stands.plan)
     (stands.directory, stands.word) here refl in
     let vfs : Vfs Opened = bound now.vfs stands.directory stands.word (Some c.args.entry.now.nodeid) c.args.valid_ms in
     let has : HasNames vfs c.bind_entry.new.names.names k.clock =
@@ -259,11 +265,12 @@ returns-in-Answered-clause-ok g c =
     ∙ rw (
       ← c.self.view_is,
       c.answer-kept.ensures.state,
-      c.reserve.ensures.state,
+      c.bind_entry.ensures.state,
+      c.reserve_request.ensures.state,
       answered_is s c.args.unique waits,
       names,
       until,
-      c.in-Ok-bind_entry.ensures.nodes,
+      c.in_ok-bind_entry.ensures.nodes,
       c.put-in-Answered.ensures.entries,
       c.new.ensures,
       c.remove.ensures.entries,

@@ -33,10 +33,10 @@ returns-in-Ok-replied-clause-taken g c =
     let said = wire_of c.in-Some-said.said in
     let says = (rw c.in-Some-said.is at c.in-Ok.ensures.said).says in
     let goes : c.is_some.result ≡ true = c.is_some.ensures ∙ ap is_some c.in-Some-said.is in
-    let told : c.result_of-told.result ≡ Accepted = c.result_of-told.ensures
+    let written : c.result_of-written.result ≡ Accepted = c.result_of-written.ensures
     ∙ ap (λ b. cond b Accepted Invalid) goes in
     let ok = c.in-Ok-replied.ensures.ok in
-    rw (awaits, told)
+    rw (awaits, written)
     (taken_judged now c.args.head.unique bytes _ _ o (judged_op (asked state))
     (λ wire other. ap (reply_written now c.args.head.unique) (says_one o bytes wire said other says) ∙ ok)
     (λ none. absurd (none said says)))

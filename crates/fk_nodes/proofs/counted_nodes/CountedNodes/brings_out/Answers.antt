@@ -25,7 +25,7 @@ returns-clause-out g c = λ more.
     let low : counted.count < counter_end = c.requires.below entry.nodeid counted at in
     let same : counted.generation ≡ entry.generation = c.if-counted-entry.false in
     let over : counter_end - 1 - counted.count < times_listed entry.nodeid entry.generation pairs =
-    ltb-true _ _ (sym c.tell_more.ensures ∙ more) in
+    ltb-true _ _ (sym c.lists_more_than.ensures ∙ more) in
     let out : counter_end ≤ counted.count + times_listed entry.nodeid entry.generation pairs =
     past counted.count (times_listed entry.nodeid entry.generation pairs) low over in
     one_out nodes pairs entry.nodeid counted (high entry.nodeid (omega (arith, c.if-entry-lt2.false))) at

@@ -1,5 +1,8 @@
-use Rattle.std.proofs.Common.{◌≡◌, ◌+◌, ◌-◌, ◌^◌, min, length, arith, All, ap, map, subst, sym}
+use Rattle.std.proofs.Common.{◌≡◌, ◌+◌, ◌-◌, ◌^◌, ◌<◌, min, length, arith, All, ap, map, subst, sym}
+use Rattle.std.proofs.lemmas.List.{length-map}
 use Rattle.std.proofs.lemmas.List.Elements.{All-nil}
+use Rattle.fk_wire.specs.Records.{pluses_in}
+use Rattle.fuse_spec.specs.Values.Numbers.{counter_end}
 use Rattle.fuse_frames.specs.ReplyTies.{pair_in}
 use Rattle.fuse_spec.specs.Files.Operations.{DirentPlus, listed_by}
 use Rattle.fuse_spec.specs.declared.Entry.{Entry}
@@ -16,7 +19,9 @@ returns-clause-within g c = λ none.
     let left = ap (map pair_in) c.in-None.ensures.steps.0 in
     let rest = subst (λ ps. All (λ (pair : DirentPlus Entry). LeavesBelow nodes pairs (listed_by pair)) ps) (sym left)
     (All-nil (λ (pair : DirentPlus Entry). LeavesBelow nodes pairs (listed_by pair))) in
-    stay_below nodes pairs c.requires.below c.requires.few (c.loop-pair.invariant rest)
+    let few : length pairs < counter_end =
+    omega (arith, c.count_left-names.ensures.count, length-map (pluses_in c.args.pairs) pair_in) in
+    stay_below nodes pairs c.requires few (c.loop-pair.invariant rest)
 
 pub returns-then-saturating_add-lt-COUNTER_END-clause-within :
     goal.returns-then-saturating_add-lt-COUNTER_END-clause-within
@@ -26,5 +31,5 @@ returns-then-saturating_add-lt-COUNTER_END-clause-within g c = λ none.
     let most = c.self.inside.most_lookups in
     let more = c.saturating_add.result in
     let rises : more ≡ min (most + length pairs) (2 ^ 64 - 1) =
-    omega (arith, c.saturating_add.ensures, c.pair_count-names.ensures) in
+    omega (arith, c.saturating_add.ensures, c.count_left-names.ensures.count, length-map (pluses_in c.args.pairs) pair_in) in
     rw (← c.self.view_is) (all_below pairs m most more c.self.invariant.1 rises c.if-saturating_add-lt-COUNTER_END.true)

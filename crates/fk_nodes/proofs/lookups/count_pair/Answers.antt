@@ -3,7 +3,7 @@ use Rattle.std.specs.Prelude.{is_none}
 use Rattle.fuse_spec.specs.Kernel.Replies.{use_counted}
 use Rattle.fuse_spec.specs.Values.Maps.{get}
 use Rattle.fk_nodes.proofs.Counts.{one_more_by, as_many_by}
-use Rattle.fk_nodes.proofs.lookups.count_told.Goals as goal
+use Rattle.fk_nodes.proofs.lookups.count_pair.Goals as goal
 
 pub returns-then-count_one-clause-len : goal.returns-then-count_one-clause-len
 returns-then-count_one-clause-len g c =

@@ -18,7 +18,7 @@ pub(crate) fn valid_ms(pair: &DirentPlus<'_>) -> u64
 }
 
 /// The file that a name tells, if it tells one: `.` and `..` tell none (linux/fuse.h, struct fuse_direntplus).
-pub(crate) fn told(pair: &DirentPlus<'_>) -> Option<Entry>
+pub(crate) fn entry_of(pair: &DirentPlus<'_>) -> Option<Entry>
     ensures { result ≡ listed_by (pair_in (direntplus_content pair.now)) }
 {
     listed_by(pair).0

@@ -3,7 +3,7 @@ use Rattle.fuse_spec.specs.declared.Entry.{Entry}
 use Rattle.fuse_spec.specs.Files.Operations.{DirentPlus}
 use Rattle.fk_syscalls.specs.Values.{dirent_of}
 use Rattle.fk_nodes.specs.ListedFiles.{pairs_in}
-use Rattle.fk_nodes.proofs.listed.names_listed.Given as goal
+use Rattle.fk_nodes.proofs.listed_names.names_of_direntpluses.Given as goal
 
 abbrev pub invariant-loop-pair : goal.invariant-loop-pair
 invariant-loop-pair g l =
