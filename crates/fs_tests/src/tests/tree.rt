@@ -82,7 +82,7 @@ fn perform<A: Allocator + Copy>(
         Operation::Lookup(dir, name) => Ok(found(tree.lookup(dir, name.as_bytes())?)),
         Operation::Mkdir(dir, name) => Ok(Answer::File(tree.mkdir(dir, name.as_bytes())?)),
         Operation::Create(dir, name) => Ok(Answer::File(tree.create(dir, name.as_bytes())?)),
-        Operation::Open(file) => done(tree.open(file)),
+        Operation::Open(file) => done(tree.may_open(file)),
         Operation::Write(file, offset, text) => {
             if !tree.is_regular(file) {
                 return Err(TreeError::Invalid);
