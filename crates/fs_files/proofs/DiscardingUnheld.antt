@@ -110,8 +110,8 @@ module _ (files : FilesState) (v : Validity) where
   abbrev stays : ℕ → Bool
   stays x = not (is_nameless files.tree x) || holds x
 
-  module _ (loose : Option ℕ) (named : AreNamedBut loose files.tree files.nodes files.handles) where
-    other_stays : (x : ℕ) → (loose ≡ Some x → ⊥) → IsThere files.tree x → stays x ≡ true
+  module _ (but : Option ℕ) (named : AreNamedBut but files.tree files.nodes files.handles) where
+    other_stays : (x : ℕ) → (but ≡ Some x → ⊥) → IsThere files.tree x → stays x ≡ true
     other_stays x other there = by (holds x) refl
       where
         by : (b : Bool) → holds x ≡ b → (not (is_nameless files.tree x) || b) ≡ true
@@ -170,13 +170,13 @@ module _ (files : FilesState) (v : Validity) where
           (sym (one_goes stays file (λ i. not (nameless i) || held i) files.tree.files others))
       by false held false nameless = all (held_first (not (is_nameless files.tree file)) (holds file) (ap not nameless))
 
-  pub discarded_unheld_if_none : (loose : Option ℕ) → loose ≡ None → AreNamedBut loose files.tree files.nodes files.handles
+  pub discarded_unheld_if_none : (but : Option ℕ) → but ≡ None → AreNamedBut but files.tree files.nodes files.handles
       → files.tree ≡ without_unheld holds files.tree
-  discarded_unheld_if_none loose none named = discarded_unheld_none (subst
+  discarded_unheld_if_none but none named = discarded_unheld_none (subst
       (λ (o : Option ℕ). AreNamedBut o files.tree files.nodes files.handles) none named)
 
-  module _ (loose : Option ℕ) (file : ℕ) (is : loose ≡ Some file)
-      (named : AreNamedBut loose files.tree files.nodes files.handles) where
+  module _ (but : Option ℕ) (file : ℕ) (is : but ≡ Some file)
+      (named : AreNamedBut but files.tree files.nodes files.handles) where
     but_file : AreNamedBut (Some file) files.tree files.nodes files.handles
     but_file = subst (λ (o : Option ℕ). AreNamedBut o files.tree files.nodes files.handles) is named
 
@@ -185,14 +185,14 @@ module _ (files : FilesState) (v : Validity) where
 
     pub named_held : holds file ≡ true → AreNamed files.tree files.nodes files.handles
     named_held held = subst (λ (t : Tree). AreNamed t files.nodes files.handles) (sym (discarded_unheld_held held))
-        (all_named loose named)
+        (all_named but named)
 
     pub discarded_unheld_gone : holds file ≡ false → discarded files.tree file ≡ without_unheld holds files.tree
     discarded_unheld_gone none = discarded_unheld_one file but_file false none
 
     pub named_gone : holds file ≡ false → AreNamed (discarded files.tree file) files.nodes files.handles
     named_gone none = subst (λ (t : Tree). AreNamed t files.nodes files.handles) (sym (discarded_unheld_gone none))
-        (all_named loose named)
+        (all_named but named)
 
 -- ---- where nothing is known
 

@@ -1,6 +1,6 @@
 -- What an operation draws, refused or not.
 use Rattle.std.proofs.Common.{◌≡◌, ℕ, Bool, true, false, true≢false, cond, List, [], length, Option, Some, None, sym, ap, subst, arith, refl}
-use Rattle.std.specs.Prelude.{is_some}
+use Rattle.std.specs.Prelude.{is_err, Result, Ok, Err}
 use Rattle.fuse_spec.specs.Values.Numbers.{ebadf, eintr, eio}
 use Rattle.fuse_spec.specs.Kernel.Messages.{RequestBody, asks, release}
 use Rattle.fuse_spec.specs.Files.Operations.{Operation, Reply, failed, files_in_reply, opens_in_reply}
@@ -13,18 +13,19 @@ use Rattle.fuse_spec.specs.Files.Trees.{Tree}
 use Rattle.fuse_spec.specs.Files.FileOperations.{FileOperation, refusal, reply_by, reply_or, reply_unrefused, tree_after, tree_or, tree_unrefused}
 use Rattle.fs_tree.specs.Outcomes.{Refuses}
 use Rattle.fs_tree.specs.declared.error.TreeError.{TreeError}
-use Rattle.fs_files.specs.Plans.{Draws}
+use Rattle.fs_files.specs.Plans.{DrawsNumbers}
 use Rattle.fs_files.specs.declared.plan.Plan.{Plan}
 
-pub not_refused : (first : Option ℕ) (o : Option TreeError) → Refuses first o → is_some o ≡ false → first ≡ None
-not_refused first None refuses none = refuses
-not_refused first (Some error) refuses none = absurd (true≢false none)
+pub not_refused : {T : Type 0} (first : Option ℕ) (r : Result T TreeError) → Refuses first r → is_err r ≡ false
+    → first ≡ None
+not_refused first (Ok x) refuses none = refuses
+not_refused first (Err error) refuses none = absurd (true≢false none)
 
 pub draws_unrefused : (v : Validity) (tree : Tree) (operation : FileOperation) (plan : Plan)
-    → refusal tree operation ≡ None → Draws tree (tree_unrefused tree operation) (reply_unrefused v tree operation) plan
-    → Draws tree (tree_after tree operation) (reply_by v tree operation) plan
+    → refusal tree operation ≡ None → DrawsNumbers tree (tree_unrefused tree operation) (reply_unrefused v tree operation) plan
+    → DrawsNumbers tree (tree_after tree operation) (reply_by v tree operation) plan
 draws_unrefused v tree operation plan none draws =
-    subst (λ (r : Option ℕ). Draws tree (tree_or tree (tree_unrefused tree operation) r)
+    subst (λ (r : Option ℕ). DrawsNumbers tree (tree_or tree (tree_unrefused tree operation) r)
     (reply_or (reply_unrefused v tree operation) r) plan) (sym none) draws
 
 -- ---- requests that no INTERRUPT marked, and whose nodes are held
@@ -35,11 +36,11 @@ module _ (s : Server) (h : HeldRequest) (unmarked : h.marked ≡ false)
   handles_release o is = sym (λ i. cond (unmarked i) s.handles (cond (still i) (handles_by s (is i)) s.handles))
 
   pub body_draws : (body : RequestBody) → h.body ≡ body → (plan : Plan)
-      → Draws s.tree (tree_by s body) (said_by s body) plan → Draws s.tree (tree_said s h) (said s h) plan
+      → DrawsNumbers s.tree (tree_by s body) (said_by s body) plan → DrawsNumbers s.tree (tree_said s h) (said s h) plan
   body_draws body is plan draws =
-      subst (λ (t : Tree). Draws s.tree t (said s h) plan)
+      subst (λ (t : Tree). DrawsNumbers s.tree t (said s h) plan)
       (sym (λ i. cond (unmarked i) s.tree (cond (still i) (tree_by s (is i)) s.tree)))
-      (subst (λ (r : Reply ℕ ℕ). Draws s.tree (tree_by s body) r plan)
+      (subst (λ (r : Reply ℕ ℕ). DrawsNumbers s.tree (tree_by s body) r plan)
       (sym (λ i. cond (unmarked i) (failed eintr) (cond (still i) (said_by s (is i)) (failed eio)))) draws)
 
 -- nothing is drawn
@@ -47,8 +48,8 @@ abbrev pub nothing : Plan
 nothing = record { births = 0; serials = 0; opens = 0; files = record { items = [] } }
 
 pub none_drawn : (tree : Tree) (reply : Reply ℕ ℕ) (plan : Plan) → files_in_reply reply ≡ []
-    → opens_in_reply reply ≡ [] → plan ≡ nothing → Draws tree tree reply plan
-none_drawn tree reply plan files opens is = subst (Draws tree tree reply) (sym is)
+    → opens_in_reply reply ≡ [] → plan ≡ nothing → DrawsNumbers tree tree reply plan
+none_drawn tree reply plan files opens is = subst (DrawsNumbers tree tree reply) (sym is)
     (record {
       births = omega arith;
       serials = omega arith;
@@ -63,17 +64,17 @@ module _ (s : Server) (o : Operation ℕ Opened) where
   on_tree = file_operation_of s.nodes o
 
   asked_draws : (b : Bool) (plan : Plan) → is_open_for s o ≡ b
-      → Draws s.tree (cond b (tree_after s.tree on_tree) s.tree)
+      → DrawsNumbers s.tree (cond b (tree_after s.tree on_tree) s.tree)
       (cond b (reply_by s.validity s.tree on_tree) (failed ebadf)) plan
-      → Draws s.tree (tree_by s (asks o)) (said_by s (asks o)) plan
-  asked_draws b plan open' = subst (λ (c : Bool). Draws s.tree (cond c (tree_after s.tree on_tree) s.tree)
+      → DrawsNumbers s.tree (tree_by s (asks o)) (said_by s (asks o)) plan
+  asked_draws b plan open' = subst (λ (c : Bool). DrawsNumbers s.tree (cond c (tree_after s.tree on_tree) s.tree)
       (cond c (reply_by s.validity s.tree on_tree) (failed ebadf)) plan) (sym open')
 
   pub open_draws : (plan : Plan) → is_open_for s o ≡ true
-      → Draws s.tree (tree_after s.tree on_tree) (reply_by s.validity s.tree on_tree) plan
-      → Draws s.tree (tree_by s (asks o)) (said_by s (asks o)) plan
+      → DrawsNumbers s.tree (tree_after s.tree on_tree) (reply_by s.validity s.tree on_tree) plan
+      → DrawsNumbers s.tree (tree_by s (asks o)) (said_by s (asks o)) plan
   open_draws plan open' = asked_draws true plan open'
 
   pub closed_draws : (plan : Plan) → is_open_for s o ≡ false → plan ≡ nothing
-      → Draws s.tree (tree_by s (asks o)) (said_by s (asks o)) plan
+      → DrawsNumbers s.tree (tree_by s (asks o)) (said_by s (asks o)) plan
   closed_draws plan closed is = asked_draws false plan closed (none_drawn s.tree (failed ebadf) plan refl refl is)

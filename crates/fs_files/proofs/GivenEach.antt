@@ -8,7 +8,7 @@ use Rattle.fuse_spec.proofs.Tables.{get_put_here}
 use Rattle.fuse_spec.specs.Server.Nodes.{HeldNode, NodeTable, IsUnheld, MayChoose, MayName, all_given, given, given_row}
 use Rattle.fuse_spec.specs.Files.Operations.{first_listed}
 use Rattle.fs_nodes.specs.Rows.{IsOf}
-use Rattle.fs_nodes.specs.Sound.{IsSound}
+use Rattle.fs_nodes.specs.Sound.{IsSoundNodeTable}
 use Rattle.fs_nodes.proofs.Maps.{first_there, sorted_later, there_later}
 use Rattle.fs_files.specs.Bounds.{AreCounted}
 use Rattle.fs_files.specs.Giving.{GivenEach, generations_after, node_in}
@@ -18,7 +18,7 @@ use Rattle.fs_files.proofs.Giving.{generation_left, generations_given, given_fil
 -- ---- the file of one name, or none
 
 -- a generation is left for the file of a name other than `.` and `..`
-pub named_left : (t : NodeTable) (file : ℕ) (dots : Bool) → dots ≡ false → IsSound t
+pub named_left : (t : NodeTable) (file : ℕ) (dots : Bool) → dots ≡ false → IsSoundNodeTable t
     → generations_after t (first_listed (cond dots None (Some file)) []) ≤ 2 ^ 62 → IsUnheld t file
     → t.next_generation < 2 ^ 62
 named_left t file true no_dots sound enough unheld = absurd (true≢false no_dots)
@@ -41,7 +41,7 @@ module _ (t new : NodeTable) where
     subst (λ (n : NodeTable). GivenEach n files last) one.2 rest,
   )
 
-  pub one_generations : (file_named : Option ℕ) (files : List ℕ) → IsSound t
+  pub one_generations : (file_named : Option ℕ) (files : List ℕ) → IsSoundNodeTable t
       → GivenEach t (first_listed file_named []) new
       → generations_after new files ≡ generations_after t (first_listed file_named files)
   one_generations None files sound one = ap (λ (n : NodeTable). generations_after n files) one
@@ -70,7 +70,7 @@ module _ (last : NodeTable) where
       let more = each_stays (given t file given_all.0) files given_all.2 q one.0 one.1 in
       (more.0, more.1, more.2 ∙ one.2)
 
-  module _ (sound : IsSound last) where
+  module _ (sound : IsSoundNodeTable last) where
     -- the node that a file got is its node at the end
     chosen : (t : NodeTable) (file : ℕ) (files : List ℕ) (given_all : GivenEach t (file ∷ files) last)
         → given_all.0 ≡ node_in last.rows file
@@ -119,7 +119,7 @@ some_node (e ∷ rows) sorted two file = by (nat_eq e.1.file file)
     by true rest = let low = two e.0 e.1 (first_there e rows) in omega (arith, low)
     by false rest = rest
 
-pub no_zero : (t : NodeTable) → IsSound t → (file : ℕ) → nat_eq (node_in t.rows file) 0 ≡ false
+pub no_zero : (t : NodeTable) → IsSoundNodeTable t → (file : ℕ) → nat_eq (node_in t.rows file) 0 ≡ false
 no_zero t sound file = above (node_in t.rows file) (some_node t.rows (holds_sorted t sound) sound.from_two file)
   where
     above : (n : ℕ) → 1 ≤ n → nat_eq n 0 ≡ false

@@ -16,7 +16,7 @@ use Rattle.fuse_spec.specs.Values.Numbers.{counter_end}
 use Rattle.fuse_spec.proofs.Tables.{get_put_here, get_put_there}
 use Rattle.fuse_spec.specs.Server.Server.{count_in}
 use Rattle.fs_nodes.specs.Rows.{IsOf}
-use Rattle.fs_nodes.specs.Sound.{IsSound}
+use Rattle.fs_nodes.specs.Sound.{IsSoundNodeTable}
 use Rattle.fs_nodes.proofs.Maps.{HasValue, any_is, any_there, first_there, sorted_later, there_any, there_later, sorted_put, turned}
 use Rattle.fs_tree.proofs.Shaping.{same_number}
 use Rattle.fs_files.specs.Bounds.{AreHeldBelow}
@@ -299,7 +299,7 @@ module _ (t : NodeTable) (files : List ℕ) where
         out_at id row.0 file row.1 row.2 (omega (arith, counted, is_more, le))
 
     -- or they don't
-    pub within_at : IsSound t → AreHeldBelow t → nat_le (2 ^ 62 - count) more ≡ false → IsCountable t files file
+    pub within_at : IsSoundNodeTable t → AreHeldBelow t → nat_le (2 ^ 62 - count) more ≡ false → IsCountable t files file
     within_at sound below short other same there is =
         let row = row_at (get t.rows id) refl of_file in
         let one : id ≡ other = sound.one_each id other row.0 same row.1 there (row.2 ∙ sym is) in
@@ -337,7 +337,7 @@ node_found (e ∷ rows) file sorted any = by (nat_eq e.1.file file) refl any
     by false same any rest = behind (node_in rows file) (get rows (node_in rows file)) refl (rest any)
 
 -- the node of a file that has one
-pub node_of_is : (t : NodeTable) (file id : ℕ) → IsSound t → IsOf (get t.rows id) file → id ≡ node_in t.rows file
+pub node_of_is : (t : NodeTable) (file id : ℕ) → IsSoundNodeTable t → IsOf (get t.rows id) file → id ≡ node_in t.rows file
 node_of_is t file id sound is = by (get t.rows id) refl is (get t.rows (node_in t.rows file)) refl
   where
     by : (o : Option HeldNode) → get t.rows id ≡ o → IsOf o file → (p : Option HeldNode)
@@ -361,7 +361,7 @@ node_of_none (e ∷ rows) file none = by (nat_eq e.1.file file) none (node_of_no
     by true none rest = absurd (true≢false none)
     by false none rest = rest none
 
-pub holds_sorted : (t : NodeTable) → IsSound t → T (is_sorted nat_cmp t.rows)
+pub holds_sorted : (t : NodeTable) → IsSoundNodeTable t → T (is_sorted nat_cmp t.rows)
 holds_sorted t sound = is_true (is_sorted nat_cmp t.rows) sound.sorted
 
 -- at the end of a list nothing is left to be judged
@@ -379,11 +379,11 @@ pub none_counted : (t : NodeTable) (files : List ℕ) (left : List Entry) (at en
 none_counted t files left at end all past = none_left t files (files_of t left) at end
     (ap (λ n. at + n) (length-map left (λ (g : Entry). file_of t g.nodeid)) ∙ all) past
 
-unheld_node : (t : NodeTable) (file : ℕ) → IsSound t → IsUnheld t file → 1 ≡ node_in t.rows file
+unheld_node : (t : NodeTable) (file : ℕ) → IsSoundNodeTable t → IsUnheld t file → 1 ≡ node_in t.rows file
 unheld_node t file sound unheld = node_of_none t.rows file
     (unheld_not t file (is_true (is_sorted nat_cmp t.rows) sound.sorted) unheld)
 
-pub node_of_either : (t : NodeTable) (file : ℕ) → IsSound t → (o : Option ℕ) (id : ℕ)
+pub node_of_either : (t : NodeTable) (file : ℕ) → IsSoundNodeTable t → (o : Option ℕ) (id : ℕ)
     → IfSome o (λ n. IsOf (get t.rows n) file) → IfNone o (IsUnheld t file) → id ≡ unwrap_or o 1
     → id ≡ node_in t.rows file
 node_of_either t file sound None id some none is = is ∙ unheld_node t file sound none

@@ -9,11 +9,11 @@ use Rattle.fuse_spec.specs.Server.Nodes.{HeldNode, NodeTable, MayName, IsUnheld,
 use Rattle.fuse_spec.specs.Server.Server.{generation_in}
 use Rattle.fuse_spec.proofs.Tables.{get_put_here}
 use Rattle.fs_nodes.specs.Rows.{generation_given}
-use Rattle.fs_nodes.specs.Sound.{IsSound}
+use Rattle.fs_nodes.specs.Sound.{IsSoundNodeTable}
 use Rattle.fs_nodes.proofs.Maps.{any_is}
 use Rattle.fs_tree.proofs.Shaping.{same_number, other_number}
 
-pub two_of : (t : NodeTable) (file id : ℕ) → IsSound t → MayName t file id → 2 ≤ id
+pub two_of : (t : NodeTable) (file id : ℕ) → IsSoundNodeTable t → MayName t file id → 2 ≤ id
 two_of t file id sound may = by (get t.rows id) refl may
   where
     by : (o : Option HeldNode) → get t.rows id ≡ o → MatchOption o ((2 ≤ id) × IsUnheld t file)

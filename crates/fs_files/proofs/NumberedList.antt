@@ -7,7 +7,7 @@ use Rattle.fuse_spec.specs.Calls.Paths.{is_dots}
 use Rattle.fuse_spec.specs.Server.Performs.{entry_for}
 use Rattle.fuse_spec.specs.Files.Trees.{Tree}
 use Rattle.fuse_spec.specs.declared.Entry.{Entry}
-use Rattle.fs_nodes.specs.Sound.{IsSound}
+use Rattle.fs_nodes.specs.Sound.{IsSoundNodeTable}
 use Rattle.fuse_frames.specs.ReplyTies.{dirent_in, entry_told, pairs_told}
 use Rattle.fs_files.specs.Giving.{GivenEach, node_in}
 use Rattle.fs_files.specs.Listed.{dirents_in, listed_pairs, names_in, pair_listed}
@@ -17,7 +17,7 @@ use Rattle.fs_files.specs.declared.listed_names.ListedNames.{ListedNames}
 use Rattle.fuse_frames.specs.declared.reply.Reply.TheVariants.{ListedPlus}
 use Rattle.fs_files.proofs.GivenEach.{all_each, may_each, no_zero}
 
-module _ (tree : Tree) (nodes : NodeTable) (sound : IsSound nodes) where
+module _ (tree : Tree) (nodes : NodeTable) (sound : IsSoundNodeTable nodes) where
   some_entry : (d : Dirent) → entry_told (entry_named tree nodes d) ≡ Some (entry_named tree nodes d)
   some_entry d = ap (λ (b : Bool). cond b None (Some (entry_named tree nodes d))) (no_zero nodes sound (d.ino - 1))
 
@@ -42,7 +42,7 @@ same_files ms (d ∷ ds) = ap (λ (files : List ℕ). first_listed (cond (is_dot
     (same_files ms ds)
 
 pub gives_listed : {A : Type 0} (one two : FilesState) (ms : ℕ) (bytes : List ℕ) (listing : ListedNames A)
-    → GivenEach one.nodes (files_listed (map (pair_listed 0) (names_in bytes))) two.nodes → IsSound two.nodes
+    → GivenEach one.nodes (files_listed (map (pair_listed 0) (names_in bytes))) two.nodes → IsSoundNodeTable two.nodes
     → listing.entries.items ≡ map (entry_named two.tree two.nodes) (names_in bytes) → listing.records.items ≡ bytes
     → listing.found_ms ≡ ms → two.tree ≡ one.tree → two.handles ≡ one.handles
     → GivesNumbers {A = A} one (operation.listed_plus (map (pair_listed ms) (names_in bytes))) (ListedPlus listing) two
@@ -79,7 +79,7 @@ module _ (tree : Tree) (nodes : NodeTable) (bytes view : List ℕ) (same : view 
   pub one_a_record : length entries ≡ length (dirents_in bytes)
   one_a_record = one_each ∙ mapped_length dirent_in (dirents_in bytes)
 
-  pub file_entries_so : IsSound nodes → (ms : ℕ) (file_entries : List Entry)
+  pub file_entries_so : IsSoundNodeTable nodes → (ms : ℕ) (file_entries : List Entry)
       → file_entries ≡ files_listed (entries_named tree nodes (names_in view))
       → file_entries ≡ files_listed (listed_pairs ms entries bytes)
   file_entries_so sound ms file_entries are_files =

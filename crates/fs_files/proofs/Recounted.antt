@@ -5,7 +5,7 @@ use Rattle.fuse_spec.specs.Values.Maps.{get, put}
 use Rattle.fuse_spec.specs.Server.Nodes.{HeldNode, NodeTable, file_in, file_of, root_row, row_more, rows_more}
 use Rattle.fuse_spec.specs.declared.Entry.{Entry}
 use Rattle.fuse_spec.proofs.Tables.{get_put_here, get_put_there}
-use Rattle.fs_nodes.specs.Sound.{IsSound}
+use Rattle.fs_nodes.specs.Sound.{IsSoundNodeTable}
 use Rattle.fs_tree.proofs.Shaping.{other_number}
 use Rattle.fs_files.specs.Bounds.{AreCounted, AreHeldBelow}
 use Rattle.fs_files.specs.Giving.{files_of}
@@ -39,7 +39,7 @@ files_stay t id (g ∷ gs) = λ i. file_stays t id g.nodeid i ∷ files_stay t i
 
 -- ---- one entry more
 
-pub within_more : (t : NodeTable) → IsSound t → (g : Entry) (gs : List Entry) → IsWithin t (files_of t (g ∷ gs))
+pub within_more : (t : NodeTable) → IsSoundNodeTable t → (g : Entry) (gs : List Entry) → IsWithin t (files_of t (g ∷ gs))
     → IsWithin (row_more t g.nodeid) (files_of (row_more t g.nodeid) gs)
 within_more t sound g gs old = subst (IsWithin (row_more t g.nodeid)) (sym (files_stay t g.nodeid gs))
     (by (get t.rows g.nodeid) refl)

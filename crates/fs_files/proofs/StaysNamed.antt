@@ -21,10 +21,10 @@ use Rattle.fuse_spec.specs.Files.Trees.{Tree, a_directory, is_nameless}
 use Rattle.fuse_spec.specs.Files.TreeShape.{IsShaped}
 use Rattle.fuse_spec.proofs.Tables.{tie_no, get_put_here, get_put_there, get_gone_here, get_gone_there}
 use Rattle.fs_nodes.proofs.Maps.{sorted_put, sorted_remove}
-use Rattle.fs_tree.specs.Outcomes.{only_root, unnamed_by}
+use Rattle.fs_tree.specs.Outcomes.{only_root, unlinked_by}
 use Rattle.fs_tree.proofs.KeepsNames.{keeps_name}
 use Rattle.fs_files.specs.Bounds.{AreKnown, AreNamed, AreNamedBut, IsThere, IsUnopened}
-use Rattle.fs_files.specs.Performing.{handles_by, handles_said, loosened, tree_by, tree_said}
+use Rattle.fs_files.specs.Performing.{handles_by, handles_said, unlinked_or_released, tree_by, tree_said}
 use Rattle.fs_files.specs.Values.{FilesState, no_handles, no_nodes, server_at}
 use Rattle.fs_files.proofs.StaysKnown.{writes_regular}
 
@@ -201,9 +201,9 @@ module _ (t : HandleTable) (sorted : T (is_sorted nat_cmp t.handles))
 
 -- ---- holders that come
 
-module _ (loose : Option ℕ) (tree : Tree) (nodes : NodeTable) (handles : HandleTable)
-    (old : AreNamedBut loose tree nodes handles) where
-  named_given : (file id : ℕ) → AreNamedBut loose tree (given nodes file id) handles
+module _ (but : Option ℕ) (tree : Tree) (nodes : NodeTable) (handles : HandleTable)
+    (old : AreNamedBut but tree nodes handles) where
+  named_given : (file id : ℕ) → AreNamedBut but tree (given nodes file id) handles
   named_given file id = record {
     rows = sorted_put nodes.rows id (given_row nodes file (get nodes.rows id)) old.rows;
     opens = old.opens;
@@ -211,7 +211,7 @@ module _ (loose : Option ℕ) (tree : Tree) (nodes : NodeTable) (handles : Handl
     named = λ x other there no_node no_number. old.named x other there (given_lacks nodes x file id no_node) no_number;
   }
 
-  named_counted : (id : ℕ) → AreNamedBut loose tree (row_more nodes id) handles
+  named_counted : (id : ℕ) → AreNamedBut but tree (row_more nodes id) handles
   named_counted id = record {
     rows = more_sorted nodes old.rows id;
     opens = old.opens;
@@ -219,7 +219,7 @@ module _ (loose : Option ℕ) (tree : Tree) (nodes : NodeTable) (handles : Handl
     named = λ x other there no_node no_number. old.named x other there (more_lacks nodes x id no_node) no_number;
   }
 
-  named_opened : (file : ℕ) → AreNamedBut loose tree nodes (handle_opened handles file)
+  named_opened : (file : ℕ) → AreNamedBut but tree nodes (handle_opened handles file)
   named_opened file = record {
     rows = old.rows;
     opens = sorted_put handles.handles handles.next_fh (record { file = file; count = 1 }) old.opens;
@@ -229,7 +229,7 @@ module _ (loose : Option ℕ) (tree : Tree) (nodes : NodeTable) (handles : Handl
         (opened_lacks handles x file (old.coming handles.next_fh (omega arith)) no_number);
   }
 
-  named_again : (fh : ℕ) → AreNamedBut loose tree nodes (handle_more handles fh)
+  named_again : (fh : ℕ) → AreNamedBut but tree nodes (handle_more handles fh)
   named_again fh = record {
     rows = old.rows;
     opens = again_sorted handles old.opens old.coming fh;
@@ -237,39 +237,39 @@ module _ (loose : Option ℕ) (tree : Tree) (nodes : NodeTable) (handles : Handl
     named = λ x other there no_node no_number. old.named x other there no_node (again_lacks handles x fh no_number);
   }
 
-pub named_all_given : (choice : ℕ → ℕ) (loose : Option ℕ) (tree : Tree) (nodes : NodeTable) (handles : HandleTable)
-    → AreNamedBut loose tree nodes handles → (files : List ℕ)
-    → AreNamedBut loose tree (all_given choice nodes files) handles
-named_all_given choice loose tree nodes handles old [] = old
-named_all_given choice loose tree nodes handles old (file ∷ files) =
-    named_all_given choice loose tree (given nodes file (choice file)) handles
-    (named_given loose tree nodes handles old file (choice file)) files
+pub named_all_given : (choice : ℕ → ℕ) (but : Option ℕ) (tree : Tree) (nodes : NodeTable) (handles : HandleTable)
+    → AreNamedBut but tree nodes handles → (files : List ℕ)
+    → AreNamedBut but tree (all_given choice nodes files) handles
+named_all_given choice but tree nodes handles old [] = old
+named_all_given choice but tree nodes handles old (file ∷ files) =
+    named_all_given choice but tree (given nodes file (choice file)) handles
+    (named_given but tree nodes handles old file (choice file)) files
 
-pub named_all_opened : (loose : Option ℕ) (tree : Tree) (nodes : NodeTable) (handles : HandleTable)
-    → AreNamedBut loose tree nodes handles → (files : List ℕ) → AreNamedBut loose tree nodes (all_opened handles files)
-named_all_opened loose tree nodes handles old [] = old
-named_all_opened loose tree nodes handles old (file ∷ files) =
-    named_all_opened loose tree nodes (handle_opened handles file)
-    (named_opened loose tree nodes handles old file) files
+pub named_all_opened : (but : Option ℕ) (tree : Tree) (nodes : NodeTable) (handles : HandleTable)
+    → AreNamedBut but tree nodes handles → (files : List ℕ) → AreNamedBut but tree nodes (all_opened handles files)
+named_all_opened but tree nodes handles old [] = old
+named_all_opened but tree nodes handles old (file ∷ files) =
+    named_all_opened but tree nodes (handle_opened handles file)
+    (named_opened but tree nodes handles old file) files
 
-pub named_all_counted : (loose : Option ℕ) (tree : Tree) (nodes : NodeTable) (handles : HandleTable)
-    → AreNamedBut loose tree nodes handles → (gs : List Entry) → AreNamedBut loose tree (rows_counted nodes gs) handles
-named_all_counted loose tree nodes handles old [] = old
-named_all_counted loose tree nodes handles old (g ∷ gs) =
-    named_all_counted loose tree (row_more nodes g.nodeid) handles
-    (named_counted loose tree nodes handles old g.nodeid) gs
+pub named_all_counted : (but : Option ℕ) (tree : Tree) (nodes : NodeTable) (handles : HandleTable)
+    → AreNamedBut but tree nodes handles → (gs : List Entry) → AreNamedBut but tree (rows_counted nodes gs) handles
+named_all_counted but tree nodes handles old [] = old
+named_all_counted but tree nodes handles old (g ∷ gs) =
+    named_all_counted but tree (row_more nodes g.nodeid) handles
+    (named_counted but tree nodes handles old g.nodeid) gs
 
-pub named_all_again : (loose : Option ℕ) (tree : Tree) (nodes : NodeTable) (handles : HandleTable)
-    → AreNamedBut loose tree nodes handles → (fhs : List ℕ) → AreNamedBut loose tree nodes (handles_counted handles fhs)
-named_all_again loose tree nodes handles old [] = old
-named_all_again loose tree nodes handles old (fh ∷ fhs) =
-    named_all_again loose tree nodes (handle_more handles fh) (named_again loose tree nodes handles old fh) fhs
+pub named_all_again : (but : Option ℕ) (tree : Tree) (nodes : NodeTable) (handles : HandleTable)
+    → AreNamedBut but tree nodes handles → (fhs : List ℕ) → AreNamedBut but tree nodes (handles_counted handles fhs)
+named_all_again but tree nodes handles old [] = old
+named_all_again but tree nodes handles old (fh ∷ fhs) =
+    named_all_again but tree nodes (handle_more handles fh) (named_again but tree nodes handles old fh) fhs
 
 -- ---- holders and names that go
 
 module _ (tree : Tree) (nodes : NodeTable) (handles : HandleTable) (old : AreNamed tree nodes handles) where
-  named_but : (loose : Option ℕ) → AreNamedBut loose tree nodes handles
-  named_but loose = record {
+  named_but : (but : Option ℕ) → AreNamedBut but tree nodes handles
+  named_but but = record {
     rows = old.rows;
     opens = old.opens;
     coming = old.coming;
@@ -309,19 +309,19 @@ module _ (tree : Tree) (nodes : NodeTable) (handles : HandleTable) (old : AreNam
 
 module _ (files : FilesState) (v : Validity) (m : Minor) (known : AreKnown files.tree files.nodes files.handles)
     (shaped : IsShaped files.tree) (old : AreNamed files.tree files.nodes files.handles) where
-  unchanged : (loose : Option ℕ) → AreNamedBut loose files.tree files.nodes files.handles
+  unchanged : (but : Option ℕ) → AreNamedBut but files.tree files.nodes files.handles
   unchanged = named_but files.tree files.nodes files.handles old
 
   of_operation : (o : Operation ℕ Opened) → is_open_for (server_at m files v) o ≡ true → (r : Option ℕ)
-      → AreNamedBut (unnamed_by files.tree (file_operation_of files.nodes o))
+      → AreNamedBut (unlinked_by files.tree (file_operation_of files.nodes o))
       (tree_or files.tree (tree_unrefused files.tree (file_operation_of files.nodes o)) r) files.nodes files.handles
-  of_operation o opened (Some errno) = unchanged (unnamed_by files.tree (file_operation_of files.nodes o))
+  of_operation o opened (Some errno) = unchanged (unlinked_by files.tree (file_operation_of files.nodes o))
   of_operation o opened None = record { rows = old.rows; opens = old.opens; coming = old.coming; named = named }
     where
       operation : FileOperation
       operation = file_operation_of files.nodes o
 
-      named : (x : ℕ) → (unnamed_by files.tree operation ≡ Some x → ⊥)
+      named : (x : ℕ) → (unlinked_by files.tree operation ≡ Some x → ⊥)
           → IsThere (tree_unrefused files.tree operation) x → IsUnheld files.nodes x → IsUnopened files.handles x
           → is_nameless (tree_unrefused files.tree operation) x ≡ false
       named x other there no_node no_number = elim (keeps_name files.tree shaped x operation
@@ -331,11 +331,11 @@ module _ (files : FilesState) (v : Validity) (m : Minor) (known : AreKnown files
           ]
 
   of_asked : (o : Operation ℕ Opened) (b : Bool) → is_open_for (server_at m files v) o ≡ b
-      → AreNamedBut (unnamed_by files.tree (file_operation_of files.nodes o))
+      → AreNamedBut (unlinked_by files.tree (file_operation_of files.nodes o))
       (cond b (tree_or files.tree (tree_unrefused files.tree (file_operation_of files.nodes o))
       (refusal files.tree (file_operation_of files.nodes o))) files.tree) files.nodes files.handles
   of_asked o true opened = of_operation o opened (refusal files.tree (file_operation_of files.nodes o))
-  of_asked o false opened = unchanged (unnamed_by files.tree (file_operation_of files.nodes o))
+  of_asked o false opened = unchanged (unlinked_by files.tree (file_operation_of files.nodes o))
 
   of_release : (o : Opened) (b : Bool) → AreNamedBut
       (option_map number_file (get files.handles.handles o.fh)) files.tree files.nodes
@@ -343,7 +343,7 @@ module _ (files : FilesState) (v : Validity) (m : Minor) (known : AreKnown files
   of_release o true = named_number_back files.tree files.nodes files.handles old o.fh
   of_release o false = unchanged (option_map number_file (get files.handles.handles o.fh))
 
-  of_body : (body : RequestBody) → AreNamedBut (loosened (server_at m files v) body)
+  of_body : (body : RequestBody) → AreNamedBut (unlinked_or_released (server_at m files v) body)
       (tree_by (server_at m files v) body) files.nodes (handles_by (server_at m files v) body)
   of_body (asks o) = of_asked o (is_open_for (server_at m files v) o) refl
   of_body (release o) = of_release o (is_open files.handles o.fh (file_of files.nodes o.nodeid))
@@ -352,16 +352,16 @@ module _ (files : FilesState) (v : Validity) (m : Minor) (known : AreKnown files
   of_body (batch_forget fs) = unchanged None
   of_body (interrupt original) = unchanged None
 
-  pub named_said : (h : HeldRequest) → AreNamedBut (loosened (server_at m files v) h.body)
+  pub named_said : (h : HeldRequest) → AreNamedBut (unlinked_or_released (server_at m files v) h.body)
       (tree_said (server_at m files v) h) files.nodes (handles_said (server_at m files v) h)
   named_said h = by h.marked (is_still_held files.nodes h.generations)
     where
-      by : (marked b : Bool) → AreNamedBut (loosened (server_at m files v) h.body)
+      by : (marked b : Bool) → AreNamedBut (unlinked_or_released (server_at m files v) h.body)
           (cond marked files.tree (cond b (tree_by (server_at m files v) h.body) files.tree)) files.nodes
           (cond marked files.handles (cond b (handles_by (server_at m files v) h.body) files.handles))
-      by true b = unchanged (loosened (server_at m files v) h.body)
+      by true b = unchanged (unlinked_or_released (server_at m files v) h.body)
       by false true = of_body h.body
-      by false false = unchanged (loosened (server_at m files v) h.body)
+      by false false = unchanged (unlinked_or_released (server_at m files v) h.body)
 
 -- ---- the root alone
 

@@ -49,11 +49,11 @@ IsUnopened handles file = (fh : ℕ) (handle : OpenNumber) → get handles.handl
 
 -- Each file of the tree that has no node and no open number has a name, but for one that is still to be looked at.
 -- Nodes and open numbers are in rising key, and none is in use from the next number on.
-pub record AreNamedBut (loose : Option ℕ) (tree : Tree) (nodes : NodeTable) (handles : HandleTable) : Type 0 where
+pub record AreNamedBut (but : Option ℕ) (tree : Tree) (nodes : NodeTable) (handles : HandleTable) : Type 0 where
   pub rows : T (is_sorted nat_cmp nodes.rows)
   pub opens : T (is_sorted nat_cmp handles.handles)
   pub coming : (fh : ℕ) → handles.next_fh ≤ fh → get handles.handles fh ≡ None
-  pub named : (file : ℕ) → (loose ≡ Some file → ⊥) → IsThere tree file → IsUnheld nodes file → IsUnopened handles file
+  pub named : (file : ℕ) → (but ≡ Some file → ⊥) → IsThere tree file → IsUnheld nodes file → IsUnopened handles file
       → is_nameless tree file ≡ false
 
 -- Each file of the tree that has no node and no open number has a name.

@@ -11,7 +11,7 @@ use Rattle.fuse_spec.specs.Kernel.Messages.{RequestBody, init, asks, release, fo
 use Rattle.fuse_spec.specs.Server.Nodes.{HandleTable, OpenNumber, file_of, is_open, handle_back, all_given, all_opened}
 use Rattle.fuse_spec.specs.Server.Server.{Server, HeldRequest}
 use Rattle.fuse_spec.specs.Server.Performs.{PerformResult, flags_known, minor_number, file_operation_of, is_open_for, is_still_held, wire_of}
-use Rattle.fs_tree.specs.Outcomes.{unnamed_by}
+use Rattle.fs_tree.specs.Outcomes.{unlinked_by}
 use Rattle.fs_files.specs.declared.replies.Outcome.{Outcome}
 use Rattle.fs_files.specs.Replies.{IsRepliable, outcome_len, outcome_reply}
 use Rattle.fs_files.specs.Values.{room_of, room_for}
@@ -59,13 +59,13 @@ handles_said s held = cond held.marked s.handles
     (cond (is_still_held s.nodes held.generations) (handles_by s held.body) s.handles)
 
 -- the file that a request takes a name for good or an open number from, if it is performed
-abbrev pub loosened : Server → RequestBody → Option ℕ
-loosened s (asks operation) = unnamed_by s.tree (file_operation_of s.nodes operation)
-loosened s (release o) = option_map (λ (h : OpenNumber). h.file) (get s.handles.handles o.fh)
-loosened s (init flags) = None
-loosened s (forget f) = None
-loosened s (batch_forget fs) = None
-loosened s (interrupt original) = None
+abbrev pub unlinked_or_released : Server → RequestBody → Option ℕ
+unlinked_or_released s (asks operation) = unlinked_by s.tree (file_operation_of s.nodes operation)
+unlinked_or_released s (release o) = option_map (λ (h : OpenNumber). h.file) (get s.handles.handles o.fh)
+unlinked_or_released s (init flags) = None
+unlinked_or_released s (forget f) = None
+unlinked_or_released s (batch_forget fs) = None
+unlinked_or_released s (interrupt original) = None
 
 -- The files that this reply names are given nodes and open numbers, by which the reply that is sent names them.
 abbrev pub numbering : (ℕ → ℕ) → Server → Reply ℕ ℕ → PerformResult

@@ -8,7 +8,7 @@ use Rattle.fs_files.specs.Giving.{generations_after}
 use Rattle.fs_files.specs.declared.plan.Plan.{Plan}
 
 -- What a request draws whose reply and whose tree are these: births, serials, nodes for files, and open numbers.
-pub record Draws (tree new : Tree) (reply : Reply ℕ ℕ) (plan : Plan) : Type 0 where
+pub record DrawsNumbers (tree new : Tree) (reply : Reply ℕ ℕ) (plan : Plan) : Type 0 where
   pub births : new.next_birth ≡ tree.next_birth + plan.births
   pub serials : new.next_serial ≡ tree.next_serial + plan.serials
   pub files : files_in_reply reply ≡ plan.files.items
@@ -30,4 +30,5 @@ abbrev pub LacksNumber : (new : Tree) (nodes : NodeTable) (handles : HandleTable
 LacksNumber new nodes handles lost reply =
     (counter_end < new.next_birth) ⊎ ((counter_end < new.next_serial) ⊎ ((lost ≡ false)
     × ((counter_end < generations_after nodes (files_in_reply reply))
-    ⊎ ((counts_out nodes (files_in_reply reply) ≡ true) ⊎ (counter_end < handles.next_fh + length (opens_in_reply reply))))))
+    ⊎ ((counts_out nodes (files_in_reply reply) ≡ true)
+    ⊎ (counter_end < handles.next_fh + length (opens_in_reply reply))))))

@@ -14,7 +14,7 @@ use crate::files::Files;
 use crate::held::{HeldBody, HeldOperation, HeldRequest, Named};
 use crate::nodes::Nodes;
 use crate::operating::operate;
-use crate::refusing::refusal_of;
+use crate::plan::may_do;
 use crate::replies::{Outcome, agreement};
 use fs_nodes::NodeStore;
 use fuse_frames::Reply;
@@ -84,7 +84,7 @@ impl<S: NodeStore> Files<S> {
         if !self.is_open_for(operation) {
             return Ok(failure(EBADF));
         }
-        if let Some(error) = refusal_of(&self.tree, &self.known.nodes, operation) {
+        if let Err(error) = may_do(&self.tree, &self.known.nodes, operation) {
             return Ok(failure(error.errno() as u32));
         }
         self.tree.keeps_shape();

@@ -8,7 +8,7 @@ ghost use Rattle.fuse_spec.specs.Server.Copies.{row_back};
 ghost use Rattle.fuse_spec.specs.Server.Server.{count_in, is_file_held};
 ghost use Rattle.fuse_spec.specs.Values.Numbers.{counter_end};
 ghost use Rattle.fs_nodes.specs.Rows.{listed};
-ghost use Rattle.fs_nodes.specs.Sound.{IsSound};
+ghost use Rattle.fs_nodes.specs.Sound.{IsSoundNodeTable};
 ghost use Rattle.fs_tree.specs.Outcomes.{only_root, without_unheld};
 ghost use Rattle.fs_files.specs.Bounds.{AreCounted, AreNamed, AreNamedBut, AreUsed};
 ghost use Rattle.fs_files.specs.Values.{no_nodes, no_handles, server_of};
@@ -93,7 +93,7 @@ impl<S: NodeStore> Files<S> {
     /// Nodeids rise from 2, no two have one file, each has a lookup, and its generation was given before the coming
     /// one.
     pub fn keeps_sound(&self)
-        ensures { IsSound self.now.nodes }
+        ensures { IsSoundNodeTable self.now.nodes }
     {
         self.known.nodes.keeps_sound();
     }
@@ -170,15 +170,15 @@ impl<S: NodeStore> Files<S> {
     /// Takes a file out of the tree, if no name leads to it and nothing holds it. Every other file that nothing holds
     /// has a name, so then all nameless files are gone that nothing holds.
     #[inline(always)]
-    pub fn discard_unheld(&mut self, loose: Option<u64>)
-        requires { AreNamedBut loose self.old.tree self.old.nodes self.old.handles }
+    pub fn discard_unheld(&mut self, file: Option<u64>)
+        requires { AreNamedBut file self.old.tree self.old.nodes self.old.handles }
         ensures tree { (v : ValidityValue) → self.new.tree
             ≡ without_unheld (is_file_held (server_of self.old v)) self.old.tree }
         ensures nodes { self.new.nodes ≡ self.old.nodes }
         ensures handles { self.new.handles ≡ self.old.handles }
         ensures named { AreNamed self.new.tree self.new.nodes self.new.handles }
     {
-        let Some(file) = loose else {
+        let Some(file) = file else {
             return;
         };
         if self.known.holds(file) {

@@ -7,16 +7,15 @@ mod files;
 mod held;
 mod known;
 mod listed_names;
-mod loosening;
 mod nodes;
 mod numbering;
 mod numbers;
 mod operating;
 mod plan;
 mod records;
-mod refusing;
 mod replies;
 mod spare;
+mod unlinked;
 
 pub use files::Files;
 pub use held::{HeldBody, HeldOperation, HeldRequest, Named, NamedNode};

@@ -8,7 +8,7 @@ ghost use Rattle.fuse_spec.specs.Server.Server.{count_in, generation_in, is_know
 ghost use Rattle.fuse_spec.specs.Server.Copies.{row_back};
 ghost use Rattle.fuse_spec.specs.Values.Numbers.{counter_end};
 ghost use Rattle.fs_nodes.specs.Rows.{listed};
-ghost use Rattle.fs_nodes.specs.Sound.{IsSound};
+ghost use Rattle.fs_nodes.specs.Sound.{IsSoundNodeTable};
 ghost use Rattle.fs_files.specs.Bounds.{AreCounted, AreHeldBelow};
 ghost use Rattle.fs_files.specs.Giving.{IsCountable, files_of, generations_after, has_node, new_among, node_in};
 ghost use Rattle.fs_files.specs.Values.{no_nodes};
@@ -155,7 +155,7 @@ impl<S: NodeStore> Nodes<S> {
     /// Nodeids rise from 2, no two have one file, each has a lookup, and its generation was given before the coming
     /// one.
     pub fn keeps_sound(&self)
-        ensures { IsSound self.now.table }
+        ensures { IsSoundNodeTable self.now.table }
     {
         self.store.keeps_sound();
     }

@@ -6,7 +6,7 @@ ghost use Rattle.fuse_spec.specs.Values.Numbers.{counter_end, max_transfer, max_
 ghost use Rattle.fuse_spec.specs.Files.Operations.{files_in_reply, files_listed, first_listed, opens_in_reply};
 ghost use Rattle.fuse_spec.specs.Calls.Paths.{is_dots};
 ghost use Rattle.fuse_spec.specs.Server.Performs.{entry_for};
-ghost use Rattle.fs_nodes.specs.Sound.{IsSound};
+ghost use Rattle.fs_nodes.specs.Sound.{IsSoundNodeTable};
 ghost use Rattle.fs_tree.specs.Outcomes.{is_regular};
 ghost use Rattle.fs_files.specs.Bounds.{AreCounted, AreHeldBelow, IsThere};
 ghost use Rattle.fs_files.specs.Giving.{GivenEach, generations_after, node_in};
@@ -20,9 +20,8 @@ use crate::replies::{Outcome, SentReply};
 use crate::spare::ReplySpare;
 use fk_wire::Records;
 use fs_nodes::NodeStore;
-use fs_tree::is_dots;
 use fuse_frames::Reply;
-use fuse_spec::Entry;
+use fuse_spec::{Entry, is_dots};
 use std::alloc::Allocator;
 
 impl<S: NodeStore> Files<S> {
@@ -98,7 +97,7 @@ impl<S: NodeStore> Files<S> {
         ensures valid { result.found_ms ≡ found_ms }
         ensures tree { self.new.tree ≡ self.old.tree }
         ensures handles { self.new.handles ≡ self.old.handles }
-        ensures sound { IsSound self.new.nodes }
+        ensures sound { IsSoundNodeTable self.new.nodes }
     {
         self.give_listed(&records);
         let mut entries = spare.entries;
@@ -125,7 +124,7 @@ impl<S: NodeStore> Files<S> {
             (map (pair_listed 0) (names_in records.now))) self.new.nodes }
         ensures tree { self.new.tree ≡ self.old.tree }
         ensures handles { self.new.handles ≡ self.old.handles }
-        ensures sound { IsSound self.new.nodes }
+        ensures sound { IsSoundNodeTable self.new.nodes }
     {
         self.give_records(Records::over(records).unwrap());
         self.keeps_sound();

@@ -9,7 +9,7 @@ ghost use Rattle.fuse_spec.specs.declared.Validity.{Validity as ValidityValue};
 ghost use Rattle.fs_files.specs.Bounds.{AreHeldBelow};
 ghost use Rattle.fs_files.specs.Giving.{generations_after};
 ghost use Rattle.fs_files.specs.Performing.{said, said_by, tree_by, tree_said};
-ghost use Rattle.fs_files.specs.Plans.{Draws, HasNumbers, LacksNumber};
+ghost use Rattle.fs_files.specs.Plans.{DrawsNumbers, HasNumbers, LacksNumber};
 ghost use Rattle.fs_files.specs.Values.{operation_of, server_at};
 
 use crate::answering::are_held;
@@ -67,7 +67,7 @@ impl<S: NodeStore> Files<S> {
 
     /// What performing a held request draws.
     fn plan_for(&self, held: &HeldRequest<S::Heap>) -> Plan
-        ensures { (v : ValidityValue) (m : MinorValue) → Draws self.now.tree
+        ensures { (v : ValidityValue) (m : MinorValue) → DrawsNumbers self.now.tree
             (tree_said (server_at m self.now v) held.now) (said (server_at m self.now v) held.now) result }
     {
         if held.is_marked() || !are_held(&self.known.nodes, held.named()) {
@@ -82,7 +82,7 @@ impl<S: NodeStore> Files<S> {
 
     /// What an operation draws: nothing under an open number that is none of its node's file.
     fn plan_asked(&self, operation: &HeldOperation<S::Heap>) -> Plan
-        ensures { (v : ValidityValue) (m : MinorValue) → Draws self.now.tree
+        ensures { (v : ValidityValue) (m : MinorValue) → DrawsNumbers self.now.tree
             (tree_by (server_at m self.now v) (asks (operation_of operation.now)))
             (said_by (server_at m self.now v) (asks (operation_of operation.now))) result }
     {

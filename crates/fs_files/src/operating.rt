@@ -174,7 +174,8 @@ fn move_file<A: Allocator + Copy>(
     new: &[u8],
 ) -> Result<Outcome<A>, AllocError>
     requires unrefused { refusal tree.old (rename directory old.now new_directory new.now) ≡ None }
-    requires serials { (tree_unrefused tree.old (rename directory old.now new_directory new.now)).next_serial ≤ counter_end }
+    requires serials { (tree_unrefused tree.old (rename directory old.now new_directory new.now)).next_serial
+        ≤ counter_end }
     ensures ok { IfOk result (λ outcome. (v : ValidityValue)
         → Operates v tree.old (rename directory old.now new_directory new.now) outcome tree.new) }
     ensures err { OnErr result (tree.new ≡ tree.old) }
@@ -222,7 +223,7 @@ fn list<A: Allocator + Copy>(
 {
     tree.keeps_shape();
     let _births = tree.births_left();
-    let Ok(records) = names_listed(tree, directory, after, size, with_files) else {
+    let Ok(records) = records_listed(tree, directory, after, size, with_files) else {
         return Err(AllocError);
     };
     let records = record_bytes(alloc, &records)?;
@@ -234,8 +235,8 @@ fn list<A: Allocator + Copy>(
     })
 }
 
-/// The names that a READDIR or a READDIRPLUS lists.
-fn names_listed<A: Allocator + Copy>(
+/// The records of the names that a READDIR or a READDIRPLUS lists.
+fn records_listed<A: Allocator + Copy>(
     tree: &Tree<A>,
     directory: u64,
     after: u64,

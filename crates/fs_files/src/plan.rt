@@ -1,19 +1,19 @@
-//! Which numbers an operation draws.
+//! What an operation needs before it is done: that nothing refuses it, and the numbers that it draws.
 
 ghost use Rattle.std.specs.Prelude.{◌≡◌, ◌∷◌, [], None, option_to_list};
 ghost use Rattle.fuse_spec.specs.declared.Validity.{Validity as ValidityValue};
 ghost use Rattle.fuse_spec.specs.Files.FileOperations.{refusal, reply_by, reply_unrefused, tree_after, tree_unrefused};
 ghost use Rattle.fuse_spec.specs.Files.Operations.{lookup, rename};
 ghost use Rattle.fuse_spec.specs.Files.Trees.{file_at};
-ghost use Rattle.fs_files.specs.Plans.{Draws};
+ghost use Rattle.fs_tree.specs.Outcomes.{Refuses};
+ghost use Rattle.fs_files.specs.Plans.{DrawsNumbers};
 ghost use Rattle.fs_files.specs.Values.{on_files};
 
 use crate::held::HeldOperation;
 use crate::nodes::Nodes;
-use crate::refusing::refusal_of;
 use arrayvec::ArrayVec;
 use fs_nodes::NodeStore;
-use fs_tree::{MOST_LISTED, Tree};
+use fs_tree::{MOST_LISTED, Tree, TreeError};
 use fuse_spec::Operation;
 use std::alloc::Allocator;
 
@@ -48,16 +48,63 @@ fn one_file(file: u64) -> ArrayVec<u64, MOST_LISTED>
     files
 }
 
-/// What an operation draws.
+/// Whether an operation is refused.
+#[inline(always)]
+pub(crate) fn may_do<A: Allocator + Copy, S: NodeStore>(
+    tree: &Tree<A>,
+    nodes: &Nodes<S>,
+    operation: &HeldOperation<A>,
+) -> Result<(), TreeError>
+    ensures { Refuses (refusal tree.now (on_files nodes.now.table operation.now)) result }
+{
+    let file = nodes.file_of(operation.header_node());
+    match operation {
+        Operation::Lookup { .. } | Operation::Readdir { .. } => tree.may_lookup(file),
+        Operation::Readdirplus { .. } => tree.may_lookup(file),
+        Operation::Getattr { .. } | Operation::Read { .. } => Ok(()),
+        Operation::Mkdir { name, .. } => tree.may_create(file, name),
+        Operation::Create { name, .. } => tree.may_create(file, name),
+        Operation::Unlink { name, .. } => tree.may_unlink(file, name),
+        Operation::Rmdir { name, .. } => tree.may_rmdir(file, name),
+        Operation::Rename {
+            old,
+            newdir,
+            new,
+            ..
+        } => may_rename(tree, file, old, nodes.file_of(*newdir), new),
+        Operation::Link { node, name, .. } => tree.may_link(nodes.file_of(*node), file, name),
+        Operation::Open { .. } => tree.open(file),
+        Operation::Write { offset, bytes, .. } => tree.may_write(file, *offset, bytes),
+    }
+}
+
+/// Whether a RENAME is refused.
+#[inline(always)]
+fn may_rename<A: Allocator + Copy>(
+    tree: &Tree<A>,
+    directory: u64,
+    old: &[u8],
+    new_directory: u64,
+    new: &[u8],
+) -> Result<(), TreeError>
+    ensures { Refuses (refusal tree.now (rename directory old.now new_directory new.now)) result }
+{
+    match tree.may_rename(directory, old, new_directory, new) {
+        Ok(_) => Ok(()),
+        Err(error) => Err(error),
+    }
+}
+
+/// What an operation draws: nothing if it is refused.
 pub(crate) fn plan_of<A: Allocator + Copy, S: NodeStore>(
     tree: &Tree<A>,
     nodes: &Nodes<S>,
     operation: &HeldOperation<A>,
 ) -> Plan
-    ensures { (v : ValidityValue) → Draws tree.now (tree_after tree.now (on_files nodes.now.table operation.now))
+    ensures { (v : ValidityValue) → DrawsNumbers tree.now (tree_after tree.now (on_files nodes.now.table operation.now))
         (reply_by v tree.now (on_files nodes.now.table operation.now)) result }
 {
-    if refusal_of(tree, nodes, operation).is_some() {
+    if may_do(tree, nodes, operation).is_err() {
         return no_numbers();
     }
     unrefused_plan(tree, nodes, operation)
@@ -70,7 +117,7 @@ fn unrefused_plan<A: Allocator + Copy, S: NodeStore>(
     operation: &HeldOperation<A>,
 ) -> Plan
     requires unrefused { refusal tree.now (on_files nodes.now.table operation.now) ≡ None }
-    ensures { (v : ValidityValue) → Draws tree.now (tree_unrefused tree.now (on_files nodes.now.table operation.now))
+    ensures { (v : ValidityValue) → DrawsNumbers tree.now (tree_unrefused tree.now (on_files nodes.now.table operation.now))
         (reply_unrefused v tree.now (on_files nodes.now.table operation.now)) result }
 {
     match operation {
@@ -160,7 +207,7 @@ fn plan_of_rename<A: Allocator + Copy>(
     new: &[u8],
 ) -> Plan
     requires unrefused { refusal tree.now (rename directory old.now new_directory new.now) ≡ None }
-    ensures { (v : ValidityValue) → Draws tree.now (tree_unrefused tree.now
+    ensures { (v : ValidityValue) → DrawsNumbers tree.now (tree_unrefused tree.now
         (rename directory old.now new_directory new.now))
         (reply_unrefused v tree.now (rename directory old.now new_directory new.now)) result }
 {

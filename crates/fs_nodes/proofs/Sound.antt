@@ -5,7 +5,7 @@ use Rattle.std.proofs.lemmas.Option.{none-some, same_Some}
 use Rattle.fuse_spec.specs.Values.Maps.{Map, get, put, remove}
 use Rattle.fuse_spec.specs.Server.Nodes.{HeldNode}
 use Rattle.fs_nodes.specs.Rows.{IsOfNone}
-use Rattle.fs_nodes.specs.Sound.{IsSound}
+use Rattle.fs_nodes.specs.Sound.{IsSoundNodeTable}
 use Rattle.fs_nodes.proofs.Inverse.{at_written, at_other}
 use Rattle.fs_nodes.proofs.Maps.{get-put, get-remove, sorted_put, sorted_remove}
 
@@ -34,11 +34,11 @@ removed rows id q row is = elim (cases_eq id q) [
 
 -- a node of a file that had none, under a free nodeid
 pub sound_given : {rows : Map HeldNode} {next : ℕ} (new : Map HeldNode) (id : ℕ) (x : HeldNode)
-    → IsSound (record { rows = rows; next_generation = next }) → 2 ≤ id → IsOfNone rows x.file
+    → IsSoundNodeTable (record { rows = rows; next_generation = next }) → 2 ≤ id → IsOfNone rows x.file
     → x.generation ≡ next → 0 < x.count → new ≡ put rows id x
-    → IsSound (record { rows = new; next_generation = next + 1 })
+    → IsSoundNodeTable (record { rows = new; next_generation = next + 1 })
 sound_given {rows = rows} {next = next} new id x is low free generation some put_is =
-    subst (λ m. IsSound (record { rows = m; next_generation = next + 1 })) (sym put_is) (record {
+    subst (λ m. IsSoundNodeTable (record { rows = m; next_generation = next + 1 })) (sym put_is) (record {
       sorted = is_true _ (sorted_put rows id x (holds _ is.sorted));
       from_two = λ q row at. elim (cases_eq id q) [
         | inl e ↦ omega (arith, e)
@@ -69,11 +69,11 @@ sound_given {rows = rows} {next = next} new id x is low free generation some put
 
 -- another count of a node
 pub sound_counted : {rows : Map HeldNode} {next : ℕ} (new : Map HeldNode) (id : ℕ) (was x : HeldNode)
-    → IsSound (record { rows = rows; next_generation = next }) → get rows id ≡ Some was
+    → IsSoundNodeTable (record { rows = rows; next_generation = next }) → get rows id ≡ Some was
     → x.file ≡ was.file → x.generation ≡ was.generation → 0 < x.count → new ≡ put rows id x
-    → IsSound (record { rows = new; next_generation = next })
+    → IsSoundNodeTable (record { rows = new; next_generation = next })
 sound_counted {rows = rows} {next = next} new id was x is there file generation some put_is =
-    subst (λ m. IsSound (record { rows = m; next_generation = next })) (sym put_is) (record {
+    subst (λ m. IsSoundNodeTable (record { rows = m; next_generation = next })) (sym put_is) (record {
       sorted = is_true _ (sorted_put rows id x (holds _ is.sorted));
       from_two = λ q row at. (let h = old q row at in is.from_two q h.0 h.1);
       one_each = λ q o row same at at_o files. (let h = old q row at in let k = old o same at_o in
@@ -100,10 +100,10 @@ sound_counted {rows = rows} {next = next} new id was x is there file generation 
 
 -- a node goes
 pub sound_gone : {rows : Map HeldNode} {next : ℕ} (new : Map HeldNode) (id : ℕ)
-    → IsSound (record { rows = rows; next_generation = next }) → new ≡ remove rows id
-    → IsSound (record { rows = new; next_generation = next })
+    → IsSoundNodeTable (record { rows = rows; next_generation = next }) → new ≡ remove rows id
+    → IsSoundNodeTable (record { rows = new; next_generation = next })
 sound_gone {rows = rows} {next = next} new id is remove_is =
-    subst (λ m. IsSound (record { rows = m; next_generation = next })) (sym remove_is) (record {
+    subst (λ m. IsSoundNodeTable (record { rows = m; next_generation = next })) (sym remove_is) (record {
       sorted = is_true _ (sorted_remove rows id (holds _ is.sorted));
       from_two = λ q row at. is.from_two q row (removed rows id q row at);
       one_each = λ q o row same at at_o files. is.one_each q o row same (removed rows id q row at)

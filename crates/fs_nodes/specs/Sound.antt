@@ -7,7 +7,7 @@ use Rattle.fuse_spec.specs.Server.Nodes.{HeldNode, NodeTable}
 use Rattle.fuse_spec.specs.Values.Numbers.{counter_end}
 
 -- Nodeids rise from 2, none has the file of another, each has a lookup, and no generation is the coming one or a later.
-pub record IsSound (t : NodeTable) : Type 0 where
+pub record IsSoundNodeTable (t : NodeTable) : Type 0 where
   pub sorted : IsTrue (is_sorted nat_cmp t.rows)
   pub from_two : (id : ℕ) (row : HeldNode) → get t.rows id ≡ Some row → 2 ≤ id
   pub one_each : (id other : ℕ) (row same : HeldNode) → get t.rows id ≡ Some row → get t.rows other ≡ Some same
@@ -18,4 +18,4 @@ pub record IsSound (t : NodeTable) : Type 0 where
 -- Those nodes, whose generations stay within their range.
 pub record IsKept (t : NodeTable) : Type 0 where
   pub limit : t.next_generation ≤ counter_end
-  pub sound : IsSound t
+  pub sound : IsSoundNodeTable t

@@ -5,7 +5,7 @@ ghost use Rattle.fs_nodes.specs.Slots.{rows_from, at_place};
 ghost use Rattle.fs_nodes.specs.Vacant.{AreVacant, is_kept_of};
 
 use crate::node_rows::NodeRows;
-use crate::places::{FIRST, place_of};
+use crate::places::{FIRST, place_of_node};
 use crate::stored_node::StoredNode;
 use std::alloc::{AllocError, Allocator, Global};
 
@@ -46,7 +46,7 @@ impl<A: Allocator + Copy> NodeRows for ListRows<A> {
     }
 
     fn node(&self, id: u64) -> Option<StoredNode> {
-        let place = place_of(id)?;
+        let place = place_of_node(id)?;
         slot_at(&self.slots, place)
     }
 
@@ -56,7 +56,7 @@ impl<A: Allocator + Copy> NodeRows for ListRows<A> {
     }
 
     fn write(&mut self, id: u64, node: StoredNode) {
-        if let Some(place) = place_of(id) {
+        if let Some(place) = place_of_node(id) {
             put_slot(&mut self.slots, place, Some(node));
         }
     }
@@ -72,7 +72,7 @@ impl<A: Allocator + Copy> NodeRows for ListRows<A> {
     }
 
     fn take_out(&mut self, id: u64) {
-        let Some(place) = place_of(id) else {
+        let Some(place) = place_of_node(id) else {
             return;
         };
         if slot_at(&self.slots, place).is_none() {

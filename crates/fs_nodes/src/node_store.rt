@@ -6,7 +6,7 @@ ghost use Rattle.fuse_spec.specs.Server.Nodes.{HeldNode, NodeTable, MayName, IsU
 ghost use Rattle.fuse_spec.specs.Server.Server.{count_in};
 ghost use Rattle.fuse_spec.specs.Values.Numbers.{counter_end};
 ghost use Rattle.fs_nodes.specs.Rows.{generation_given, room_for, HasCount, listed, IsOf};
-ghost use Rattle.fs_nodes.specs.Sound.{IsSound};
+ghost use Rattle.fs_nodes.specs.Sound.{IsSoundNodeTable};
 
 use crate::too_many::TooMany;
 use std::alloc::{AllocError, Allocator};
@@ -111,5 +111,5 @@ pub trait NodeStore {
     /// Nodeids rise from 2, no two have one file, each has a lookup, and its generation was given before the coming
     /// one.
     fn keeps_sound(&self)
-        ensures { IsSound (table self.now) };
+        ensures { IsSoundNodeTable (table self.now) };
 }

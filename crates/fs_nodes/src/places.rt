@@ -6,7 +6,7 @@ ghost use Rattle.fs_nodes.specs.Slots.{place_under};
 pub(crate) const FIRST: u64 = 2;
 
 /// The place of a nodeid.
-pub(crate) fn place_of(id: u64) -> Option<usize>
+pub(crate) fn place_of_node(id: u64) -> Option<usize>
     ensures { result ≡ place_under id }
 {
     if id < FIRST {

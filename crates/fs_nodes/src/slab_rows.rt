@@ -10,7 +10,7 @@ ghost use Rattle.indexmap.specs.IndexMap.{spare};
 ghost use Rattle.fs_nodes.specs.Slots.{rows_from, file_at, room_of, AreSmall};
 
 use crate::node_rows::NodeRows;
-use crate::places::{FIRST, place_of};
+use crate::places::{FIRST, place_of_node};
 use crate::stored_node::StoredNode;
 use indexmap::IndexMap;
 use slab::Slab;
@@ -59,7 +59,7 @@ impl<A: Allocator + Copy> NodeRows for SlabRows<A> {
     }
 
     fn node(&self, id: u64) -> Option<StoredNode> {
-        let place = place_of(id)?;
+        let place = place_of_node(id)?;
         self.nodes.get(place).copied()
     }
 
@@ -69,7 +69,7 @@ impl<A: Allocator + Copy> NodeRows for SlabRows<A> {
     }
 
     fn write(&mut self, id: u64, node: StoredNode) {
-        if let Some(place) = place_of(id) {
+        if let Some(place) = place_of_node(id) {
             set(&mut self.nodes, place, node);
         }
     }
@@ -81,7 +81,7 @@ impl<A: Allocator + Copy> NodeRows for SlabRows<A> {
     }
 
     fn take_out(&mut self, id: u64) {
-        let Some(place) = place_of(id) else {
+        let Some(place) = place_of_node(id) else {
             return;
         };
         let Some(node) = self.nodes.try_remove(place) else {

@@ -27,64 +27,64 @@ use Rattle.fs_server.proofs.GivenBack.{forgets, gives_back}
 -- ---- what is to be looked at
 
 -- the same tree, nodes and open numbers under other names
-but_same : (loose l : Option ℕ) (mid : FilesState) (tree : Tree) (nodes : NodeTable) (handles : HandleTable)
-    → loose ≡ l → mid.tree ≡ tree → mid.nodes ≡ nodes → mid.handles ≡ handles → AreNamedBut l tree nodes handles
-    → AreNamedBut loose mid.tree mid.nodes mid.handles
-but_same loose l mid tree nodes handles o t n h named =
+but_same : (but l : Option ℕ) (mid : FilesState) (tree : Tree) (nodes : NodeTable) (handles : HandleTable)
+    → but ≡ l → mid.tree ≡ tree → mid.nodes ≡ nodes → mid.handles ≡ handles → AreNamedBut l tree nodes handles
+    → AreNamedBut but mid.tree mid.nodes mid.handles
+but_same but l mid tree nodes handles o t n h named =
     subst (λ (x : Option ℕ). AreNamedBut x mid.tree mid.nodes mid.handles) (sym o)
     (subst (λ (x : Tree). AreNamedBut l x mid.nodes mid.handles) (sym t)
     (subst (λ (x : NodeTable). AreNamedBut l tree x mid.handles) (sym n)
     (subst (λ (x : HandleTable). AreNamedBut l tree nodes x) (sym h) named)))
 
 module _ (old mid : FilesState) (named : AreNamed old.tree old.nodes old.handles) (tree : mid.tree ≡ old.tree) where
-  pub but_less : (loose : Option ℕ) (t : NodeTable) (id n : ℕ) → t ≡ old.nodes
-      → loose ≡ option_map (λ (row : HeldNode). row.file) (get t.rows id) → mid.nodes ≡ taken_back old.nodes id n
+  pub but_less : (but : Option ℕ) (t : NodeTable) (id n : ℕ) → t ≡ old.nodes
+      → but ≡ option_map (λ (row : HeldNode). row.file) (get t.rows id) → mid.nodes ≡ taken_back old.nodes id n
       → mid.handles ≡ old.handles
-      → AreNamedBut loose mid.tree mid.nodes mid.handles
-  but_less loose t id n same is nodes handles =
-      but_same loose (option_map (λ (row : HeldNode). row.file) (get old.nodes.rows id)) mid old.tree
+      → AreNamedBut but mid.tree mid.nodes mid.handles
+  but_less but t id n same is nodes handles =
+      but_same but (option_map (λ (row : HeldNode). row.file) (get old.nodes.rows id)) mid old.tree
       (taken_back old.nodes id n) old.handles (is ∙ ap
       (λ (x : NodeTable). option_map (λ (row : HeldNode). row.file) (get x.rows id)) same) tree nodes handles
       (named_less old.tree old.nodes old.handles named id n)
 
-  pub but_row_back : (loose : Option ℕ) (t : NodeTable) (g : Entry) → t ≡ old.nodes
-      → loose ≡ option_map (λ (row : HeldNode). row.file) (get t.rows g.nodeid) → mid.nodes ≡ row_back old.nodes g
+  pub but_row_back : (but : Option ℕ) (t : NodeTable) (g : Entry) → t ≡ old.nodes
+      → but ≡ option_map (λ (row : HeldNode). row.file) (get t.rows g.nodeid) → mid.nodes ≡ row_back old.nodes g
       → mid.handles ≡ old.handles
-      → AreNamedBut loose mid.tree mid.nodes mid.handles
-  but_row_back loose t g same is nodes handles =
-      but_same loose (option_map (λ (row : HeldNode). row.file) (get old.nodes.rows g.nodeid)) mid old.tree
+      → AreNamedBut but mid.tree mid.nodes mid.handles
+  but_row_back but t g same is nodes handles =
+      but_same but (option_map (λ (row : HeldNode). row.file) (get old.nodes.rows g.nodeid)) mid old.tree
       (row_back old.nodes g) old.handles (is ∙ ap (λ (x : NodeTable). option_map (λ (row : HeldNode). row.file)
       (get x.rows g.nodeid)) same) tree nodes handles
       (named_row_back old.tree old.nodes old.handles named g)
 
-  pub but_number_back : (loose : Option ℕ) (fh : ℕ)
-      → loose ≡ option_map (λ (h : OpenNumber). h.file) (get old.handles.handles fh) → mid.nodes ≡ old.nodes
-      → mid.handles ≡ handle_back old.handles fh → AreNamedBut loose mid.tree mid.nodes mid.handles
-  but_number_back loose fh is nodes handles =
-      but_same loose (option_map (λ (h : OpenNumber). h.file) (get old.handles.handles fh)) mid old.tree old.nodes
+  pub but_number_back : (but : Option ℕ) (fh : ℕ)
+      → but ≡ option_map (λ (h : OpenNumber). h.file) (get old.handles.handles fh) → mid.nodes ≡ old.nodes
+      → mid.handles ≡ handle_back old.handles fh → AreNamedBut but mid.tree mid.nodes mid.handles
+  but_number_back but fh is nodes handles =
+      but_same but (option_map (λ (h : OpenNumber). h.file) (get old.handles.handles fh)) mid old.tree old.nodes
       (handle_back old.handles fh) is tree nodes handles (named_number_back old.tree old.nodes old.handles named fh)
 
 -- what a request leaves is given nodes and open numbers
-pub but_numbered : {A : Type 0} (loose : Option ℕ) (start one two : FilesState) (v : Validity) (m : Minor)
+pub but_numbered : {A : Type 0} (but : Option ℕ) (start one two : FilesState) (v : Validity) (m : Minor)
     (h : HeldRequest) (reply : Reply ℕ ℕ) (sent : SentReply A)
-    → AreNamedBut loose (tree_said (server_at m start v) h) start.nodes (handles_said (server_at m start v) h)
+    → AreNamedBut but (tree_said (server_at m start v) h) start.nodes (handles_said (server_at m start v) h)
     → one.tree ≡ tree_said (server_at m start v) h → one.handles ≡ handles_said (server_at m start v) h
-    → one.nodes ≡ start.nodes → GivesNumbers one reply sent two → AreNamedBut loose two.tree two.nodes two.handles
-but_numbered loose start one two v m h reply sent named tree handles nodes gives =
-    let one_named = but_same loose loose one (tree_said (server_at m start v) h) start.nodes
+    → one.nodes ≡ start.nodes → GivesNumbers one reply sent two → AreNamedBut but two.tree two.nodes two.handles
+but_numbered but start one two v m h reply sent named tree handles nodes gives =
+    let one_named = but_same but but one (tree_said (server_at m start v) h) start.nodes
     (handles_said (server_at m start v) h) refl tree nodes handles named in
-    but_same loose loose two one.tree (all_given gives.choice one.nodes (files_in_reply reply))
+    but_same but but two one.tree (all_given gives.choice one.nodes (files_in_reply reply))
     (all_opened one.handles (opens_in_reply reply)) refl gives.tree_is gives.nodes_is gives.handles_is
-    (named_all_opened loose one.tree (all_given gives.choice one.nodes (files_in_reply reply)) one.handles
-    (named_all_given gives.choice loose one.tree one.nodes one.handles one_named (files_in_reply reply))
+    (named_all_opened but one.tree (all_given gives.choice one.nodes (files_in_reply reply)) one.handles
+    (named_all_given gives.choice but one.tree one.nodes one.handles one_named (files_in_reply reply))
     (opens_in_reply reply))
 
-pub but_said : (loose : Option ℕ) (start one : FilesState) (v : Validity) (m : Minor) (h : HeldRequest)
-    → AreNamedBut loose (tree_said (server_at m start v) h) start.nodes (handles_said (server_at m start v) h)
+pub but_said : (but : Option ℕ) (start one : FilesState) (v : Validity) (m : Minor) (h : HeldRequest)
+    → AreNamedBut but (tree_said (server_at m start v) h) start.nodes (handles_said (server_at m start v) h)
     → one.tree ≡ tree_said (server_at m start v) h → one.handles ≡ handles_said (server_at m start v) h
-    → one.nodes ≡ start.nodes → AreNamedBut loose one.tree one.nodes one.handles
-but_said loose start one v m h named tree handles nodes =
-    but_same loose loose one (tree_said (server_at m start v) h) start.nodes
+    → one.nodes ≡ start.nodes → AreNamedBut but one.tree one.nodes one.handles
+but_said but start one v m h named tree handles nodes =
+    but_same but but one (tree_said (server_at m start v) h) start.nodes
     (handles_said (server_at m start v) h) refl tree nodes handles named
 
 pub named_as : (start files : FilesState) → start.tree ≡ files.tree → start.nodes ≡ files.nodes

@@ -5,7 +5,7 @@ use Rattle.fuse_spec.specs.Server.Copies.{row_back, rows_back, rows_counted}
 use Rattle.fuse_spec.specs.Server.Nodes.{NodeTable, row_more}
 use Rattle.fuse_spec.specs.declared.Entry.{Entry}
 use Rattle.fuse_spec.specs.declared.Kind.TheVariants.{Directory}
-use Rattle.fs_nodes.specs.Sound.{IsSound}
+use Rattle.fs_nodes.specs.Sound.{IsSoundNodeTable}
 use Rattle.fs_files.specs.Giving.{files_of}
 use Rattle.fs_files.proofs.HeldBelow.{IsWithin}
 use Rattle.fs_files.proofs.Recounted.{within_more}
@@ -31,7 +31,7 @@ module _ (t n : NodeTable) (entries : List Entry) (at : ℕ) (some : at < length
   counted_on all is before = ap (λ (x : NodeTable). rows_counted x (drop (at + 1) entries)) is ∙ sym
       (at_drop_more (rows_counted t) entries at no_entry some) ∙ before
 
-  pub within_on : IsSound t → n ≡ row_more t (entry_at entries at).nodeid → IsWithin t (files_of t (drop at entries))
+  pub within_on : IsSoundNodeTable t → n ≡ row_more t (entry_at entries at).nodeid → IsWithin t (files_of t (drop at entries))
       → IsWithin n (files_of n (drop (at + 1) entries))
   within_on sound is before =
       subst (λ (x : NodeTable). IsWithin x (files_of x (drop (at + 1) entries))) (sym is)

@@ -18,10 +18,10 @@ use Rattle.fs_files.specs.Bounds.{AreHeldBelow, AreNamed, AreUsed}
 use Rattle.fs_files.specs.Performing.{handles_by, handles_said}
 use Rattle.fs_files.specs.Values.{FilesState, no_handles, no_nodes}
 use Rattle.fs_files.proofs.Bounds.{taken_each, row_back_each, opened_each, back_each, number_more_each}
-use Rattle.fs_server.specs.Sound.{IsSound, AreApart}
+use Rattle.fs_server.specs.Sound.{IsSoundServer, AreApart}
 
 pub sound_first : {V W X : Type 0} (files : FilesState) → files.nodes ≡ no_nodes → files.handles ≡ no_handles
-    → AreNamed files.tree files.nodes files.handles → IsSound {V = V} {W = W} {X = X} files [] [] [] 1
+    → AreNamed files.tree files.nodes files.handles → IsSoundServer {V = V} {W = W} {X = X} files [] [] [] 1
     (record { found_ms = 0; missing_ms = 0 })
 sound_first files nodes handles named = record {
   requests = record { apart = λ n there. refl; copies_below = λ n le. refl };

@@ -21,7 +21,7 @@ use Rattle.fs_files.specs.Values.{FilesState, server_of}
 use Rattle.fs_files.proofs.HeldBelow.{within_first, within_given}
 use Rattle.fs_files.proofs.StaysNamed.{named_all_again, named_all_counted}
 use Rattle.fs_server.specs.Effects.{Forgets, GivesBack, SettlesFiles}
-use Rattle.fs_server.specs.Sound.{IsSound}
+use Rattle.fs_server.specs.Sound.{IsSoundServer}
 use Rattle.fs_server.proofs.Sound.{apart_again, apart_performed, apart_settled, apart_taken, below_all, below_rows, gone_none, used_again, used_all, used_said, used_told}
 
 -- files with the same tree, nodes and open numbers
@@ -41,9 +41,9 @@ pub used_most : (next : ℕ) (handles : HandleTable) → next ≤ 2 ^ 62 → Are
 used_most next handles most used fh h is = let le = used fh h is in omega (arith, le, most)
 
 module _ {V W X : Type 0} (files : FilesState) (held : Map V) (kept : Map W) (copies : Map X) (next : ℕ) (v : Validity)
-    (old : IsSound files held kept copies next v) where
+    (old : IsSoundServer files held kept copies next v) where
   pub with_files : (new : FilesState) → AreHeldBelow new.nodes → AreUsed next new.handles
-      → AreNamed new.tree new.nodes new.handles → IsSound new held kept copies next v
+      → AreNamed new.tree new.nodes new.handles → IsSoundServer new held kept copies next v
   with_files new below used named = record {
     requests = old.requests;
     below = below;
@@ -55,27 +55,27 @@ module _ {V W X : Type 0} (files : FilesState) (held : Map V) (kept : Map W) (co
   }
 
   pub same_files : (new : FilesState) → new.tree ≡ files.tree → new.nodes ≡ files.nodes → new.handles ≡ files.handles
-      → IsSound new held kept copies next v
+      → IsSoundServer new held kept copies next v
   same_files new tree nodes handles = with_files new (subst AreHeldBelow (sym nodes) old.below)
       (subst (AreUsed next) (sym handles) old.used)
       (same_named new files.tree files.nodes files.handles tree nodes handles old.named)
 
   pub forgotten : (new : FilesState) (fs : List Forget) → Forgets files fs new
-      → AreNamed new.tree new.nodes new.handles → IsSound new held kept copies next v
+      → AreNamed new.tree new.nodes new.handles → IsSoundServer new held kept copies next v
   forgotten new fs f named =
       with_files new (subst AreHeldBelow (sym (ap (λ (s : Server). s.nodes) (f v)))
       (below_all files.nodes fs old.below)) (subst (AreUsed next)
       (sym (ap (λ (s : Server). s.handles) (f v))) old.used) named
 
   pub given_back : (new : FilesState) (wire : WireReply) → GivesBack files wire new
-      → AreNamed new.tree new.nodes new.handles → IsSound new held kept copies next v
+      → AreNamed new.tree new.nodes new.handles → IsSoundServer new held kept copies next v
   given_back new wire g named =
       with_files new (subst AreHeldBelow (sym (ap (λ (s : Server). s.nodes) (g v)))
       (below_rows files.nodes (files_in_reply wire) old.below))
       (subst (AreUsed next) (sym (ap (λ (s : Server). s.handles) (g v)))
       (used_all next files.handles (opens_in_reply wire) old.used)) named
 
-  pub taken : (unique : ℕ) (x : V) → get kept unique ≡ None → IsSound files (put held unique x) kept copies next v
+  pub taken : (unique : ℕ) (x : V) → get kept unique ≡ None → IsSoundServer files (put held unique x) kept copies next v
   taken unique x none = record {
     requests = apart_taken held kept copies next old.requests unique x none;
     below = old.below;
@@ -87,7 +87,7 @@ module _ {V W X : Type 0} (files : FilesState) (held : Map V) (kept : Map W) (co
     missing_day = old.missing_day;
   }
 
-  pub settled : (number : ℕ) → IsSound files held kept (remove copies number) next v
+  pub settled : (number : ℕ) → IsSoundServer files held kept (remove copies number) next v
   settled number = record {
     requests = apart_settled held kept copies next old.requests number;
     below = old.below;
@@ -99,7 +99,7 @@ module _ {V W X : Type 0} (files : FilesState) (held : Map V) (kept : Map W) (co
         old.missing_day;
   }
 
-  pub unkept : (unique : ℕ) → IsSound files held (remove kept unique) copies next v
+  pub unkept : (unique : ℕ) → IsSoundServer files held (remove kept unique) copies next v
   unkept unique = record {
     requests = record {
       apart = λ n there. gone_none kept unique n (old.requests.apart n there);
@@ -113,7 +113,7 @@ module _ {V W X : Type 0} (files : FilesState) (held : Map V) (kept : Map W) (co
     missing_day = old.missing_day;
   }
 
-  pub unheld : (unique : ℕ) → IsSound files (remove held unique) kept copies next v
+  pub unheld : (unique : ℕ) → IsSoundServer files (remove held unique) kept copies next v
   unheld unique = record {
     requests = record {
       apart = λ n there. old.requests.apart n (λ none. there (gone_none held unique n none));
@@ -131,7 +131,7 @@ module _ {V W X : Type 0} (files : FilesState) (held : Map V) (kept : Map W) (co
       → new.nodes ≡ rows_counted files.nodes (files_in_reply wire)
       → new.handles ≡ handles_counted files.handles (opens_in_reply wire) → AreHeldBelow new.nodes → next < 2 ^ 62
       → new.tree ≡ files.tree
-      → IsSound new held kept (put copies next x) (next + 1) v
+      → IsSoundServer new held kept (put copies next x) (next + 1) v
   sent_again new wire x nodes handles below low tree = record {
     requests = apart_again held kept copies next old.requests x;
     below = below;
@@ -144,7 +144,7 @@ module _ {V W X : Type 0} (files : FilesState) (held : Map V) (kept : Map W) (co
     missing_day = old.missing_day;
   }
 
-  pub lost : IsSound {V = V} {W = W} {X = X} files held [] [] next v
+  pub lost : IsSoundServer {V = V} {W = W} {X = X} files held [] [] next v
   lost = record {
     requests = record { apart = λ n there. refl; copies_below = λ n le. refl };
     below = old.below;
@@ -161,7 +161,7 @@ module _ {V W X : Type 0} (files : FilesState) (held : Map V) (kept : Map W) (co
       → GivesNumbers one reply sent two → length (files_in_reply reply) ≤ 32
       → counts_out files.nodes (files_in_reply reply) ≡ false → three.nodes ≡ two.nodes → three.handles ≡ two.handles
       → next < 2 ^ 62 → AreNamed three.tree three.nodes three.handles
-      → IsSound three (remove held unique) (put kept unique w) (put copies next x) (next + 1) v
+      → IsSoundServer three (remove held unique) (put kept unique w) (put copies next x) (next + 1) v
   performed h unique one two three reply sent w x handles nodes gives few none left_nodes left_handles low named =
       record {
         requests = apart_performed held kept copies next old.requests unique w x;
@@ -181,7 +181,7 @@ module _ {V W X : Type 0} (files : FilesState) (held : Map V) (kept : Map W) (co
   pub performed_lost : (h : HeldRequest) (unique : ℕ) (one three : FilesState)
       → one.handles ≡ handles_said (server_of files v) h → one.nodes ≡ files.nodes → three.nodes ≡ one.nodes
       → three.handles ≡ one.handles → AreNamed three.tree three.nodes three.handles
-      → IsSound three (remove held unique) kept copies next v
+      → IsSoundServer three (remove held unique) kept copies next v
   performed_lost h unique one three handles nodes left_nodes left_handles named = record {
     requests = record {
       apart = λ n there. old.requests.apart n (λ none. there (gone_none held unique n none));
@@ -198,7 +198,7 @@ module _ {V W X : Type 0} (files : FilesState) (held : Map V) (kept : Map W) (co
   -- the files, once nothing is known
   pub cleared : (new : FilesState) → new.nodes ≡ record files.nodes { rows = [] }
       → new.handles ≡ record files.handles { handles = [] } → AreNamed new.tree new.nodes new.handles
-      → IsSound new held kept copies next v
+      → IsSoundServer new held kept copies next v
   cleared new nodes handles named = with_files new
       (subst AreHeldBelow (sym nodes) (λ id row is. absurd (none-some row is)))
       (subst (AreUsed next) (sym handles) (λ fh h is. absurd (none-some h is))) named
@@ -206,7 +206,7 @@ module _ {V W X : Type 0} (files : FilesState) (held : Map V) (kept : Map W) (co
 pub first_again : {V W X : Type 0} (files : FilesState) (next : ℕ) (v w : Validity) → AreHeldBelow files.nodes
     → AreUsed next files.handles → AreNamed files.tree files.nodes files.handles → next ≤ 2 ^ 62
     → w.found_ms ≤ max_validity → w.missing_ms ≤ max_validity
-    → IsSound {V = V} {W = W} {X = X} files [] [] [] next w
+    → IsSoundServer {V = V} {W = W} {X = X} files [] [] [] next w
 first_again files next v w below used named numbers found missing =
     record {
       requests = record { apart = λ n there. refl; copies_below = λ n le. refl };
@@ -219,21 +219,21 @@ first_again files next v w below used named numbers found missing =
     }
 
 pub unkept_copy : {V X : Type 0} (files : FilesState) (held : Map V) (kept : Map Kept) (copies : Map X) (next : ℕ)
-    (v : Validity) → IsSound files held kept copies next v → (copy : Copy) (o : Option Kept)
-    → IsSound files held (kept_after kept copy o) copies next v
+    (v : Validity) → IsSoundServer files held kept copies next v → (copy : Copy) (o : Option Kept)
+    → IsSoundServer files held (kept_after kept copy o) copies next v
 unkept_copy files held kept copies next v old copy None = old
 unkept_copy files held kept copies next v old copy (Some k) = by (nat_eq k.first copy.first)
   where
-    by : (b : Bool) → IsSound files held (cond b (remove kept copy.unique) kept) copies next v
+    by : (b : Bool) → IsSoundServer files held (cond b (remove kept copy.unique) kept) copies next v
     by true = unkept files held kept copies next v old copy.unique
     by false = old
 
 pub settled_files : {V W X : Type 0} (files : FilesState) (held : Map V) (kept : Map W) (copies : Map X) (next : ℕ)
-    (v : Validity) → IsSound files held kept copies next v
+    (v : Validity) → IsSoundServer files held kept copies next v
     → (new : FilesState) (wire : WireReply) (result : WriteResult)
-    → SettlesFiles files wire result new → AreNamed new.tree new.nodes new.handles → IsSound new held kept copies next v
+    → SettlesFiles files wire result new → AreNamed new.tree new.nodes new.handles → IsSoundServer new held kept copies next v
 settled_files files held kept copies next v old new wire Accepted same named =
-    subst (λ (f : FilesState). IsSound f held kept copies next v) (sym same) old
+    subst (λ (f : FilesState). IsSoundServer f held kept copies next v) (sym same) old
 settled_files files held kept copies next v old new wire NoEntry gives named =
     given_back files held kept copies next v old new wire gives named
 settled_files files held kept copies next v old new wire Invalid gives named =

@@ -73,9 +73,9 @@ impl<S: NodeStore> ServerOf<S> {
         let Some(held) = self.held.get(unique) else {
             unreachable!();
         };
-        let loose = self.files.loosened_by(held);
+        let file = self.files.unlinked_or_released(held);
         let outcome = self.files.answer(held, self.validity, self.minor)?;
-        self.files.discard_unheld(loose);
+        self.files.discard_unheld(file);
         let _lost = self.held.remove(unique);
         Ok(Done {
             errno: outcome.errno(),
@@ -101,13 +101,13 @@ impl<S: NodeStore> ServerOf<S> {
         let room = ReplyRoom::new(self.alloc, len)?;
         let spare = ReplySpare::new(self.alloc, 0, names)?;
         let spare_copy = ReplySpare::new(self.alloc, len, names)?;
-        let loose = self.files.loosened_by(held);
+        let file = self.files.unlinked_or_released(held);
         let outcome = self.files.answer(held, self.validity, self.minor)?;
         let number = self.next_copy;
         let reply = self
             .files
             .give_numbers(outcome, self.validity.found_ms, spare);
-        self.files.discard_unheld(loose);
+        self.files.discard_unheld(file);
         let errno = errno(&reply);
         let copy = ReplyCopy::new(number, framed(&reply, room, unique));
         let sent = SentCopy::new(unique, copied(&reply, spare_copy), number);

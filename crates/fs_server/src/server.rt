@@ -74,15 +74,17 @@ impl<S: NodeStore> Model for ServerOf<S> {
     ghost use Rattle.std.specs.Coded.{codes};
     ghost use Rattle.fuse_spec.specs.Server.Server.{Server as ServerState};
     ghost use Rattle.fs_server.specs.Values.{server_with};
-    ghost use Rattle.fs_server.specs.Sound.{IsSound};
+    ghost use Rattle.fs_server.specs.Sound.{IsSoundServer};
 
     ghost Value = { ServerState };
 
     ghost coded = { Prim.hlevel (codes) };
 
-    ghost view = { λ s. server_with s.files s.held.entries s.kept.entries s.copies.entries s.next_copy s.validity s.minor s.is_aborted };
+    ghost view = { λ s. server_with s.files s.held.entries s.kept.entries s.copies.entries s.next_copy
+        s.validity s.minor s.is_aborted };
 
-    ghost invariant = { λ s. IsSound s.files s.held.entries s.kept.entries s.copies.entries s.next_copy s.validity };
+    ghost invariant = { λ s. IsSoundServer s.files s.held.entries s.kept.entries s.copies.entries s.next_copy
+        s.validity };
 }
 
 impl<S: NodeStore> ServerOf<S> {

@@ -96,9 +96,9 @@ fn entry_back<S: NodeStore>(files: &mut Files<S>, entry: &Entry)
     requires { AreNamed files.old.tree files.old.nodes files.old.handles }
     ensures { CountsBack files.old (entry.now ∷ []) [] files.new }
 {
-    let loose = files.nodes().counted_file(entry.nodeid);
+    let file = files.nodes().counted_file(entry.nodeid);
     files.give_back(entry);
-    files.discard_unheld(loose);
+    files.discard_unheld(file);
 }
 
 /// Counts back an open number. A nameless file that nothing holds any longer goes.
@@ -109,7 +109,7 @@ fn number_back<S: NodeStore>(files: &mut Files<S>, fh: Option<u64>)
     let Some(fh) = fh else {
         return;
     };
-    let loose = files.number_file(fh);
+    let file = files.number_file(fh);
     files.give_number_back(fh);
-    files.discard_unheld(loose);
+    files.discard_unheld(file);
 }

@@ -111,9 +111,9 @@ fn forget_one<S: NodeStore>(files: &mut Files<S>, nodeid: u64, nlookup: u64)
     requires named { AreNamed files.old.tree files.old.nodes files.old.handles }
     ensures { TakesBack files.old ((nodeid, nlookup) ∷ []) files.new }
 {
-    let loose = files.nodes().counted_file(nodeid);
+    let file = files.nodes().counted_file(nodeid);
     files.take_back(nodeid, nlookup);
-    files.discard_unheld(loose);
+    files.discard_unheld(file);
 }
 
 /// Gives lookups back, pair by pair.

@@ -10,7 +10,7 @@ use Rattle.fuse_spec.specs.Files.FileOperations.{FileOperation, is_same, renamed
 use Rattle.fuse_spec.specs.Files.TreeShape.{IsShaped, WritesRegular}
 use Rattle.fuse_spec.proofs.Tables.{get_put_there}
 use Rattle.fuse_spec.proofs.QueueCounts.{count_by-push}
-use Rattle.fs_tree.specs.Outcomes.{unnamed_by}
+use Rattle.fs_tree.specs.Outcomes.{unlinked_by}
 use Rattle.fs_tree.proofs.Counting.{count_kept}
 use Rattle.fs_tree.proofs.FileRows.{there-content}
 use Rattle.fs_tree.proofs.KeepsShape.{Apart, apart_from, apart_where}
@@ -98,7 +98,7 @@ module _ (tree : Tree) (shaped : IsShaped tree) (x : ℕ) where
   as_before there = inr (there, λ named. named)
 
   pub keeps_name : (operation : FileOperation) → WritesRegular tree operation
-      → (unnamed_by tree operation ≡ Some x → ⊥) → IsSome (get (tree_unrefused tree operation).files x)
+      → (unlinked_by tree operation ≡ Some x → ⊥) → IsSome (get (tree_unrefused tree operation).files x)
       → KeepsName tree (tree_unrefused tree operation) x
   keeps_name (lookup d name) regular other there = as_before there
   keeps_name (getattr file) regular other there = as_before there

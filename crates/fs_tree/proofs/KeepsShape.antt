@@ -355,3 +355,14 @@ pub renamed_is : (tree : Tree) (d : ℕ) (old : Name) (e : ℕ) (new : Name) (fi
     → record { files = tree.files; names = names; next_birth = tree.next_birth; next_serial = tree.next_serial + 1 }
     ≡ tree_unrefused tree (rename d old e new)
 renamed_is tree d old e new file names at apart are = rw (apart, at, are) refl
+
+-- a file that a rename moves has the old name, and the new name leads to no file or to another one
+pub moved_apart : (tree : Tree) (d : ℕ) (old : Name) (e : ℕ) (new : Name) (moved : Option ℕ) (file : ℕ)
+    → moved ≡ cond (is_same (file_at tree d old) (file_at tree e new)) None (file_at tree d old) → moved ≡ Some file
+    → (file_at tree d old ≡ Some file) × (is_same (file_at tree d old) (file_at tree e new) ≡ false)
+moved_apart tree d old e new moved file is some =
+    by (file_at tree d old) (is_same (file_at tree d old) (file_at tree e new)) (sym is ∙ some)
+  where
+    by : (at : Option ℕ) (same : Bool) → cond same None at ≡ Some file → (at ≡ Some file) × (same ≡ false)
+    by at true none = absurd (cc)
+    by at false is_file = (is_file, refl)

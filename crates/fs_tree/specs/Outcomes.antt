@@ -1,5 +1,5 @@
 -- What a call of the tree answers, said with the operations of `fuse_spec`.
-use Rattle.std.specs.Prelude.{◌≡◌, ℕ, Bool, true, false, ◌&&◌, ◌||◌, List, [], ◌∷◌, not, filter, Option, Some, None, MatchOption, cond}
+use Rattle.std.specs.Prelude.{◌≡◌, ℕ, Bool, true, false, ◌&&◌, ◌||◌, List, [], ◌∷◌, not, filter, Option, Some, None, Result, MatchResult, cond}
 use Rattle.fuse_spec.specs.declared.Validity.{Validity}
 use Rattle.fuse_spec.specs.declared.Kind.{Kind}
 use Rattle.fuse_spec.specs.declared.Kind.TheVariants.{Directory, Regular, Other}
@@ -37,9 +37,10 @@ refusal_in FileTooLarge = Some efbig
 refusal_in NoSpace = Some enospc
 refusal_in NotEmpty = Some enotempty
 
--- What a test for a refusal answers.
-abbrev pub Refuses : Option ℕ → Option TreeError → Type 0
-Refuses first error = MatchOption error (first ≡ None) (λ e. (first ≡ refusal_in e) × (first ≡ Some (errno_of e)))
+-- What a test for a refusal answers: an error is the first refusal.
+abbrev pub Refuses : {T : Type 0} → Option ℕ → Result T TreeError → Type 0
+Refuses first result = MatchResult result (λ _. first ≡ None)
+    (λ e. (first ≡ refusal_in e) × (first ≡ Some (errno_of e)))
 
 -- The call was refused with this error: the first refusal of the operation, or a want of memory where there is none.
 abbrev pub IsRefused : Tree → FileOperation → TreeError → Type 0
@@ -80,11 +81,11 @@ without_unheld holds tree = record tree { files = filter (λ e. not (is_nameless
 
 -- The file from which an operation takes a name for good: that of the name by UNLINK and RMDIR, and one that is
 -- replaced by RENAME.
-abbrev pub unnamed_by : Tree → FileOperation → Option ℕ
-unnamed_by tree (unlink d name) = file_at tree d name
-unnamed_by tree (rmdir d name) = file_at tree d name
-unnamed_by tree (rename d old e new) = file_at tree e new
-unnamed_by tree operation = None
+abbrev pub unlinked_by : Tree → FileOperation → Option ℕ
+unlinked_by tree (unlink d name) = file_at tree d name
+unlinked_by tree (rmdir d name) = file_at tree d name
+unlinked_by tree (rename d old e new) = file_at tree e new
+unlinked_by tree operation = None
 
 -- What refuses to replace a file by another one.
 abbrev pub replacing : Tree → Option ℕ → Option ℕ → List Check

@@ -5,7 +5,7 @@ ghost use Rattle.fuse_spec.specs.Files.Operations.{getattr, opening, read, write
 ghost use Rattle.fuse_spec.specs.Files.Trees.{attributes_of, overwritten};
 ghost use Rattle.fuse_spec.specs.Files.FileOperations.{refusal, tree_unrefused};
 ghost use Rattle.fuse_spec.specs.Values.Numbers.{counter_end};
-ghost use Rattle.fs_tree.specs.Outcomes.{IsRefused, IsRefusedBy, IsReply, is_regular};
+ghost use Rattle.fs_tree.specs.Outcomes.{IsRefused, IsReply, Refuses, is_regular};
 
 use crate::error::TreeError;
 use crate::tree::{ROOT, Tree};
@@ -30,8 +30,7 @@ impl<A: Allocator + Copy> Tree<A> {
 
     /// Whether a file may be opened: EISDIR for a directory.
     pub fn open(&self, file: u64) -> Result<(), TreeError>
-        ensures ok { OnOk result (refusal self.now (opening file) ≡ None) }
-        ensures refused { IfErr result (IsRefusedBy self.now (opening file)) }
+        ensures { Refuses (refusal self.now (opening file)) result }
     {
         if self.is_directory(file) {
             return Err(TreeError::IsADirectory);
@@ -52,6 +51,17 @@ impl<A: Allocator + Copy> Tree<A> {
     {
         let bytes = bytes_from(self.files.bytes(file), offset as usize);
         first_bytes(bytes, size.min(MAX_TRANSFER) as usize)
+    }
+
+    /// Whether a write is refused: EFBIG past 65,536 bytes.
+    pub fn may_write(&self, file: u64, offset: u64, bytes: &[u8]) -> Result<(), TreeError>
+        ensures { Refuses (refusal self.now (write file offset bytes.now)) result }
+    {
+        if fits(offset, bytes.len()) {
+            Ok(())
+        } else {
+            Err(TreeError::FileTooLarge)
+        }
     }
 
     /// Writes bytes into a regular file. A gap between its end and the offset becomes zeros. EFBIG past 65,536 bytes.
@@ -75,7 +85,7 @@ impl<A: Allocator + Copy> Tree<A> {
 }
 
 /// Whether so many bytes from an offset on lie within the largest file.
-pub(crate) fn fits(offset: u64, len: usize) -> bool
+fn fits(offset: u64, len: usize) -> bool
     ensures { (result ≡ true) ↔ (offset + len ≤ 65536) }
 {
     offset <= MAX_FILE && len as u64 <= MAX_FILE - offset

@@ -12,8 +12,9 @@ ghost use Rattle.fs_tree.specs.Stored.{AreBefore, files_led, fitting_with, in_di
 ghost use Rattle.fs_tree.specs.Views.{lead_of};
 
 use crate::files::Files;
-use crate::listing::{ENTRY_LEN, MOST_LISTED, Record, is_dots, record_len};
+use crate::listing::{ENTRY_LEN, MOST_LISTED, Record, record_len};
 use arrayvec::ArrayVec;
+use fuse_spec::is_dots;
 use indexmap::IndexMap;
 use std::alloc::{AllocError, Allocator};
 use std::collections::BTreeMap;

@@ -15,12 +15,11 @@ mod listing;
 mod names;
 mod operations;
 mod parents;
-mod refusals;
 mod rows;
 pub mod shape;
 mod tree;
 
 pub use error::TreeError;
 pub use fuse_spec::{Attributes, Kind};
-pub use listing::{MOST_LISTED, Record, is_dots};
+pub use listing::{MOST_LISTED, Record};
 pub use tree::{ROOT, Tree};

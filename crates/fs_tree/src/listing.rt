@@ -3,7 +3,6 @@
 ghost use Rattle.std.specs.Prelude.{◌≡◌, ◌+◌, ◌*◌, ◌/◌, ◌<◌, ◌^◌, ◌≤◌, map, length, None, IfOk, IfErr};
 ghost use Rattle.fuse_spec.specs.Files.FileOperations.{refusal, reply_unrefused};
 ghost use Rattle.fuse_spec.specs.Files.Operations.{files_in_reply, readdir, readdirplus, listed, listed_plus};
-ghost use Rattle.fuse_spec.specs.Calls.Paths.{is_dots};
 ghost use Rattle.fuse_spec.specs.declared.Validity.{Validity};
 ghost use Rattle.fs_tree.specs.Outcomes.{IsRefused, IsReply};
 ghost use Rattle.fs_tree.specs.Views.{dirent_of, pair_of};
@@ -44,9 +43,7 @@ impl<A: Allocator + Copy> Tree<A> {
             (listed (map dirent_of records.items))) }
         ensures refused { IfErr result (IsRefused self.now (readdir directory offset size)) }
     {
-        if !self.is_directory(directory) {
-            return Err(TreeError::NotADirectory);
-        }
+        self.may_lookup(directory)?;
         let room = size.min(MAX_TRANSFER) as usize;
         Ok(self.names.list(&self.files, directory, offset, room, 0)?)
     }
@@ -64,9 +61,7 @@ impl<A: Allocator + Copy> Tree<A> {
             ≡ listed_plus (map (pair_of valid.found_ms) records.items))) }
         ensures refused { IfErr result (IsRefused self.now (readdirplus directory offset size)) }
     {
-        if !self.is_directory(directory) {
-            return Err(TreeError::NotADirectory);
-        }
+        self.may_lookup(directory)?;
         let room = size.min(MAX_TRANSFER) as usize;
         let records = self
             .names
@@ -82,18 +77,6 @@ impl<A: Allocator + Copy> Tree<A> {
     {
         let room = size.min(MAX_TRANSFER) as usize;
         self.names.files_listed(directory, offset, room)
-    }
-}
-
-/// Whether a name is `.` or `..`.
-pub fn is_dots(name: &[u8]) -> bool
-    ensures { result ≡ is_dots name.now }
-{
-    match name {
-        [] => true,
-        [first] => *first == b'.',
-        [first, second] => *first == b'.' && *second == b'.',
-        _ => false,
     }
 }
 

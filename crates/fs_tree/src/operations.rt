@@ -1,19 +1,50 @@
-//! What changes the names and the files of a tree.
+//! What changes the names and the files of a tree. Before each operation stands what refuses it.
 
-ghost use Rattle.std.specs.Prelude.{◌≡◌, ◌≢◌, ◌+◌, ◌<◌, ◌≤◌, IfOk, IfErr, OnOk, OnErr, None};
+ghost use Rattle.std.specs.Prelude.{◌≡◌, ◌≢◌, ◌+◌, ◌<◌, ◌≤◌, IfOk, IfErr, OnOk, OnErr, Some, None, cond, find, length};
 ghost use Rattle.fuse_spec.specs.Files.Operations.{mkdir, create, unlink, rmdir, link, rename};
-ghost use Rattle.fuse_spec.specs.Files.Trees.{file_at, with_birth};
-ghost use Rattle.fuse_spec.specs.Files.FileOperations.{refusal, tree_unrefused, is_same};
+ghost use Rattle.fuse_spec.specs.Files.Trees.{file_at, is_at, with_birth};
+ghost use Rattle.fuse_spec.specs.Files.FileOperations.{refusal, first_refusal, making, tree_unrefused, is_same};
 ghost use Rattle.fuse_spec.specs.Values.Numbers.{counter_end};
-ghost use Rattle.fs_tree.specs.Outcomes.{IsRefused, IsRefusedBy, discarded, without_nameless};
+ghost use Rattle.fs_tree.specs.Outcomes.{IsRefused, IsRefusedBy, Refuses, discarded, replacing, without_nameless};
 ghost use Rattle.fs_tree.specs.Views.{content_in};
 
 use crate::error::TreeError;
 use crate::files::Content;
 use crate::tree::Tree;
+use fuse_spec::limits::MAX_NAMES;
 use std::alloc::{AllocError, Allocator};
 
 impl<A: Allocator + Copy> Tree<A> {
+    /// Whether a mkdir or a create is refused: both have the same checks.
+    pub fn may_create(&self, directory: u64, name: &[u8]) -> Result<(), TreeError>
+        ensures refusal { Refuses (refusal self.now (mkdir directory name.now)) result }
+        ensures room { OnOk result (length self.now.names < 4096) }
+        ensures free { OnOk result (find (is_at directory name.now) self.now.names ≡ None) }
+    {
+        if !self.is_directory(directory) {
+            return Err(TreeError::NotADirectory);
+        }
+        if self.is_nameless(directory) {
+            return Err(TreeError::NotFound);
+        }
+        self.may_add(directory, name)
+    }
+
+    /// Whether one more name in a directory is refused.
+    fn may_add(&self, directory: u64, name: &[u8]) -> Result<(), TreeError>
+        ensures refusal { Refuses (first_refusal (making self.now directory name.now)) result }
+        ensures room { OnOk result (length self.now.names < 4096) }
+        ensures free { OnOk result (find (is_at directory name.now) self.now.names ≡ None) }
+    {
+        if self.names.file_at(directory, name).is_some() {
+            Err(TreeError::AlreadyExists)
+        } else if self.names.len() >= MAX_NAMES {
+            Err(TreeError::NoSpace)
+        } else {
+            Ok(())
+        }
+    }
+
     /// Makes a directory, and gives its birth. ENOTDIR, ENOENT in a nameless directory, EEXIST, ENOSPC at 4,096 names.
     pub fn mkdir(&mut self, directory: u64, name: &[u8]) -> Result<u64, TreeError>
         requires births { self.old.next_birth < counter_end }
@@ -48,9 +79,7 @@ impl<A: Allocator + Copy> Tree<A> {
         ensures refused { IfErr result (IsRefused self.old (mkdir directory name.now)) }
         ensures unchanged { OnErr result (self.new ≡ self.old) }
     {
-        if let Some(error) = self.refusal_of_make(directory, name) {
-            return Err(error);
-        }
+        self.may_create(directory, name)?;
         let file = self.next_birth;
         let serial = self.next_serial;
         self.files.push(file, content)?;
@@ -63,6 +92,20 @@ impl<A: Allocator + Copy> Tree<A> {
         Ok(file)
     }
 
+    /// Whether an unlink is refused.
+    pub fn may_unlink(&self, directory: u64, name: &[u8]) -> Result<(), TreeError>
+        ensures { Refuses (refusal self.now (unlink directory name.now)) result }
+    {
+        if !self.is_directory(directory) {
+            return Err(TreeError::NotADirectory);
+        }
+        match self.names.file_at(directory, name) {
+            None => Err(TreeError::NotFound),
+            Some(file) if self.is_directory(file) => Err(TreeError::IsADirectory),
+            Some(_) => Ok(()),
+        }
+    }
+
     /// Takes the name of a file away. ENOTDIR, ENOENT, EISDIR for a directory. The file stays, nameless or not.
     pub fn unlink(&mut self, directory: u64, name: &[u8]) -> Result<(), TreeError>
         ensures ok { OnOk result ((refusal self.old (unlink directory name.now) ≡ None)
@@ -70,12 +113,25 @@ impl<A: Allocator + Copy> Tree<A> {
         ensures refused { IfErr result (IsRefusedBy self.old (unlink directory name.now)) }
         ensures unchanged { OnErr result (self.new ≡ self.old) }
     {
-        if let Some(error) = self.refusal_of_unlink(directory, name) {
-            return Err(error);
-        }
+        self.may_unlink(directory, name)?;
         self.names.remove(directory, name);
         // the file stays, nameless or not
         Ok(())
+    }
+
+    /// Whether an rmdir is refused.
+    pub fn may_rmdir(&self, directory: u64, name: &[u8]) -> Result<(), TreeError>
+        ensures { Refuses (refusal self.now (rmdir directory name.now)) result }
+    {
+        if !self.is_directory(directory) {
+            return Err(TreeError::NotADirectory);
+        }
+        match self.names.file_at(directory, name) {
+            None => Err(TreeError::NotFound),
+            Some(file) if !self.is_directory(file) => Err(TreeError::NotADirectory),
+            Some(file) if !self.names.is_empty(file) => Err(TreeError::NotEmpty),
+            Some(_) => Ok(()),
+        }
     }
 
     /// Takes the name of an empty directory away. ENOTDIR, ENOENT, ENOTDIR for another file, ENOTEMPTY. The directory
@@ -86,11 +142,30 @@ impl<A: Allocator + Copy> Tree<A> {
         ensures refused { IfErr result (IsRefusedBy self.old (rmdir directory name.now)) }
         ensures unchanged { OnErr result (self.new ≡ self.old) }
     {
-        if let Some(error) = self.refusal_of_rmdir(directory, name) {
-            return Err(error);
-        }
+        self.may_rmdir(directory, name)?;
         self.names.remove(directory, name);
         Ok(())
+    }
+
+    /// Whether a link is refused.
+    pub fn may_link(&self, file: u64, directory: u64, name: &[u8]) -> Result<(), TreeError>
+        ensures refusal { Refuses (refusal self.now (link file directory name.now)) result }
+        ensures room { OnOk result (length self.now.names < 4096) }
+        ensures free { OnOk result (find (is_at directory name.now) self.now.names ≡ None) }
+    {
+        if !self.is_directory(directory) {
+            return Err(TreeError::NotADirectory);
+        }
+        if self.is_nameless(directory) {
+            return Err(TreeError::NotFound);
+        }
+        if self.is_directory(file) {
+            return Err(TreeError::NotPermitted);
+        }
+        if self.is_nameless(file) {
+            return Err(TreeError::NotFound);
+        }
+        self.may_add(directory, name)
     }
 
     /// Makes one more name of a file. ENOTDIR, ENOENT in a nameless directory, EPERM for a directory, ENOENT for a
@@ -102,13 +177,60 @@ impl<A: Allocator + Copy> Tree<A> {
         ensures refused { IfErr result (IsRefused self.old (link file directory name.now)) }
         ensures unchanged { OnErr result (self.new ≡ self.old) }
     {
-        if let Some(error) = self.refusal_of_link(file, directory, name) {
-            return Err(error);
-        }
+        self.may_link(file, directory, name)?;
         let serial = self.next_serial;
         self.names.add(directory, name, file, serial)?;
         self.next_serial = serial + 1;
         Ok(())
+    }
+
+    /// Whether a rename is refused, and else the file that it moves: none where both names lead to the same one.
+    pub fn may_rename(
+        &self,
+        directory: u64,
+        old: &[u8],
+        new_directory: u64,
+        new: &[u8],
+    ) -> Result<Option<u64>, TreeError>
+        ensures refusal { Refuses (refusal self.now (rename directory old.now new_directory new.now)) result }
+        ensures moved { IfOk result (λ moved. moved ≡ cond (is_same (file_at self.now directory old.now)
+            (file_at self.now new_directory new.now)) None (file_at self.now directory old.now)) }
+    {
+        if !(self.is_directory(directory) && self.is_directory(new_directory)) {
+            return Err(TreeError::NotADirectory);
+        }
+        let Some(moved) = self.names.file_at(directory, old) else {
+            return Err(TreeError::NotFound);
+        };
+        if self.is_nameless(new_directory) {
+            return Err(TreeError::NotFound);
+        }
+        if self.is_directory(moved) && self.names.is_below(moved, new_directory) {
+            return Err(TreeError::Invalid);
+        }
+        match self.names.file_at(new_directory, new) {
+            None => Ok(Some(moved)),
+            Some(there) if there == moved => Ok(None),
+            Some(there) => self.may_replace(moved, there),
+        }
+    }
+
+    /// Whether it is refused that a file replaces another one, and else the file.
+    fn may_replace(&self, moved: u64, there: u64) -> Result<Option<u64>, TreeError>
+        ensures refusal { Refuses (first_refusal (replacing self.now (Some moved) (Some there))) result }
+        ensures moved { IfOk result (λ file. file ≡ Some moved) }
+    {
+        let is_directory = self.is_directory(moved);
+        let replaces_directory = self.is_directory(there);
+        if is_directory && !replaces_directory {
+            Err(TreeError::NotADirectory)
+        } else if !is_directory && replaces_directory {
+            Err(TreeError::IsADirectory)
+        } else if !self.names.is_empty(there) {
+            Err(TreeError::NotEmpty)
+        } else {
+            Ok(Some(moved))
+        }
     }
 
     /// Moves a file from one name to another, under a fresh serial, and replaces what stands there. ENOTDIR, ENOENT,
@@ -127,14 +249,7 @@ impl<A: Allocator + Copy> Tree<A> {
         ensures refused { IfErr result (IsRefused self.old (rename directory old.now new_directory new.now)) }
         ensures unchanged { OnErr result (self.new ≡ self.old) }
     {
-        if let Some(error) = self.refusal_of_rename(directory, old, new_directory, new) {
-            return Err(error);
-        }
-        let moved = self.names.file_at(directory, old);
-        if is_same(moved, self.names.file_at(new_directory, new)) {
-            return Ok(());
-        }
-        let Some(file) = moved else {
+        let Some(file) = self.may_rename(directory, old, new_directory, new)? else {
             return Ok(());
         };
         let serial = self.next_serial;

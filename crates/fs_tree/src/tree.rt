@@ -1,12 +1,12 @@
 //! The tree: its files, its names, and what is read from it.
 
-ghost use Rattle.std.specs.Prelude.{◌≡◌, ◌+◌, ◌<◌, ◌≤◌, IfOk, IfErr, None, count_by, nat_eq};
+ghost use Rattle.std.specs.Prelude.{◌≡◌, ◌+◌, ◌<◌, ◌≤◌, [], IfOk, IfErr, None, count_by, nat_eq};
 ghost use Rattle.fuse_spec.specs.Files.Operations.{lookup};
 ghost use Rattle.fuse_spec.specs.Files.Trees.{is_directory, is_nameless, links, file_at};
 ghost use Rattle.fuse_spec.specs.Files.FileOperations.{refusal};
 ghost use Rattle.fuse_spec.specs.Files.TreeShape.{IsShaped};
 ghost use Rattle.fuse_spec.specs.Values.Numbers.{counter_end};
-ghost use Rattle.fs_tree.specs.Outcomes.{IsRefusedBy, only_root};
+ghost use Rattle.fs_tree.specs.Outcomes.{IsRefusedBy, Refuses, only_root};
 ghost use Rattle.fs_tree.specs.Stored.{IsRising};
 
 use crate::Kind;
@@ -125,15 +125,24 @@ impl<A: Allocator + Copy> Tree<A> {
         self.links(file) == 0
     }
 
+    /// Whether a look into a directory is refused, by a name or for its names: ENOTDIR.
+    pub fn may_lookup(&self, directory: u64) -> Result<(), TreeError>
+        ensures { Refuses (refusal self.now (lookup directory [])) result }
+    {
+        if self.is_directory(directory) {
+            Ok(())
+        } else {
+            Err(TreeError::NotADirectory)
+        }
+    }
+
     /// The file to which a name in a directory leads, if one does.
     pub fn lookup(&self, directory: u64, name: &[u8]) -> Result<Option<u64>, TreeError>
         ensures ok { IfOk result (λ file. (refusal self.now (lookup directory name.now) ≡ None)
             × (file ≡ file_at self.now directory name.now)) }
         ensures refused { IfErr result (IsRefusedBy self.now (lookup directory name.now)) }
     {
-        if !self.is_directory(directory) {
-            return Err(TreeError::NotADirectory);
-        }
+        self.may_lookup(directory)?;
         Ok(self.names.file_at(directory, name))
     }
 

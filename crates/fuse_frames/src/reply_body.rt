@@ -4,14 +4,13 @@ ghost use Rattle.std.specs.Prelude.{◌≡◌};
 ghost use Rattle.fk_wire.specs.Entries.{entry_content};
 ghost use Rattle.fk_wire.specs.Records.{direntplus_content};
 ghost use Rattle.fuse_spec.specs.Files.Operations.{listed_by as file_told};
-ghost use Rattle.fuse_spec.specs.Calls.Paths.{is_dots as are_dots};
 ghost use Rattle.fuse_frames.specs.ReplyTies.{attributes_in, file_in, kind_of_mode, pair_in, valid_in};
 ghost use Rattle.fuse_frames.specs.ReplyTies.{kind_of_type as kind_told};
 ghost use Rattle.fuse_frames.specs.ReplyTies.{milliseconds as milliseconds_in};
 
 use fk_wire::{Attr, DirentPlus};
 use fuse_spec::limits::MAX_VALIDITY;
-use fuse_spec::{Attributes, Entry, Kind};
+use fuse_spec::{Attributes, Entry, Kind, is_dots};
 
 /// The kind of a file, by the type bits of its mode.
 fn kind_of(mode: u32) -> Kind
@@ -86,13 +85,6 @@ fn valid_of(entry: &fk_wire::Entry) -> u64
     ensures { result ≡ valid_in (entry_content entry.now) }
 {
     milliseconds(entry.entry_valid, entry.entry_valid_nsec)
-}
-
-/// Whether a name is `.` or `..`, or has no byte.
-fn is_dots(name: &[u8]) -> bool
-    ensures { result ≡ are_dots name.now }
-{
-    matches!(name, [] | [b'.'] | [b'.', b'.'])
 }
 
 /// The file that a name in a list tells, and for how many milliseconds the name leads there. `.` and `..` tell none,

@@ -4,9 +4,11 @@
 
 pub mod errno;
 pub mod limits;
+mod name;
 mod operation;
 pub mod worked_runs;
 
+pub use name::is_dots;
 pub use operation::{NoOpenFile, Operation};
 
 /// How far a request has come. The mark belongs to the request: the next request of the same call starts unread.

@@ -6,5 +6,5 @@ use Rattle.fs_files.proofs.plan.plan_of.Goals as goal
 pub returns : goal.returns
 returns g c v =
     draws_unrefused v c.args.tree.now (on_files c.args.nodes.now.table c.args.operation.now) c.unrefused_plan.result
-    (not_refused _ c.refusal_of.result c.refusal_of.ensures (sym c.is_some.ensures ∙ c.if-is_some.false))
+    (not_refused _ c.may_do.result c.may_do.ensures (sym c.is_err.ensures.value ∙ c.if-is_err.false))
     (c.unrefused_plan.ensures v)

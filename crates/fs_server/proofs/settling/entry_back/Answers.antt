@@ -4,7 +4,7 @@ use Rattle.fs_server.proofs.settling.entry_back.Goals as goal
 
 pub discard_unheld-requires : goal.discard_unheld-requires
 discard_unheld-requires g c =
-    but_row_back c.args.files.now c.give_back.new.self c.requires c.give_back.ensures.tree c.counted_file-loose.result c.nodes.result.now.table c.args.entry.now c.nodes.ensures c.counted_file-loose.ensures c.give_back.ensures.nodes c.give_back.ensures.handles
+    but_row_back c.args.files.now c.give_back.new.self c.requires c.give_back.ensures.tree c.counted_file-file.result c.nodes.result.now.table c.args.entry.now c.nodes.ensures c.counted_file-file.ensures c.give_back.ensures.nodes c.give_back.ensures.handles
 
 pub returns : goal.returns
 returns g c =

@@ -7,7 +7,7 @@ returns-in_default g c = rw c.in_default.is (discards_none c.args.files.now c.re
 
 pub discard_unheld-requires : goal.discard_unheld-requires
 discard_unheld-requires g c =
-    but_number_back c.args.files.now c.give_number_back.new.self c.requires c.give_number_back.ensures.tree c.number_file-loose.result c.in-Some.fh c.number_file-loose.ensures c.give_number_back.ensures.nodes c.give_number_back.ensures.handles
+    but_number_back c.args.files.now c.give_number_back.new.self c.requires c.give_number_back.ensures.tree c.number_file-file.result c.in-Some.fh c.number_file-file.ensures c.give_number_back.ensures.nodes c.give_number_back.ensures.handles
 
 pub returns : goal.returns
 returns g c =

@@ -4,7 +4,7 @@ use Rattle.fs_server.proofs.taking.forget_one.Goals as goal
 
 pub discard_unheld-requires : goal.discard_unheld-requires
 discard_unheld-requires g c =
-    but_less c.args.files.now c.take_back.new.self c.requires.named c.take_back.ensures.tree c.counted_file-loose.result c.nodes.result.now.table c.args.nodeid c.args.nlookup c.nodes.ensures c.counted_file-loose.ensures c.take_back.ensures.nodes
+    but_less c.args.files.now c.take_back.new.self c.requires.named c.take_back.ensures.tree c.counted_file-file.result c.nodes.result.now.table c.args.nodeid c.args.nlookup c.nodes.ensures c.counted_file-file.ensures c.take_back.ensures.nodes
     c.take_back.ensures.handles
 
 pub returns : goal.returns

@@ -9,7 +9,7 @@ any_validity : Validity
 any_validity = record { found_ms = 0; missing_ms = 0 }
 
 pub returns-in_default-clause-tree : goal.returns-in_default-clause-tree
-returns-in_default-clause-tree g c v = discarded_unheld_if_none c.args.self.now v c.args.loose c.in_default.is c.requires
+returns-in_default-clause-tree g c v = discarded_unheld_if_none c.args.self.now v c.args.file c.in_default.is c.requires
 
 pub returns-then-holds-clause-tree : goal.returns-then-holds-clause-tree
 returns-then-holds-clause-tree g c v =
@@ -22,7 +22,7 @@ returns-then-holds-clause-tree g c v =
       open_room = s.known.open_room;
     } in
     let named = rw (← c.self.view_is) at c.requires in
-    rw (← c.self.view_is) (discarded_unheld_held files v c.args.loose c.in-Some.file c.in-Some.is named
+    rw (← c.self.view_is) (discarded_unheld_held files v c.args.file c.in-Some.file c.in-Some.is named
     (sym c.holds.ensures ∙ c.if-holds.true))
 
 pub returns-then-holds-clause-named : goal.returns-then-holds-clause-named
@@ -36,7 +36,7 @@ returns-then-holds-clause-named g c =
       open_room = s.known.open_room;
     } in
     let named = rw (← c.self.view_is) at c.requires in
-    rw (← c.self.view_is) (named_held files any_validity c.args.loose c.in-Some.file c.in-Some.is named
+    rw (← c.self.view_is) (named_held files any_validity c.args.file c.in-Some.file c.in-Some.is named
     (sym c.holds.ensures ∙ c.if-holds.true))
 
 pub invariant_of-self : goal.invariant_of-self
@@ -63,7 +63,7 @@ returns-clause-tree g c v =
       open_room = s.known.open_room;
     } in
     let named = rw (← c.self.view_is) at c.requires in
-    rw (← c.self.view_is, c.discard.ensures) (discarded_unheld_gone files v c.args.loose c.in-Some.file c.in-Some.is named
+    rw (← c.self.view_is, c.discard.ensures) (discarded_unheld_gone files v c.args.file c.in-Some.file c.in-Some.is named
     (sym c.holds.ensures ∙ c.if-holds.false))
 
 pub returns-clause-named : goal.returns-clause-named
@@ -77,5 +77,5 @@ returns-clause-named g c =
       open_room = s.known.open_room;
     } in
     let named = rw (← c.self.view_is) at c.requires in
-    rw c.discard.ensures (named_gone files any_validity c.args.loose c.in-Some.file c.in-Some.is named
+    rw c.discard.ensures (named_gone files any_validity c.args.file c.in-Some.file c.in-Some.is named
     (sym c.holds.ensures ∙ c.if-holds.false))

@@ -11,13 +11,13 @@ pub returns-in_default-clause-rows : goal.returns-in_default-clause-rows
 returns-in_default-clause-rows g c =
     let slots = c.args.self.now.slots.items in
     rows_without_none slots c.args.id (get_low slots c.args.id
-    (place-low c.args.id (sym c.place_of.ensures ∙ c.in_default.is)))
+    (place-low c.args.id (sym c.place_of_node.ensures ∙ c.in_default.is)))
 
 pub returns-then-is_none-clause-rows : goal.returns-then-is_none-clause-rows
 returns-then-is_none-clause-rows g c =
     let slots = c.args.self.now.slots.items in
     let place = c.in-Some.place in
-    let id_is = place-high c.args.id place (sym c.place_of.ensures ∙ c.in-Some.is) in
+    let id_is = place-high c.args.id place (sym c.place_of_node.ensures ∙ c.in-Some.is) in
     let none = none_there slots c.deref.result.now place c.slot_at.result c.deref.ensures.value c.slot_at.ensures c.if-is_none.ensures in
     rows_without_none slots c.args.id (ap (get (rows_from 2 slots)) id_is ∙ get_at slots place ∙ ap
     (option_map node_of) none)
@@ -40,7 +40,7 @@ pub returns-clause-rows : goal.returns-clause-rows
 returns-clause-rows g c =
     let slots = c.args.self.now.slots.items in
     let place = c.in-Some.place in
-    let id_is = place-high c.args.id place (sym c.place_of.ensures ∙ c.in-Some.is) in
+    let id_is = place-high c.args.id place (sym c.place_of_node.ensures ∙ c.in-Some.is) in
     let some = some_there slots c.deref.result.now place c.slot_at.result c.deref.ensures.value c.slot_at.ensures c.if-is_none.ensures in
     rows_unset _ slots place (kept_within slots place some) c.put_slot.ensures.items ∙ ap (remove (rows_from 2 slots))
     (sym id_is)

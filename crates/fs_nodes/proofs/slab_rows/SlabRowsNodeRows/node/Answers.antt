@@ -9,11 +9,11 @@ use Rattle.fs_nodes.proofs.slab_rows.SlabRowsNodeRows.node.Goals as goal
 pub returns-in_err-place : goal.returns-in_err-place
 returns-in_err-place g c = rw c.from_residual.ensures
     (sym (get_low c.args.self.now.nodes.slots c.args.id
-    (place-low c.args.id (sym c.place_of.ensures ∙ c.in_err-place.was))))
+    (place-low c.args.id (sym c.place_of_node.ensures ∙ c.in_err-place.was))))
 
 pub returns : goal.returns
 returns g c =
     let slots = c.args.self.now.nodes.slots in
-    let id_is = place-high c.args.id c.in_ok-place.place (sym c.place_of.ensures ∙ c.in_ok-place.was) in
+    let id_is = place-high c.args.id c.in_ok-place.place (sym c.place_of_node.ensures ∙ c.in_ok-place.was) in
     ap (option_map node_of) (c.copied.ensures ∙ c.get.ensures) ∙ sym
     (ap (get (rows_from 2 slots)) id_is ∙ get_at slots c.in_ok-place.place)

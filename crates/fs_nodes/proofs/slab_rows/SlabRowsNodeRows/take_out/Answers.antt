@@ -16,12 +16,12 @@ pub returns-in_default-clause-rows : goal.returns-in_default-clause-rows
 returns-in_default-clause-rows g c =
     let slots = c.args.self.now.nodes.slots in
     rows_without_none slots c.args.id (get_low slots c.args.id
-    (place-low c.args.id (sym c.place_of.ensures ∙ c.in_default.is)))
+    (place-low c.args.id (sym c.place_of_node.ensures ∙ c.in_default.is)))
 
 pub returns-in_default-try_remove-clause-rows : goal.returns-in_default-try_remove-clause-rows
 returns-in_default-try_remove-clause-rows g c =
     let slots = c.args.self.now.nodes.slots in
-    let id_is = place-high c.args.id c.in-Some.place (sym c.place_of.ensures ∙ c.in-Some.is) in
+    let id_is = place-high c.args.id c.in-Some.place (sym c.place_of_node.ensures ∙ c.in-Some.is) in
     let none = ap (get (rows_from 2 slots)) id_is ∙ get_at slots c.in-Some.place ∙ ap (option_map node_of)
     (sym c.try_remove.ensures.value ∙ c.in_default-try_remove.is) in
     ap (λ (s : Slab StoredNode). rows_from 2 s.slots) c.in_default-try_remove.ensures.absent ∙ rows_without_none slots c.args.id none
@@ -49,6 +49,6 @@ invariant_of-self-2 g c =
 pub returns-clause-rows : goal.returns-clause-rows
 returns-clause-rows g c =
     let slots = c.args.self.now.nodes.slots in
-    let id_is = place-high c.args.id c.in-Some.place (sym c.place_of.ensures ∙ c.in-Some.is) in
+    let id_is = place-high c.args.id c.in-Some.place (sym c.place_of_node.ensures ∙ c.in-Some.is) in
     let updates = c.try_remove.ensures.updates in
     rows-take_out _ slots c.in-Some.place updates.changed updates.others ∙ ap (remove (rows_from 2 slots)) (sym id_is)

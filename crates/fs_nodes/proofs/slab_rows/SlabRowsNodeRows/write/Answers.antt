@@ -9,7 +9,7 @@ use Rattle.fs_nodes.proofs.slab_rows.SlabRowsNodeRows.write.Goals as goal
 pub set-requires : goal.set-requires
 set-requires g c =
     let slots = c.args.self.now.nodes.slots in
-    let id_is = place-high c.args.id c.in-Some.place (sym c.place_of.ensures ∙ c.in-Some.is) in
+    let id_is = place-high c.args.id c.in-Some.place (sym c.place_of_node.ensures ∙ c.in-Some.is) in
     kept_is_some slots c.in-Some.place c.args.node.file
     (of_is slots c.in-Some.place c.args.node.file (subst
     (λ id. IsOf (get (rows_from 2 slots) id) c.args.node.file) id_is c.requires))
@@ -17,7 +17,7 @@ set-requires g c =
 pub invariant_of-self : goal.invariant_of-self
 invariant_of-self g c =
     let slots = c.args.self.now.nodes.slots in
-    let id_is = place-high c.args.id c.in-Some.place (sym c.place_of.ensures ∙ c.in-Some.is) in
+    let id_is = place-high c.args.id c.in-Some.place (sym c.place_of_node.ensures ∙ c.in-Some.is) in
     let was = of_is slots c.in-Some.place c.args.node.file
     (subst (λ id. IsOf (get (rows_from 2 slots) id) c.args.node.file) id_is c.requires) in
     let updates = c.set.ensures.updates in
@@ -30,7 +30,7 @@ invariant_of-self g c =
 pub returns-in-Some-clause-rows : goal.returns-in-Some-clause-rows
 returns-in-Some-clause-rows g c =
     let slots = c.args.self.now.nodes.slots in
-    let id_is = place-high c.args.id c.in-Some.place (sym c.place_of.ensures ∙ c.in-Some.is) in
+    let id_is = place-high c.args.id c.in-Some.place (sym c.place_of_node.ensures ∙ c.in-Some.is) in
     let updates = c.set.ensures.updates in
     rows-write _ slots c.in-Some.place c.args.node updates.changed updates.others ∙ ap
     (λ id. put (rows_from 2 slots) id (node_of c.args.node)) (sym id_is)
@@ -38,5 +38,5 @@ returns-in-Some-clause-rows g c =
 pub returns-in_default-clause-rows : goal.returns-in_default-clause-rows
 returns-in_default-clause-rows g c =
     let low = get_low c.args.self.now.nodes.slots c.args.id
-    (place-low c.args.id (sym c.place_of.ensures ∙ c.in_default.is)) in
+    (place-low c.args.id (sym c.place_of_node.ensures ∙ c.in_default.is)) in
     absurd (subst (λ o. IsOf o c.args.node.file) low c.requires)

@@ -137,7 +137,7 @@ discard_unheld-requires g c =
     let s = c.self.inside in
     let start = c.reserve-3.new.self in
     let named = named_as start s.files c.reserve-3.ensures.tree c.reserve-3.ensures.nodes c.reserve-3.ensures.handles c.self.invariant.named in
-    but_numbered c.loosened_by-loose.result start c.answer.new.self c.give_numbers-reply.new.self s.validity s.minor c.in-Some.held.now (outcome_reply s.validity.found_ms c.in_ok-outcome.outcome) c.give_numbers-reply.result (c.loosened_by-loose.ensures.others s.validity s.minor named)
+    but_numbered c.unlinked_or_released-file.result start c.answer.new.self c.give_numbers-reply.new.self s.validity s.minor c.in-Some.held.now (outcome_reply s.validity.found_ms c.in_ok-outcome.outcome) c.give_numbers-reply.result (c.unlinked_or_released-file.ensures.others s.validity s.minor named)
     c.in_ok-outcome.ensures.tree c.in_ok-outcome.ensures.handles c.answer.ensures.nodes c.give_numbers-reply.ensures.gives
 
 pub invariant_of-self-in_err-spare : goal.invariant_of-self-in_err-spare

@@ -31,8 +31,8 @@ returns-clause-performed g c =
 pub discard_unheld-requires : goal.discard_unheld-requires
 discard_unheld-requires g c =
     let s = c.self.inside in
-    but_said c.loosened_by-loose.result s.files c.answer.new.self s.validity s.minor c.in-Some.held.now
-    (c.loosened_by-loose.ensures.others s.validity s.minor c.self.invariant.named) c.in_ok-outcome.ensures.tree c.in_ok-outcome.ensures.handles c.answer.ensures.nodes
+    but_said c.unlinked_or_released-file.result s.files c.answer.new.self s.validity s.minor c.in-Some.held.now
+    (c.unlinked_or_released-file.ensures.others s.validity s.minor c.self.invariant.named) c.in_ok-outcome.ensures.tree c.in_ok-outcome.ensures.handles c.answer.ensures.nodes
 
 pub answer-requires-clause-births : goal.answer-requires-clause-births
 answer-requires-clause-births g c =

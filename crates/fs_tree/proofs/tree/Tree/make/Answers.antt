@@ -9,11 +9,11 @@ pub invariant_of-self-2 : goal.invariant_of-self-2
 invariant_of-self-2 g c =
     let births = rw (← c.self.view_is) at c.requires.births in
     let serials = rw (← c.self.view_is) at c.requires.serials in
-    rw (c.in_ok-push.ensures.ok, c.in_default-add.ensures.ok) (
+    rw (c.in_ok-push.ensures.ok, c.in_default.ensures.ok) (
       kept-born _ _ _ _ (kept-named _ _ _ _ c.self.invariant.0 _ (search rules)
-          (rw (← c.self.view_is) at c.in_default.ensures.room) serials) _ births,
+          (rw (← c.self.view_is) at c.in_ok-may_create.ensures.room) serials) _ births,
       make _ c.self.invariant.1 c.args.directory c.args.name.now _
-          (rw (← c.self.view_is) at c.in_default.ensures.refusal),
+          (rw (← c.self.view_is) at c.in_ok-may_create.ensures.refusal),
     )
 
 pub invariant_of-self-in-Err : goal.invariant_of-self-in-Err

@@ -8,5 +8,5 @@ pub invariant_of-self : goal.invariant_of-self
 invariant_of-self g c = rw c.remove.ensures (
   kept-where _ _ _ _ c.self.invariant.0
       (λ n. not (is_at c.args.directory c.args.name.now n)),
-  unlinked _ c.self.invariant.1 c.args.directory c.args.name.now (rw (← c.self.view_is) at c.in_default.ensures),
+  unlinked _ c.self.invariant.1 c.args.directory c.args.name.now (rw (← c.self.view_is) at c.in_ok-may_unlink.ensures),
 )

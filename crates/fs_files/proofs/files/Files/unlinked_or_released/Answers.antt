@@ -1,10 +1,10 @@
 use Rattle.std.proofs.Common.{ℕ, Option, sym, ap, subst, ◌∙◌}
 use Rattle.fuse_spec.specs.Files.TreeShape.{IsShaped}
 use Rattle.fs_files.specs.Bounds.{AreKnown, AreNamedBut}
-use Rattle.fs_files.specs.Performing.{handles_said, loosened, tree_said}
+use Rattle.fs_files.specs.Performing.{handles_said, unlinked_or_released, tree_said}
 use Rattle.fs_files.specs.Values.{FilesState, server_at}
 use Rattle.fs_files.proofs.StaysNamed.{named_said}
-use Rattle.fs_files.proofs.files.Files.loosened_by.Goals as goal
+use Rattle.fs_files.proofs.files.Files.unlinked_or_released.Goals as goal
 
 pub returns-clause-others : goal.returns-clause-others
 returns-clause-others g c v m named =
@@ -13,5 +13,5 @@ returns-clause-others g c v m named =
     let known = subst (λ (f : FilesState). AreKnown f.tree f.nodes f.handles) c.self.view_is c.self.invariant in
     let shaped = subst (λ (f : FilesState). IsShaped f.tree) c.self.view_is c.keeps_shape.ensures in
     subst (λ (o : Option ℕ). AreNamedBut o (tree_said (server_at m files v) held) files.nodes
-    (handles_said (server_at m files v) held)) (sym (c.loosened.ensures v m ∙ ap
-    (loosened (server_at m files v)) c.body.ensures)) (named_said files v m known shaped named held)
+    (handles_said (server_at m files v) held)) (sym (c.unlinked_or_released_by.ensures v m ∙ ap
+    (unlinked_or_released (server_at m files v)) c.body.ensures)) (named_said files v m known shaped named held)

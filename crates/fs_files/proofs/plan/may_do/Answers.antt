@@ -1,4 +1,4 @@
-use Rattle.fs_files.proofs.refusing.refusal_of.Goals as goal
+use Rattle.fs_files.proofs.plan.may_do.Goals as goal
 
 pub returns-in-Rename : goal.returns-in-Rename
 returns-in-Rename g c =
@@ -9,7 +9,7 @@ returns-in-Rename g c =
       c.deref-in-Rename.ensures.value,
       c.deref-in-Rename-2.ensures.value,
       c.in-Rename.is,
-    ) at c.refusal_of_rename.ensures)
+    ) at c.may_rename.ensures)
 
 pub returns-in-Link : goal.returns-in-Link
 returns-in-Link g c = rw c.in-Link.is (rw (
@@ -18,7 +18,7 @@ returns-in-Link g c = rw c.in-Link.is (rw (
   c.file_of-in-Link.ensures,
   c.in-Link.is,
   c.deref-in-Link.ensures.value,
-) at c.refusal_of_link.ensures.refusal)
+) at c.may_link.ensures.refusal)
 
 pub returns-in-Mkdir : goal.returns-in-Mkdir
 returns-in-Mkdir g c = rw c.in-Mkdir.is (rw (
@@ -26,7 +26,7 @@ returns-in-Mkdir g c = rw c.in-Mkdir.is (rw (
   c.header_node.ensures,
   c.in-Mkdir.is,
   c.deref.ensures.value,
-) at c.refusal_of_make.ensures.refusal)
+) at c.may_create.ensures.refusal)
 
 pub returns-in-Create : goal.returns-in-Create
 returns-in-Create g c = rw c.in-Create.is (rw (
@@ -34,4 +34,4 @@ returns-in-Create g c = rw c.in-Create.is (rw (
   c.header_node.ensures,
   c.in-Create.is,
   c.deref-in-Create.ensures.value,
-) at c.refusal_of_make-in-Create.ensures.refusal)
+) at c.may_create-in-Create.ensures.refusal)

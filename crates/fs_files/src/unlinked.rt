@@ -3,9 +3,9 @@
 ghost use Rattle.std.specs.Prelude.{◌≡◌, None};
 ghost use Rattle.fuse_spec.specs.declared.Minor.{Minor as MinorValue};
 ghost use Rattle.fuse_spec.specs.declared.Validity.{Validity as ValidityValue};
-ghost use Rattle.fs_tree.specs.Outcomes.{unnamed_by};
+ghost use Rattle.fs_tree.specs.Outcomes.{unlinked_by};
 ghost use Rattle.fs_files.specs.Bounds.{AreNamed, AreNamedBut};
-ghost use Rattle.fs_files.specs.Performing.{handles_said, loosened, tree_said};
+ghost use Rattle.fs_files.specs.Performing.{handles_said, unlinked_or_released, tree_said};
 ghost use Rattle.fs_files.specs.Values.{asked_of, on_files, server_at};
 
 use crate::files::Files;
@@ -20,24 +20,25 @@ impl<S: NodeStore> Files<S> {
     /// The file that a held request takes a name for good or an open number from, if it is performed. Every other file
     /// that nothing holds keeps a name.
     #[inline(always)]
-    pub fn loosened_by(&self, held: &HeldRequest<S::Heap>) -> Option<u64>
-        ensures file { (v : ValidityValue) (m : MinorValue) → result ≡ loosened (server_at m self.now v) held.now.body }
+    pub fn unlinked_or_released(&self, held: &HeldRequest<S::Heap>) -> Option<u64>
+        ensures file { (v : ValidityValue) (m : MinorValue) → result
+            ≡ unlinked_or_released (server_at m self.now v) held.now.body }
         ensures others { (v : ValidityValue) (m : MinorValue) → AreNamed self.now.tree self.now.nodes self.now.handles
             → AreNamedBut result (tree_said (server_at m self.now v) held.now) self.now.nodes
             (handles_said (server_at m self.now v) held.now) }
     {
         self.tree.keeps_shape();
-        self.loosened(held.body())
+        self.unlinked_or_released_by(held.body())
     }
 
     /// The same of what a request asks.
     #[inline(always)]
-    fn loosened(&self, body: &HeldBody<S::Heap>) -> Option<u64>
+    fn unlinked_or_released_by(&self, body: &HeldBody<S::Heap>) -> Option<u64>
         ensures { (v : ValidityValue) (m : MinorValue) → result
-            ≡ loosened (server_at m self.now v) (asked_of body.now) }
+            ≡ unlinked_or_released (server_at m self.now v) (asked_of body.now) }
     {
         match body {
-            HeldBody::Asks { operation } => unnamed_by(&self.tree, &self.known.nodes, operation),
+            HeldBody::Asks { operation } => unlinked_by(&self.tree, &self.known.nodes, operation),
             HeldBody::Release { opened } => self.known.handles.file_of(opened.fh),
             HeldBody::Init { .. } => None,
         }
@@ -46,12 +47,12 @@ impl<S: NodeStore> Files<S> {
 
 /// The file that an operation takes a name from for good.
 #[inline(always)]
-fn unnamed_by<A: Allocator + Copy, S: NodeStore>(
+fn unlinked_by<A: Allocator + Copy, S: NodeStore>(
     tree: &Tree<A>,
     nodes: &Nodes<S>,
     operation: &HeldOperation<A>,
 ) -> Option<u64>
-    ensures { result ≡ unnamed_by tree.now (on_files nodes.now.table operation.now) }
+    ensures { result ≡ unlinked_by tree.now (on_files nodes.now.table operation.now) }
 {
     match operation {
         Operation::Unlink { directory, name } | Operation::Rmdir { directory, name } => {

@@ -1,5 +1,5 @@
 use Rattle.std.proofs.Common.{rules}
-use Rattle.fs_tree.proofs.tree.Tree.refusal_of_name.Goals as goal
+use Rattle.fs_tree.proofs.tree.Tree.may_add.Goals as goal
 
 pub returns-then-len-ge-MAX_NAMES-clause-refusal : goal.returns-then-len-ge-MAX_NAMES-clause-refusal
 returns-then-len-ge-MAX_NAMES-clause-refusal g c = search rules
