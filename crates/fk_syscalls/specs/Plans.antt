@@ -1,21 +1,14 @@
 -- What a call's walks are for.
 use Rattle.std.specs.Prelude.{◌≡◌, ℕ, Bool, true, false, List, [], Option, All, is_none}
 use Rattle.std.specs.List.{list_any}
-use Rattle.fuse_spec.specs.Values.Numbers.{max_transfer}
 use Rattle.fuse_spec.specs.Calls.Walks.{FinalOperation, WalkPlan, last, rename, link}
 use Rattle.fuse_spec.specs.Files.Operations.{files_in, names_in, operation_of}
 use Rattle.fuse_spec.specs.declared.operation.NoOpenFile.{NoOpenFile}
 use Rattle.fuse_spec.specs.declared.operation.Operation.{Operation}
-use Rattle.fuse_spec.specs.declared.operation.Operation.TheVariants.{Lookup, Readdir, Readdirplus}
+use Rattle.fuse_spec.specs.declared.operation.Operation.TheVariants.{Lookup}
 use Rattle.fk_syscalls.specs.Words.{words_from, IsWord, AreWords}
 use Rattle.fk_syscalls.specs.declared.plan.Plan.{Plan}
 use Rattle.fk_syscalls.specs.declared.plan.Plan.TheVariants.{Last, Rename, Link}
-
--- A list is asked for in as many bytes as one read gives.
-abbrev pub AsksWhole : {S N O : Type 0} → Operation S N O → Type 0
-AsksWhole (Readdir directory after size) = size ≡ max_transfer
-AsksWhole (Readdirplus directory after size) = size ≡ max_transfer
-AsksWhole asked = Unit {0}
 
 abbrev pub is_lookup : {S N O : Type 0} → Operation S N O → Bool
 is_lookup (Lookup directory name) = true
@@ -25,11 +18,10 @@ is_lookup asked = false
 abbrev pub names_end : FinalOperation ℕ → Bool
 names_end final = list_any is_none (files_in (λ o. []) final)
 
--- The operation at the end of a call's walks: it is of the file to which the last walk leads, its names are words, it
--- asks for whole lists, and it looks up no name.
+-- The operation at the end of a call's walks: it is of the file to which the last walk leads, its names are words, and
+-- it looks up no name.
 pub record IsSoundFinal {S : Type 0} (bytes_of : S → List ℕ) (final : Operation S (Option ℕ) NoOpenFile) : Type 0 where
   pub words : All IsWord (names_in (operation_of bytes_of final))
-  pub whole : AsksWhole final
   pub looks_up_none : is_lookup final ≡ false
   pub ends : names_end (operation_of bytes_of final) ≡ true
 

@@ -8,7 +8,7 @@ ghost use Rattle.fuse_spec.specs.Calls.Paths.{Name};
 ghost use Rattle.fuse_spec.specs.Calls.Vfs.{Vfs, walking, using, asked, walks_on};
 ghost use Rattle.fuse_spec.specs.Calls.Walks.{WalkPlan, last, go, arrived};
 ghost use Rattle.fk_syscalls.specs.Words.{words_from, AreWords};
-ghost use Rattle.fk_syscalls.specs.Plans.{plan_of, AsksWhole, IsSoundFinal, IsSoundPlan};
+ghost use Rattle.fk_syscalls.specs.Plans.{plan_of, IsSoundFinal, IsSoundPlan};
 ghost use Rattle.fk_syscalls.specs.States.{walking_at, IsSoundLentCall, IsWalking, StandsAt, used_by, HasNames};
 ghost use Rattle.fk_syscalls.specs.NewNames.{with_name};
 ghost use Rattle.fk_syscalls.specs.Walks.{known};
@@ -301,7 +301,6 @@ impl<A: Allocator + Copy> CallState<A> {
         ensures operation { operation_of (λ s. s.now) result ≡ asked self.now }
         ensures stands { StandsAt (operation_of (λ s. s.now) result) self.now }
         ensures word { AsksWord result }
-        ensures size { AsksWhole result }
     {
         match &self.aim {
             Aim::Walks(plan) => {

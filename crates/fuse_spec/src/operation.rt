@@ -259,9 +259,10 @@ impl<'a, N: Copy, O: Copy> Operation<&'a [u8], N, O> {
 }
 
 impl<A: Allocator> Operation<Vec<u8, A>, Option<u64>, NoOpenFile> {
-    ghost use Rattle.std.specs.Prelude.{◌≡◌};
+    ghost use Rattle.std.specs.Prelude.{◌≡◌, true};
     ghost use Rattle.fuse_spec.specs.Calls.Walks.{operation_at};
     ghost use Rattle.fuse_spec.specs.Files.Operations.{operation_of};
+    ghost use Rattle.fuse_spec.specs.Files.OwnedOperations.{has_more};
 
     /// The operation that is asked once the last walk has led to a node. Its names are lent.
     pub fn at(&self, node: u64) -> Operation<&[u8]>
@@ -275,26 +276,7 @@ impl<A: Allocator> Operation<Vec<u8, A>, Option<u64>, NoOpenFile> {
             Operation::Create { name, .. } => Operation::Create { directory, name },
             Operation::Unlink { name, .. } => Operation::Unlink { directory, name },
             Operation::Rmdir { name, .. } => Operation::Rmdir { directory, name },
-            Operation::Rename {
-                old,
-                newdir,
-                new,
-                ..
-            } => Operation::Rename {
-                directory,
-                old,
-                newdir: newdir.unwrap_or(node),
-                new,
-            },
-            Operation::Link {
-                node: linked,
-                name,
-                ..
-            } => Operation::Link {
-                node: linked.unwrap_or(node),
-                directory,
-                name,
-            },
+            Operation::Rename { .. } | Operation::Link { .. } => self.at_two(node),
             Operation::Open { .. } => Operation::Open { node: directory },
             Operation::Readdir { after, size, .. } => Operation::Readdir {
                 directory,
@@ -307,6 +289,37 @@ impl<A: Allocator> Operation<Vec<u8, A>, Option<u64>, NoOpenFile> {
                 size: *size,
             },
             Operation::Read { opened, .. } | Operation::Write { opened, .. } => match *opened {},
+        }
+    }
+
+    /// As `at`, for an operation on two files.
+    fn at_two(&self, node: u64) -> Operation<&[u8]>
+        requires { has_more self.now ≡ true }
+        ensures { operation_of (λ s. s.now) result ≡ operation_at (operation_of (λ s. s.items) self.now) node }
+    {
+        match self {
+            Operation::Rename {
+                directory,
+                old,
+                newdir,
+                new,
+            } => Operation::Rename {
+                directory: directory.unwrap_or(node),
+                old,
+                newdir: newdir.unwrap_or(node),
+                new,
+            },
+            Operation::Link {
+                node: linked,
+                directory,
+                name,
+            } => Operation::Link {
+                node: linked.unwrap_or(node),
+                directory: directory.unwrap_or(node),
+                name,
+            },
+            Operation::Write { opened, .. } => match *opened {},
+            _ => unreachable!(),
         }
     }
 }
