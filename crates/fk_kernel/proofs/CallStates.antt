@@ -7,7 +7,7 @@ use Rattle.fuse_spec.specs.Kernel.Kernel.{Kernel, closed_by, after_use}
 use Rattle.fuse_spec.specs.Values.Maps.{Map, Place}
 use Rattle.fuse_spec.specs.Files.Operations.{Operation, lookup, getattr, mkdir, create, unlink, rmdir, rename, link, opening, readdir, readdirplus, read, write}
 use Rattle.fuse_spec.specs.Files.Operations as reply
-use Rattle.fuse_spec.specs.Files.Operations.{DirentPlus}
+use Rattle.fuse_spec.specs.Files.Operations.{DirentPlus, entry_place}
 use Rattle.fuse_spec.specs.Calls.Paths.{Name}
 use Rattle.fuse_spec.specs.Kernel.Replies.{goes_with}
 use Rattle.fuse_spec.specs.Calls.Vfs.{CallState, walking, doing, using, asked}
@@ -16,7 +16,7 @@ use Rattle.fk_syscalls.specs.States.{StandsAt, used_by}
 use Rattle.fk_syscalls.specs.Values.{call_of, ClosesNone}
 use Rattle.fk_syscalls.specs.declared.call.Call.{Call}
 use Rattle.fk_syscalls.specs.declared.call.Call.TheVariants.{Stat, List as Lists, ListPlus, Open, Mkdir, Create, Unlink, Rmdir, Rename, Link, Read, Write, Close}
-use Rattle.fk_kernel.specs.Entries.{MakesName, place_of, Makes, mkdirs, links, Creates, Opens, ListsPlus}
+use Rattle.fk_kernel.specs.Entries.{MakesName, Makes, mkdirs, links, Creates, Opens, ListsPlus}
 
 pub asked_is : (operation : Operation ℕ Opened) (state : CallState Opened) → StandsAt operation state
     → asked state ≡ operation
@@ -138,7 +138,7 @@ using_of (using other operation) handle is =
     (operation, ap (λ (h : ℕ). using h operation) same)
 
 pub makes_place : (operation : Operation ℕ Opened) (place : Place) → MakesName operation place
-    → place_of operation ≡ Some place
+    → entry_place operation ≡ Some place
 makes_place operation place (mkdirs d n) = refl
 makes_place operation place (links x d n) = refl
 

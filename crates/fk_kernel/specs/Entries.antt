@@ -54,14 +54,6 @@ pub record Opens (standing : Option (CallState Opened)) : Type 0 where
   pub node : ℕ
   pub is : standing ≡ Some (doing (opening node))
 
--- The name that the reply to a call's request binds, if it does.
-abbrev pub place_of : Operation ℕ Opened → Option Place
-place_of (lookup directory name) = Some (directory, name)
-place_of (mkdir directory name) = Some (directory, name)
-place_of (create directory name) = Some (directory, name)
-place_of (link file directory name) = Some (directory, name)
-place_of operation = None
-
 -- Where the end of this call lets a closed file go, a number is left for its RELEASE.
 abbrev pub EndsWithin : Kernel → ℕ → Type 0
 EndsWithin k call =

@@ -1,4 +1,4 @@
-//! How replies are taken that name a file: to a LOOKUP, MKDIR, LINK, CREATE or OPEN.
+//! How replies are taken that name a file: by an entry, by an open number, or by both.
 
 ghost use Rattle.std.specs.Prelude.{◌≡◌, ◌≢◌, ◌<◌, ◌^◌, ◌+◌, [], ◌∷◌, ◌≤◌, ◌%◌, ℕ, length, List, Some, None, Ok, OnOk, OnErr, IfOk, IfErr, true, false, is_some, nat_eq};
 ghost use Rattle.fuse_spec.specs.Calls.Answers.{failed};
@@ -7,7 +7,7 @@ ghost use Rattle.fuse_spec.specs.Calls.Vfs.{CallState as State, walking, doing, 
 ghost use Rattle.fuse_spec.specs.Calls.Walks.{WalkPlan};
 ghost use Rattle.fuse_spec.specs.Values.Numbers.{counter_end, max_validity};
 ghost use Rattle.fuse_spec.specs.Files.Operations as reply;
-ghost use Rattle.fuse_spec.specs.Files.Operations.{opening};
+ghost use Rattle.fuse_spec.specs.Files.Operations.{entry_place, opening};
 ghost use Rattle.fuse_spec.specs.Calls.Paths.{Name};
 ghost use Rattle.fuse_spec.specs.Kernel.Replies.{usable, use_of, counted_more, looked_up, reply_written};
 ghost use Rattle.fuse_spec.specs.declared.Opened.{Opened as OpenedFile};
@@ -15,7 +15,7 @@ ghost use Rattle.fuse_spec.specs.Kernel.Refusals.{is_past_end, is_counted_out};
 ghost use Rattle.fuse_spec.specs.Kernel.QueueCalls.{after_forget, waiting, without};
 ghost use Rattle.std.specs.Option.{ForSome};
 ghost use Rattle.fuse_spec.specs.Values.Maps.{Place, put_name};
-ghost use Rattle.fk_kernel.specs.Entries.{place_of, Awaits, LooksUp, Makes, Creates, Opens, nodes_heard};
+ghost use Rattle.fk_kernel.specs.Entries.{Awaits, LooksUp, Makes, Creates, Opens, nodes_heard};
 ghost use Rattle.fk_nodes.specs.Uses.{use_meant};
 ghost use Rattle.fk_queues.specs.Room.{KeepsRoom};
 
@@ -51,7 +51,7 @@ fn bind_entry<Q: QueueTable<Purpose>, C: CountTable>(
     requires alike { ForSome (get nodes.old entry.now.nodeid) (λ counted. counted.generation ≡ entry.now.generation) }
     requires fits { ForSome (get nodes.old entry.now.nodeid) (λ counted. counted.count + 1 < 2 ^ 64) }
     requires names_one { (state : State OpenedFile) × (place : Place) × (get calls.now.entries call ≡ Some state)
-        × (place_of (asked state) ≡ Some place) }
+        × (entry_place (asked state) ≡ Some place) }
     ensures state { Q.state queues.new ≡ Q.state queues.old }
     ensures kept { KeepsRoom (Q.room queues.old) (Q.room queues.new) }
     ensures room { OnOk result (length nodes.old + 1 ≤ (Q.room queues.new).forgets) }
@@ -59,7 +59,7 @@ fn bind_entry<Q: QueueTable<Purpose>, C: CountTable>(
     ensures err_names { OnErr result (names.new.names ≡ names.old.names) }
     ensures err_nodes { OnErr result (nodes.new ≡ nodes.old) }
     ensures names { OnOk result ((state : State OpenedFile) (place : Place) → get calls.now.entries call ≡ Some state
-        → place_of (asked state) ≡ Some place → names.new.names
+        → entry_place (asked state) ≡ Some place → names.new.names
         ≡ put_name names.old.names place (record { target = Some entry.now.nodeid; until = until })) }
     ensures nodes { OnOk result (nodes.new ≡ looked_up nodes.old (entry.now ∷ [])) }
 {
@@ -67,17 +67,11 @@ fn bind_entry<Q: QueueTable<Purpose>, C: CountTable>(
     let Some(waiting) = calls.get(call) else {
         return Ok(());
     };
-    let (Operation::Lookup { directory, name }
-    | Operation::Mkdir { directory, name }
-    | Operation::Create { directory, name }
-    | Operation::Link {
-        directory,
-        name,
-        ..
-    }) = waiting.asks()
-    else {
+    let asked = waiting.asks();
+    let Some((directory, name)) = asked.entry_place() else {
         return Ok(());
     };
+    let name = *name;
     let Ok(()) = names.reserve(directory, name) else {
         return Err(Refusal::NoMemory);
     };

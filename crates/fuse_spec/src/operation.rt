@@ -7,7 +7,7 @@ use crate::Opened;
 use std::alloc::{AllocError, Allocator};
 
 /// No open file: what an operation at the end of a walk names in the place of one.
-#[derive(Clone, Copy, Debug, Drop)]
+#[derive(Clone, Copy, Drop)]
 pub enum NoOpenFile {}
 
 /// One operation of a call, by its opcode (linux/fuse.h, enum fuse_opcode). `S` holds a name or bytes: lent from a call
