@@ -1,8 +1,9 @@
-//! Frames from outside, laid out by hand from linux/fuse.h: read and written back byte for byte, or refused by their first fault.
+//! Frames from outside, laid out by hand from linux/fuse.h: read and written back byte for byte, or refused by
+//! their first fault.
 
+use crate::tests::assert_right;
 use crate::tests::digits::{spells, unhex};
-use crate::tests::tried::{Outcome, Tried, judged, run};
-use fail_at::FailAt;
+use fail_at::{FailAt, Outcome, Tried, first_wrong, judged};
 use fk_wire::*;
 use std::alloc::{Allocator, Global};
 use std::process::Abort;
@@ -498,7 +499,8 @@ static FAULTY_REPLIES: [Row; 17] = [
         "90000000 00000000 0400000000000000 0200000000000000 0100000000000000 0100000000000000 0000000000000000 00ca9a3b 00000000 0200000000000000 0000000000000000 0000000000000000 0000000000000000 0000000000000000 0000000000000000 00000000 00000000 00000000 ed410000 01000000 00000000 00000000 00000000 00100000 00000000",
         WireFault::Body,
     ),
-    // a record that says more than there is, a name with a slash, one in front of a record that is too long, and a name of no byte
+    // a record that says more than there is, a name with a slash, one in front of a record that is too long, and
+    // a name of no byte
     Row::FaultyReply(
         Opcode::Readdir,
         "30000000 00000000 0400000000000000 0200000000000000 0100000000000000 09000000 04000000 6100000000000000",
@@ -550,26 +552,15 @@ fn run_written<A: Allocator + Copy>(
     refusing: &FailAt<Global>,
     alloc: Global,
 ) {
-    run(
-        rt,
-        Vec::new(heap),
-        heap,
-        refusing,
-        alloc,
-        &REQUESTS,
-        &REPLIES,
-        "requests and replies",
-    );
-    run(
-        rt,
-        Vec::new(heap),
-        heap,
-        refusing,
-        alloc,
-        &OTHERS,
-        &FREE,
-        "others and free fields",
-    );
+    let lists = [
+        REQUESTS.as_slice(),
+        REPLIES.as_slice(),
+        OTHERS.as_slice(),
+        FREE.as_slice(),
+    ];
+    let mut out = Vec::new(heap);
+    let wrong = first_wrong(&mut out, heap, refusing, alloc, &lists);
+    assert_right(rt, wrong, "frames");
 }
 
 /// A WRITE to open file 1, under number 4 about node 1.
@@ -617,15 +608,9 @@ fn frames_with_each_growth_refused(rt: HostRuntime) -> Result<(), Fail> {
 #[test]
 fn first_faults(rt: HostRuntime) -> Result<(), Fail> {
     let heap = FailAt::new(rt.alloc());
-    run(
-        &rt,
-        Vec::new(rt.alloc()),
-        rt.alloc(),
-        &heap,
-        rt.alloc(),
-        &FAULTY_REQUESTS,
-        &FAULTY_REPLIES,
-        "faulty",
-    );
+    let lists = [FAULTY_REQUESTS.as_slice(), FAULTY_REPLIES.as_slice()];
+    let mut out = Vec::new(rt.alloc());
+    let wrong = first_wrong(&mut out, rt.alloc(), &heap, rt.alloc(), &lists);
+    assert_right(&rt, wrong, "faulty");
     Ok(())
 }

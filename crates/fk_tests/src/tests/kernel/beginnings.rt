@@ -308,8 +308,8 @@ fn led_to(opcode: Opcode) -> &'static [Row] {
     }
 }
 
-/// Writes so many bytes of a reply and of a byte more, with the reply's `len` or their own: the writer gets Invalid, and the call EIO
-/// or, where it is to wait, nothing.
+/// Writes so many bytes of a reply and of a byte more, with the reply's `len` or their own: the writer gets Invalid, and the
+/// call EIO or, where it is to wait, nothing.
 fn check_cut(
     rt: &impl Abort,
     alloc: Global,

@@ -17,7 +17,8 @@ static READ: [Row; 2] = [
     Row::Read(0, Reads::Head(2, Opcode::Init)),
 ];
 
-/// The mount is aborted: INIT is answered, calls are answered ENOTCONN, also for a faulty path, and a new mount may come.
+/// The mount is aborted: INIT is answered, calls are answered ENOTCONN, also for a faulty path, and a new mount
+/// may come.
 static ABORTED: [Row; 12] = [
     Row::Read(0, Reads::Refused(Refusal::NotReady)),
     Row::Abort(Err(Refusal::NotReady)),
@@ -96,8 +97,8 @@ static EARLY: [Row; 4] = [
     ),
 ];
 
-/// A reply of 7.15: a call is not answered, names are listed without their files, whatever flags are taken up, and the next mount
-/// offers 7.31 again, of which a reply may leave out FUSE_DO_READDIRPLUS.
+/// A reply of 7.15: a call is not answered, names are listed without their files, whatever flags are taken up, and the
+/// next mount offers 7.31 again, of which a reply may leave out FUSE_DO_READDIRPLUS.
 static OF_MINOR_15: [Row; 22] = [
     Row::Write(
         Written::Whole(

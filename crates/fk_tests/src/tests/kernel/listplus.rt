@@ -9,8 +9,8 @@ use std::alloc::{Allocator, Global};
 use std::process::Abort;
 use std::test::Fail;
 
-/// Two names of one node count two; `.`, a name without a node, the root and a node under another generation count and bind nothing,
-/// and of the last one lookup is forgotten.
+/// Two names of one node count two; `.`, a name without a node, the root and a node under another generation count and
+/// bind nothing, and of the last one lookup is forgotten.
 static COUNTED_AND_BOUND: [Row; 12] = [
     Row::Begin(
         Call::ListPlus {

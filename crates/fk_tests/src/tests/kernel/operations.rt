@@ -1,4 +1,5 @@
-//! Each operation: the frame of its request, byte for byte (linux/fuse.h), and what its reply comes to, also with each growth refused in turn.
+//! Each operation: the frame of its request, byte for byte (linux/fuse.h), and what its reply comes to, also with each
+//! growth refused in turn.
 
 use super::{Reads, Row, START, Told, Written, run_on};
 use fail_at::FailAt;

@@ -105,7 +105,8 @@ static FATAL_DEQUEUED: [Row; 1] = [Row::Signal(1, true, Ok(IntrEffect::Dequeued)
 /// A fatal signal to the first.
 static FATAL_QUEUED: [Row; 1] = [Row::Signal(1, true, Ok(IntrEffect::Queued))];
 
-/// How far the request has come, whether INTERRUPTs are known, the signal and its effect, and what is there to read afterwards.
+/// How far the request has come, whether INTERRUPTs are known, the signal and its effect, and what is there to
+/// read afterwards.
 static SIGNALS: [Cell; 16] = [
     (
         "unread, soft",
