@@ -1,11 +1,13 @@
-//! An allocator that refuses one request.
+//! An allocator that refuses one request, and rows that are tried with each growth refused in turn: for tests.
 #![tactic(auto)]
 
 mod each_growth;
+mod tried;
 
 pub use each_growth::EachGrowth;
 use std::alloc::{AllocError, Allocator};
 use std::cell::Cell;
+pub use tried::{Outcome, Tried, WrongRow, first_wrong, judged};
 
 pub struct FailAt<B: Allocator> {
     inner: B,

@@ -5,6 +5,19 @@ mod digits;
 mod kernel;
 mod names;
 mod queues;
-mod tried;
 mod uniques;
 mod wire;
+
+use fail_at::WrongRow;
+use std::process::Abort;
+
+/// Asserts that each row came to what it must.
+fn assert_right(rt: &impl Abort, wrong: Option<WrongRow>, name: &str) {
+    let Some(WrongRow { list, row, growth }) = wrong else {
+        return;
+    };
+    assert!(rt;
+        wrong.is_none(),
+        "{name}: row {row} of list {list}, with growth {growth} refused"
+    );
+}

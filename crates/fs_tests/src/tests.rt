@@ -10,4 +10,17 @@ mod minor15;
 mod nodes;
 mod replies;
 mod tree;
-mod tried;
+
+use fail_at::WrongRow;
+use std::process::Abort;
+
+/// Asserts that each row came to what it must.
+fn assert_right(rt: &impl Abort, wrong: Option<WrongRow>, name: &str) {
+    let Some(WrongRow { list, row, growth }) = wrong else {
+        return;
+    };
+    assert!(rt;
+        wrong.is_none(),
+        "{name}: row {row} of list {list}, with growth {growth} refused"
+    );
+}

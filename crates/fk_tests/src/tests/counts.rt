@@ -1,7 +1,7 @@
 //! Counted nodes over both representations: each call once, and refused growths.
 
-use crate::tests::tried::{Outcome, Tried, judged, run};
-use fail_at::FailAt;
+use crate::tests::assert_right;
+use fail_at::{FailAt, Outcome, Tried, first_wrong, judged};
 use fk_lookup_count::{CountTable, Forget, KernelNodes, ListCounts, Unlike};
 use std::alloc::{AllocError, Allocator, Global};
 use std::process::Abort;
@@ -131,16 +131,9 @@ fn runs<A: Copy, T: CountTable<Heap = A> + Tried<A, Row> + Drop>(
 ) -> u64 {
     let mut runs = 0;
     for n in refusing.each_growth(40) {
-        run(
-            rt,
-            T::new(heap),
-            heap,
-            refusing,
-            alloc,
-            &[],
-            &CALLS,
-            "calls",
-        );
+        let mut table = T::new(heap);
+        let wrong = first_wrong(&mut table, heap, refusing, alloc, &[CALLS.as_slice()]);
+        assert_right(rt, wrong, "calls");
         runs = n;
     }
     runs

@@ -1,9 +1,9 @@
 //! Steps of a kernel over any tables, and what each must give: a method that is called of a kernel over maps and slabs
 //! takes some six seconds more to check.
 
+use crate::tests::assert_right;
 use crate::tests::digits::{spells, unhex};
-use crate::tests::tried::{Outcome, Tried, judged, run_all};
-use fail_at::FailAt;
+use fail_at::{FailAt, Outcome, Tried, first_wrong, judged};
 use fk_kernel::{Answer, Call, KernelOf, ListedName};
 use fk_lookup_count::{CountTable, KernelNodes};
 use fk_queues::{QueueTable, Queues};
@@ -376,8 +376,9 @@ fn run_over<Q: RequestQueues, C: LookupCounts<Heap = Q::Heap>>(
     lists: &[&[Row]],
     name: &str,
 ) {
-    let kernel: KernelOf<Q, C> = KernelOf::new(heap);
-    run_all(rt, kernel, heap, refusing, alloc, lists, name);
+    let mut kernel: KernelOf<Q, C> = KernelOf::new(heap);
+    let wrong = first_wrong(&mut kernel, heap, refusing, alloc, lists);
+    assert_right(rt, wrong, name);
 }
 
 /// Tries the rows of some lists on a new kernel over maps and slabs, which takes its memory from a heap.

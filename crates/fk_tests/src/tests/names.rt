@@ -1,7 +1,7 @@
 //! Names in force: each call once, and refused growths.
 
-use crate::tests::tried::{Outcome, Tried, judged, run};
-use fail_at::FailAt;
+use crate::tests::assert_right;
+use fail_at::{FailAt, Outcome, Tried, first_wrong, judged};
 use fk_dentry::{Bindings, Found};
 use std::alloc::{AllocError, Allocator, Global};
 use std::process::Abort;
@@ -113,16 +113,9 @@ fn run_calls<A: Allocator + Copy>(
     refusing: &FailAt<Global>,
     alloc: Global,
 ) {
-    run(
-        rt,
-        Bindings::new(heap),
-        heap,
-        refusing,
-        alloc,
-        &[],
-        &CALLS,
-        "calls",
-    );
+    let mut names = Bindings::new(heap);
+    let wrong = first_wrong(&mut names, heap, refusing, alloc, &[CALLS.as_slice()]);
+    assert_right(rt, wrong, "calls");
 }
 
 #[test]

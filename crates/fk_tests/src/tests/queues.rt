@@ -1,7 +1,7 @@
 //! The kernel's queues over both representations: each call once, and refused growths.
 
-use crate::tests::tried::{Outcome, Tried, judged, run};
-use fail_at::FailAt;
+use crate::tests::assert_right;
+use fail_at::{FailAt, Outcome, Tried, first_wrong, judged};
 use fk_queues::{Forgets, IntrEffect, ListQueues, NoMemory, QueueTable, Queues};
 use std::alloc::{Allocator, Global};
 use std::process::Abort;
@@ -273,16 +273,9 @@ fn runs<A: Copy, T: QueueTable<u64, Heap = A> + Tried<A, Row> + Drop>(
 ) -> u64 {
     let mut runs = 0;
     for n in refusing.each_growth(60) {
-        run(
-            rt,
-            T::new(heap),
-            heap,
-            refusing,
-            alloc,
-            &[],
-            &CALLS,
-            "calls",
-        );
+        let mut table = T::new(heap);
+        let wrong = first_wrong(&mut table, heap, refusing, alloc, &[CALLS.as_slice()]);
+        assert_right(rt, wrong, "calls");
         runs = n;
     }
     runs

@@ -1,9 +1,9 @@
 //! Frames from outside, laid out by hand from linux/fuse.h: read and written back byte for byte, or refused by their
 //! first fault.
 
+use crate::tests::assert_right;
 use crate::tests::digits::{spells, unhex};
-use crate::tests::tried::{Outcome, Tried, judged, run};
-use fail_at::FailAt;
+use fail_at::{FailAt, Outcome, Tried, first_wrong, judged};
 use fk_wire::*;
 use std::alloc::{Allocator, Global};
 use std::process::Abort;
@@ -552,26 +552,15 @@ fn run_written<A: Allocator + Copy>(
     refusing: &FailAt<Global>,
     alloc: Global,
 ) {
-    run(
-        rt,
-        Vec::new(heap),
-        heap,
-        refusing,
-        alloc,
-        &REQUESTS,
-        &REPLIES,
-        "requests and replies",
-    );
-    run(
-        rt,
-        Vec::new(heap),
-        heap,
-        refusing,
-        alloc,
-        &OTHERS,
-        &FREE,
-        "others and free fields",
-    );
+    let lists = [
+        REQUESTS.as_slice(),
+        REPLIES.as_slice(),
+        OTHERS.as_slice(),
+        FREE.as_slice(),
+    ];
+    let mut out = Vec::new(heap);
+    let wrong = first_wrong(&mut out, heap, refusing, alloc, &lists);
+    assert_right(rt, wrong, "frames");
 }
 
 /// A WRITE to open file 1, under number 4 about node 1.
@@ -619,15 +608,9 @@ fn frames_with_each_growth_refused(rt: HostRuntime) -> Result<(), Fail> {
 #[test]
 fn first_faults(rt: HostRuntime) -> Result<(), Fail> {
     let heap = FailAt::new(rt.alloc());
-    run(
-        &rt,
-        Vec::new(rt.alloc()),
-        rt.alloc(),
-        &heap,
-        rt.alloc(),
-        &FAULTY_REQUESTS,
-        &FAULTY_REPLIES,
-        "faulty",
-    );
+    let lists = [FAULTY_REQUESTS.as_slice(), FAULTY_REPLIES.as_slice()];
+    let mut out = Vec::new(rt.alloc());
+    let wrong = first_wrong(&mut out, rt.alloc(), &heap, rt.alloc(), &lists);
+    assert_right(&rt, wrong, "faulty");
     Ok(())
 }

@@ -1,7 +1,7 @@
 //! Steps of a server over frames, and what each must give.
 
-use crate::tests::tried::{Outcome, Tried, judged, run};
-use fail_at::FailAt;
+use crate::tests::assert_right;
+use fail_at::{FailAt, Outcome, Tried, first_wrong, judged};
 use fk_wire::{Request, RequestBody, write_request};
 use fs_nodes::{ListNodes, NodeStore, NodeTable};
 use fs_server::{ServerFault, ServerOf, fault_reply_at};
@@ -283,7 +283,8 @@ fn aborts<S: NodeStore>(server: &mut ServerOf<S>) -> bool {
     server.is_aborted()
 }
 
-/// Whether the server says of a frame, before it is taken, what a row has of it: why it is refused, and whether it is answered.
+/// Whether the server says of a frame, before it is taken, what a row has of it: why it is refused, and whether it is
+/// answered.
 fn is_foretold<S: NodeStore>(server: &ServerOf<S>, frame: &[u8], row: Row) -> bool {
     let refusal = server.take_refusal(frame);
     let is_answered = server.take_answers(frame);
@@ -383,8 +384,9 @@ fn run_made<S: NodeStore + Drop>(
     rows: &[Row],
     name: &str,
 ) -> Result<(), AllocError> {
-    let server = made::<S>(heap)?;
-    run(rt, server, heap, refusing, alloc, first, rows, name);
+    let mut server = made::<S>(heap)?;
+    let wrong = first_wrong(&mut server, heap, refusing, alloc, &[first, rows]);
+    assert_right(rt, wrong, name);
     Ok(())
 }
 

@@ -1,7 +1,7 @@
 //! Open numbers: each call once, and refused growths.
 
-use crate::tests::tried::{Outcome, Tried, judged, run};
-use fail_at::FailAt;
+use crate::tests::assert_right;
+use fail_at::{FailAt, Outcome, Tried, first_wrong, judged};
 use fs_handles::HandleTable;
 use fuse_spec::limits::COUNTER_END;
 use std::alloc::{AllocError, Allocator, Global};
@@ -88,8 +88,9 @@ fn run_calls<A: Allocator + Copy>(
     refusing: &FailAt<Global>,
     alloc: Global,
 ) {
-    let table: HandleTable<A> = HandleTable::new(heap);
-    run(rt, table, heap, refusing, alloc, &[], &CALLS, "calls");
+    let mut table: HandleTable<A> = HandleTable::new(heap);
+    let wrong = first_wrong(&mut table, heap, refusing, alloc, &[CALLS.as_slice()]);
+    assert_right(rt, wrong, "calls");
 }
 
 #[test]

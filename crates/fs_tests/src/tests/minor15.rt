@@ -5,8 +5,8 @@ use fs_server::ServerFault;
 use fuse_spec::{Taken, WriteResult};
 use std::test::Fail;
 
-/// INIT is answered 7.15, in 24 bytes of body, with ASYNC_READ alone of what is offered. READDIRPLUS and BATCH_FORGET are no requests,
-/// a FORGET is one.
+/// INIT is answered 7.15, in 24 bytes of body, with ASYNC_READ alone of what is offered. READDIRPLUS and BATCH_FORGET are no
+/// requests, a FORGET is one.
 static SPOKEN: [Row; 7] = [
     Row::Mount15(1000, 0),
     Row::Takes(

@@ -1,7 +1,7 @@
 //! Held nodes over both representations: each call once, the order of nodeids, and refused growths.
 
-use crate::tests::tried::{Outcome, Tried, judged, run};
-use fail_at::FailAt;
+use crate::tests::assert_right;
+use fail_at::{FailAt, Outcome, Tried, first_wrong, judged};
 use fs_nodes::{ListNodes, NodeStore, NodeTable, TooMany};
 use fuse_spec::limits::COUNTER_END;
 use std::alloc::{AllocError, Allocator, Global};
@@ -156,16 +156,9 @@ fn runs<A: Copy, T: NodeStore<Heap = A> + Tried<A, Row> + Drop>(
 ) -> u64 {
     let mut runs = 0;
     for n in refusing.each_growth(40) {
-        run(
-            rt,
-            T::new(heap),
-            heap,
-            refusing,
-            alloc,
-            &[],
-            &CALLS,
-            "calls",
-        );
+        let mut store = T::new(heap);
+        let wrong = first_wrong(&mut store, heap, refusing, alloc, &[CALLS.as_slice()]);
+        assert_right(rt, wrong, "calls");
         runs = n;
     }
     runs

@@ -1,6 +1,6 @@
 //! The tree's operations: each call once, each refusal, also where two apply, the limits, and refused growths.
 
-use crate::tests::tried::{Outcome, Tried, judged};
+use fail_at::{Outcome, Tried, judged};
 use fs_tree::{Attributes, Kind, Record, Tree, TreeError};
 use std::alloc::{Allocator, Global};
 

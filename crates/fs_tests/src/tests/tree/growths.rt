@@ -1,8 +1,8 @@
 //! Refused growths change nothing, and the same call succeeds after them.
 
 use super::{Answer, Operation, Row};
-use crate::tests::tried::run;
-use fail_at::FailAt;
+use crate::tests::assert_right;
+use fail_at::{FailAt, first_wrong};
 use fs_tree::{Kind, Tree};
 use std::alloc::{AllocError, Allocator, Global};
 use std::process::Abort;
@@ -38,8 +38,9 @@ fn run_calls<A: Allocator + Copy>(
     refusing: &FailAt<Global>,
     alloc: Global,
 ) -> Result<(), AllocError> {
-    let tree = made(heap)?;
-    run(rt, tree, heap, refusing, alloc, &[], &CALLS, "calls");
+    let mut tree = made(heap)?;
+    let wrong = first_wrong(&mut tree, heap, refusing, alloc, &[CALLS.as_slice()]);
+    assert_right(rt, wrong, "calls");
     Ok(())
 }
 

@@ -1,8 +1,8 @@
 //! The operations' table, row by row.
 
 use super::{Answer, Listed, Operation, Row};
-use crate::tests::tried::run;
-use fail_at::FailAt;
+use crate::tests::assert_right;
+use fail_at::{FailAt, first_wrong};
 use fs_tree::{Attributes, Kind, Tree, TreeError};
 use std::alloc::{AllocError, Global};
 use std::process::Abort;
@@ -11,8 +11,8 @@ use std::test::Fail;
 /// Births and serials stay below this.
 const LEFT: u64 = 1 << 62;
 
-/// The root has the directory 1 and the file 2; in 1 are the directory 3 and the file 4; 5 is a nameless directory and 6 a
-/// nameless file.
+/// The root has the directory 1 and the file 2; in 1 are the directory 3 and the file 4; 5 is a nameless directory and 6
+/// a nameless file.
 static START: [Row; 8] = [
     Row::Gives(Operation::Mkdir(0, "d"), Ok(Answer::File(1))),
     Row::Gives(Operation::Create(0, "f"), Ok(Answer::File(2))),
@@ -257,8 +257,9 @@ fn run_on_new(
     name: &str,
 ) -> Result<(), AllocError> {
     let refusing = FailAt::new(alloc);
-    let tree = Tree::new(alloc)?;
-    run(rt, tree, alloc, &refusing, alloc, first, rows, name);
+    let mut tree = Tree::new(alloc)?;
+    let wrong = first_wrong(&mut tree, alloc, &refusing, alloc, &[first, rows]);
+    assert_right(rt, wrong, name);
     Ok(())
 }
 
