@@ -26,8 +26,9 @@ pub fn judged(right: bool) -> Outcome
     }
 }
 
-/// What rows are tried on. It takes memory from a heap of its own, and what a row has beside it from another.
-pub trait Tried<A: Copy, R: Copy> {
+/// What rows are tried on. It takes memory from a heap of its own, and what a row has beside it from another. The row's
+/// type stands first, so that a crate of tests can say for its rows how another crate's type is tried.
+pub trait Tried<R: Copy, A: Copy> {
     fn attempt(&mut self, heap: A, alloc: Global, row: R) -> Outcome;
 }
 
@@ -42,7 +43,7 @@ pub struct WrongRow {
 }
 
 /// Tries the rows of some lists, one list after the other, up to the first row that does not come to what it must.
-pub fn first_wrong<A: Copy, R: Copy, T: Tried<A, R>>(
+pub fn first_wrong<A: Copy, R: Copy, T: Tried<R, A>>(
     subject: &mut T,
     heap: A,
     refusing: &FailAt<Global>,
@@ -61,7 +62,7 @@ pub fn first_wrong<A: Copy, R: Copy, T: Tried<A, R>>(
 }
 
 /// Tries the rows of one list, up to the first that does not come to what it must: its place.
-fn first_wrong_in<A: Copy, R: Copy, T: Tried<A, R>>(
+fn first_wrong_in<A: Copy, R: Copy, T: Tried<R, A>>(
     subject: &mut T,
     heap: A,
     refusing: &FailAt<Global>,
@@ -80,7 +81,7 @@ fn first_wrong_in<A: Copy, R: Copy, T: Tried<A, R>>(
 
 /// Tries a row of a run in which the next growth but so many is refused. Where it was refused here, the row is refused
 /// memory, and right when it is tried again.
-fn holds<A: Copy, R: Copy, T: Tried<A, R>>(
+fn holds<A: Copy, R: Copy, T: Tried<R, A>>(
     subject: &mut T,
     heap: A,
     refusing: &FailAt<Global>,

@@ -68,13 +68,13 @@ fn tried<T: CountTable>(table: &mut T, heap: T::Heap, row: Row) -> Outcome {
     }
 }
 
-impl<A: Allocator + Copy> Tried<A, Row> for KernelNodes<A> {
+impl<A: Allocator + Copy> Tried<Row, A> for KernelNodes<A> {
     fn attempt(&mut self, heap: A, _alloc: Global, row: Row) -> Outcome {
         tried(self, heap, row)
     }
 }
 
-impl<A: Allocator + Copy> Tried<A, Row> for ListCounts<A> {
+impl<A: Allocator + Copy> Tried<Row, A> for ListCounts<A> {
     fn attempt(&mut self, heap: A, _alloc: Global, row: Row) -> Outcome {
         tried(self, heap, row)
     }
@@ -123,7 +123,7 @@ static CALLS: [Row; 25] = [
 ];
 
 /// The calls with each growth refused in turn: how many runs that took.
-fn runs<A: Copy, T: CountTable<Heap = A> + Tried<A, Row> + Drop>(
+fn runs<A: Copy, T: CountTable<Heap = A> + Tried<Row, A> + Drop>(
     rt: &impl Abort,
     heap: A,
     refusing: &FailAt<Global>,

@@ -346,7 +346,7 @@ fn lists<Q: RequestQueues, C: LookupCounts<Heap = Q::Heap>>(
     }
 }
 
-impl<Q: RequestQueues, C: LookupCounts<Heap = Q::Heap>> Tried<Q::Heap, Row> for KernelOf<Q, C> {
+impl<Q: RequestQueues, C: LookupCounts<Heap = Q::Heap>> Tried<Row, Q::Heap> for KernelOf<Q, C> {
     fn attempt(&mut self, heap: Q::Heap, alloc: Global, row: Row) -> Outcome {
         match row {
             Row::Mount(wanted) => mounts(self, wanted),

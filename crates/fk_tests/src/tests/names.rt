@@ -53,7 +53,7 @@ fn reserved(outcome: Result<(), AllocError>) -> Outcome {
     }
 }
 
-impl<A: Allocator + Copy> Tried<A, Row> for Bindings<A> {
+impl<A: Allocator + Copy> Tried<Row, A> for Bindings<A> {
     fn attempt(&mut self, _heap: A, _alloc: Global, row: Row) -> Outcome {
         match row {
             Row::Reserve(directory, name) => reserved(self.reserve(directory, name.as_bytes())),

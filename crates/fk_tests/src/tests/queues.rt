@@ -190,13 +190,13 @@ fn tried<Q: QueueTable<u64>>(queues: &mut Q, row: Row) -> Outcome {
     }
 }
 
-impl<A: Allocator + Copy> Tried<A, Row> for Queues<u64, A> {
+impl<A: Allocator + Copy> Tried<Row, A> for Queues<u64, A> {
     fn attempt(&mut self, _heap: A, _alloc: Global, row: Row) -> Outcome {
         tried(self, row)
     }
 }
 
-impl<A: Allocator + Copy> Tried<A, Row> for ListQueues<u64, A> {
+impl<A: Allocator + Copy> Tried<Row, A> for ListQueues<u64, A> {
     fn attempt(&mut self, _heap: A, _alloc: Global, row: Row) -> Outcome {
         tried(self, row)
     }
@@ -265,7 +265,7 @@ static CALLS: [Row; 56] = [
 ];
 
 /// The calls with each growth refused in turn: how many runs that took.
-fn runs<A: Copy, T: QueueTable<u64, Heap = A> + Tried<A, Row> + Drop>(
+fn runs<A: Copy, T: QueueTable<u64, Heap = A> + Tried<Row, A> + Drop>(
     rt: &impl Abort,
     heap: A,
     refusing: &FailAt<Global>,

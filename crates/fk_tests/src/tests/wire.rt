@@ -534,7 +534,7 @@ static FAULTY_REPLIES: [Row; 17] = [
     ),
 ];
 
-impl<A: Allocator + Copy> Tried<A, Row> for Vec<u8, A> {
+impl<A: Allocator + Copy> Tried<Row, A> for Vec<u8, A> {
     fn attempt(&mut self, heap: A, alloc: Global, row: Row) -> Outcome {
         // No room is left of what came before.
         *self = Vec::new(heap);

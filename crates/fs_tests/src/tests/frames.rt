@@ -336,7 +336,7 @@ fn settled(number: u64, unique: u64, written: WriteResult) -> ReplyResult {
     }
 }
 
-impl<S: NodeStore> Tried<S::Heap, Row> for ServerOf<S> {
+impl<S: NodeStore> Tried<Row, S::Heap> for ServerOf<S> {
     fn attempt(&mut self, heap: S::Heap, alloc: Global, row: Row) -> Outcome {
         match row {
             Row::Mount(found_ms, missing_ms) => {

@@ -43,7 +43,7 @@ fn copy_keeps_number(alloc: Global) -> Result<bool, AllocError> {
     Ok(kept && table.file_of(fh).is_none())
 }
 
-impl<A: Allocator + Copy> Tried<A, Row> for HandleTable<A> {
+impl<A: Allocator + Copy> Tried<Row, A> for HandleTable<A> {
     fn attempt(&mut self, _heap: A, _alloc: Global, row: Row) -> Outcome {
         match row {
             Row::Open(file, number) => return opens(self, file, number),

@@ -104,13 +104,13 @@ fn tried<S: NodeStore>(store: &mut S, heap: S::Heap, row: Row) -> Outcome {
     }
 }
 
-impl<A: Allocator + Copy> Tried<A, Row> for NodeTable<A> {
+impl<A: Allocator + Copy> Tried<Row, A> for NodeTable<A> {
     fn attempt(&mut self, heap: A, _alloc: Global, row: Row) -> Outcome {
         tried(self, heap, row)
     }
 }
 
-impl<A: Allocator + Copy> Tried<A, Row> for ListNodes<A> {
+impl<A: Allocator + Copy> Tried<Row, A> for ListNodes<A> {
     fn attempt(&mut self, heap: A, _alloc: Global, row: Row) -> Outcome {
         tried(self, heap, row)
     }
@@ -148,7 +148,7 @@ static CALLS: [Row; 27] = [
 ];
 
 /// The calls with each growth refused in turn: how many runs that took.
-fn runs<A: Copy, T: NodeStore<Heap = A> + Tried<A, Row> + Drop>(
+fn runs<A: Copy, T: NodeStore<Heap = A> + Tried<Row, A> + Drop>(
     rt: &impl Abort,
     heap: A,
     refusing: &FailAt<Global>,

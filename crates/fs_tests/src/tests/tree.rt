@@ -199,7 +199,7 @@ fn links_often<A: Allocator + Copy>(tree: &mut Tree<A>, file: u64) -> bool {
     true
 }
 
-impl<A: Allocator + Copy> Tried<A, Row> for Tree<A> {
+impl<A: Allocator + Copy> Tried<Row, A> for Tree<A> {
     fn attempt(&mut self, _heap: A, _alloc: Global, row: Row) -> Outcome {
         match row {
             Row::Gives(operation, wanted) => return gives(self, operation, wanted),
