@@ -1,7 +1,8 @@
 //! A virtual machine host that serves a guest's requests: they are taken, performed, and settled as their replies are
 //! handed over.
 
-ghost use Rattle.callers.specs.Serving.{IsDelivered, IsServed};
+ghost use Rattle.std.specs.Prelude.{◌≡◌};
+ghost use Rattle.callers.specs.Serving.{IsDelivered, IsServed, once_settled};
 
 use fs_server::{Server, ServerFault};
 use fuse_frames::ReplyCopy;
@@ -56,18 +57,29 @@ fn deliver<A: Allocator + Copy>(
     copy: &ReplyCopy<A>,
     buffer: &mut Vec<u8, A>,
 ) -> Served
-    ensures { IsDelivered copy.now buffer.old.items result buffer.new.items }
+    ensures { IsDelivered server.old copy.now buffer.old.items result server.new buffer.new.items }
 {
-    let (served, result) = match buffer.extend_from_slice(copy.bytes()) {
-        Ok(()) => (Served::Replied, WriteResult::Accepted),
-        Err(_) => (Served::NoRoom, WriteResult::Invalid),
-    };
+    match buffer.extend_from_slice(copy.bytes()) {
+        Ok(()) => {
+            settle(server, copy, WriteResult::Accepted);
+            Served::Replied
+        }
+        Err(_) => {
+            settle(server, copy, WriteResult::Invalid);
+            Served::NoRoom
+        }
+    }
+}
+
+/// Tells the server what became of a copy that it sent.
+fn settle<A: Allocator + Copy>(server: &mut Server<A>, copy: &ReplyCopy<A>, written: WriteResult)
+    ensures { server.new ≡ once_settled server.old copy.now written }
+{
     let number = copy.number();
     let unique = copy.unique();
     let _settled = server.settle(ReplyResult {
         number,
         unique,
-        result,
+        result: written,
     });
-    served
 }

@@ -1,5 +1,8 @@
 //! What the words of the command line ask for.
 
+ghost use Rattle.std.specs.Prelude.{◌≡◌, ◌↔◌, IsTrue};
+ghost use Rattle.clap.specs.Values.{kind_of};
+
 use clap::error::ErrorKind;
 use clap::{Arg, ArgAction, Command, Error};
 use std::alloc::{AllocError, Global};
@@ -18,7 +21,9 @@ pub enum Task<'a> {
 }
 
 /// Whether memory was wanting, and the words may be good.
-pub fn is_memory(error: &Error) -> bool {
+pub fn is_memory(error: &Error) -> bool
+    ensures { IsTrue result ↔ (kind_of error.now ≡ ErrorKind.OutOfMemory) }
+{
     error.kind() == ErrorKind::OutOfMemory
 }
 

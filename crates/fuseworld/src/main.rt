@@ -1,6 +1,8 @@
 //! Runs scripts of events on a FUSE kernel and its server, and reads request frames.
 #![tactic(auto)]
 
+ghost use Rattle.std.specs.Prelude.{◌≡◌, ◌∷◌, [], Contains};
+
 mod command;
 mod socket;
 
@@ -13,7 +15,9 @@ use std::io::{BufWriter, ErrorKind};
 use std::process::ExitCode;
 
 /// Runs the script on standard input, or in a file, and gives the exit status.
-fn run_file(rt: &HostRuntime, file: Option<&str>, hex: bool) -> u8 {
+fn run_file(rt: &HostRuntime, file: Option<&str>, hex: bool) -> u8
+    ensures { Contains (0 ∷ 1 ∷ 3 ∷ 5 ∷ []) result }
+{
     let alloc = rt.alloc();
     let mut faults = rt.stderr();
     let Ok(mut out) = BufWriter::new(alloc, io::writer(rt)) else {
@@ -30,7 +34,9 @@ fn run_file(rt: &HostRuntime, file: Option<&str>, hex: bool) -> u8 {
 }
 
 /// Runs the script in a file over a socket at a path, and gives the exit status.
-fn run_over_socket(rt: &HostRuntime, file: &str, path: &str) -> u8 {
+fn run_over_socket(rt: &HostRuntime, file: &str, path: &str) -> u8
+    ensures { Contains (0 ∷ 1 ∷ 3 ∷ 4 ∷ 5 ∷ []) result }
+{
     let mut faults = rt.stderr();
     let mut input = match File::open(rt, file) {
         Ok(input) => input,
@@ -44,7 +50,9 @@ fn run_over_socket(rt: &HostRuntime, file: &str, path: &str) -> u8 {
 }
 
 /// Does what the words of the command line ask for, and gives the exit status.
-fn run_words(rt: &HostRuntime, words: &[String]) -> u8 {
+fn run_words(rt: &HostRuntime, words: &[String]) -> u8
+    ensures { Contains (0 ∷ 1 ∷ 2 ∷ 3 ∷ 4 ∷ 5 ∷ []) result }
+{
     match read_task(rt.alloc(), words) {
         Ok(Task::Input) => run_file(rt, None, false),
         Ok(Task::Run { file, hex }) => run_file(rt, Some(file), hex),
