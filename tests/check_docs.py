@@ -3,7 +3,8 @@
 
 A lone word in backticks has to be a word of a source outside its comments, or in the name of a file, a folder or a crate.
 In the tables whose second column is "Definition", each rule has to lead to a definition, a function and a test.
-Prints a line for each name that leads nowhere, and ends with status 1 where there is one.
+Each sample of Rust has to be lines of crates/callers. Prints a line for each name that leads nowhere, and ends with
+status 1 where there is one.
 """
 import re
 import sys
@@ -13,9 +14,9 @@ TOP = Path(__file__).resolve().parent.parent
 PAGES = [TOP / "README.md", *sorted((TOP / "docs").glob("*.md"))]
 CRATES = {folder.name for folder in (TOP / "crates").iterdir() if (folder / "src").is_dir()}
 CODE = {crate: "\n".join(file.read_text() for file in (TOP / "crates" / crate / "src").rglob("*.rt")) for crate in CRATES}
-EDITS = {(file.parts[-3], file.stem) for file in TOP.glob("crates/*/must-fail/*.edit")}
+EDITS = {(file.parts[-2], file.stem) for file in TOP.glob("tests/wrong_bodies/*/*.edit")}
 ROWS = {file.stem for file in TOP.glob("tests/rows/*.script")}
-TARGETS = set(re.findall(r"^(\w+):", (TOP / "Makefile").read_text(), re.M))
+TARGETS = set(re.findall(r"^([\w-]+):", (TOP / "Makefile").read_text(), re.M))
 # Words with a hyphen that are no rows and no edits, a word of `rt plant`, and how the names of calls that take a minor end.
 WORDS = {"must-fail", "not-run", "proves", "_at"}
 # Pages with names of linux/fuse.h, which stand in comments of the sources, and the page that names functions of earlier code.
@@ -45,7 +46,7 @@ def leads(token, page):
         return "/out/" in token or (TOP / token).exists()
     if re.fullmatch(r"(\w+/)*\w+\.(rt|antt|md|py|sh)", token):
         return any(file.endswith(f"/{token}") for file in FILES)
-    if match := re.fullmatch(r"make (\w+)( \S+)?", token):
+    if match := re.fullmatch(r"make ([\w-]+)( \S+)?", token):
         return match[1] in TARGETS
     if re.fullmatch(r"[a-z0-9]+(-[a-z0-9]+)+", token):
         return token in ROWS | WORDS or any(edit == token for _, edit in EDITS)
@@ -86,8 +87,15 @@ def rule_is_whole(definitions, code, shown):
             functions.append(here is not None and all(is_item(CODE[here], part) for part in name.split("::")))
     return all(defined) and functions and all(functions) and (shown.strip() != "")
 
+def unlike_callers(page):
+    """The samples of Rust on a page that do not stand, line after line, in a source of crates/callers."""
+    flat = lambda text: [line.strip() for line in text.strip().split("\n")]
+    sources = ["\n".join(flat(file.read_text())) for file in (TOP / "crates" / "callers" / "src").glob("*.rt")]
+    samples = re.findall(r"```rust\n(.*?)```", page.read_text(), re.S)
+    return [sample for sample in samples if not any("\n".join(flat(sample)) in source for source in sources)]
+
 def main():
-    wrong = []
+    wrong = [f"{page.relative_to(TOP)}: no lines of crates/callers: {sample}" for page in PAGES for sample in unlike_callers(page)]
     for page in PAGES:
         in_rules = False
         for number, line in enumerate(page.read_text().split("\n"), 1):

@@ -174,6 +174,7 @@ expect directory-as-file 1 "" "cannot read $work$newline" run "$work"
 expect socket-in-the-place-of-a-file 4 "" "socket failed$newline" socket tests/rows/stat-of-root.script "$work/sock"
 [ -e "$work/sock" ]
 judge file-in-place-of-a-socket-stays $? 0
+expect socket-without-a-path 4 "" "socket failed$newline" socket tests/rows/stat-of-root.script ""
 expect socket-in-no-folder 4 "" "socket failed$newline" socket tests/rows/stat-of-root.script "$work/none/sock"
 expect socket-for-a-bad-script 1 "" "line 3: bad number$newline" socket "$work/script" "$work/sock"
 expect socket-for-a-missing-script 1 "" "cannot read $work/none$newline" socket "$work/none" "$work/sock"

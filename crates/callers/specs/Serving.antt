@@ -1,50 +1,88 @@
 -- What a virtual machine host does with a frame of its guest.
-use Rattle.std.specs.Prelude.{◌≡◌, ℕ, List, ◌++◌, Some}
+use Rattle.std.specs.Prelude.{◌≡◌, ◌⊎◌, ◌<◌, ℕ, ◌+◌, List, ◌++◌, length, Option, Some, None}
 use Rattle.fk_wire.specs.declared.opcode.Opcode.{Opcode}
 use Rattle.fuse_spec.specs.Values.Maps.{get}
 use Rattle.fuse_spec.specs.Kernel.Messages.{Request, WireReply}
-use Rattle.fuse_spec.specs.Server.Nodes.{MayChoose}
-use Rattle.fuse_spec.specs.Server.Performs.{served, files_given}
-use Rattle.fuse_spec.specs.Server.Server.{Server, HeldRequest}
+use Rattle.fuse_spec.specs.Server.Copies.{settled}
+use Rattle.fuse_spec.specs.Server.Server.{Server, Copy}
 use Rattle.fuse_spec.specs.Server.Taking.{taking}
 use Rattle.fuse_spec.specs.World.Worlds.{Sent}
+use Rattle.fuse_spec.specs.declared.Refusal.{Refusal}
+use Rattle.fuse_spec.specs.declared.Refusal.TheVariants.{NoMemory}
+use Rattle.fuse_spec.specs.declared.Taken.TheVariants.{Held}
+use Rattle.fuse_spec.specs.declared.WriteResult.{WriteResult}
+use Rattle.fuse_spec.specs.declared.WriteResult.TheVariants.{Accepted, Invalid}
 use Rattle.fuse_frames.specs.ReplyTies.{SaysReply}
 use Rattle.fuse_frames.specs.RequestTies.{SaysRequest}
-use Rattle.fs_server.specs.Effects.{RefusesFrame}
+use Rattle.fs_server.specs.Effects.{CanTake, PerformsHeld, RefusesFrame, RefusesHeld, WantsMemory}
+use Rattle.fs_server.specs.Steps.{CanPerform}
+use Rattle.fs_server.specs.declared.server.ServerFault.TheVariants.{Memory}
 use Rattle.callers.specs.declared.virtual_machine.Served.{Served as Came}
 use Rattle.callers.specs.declared.virtual_machine.Served.TheVariants.{Replied, NoReply, NoRoom, Waits, Refused}
 
--- What the server replies to a request that it takes: at once, to an INTERRUPT, or by performing it, with some choice
--- of free nodeids.
-pub data RepliesTo (old : Server) (request : Request) (wire : WireReply) : Type 0 where
-  at_once : (taking old request.unique request.body).reply ≡ Some wire → RepliesTo old request wire
-  performed : (taken : Server) → taken ≡ (taking old request.unique request.body).server → (held : HeldRequest)
-      → get taken.held request.unique ≡ Some held
-      → (choice : ℕ → ℕ) → MayChoose choice taken.nodes (files_given taken held)
-      → wire ≡ (served choice taken request.unique held).wire → RepliesTo old request wire
+-- the server once it took a request
+abbrev pub after_taking : Server → Request → Server
+after_taking old request = (taking old request.unique request.body).server
 
--- The bytes that are appended spell the reply to the request that the frame spells, under its number.
-pub record Serves (old : Server) (frame before after : List ℕ) : Type 0 where
+-- What a request asks is held until it is performed.
+abbrev pub IsHeld : Server → Request → Type 0
+IsHeld old request = (taking old request.unique request.body).word ≡ Held
+
+-- What the server sends of a request, and what it is then: a copy of a reply at once, to an INTERRUPT; nothing, of what
+-- is neither held nor answered; and of what is held the first copy of its reply, as it is performed.
+pub data Sends (old : Server) (request : Request) : Option Sent → Server → Type 0 where
+  at_once : (wire : WireReply) → (taking old request.unique request.body).reply ≡ Some wire
+      → Sends old request (Some (record { number = old.next_copy; unique = request.unique; wire = wire }))
+      (after_taking old request)
+  nothing : (taking old request.unique request.body).reply ≡ None → (IsHeld old request → ⊥)
+      → Sends old request None (after_taking old request)
+  performed : IsHeld old request → (errno : ℕ) → (copy : Option Sent) → (new : Server)
+      → PerformsHeld (after_taking old request) request.unique errno copy new → Sends old request copy new
+
+-- A frame spells a request, and this is sent of it.
+pub record Serves (old : Server) (frame : List ℕ) (copy : Option Sent) (new : Server) : Type 0 where
   pub request : Request
   pub says : SaysRequest frame request
-  pub wire : WireReply
-  pub replies : RepliesTo old request wire
-  pub opcode : Opcode
-  pub reply : List ℕ
-  pub spells : SaysReply opcode reply request.unique wire
-  pub appended : after ≡ before ++ reply
+  pub sends : Sends old request copy new
 
--- A copy of a reply is handed over: the bytes that are appended spell it, under its number; or nothing is appended.
-abbrev pub IsDelivered : Sent → List ℕ → Came → List ℕ → Type 0
-IsDelivered copy before Replied after = (opcode : Opcode) × (reply : List ℕ)
-    × SaysReply opcode reply copy.unique copy.wire × (after ≡ before ++ reply)
-IsDelivered copy before NoRoom after = after ≡ before
-IsDelivered copy before came after = ⊥
+-- A frame spells a request that is held under this number, and cannot be performed now: for a counter at its end, or
+-- else for want of memory.
+pub record Holds (old : Server) (frame : List ℕ) (unique : ℕ) (new : Server) : Type 0 where
+  pub request : Request
+  pub says : SaysRequest frame request
+  pub under : unique ≡ request.unique
+  pub held : IsHeld old request
+  pub after : new ≡ after_taking old request
+  pub refusal : Refusal
+  pub refused : RefusesHeld new unique refusal ⊎ ((refusal ≡ NoMemory) × CanPerform new unique)
 
--- What became of a frame.
-abbrev pub IsServed : Server → List ℕ → List ℕ → Came → Server → List ℕ → Type 0
-IsServed old frame before Replied new after = Serves old frame before after
-IsServed old frame before NoReply new after = after ≡ before
-IsServed old frame before NoRoom new after = after ≡ before
-IsServed old frame before (Waits unique) new after = after ≡ before
-IsServed old frame before (Refused fault) new after = (after ≡ before) × (new ≡ old) × RefusesFrame old frame fault
+-- The server once it is told the result of a copy: where no copy of this number waits for one nothing changes.
+abbrev pub settled_if : Server → ℕ → WriteResult → Option Copy → Server
+settled_if s number result None = s
+settled_if s number result (Some copy) = settled s number copy result
+
+abbrev pub once_settled : Server → Sent → WriteResult → Server
+once_settled s copy result = settled_if s copy.number result (get s.copies copy.number)
+
+-- the bytes of a copy spell its reply, under its number
+abbrev pub SpellsCopy : Sent → List ℕ → Type 0
+SpellsCopy copy bytes = (opcode : Opcode) × SaysReply opcode bytes copy.unique copy.wire
+
+-- A copy of a reply is handed over to a buffer of this capacity: its bytes are appended, and it is accepted; or they
+-- have no room, nothing is appended, and it is refused.
+abbrev pub IsDelivered : Server → Sent → (capacity : ℕ) → List ℕ → Came → Server → List ℕ → Type 0
+IsDelivered old copy capacity before Replied new after = (reply : List ℕ) × SpellsCopy copy reply
+    × (after ≡ before ++ reply) × (new ≡ once_settled old copy Accepted)
+IsDelivered old copy capacity before NoRoom new after = (reply : List ℕ) × SpellsCopy copy reply
+    × (capacity < length before + length reply) × (after ≡ before) × (new ≡ once_settled old copy Invalid)
+IsDelivered old copy capacity before came new after = ⊥
+
+-- What became of a frame: a copy of a reply is handed over or has no room, none is sent, none can be sent now, or the
+-- frame is refused.
+abbrev pub IsServed : Server → List ℕ → (capacity : ℕ) → List ℕ → Came → Server → List ℕ → Type 0
+IsServed old frame capacity before NoReply new after = (after ≡ before) × Serves old frame None new
+IsServed old frame capacity before (Waits unique) new after = (after ≡ before) × Holds old frame unique new
+IsServed old frame capacity before (Refused fault) new after = (after ≡ before) × (new ≡ old)
+    × RefusesFrame old frame fault × (fault ≡ Memory → CanTake old frame × WantsMemory old frame)
+IsServed old frame capacity before came new after = (copy : Sent) × (sent : Server) × Serves old frame (Some copy) sent
+    × IsDelivered sent copy capacity before came new after

@@ -9,7 +9,7 @@ ghost use Rattle.fk_syscalls.specs.Values.{call_of};
 ghost use Rattle.fk_kernel.specs.Refused.{IsPendingRequest};
 ghost use Rattle.fk_kernel.specs.AwaitedReplies.{HasReplyHead, awaited, head_unique, nothing};
 
-use fk_kernel::{Answer, Call, Kernel};
+use fk_kernel::{Answer, Call, Kernel, Pick};
 use fuse_frames::RequestFrame;
 use fuse_spec::Refusal;
 use std::alloc::Allocator;
@@ -20,7 +20,7 @@ pub fn mount<A: Allocator + Copy>(kernel: &mut Kernel<A>) -> Result<RequestFrame
     ensures { IfOk result (λ frame. frame ≡ record { unique = 2; body = asks_init init_flags }) }
 {
     kernel.mount()?;
-    kernel.read_pending(0)
+    kernel.read(Pick::Pending(0))
 }
 
 /// Begins a call, and reads the request that has waited longest: the first of the call where none waited before.
@@ -31,7 +31,7 @@ pub fn ask<A: Allocator + Copy>(
     ensures { IfOk result (λ frame. IsPendingRequest (call_put kernel.old (call_of call.now)) 0 frame) }
 {
     kernel.begin(call)?;
-    kernel.read_pending(0)
+    kernel.read(Pick::Pending(0))
 }
 
 /// Writes the bytes of a reply, which may be any, and gives the call that is answered by it, where no answer waited

@@ -1,11 +1,12 @@
 //! A virtual machine host that serves a guest's requests: they are taken, performed, and settled as their replies are
 //! handed over.
 
+ghost use Rattle.std.specs.Prelude.{vec_capacity};
 ghost use Rattle.callers.specs.Serving.{IsDelivered, IsServed};
 
 use fs_server::{Server, ServerFault};
-use fuse_frames::ReplyCopy;
-use fuse_spec::{ReplyResult, Taken, WriteResult};
+use fuse_frames::Sent;
+use fuse_spec::{Taken, WriteResult};
 use std::alloc::Allocator;
 
 /// What became of a frame of a guest.
@@ -29,23 +30,24 @@ pub fn serve<A: Allocator + Copy>(
     frame: &[u8],
     buffer: &mut Vec<u8, A>,
 ) -> Served
-    ensures { IsServed server.old frame.now buffer.old.items result server.new buffer.new.items }
+    ensures { IsServed server.old frame.now (vec_capacity buffer.old) buffer.old.items result server.new
+        buffer.new.items }
 {
-    let took = match server.take(frame) {
-        Ok(took) => took,
+    let taken = match server.take(frame) {
+        Ok(taken) => taken,
         Err(fault) => return Served::Refused(fault),
     };
-    if let Some(copy) = &took.copy {
-        return deliver(server, copy, buffer);
+    if let Some(sent) = &taken.sent {
+        return deliver(server, sent, buffer);
     }
-    if took.word != Taken::Held {
+    if taken.word != Taken::Held {
         return Served::NoReply;
     }
-    let Ok(done) = server.perform(took.unique) else {
-        return Served::Waits(took.unique);
+    let Ok(done) = server.perform(taken.unique) else {
+        return Served::Waits(taken.unique);
     };
-    match &done.copy {
-        Some(copy) => deliver(server, copy, buffer),
+    match &done.sent {
+        Some(sent) => deliver(server, sent, buffer),
         None => Served::NoReply,
     }
 }
@@ -53,21 +55,16 @@ pub fn serve<A: Allocator + Copy>(
 /// Hands a copy of a reply over, and settles it by whether it had room.
 fn deliver<A: Allocator + Copy>(
     server: &mut Server<A>,
-    copy: &ReplyCopy<A>,
+    sent: &Sent<A>,
     buffer: &mut Vec<u8, A>,
 ) -> Served
-    ensures { IsDelivered copy.now buffer.old.items result buffer.new.items }
+    ensures { IsDelivered server.old sent.now (vec_capacity buffer.old) buffer.old.items result server.new
+        buffer.new.items }
 {
-    let (served, result) = match buffer.extend_from_slice(copy.bytes()) {
+    let (served, result) = match buffer.extend_from_slice(sent.bytes()) {
         Ok(()) => (Served::Replied, WriteResult::Accepted),
         Err(_) => (Served::NoRoom, WriteResult::Invalid),
     };
-    let number = copy.number();
-    let unique = copy.unique();
-    let _settled = server.settle(ReplyResult {
-        number,
-        unique,
-        result,
-    });
+    let _settled = server.settle(sent.number(), result);
     served
 }

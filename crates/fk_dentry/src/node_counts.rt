@@ -39,6 +39,10 @@ impl<A: Allocator + Copy> NodeCounts<A> {
     }
 
     /// Makes room for a sum of the counts.
+    ///
+    /// # Errors
+    ///
+    /// Memory was wanting. The counts are as before.
     pub fn reserve_in_all(&mut self, most: usize) -> Result<(), AllocError>
         ensures counts { self.new.counts.entries ≡ self.old.counts.entries }
         ensures room { OnOk result (most ≤ self.new.most) }

@@ -7,6 +7,7 @@ pub mod Closes
 pub mod Replied
 pub mod Heads
 pub mod Taken
+pub mod OfNoCall
 pub mod Nodes
 pub mod First
 pub mod Dropped

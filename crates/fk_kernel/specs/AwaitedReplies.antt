@@ -67,6 +67,13 @@ IsAwaited nothing = Unit {0}
 IsAwaited gone = Unit {0}
 IsAwaited (reply_to o) = IsJudged o
 
+-- A request of no call: INIT, a RELEASE or an INTERRUPT.
+abbrev pub IsOfNoCall : Awaited → Type 0
+IsOfNoCall (reply_to op.Init) = Unit {0}
+IsOfNoCall (reply_to op.Release) = Unit {0}
+IsOfNoCall (reply_to op.Interrupt) = Unit {0}
+IsOfNoCall other = ⊥
+
 -- What becomes of a reply with a head, by what awaits it.
 pub record IsReplyWritten (k : Kernel) (unique : ℕ) (bytes : List ℕ) (awaits : Awaited) (result : WriteResult)
     (after : Kernel) : Type 0 where

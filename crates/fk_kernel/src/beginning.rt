@@ -9,7 +9,7 @@ ghost use Rattle.fuse_spec.specs.Calls.Vfs.{CallState as State, begun, asking, a
 ghost use Rattle.fk_syscalls.specs.Values.{comes_to, call_of, answer_of, ClosesNone};
 ghost use Rattle.fk_kernel.specs.Refused.{begin_refusal, begun_refusal};
 ghost use Rattle.fuse_spec.specs.Kernel.QueueCalls.{after_enqueue};
-ghost use Rattle.fuse_spec.specs.Values.Numbers.{counter_end};
+ghost use Rattle.fuse_spec.specs.Values.Numbers.{counter_end, max_calls};
 
 use crate::kernel::KernelOf;
 use crate::queue_room::reserve_request;
@@ -52,7 +52,7 @@ impl<Q: QueueTable<Purpose> + Drop, C: CountTable<Heap = Q::Heap> + Drop> Kernel
     /// A call of the next number begins: it is answered at once, or it asks its first request.
     fn begin_next(&mut self, call: &Call<'_>) -> Result<u64, Refusal>
         requires number { self.old.vfs.next_call < counter_end }
-        requires few { length self.old.vfs.calls < 64 }
+        requires few { length self.old.vfs.calls < max_calls }
         requires ready { is_ready self.old.phase ≡ true }
         ensures err { OnErr result (self.new ≡ self.old) }
         ensures refusal { IfErr result (λ refusal. refusal ≡ or_no_memory (begun_refusal self.old (call_of call.now))) }
@@ -68,8 +68,8 @@ impl<Q: QueueTable<Purpose> + Drop, C: CountTable<Heap = Q::Heap> + Drop> Kernel
             return self.begin_close(*handle);
         }
         match self.set_out(call)? {
-            Next::Answered { errno } => self.begin_answered(Answer::Failed { errno }),
-            Next::Waits(state) => self.begin_asking(state),
+            Next::Answer { errno } => self.begin_answered(Answer::Failed { errno }),
+            Next::Ask(state) => self.begin_asking(state),
         }
     }
 
@@ -105,7 +105,7 @@ impl<Q: QueueTable<Purpose> + Drop, C: CountTable<Heap = Q::Heap> + Drop> Kernel
     /// A call of the next number begins and is answered at once.
     pub(crate) fn begin_answered(&mut self, answer: Answer<Q::Heap>) -> Result<u64, Refusal>
         requires number { self.old.vfs.next_call < counter_end }
-        requires few { length self.old.vfs.calls < 64 }
+        requires few { length self.old.vfs.calls < max_calls }
         ensures err { OnErr result (self.new ≡ self.old) }
         ensures refusal { IfErr result (λ refusal. refusal ≡ Refusal.NoMemory) }
         ensures number { IfOk result (λ n. n ≡ self.old.vfs.next_call) }
@@ -125,7 +125,7 @@ impl<Q: QueueTable<Purpose> + Drop, C: CountTable<Heap = Q::Heap> + Drop> Kernel
     /// A call of the next number begins, and its first request is queued.
     fn begin_asking(&mut self, state: CallState<Q::Heap>) -> Result<u64, Refusal>
         requires number { self.old.vfs.next_call < counter_end }
-        requires few { length self.old.vfs.calls < 64 }
+        requires few { length self.old.vfs.calls < max_calls }
         requires ready { is_ready self.old.phase ≡ true }
         requires not_aborted { is_aborted self.old.phase ≡ false }
         ensures err { OnErr result (self.new ≡ self.old) }

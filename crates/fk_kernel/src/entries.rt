@@ -231,12 +231,12 @@ impl<Q: QueueTable<Purpose> + Drop, C: CountTable<Heap = Q::Heap> + Drop> Kernel
         let Some(state) = self.calls.remove(call) else {
             return Ok(());
         };
-        match state.found(&self.names, self.clock, entry.nodeid) {
-            Next::Waits(state) => {
+        match state.advance(&self.names, self.clock, entry.nodeid) {
+            Next::Ask(state) => {
                 let _unique = self.queues.enqueue(Purpose::Call(call));
                 self.calls.put(call, state);
             }
-            Next::Answered { errno } => {
+            Next::Answer { errno } => {
                 self.answers
                     .put(call, StoredAnswer::new(Answer::Failed { errno }));
             }

@@ -10,7 +10,7 @@ ghost use Rattle.fuse_spec.specs.Kernel.QueueCalls.{waiting, without};
 ghost use Rattle.fuse_spec.specs.Kernel.Refusals.{is_ready, or_no_memory};
 ghost use Rattle.fuse_spec.specs.Kernel.Uniques.{numbers_left_from};
 ghost use Rattle.fuse_spec.specs.Calls.Vfs.{CallState as State, answered};
-ghost use Rattle.fuse_spec.specs.Values.Numbers.{counter_end};
+ghost use Rattle.fuse_spec.specs.Values.Numbers.{counter_end, max_calls};
 ghost use Rattle.fk_syscalls.specs.States.{used_by};
 ghost use Rattle.fk_syscalls.specs.Values.{answer_of};
 ghost use Rattle.fk_kernel.specs.Entries.{EndsWithin, EndsPast};
@@ -63,7 +63,7 @@ impl<Q: QueueTable<Purpose> + Drop, C: CountTable<Heap = Q::Heap> + Drop> Kernel
     /// write of the file is unanswered.
     pub(crate) fn begin_close(&mut self, handle: u64) -> Result<u64, Refusal>
         requires number { self.old.vfs.next_call < counter_end }
-        requires few { length self.old.vfs.calls < 64 }
+        requires few { length self.old.vfs.calls < max_calls }
         requires ready { is_ready self.old.phase ≡ true }
         requires not_aborted { is_aborted self.old.phase ≡ false }
         ensures err { OnErr result (self.new ≡ self.old) }
@@ -88,7 +88,7 @@ impl<Q: QueueTable<Purpose> + Drop, C: CountTable<Heap = Q::Heap> + Drop> Kernel
     /// A close of an open file of which no read or write is unanswered.
     fn close_idle(&mut self, handle: u64, opened: Opened) -> Result<u64, Refusal>
         requires number { self.old.vfs.next_call < counter_end }
-        requires few { length self.old.vfs.calls < 64 }
+        requires few { length self.old.vfs.calls < max_calls }
         requires ready { is_ready self.old.phase ≡ true }
         requires not_aborted { is_aborted self.old.phase ≡ false }
         requires open { get self.old.vfs.opens handle ≡ Some opened }
@@ -118,7 +118,7 @@ impl<Q: QueueTable<Purpose> + Drop, C: CountTable<Heap = Q::Heap> + Drop> Kernel
     /// A close of an open file of which a read or write is unanswered.
     fn close_in_use(&mut self, handle: u64, opened: Opened) -> Result<u64, Refusal>
         requires number { self.old.vfs.next_call < counter_end }
-        requires few { length self.old.vfs.calls < 64 }
+        requires few { length self.old.vfs.calls < max_calls }
         requires ready { is_ready self.old.phase ≡ true }
         requires not_aborted { is_aborted self.old.phase ≡ false }
         requires open { get self.old.vfs.opens handle ≡ Some opened }

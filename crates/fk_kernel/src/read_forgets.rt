@@ -49,7 +49,7 @@ impl<Q: QueueTable<Purpose> + Drop, C: CountTable<Heap = Q::Heap> + Drop> Kernel
     /// Why so many forgets cannot be read as one frame, want of memory aside: `NotReady` where the mount is not live,
     /// `InterruptFirst` while an INTERRUPT is queued, `NoSuch` for 0, for more than 64 and for more than are queued,
     /// and for more than 1 after 7.15, `Exhausted` where no number is left.
-    pub fn read_forgets_refusal(&self, count: u64) -> Option<Refusal>
+    pub(crate) fn read_forgets_refusal(&self, count: u64) -> Option<Refusal>
         ensures { result ≡ read_forgets_refusal self.now count }
     {
         match self.forgets_to_read(count) {
@@ -63,7 +63,7 @@ impl<Q: QueueTable<Purpose> + Drop, C: CountTable<Heap = Q::Heap> + Drop> Kernel
     /// # Errors
     ///
     /// As `read_forgets_refusal`; then `NoMemory`. The kernel is as before.
-    pub fn read_forgets(&mut self, count: u64) -> Result<RequestFrame<Q::Heap>, Refusal>
+    pub(crate) fn read_forgets(&mut self, count: u64) -> Result<RequestFrame<Q::Heap>, Refusal>
         ensures err { OnErr result (self.new ≡ self.old) }
         ensures refusal { IfErr result (λ refusal. refusal ≡ or_no_memory (read_forgets_refusal self.old count)) }
         ensures judged { OnOk result (read_forgets_refusal self.old count ≡ None) }

@@ -50,7 +50,7 @@ impl<Q: QueueTable<Purpose> + Drop, C: CountTable<Heap = Q::Heap> + Drop> Kernel
 
     /// Why the pending request at a place cannot be read, want of memory aside: `NotReady` where the mount is not live,
     /// `InterruptFirst` while an INTERRUPT is queued, `NoSuch` where no request is pending there.
-    pub fn read_refusal(&self, place: u64) -> Option<Refusal>
+    pub(crate) fn read_pending_refusal(&self, place: u64) -> Option<Refusal>
         ensures { result ≡ read_refusal self.now place }
     {
         match self.request_to_read(place) {
@@ -65,7 +65,7 @@ impl<Q: QueueTable<Purpose> + Drop, C: CountTable<Heap = Q::Heap> + Drop> Kernel
     ///
     /// `NotReady` where the mount is not live, `InterruptFirst` while an INTERRUPT is queued, `NoSuch` where no request
     /// is pending there; then `NoMemory`. The kernel is as before.
-    pub fn read_pending(&mut self, place: u64) -> Result<RequestFrame<Q::Heap>, Refusal>
+    pub(crate) fn read_pending(&mut self, place: u64) -> Result<RequestFrame<Q::Heap>, Refusal>
         ensures err { OnErr result (self.new ≡ self.old) }
         ensures refusal { IfErr result (λ refusal. refusal ≡ or_no_memory (read_refusal self.old place)) }
         ensures judged { OnOk result (read_refusal self.old place ≡ None) }

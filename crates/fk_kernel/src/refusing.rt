@@ -23,7 +23,7 @@ use fk_lookup_count::CountTable;
 use fk_nodes::EntryUse;
 use fk_queues::QueueTable;
 use fk_syscalls::{CallState, NewName};
-use fk_wire::{ReplyHead, read_reply_head};
+use fk_wire::ReplyHead;
 use fuse_frames::{Reply, ReplySaid, said_to_call};
 use fuse_spec::{Entry, Operation, Purpose, Refusal};
 
@@ -36,7 +36,7 @@ impl<Q: QueueTable<Purpose> + Drop, C: CountTable<Heap = Q::Heap> + Drop> Kernel
     {
         self.within();
         self.counts_within();
-        let Ok(head) = read_reply_head(bytes) else {
+        let Ok(head) = ReplyHead::read(bytes) else {
             return None;
         };
         if head.unique % 2 == 1 {

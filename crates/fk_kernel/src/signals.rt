@@ -114,7 +114,7 @@ impl<Q: QueueTable<Purpose> + Drop, C: CountTable<Heap = Q::Heap> + Drop> Kernel
 
     /// Why the oldest INTERRUPT cannot be read, want of memory aside: `NotReady` where the mount is not live, `NoSuch`
     /// where none is queued.
-    pub fn read_interrupt_refusal(&self) -> Option<Refusal>
+    pub(crate) fn read_interrupt_refusal(&self) -> Option<Refusal>
         ensures { result ≡ read_interrupt_refusal self.now }
     {
         if !self.is_live() {
@@ -131,7 +131,7 @@ impl<Q: QueueTable<Purpose> + Drop, C: CountTable<Heap = Q::Heap> + Drop> Kernel
     /// # Errors
     ///
     /// As `read_interrupt_refusal`; then `NoMemory`. The kernel is as before.
-    pub fn read_interrupt(&mut self) -> Result<RequestFrame<Q::Heap>, Refusal>
+    pub(crate) fn read_interrupt(&mut self) -> Result<RequestFrame<Q::Heap>, Refusal>
         ensures err { OnErr result (self.new ≡ self.old) }
         ensures refusal { IfErr result (λ refusal. refusal ≡ or_no_memory (read_interrupt_refusal self.old)) }
         ensures judged { OnOk result (read_interrupt_refusal self.old ≡ None) }

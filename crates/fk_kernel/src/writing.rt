@@ -1,32 +1,36 @@
 //! How replies are taken.
 
-ghost use Rattle.std.specs.Prelude.{◌≡◌, ◌%◌, Some, None, Ok, OnErr, IfOk, IfErr, true, false, is_some, nat_eq};
+ghost use Rattle.std.specs.Prelude.{◌≡◌, ◌%◌, Some, None, Ok, OnErr, IsOk, IfOk, IfErr, true, false, is_some, nat_eq};
 ghost use Rattle.fk_wire.specs.ReplyFaults.{IsReplyHead};
 ghost use Rattle.fuse_spec.specs.Kernel.Messages.{WireReply};
 ghost use Rattle.fuse_spec.specs.Kernel.Replies.{reply_written, interrupt_reply_of, interrupt_replied};
-ghost use Rattle.fk_kernel.specs.AwaitedReplies.{Says, IsNoReply, HasReplyHead, head_unique, awaited, nothing, wrong_body, wrong_body_to, IsReplyWritten};
+ghost use Rattle.fk_kernel.specs.AwaitedReplies.{Says, IsNoReply, HasReplyHead, head_unique, awaited, nothing, IsOfNoCall, wrong_body, wrong_body_to, IsReplyWritten};
 ghost use Rattle.fk_kernel.specs.Refused.{WriteRefused, WritePasses};
 ghost use Rattle.fuse_spec.specs.Kernel.QueueCalls.{after_interrupt_reply, waiting};
 
 use crate::kernel::KernelOf;
 use fk_lookup_count::CountTable;
 use fk_queues::QueueTable;
-use fk_wire::{Opcode, ReplyHead, read_reply_head};
+use fk_unique::original_of;
+use fk_wire::{Opcode, ReplyHead};
 use fuse_frames::{Reply, agrees, files_agreed, minor_agreed, said_to};
 use fuse_spec::errno::{EAGAIN, ENOSYS};
 use fuse_spec::{Phase, Purpose, Refusal, WriteResult};
 
 impl<Q: QueueTable<Purpose> + Drop, C: CountTable<Heap = Q::Heap> + Drop> KernelOf<Q, C> {
-    /// Takes any bytes as a reply.
+    /// Takes any bytes as a reply. A reply to INIT, to a RELEASE or to an INTERRUPT takes no memory.
     ///
     /// # Errors
     ///
-    /// `Exhausted` where no number is left for the request that would be queued, or a node's count would come to the
-    /// end of counters, as `write_refusal` says; then `NoMemory`. The kernel is as before.
+    /// Of a reply to the request of a call: `Exhausted` where no number is left for the request that would be queued,
+    /// or a node's count would come to the end of counters, as `write_refusal` says; then `NoMemory`. The kernel is as
+    /// before.
     pub fn write(&mut self, bytes: &[u8]) -> Result<WriteResult, Refusal>
         ensures err { OnErr result (self.new ≡ self.old) }
         ensures refusal { HasReplyHead bytes.now → IfErr result (WriteRefused self.old bytes.now) }
         ensures memory { IfErr result (λ refusal. refusal ≡ Refusal.NoMemory → WritePasses self.old bytes.now → ⊥) }
+        ensures of_no_call { HasReplyHead bytes.now → IsOfNoCall (awaited self.old (head_unique bytes.now))
+            → IsOk result }
         ensures headless { (HasReplyHead bytes.now → ⊥) → (result ≡ Ok WriteResult.Invalid) × (self.new ≡ self.old) }
         ensures unawaited { HasReplyHead bytes.now → awaited self.old (head_unique bytes.now) ≡ nothing
             → (result ≡ Ok WriteResult.NoEntry) × (self.new ≡ self.old) }
@@ -34,11 +38,11 @@ impl<Q: QueueTable<Purpose> + Drop, C: CountTable<Heap = Q::Heap> + Drop> Kernel
             (λ written. IsReplyWritten self.old (head_unique bytes.now) bytes.now
             (awaited self.old (head_unique bytes.now)) written self.new) }
     {
-        let Ok(head) = read_reply_head(bytes) else {
+        let Ok(head) = ReplyHead::read(bytes) else {
             return Ok(WriteResult::Invalid);
         };
         if head.unique % 2 == 1 {
-            return Ok(self.write_to_interrupt(head.unique - 1, head, bytes));
+            return Ok(self.write_to_interrupt(original_of(head.unique), head, bytes));
         }
         let Some(purpose) = self.queues.waiting(head.unique) else {
             return Ok(WriteResult::NoEntry);

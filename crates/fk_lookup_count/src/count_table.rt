@@ -15,7 +15,7 @@ use std::alloc::{AllocError, Allocator};
 /// The counted nodes of the kernel. Node ids are the server's choice: any `u64`.
 ///
 /// Of an id that is not counted a look gives `None`, and `evict` no forget. `reserve` and `nodes` take memory, and
-/// `count_lookup` of an id that has no room.
+/// `reserve_and_learn` of an id that has no room; after `reserve` neither `learn` nor `evict` takes any.
 pub trait CountTable {
     /// Where the room comes from.
     type Heap: Allocator + Copy;
@@ -23,7 +23,7 @@ pub trait CountTable {
     /// Each counted id with its generation, its lookup count.
     ghost counted: { Self → Map Counted };
 
-    /// The id has room: to count a lookup of it takes no memory.
+    /// The id has room: to learn it takes no memory.
     ghost has_room: { Self → ℕ → Type 0 };
 
     /// A table that counts nothing.
@@ -41,13 +41,31 @@ pub trait CountTable {
         ensures kept { (other : ℕ) → has_room self.old other → has_room self.new other }
         ensures succeeds { has_room self.old id → IsOk result };
 
-    /// Counts one entry reply that names an id under a generation, and says whether the id was not counted before.
-    /// `Unlike` where the id is counted under another generation: nothing changed then.
+    /// Counts one entry reply that names an id under a generation: the id has room (libfuse's low-level notes, "forget").
     ///
     /// # Errors
     ///
-    /// Memory was wanting, and the id was not counted and had no room. Nothing changed.
-    fn count_lookup(&mut self, id: u64, generation: u64) -> Result<Result<bool, Unlike>, AllocError>
+    /// `Unlike` where the id is counted under another generation. Nothing changed.
+    fn learn(&mut self, id: u64, generation: u64) -> Result<(), Unlike>
+        requires room { has_room self.old id }
+        requires fits { ForSome (get (counted self.old) id) (λ node. node.count + 1 < 2 ^ 64) }
+        ensures unlike { IsErr result ↔ IsUnlike (get (counted self.old) id) generation }
+        ensures ok { OnOk result (counted self.new ≡ looked_up (counted self.old) id generation
+            (get (counted self.old) id)) }
+        ensures err { OnErr result (counted self.new ≡ counted self.old) }
+        ensures kept { (other : ℕ) → has_room self.old other → has_room self.new other };
+
+    /// `reserve` and `learn` with one search where the id is counted or has room. Says whether the id was not counted
+    /// before.
+    ///
+    /// # Errors
+    ///
+    /// Memory was wanting, and the id was not counted and had no room; inside, `Unlike` as of `learn`. Nothing changed.
+    fn reserve_and_learn(
+        &mut self,
+        id: u64,
+        generation: u64,
+    ) -> Result<Result<bool, Unlike>, AllocError>
         requires fits { ForSome (get (counted self.old) id) (λ node. node.count + 1 < 2 ^ 64) }
         ensures unlike { IfOk result (λ given. IsErr given ↔ IsUnlike (get (counted self.old) id) generation) }
         ensures new { IfOk result (λ given. IfOk given (λ is_new. is_new ≡ is_none (get (counted self.old) id))) }
@@ -59,8 +77,8 @@ pub trait CountTable {
         ensures succeeds { has_room self.old id → IsOk result }
         ensures kept { (other : ℕ) → has_room self.old other → has_room self.new other };
 
-    /// How an id is counted.
-    fn counted(&self, id: u64) -> Option<Counted>
+    /// How an id is counted: its generation and its lookup count.
+    fn count_of(&self, id: u64) -> Option<Counted>
         ensures { result ≡ get (counted self.now) id };
 
     /// Gives a counted id up, and gives the forget of its whole count. The id keeps no room.

@@ -67,7 +67,21 @@ impl<S: Slots> CountTable for CountsOf<S> {
         Ok(())
     }
 
-    fn count_lookup(
+    fn learn(&mut self, id: u64, generation: u64) -> Result<(), Unlike> {
+        let Some(slot) = self.slots.count_lookup(id, generation) else {
+            // Ruled out: the id has room.
+            return Ok(());
+        };
+        if slot.count == 0 {
+            return Ok(());
+        }
+        if slot.generation != generation {
+            return Err(Unlike);
+        }
+        Ok(())
+    }
+
+    fn reserve_and_learn(
         &mut self,
         id: u64,
         generation: u64,
@@ -89,7 +103,7 @@ impl<S: Slots> CountTable for CountsOf<S> {
         Ok(Ok(false))
     }
 
-    fn counted(&self, id: u64) -> Option<Counted> {
+    fn count_of(&self, id: u64) -> Option<Counted> {
         self.node(id)
     }
 

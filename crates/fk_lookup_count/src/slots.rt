@@ -36,6 +36,10 @@ pub trait Slots {
         ensures { result ≡ get (slots self.now) id };
 
     /// Gives a slot to an id that has none.
+    ///
+    /// # Errors
+    ///
+    /// Memory was wanting. Nothing changed.
     fn add(&mut self, id: u64, slot: Counted) -> Result<(), AllocError>
         requires { get (slots self.old) id ≡ None }
         ensures ok { OnOk result (slots self.new ≡ insert (slots self.old) id slot) }
@@ -58,6 +62,10 @@ pub trait Slots {
         ensures { slots self.new ≡ empty };
 
     /// Id, generation and count of each slot that holds a node, in rising id.
+    ///
+    /// # Errors
+    ///
+    /// Memory was wanting for the list.
     fn nodes(&self, alloc: Self::Heap) -> Result<Vec<(u64, u64, u64), Self::Heap>, AllocError>
         ensures { IfOk result (λ nodes. nodes.items ≡ listed (nodes_in (slots self.now))) };
 }

@@ -129,7 +129,10 @@ impl<C: CountTable> CountedNodes<C> {
         ensures counted { OnErr result (get self.old entry.now.nodeid ≡ None) }
     {
         self.table.keeps_sound();
-        match self.table.count_lookup(entry.nodeid, entry.generation)? {
+        match self
+            .table
+            .reserve_and_learn(entry.nodeid, entry.generation)?
+        {
             Ok(is_new) => {
                 self.most_lookups = self.most_lookups.saturating_add(1);
                 if is_new {
@@ -147,7 +150,7 @@ impl<C: CountTable> CountedNodes<C> {
         ensures { result ≡ get self.now id }
     {
         let _ = &self.len;
-        self.table.counted(id)
+        self.table.count_of(id)
     }
 
     /// Whether the names of a list that tell the node that this one tells, under the same generation, bring its count

@@ -55,7 +55,7 @@ fn count_one<C: CountTable>(table: &mut C, entry: &Entry) -> bool
     ensures new { result ≡ is_none (get (C.counted table.old) entry.now.nodeid) }
     ensures kept { (other : ℕ) → C.has_room table.old other → C.has_room table.new other }
 {
-    match table.count_lookup(entry.nodeid, entry.generation) {
+    match table.reserve_and_learn(entry.nodeid, entry.generation) {
         Ok(Ok(is_new)) => is_new,
         // It is counted under another generation, and nothing changed.
         Ok(Err(_)) => false,

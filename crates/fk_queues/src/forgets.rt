@@ -1,6 +1,7 @@
 //! The forgets that are queued, and those of one frame.
 ghost use Rattle.std.specs.Prelude.{◌≡◌, ◌+◌, ◌-◌, ◌<◌, ◌≤◌, ℕ, [], ◌∷◌, ◌++◌, length, take, drop, OnOk, IsOk};
 ghost use Rattle.std.specs.VecDeque.{deque_len, deque_capacity};
+ghost use Rattle.fuse_spec.specs.Values.Numbers.{max_forgets};
 
 use std::alloc::{AllocError, Allocator};
 use std::collections::VecDeque;
@@ -16,12 +17,13 @@ pub struct Forgets {
 
 impl Model for Forgets {
     ghost use Rattle.std.specs.Prelude.{ℕ, List, take, ◌≤◌};
+    ghost use Rattle.fuse_spec.specs.Values.Numbers.{max_forgets};
 
     ghost Value = { List (ℕ × ℕ) };
 
     ghost view = { λ f. take f.count f.pairs };
 
-    ghost invariant = { λ f. f.count ≤ 64 };
+    ghost invariant = { λ f. f.count ≤ max_forgets };
 }
 
 impl Forgets {
@@ -71,7 +73,7 @@ impl<A: Allocator + Copy> ForgetList<A> {
     /// The first forgets. There are so many, and a frame has room for them.
     pub(crate) fn first(&self, count: usize) -> Forgets
         requires there { count ≤ length self.now.items.items }
-        requires few { count ≤ 64 }
+        requires few { count ≤ max_forgets }
         ensures { result ≡ take count self.now.items.items }
     {
         let mut pairs = [(0, 0); 64];

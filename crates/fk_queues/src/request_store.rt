@@ -37,6 +37,10 @@ pub trait RequestStore<W: Drop> {
         ensures { result ≡ length (entries self.now) + room self.now };
 
     /// Makes room for so many more requests.
+    ///
+    /// # Errors
+    ///
+    /// Memory was wanting. The requests are as before.
     fn reserve(&mut self, more: usize) -> Result<(), AllocError>
         ensures entries { entries self.new ≡ entries self.old }
         ensures ok { OnOk result (more ≤ room self.new) }

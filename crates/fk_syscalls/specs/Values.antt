@@ -23,7 +23,7 @@ use Rattle.fk_syscalls.specs.declared.call.ListedName.{ListedName}
 use Rattle.fk_syscalls.specs.declared.call.Call.{Call}
 use Rattle.fk_syscalls.specs.declared.call.Call.TheVariants.{Stat, List as Lists, ListPlus, Open, Mkdir, Create, Unlink, Rmdir, Rename, Link, Read, Write, Close}
 use Rattle.fk_syscalls.specs.declared.state.Next.{Next}
-use Rattle.fk_syscalls.specs.declared.state.Next.TheVariants.{Waits, Answered}
+use Rattle.fk_syscalls.specs.declared.state.Next.TheVariants as step
 
 -- The call that is meant.
 abbrev pub call_of : Call → call.Call
@@ -72,8 +72,8 @@ AsksWord asked = All IsWord (op.names_in (op.operation_of (λ s. s.now) asked))
 
 -- Where a step leaves a call.
 abbrev pub comes_to : {A : Type 0} → Vfs Opened → ℕ → Next A → Advance Opened
-comes_to c call (Waits state) = asking c call state
-comes_to c call (Answered errno) = no_more (answered c call (failed errno))
+comes_to c call (step.Ask state) = asking c call state
+comes_to c call (step.Answer errno) = no_more (answered c call (failed errno))
 
 -- Where its beginning leaves a call.
 abbrev pub IsBegun : {A : Type 0} → NameMap Binding → ℕ → Beginning ℕ Opened → Next A → Type 0

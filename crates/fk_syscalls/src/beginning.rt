@@ -78,7 +78,7 @@ pub fn begin<A: Allocator + Copy>(
             bytes,
         } => begin_write(alloc, opens, *handle, *offset, bytes),
         // Ruled out: it is no close.
-        Call::Close { .. } => Ok(Next::Answered { errno: EBADF }),
+        Call::Close { .. } => Ok(Next::Answer { errno: EBADF }),
     }
 }
 
@@ -94,7 +94,7 @@ fn list_from<'a>(after: u64) -> FinalOperation<&'a [u8]>
     }
 }
 
-/// The same, with each name's file.
+/// A list of names behind an offset, each with its file, of the directory to which the walk leads.
 fn list_with_files_from<'a>(after: u64) -> FinalOperation<&'a [u8]>
     ensures operation { operation_of (λ s. s.now) result ≡ op.readdirplus None after max_transfer }
     ensures sound { IsSoundFinal (λ s. s.now) result }
@@ -148,7 +148,7 @@ fn begin_whole<A: Allocator + Copy>(
 {
     match first_word(path) {
         Ok(at) => set_out(alloc, names, clock, path, at, Plan::Last(operation)),
-        Err(errno) => Ok(Next::Answered { errno }),
+        Err(errno) => Ok(Next::Answer { errno }),
     }
 }
 
@@ -171,7 +171,7 @@ fn begin_change<A: Allocator + Copy>(
             let plan = Plan::Last(change.of_name(name));
             set_out(alloc, names, clock, parent.words, parent.at, plan)
         }
-        Err(errno) => Ok(Next::Answered { errno }),
+        Err(errno) => Ok(Next::Answer { errno }),
     }
 }
 
@@ -190,11 +190,11 @@ fn begin_rename<A: Allocator + Copy>(
 {
     let from = match parent_of(old) {
         Ok(from) => from,
-        Err(errno) => return Ok(Next::Answered { errno }),
+        Err(errno) => return Ok(Next::Answer { errno }),
     };
     let to = match parent_of(new) {
         Ok(to) => to,
-        Err(errno) => return Ok(Next::Answered { errno }),
+        Err(errno) => return Ok(Next::Answer { errno }),
     };
     let plan = Plan::Rename {
         old: from.name,
@@ -220,11 +220,11 @@ fn begin_link<A: Allocator + Copy>(
 {
     let at = match first_word(old) {
         Ok(at) => at,
-        Err(errno) => return Ok(Next::Answered { errno }),
+        Err(errno) => return Ok(Next::Answer { errno }),
     };
     let to = match parent_of(new) {
         Ok(to) => to,
-        Err(errno) => return Ok(Next::Answered { errno }),
+        Err(errno) => return Ok(Next::Answer { errno }),
     };
     let plan = Plan::Link {
         words: to.words,
@@ -251,16 +251,16 @@ fn set_out<A: Allocator + Copy>(
         (sets_out (words_from words.now at) (plan_of (λ s. s.now) plan.entry))) }
 {
     let Some(stop) = walk(names, clock, ROOT, words, at) else {
-        return Ok(Next::Answered { errno: ENOENT });
+        return Ok(Next::Answer { errno: ENOENT });
     };
     if stop.at.is_some() {
         let state = CallState::new(alloc, stop.node, words, stop.at, plan)?;
-        return Ok(Next::Waits(state));
+        return Ok(Next::Ask(state));
     }
     match plan {
         Plan::Last(_) => {
             let state = CallState::new(alloc, stop.node, words, None, plan)?;
-            Ok(Next::Waits(state))
+            Ok(Next::Ask(state))
         }
         Plan::Rename {
             old,
@@ -307,9 +307,9 @@ fn set_out_again<A: Allocator + Copy>(
         Some(stop) => {
             let plan = Plan::Last(operation);
             let state = CallState::new(alloc, stop.node, words, stop.at, plan)?;
-            Ok(Next::Waits(state))
+            Ok(Next::Ask(state))
         }
-        None => Ok(Next::Answered { errno: ENOENT }),
+        None => Ok(Next::Answer { errno: ENOENT }),
     }
 }
 
@@ -326,12 +326,12 @@ fn begin_read<A: Allocator + Copy>(
         ≡ comes_to c call result }
 {
     let Some(opened) = opens.get(handle) else {
-        return Next::Answered { errno: EBADF };
+        return Next::Answer { errno: EBADF };
     };
     if offset > MAX_FILE || size > MAX_TRANSFER {
-        return Next::Answered { errno: EINVAL };
+        return Next::Answer { errno: EINVAL };
     }
-    Next::Waits(CallState::reads(alloc, handle, *opened, offset, size as u32))
+    Next::Ask(CallState::reads(alloc, handle, *opened, offset, size as u32))
 }
 
 /// A call that puts bytes into an open file.
@@ -351,11 +351,11 @@ fn begin_write<A: Allocator + Copy>(
         (λ opened. op.write opened offset bytes.now)) ≡ asking c call state)) }
 {
     let Some(opened) = opens.get(handle) else {
-        return Ok(Next::Answered { errno: EBADF });
+        return Ok(Next::Answer { errno: EBADF });
     };
     if offset > MAX_FILE || bytes.len() as u64 > MAX_TRANSFER {
-        return Ok(Next::Answered { errno: EINVAL });
+        return Ok(Next::Answer { errno: EINVAL });
     }
     let state = CallState::writes(alloc, handle, *opened, offset, bytes)?;
-    Ok(Next::Waits(state))
+    Ok(Next::Ask(state))
 }

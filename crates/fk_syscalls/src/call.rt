@@ -19,7 +19,7 @@ pub enum Call<'a> {
         path: &'a [u8],
         after: u64,
     },
-    /// The same, with each name's file.
+    /// The names of the directory at a path, behind an offset, each with its file.
     ListPlus {
         path: &'a [u8],
         after: u64,

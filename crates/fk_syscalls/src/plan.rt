@@ -31,7 +31,7 @@ pub(crate) enum Plan<S> {
 }
 
 impl Plan<&[u8]> {
-    /// The same, with a copy of its words and names.
+    /// The plan with a copy of its words and names.
     pub(crate) fn to_owned<A: Allocator + Copy>(
         self,
         alloc: A,

@@ -77,9 +77,9 @@ impl<A: Allocator> Model for CallState<A> {
 #[derive(Drop)]
 pub enum Next<A: Allocator = Global> {
     /// It asks anew.
-    Waits(CallState<A>),
+    Ask(CallState<A>),
     /// It is answered by an error number.
-    Answered { errno: u32 },
+    Answer { errno: u32 },
 }
 
 /// The second walk of a call, from the root, as far as the names in force lead. Takes no memory.
@@ -97,13 +97,13 @@ fn second_walk<A: Allocator + Copy>(
         ≡ comes_to c call result }
 {
     match walk(names, clock, ROOT, &words, at) {
-        Some(stop) => Next::Waits(CallState {
+        Some(stop) => Next::Ask(CallState {
             node: stop.node,
             words,
             at: stop.at,
             aim: Aim::Walks(Plan::Last(operation)),
         }),
-        None => Next::Answered { errno: ENOENT },
+        None => Next::Answer { errno: ENOENT },
     }
 }
 
@@ -121,7 +121,7 @@ fn arrived_at<A: Allocator + Copy>(
         → walks_on c call from walked (plan_of (λ s. s.items) plan) ≡ comes_to c call result }
 {
     match plan {
-        Plan::Last(operation) => Next::Waits(CallState {
+        Plan::Last(operation) => Next::Ask(CallState {
             node,
             words,
             at: None,
@@ -236,7 +236,7 @@ impl<A: Allocator + Copy> CallState<A> {
     /// The word that it asked for leads to this node. It walks on as far as the names in force lead at this time, in
     /// milliseconds. Takes no memory.
     #[inline(always)]
-    pub fn found(self, names: &Bindings<A>, clock: u64, node: u64) -> Next<A>
+    pub fn advance(self, names: &Bindings<A>, clock: u64, node: u64) -> Next<A>
         requires { IsWalking self }
         ensures { (c : Vfs Opened) (call directory : ℕ) (word : Name) (words : List Name) (plan : WalkPlan ℕ)
             → HasNames c names.now.names clock → self ≡ walking directory word words plan
@@ -250,14 +250,14 @@ impl<A: Allocator + Copy> CallState<A> {
         } = self;
         let Aim::Walks(plan) = aim else {
             // Ruled out: such a call has no word left.
-            return Next::Answered { errno: ENOENT };
+            return Next::Answer { errno: ENOENT };
         };
         let next = next_place(&words, at);
         let Some(stop) = walk(names, clock, node, &words, next) else {
-            return Next::Answered { errno: ENOENT };
+            return Next::Answer { errno: ENOENT };
         };
         if stop.at.is_some() {
-            return Next::Waits(CallState {
+            return Next::Ask(CallState {
                 node: stop.node,
                 words,
                 at: stop.at,

@@ -91,9 +91,11 @@ pub fn put_listed<A: Allocator>(out: &mut Vec<u8, A>, entry: &Entry, dirent: &Di
     put_dirent(out, dirent);
 }
 
-/// Appends one record. A refused one leaves the vector as it was.
+/// Appends one record (`struct fuse_dirent`).
 ///
-/// Fails with `Name` where the name is no record's name, and with `Memory`.
+/// # Errors
+///
+/// `Name` where the name is no record's name; then `Memory`. The vector is as before.
 #[tactic(auto, using(std::proofs::Common::append_assoc))]
 pub fn put_record<A: Allocator>(out: &mut Vec<u8, A>, dirent: &Dirent<'_>) -> Result<(), WireFault>
     ensures ok { OnOk result (IsRecordName dirent.now.name.now
@@ -113,10 +115,12 @@ pub fn put_record<A: Allocator>(out: &mut Vec<u8, A>, dirent: &Dirent<'_>) -> Re
     Ok(())
 }
 
-/// Appends one pair of an entry and a record. A refused one leaves the vector as it was.
+/// Appends one pair of an entry and a record (`struct fuse_direntplus`).
 ///
-/// Fails with `Body` where the entry's nanoseconds are a second or more, with `Name` where the name
-/// is no record's name, and with `Memory`.
+/// # Errors
+///
+/// `Body` where the entry's nanoseconds are a second or more, `Name` where the name is no record's
+/// name; then `Memory`. The vector is as before.
 #[tactic(auto, using(std::proofs::Common::append_assoc, crate::proofs::Spelled::written_entries))]
 pub fn put_record_plus<A: Allocator>(
     out: &mut Vec<u8, A>,

@@ -16,6 +16,7 @@
 mod bodies;
 mod directory;
 mod entry;
+mod error_frame;
 mod fault;
 mod flags;
 mod limits;
@@ -36,6 +37,7 @@ mod writing_reply;
 
 pub use directory::{put_listed, put_listing_head, put_record, put_record_plus};
 pub use entry::{Attr, Entry};
+pub use error_frame::frame_of_error;
 pub use fault::WireFault;
 pub use flags::InitFlags;
 pub use limits::MAX_FRAME;

@@ -73,10 +73,11 @@ fn request_of(minor: Minor, bytes: &[u8]) -> Result<Request<'_>, WireFault>
     }
 }
 
-/// Reads a request frame, of 7.31.
+/// Reads a request frame, of 7.31: up to 4,176 bytes. Copies no name and no data, and takes no memory.
 ///
-/// A frame has up to 4,176 bytes. The fault is the first of `Short`, `Length`, `Opcode`, `Body` and
-/// `Name` that applies. Reading copies no name and no data, and takes no memory.
+/// # Errors
+///
+/// The first of `Short`, `Length`, `Opcode`, `Body` and `Name` that applies.
 #[inline(always)]
 pub fn read_request(bytes: &[u8]) -> Result<Request<'_>, WireFault>
     // What is read is spelled so.
@@ -90,6 +91,10 @@ pub fn read_request(bytes: &[u8]) -> Result<Request<'_>, WireFault>
 }
 
 /// Reads a request frame of a minor version, as `read_request` does.
+///
+/// # Errors
+///
+/// As `read_request`; `Opcode` also for an opcode that the version does not know.
 #[inline(always)]
 pub fn read_request_at(minor: Minor, bytes: &[u8]) -> Result<Request<'_>, WireFault>
     ensures ok { IfOk result (λ r. SpellsAt minor bytes.now (request_message r)) }
@@ -101,7 +106,9 @@ pub fn read_request_at(minor: Minor, bytes: &[u8]) -> Result<Request<'_>, WireFa
 
 /// Reads the opcode, known or not, and the unique number of a request frame: `struct fuse_in_header`.
 ///
-/// The fault is `Short` or `Length`.
+/// # Errors
+///
+/// `Short`, or else `Length`.
 pub fn read_request_head(bytes: &[u8]) -> Result<(u32, u64), WireFault>
     ensures ok { IfOk result (λ head. HasLength bytes.now × (head.0 ≡ number_at 4 4 bytes.now)
         × (head.1 ≡ number_at 8 8 bytes.now)) }

@@ -180,7 +180,7 @@ fn reply_of(minor: Minor, opcode: Opcode, bytes: &[u8]) -> Result<Reply<'_>, Wir
     ensures ok { IfOk result (λ r. SpellsReplyAt minor opcode bytes.now (reply_message r)) }
     ensures fault { IfErr result (ReplyFaultIsAt minor opcode bytes.now) }
 {
-    let head = read_reply_head(bytes)?;
+    let head = ReplyHead::read(bytes)?;
     let body = body_after(minor, head, opcode, bytes)?;
     Ok(Reply {
         unique: head.unique,
@@ -191,10 +191,13 @@ fn reply_of(minor: Minor, opcode: Opcode, bytes: &[u8]) -> Result<Reply<'_>, Wir
 
 /// Reads the frame of a reply to a request of this opcode, of 7.31: its head, and the body after it.
 ///
-/// A frame has up to 4,176 bytes. The fault is the first of `Short`, `Length`, `ErrorRange`, `Opcode`,
-/// `Body` and `Name` that applies. `Opcode` stands for an opcode that is not known or has no replies.
-/// Of a list of records all faults `Body` come before a fault `Name`. Reading copies nothing and takes
-/// no memory.
+/// A frame has up to 4,176 bytes. Copies nothing and takes no memory.
+///
+/// # Errors
+///
+/// The first of `Short`, `Length`, `ErrorRange`, `Opcode`, `Body` and `Name` that applies. `Opcode`
+/// stands for an opcode that has no replies. Of a list of records all faults `Body` come before a
+/// fault `Name`.
 pub fn read_reply(opcode: Opcode, bytes: &[u8]) -> Result<Reply<'_>, WireFault>
     // What is read is spelled so.
     ensures ok { IfOk result (λ r. SpellsReply opcode bytes.now (reply_message r)) }
@@ -207,6 +210,10 @@ pub fn read_reply(opcode: Opcode, bytes: &[u8]) -> Result<Reply<'_>, WireFault>
 }
 
 /// Reads a reply frame of a minor version, as `read_reply` does.
+///
+/// # Errors
+///
+/// As `read_reply`; `Opcode` also for an opcode that the version does not know.
 pub fn read_reply_at(minor: Minor, opcode: Opcode, bytes: &[u8]) -> Result<Reply<'_>, WireFault>
     ensures ok { IfOk result (λ r. SpellsReplyAt minor opcode bytes.now (reply_message r)) }
     ensures only { (t : ReplyMessage) → SpellsReplyAt minor opcode bytes.now t
@@ -216,31 +223,53 @@ pub fn read_reply_at(minor: Minor, opcode: Opcode, bytes: &[u8]) -> Result<Reply
     reply_of(minor, opcode, bytes)
 }
 
-/// Reads the error and the unique number of a reply frame: `struct fuse_out_header`.
+impl ReplyHead {
+    /// Reads the head of a reply frame, to be handed to `read_reply_body`.
+    ///
+    /// # Errors
+    ///
+    /// As `read_reply_head`.
+    pub fn read(bytes: &[u8]) -> Result<ReplyHead, WireFault>
+        ensures ok { IfOk result (IsReplyHead bytes.now) }
+        ensures fault { (minor : Minor) (o : Opcode) → IfErr result
+            (λ f. ReplyFaultIsAt minor o bytes.now f × IsReplyHeadFault f) }
+    {
+        if bytes.len() < 16 {
+            return Err(WireFault::Short);
+        }
+        if u32_at(bytes, 0) as usize != bytes.len() {
+            return Err(WireFault::Length);
+        }
+        let error = i32_at(bytes, 4);
+        if !is_error_number(error) {
+            return Err(WireFault::ErrorRange);
+        }
+        let unique = u64_at(bytes, 8);
+        Ok(ReplyHead { error, unique })
+    }
+}
+
+/// Reads the error, 0 or a negated error number down to -511, and the unique number of a reply frame:
+/// `struct fuse_out_header`. Takes no memory.
 ///
-/// The fault is the first of `Short`, `Length` and `ErrorRange` that applies.
-pub fn read_reply_head(bytes: &[u8]) -> Result<ReplyHead, WireFault>
-    ensures ok { IfOk result (IsReplyHead bytes.now) }
+/// # Errors
+///
+/// The first of `Short`, `Length` and `ErrorRange` that applies.
+pub fn read_reply_head(bytes: &[u8]) -> Result<(i32, u64), WireFault>
+    ensures ok { IfOk result (λ head. IsReplyHead bytes.now (record { error = head.0; unique = head.1 })) }
     ensures fault { (minor : Minor) (o : Opcode) → IfErr result
         (λ f. ReplyFaultIsAt minor o bytes.now f × IsReplyHeadFault f) }
 {
-    if bytes.len() < 16 {
-        return Err(WireFault::Short);
-    }
-    if u32_at(bytes, 0) as usize != bytes.len() {
-        return Err(WireFault::Length);
-    }
-    let error = i32_at(bytes, 4);
-    if !is_error_number(error) {
-        return Err(WireFault::ErrorRange);
-    }
-    let unique = u64_at(bytes, 8);
-    Ok(ReplyHead { error, unique })
+    let head = ReplyHead::read(bytes)?;
+    Ok((head.error, head.unique))
 }
 
-/// Reads the body of a reply frame of 7.31 whose head was read: `read_reply` without reading the head again.
+/// Reads the body of a reply frame of 7.31 whose head was read (`ReplyHead::read`): `read_reply` without
+/// reading the head again.
 ///
-/// The fault is the first of `Opcode`, `Body` and `Name` that applies.
+/// # Errors
+///
+/// The first of `Opcode`, `Body` and `Name` that applies.
 #[inline(always)]
 pub fn read_reply_body(
     head: ReplyHead,

@@ -94,7 +94,7 @@ pub enum RequestBody<'a> {
         /// How many bytes of records are wanted at most.
         size: u32,
     },
-    /// The same as `Readdir`, for records that come with their entries.
+    /// `struct fuse_read_in` as of `Readdir`, for records that come with their entries.
     Readdirplus {
         offset: u64,
         size: u32,

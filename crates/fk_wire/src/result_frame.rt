@@ -17,7 +17,9 @@ use std::alloc::Allocator;
 /// Reads the frame of a result, 16 bytes like a `struct fuse_out_header`: the result, 0 or a negated
 /// error number down to -511, and the unique number of the reply that it is about.
 ///
-/// The fault is the first of `Short`, `Length`, `ErrorRange` and `Body` that applies.
+/// # Errors
+///
+/// The first of `Short`, `Length`, `ErrorRange` and `Body` that applies.
 #[tactic(auto, using(crate::proofs::OneReply::one_result))]
 pub fn read_result(bytes: &[u8]) -> Result<(i32, u64), WireFault>
     ensures ok { IfOk result (λ r. SpellsResult bytes.now r.0 r.1) }
@@ -41,9 +43,11 @@ pub fn read_result(bytes: &[u8]) -> Result<(i32, u64), WireFault>
     Ok((error, u64_at(bytes, 8)))
 }
 
-/// Appends the frame of a result. A refused one leaves the vector as it was.
+/// Appends the frame of a result.
 ///
-/// Fails with `ErrorRange` where the result is no error number, and with `Memory`.
+/// # Errors
+///
+/// `ErrorRange` where the result is no error number; then `Memory`. The vector is as before.
 #[tactic(auto, using(std::proofs::Common::append_assoc))]
 pub fn write_result<A: Allocator>(
     out: &mut Vec<u8, A>,

@@ -31,10 +31,11 @@ fn put_header<A: Allocator>(out: &mut Vec<u8, A>, len: u32, code: u32, unique: u
     put_two_u32(out, 0, 0);
 }
 
-/// Appends one pair of a node id and how many lookups of it are forgotten. A refused one leaves the
-/// vector as it was.
+/// Appends one pair of a node id and how many lookups of it are forgotten (`struct fuse_forget_one`).
 ///
-/// Fails with `Memory` alone.
+/// # Errors
+///
+/// `Memory` alone. The vector is as before.
 #[tactic(auto, using(std::proofs::Common::append_assoc))]
 pub fn put_pair<A: Allocator>(
     out: &mut Vec<u8, A>,
@@ -52,9 +53,11 @@ pub fn put_pair<A: Allocator>(
     Ok(())
 }
 
-/// Appends the frame of a request, of 7.31. A refused one leaves the vector as it was.
+/// Appends the frame of a request, of 7.31.
 ///
-/// The fault is the first of `Opcode`, `Body`, `Name` and `Memory` that applies.
+/// # Errors
+///
+/// The first of `Opcode`, `Body`, `Name` and `Memory` that applies. The vector is as before.
 pub fn write_request<A: Allocator>(
     out: &mut Vec<u8, A>,
     request: &Request<'_>,
@@ -70,8 +73,11 @@ pub fn write_request<A: Allocator>(
     write_request_at(served_minor(), out, request)
 }
 
-/// Appends the frame of a request of a minor version, as `write_request` does. A request whose
-/// opcode the version does not know is refused with `Opcode`.
+/// Appends the frame of a request of a minor version, as `write_request` does.
+///
+/// # Errors
+///
+/// As `write_request`; `Opcode` also for a request whose opcode the version does not know.
 pub fn write_request_at<A: Allocator>(
     minor: Minor,
     out: &mut Vec<u8, A>,

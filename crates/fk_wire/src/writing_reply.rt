@@ -160,9 +160,11 @@ fn put_reply_body<A: Allocator>(out: &mut Vec<u8, A>, body: &ReplyBody<'_>)
     }
 }
 
-/// Appends the frame of a reply, of 7.31. A refused one leaves the vector as it was.
+/// Appends the frame of a reply, of 7.31.
 ///
-/// The fault is the first of `ErrorRange`, `Opcode`, `Body` and `Memory` that applies.
+/// # Errors
+///
+/// The first of `ErrorRange`, `Opcode`, `Body` and `Memory` that applies. The vector is as before.
 pub fn write_reply<A: Allocator>(out: &mut Vec<u8, A>, reply: &Reply<'_>) -> Result<(), WireFault>
     ensures ok { OnOk result ((frame : List ℕ) × WrittenReply (reply_message reply.now) frame
         × (out.new.items ≡ out.old.items ++ frame)) }
@@ -175,8 +177,12 @@ pub fn write_reply<A: Allocator>(out: &mut Vec<u8, A>, reply: &Reply<'_>) -> Res
     write_reply_at(served_minor(), out, reply)
 }
 
-/// Appends the frame of a reply of a minor version, as `write_reply` does. A body that only
-/// replies to opcodes have which the version does not know is refused with `Opcode`.
+/// Appends the frame of a reply of a minor version, as `write_reply` does.
+///
+/// # Errors
+///
+/// As `write_reply`; `Opcode` also for a body that only replies to opcodes have which the version does
+/// not know.
 #[tactic(auto, using(crate::proofs::ReplyNames::names_hold))]
 pub fn write_reply_at<A: Allocator>(
     minor: Minor,

@@ -23,8 +23,11 @@ use fuse_spec::{Minor, Opened, Operation, Validity};
 use std::alloc::{AllocError, Allocator};
 
 impl<S: NodeStore> Files<S> {
-    /// What a held request comes to, on the tree as it is now; an INIT is answered this minor. Where memory is wanting
-    /// nothing changes.
+    /// What a held request comes to, on the tree as it is now; an INIT is answered this minor.
+    ///
+    /// # Errors
+    ///
+    /// Memory was wanting. Nothing changes.
     #[inline(always)]
     pub fn answer(
         &mut self,

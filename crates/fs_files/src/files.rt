@@ -52,6 +52,10 @@ impl<S: NodeStore> Model for Files<S> {
 
 impl<S: NodeStore> Files<S> {
     /// The root alone, and nothing known.
+    ///
+    /// # Errors
+    ///
+    /// Memory was wanting.
     pub fn new(alloc: S::Heap) -> Result<Self, AllocError>
         ensures tree { IfOk result (λ files. files.tree ≡ only_root) }
         ensures nodes { IfOk result (λ files. files.nodes ≡ no_nodes) }
@@ -67,6 +71,10 @@ impl<S: NodeStore> Files<S> {
     }
 
     /// Makes room for the nodes and the open number that one more reply gives.
+    ///
+    /// # Errors
+    ///
+    /// Memory was wanting, and that room was not there. What is known is as before.
     pub fn reserve(&mut self) -> Result<(), AllocError>
         ensures tree { self.new.tree ≡ self.old.tree }
         ensures nodes { self.new.nodes ≡ self.old.nodes }

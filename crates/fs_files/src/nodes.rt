@@ -60,6 +60,10 @@ impl<S: NodeStore> Nodes<S> {
     }
 
     /// Makes room for as many more nodes as one reply gives at most.
+    ///
+    /// # Errors
+    ///
+    /// Memory was wanting, and that room was not there. The nodes are as before.
     pub fn reserve(&mut self) -> Result<(), AllocError>
         ensures table { self.new.table ≡ self.old.table }
         ensures room { OnOk result (32 ≤ self.new.room) }
@@ -321,6 +325,10 @@ impl<S: NodeStore> Nodes<S> {
     }
 
     /// The nodes but the root, in rising nodeid, each with its generation and its lookup count.
+    ///
+    /// # Errors
+    ///
+    /// Memory was wanting.
     pub fn nodes(&self, alloc: S::Heap) -> Result<Vec<(u64, u64, u64), S::Heap>, AllocError>
         ensures { IfOk result (λ nodes. nodes.items ≡ listed self.now.table.rows) }
     {

@@ -102,7 +102,7 @@ pub fn body_len<A: Allocator>(reply: &SentReply<A>) -> usize
     }
 }
 
-/// The same reply once more, in room that is there.
+/// This reply once more, in room that is there.
 #[inline(always)]
 pub fn copied<A: Allocator>(reply: &SentReply<A>, spare: ReplySpare<A>) -> SentReply<A>
     requires { HasSpare spare (sent_len reply.now) (sent_names reply.now) }

@@ -23,6 +23,10 @@ impl<A: Allocator + Copy> ReplySpare<A> {
     ghost use Rattle.fs_files.specs.Replies.{HasSpare};
 
     /// Room for so many bytes and names.
+    ///
+    /// # Errors
+    ///
+    /// Memory was wanting.
     #[inline(always)]
     pub fn new(alloc: A, len: usize, names: usize) -> Result<Self, AllocError>
         ensures { IfOk result (λ spare. HasSpare spare len names) }
@@ -62,7 +66,7 @@ impl<A: Allocator> ListedNames<A> {
         128 * self.entries.len() + self.records.len()
     }
 
-    /// The same names once more, in room that is there.
+    /// These names once more, in room that is there.
     pub fn copied(&self, spare: ReplySpare<A>) -> ListedNames<A>
         requires { HasSpare spare (length self.now.records.items) (length self.now.entries.items) }
         ensures { listed_pairs result.found_ms result.entries.items result.records.items

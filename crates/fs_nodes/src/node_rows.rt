@@ -27,6 +27,10 @@ pub trait NodeRows {
         ensures { rows result ≡ [] };
 
     /// Makes room for so many more nodes. Only this call and `nodes` take memory.
+    ///
+    /// # Errors
+    ///
+    /// Memory was wanting, and that room was not there. The nodes are as before.
     fn reserve(&mut self, more: usize) -> Result<(), AllocError>
         ensures rows { rows self.new ≡ rows self.old }
         ensures room { OnOk result (more ≤ room self.new) }
@@ -69,6 +73,10 @@ pub trait NodeRows {
         ensures room { room self.old ≤ room self.new };
 
     /// The nodes in rising nodeid, each with its generation and its lookup count.
+    ///
+    /// # Errors
+    ///
+    /// Memory was wanting.
     fn nodes(&self, alloc: Self::Heap) -> Result<Vec<(u64, u64, u64), Self::Heap>, AllocError>
         ensures { IfOk result (λ nodes. nodes.items ≡ listed (rows self.now)) };
 }

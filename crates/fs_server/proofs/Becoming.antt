@@ -16,7 +16,7 @@ use Rattle.fuse_frames.specs.RequestTies.{body_in}
 use Rattle.fs_server.specs.declared.server.ServerFault.{ServerFault}
 use Rattle.fs_server.specs.declared.server.ServerFault.TheVariants.{Memory}
 use Rattle.fs_server.specs.declared.server.ServerFault.TheVariants as fault
-use Rattle.fs_server.specs.declared.server.Took.{Took}
+use Rattle.fs_server.specs.declared.server.Taken.{Taken}
 use Rattle.fuse_spec.specs.Server.Refusals.{is_past_end}
 use Rattle.fs_server.specs.Effects.{CanTake, TakesFrame, RefusesFrame, past_or_memory, request_fault}
 use Rattle.fs_server.specs.Interrupts.{Interrupts}
@@ -115,8 +115,8 @@ module _ (s : Server) (bytes : List ℕ) (m : RequestMessage) (right : IsTakeabl
   refused fault memory = refuses_for s bytes m right.spells right.only
       (body_of m.nodeid m.content) fault asked_body faultless (memory ∙ sym (ap past_or_memory within))
 
-  pub held_so : {A : Type 0} → is_held m.nodeid m.content ≡ true → (new : Server) (r : Result (Took A) ServerFault)
-      → IfErr r (λ f. f ≡ Memory) → IfOk r (λ t. t ≡ record { unique = m.unique; word = Held; copy = None })
+  pub held_so : {A : Type 0} → is_held m.nodeid m.content ≡ true → (new : Server) (r : Result (Taken A) ServerFault)
+      → IfErr r (λ f. f ≡ Memory) → IfOk r (λ t. t ≡ record { unique = m.unique; word = Held; sent = None })
       → OnOk r (new ≡ holding s m.unique (body_of m.nodeid m.content))
       → MatchResult r (λ t. TakesFrame s bytes t new) (RefusesFrame s bytes)
   held_so is new (Ok t) memory e server =
@@ -124,7 +124,7 @@ module _ (s : Server) (bytes : List ℕ) (m : RequestMessage) (right : IsTakeabl
   held_so is new (Err f) memory e after = refused f memory
 
   pub interrupted_so : {A : Type 0} (original : ℕ) → m.content ≡ wire.interrupt original
-      → (new : Server) (r : Result (Took A) ServerFault) → IfErr r (λ f. f ≡ Memory)
+      → (new : Server) (r : Result (Taken A) ServerFault) → IfErr r (λ f. f ≡ Memory)
       → IfOk r (λ t. Interrupts s m.unique original t new)
       → MatchResult r (λ t. TakesFrame s bytes t new) (RefusesFrame s bytes)
   interrupted_so original is new (Ok t) e i = let spelled = right.spells in let none =

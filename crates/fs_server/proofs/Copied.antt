@@ -7,7 +7,6 @@ use Rattle.fuse_spec.specs.declared.Minor.{Minor}
 use Rattle.fuse_spec.specs.Values.Maps.{Map, get, put, remove}
 use Rattle.fuse_spec.specs.declared.Entry.{Entry}
 use Rattle.fuse_spec.specs.declared.Refusal.TheVariants.{NoCopy, Exhausted}
-use Rattle.fuse_spec.specs.declared.ReplyResult.{ReplyResult}
 use Rattle.fuse_spec.specs.declared.Validity.{Validity}
 use Rattle.fuse_spec.specs.declared.WriteResult.{WriteResult}
 use Rattle.fuse_spec.specs.declared.WriteResult.TheVariants.{Accepted, NoEntry, Invalid}
@@ -122,13 +121,13 @@ module _ (files two : FilesState) (held : Map HeldRequest) (kept : Map Kept) (co
 
 module _ (files two : FilesState) (held : Map HeldRequest) (kept : Map Kept) (copies : Map Copy) (next : ℕ)
     (v : Validity) (m : Minor) (a : Bool) where
-  pub settles : (result : ReplyResult) (copy : Copy) → get copies result.number ≡ Some copy
-      → SettlesFiles files copy.wire result.result two
-      → Settles (server_with files held kept copies next v m a) result
-      (server_with two held (kept_after kept copy (get kept copy.unique)) (remove copies result.number) next v m a)
-  settles result copy there left = record {
+  pub settles : (number : ℕ) (result : WriteResult) (copy : Copy) → get copies number ≡ Some copy
+      → SettlesFiles files copy.wire result two
+      → Settles (server_with files held kept copies next v m a) number result
+      (server_with two held (kept_after kept copy (get kept copy.unique)) (remove copies number) next v m a)
+  settles number result copy there left = record {
     copy = copy;
     there = there;
     after = result_is files two held (kept_after kept copy (get kept copy.unique))
-        (remove copies result.number) next v m a copy.wire result.result left;
+        (remove copies number) next v m a copy.wire result left;
   }

@@ -15,7 +15,7 @@ use Rattle.fk_wire.specs.Requests.{RequestContent, RequestMessage, Spells}
 use Rattle.fuse_frames.specs.RequestTies.{SaysRequest, body_in}
 use Rattle.fs_server.specs.declared.server.ServerFault.{ServerFault}
 use Rattle.fs_server.specs.declared.server.ServerFault.TheVariants.{Wire, UnknownNode, TooManyForgets, RepeatedUnique}
-use Rattle.fs_server.specs.declared.server.Took.{Took}
+use Rattle.fs_server.specs.declared.server.Taken.{Taken}
 use Rattle.fuse_spec.specs.Server.Refusals.{is_past_end}
 use Rattle.fs_server.specs.Effects.{TakesFrame, RefusesFrame, request_fault, as_fault, copy_of, fault_or, past_or_memory, refused_for}
 use Rattle.fs_server.specs.Interrupts.{Interrupts}
@@ -209,11 +209,11 @@ module _ (s : Server) (bytes : List ℕ) (unique nodeid : ℕ) where
   message content = record { unique = unique; nodeid = nodeid; content = content }
 
   -- the request that is taken, and what becomes of it
-  so : {A : Type 0} (content : RequestContent) (body : RequestBody) (took : Took A) (new : Server)
-      → body_in nodeid content ≡ Some body → unique ≡ took.unique → (taking s unique body).word ≡ took.word
-      → new ≡ (taking s unique body).server → took.copy ≡ copy_of s.next_copy unique (taking s unique body).reply
-      → Spells bytes (message content) → fault_in s (message content) ≡ None → TakesFrame s bytes took new
-  so content body took new is under word_is server copy spells e = record {
+  so : {A : Type 0} (content : RequestContent) (body : RequestBody) (taken : Taken A) (new : Server)
+      → body_in nodeid content ≡ Some body → unique ≡ taken.unique → (taking s unique body).word ≡ taken.word
+      → new ≡ (taking s unique body).server → taken.sent ≡ copy_of s.next_copy unique (taking s unique body).reply
+      → Spells bytes (message content) → fault_in s (message content) ≡ None → TakesFrame s bytes taken new
+  so content body taken new is under word_is server copy spells e = record {
     request = record { unique = unique; body = body };
     says = record { message = message content; spells = spells; unique = refl; says = is };
     under = under;
@@ -233,34 +233,34 @@ module _ (s : Server) (bytes : List ℕ) (unique nodeid : ℕ) where
   taken_so (interrupt original) is = absurd (true≢false (sym is))
 
   -- an INTERRUPT
-  pub interrupts : {A : Type 0} (original : ℕ) (took : Took A) (new : Server) → Interrupts s unique original took new
+  pub interrupts : {A : Type 0} (original : ℕ) (taken : Taken A) (new : Server) → Interrupts s unique original taken new
       → Spells bytes (message (wire.interrupt original)) → fault_in s (message (wire.interrupt original)) ≡ None
-      → TakesFrame s bytes took new
-  interrupts original took new i = so (wire.interrupt original) (interrupt original) took new refl (sym i.under)
+      → TakesFrame s bytes taken new
+  interrupts original taken new i = so (wire.interrupt original) (interrupt original) taken new refl (sym i.under)
       (sym i.word) i.after i.copy
 
-  module _ {A : Type 0} (took : Took A) (new : Server) where
+  module _ {A : Type 0} (taken : Taken A) (new : Server) where
     -- what is held
     pub holds : (content : RequestContent) → is_held nodeid content ≡ true
-        → took ≡ record { unique = unique; word = Held; copy = None }
+        → taken ≡ record { unique = unique; word = Held; sent = None }
         → new ≡ holding s unique (body_of nodeid content) → Spells bytes (message content)
-        → fault_in s (message content) ≡ None → TakesFrame s bytes took new
+        → fault_in s (message content) ≡ None → TakesFrame s bytes taken new
     holds content is e server =
         let held = taken_so (body_of nodeid content) is in
-        so content (body_of nodeid content) took new (asked_so nodeid content) (sym (ap (λ (t : Took A). t.unique) e))
-        (ap (λ (t : TakeResult). t.word) held ∙ sym (ap (λ (t : Took A). t.word) e))
+        so content (body_of nodeid content) taken new (asked_so nodeid content) (sym (ap (λ (t : Taken A). t.unique) e))
+        (ap (λ (t : TakeResult). t.word) held ∙ sym (ap (λ (t : Taken A). t.word) e))
         (server ∙ sym (ap (λ (t : TakeResult). t.server) held))
-        (ap (λ (t : Took A). t.copy) e ∙ sym (ap (λ (t : TakeResult). copy_of s.next_copy unique t.reply) held))
+        (ap (λ (t : Taken A). t.sent) e ∙ sym (ap (λ (t : TakeResult). copy_of s.next_copy unique t.reply) held))
 
     -- lookups that are given back
     pub forgets : (content : RequestContent) → is_forgetting content ≡ true
-        → took ≡ record { unique = unique; word = Forgot; copy = None }
+        → taken ≡ record { unique = unique; word = Forgot; sent = None }
         → new ≡ forgetting s (forgets_in nodeid content) → Spells bytes (message content)
-        → fault_in s (message content) ≡ None → TakesFrame s bytes took new
-    forgets (wire.forget n) is e server = so (wire.forget n) (forget (nodeid, n)) took new refl
-        (sym (ap (λ (t : Took A). t.unique) e)) (sym (ap (λ (t : Took A). t.word) e)) server
-        (ap (λ (t : Took A). t.copy) e)
-    forgets (wire.batch_forget fs) is e server = so (wire.batch_forget fs) (batch_forget fs) took new refl
-        (sym (ap (λ (t : Took A). t.unique) e)) (sym (ap (λ (t : Took A). t.word) e)) server
-        (ap (λ (t : Took A). t.copy) e)
+        → fault_in s (message content) ≡ None → TakesFrame s bytes taken new
+    forgets (wire.forget n) is e server = so (wire.forget n) (forget (nodeid, n)) taken new refl
+        (sym (ap (λ (t : Taken A). t.unique) e)) (sym (ap (λ (t : Taken A). t.word) e)) server
+        (ap (λ (t : Taken A). t.sent) e)
+    forgets (wire.batch_forget fs) is e server = so (wire.batch_forget fs) (batch_forget fs) taken new refl
+        (sym (ap (λ (t : Taken A). t.unique) e)) (sym (ap (λ (t : Taken A). t.word) e)) server
+        (ap (λ (t : Taken A). t.sent) e)
     forgets content is e server = absurd (true≢false (sym is))

@@ -13,7 +13,7 @@ use Rattle.fuse_spec.specs.Server.Server.{Server, HeldRequest, Kept}
 use Rattle.fuse_spec.specs.Server.Taking.{TakeResult, interrupting, taking}
 use Rattle.fuse_spec.specs.declared.Taken.TheVariants.{Marked, Ignored, Again}
 use Rattle.fuse_spec.proofs.Tables.{get_put_here, get_put_there, get_gone_there}
-use Rattle.fs_server.specs.declared.server.Took.{Took}
+use Rattle.fs_server.specs.declared.server.Taken.{Taken}
 use Rattle.fuse_spec.specs.Server.Refusals.{is_past_end}
 use Rattle.fs_server.specs.Effects.{copy_of}
 use Rattle.fs_server.specs.Interrupts.{Interrupts, AsksAgain}
@@ -46,10 +46,10 @@ module _ (s : Server) (unique original : ℕ) where
   abbrev comes : TakeResult
   comes = taking s unique (interrupt original)
 
-  by_result : {A : Type 0} (t : TakeResult) → comes ≡ t → (took : Took A) (new : Server) → took.unique ≡ unique
-      → took.word ≡ t.word → new ≡ t.server → took.copy ≡ copy_of s.next_copy unique t.reply
-      → Interrupts s unique original took new
-  by_result t e took new under word server copy = record {
+  by_result : {A : Type 0} (t : TakeResult) → comes ≡ t → (taken : Taken A) (new : Server) → taken.unique ≡ unique
+      → taken.word ≡ t.word → new ≡ t.server → taken.sent ≡ copy_of s.next_copy unique t.reply
+      → Interrupts s unique original taken new
+  by_result t e taken new under word server copy = record {
     under = under;
     word = word ∙ sym (ap (λ (r : TakeResult). r.word) e);
     after = server ∙ sym (ap (λ (r : TakeResult). r.server) e);
@@ -57,46 +57,46 @@ module _ (s : Server) (unique original : ℕ) where
   }
 
   -- a request that is held is marked
-  pub marks : {A : Type 0} → is_some (get s.held original) ≡ true → (took : Took A)
-      → took ≡ record { unique = unique; word = Marked; copy = None } → (new : Server)
+  pub marks : {A : Type 0} → is_some (get s.held original) ≡ true → (taken : Taken A)
+      → taken ≡ record { unique = unique; word = Marked; sent = None } → (new : Server)
       → ((h : HeldRequest) → get s.held original ≡ Some h
       → new ≡ record s { held = put s.held original (record h { marked = true }) })
-      → Interrupts s unique original took new
-  marks {A} some took e new marked = by (get s.held original) refl some
+      → Interrupts s unique original taken new
+  marks {A} some taken e new marked = by (get s.held original) refl some
     where
-      by : (o : Option HeldRequest) → get s.held original ≡ o → is_some o ≡ true → Interrupts s unique original took new
+      by : (o : Option HeldRequest) → get s.held original ≡ o → is_some o ≡ true → Interrupts s unique original taken new
       by None there some = absurd (true≢false (sym some))
       by (Some h) there some =
           by_result (interrupting s unique original (Some h) (get s.kept original))
-          (ap (λ (o : Option HeldRequest). interrupting s unique original o (get s.kept original)) there) took new
-          (ap (λ (t : Took A). t.unique) e) (ap (λ (t : Took A). t.word) e) (marked h there)
-          (ap (λ (t : Took A). t.copy) e)
+          (ap (λ (o : Option HeldRequest). interrupting s unique original o (get s.kept original)) there) taken new
+          (ap (λ (t : Taken A). t.unique) e) (ap (λ (t : Taken A). t.word) e) (marked h there)
+          (ap (λ (t : Taken A). t.sent) e)
 
   module _ (unheld : is_some (get s.held original) ≡ false) where
     none : get s.held original ≡ None
     none = none_of (get s.held original) unheld
 
     -- the kept reply of the request ignores it
-    pub ignores : {A : Type 0} → is_some (get s.kept original) ≡ true → (took : Took A)
-        → took ≡ record { unique = unique; word = Ignored; copy = None } → Interrupts s unique original took s
-    ignores {A} some took e = by (get s.kept original) refl some
+    pub ignores : {A : Type 0} → is_some (get s.kept original) ≡ true → (taken : Taken A)
+        → taken ≡ record { unique = unique; word = Ignored; sent = None } → Interrupts s unique original taken s
+    ignores {A} some taken e = by (get s.kept original) refl some
       where
-        by : (o : Option Kept) → get s.kept original ≡ o → is_some o ≡ true → Interrupts s unique original took s
+        by : (o : Option Kept) → get s.kept original ≡ o → is_some o ≡ true → Interrupts s unique original taken s
         by None there some = absurd (true≢false (sym some))
         by (Some k) there some =
             by_result (interrupting s unique original None (Some k))
-            (λ i. interrupting s unique original (none i) (there i)) took s (ap (λ (t : Took A). t.unique) e)
-            (ap (λ (t : Took A). t.word) e) refl (ap (λ (t : Took A). t.copy) e)
+            (λ i. interrupting s unique original (none i) (there i)) taken s (ap (λ (t : Taken A). t.unique) e)
+            (ap (λ (t : Taken A). t.word) e) refl (ap (λ (t : Taken A). t.sent) e)
 
     module _ (unkept : is_some (get s.kept original) ≡ false) where
       unknown : comes ≡ interrupting s unique original None None
       unknown = λ i. interrupting s unique original (none i) (none_of (get s.kept original) unkept i)
 
       -- and that of one that isn't known is answered
-      pub answers : {A : Type 0} (took : Took A) (new : Server) → AsksAgain s unique took new
-          → Interrupts s unique original took new
-      answers took new asks = by_result
-          (interrupting s unique original None None) unknown took new asks.under asks.word asks.after asks.copy
+      pub answers : {A : Type 0} (taken : Taken A) (new : Server) → AsksAgain s unique taken new
+          → Interrupts s unique original taken new
+      answers taken new asks = by_result
+          (interrupting s unique original None None) unknown taken new asks.under asks.word asks.after asks.copy
 
       pub asks_again : comes.word ≡ Again
       asks_again = ap (λ (r : TakeResult). r.word) unknown

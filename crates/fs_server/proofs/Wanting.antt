@@ -71,15 +71,15 @@ module _ (s : Server) (bytes : List ℕ) (m : RequestMessage) (right : IsTakeabl
   -- the same of what comes of it
   pub hold_wants : {T : Type 0} → is_held m.nodeid m.content ≡ true → (r : Result T ServerFault)
       → IfErr r (λ fault. fault ≡ Memory → WantsMemory s bytes)
-  hold_wants is (Ok took) = tt
+  hold_wants is (Ok taken) = tt
   hold_wants is (Err fault) = λ memory. held_wants is
 
   pub answer_wants : {T : Type 0} (original : ℕ) → m.content ≡ wire.interrupt original → (r : Result T ServerFault)
       → OnErr r ((taking s m.unique (interrupt original)).word ≡ Again)
       → IfErr r (λ fault. fault ≡ Memory → WantsMemory s bytes)
-  answer_wants original is (Ok took) word = tt
+  answer_wants original is (Ok taken) word = tt
   answer_wants original is (Err fault) word = λ memory. interrupt_wants original is word
 
   pub memory_can : {T : Type 0} → (r : Result T ServerFault) → IfErr r (λ fault. fault ≡ Memory → CanTake s bytes)
-  memory_can (Ok took) = tt
+  memory_can (Ok taken) = tt
   memory_can (Err fault) = λ memory. can_take s bytes m right

@@ -13,8 +13,7 @@ use Rattle.fuse_spec.specs.Kernel.Refusals.{refusal_in, accepted}
 use Rattle.fuse_spec.specs.Server.Refusals.{is_past_end, to_perform, to_send_again}
 use Rattle.fuse_spec.specs.Values.Numbers.{counter_end}
 use Rattle.fuse_spec.specs.declared.Entry.{Entry}
-use Rattle.fuse_spec.specs.declared.ReplyResult.{ReplyResult}
-use Rattle.fuse_spec.specs.declared.Taken.{Taken}
+use Rattle.fuse_spec.specs.declared.Taken.{Taken as TakenWord}
 use Rattle.fuse_spec.specs.declared.Taken.TheVariants.{Held, Forgot, Marked, Ignored, Again}
 use Rattle.fuse_spec.specs.declared.Refusal.{Refusal}
 use Rattle.fuse_spec.specs.declared.Refusal.TheVariants.{NoSuch, Exhausted}
@@ -28,7 +27,7 @@ use Rattle.fs_files.specs.Values.{FilesState, server_of}
 use Rattle.fs_server.specs.declared.server.ServerFault.{ServerFault}
 use Rattle.fs_server.specs.declared.server.ServerFault.TheVariants.{Wire, UnknownNode, TooManyForgets, RepeatedUnique, Memory}
 use Rattle.fs_server.specs.declared.server.ServerFault.TheVariants as fault
-use Rattle.fs_server.specs.declared.server.Took.{Took}
+use Rattle.fs_server.specs.declared.server.Taken.{Taken}
 
 abbrev pub as_fault : Option RequestFault → Option ServerFault
 as_fault None = None
@@ -78,14 +77,14 @@ copy_of number unique None = None
 copy_of number unique (Some wire) = Some (record { number = number; unique = unique; wire = wire })
 
 -- A frame is taken as the request that it spells, which has no fault.
-pub record TakesFrame {A : Type 0} (old : Server) (bytes : List ℕ) (took : Took A) (new : Server) : Type 0 where
+pub record TakesFrame {A : Type 0} (old : Server) (bytes : List ℕ) (taken : Taken A) (new : Server) : Type 0 where
   pub request : Request
   pub says : SaysRequest bytes request
-  pub under : request.unique ≡ took.unique
+  pub under : request.unique ≡ taken.unique
   pub faultless : request_fault old request.unique (Some request.body) ≡ None
-  pub as_word : (taking old request.unique request.body).word ≡ took.word
+  pub as_word : (taking old request.unique request.body).word ≡ taken.word
   pub after : new ≡ (taking old request.unique request.body).server
-  pub copy : took.copy ≡ copy_of old.next_copy request.unique (taking old request.unique request.body).reply
+  pub copy : taken.sent ≡ copy_of old.next_copy request.unique (taking old request.unique request.body).reply
 
 -- A frame is refused for the first fault of the request that it spells, or for want of a number or of memory, and where
 -- it spells none as no request.
@@ -94,7 +93,7 @@ pub record RefusesFrame (old : Server) (bytes : List ℕ) (fault : ServerFault) 
   pub of_none : ((request : Request) → SaysRequest bytes request → ⊥) → fault ≡ Wire
 
 -- Whether a request that is taken with this word takes memory: what is held does, and what is answered at once.
-abbrev pub takes_memory : Taken → Bool
+abbrev pub takes_memory : TakenWord → Bool
 takes_memory Held = true
 takes_memory Again = true
 takes_memory Forgot = false
@@ -137,14 +136,14 @@ SettlesFiles old wire NoEntry new = GivesBack old wire new
 SettlesFiles old wire Invalid new = GivesBack old wire new
 
 -- A copy that was sent is settled by the result of its write.
-pub record Settles (old : Server) (result : ReplyResult) (new : Server) : Type 0 where
+pub record Settles (old : Server) (number : ℕ) (result : WriteResult) (new : Server) : Type 0 where
   pub copy : Copy
-  pub there : get old.copies result.number ≡ Some copy
-  pub after : new ≡ settled old result.number copy result.result
+  pub there : get old.copies number ≡ Some copy
+  pub after : new ≡ settled old number copy result
 
 -- Nothing to settle: no copy of this number was sent, or it is settled already.
-pub record HasNoCopy (old : Server) (result : ReplyResult) (refusal : Refusal) : Type 0 where
-  pub absent : get old.copies result.number ≡ None
+pub record HasNoCopy (old : Server) (number : ℕ) (refusal : Refusal) : Type 0 where
+  pub absent : get old.copies number ≡ None
   pub no_such : refusal ≡ NoSuch
 
 -- whether a kept reply is the one whose first copy has this number

@@ -1,5 +1,5 @@
 -- Replies to faulty request frames.
-use Rattle.std.specs.Prelude.{◌≡◌, ◌≢◌, ◌-◌, ◌++◌, ◌||◌, ◌⊎◌, ℕ, ℤ, Bool, true, false, IsTrue, List, negsuc, nat_eq}
+use Rattle.std.specs.Prelude.{◌≡◌, ◌≢◌, ◌-◌, ◌||◌, ◌⊎◌, ℕ, ℤ, Bool, true, false, IsTrue, List, negsuc, nat_eq}
 use Rattle.fk_wire.specs.declared.opcode.Opcode.{Opcode}
 use Rattle.fk_wire.specs.Faults.{HasLength}
 use Rattle.fk_wire.specs.Fields.{number_at}
@@ -34,10 +34,9 @@ IsErrorOf minor code error =
     (((o : Opcode) × IsTrue (knows (codec_minor minor) o) × (code_of o ≡ code)) × (error ≡ negsuc (eio - 1)))
     ⊎ (((o : Opcode) → IsTrue (knows (codec_minor minor) o) → code_of o ≢ code) × (error ≡ negsuc (enosys - 1)))
 
--- The error reply to a frame is appended: the header alone, with the frame's unique.
-pub record FaultReplied (minor : Minor) (bytes old new : List ℕ) : Type 0 where
+-- The error reply to a frame whose fault is replied to: the header alone, with the frame's unique.
+pub record IsFaultReply (minor : Minor) (bytes : List ℕ) (fault : ServerFault) (reply : List ℕ) : Type 0 where
+  pub answerable : IsAnswerable bytes fault
   pub error : ℤ
   pub of_opcode : IsErrorOf minor (number_at 4 4 bytes) error
-  pub frame : List ℕ
-  pub written : WrittenReply (record { unique = number_at 8 8 bytes; error = error; content = empty_reply }) frame
-  pub appended : new ≡ old ++ frame
+  pub written : WrittenReply (record { unique = number_at 8 8 bytes; error = error; content = empty_reply }) reply

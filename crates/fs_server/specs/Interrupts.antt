@@ -6,19 +6,19 @@ use Rattle.fuse_spec.specs.Kernel.Messages.{interrupt}
 use Rattle.fuse_spec.specs.Server.Server.{Server, sending}
 use Rattle.fuse_spec.specs.Server.Taking.{taking}
 use Rattle.fuse_spec.specs.declared.Taken.TheVariants.{Again}
-use Rattle.fs_server.specs.declared.server.Took.{Took}
+use Rattle.fs_server.specs.declared.server.Taken.{Taken}
 use Rattle.fs_server.specs.Effects.{copy_of}
 
 -- An INTERRUPT is taken so.
-pub record Interrupts {A : Type 0} (old : Server) (unique original : ℕ) (took : Took A) (new : Server) : Type 0 where
-  pub under : took.unique ≡ unique
-  pub word : took.word ≡ (taking old unique (interrupt original)).word
+pub record Interrupts {A : Type 0} (old : Server) (unique original : ℕ) (taken : Taken A) (new : Server) : Type 0 where
+  pub under : taken.unique ≡ unique
+  pub word : taken.word ≡ (taking old unique (interrupt original)).word
   pub after : new ≡ (taking old unique (interrupt original)).server
-  pub copy : took.copy ≡ copy_of old.next_copy unique (taking old unique (interrupt original)).reply
+  pub copy : taken.sent ≡ copy_of old.next_copy unique (taking old unique (interrupt original)).reply
 
 -- The same of one that is answered EAGAIN.
-pub record AsksAgain {A : Type 0} (old : Server) (unique : ℕ) (took : Took A) (new : Server) : Type 0 where
-  pub under : took.unique ≡ unique
-  pub word : took.word ≡ Again
+pub record AsksAgain {A : Type 0} (old : Server) (unique : ℕ) (taken : Taken A) (new : Server) : Type 0 where
+  pub under : taken.unique ≡ unique
+  pub word : taken.word ≡ Again
   pub after : new ≡ sending old unique (failed eagain) old.next_copy
-  pub copy : took.copy ≡ Some (record { number = old.next_copy; unique = unique; wire = failed eagain })
+  pub copy : taken.sent ≡ Some (record { number = old.next_copy; unique = unique; wire = failed eagain })

@@ -21,7 +21,7 @@ use fs_files::{
     opened,
 };
 use fs_nodes::NodeStore;
-use fuse_frames::{ReplyCopy, ReplyRoom};
+use fuse_frames::{ReplyRoom, Sent};
 use fuse_spec::limits::COUNTER_END;
 use fuse_spec::{Entry, Refusal};
 use std::alloc::AllocError;
@@ -57,7 +57,7 @@ impl<S: NodeStore> ServerOf<S> {
     /// `NoCopy` where no reply is kept under the unique, or a node or open number that it names is no longer held, the
     /// node under the same generation; `Exhausted` where a node's lookups would come to the end of counters, or no copy
     /// number is left; then `NoMemory`. The server is as before.
-    pub fn again(&mut self, unique: u64) -> Result<ReplyCopy<S::Heap>, Refusal>
+    pub fn again(&mut self, unique: u64) -> Result<Sent<S::Heap>, Refusal>
         ensures err { OnErr result (self.new ≡ self.old) }
         ensures refusal { IfErr result (λ refusal. RefusesAgain self.old unique refusal ⊎ (refusal ≡ NoMemory)) }
         ensures memory { IfErr result (λ refusal. refusal ≡ NoMemory → CanSendAgain self.old unique) }
@@ -73,7 +73,7 @@ impl<S: NodeStore> ServerOf<S> {
     }
 
     /// Sends one more copy of a kept reply that can be sent.
-    fn send_again(&mut self, unique: u64) -> Result<ReplyCopy<S::Heap>, AllocError>
+    fn send_again(&mut self, unique: u64) -> Result<Sent<S::Heap>, AllocError>
         requires { CanSendAgain self.old unique }
         ensures err { OnErr result (self.new ≡ self.old) }
         ensures sent { IfOk result (λ copy. SendsAgain self.old unique copy self.new) }
@@ -87,7 +87,7 @@ impl<S: NodeStore> ServerOf<S> {
         let room = ReplyRoom::new(self.alloc, len)?;
         let spare = ReplySpare::new(self.alloc, len, name_count(reply))?;
         let number = self.next_copy;
-        let copy = ReplyCopy::new(number, framed(reply, room, unique));
+        let copy = Sent::new(number, framed(reply, room, unique));
         let sent = SentCopy::new(unique, copied(reply, spare), kept.first());
         count_again(&mut self.files, reply);
         self.copies.put(number, sent);

@@ -1,15 +1,13 @@
 //! Replies to faulty request frames.
 
-ghost use Rattle.std.specs.Prelude.{◌≡◌, ◌≤◌, ◌+◌, ◌≤ℤ◌, negsuc, true, false, length};
-ghost use Rattle.std.specs.Vec.{vec_len, vec_capacity};
-ghost use Rattle.fuse_spec.specs.declared.Minor.TheVariants.{M31};
-ghost use Rattle.fs_server.specs.Faults.{is_answered, is_unanswered, FaultReplied, IsAnswerable, IsErrorOf};
+ghost use Rattle.std.specs.Prelude.{◌≡◌, ◌≤ℤ◌, negsuc, MatchOption};
+ghost use Rattle.fs_server.specs.Faults.{is_answered, is_unanswered, IsFaultReply, IsAnswerable, IsErrorOf};
 
-use crate::server::ServerFault;
-use fk_wire::{Reply, ReplyBody, is_served_opcode_at, read_request_head, write_reply};
+use crate::server::{ServerFault, ServerOf};
+use fk_wire::{frame_of_error, is_served_opcode_at, read_request_head};
+use fs_nodes::NodeStore;
 use fuse_frames::codec_minor;
 use fuse_spec::Minor;
-use std::alloc::Allocator;
 
 /// ENOSYS, of an opcode that the minor does not know, as a reply has it.
 const ENOSYS: i32 = -38;
@@ -24,47 +22,24 @@ const INTERRUPT: u32 = 36;
 
 const BATCH_FORGET: u32 = 42;
 
-/// Appends the 16 bytes of the error reply to a frame that a server of minor 31 refused with a fault; `fault_reply_at`
-/// says more.
-pub fn fault_reply<A: Allocator>(bytes: &[u8], fault: ServerFault, out: &mut Vec<u8, A>) -> bool
-    requires { vec_len out.old + 16 ≤ vec_capacity out.old }
-    ensures none { result ≡ false → (IsAnswerable bytes.now fault → ⊥) × (out.new.items ≡ out.old.items) }
-    ensures len { result ≡ true → length out.new.items ≡ length out.old.items + 16 }
-    ensures replied { result ≡ true → IsAnswerable bytes.now fault
-        × FaultReplied M31 bytes.now out.old.items out.new.items }
-{
-    fault_reply_at(Minor::M31, bytes, fault, out)
-}
-
-/// Appends the 16 bytes of the error reply to a frame that a server of a minor refused with a fault, and says whether
-/// there is one: ENOSYS where the minor does not know the opcode, else EIO. There is none to a frame with no whole
-/// header or of another length than it says, to FORGET, INTERRUPT and BATCH_FORGET, and for a repeated unique, a
-/// counter at its end or want of memory. No memory is taken.
-pub fn fault_reply_at<A: Allocator>(
-    minor: Minor,
-    bytes: &[u8],
-    fault: ServerFault,
-    out: &mut Vec<u8, A>,
-) -> bool
-    requires { vec_len out.old + 16 ≤ vec_capacity out.old }
-    ensures none { result ≡ false → (IsAnswerable bytes.now fault → ⊥) × (out.new.items ≡ out.old.items) }
-    ensures len { result ≡ true → length out.new.items ≡ length out.old.items + 16 }
-    ensures replied { result ≡ true → IsAnswerable bytes.now fault
-        × FaultReplied minor bytes.now out.old.items out.new.items }
-{
-    let Ok((code, unique)) = read_request_head(bytes) else {
-        return false;
-    };
-    if !is_answered(fault) || is_unanswered(code) {
-        return false;
+impl<S: NodeStore> ServerOf<S> {
+    /// The error reply to a frame that this server refuses with a fault, for the end of its link to send: a `struct
+    /// fuse_out_header` alone, under the frame's unique, with ENOSYS where the server's minor does not know the opcode
+    /// and else EIO. There is none to a frame of under 40 bytes or of another length than it says, to FORGET, INTERRUPT
+    /// and BATCH_FORGET, and for a repeated unique, a counter at its end or want of memory. No memory is taken. This
+    /// project's rule.
+    pub fn fault_reply(&self, frame: &[u8], fault: ServerFault) -> Option<[u8; 16]>
+        ensures { MatchOption result (IsAnswerable frame.now fault → ⊥)
+            (λ reply. IsFaultReply self.now.minor frame.now fault reply) }
+    {
+        let Ok((code, unique)) = read_request_head(frame) else {
+            return None;
+        };
+        if !is_answered(fault) || is_unanswered(code) {
+            return None;
+        }
+        Some(frame_of_error(unique, error_of(self.minor, code)))
     }
-    let reply = Reply {
-        unique,
-        error: error_of(minor, code),
-        body: ReplyBody::Empty,
-    };
-    write_reply(out, &reply).unwrap();
-    true
 }
 
 /// The error in the reply to a faulty frame with this opcode.

@@ -12,11 +12,11 @@ ghost use Rattle.fs_server.specs.Interrupts.{AsksAgain, Interrupts};
 ghost use Rattle.fs_server.specs.Taking.{is_answered_now};
 
 use crate::replies::SentCopy;
-use crate::server::{ServerFault, ServerOf, Took};
+use crate::server::{ServerFault, ServerOf, Taken};
 use fs_files::framed;
 use fs_nodes::NodeStore;
-use fuse_frames::{Reply, ReplyCopy, ReplyRoom};
-use fuse_spec::Taken;
+use fuse_frames::{Reply, ReplyRoom, Sent};
+use fuse_spec::Taken as TakenWord;
 use fuse_spec::errno::EAGAIN;
 use std::alloc::Allocator;
 
@@ -31,19 +31,19 @@ impl<S: NodeStore> ServerOf<S> {
         &mut self,
         unique: u64,
         original: u64,
-    ) -> Result<Took<S::Heap>, ServerFault>
+    ) -> Result<Taken<S::Heap>, ServerFault>
         requires { is_answered_now self.old (asked original) ≡ true → self.old.next_copy < counter_end }
         ensures refused { OnErr result (self.new ≡ self.old) }
         ensures fault { IfErr result (λ fault. fault ≡ MemoryFault) }
         ensures answered { OnErr result ((taking self.old unique (asked original)).word ≡ AgainWord) }
-        ensures effect { IfOk result (λ took. Interrupts self.old unique original took self.new) }
+        ensures effect { IfOk result (λ taken. Interrupts self.old unique original taken self.new) }
     {
         if self.held.get(original).is_some() {
             self.mark(original);
-            return Ok(took(unique, Taken::Marked));
+            return Ok(taken_as(unique, TakenWord::Marked));
         }
         if self.kept.get(original).is_some() {
-            return Ok(took(unique, Taken::Ignored));
+            return Ok(taken_as(unique, TakenWord::Ignored));
         }
         self.ask_again(unique)
     }
@@ -62,11 +62,11 @@ impl<S: NodeStore> ServerOf<S> {
     }
 
     /// Answers an INTERRUPT with EAGAIN. The reply is not kept.
-    fn ask_again(&mut self, unique: u64) -> Result<Took<S::Heap>, ServerFault>
+    fn ask_again(&mut self, unique: u64) -> Result<Taken<S::Heap>, ServerFault>
         requires { self.old.next_copy < counter_end }
         ensures refused { OnErr result (self.new ≡ self.old) }
         ensures fault { IfErr result (λ fault. fault ≡ MemoryFault) }
-        ensures sent { IfOk result (λ took. AsksAgain self.old unique took self.new) }
+        ensures sent { IfOk result (λ taken. AsksAgain self.old unique taken self.new) }
     {
         let number = self.next_copy;
         let Ok(()) = self.copies.reserve(1) else {
@@ -76,25 +76,25 @@ impl<S: NodeStore> ServerOf<S> {
             return Err(ServerFault::Memory);
         };
         let reply = Reply::Failed { errno: EAGAIN };
-        let copy = ReplyCopy::new(number, framed(&reply, room, unique));
+        let sent = Sent::new(number, framed(&reply, room, unique));
         self.copies
             .put(number, SentCopy::new(unique, reply, number));
         self.next_copy = number + 1;
-        Ok(Took {
+        Ok(Taken {
             unique,
-            word: Taken::Again,
-            copy: Some(copy),
+            word: TakenWord::Again,
+            sent: Some(sent),
         })
     }
 }
 
 /// What became of a request to which no reply is sent at once.
-pub(crate) fn took<A: Allocator>(unique: u64, word: Taken) -> Took<A>
-    ensures { result ≡ record { unique = unique; word = word; copy = None } }
+pub(crate) fn taken_as<A: Allocator>(unique: u64, word: TakenWord) -> Taken<A>
+    ensures { result ≡ record { unique = unique; word = word; sent = None } }
 {
-    Took {
+    Taken {
         unique,
         word,
-        copy: None,
+        sent: None,
     }
 }

@@ -2,6 +2,7 @@
 #![tactic(auto)]
 
 mod again;
+mod dropping;
 mod faults;
 mod holding;
 mod interrupting;
@@ -12,6 +13,5 @@ mod server;
 mod settling;
 mod taking;
 
-pub use faults::{fault_reply, fault_reply_at};
 pub use fs_nodes::NodeStore;
-pub use server::{Done, ListServer, Server, ServerFault, ServerOf, Took};
+pub use server::{Done, ListServer, Server, ServerFault, ServerOf, Taken};

@@ -9,7 +9,7 @@ use crate::replies::{KeptReply, SentCopy};
 use crate::server::{Done, ServerOf};
 use fs_files::{ReplySpare, copied, errno, framed};
 use fs_nodes::NodeStore;
-use fuse_frames::{ReplyCopy, ReplyRoom};
+use fuse_frames::{ReplyRoom, Sent};
 use fuse_spec::Refusal;
 use fuse_spec::limits::COUNTER_END;
 use std::alloc::AllocError;
@@ -47,7 +47,7 @@ impl<S: NodeStore> ServerOf<S> {
         ensures err { OnErr result (self.new ≡ self.old) }
         ensures refusal { IfErr result (λ refusal. RefusesHeld self.old unique refusal ⊎ (refusal ≡ NoMemory)) }
         ensures memory { IfErr result (λ refusal. refusal ≡ NoMemory → CanPerform self.old unique) }
-        ensures performed { IfOk result (λ done. PerformsHeld self.old unique done.errno done.copy self.new) }
+        ensures performed { IfOk result (λ done. PerformsHeld self.old unique done.errno done.sent self.new) }
     {
         if let Some(refusal) = self.perform_refusal(unique) {
             return Err(refusal);
@@ -68,7 +68,7 @@ impl<S: NodeStore> ServerOf<S> {
         requires aborted { self.old.aborted ≡ true }
         requires can { CanPerform self.old unique }
         ensures err { OnErr result (self.new ≡ self.old) }
-        ensures performed { IfOk result (λ done. PerformsHeld self.old unique done.errno done.copy self.new) }
+        ensures performed { IfOk result (λ done. PerformsHeld self.old unique done.errno done.sent self.new) }
     {
         let Some(held) = self.held.get(unique) else {
             unreachable!();
@@ -79,7 +79,7 @@ impl<S: NodeStore> ServerOf<S> {
         let _lost = self.held.remove(unique);
         Ok(Done {
             errno: outcome.errno(),
-            copy: None,
+            sent: None,
         })
     }
 
@@ -88,7 +88,7 @@ impl<S: NodeStore> ServerOf<S> {
         requires serving { self.old.aborted ≡ false }
         requires can { CanPerform self.old unique }
         ensures err { OnErr result (self.new ≡ self.old) }
-        ensures performed { IfOk result (λ done. PerformsHeld self.old unique done.errno done.copy self.new) }
+        ensures performed { IfOk result (λ done. PerformsHeld self.old unique done.errno done.sent self.new) }
     {
         self.kept.reserve(1)?;
         self.copies.reserve(1)?;
@@ -109,7 +109,7 @@ impl<S: NodeStore> ServerOf<S> {
             .give_numbers(outcome, self.validity.found_ms, spare);
         self.files.discard_unheld(file);
         let errno = errno(&reply);
-        let copy = ReplyCopy::new(number, framed(&reply, room, unique));
+        let copy = Sent::new(number, framed(&reply, room, unique));
         let sent = SentCopy::new(unique, copied(&reply, spare_copy), number);
         self.copies.put(number, sent);
         self.kept.put(unique, KeptReply::new(reply, number));
@@ -117,7 +117,7 @@ impl<S: NodeStore> ServerOf<S> {
         self.next_copy = number + 1;
         Ok(Done {
             errno,
-            copy: Some(copy),
+            sent: Some(copy),
         })
     }
 }

@@ -5,13 +5,16 @@ ghost use Rattle.fuse_spec.specs.Values.Numbers.{max_validity};
 ghost use Rattle.fuse_spec.specs.World.Worlds.{first_server};
 ghost use Rattle.fuse_spec.specs.Server.Copies.{connection_lost, remounted};
 ghost use Rattle.fs_nodes.specs.Rows.{listed};
+ghost use Rattle.fs_nodes.specs.Sound.{IsSoundNodeTable};
+ghost use Rattle.fs_files.specs.Bounds.{AreNamed};
+ghost use Rattle.fs_server.specs.Sound.{AreApart};
 ghost use Rattle.fuse_spec.specs.Server.Refusals.{is_past_end};
 
 use crate::replies::{KeptReply, SentCopy};
 use fs_files::{Files, HeldRequest};
 use fs_nodes::{ListNodes, NodeStore, NodeTable};
-use fuse_frames::ReplyCopy;
-use fuse_spec::{Minor, Taken, Validity};
+use fuse_frames::Sent;
+use fuse_spec::{Minor, Validity};
 use fuse_tables::Table;
 use std::alloc::{AllocError, Allocator, Global};
 use std::marker::Model;
@@ -38,16 +41,16 @@ pub enum ServerFault {
 #[derive(Drop)]
 pub struct Done<A: Allocator = Global> {
     pub errno: u32,
-    pub copy: Option<ReplyCopy<A>>,
+    pub sent: Option<Sent<A>>,
 }
 
 /// What became of a request that was taken, and the copy of a reply that was sent at once: that to an INTERRUPT of a
 /// request that is not known.
 #[derive(Drop)]
-pub struct Took<A: Allocator = Global> {
+pub struct Taken<A: Allocator = Global> {
     pub unique: u64,
-    pub word: Taken,
-    pub copy: Option<ReplyCopy<A>>,
+    pub word: fuse_spec::Taken,
+    pub sent: Option<Sent<A>>,
 }
 
 /// The server's half of the protocol, over any table of held nodes.
@@ -89,6 +92,10 @@ impl<S: NodeStore> Model for ServerOf<S> {
 
 impl<S: NodeStore> ServerOf<S> {
     /// A server before its first mount: its tree is the root alone.
+    ///
+    /// # Errors
+    ///
+    /// Memory was wanting.
     pub fn new(alloc: S::Heap) -> Result<Self, AllocError>
         ensures { IfOk result (λ server. server ≡ first_server) }
     {
@@ -116,6 +123,18 @@ impl<S: NodeStore> ServerOf<S> {
         self.files.within();
     }
 
+    /// After each call a file without a name is that of a node or of an open number. Each held node has a generation,
+    /// and each open number and copy a number, that was given before the coming one. What a call gives is the coming
+    /// one, and none goes back, so no pair of nodeid and generation and no open number is given twice (libfuse's
+    /// low-level notes ask this of a server).
+    pub fn keeps_sound(&self)
+        ensures named { AreNamed self.now.tree self.now.nodes self.now.handles }
+        ensures nodes { IsSoundNodeTable self.now.nodes }
+        ensures apart { AreApart self.now.held self.now.kept self.now.copies self.now.next_copy }
+    {
+        self.files.keeps_sound();
+    }
+
     /// Whether the mount was aborted: then no copy is sent until the next one.
     pub fn is_aborted(&self) -> bool
         ensures { result ≡ self.now.aborted }
@@ -123,7 +142,7 @@ impl<S: NodeStore> ServerOf<S> {
         self.is_aborted
     }
 
-    /// The minor that is spoken since the last mount: the one to give to `fault_reply_at`.
+    /// The minor that is spoken since the last mount.
     pub fn minor(&self) -> Minor
         ensures { result ≡ self.now.minor }
     {
@@ -161,6 +180,10 @@ impl<S: NodeStore> ServerOf<S> {
     }
 
     /// The held nodes but the root, in rising nodeid, each with its generation and its lookup count.
+    ///
+    /// # Errors
+    ///
+    /// Memory was wanting.
     pub fn nodes(&self, alloc: S::Heap) -> Result<Vec<(u64, u64, u64), S::Heap>, AllocError>
         ensures { IfOk result (λ nodes. nodes.items ≡ listed self.now.nodes.rows) }
     {

@@ -11,7 +11,7 @@ use crate::replies::{KeptReply, SentCopy};
 use crate::server::ServerOf;
 use fs_files::{Files, SentReply, file_entries, opened};
 use fs_nodes::NodeStore;
-use fuse_spec::{Entry, Refusal, ReplyResult, WriteResult};
+use fuse_spec::{Entry, Refusal, WriteResult};
 use fuse_tables::Table;
 use std::alloc::Allocator;
 
@@ -22,16 +22,16 @@ impl<S: NodeStore> ServerOf<S> {
     /// # Errors
     ///
     /// `NoSuch` where no copy of this number was sent, or it is settled already; the server is as before.
-    pub fn settle(&mut self, settled: ReplyResult) -> Result<(), Refusal>
+    pub fn settle(&mut self, copy: u64, settled: WriteResult) -> Result<(), Refusal>
         ensures refused { OnErr result (self.new ≡ self.old) }
-        ensures effect { MatchResult result (λ _. Settles self.old settled self.new) (HasNoCopy self.old settled) }
+        ensures effect { MatchResult result (λ _. Settles self.old copy settled self.new) (HasNoCopy self.old copy) }
     {
-        let Some(copy) = self.copies.get(settled.number) else {
+        let Some(sent) = self.copies.get(copy) else {
             return Err(Refusal::NoSuch);
         };
-        settle_files(&mut self.files, copy.reply(), settled.result);
-        drop_kept(&mut self.kept, copy);
-        let _settled = self.copies.remove(settled.number);
+        settle_files(&mut self.files, sent.reply(), settled);
+        drop_kept(&mut self.kept, sent);
+        let _settled = self.copies.remove(copy);
         Ok(())
     }
 }

@@ -13,12 +13,12 @@ ghost use Rattle.fs_server.specs.Effects.{CanTake, TakesBack, TakesFrame, Refuse
 ghost use Rattle.fs_server.specs.Taking.{IsFaultless, body_of, forgets_in, forgets_too_many, is_forgetting, is_held};
 
 use crate::holding::held_request;
-use crate::interrupting::took;
-use crate::server::{ServerFault, ServerOf, Took};
+use crate::interrupting::taken_as;
+use crate::server::{ServerFault, ServerOf, Taken};
 use fk_wire::{Pairs, Request, RequestBody};
 use fs_files::Files;
 use fs_nodes::NodeStore;
-use fuse_spec::Taken;
+use fuse_spec::Taken as TakenWord;
 
 impl<S: NodeStore> ServerOf<S> {
     /// Takes a request frame: forgets and INTERRUPTs are done at once, and any other request is held until it is
@@ -28,9 +28,9 @@ impl<S: NodeStore> ServerOf<S> {
     ///
     /// The first of `Wire`, `UnknownNode`, `TooManyForgets`, `RepeatedUnique`, `Exhausted` and `Memory` that applies;
     /// the server is as before.
-    pub fn take(&mut self, bytes: &[u8]) -> Result<Took<S::Heap>, ServerFault>
+    pub fn take(&mut self, bytes: &[u8]) -> Result<Taken<S::Heap>, ServerFault>
         ensures refused { OnErr result (self.new ≡ self.old) }
-        ensures effect { MatchResult result (λ took. TakesFrame self.old bytes.now took self.new)
+        ensures effect { MatchResult result (λ taken. TakesFrame self.old bytes.now taken self.new)
             (RefusesFrame self.old bytes.now) }
         ensures memory { IfErr result (λ fault. fault ≡ MemoryFault → WantsMemory self.old bytes.now) }
         ensures can { IfErr result (λ fault. fault ≡ MemoryFault → CanTake self.old bytes.now) }
@@ -38,7 +38,7 @@ impl<S: NodeStore> ServerOf<S> {
         let request = self.judged(bytes)?;
         if is_forget(&request.body) {
             self.forget(&request);
-            return Ok(took(request.unique, Taken::Forgot));
+            return Ok(taken_as(request.unique, TakenWord::Forgot));
         }
         match request.body {
             RequestBody::Interrupt { unique: original } => {
@@ -49,16 +49,16 @@ impl<S: NodeStore> ServerOf<S> {
     }
 
     /// Holds a request until it is performed.
-    fn hold(&mut self, request: &Request<'_>) -> Result<Took<S::Heap>, ServerFault>
+    fn hold(&mut self, request: &Request<'_>) -> Result<Taken<S::Heap>, ServerFault>
         requires faultless { IsFaultless self.old request.now.unique request.now.nodeid
             (request_content request.now.body) }
         requires holds { is_held request.now.nodeid (request_content request.now.body) ≡ true }
         ensures refused { OnErr result (self.new ≡ self.old) }
         ensures fault { IfErr result (λ fault. fault ≡ MemoryFault) }
-        ensures took { IfOk result (λ took. took ≡ record {
+        ensures taken { IfOk result (λ taken. taken ≡ record {
           unique = request.now.unique;
           word = HeldWord;
-          copy = None;
+          sent = None;
         }) }
         ensures held { OnOk result (self.new ≡ holding self.old request.now.unique
             (body_of request.now.nodeid (request_content request.now.body))) }
@@ -70,7 +70,7 @@ impl<S: NodeStore> ServerOf<S> {
             return Err(ServerFault::Memory);
         };
         self.held.put(request.unique, held);
-        Ok(took(request.unique, Taken::Held))
+        Ok(taken_as(request.unique, TakenWord::Held))
     }
 
     /// Gives the lookups back that a FORGET or a BATCH_FORGET names. Nameless files that nothing holds then go.

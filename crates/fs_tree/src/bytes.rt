@@ -28,7 +28,11 @@ impl<A: Allocator + Copy> Tree<A> {
         }
     }
 
-    /// Whether a file may be opened: EISDIR for a directory.
+    /// Whether a file may be opened.
+    ///
+    /// # Errors
+    ///
+    /// `IsADirectory` for a directory (EISDIR).
     pub fn open(&self, file: u64) -> Result<(), TreeError>
         ensures { Refuses (refusal self.now (opening file)) result }
     {
@@ -53,7 +57,11 @@ impl<A: Allocator + Copy> Tree<A> {
         first_bytes(bytes, size.min(MAX_TRANSFER) as usize)
     }
 
-    /// Whether a write is refused: EFBIG past 65,536 bytes.
+    /// Whether a write is refused.
+    ///
+    /// # Errors
+    ///
+    /// `FileTooLarge` past 65,536 bytes (EFBIG; this project's rule).
     pub fn may_write(&self, file: u64, offset: u64, bytes: &[u8]) -> Result<(), TreeError>
         ensures { Refuses (refusal self.now (write file offset bytes.now)) result }
     {
@@ -64,7 +72,11 @@ impl<A: Allocator + Copy> Tree<A> {
         }
     }
 
-    /// Writes bytes into a regular file. A gap between its end and the offset becomes zeros. EFBIG past 65,536 bytes.
+    /// Writes bytes into a regular file. A gap between its end and the offset becomes zeros.
+    ///
+    /// # Errors
+    ///
+    /// `FileTooLarge` past 65,536 bytes (EFBIG; this project's rule), then `NoMemory`. The tree is as before.
     pub fn write(&mut self, file: u64, offset: u64, bytes: &[u8]) -> Result<(), TreeError>
         requires { IsTrue (is_regular self.old file) }
         ensures ok { OnOk result ((refusal self.old (write file offset bytes.now) ≡ None)

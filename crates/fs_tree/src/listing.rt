@@ -33,6 +33,10 @@ pub struct Record<'a> {
 impl<A: Allocator + Copy> Tree<A> {
     /// The names in a directory with a serial over the offset, in rising serial: as many whole records as fit `size`
     /// and 4,096 bytes. The first that does not fit ends the list (`struct fuse_dirent`).
+    ///
+    /// # Errors
+    ///
+    /// `NotADirectory` for another file (ENOTDIR), then `NoMemory`.
     pub fn readdir(
         &self,
         directory: u64,
@@ -48,8 +52,12 @@ impl<A: Allocator + Copy> Tree<A> {
         Ok(self.names.list(&self.files, directory, offset, room, 0)?)
     }
 
-    /// The same names with their files: as many as fit `size` and 4,096 bytes with an entry before each record
+    /// The names of `readdir` with their files: as many as fit `size` and 4,096 bytes with an entry before each record
     /// (`struct fuse_direntplus`).
+    ///
+    /// # Errors
+    ///
+    /// `NotADirectory` for another file (ENOTDIR), then `NoMemory`.
     pub fn readdirplus(
         &self,
         directory: u64,

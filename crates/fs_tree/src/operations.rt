@@ -16,6 +16,11 @@ use std::alloc::{AllocError, Allocator};
 
 impl<A: Allocator + Copy> Tree<A> {
     /// Whether a mkdir or a create is refused: both have the same checks.
+    ///
+    /// # Errors
+    ///
+    /// `NotADirectory` (ENOTDIR), `NotFound` in a nameless directory (ENOENT), `AlreadyExists` (EEXIST), `NoSpace` at
+    /// 4,096 names (ENOSPC; this project's rule).
     pub fn may_create(&self, directory: u64, name: &[u8]) -> Result<(), TreeError>
         ensures refusal { Refuses (refusal self.now (mkdir directory name.now)) result }
         ensures room { OnOk result (length self.now.names < 4096) }
@@ -45,7 +50,12 @@ impl<A: Allocator + Copy> Tree<A> {
         }
     }
 
-    /// Makes a directory, and gives its birth. ENOTDIR, ENOENT in a nameless directory, EEXIST, ENOSPC at 4,096 names.
+    /// Makes a directory, and gives its birth.
+    ///
+    /// # Errors
+    ///
+    /// `NotADirectory` (ENOTDIR), `NotFound` in a nameless directory (ENOENT), `AlreadyExists` (EEXIST), `NoSpace` at
+    /// 4,096 names (ENOSPC; this project's rule), then `NoMemory`. The tree is as before.
     pub fn mkdir(&mut self, directory: u64, name: &[u8]) -> Result<u64, TreeError>
         requires births { self.old.next_birth < counter_end }
         requires serials { self.old.next_serial < counter_end }
@@ -57,7 +67,11 @@ impl<A: Allocator + Copy> Tree<A> {
         self.make(directory, name, Content::Directory)
     }
 
-    /// Makes a regular file without bytes, and gives its birth. Refused as mkdir is.
+    /// Makes a regular file without bytes, and gives its birth.
+    ///
+    /// # Errors
+    ///
+    /// As of `mkdir`.
     pub fn create(&mut self, directory: u64, name: &[u8]) -> Result<u64, TreeError>
         requires births { self.old.next_birth < counter_end }
         requires serials { self.old.next_serial < counter_end }
@@ -93,6 +107,10 @@ impl<A: Allocator + Copy> Tree<A> {
     }
 
     /// Whether an unlink is refused.
+    ///
+    /// # Errors
+    ///
+    /// `NotADirectory` (ENOTDIR), `NotFound` (ENOENT), `IsADirectory` where the name is a directory's (EISDIR).
     pub fn may_unlink(&self, directory: u64, name: &[u8]) -> Result<(), TreeError>
         ensures { Refuses (refusal self.now (unlink directory name.now)) result }
     {
@@ -106,7 +124,11 @@ impl<A: Allocator + Copy> Tree<A> {
         }
     }
 
-    /// Takes the name of a file away. ENOTDIR, ENOENT, EISDIR for a directory. The file stays, nameless or not.
+    /// Takes the name of a file away. The file stays, nameless or not.
+    ///
+    /// # Errors
+    ///
+    /// As of `may_unlink`. The tree is as before.
     pub fn unlink(&mut self, directory: u64, name: &[u8]) -> Result<(), TreeError>
         ensures ok { OnOk result ((refusal self.old (unlink directory name.now) ≡ None)
             × (self.new ≡ tree_unrefused self.old (unlink directory name.now))) }
@@ -120,6 +142,11 @@ impl<A: Allocator + Copy> Tree<A> {
     }
 
     /// Whether an rmdir is refused.
+    ///
+    /// # Errors
+    ///
+    /// `NotADirectory` (ENOTDIR), `NotFound` (ENOENT), `NotADirectory` where the name is another file's, `NotEmpty`
+    /// (ENOTEMPTY).
     pub fn may_rmdir(&self, directory: u64, name: &[u8]) -> Result<(), TreeError>
         ensures { Refuses (refusal self.now (rmdir directory name.now)) result }
     {
@@ -134,8 +161,11 @@ impl<A: Allocator + Copy> Tree<A> {
         }
     }
 
-    /// Takes the name of an empty directory away. ENOTDIR, ENOENT, ENOTDIR for another file, ENOTEMPTY. The directory
-    /// stays, nameless.
+    /// Takes the name of an empty directory away. The directory stays, nameless.
+    ///
+    /// # Errors
+    ///
+    /// As of `may_rmdir`. The tree is as before.
     pub fn rmdir(&mut self, directory: u64, name: &[u8]) -> Result<(), TreeError>
         ensures ok { OnOk result ((refusal self.old (rmdir directory name.now) ≡ None)
             × (self.new ≡ tree_unrefused self.old (rmdir directory name.now))) }
@@ -148,6 +178,11 @@ impl<A: Allocator + Copy> Tree<A> {
     }
 
     /// Whether a link is refused.
+    ///
+    /// # Errors
+    ///
+    /// `NotADirectory` (ENOTDIR), `NotFound` in a nameless directory (ENOENT), `NotPermitted` for a directory (EPERM),
+    /// `NotFound` for a nameless file, `AlreadyExists` (EEXIST), `NoSpace` at 4,096 names (ENOSPC; this project's rule).
     pub fn may_link(&self, file: u64, directory: u64, name: &[u8]) -> Result<(), TreeError>
         ensures refusal { Refuses (refusal self.now (link file directory name.now)) result }
         ensures room { OnOk result (length self.now.names < 4096) }
@@ -168,8 +203,11 @@ impl<A: Allocator + Copy> Tree<A> {
         self.may_add(directory, name)
     }
 
-    /// Makes one more name of a file. ENOTDIR, ENOENT in a nameless directory, EPERM for a directory, ENOENT for a
-    /// nameless file, EEXIST, ENOSPC at 4,096 names.
+    /// Makes one more name of a file.
+    ///
+    /// # Errors
+    ///
+    /// As of `may_link`, then `NoMemory`. The tree is as before.
     pub fn link(&mut self, file: u64, directory: u64, name: &[u8]) -> Result<(), TreeError>
         requires serials { self.old.next_serial < counter_end }
         ensures ok { OnOk result ((refusal self.old (link file directory name.now) ≡ None)
@@ -185,6 +223,11 @@ impl<A: Allocator + Copy> Tree<A> {
     }
 
     /// Whether a rename is refused, and else the file that it moves: none where both names lead to the same one.
+    ///
+    /// # Errors
+    ///
+    /// `NotADirectory` (ENOTDIR), `NotFound` (ENOENT), `Invalid` for a directory into itself or below (EINVAL); then,
+    /// where another file stands at the new name, `NotADirectory`, `IsADirectory` (EISDIR), `NotEmpty` (ENOTEMPTY).
     pub fn may_rename(
         &self,
         directory: u64,
@@ -233,9 +276,12 @@ impl<A: Allocator + Copy> Tree<A> {
         }
     }
 
-    /// Moves a file from one name to another, under a fresh serial, and replaces what stands there. ENOTDIR, ENOENT,
-    /// EINVAL for a directory into itself or below; then nothing changes if the same file stands there; ENOTDIR,
-    /// EISDIR, ENOTEMPTY.
+    /// Moves a file from one name to another, under a fresh serial, and replaces what stands there. Nothing changes if
+    /// the same file stands there.
+    ///
+    /// # Errors
+    ///
+    /// As of `may_rename`, then `NoMemory`. The tree is as before.
     pub fn rename(
         &mut self,
         directory: u64,

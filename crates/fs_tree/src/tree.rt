@@ -56,6 +56,10 @@ impl<A: Allocator> Model for Tree<A> {
 
 impl<A: Allocator + Copy> Tree<A> {
     /// A tree with the root alone.
+    ///
+    /// # Errors
+    ///
+    /// Memory was wanting.
     pub fn new(alloc: A) -> Result<Self, AllocError>
         ensures { IfOk result (λ tree. tree ≡ only_root) }
     {
@@ -125,7 +129,11 @@ impl<A: Allocator + Copy> Tree<A> {
         self.links(file) == 0
     }
 
-    /// Whether a look into a directory is refused, by a name or for its names: ENOTDIR.
+    /// Whether a look into a directory is refused, by a name or for its names.
+    ///
+    /// # Errors
+    ///
+    /// `NotADirectory` for another file (ENOTDIR).
     pub fn may_lookup(&self, directory: u64) -> Result<(), TreeError>
         ensures { Refuses (refusal self.now (lookup directory [])) result }
     {
@@ -137,6 +145,10 @@ impl<A: Allocator + Copy> Tree<A> {
     }
 
     /// The file to which a name in a directory leads, if one does.
+    ///
+    /// # Errors
+    ///
+    /// `NotADirectory` for another file (ENOTDIR).
     pub fn lookup(&self, directory: u64, name: &[u8]) -> Result<Option<u64>, TreeError>
         ensures ok { IfOk result (λ file. (refusal self.now (lookup directory name.now) ≡ None)
             × (file ≡ file_at self.now directory name.now)) }

@@ -2,5 +2,4 @@
 pub mod Plain
 pub mod PlainSteps
 pub mod PlainCalls
-pub mod PlainReplies
 pub mod PlainWords

@@ -10,6 +10,7 @@ pub mod worked_runs;
 
 pub use name::is_dots;
 pub use operation::{NoOpenFile, Operation};
+use thiserror::Error;
 
 /// How far a request has come. The mark belongs to the request: the next request of the same call starts unread.
 #[derive(Clone, Copy, Debug, PartialEq, Eq)]
@@ -176,26 +177,26 @@ pub enum Taken {
 }
 
 /// Why an event is refused. A refused event changes nothing.
-#[derive(Clone, Copy, Debug, PartialEq, Eq)]
+#[derive(Clone, Copy, Debug, PartialEq, Eq, Error)]
 pub enum Refusal {
-    /// A growth was refused in this event.
+    #[error("out of memory: a growth was refused in this event")]
     NoMemory = 1,
-    /// There is no message, request, call, name or node that the event means.
+    #[error("there is no message, request, call, name or node that the event means")]
     NoSuch,
-    /// An INTERRUPT waits, and another kind of request was to be read.
+    #[error("an INTERRUPT waits, and another kind of request was to be read")]
     InterruptFirst,
-    /// The mount is not live, or INIT is not answered.
+    #[error("the mount is not live, or INIT is not answered")]
     NotReady,
-    /// A node is in use, or a live mount has unanswered calls or open files.
+    #[error("a node is in use, or a live mount has unanswered calls or open files")]
     Busy,
-    /// No reply is kept, or what it names is held no longer.
+    #[error("no reply is kept, or what it names is held no longer")]
     NoCopy,
-    /// 64 calls are unanswered.
+    #[error("64 calls are unanswered")]
     Full,
-    /// A counter is at its end, 2^62.
+    #[error("a counter is at its end, 2^62")]
     Exhausted,
-    /// A time out of range.
+    #[error("a time is out of range")]
     BadTime,
-    /// The link failed.
+    #[error("the link failed")]
     LinkLost,
 }

@@ -127,7 +127,11 @@ impl<V: Drop, A: Allocator + Copy> Table<V, A> {
         }
     }
 
-    /// Makes room for so many more entries. Where memory is refused nothing changes.
+    /// Makes room for so many more entries.
+    ///
+    /// # Errors
+    ///
+    /// Memory was wanting. The entries are as before.
     pub fn reserve(&mut self, more: usize) -> Result<(), AllocError>
         ensures entries { self.new.entries ≡ self.old.entries }
         ensures room { OnOk result (more ≤ self.new.room) }

@@ -12,6 +12,7 @@ pub mod StillAsked
 pub mod StillAwaited
 pub mod RequestsAsked
 pub mod StayAsked
+pub mod InterruptedStay
 pub mod LinksSound
 pub mod InterruptsNoted
 pub mod AfterAbort

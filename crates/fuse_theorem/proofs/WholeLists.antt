@@ -8,5 +8,5 @@ pub mod AllKeeps
 pub mod AllCollected
 pub mod AllRun
 pub mod AllRecorded
-pub mod ReachedWorlds
+pub mod SoundWorlds
 pub mod NoPremise

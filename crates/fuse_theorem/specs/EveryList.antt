@@ -7,11 +7,11 @@ use Rattle.fuse_spec.specs.World.Events.{Event}
 use Rattle.fuse_spec.specs.World.Events as event
 use Rattle.fuse_spec.specs.Claim.Alike.{Alike}
 use Rattle.fuse_theorem.specs.AskedRequests.{RequestsAskedWhileLive}
-use Rattle.fuse_spec.specs.Reference.PlainReplies.{AsksServed}
 use Rattle.fuse_theorem.specs.Copies.{KeptAreSent}
 use Rattle.fuse_theorem.specs.HeldKnown.{HeldKnownWhileLive}
 use Rattle.fuse_theorem.specs.KnownNodes.{NodesKnown}
 use Rattle.fuse_theorem.specs.Links.{LinksSound}
+use Rattle.fuse_theorem.specs.PlainWitness.{PlainWitness}
 use Rattle.fuse_theorem.specs.WorldSound.{WorldSound}
 
 -- The two are alike, and each is sound.
@@ -23,7 +23,7 @@ pub record BothSound (w : World) (p : Plain) : Type 0 where
   pub nodes : NodesKnown w.kernel
   pub held : HeldKnownWhileLive w
   pub kept : KeptAreSent w
-  pub served : AsksServed p
+  pub witness : PlainWitness w
 
 abbrev pub ForgetsNothing : RequestBody → Type 0
 ForgetsNothing (init flags) = Unit {0}

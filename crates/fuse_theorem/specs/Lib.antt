@@ -9,6 +9,7 @@ pub mod Unperformed
 pub mod WorldSound
 pub mod AskedRequests
 pub mod Links
+pub mod PlainWitness
 pub mod KnownNodes
 pub mod EveryList
 pub mod HeldKnown
@@ -23,7 +24,7 @@ pub mod OpenNumbers
 pub mod OpensOnce
 pub mod AllSound
 pub mod OnTheWay
-pub mod Reached
+pub mod SoundWorlds
 pub mod Recorded
 pub mod Counterexamples
 pub mod SessionRecorded

@@ -25,7 +25,6 @@ ghost use Rattle.fuse_spec.specs.Reference.PlainSteps.{Takes};
 ghost use Rattle.fuse_spec.specs.World.Steps.{Happens, MayStep, step};
 ghost use Rattle.fuse_spec.specs.World.Worlds.{World, first_world, after_settle};
 ghost use Rattle.fuse_theorem.specs.AskedRequests.{RequestsAskedWhileLive};
-ghost use Rattle.fuse_spec.specs.Reference.PlainReplies.{AsksServed};
 ghost use Rattle.fuse_theorem.specs.EachEvent.{CanServe, Needs};
 ghost use Rattle.fuse_theorem.specs.EveryList.{BothSound, NeedsBothAlone};
 ghost use Rattle.fuse_theorem.specs.Faultless.{Faultless};
@@ -37,6 +36,7 @@ ghost use Rattle.fuse_theorem.specs.StillOpen.{HeldNumbersOpen, OpensAfterAbort}
 ghost use Rattle.fuse_theorem.specs.NodesHeld.{NodesHeld, TakenServable};
 ghost use Rattle.fuse_theorem.specs.OpenNumbers.{OpensSound};
 ghost use Rattle.fuse_theorem.specs.OpensOnce.{OpensOnceWhileLive};
+ghost use Rattle.fuse_theorem.specs.PlainWitness.{AsksServed, PlainWitness};
 ghost use Rattle.fuse_theorem.specs.ReleasesKnown.{ReleasesKnown};
 ghost use Rattle.fuse_theorem.specs.RepliesFit.{RepliesFitWhileLive};
 ghost use Rattle.fuse_theorem.specs.WorldSound.{WorldSound};
@@ -64,12 +64,15 @@ pub fn links_stay_sound()
         → IsInterrupt w p k r original }
 {}
 
-/// What the plain world performs is replied to as its operation asks, and a signal is noted on what it declines,
-/// whatever step it takes. So any copy that the kernel takes says what its request's ask came to.
+/// Beside the world stands a plain world of which each performed ask has a reply to its operation, other than EINTR,
+/// and each declined one a request that was interrupted, whatever the event. So, in every plain world that is alike to
+/// the world, any copy that the kernel takes says what its request's ask came to.
 pub fn asks_stay_served()
-    ensures at_first { AsksServed first_plain }
-    ensures always { (p : Plain) → AsksServed p → (e : Event) (o : Outcome) (q : Plain) → Takes p e o q → AsksServed q }
-    ensures write { (w : World) (p : Plain) → WorldSound w → RequestsAskedWhileLive w → LinksSound w → AsksServed p
+    ensures at_first { AsksServed first_world.kernel first_plain }
+    ensures always { (w : World) → WorldSound w → RequestsAskedWhileLive w → (p : Plain) → Alike w p
+        → AsksServed w.kernel p → (e : Event) (o : Outcome) (after : World) → Happens w e o after
+        → (q : Plain) → Takes p e o q → AsksServed after.kernel q }
+    ensures write { (w : World) (p : Plain) → WorldSound w → RequestsAskedWhileLive w → LinksSound w → PlainWitness w
         → Alike w p → (choice : ℕ → ℕ) (k : ℕ) → Needs choice w p (event.write k) }
 {}
 
@@ -87,7 +90,8 @@ pub fn nodes_stay_known()
 pub fn both_stay_sound()
     ensures at_first { BothSound first_world first_plain }
     ensures always { (w : World) (p : Plain) → BothSound w p → (e : Event) (o : Outcome) (after : World)
-        → (h : Happens w e o after) → Needs h.0 w p e → (q : Plain) × Takes p e o q × BothSound after q }
+        → (h : Happens w e o after) → ((v : Plain) → Alike w v → Needs h.0 w v e)
+        → (q : Plain) × Takes p e o q × BothSound after q }
     ensures needs { (w : World) (p : Plain) → BothSound w p
         → (choice : ℕ → ℕ) (e : Event) (o : Outcome) (after : World) → step choice w e ≡ Ok (o, after)
         → NeedsBothAlone w e → Needs choice w p e }

@@ -10,12 +10,14 @@ ghost use Rattle.fw_script.specs.declared.hex_text.HexFault.TheVariants.{BadHex,
 use crate::output::{OutputRefused, write_text};
 use std::alloc::{AllocError, Allocator};
 use std::io::Write;
+use thiserror::Error;
 
 /// Why a text is not read as bytes.
-#[derive(Clone, Copy)]
+#[derive(Clone, Copy, Debug, PartialEq, Eq, Error)]
 pub enum HexFault {
-    /// The text is not one or more pairs of lower-case hex digits.
+    #[error("the text is not one or more pairs of lower-case hex digits")]
     BadHex,
+    #[error("out of memory")]
     NoMemory,
 }
 

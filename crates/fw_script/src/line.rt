@@ -14,7 +14,7 @@ use crate::form::{Form, ReadForm, WordForm, split_form};
 use fw_world::{Event, Pick};
 
 /// Why a line is no event: the first fault in their order.
-#[derive(Clone, Copy)]
+#[derive(Clone, Copy, Debug, PartialEq, Eq)]
 pub enum LineFault {
     /// The first word is not known, or, after `call` and `read`, the second.
     UnknownEvent,

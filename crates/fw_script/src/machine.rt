@@ -1,8 +1,8 @@
 //! What runs the events of a script: a world, or a session over a link.
 
 use fw_link::Link;
-use fw_world::{Event, Record, Refusal, Session, Tables, WorldOf, run};
-use std::alloc::Allocator;
+use fw_world::{Event, Record, Session, Tables, WorldOf, run};
+use std::alloc::{AllocError, Allocator};
 
 /// The nodes of one side: id, generation and lookup count of each.
 pub(crate) type Nodes<A> = Vec<(u64, u64, u64), A>;
@@ -13,9 +13,9 @@ pub(crate) trait Machine<A: Allocator> {
 
     fn last_put(&self) -> Option<&[u8]>;
 
-    fn kernel_nodes(&self) -> Result<Nodes<A>, Refusal>;
+    fn kernel_nodes(&self) -> Result<Nodes<A>, AllocError>;
 
-    fn server_nodes(&self) -> Result<Nodes<A>, Refusal>;
+    fn server_nodes(&self) -> Result<Nodes<A>, AllocError>;
 }
 
 impl<T: Tables> Machine<T::Heap> for WorldOf<T> {
@@ -31,11 +31,11 @@ impl<T: Tables> Machine<T::Heap> for WorldOf<T> {
         WorldOf::last_put(self)
     }
 
-    fn kernel_nodes(&self) -> Result<Nodes<T::Heap>, Refusal> {
+    fn kernel_nodes(&self) -> Result<Nodes<T::Heap>, AllocError> {
         WorldOf::kernel_nodes(self)
     }
 
-    fn server_nodes(&self) -> Result<Nodes<T::Heap>, Refusal> {
+    fn server_nodes(&self) -> Result<Nodes<T::Heap>, AllocError> {
         WorldOf::server_nodes(self)
     }
 }
@@ -49,11 +49,11 @@ impl<L: Link + Drop, A: Allocator + Copy> Machine<A> for Session<L, A> {
         Session::last_put(self)
     }
 
-    fn kernel_nodes(&self) -> Result<Nodes<A>, Refusal> {
+    fn kernel_nodes(&self) -> Result<Nodes<A>, AllocError> {
         Session::kernel_nodes(self)
     }
 
-    fn server_nodes(&self) -> Result<Nodes<A>, Refusal> {
+    fn server_nodes(&self) -> Result<Nodes<A>, AllocError> {
         Session::server_nodes(self)
     }
 }

@@ -4,11 +4,12 @@ ghost use Rattle.std.specs.Prelude.{◌≡◌, Some};
 ghost use Rattle.fw_script.specs.Stops.{fault_words, status_of, stop_line};
 
 use crate::line::LineFault;
+use std::error::Error;
 use std::fmt;
 use std::io::Write;
 
 /// Why a run ends early.
-#[derive(Clone, Copy)]
+#[derive(Clone, Copy, Debug)]
 pub(crate) enum Stop<'a> {
     CannotRead { name: &'a str },
     BadLine { number: usize, fault: LineFault },
@@ -37,6 +38,8 @@ impl fmt::Display for LineFault {
     }
 }
 
+impl Error for LineFault {}
+
 impl fmt::Display for Stop<'_> {
     ghost output = { λ stop. Some (stop_line stop) };
 
@@ -50,6 +53,8 @@ impl fmt::Display for Stop<'_> {
         }
     }
 }
+
+impl Error for Stop<'_> {}
 
 impl Stop<'_> {
     /// Writes the line on standard error, and gives the exit status. Where standard output

@@ -34,7 +34,7 @@ use Rattle.fuse_frames.specs.RequestTies.{asked_opcode}
 use Rattle.fuse_theorem.specs.EachEvent.{CanReceive}
 use Rattle.fuse_theorem.specs.EachEvent as each
 use Rattle.fuse_theorem.specs.Conditions.{awaiting}
-use Rattle.fuse_theorem.specs.Reached.{IsReached}
+use Rattle.fuse_theorem.specs.SoundWorlds.{IsSoundWorld}
 use Rattle.fuse_theorem.specs.RepliesFit.{FitsPurpose}
 use Rattle.fuse_theorem.proofs.Answers.Answered.{waiting_is}
 use Rattle.fuse_theorem.proofs.Calls.Finding.{All-found}
@@ -120,7 +120,7 @@ module _ (k : Kernel) (unique : ℕ) where
       )
 
 -- A copy that stands on the reply link, in its frame.
-module _ (w : World) (here : IsReached w) (place : ℕ) (sent : Sent) (found : slice_get w.replies place ≡ Some sent)
+module _ (w : World) (here : IsSoundWorld w) (place : ℕ) (sent : Sent) (found : slice_get w.replies place ≡ Some sent)
     (bytes : List ℕ)
     (frame : (o : Opcode) × SaysReply o bytes sent.unique sent.wire)
     (fits : (operation : Operation ℕ Opened) → goes_with operation sent.wire ≡ true
@@ -144,7 +144,7 @@ module _ (w : World) (here : IsReached w) (place : ℕ) (sent : Sent) (found : s
   can_hear : CanReceive w here.plain sent
   can_hear =
       let both = here.sound.both in
-      write_met (λ n. n) w here.plain both.world both.asked both.links both.served both.alike place sent found
+      write_met (λ n. n) w here.plain both.world both.asked both.links both.witness both.alike place sent found
 
   -- It replies to the request of a call, and goes with what is asked.
   to_call : (call : ℕ) (state : CallState Opened) → nat_eq (sent.unique % 2) 1 ≡ false

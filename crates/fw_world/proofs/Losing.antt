@@ -8,7 +8,7 @@ use Rattle.fuse_spec.specs.Kernel.Kernel.{is_live}
 use Rattle.fuse_spec.specs.World.Worlds.{World, after_abort}
 use Rattle.fuse_spec.specs.World.Events.{Outcome, abort, aborted, is_read, taken, performed, sent_again, written}
 use Rattle.fuse_spec.specs.World.Steps.{Happens, IsRefused, RefusedWith}
-use Rattle.fuse_theorem.specs.Reached.{IsReached}
+use Rattle.fuse_theorem.specs.SoundWorlds.{IsSoundWorld}
 use Rattle.fuse_theorem.proofs.Refining.AbortFollows.{abort_follows}
 use Rattle.fuse_theorem.proofs.RefusalCases.Accepted.{unless_ok, ok_is}
 use Rattle.fw_link.specs.Traffic.{Traffic}
@@ -50,7 +50,7 @@ without_memory w r (inl refused) = refused
 without_memory w r (inr wants) = absurd (true≢false (sym wants.takes))
 
 -- An abort that is not refused where it has to be accepted happens.
-pub gives_up : (w new : World) (r : Result OutcomeValue Refusal) → IsReached w
+pub gives_up : (w new : World) (r : Result OutcomeValue Refusal) → IsSoundWorld w
     → ((w.requests ≡ []) × (w.replies ≡ []) × (w.results ≡ []) → ⊥) → IfErr r (RefusedWith w abort)
     → IfOk r (λ o. Happens w abort (outcome_of o) new) → Happens w abort aborted new
 gives_up w new (Ok o) reached some refused happens = aborted_only w new (outcome_of o) happens

@@ -32,11 +32,11 @@ use Rattle.fuse_spec.specs.World.Events as event
 use Rattle.fuse_spec.specs.World.Steps.{Happens, is_past, MayChooseFor}
 use Rattle.fuse_frames.specs.RequestTies.{IsRequestFrame}
 use Rattle.fuse_frames.proofs.RequestLemmas.{one_request, frame_says}
-use Rattle.fuse_theorem.specs.Reached.{IsReached}
-use Rattle.fuse_theorem.proofs.WholeLists.ReachedWorlds.{reached_next}
+use Rattle.fuse_theorem.specs.SoundWorlds.{IsSoundWorld}
+use Rattle.fuse_theorem.proofs.WholeLists.SoundWorlds.{sound_next}
 use Rattle.fk_kernel.specs.Refused.{mount_refusal, begin_refusal, read_refusal, IsPendingRequest}
 use Rattle.fs_server.specs.Effects.{TakesFrame, PerformsHeld, SendsAgain, Settles, copy_of, first_copy}
-use Rattle.fs_server.specs.declared.server.Took.{Took}
+use Rattle.fs_server.specs.declared.server.Taken.{Taken}
 use Rattle.fk_kernel.specs.Refused.{read_forgets_refusal, tick_refusal, drop_refusal, evict_refusal, IsForgetFrame}
 use Rattle.fk_kernel.specs.Refused.{signal_refusal, read_interrupt_refusal, abort_refusal, IsSignalled, IsInterruptFrame}
 use Rattle.fw_world.specs.Values.{with_copy}
@@ -64,13 +64,13 @@ has_no_copy true number unique wire is = refl
 has_no_copy false number unique wire is = absurd
     (none-some (record { number = number; unique = unique; wire = wire }) is)
 
-module _ (w : World) (sound : IsReached w) (kernel : Kernel) (server : Server) (requests : List Request)
+module _ (w : World) (sound : IsSoundWorld w) (kernel : Kernel) (server : Server) (requests : List Request)
     (replies : List Sent) (results : List ReplyResult) where
   abbrev made : World
   made = world_of kernel server requests replies results
 
   abbrev Made : Event → Outcome → Type 0
-  Made e o = Happens w e o made × IsReached made
+  Made e o = Happens w e o made × IsSoundWorld made
 
   -- No counter is past its end.
   abbrev Within : Type 0
@@ -79,7 +79,7 @@ module _ (w : World) (sound : IsReached w) (kernel : Kernel) (server : Server) (
   made_by : (e : Event) (o : Outcome) (after : World) → made ≡ after → Happens w e o after → Made e o
   made_by e o after is happens = (
     happens_so w e o after made is happens,
-    subst IsReached (sym is) (reached_next w sound e o after happens),
+    subst IsSoundWorld (sym is) (sound_next w sound e o after happens),
   )
 
   pub mounted : (found_ms missing_ms : ℕ) (minor : Minor) → found_ms ≤ max_validity → missing_ms ≤ max_validity
@@ -132,10 +132,10 @@ module _ (w : World) (sound : IsReached w) (kernel : Kernel) (server : Server) (
       (is_made after kernel server requests replies results k s sent b c)
       (reads_forgets w n forgets judged first (within after (sym k) (sym s))))
 
-  pub took : {A : Type 0} (place : ℕ) (request : Request) (bytes : List ℕ) (t : Took A)
+  pub took : {A : Type 0} (place : ℕ) (request : Request) (bytes : List ℕ) (t : Taken A)
       → slice_get w.requests place ≡ Some request → IsRequestFrame bytes request → TakesFrame w.server bytes t server
       → kernel ≡ w.kernel
-      → requests ≡ without w.requests place → replies ≡ with_copy w.replies t.copy → results ≡ w.results → Within
+      → requests ≡ without w.requests place → replies ≡ with_copy w.replies t.sent → results ≡ w.results → Within
       → Made (event.take place) (event.taken t.unique t.word)
   took place request bytes t there frame takes_it k a b c within =
       let same : takes_it.request ≡ request =
@@ -144,7 +144,7 @@ module _ (w : World) (sound : IsReached w) (kernel : Kernel) (server : Server) (
       let did : TakeResult = taking w.server request.unique request.body in
       let s : server ≡ did.server = takes_it.after ∙ ap
       (λ (r : Request). (taking w.server r.unique r.body).server) same in
-      let copy : t.copy ≡ copy_of w.server.next_copy request.unique did.reply =
+      let copy : t.sent ≡ copy_of w.server.next_copy request.unique did.reply =
       takes_it.copy ∙ ap (λ (r : Request). copy_of w.server.next_copy r.unique
       (taking w.server r.unique r.body).reply) same in
       let plain : World = record w {
@@ -239,7 +239,7 @@ module _ (w : World) (sound : IsReached w) (kernel : Kernel) (server : Server) (
       (writes w place sent (result, kernel) there is (within after refl (sym s)))
 
   pub settled : (place : ℕ) (result : ReplyResult) → slice_get w.results place ≡ Some result
-      → Settles w.server result server → kernel ≡ w.kernel → requests ≡ w.requests → replies ≡ w.replies
+      → Settles w.server result.number result.result server → kernel ≡ w.kernel → requests ≡ w.requests → replies ≡ w.replies
       → results ≡ without w.results place
       → Made (event.settle place) (event.settled result.unique result.result)
   settled place result there settles_it k a b c =

@@ -9,12 +9,12 @@ use Rattle.fuse_spec.specs.World.Records as records
 use Rattle.fuse_spec.specs.World.Records.{answers_of, collected}
 use Rattle.fuse_spec.specs.Claim.Sessions.{Session, linked, lost}
 use Rattle.fuse_spec.specs.World.Steps.{Happens, RefusedWith}
-use Rattle.fuse_theorem.specs.Reached.{IsReached}
+use Rattle.fuse_theorem.specs.SoundWorlds.{IsSoundWorld}
 use Rattle.fuse_theorem.specs.SessionRecorded.{SessionRecorded}
 use Rattle.fuse_theorem.specs.SessionRecorded as machine
 use Rattle.fuse_theorem.proofs.Answers.AnswersStay.{begins_call}
 use Rattle.fuse_theorem.proofs.RefusalCases.Happened.{Happened, by_mount, by_call, by_read_interrupt, by_read_forgets, by_read_pending, by_take, by_perform, by_again, by_write, by_settle, by_signal, by_tick, by_drop, by_evict, by_abort, happened}
-use Rattle.fuse_theorem.proofs.WholeLists.ReachedWorlds.{none_more_waits, reached_next}
+use Rattle.fuse_theorem.proofs.WholeLists.SoundWorlds.{none_more_waits, sound_next}
 use Rattle.fuse_theorem.proofs.OverLinks.SessionsEnd.{session_refines, session_keeps, session_answers}
 use Rattle.fuse_theorem.proofs.Answers.WaitingAnswers.{one_more_waits}
 use Rattle.fw_link.specs.Traffic.{Traffic}
@@ -57,7 +57,7 @@ no_call mid e o w carries before now happens lost = by_case e o mid (happened ha
     by_case e o mid (by_abort live) lost = refl
 
 -- An event leaves at most one call more that is not over, and none more where the link is lost in it.
-pub one_more_at_most : (w after : World) → IsReached w
+pub one_more_at_most : (w after : World) → IsSoundWorld w
     → (is_lost : Bool) (e : Event) (o : Outcome) (carries : Traffic → Type 0) (before now : ℕ)
     → (is_lost ≡ false → Happens w e o after) → (is_lost ≡ true → LosesIn w e o after carries before now)
     → cond is_lost 1 0 + calls_not_over after ≤ calls_not_over w + 1
@@ -69,12 +69,12 @@ one_more_at_most w after here true e o carries before now happens loses =
     let first = none_more_waits w here e o gone.mid
     (no_call gone.mid e o w carries before now gone.happens gone.is_lost) gone.happens in
     let then = none_more_waits gone.mid
-    (reached_next w here e o gone.mid gone.happens) abort aborted after refl gone.aborts in
+    (sound_next w here e o gone.mid gone.happens) abort aborted after refl gone.aborts in
     omega (arith, first, then)
 
 -- With room for 66 records an event there is room for two an event and for the answers of all calls that may be
 -- unanswered.
-pub room_for_all : (w : World) → IsReached w → (len capacity k n : ℕ) → k < n
+pub room_for_all : (w : World) → IsSoundWorld w → (len capacity k n : ℕ) → k < n
     → capacity < len + calls_not_over w + 2 * n → w.kernel.vfs.answers ≡ [] → capacity < len + 66 * n
 room_for_all w here len capacity k n some full none = omega (arith, some, full, here.few, ap length none)
 
@@ -283,7 +283,7 @@ module _ {L : Type 0} (carries : L → L → Traffic → Type 0) (failed : L →
               (λ i. (events_are i, records_are i)) joined;
         }
 
-    module _ (old : Session) (link : L) (here : IsReached old.world) (events : List EventValue)
+    module _ (old : Session) (link : L) (here : IsSoundWorld old.world) (events : List EventValue)
         (had : List (Record A)) where
       -- What is said of the events that ran.
       abbrev pub ComesOver : Session → L → List (Record A) → Type 0

@@ -13,8 +13,8 @@ use Rattle.fuse_spec.specs.Server.Server.{Server}
 use Rattle.fuse_spec.specs.World.Worlds.{World, Sent, replying}
 use Rattle.fuse_spec.specs.World.Events.{Event, Outcome}
 use Rattle.fuse_spec.specs.World.Steps.{Happens}
-use Rattle.fuse_theorem.specs.Reached.{IsReached}
-use Rattle.fuse_theorem.proofs.WholeLists.ReachedWorlds.{handed_out_reached}
+use Rattle.fuse_theorem.specs.SoundWorlds.{IsSoundWorld}
+use Rattle.fuse_theorem.proofs.WholeLists.SoundWorlds.{handed_out_sound}
 use Rattle.fs_server.specs.Effects.{copy_of}
 use Rattle.fw_world.specs.Values.{with_copy}
 
@@ -80,15 +80,15 @@ after_result old made new number unique result sent same appended number_is uniq
     appended ∙ (λ i. same i ++ record { number = number_is i; unique = unique_is i; result = result } ∷ [])
 
 -- Events led to a world still as the answer of a call is collected.
-pub call_collected_reached : {X : Type 0} (w : World) (kernel : Kernel) (o : Option (ℕ × X)) → IfNone o (kernel ≡ w.kernel)
+pub call_collected_is_sound : {X : Type 0} (w : World) (kernel : Kernel) (o : Option (ℕ × X)) → IfNone o (kernel ≡ w.kernel)
     → IfSome o (λ r. kernel ≡ record w.kernel {
       vfs =
           record w.kernel.vfs { answers = remove w.kernel.vfs.answers r.0 };
     })
-    → IsReached w → IsReached (record w { kernel = kernel })
-call_collected_reached w kernel None none some sound = subst (λ (k : Kernel). IsReached (record w { kernel = k })) (sym none) sound
-call_collected_reached w kernel (Some r) none some sound =
-    subst (λ (k : Kernel). IsReached (record w { kernel = k })) (sym some) (handed_out_reached w r.0 sound)
+    → IsSoundWorld w → IsSoundWorld (record w { kernel = kernel })
+call_collected_is_sound w kernel None none some sound = subst (λ (k : Kernel). IsSoundWorld (record w { kernel = k })) (sym none) sound
+call_collected_is_sound w kernel (Some r) none some sound =
+    subst (λ (k : Kernel). IsSoundWorld (record w { kernel = k })) (sym some) (handed_out_sound w r.0 sound)
 
 -- A copy that is sent goes onto its link, or none is sent.
 pub replying_is : (w : World) (number unique : ℕ) (wire : Option WireReply)

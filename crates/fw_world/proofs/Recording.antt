@@ -8,7 +8,7 @@ use Rattle.fuse_spec.specs.World.Records as records
 use Rattle.fuse_spec.specs.World.Records.{answers_of, collected}
 use Rattle.fuse_spec.specs.World.Steps.{Happens, RefusedWith}
 use Rattle.fuse_theorem.specs.Recorded.{Recorded, none_left, one_refused, one_accepted}
-use Rattle.fuse_theorem.specs.Reached.{IsReached}
+use Rattle.fuse_theorem.specs.SoundWorlds.{IsSoundWorld}
 use Rattle.fuse_theorem.proofs.Refining.Refining.{list_refines, list_answers, list_keeps}
 use Rattle.fw_world.specs.declared.event.Event.{Event as EventValue}
 use Rattle.fw_world.specs.declared.event.Outcome.{Outcome as OutcomeValue}
@@ -113,7 +113,7 @@ wanted_room (Err x) len more capacity full e = full
 
 -- ---- the whole run
 
-module _ {A : Type 0} (old : World) (here : IsReached old) (events : List EventValue) (had : List (Record A)) where
+module _ {A : Type 0} (old : World) (here : IsSoundWorld old) (events : List EventValue) (had : List (Record A)) where
   -- What is said of the events that ran.
   abbrev pub Comes : World → List (Record A) → Type 0
   Comes new has = (added : List (Record A)) × (has ≡ had ++ added)

@@ -32,7 +32,7 @@ use Rattle.fuse_theorem.proofs.Refining.Queuing.{All-at}
 use Rattle.fk_kernel.specs.Refused.{within_counters, begin_refusal, mount_refusal, read_refusal}
 use Rattle.fuse_spec.specs.Kernel.Refusals as kernel
 use Rattle.fuse_spec.specs.Server.Refusals as server
-use Rattle.fuse_theorem.specs.Reached.{IsReached}
+use Rattle.fuse_theorem.specs.SoundWorlds.{IsSoundWorld}
 use Rattle.fk_kernel.specs.Refused.{read_forgets_refusal, tick_refusal, drop_refusal, evict_refusal}
 use Rattle.fs_server.specs.Effects.{RefusesHeld, as_judged, exhausted, RefusesAgain, judged_again, no_number, HasNoCopy}
 use Rattle.fw_world.proofs.Counters.{past_by_kernel, past_by_server, past_by_all}
@@ -230,8 +230,8 @@ pub no_result : (w : World) (place : ℕ) → slice_get w.results place ≡ None
 no_result w place none choice may = ap (λ o. found o (settling w place)) none
 
 -- A result on the link is that of a copy which the server knows.
-pub is_known : (w : World) → IsReached w → (place : ℕ) (result : ReplyResult) (r : Refusal)
-    → slice_get w.results place ≡ Some result → HasNoCopy w.server result r → ⊥
+pub is_known : (w : World) → IsSoundWorld w → (place : ℕ) (result : ReplyResult) (r : Refusal)
+    → slice_get w.results place ≡ Some result → HasNoCopy w.server result.number r → ⊥
 is_known w here place result r there none =
     let all = here.sound in
     let lookups = all.both.world.lookups in

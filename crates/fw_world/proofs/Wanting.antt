@@ -38,12 +38,12 @@ use Rattle.fk_kernel.specs.Refused.{within_counters, begin_refusal, mount_refusa
 use Rattle.fuse_spec.specs.Kernel.Refusals as kernel
 use Rattle.fk_kernel.specs.Refused.{read_interrupt_refusal, read_forgets_refusal}
 use Rattle.fuse_spec.specs.Server.Refusals as server
-use Rattle.fs_server.specs.declared.server.Took.{Took}
+use Rattle.fs_server.specs.declared.server.Taken.{Taken}
 use Rattle.fs_server.specs.Effects.{as_fault, CanSendAgain, CanTake, TakesFrame, AnswersFrame, copy_of, RefusesFrame, fault_or, past_or_memory}
 use Rattle.fs_server.specs.declared.server.ServerFault.{ServerFault}
 use Rattle.fs_server.specs.declared.server.ServerFault.TheVariants.{Memory}
 use Rattle.fuse_spec.specs.Server.Server.{RequestFault, fault_of}
-use Rattle.fuse_theorem.specs.Reached.{IsReached}
+use Rattle.fuse_theorem.specs.SoundWorlds.{IsSoundWorld}
 use Rattle.fuse_theorem.proofs.Replies.NoFault.{no_fault}
 use Rattle.fuse_theorem.proofs.Refining.Queuing.{All-at}
 use Rattle.fw_world.specs.Values.{refusal_for}
@@ -326,7 +326,7 @@ take_wanting w within place request bytes there frame can given is =
 
 -- A request on the link has no fault; so it is refused for want of a number, or of memory where nothing else refuses
 -- it.
-pub take_refused : (w : World) → is_past w ≡ false → IsReached w
+pub take_refused : (w : World) → is_past w ≡ false → IsSoundWorld w
     → (place : ℕ) (request : Request) (bytes : List ℕ) (fault : ServerFault)
     → slice_get w.requests place ≡ Some request → IsRequestFrame bytes request → RefusesFrame w.server bytes fault
     → (fault ≡ Memory → CanTake w.server bytes) → RefusedWith w (event.take place) (refusal_for fault)
@@ -357,18 +357,18 @@ take_refused w within here place request bytes fault there frame refuses can =
     by false past is = take_wanting w within place request bytes there frame (can is) refusal.NoMemory refl
 
 -- The copy with which a frame is taken, if it is answered at once, has the room that was made for it.
-pub answer_has_room : {A P : Type 0} (s : Server) (bytes : List ℕ) (took : Took A) (new : Server)
+pub answer_has_room : {A P : Type 0} (s : Server) (bytes : List ℕ) (took : Taken A) (new : Server)
     → TakesFrame s bytes took new → server.is_past_end new ≡ false → (AnswersFrame s bytes → P)
-    → IfSome took.copy (λ copy. P)
+    → IfSome took.sent (λ copy. P)
 answer_has_room {A} {P} s bytes took new takes_it low room =
     by (taking s takes_it.request.unique takes_it.request.body).reply refl takes_it.copy
   where
     by : (o : Option WireReply) → (taking s takes_it.request.unique takes_it.request.body).reply ≡ o
-        → took.copy ≡ copy_of s.next_copy takes_it.request.unique
-        (taking s takes_it.request.unique takes_it.request.body).reply → IfSome took.copy (λ copy. P)
-    by None e is = no_copy_wants P took.copy (is ∙ ap (copy_of s.next_copy takes_it.request.unique) e)
+        → took.sent ≡ copy_of s.next_copy takes_it.request.unique
+        (taking s takes_it.request.unique takes_it.request.body).reply → IfSome took.sent (λ copy. P)
+    by None e is = no_copy_wants P took.sent (is ∙ ap (copy_of s.next_copy takes_it.request.unique) e)
     by (Some wire) e is =
-        some_copy_wants P took.copy
+        some_copy_wants P took.sent
         (room (record {
           can = record {
             request = takes_it.request;

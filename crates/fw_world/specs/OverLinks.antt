@@ -6,7 +6,8 @@ use Rattle.fuse_spec.specs.Claim.Counts.{Keeps}
 use Rattle.fuse_spec.specs.World.Events.{Event, Outcome, abort, aborted}
 use Rattle.fuse_spec.specs.Reference.Plain.{Plain}
 use Rattle.fuse_spec.specs.World.Records.{Record, outcome, refused, link_lost, answers_of, collected}
-use Rattle.fuse_spec.specs.Claim.Runs.{Refines, AnswersOnce, CallsEnd}
+use Rattle.fuse_spec.specs.Claim.Alike.{Alike}
+use Rattle.fuse_spec.specs.Claim.Runs.{AnswersOnce, CallsEnd}
 use Rattle.fuse_spec.specs.Claim.Sessions.{Session, SessionRun, linked, lost}
 use Rattle.fuse_spec.specs.World.Steps.{Happens, RefusedWith}
 use Rattle.fuse_spec.specs.World.Worlds.{World}
@@ -47,15 +48,15 @@ pub data RecordedOver {L : Type 0} (carries : L → L → Traffic → Type 0) (f
       → RecordedOver carries failed (lost w) link events records after last
       → RecordedOver carries failed (lost w) link (event ∷ events) (refused LinkLost ∷ records) after last
 
--- The events ran over the link with these records: from every plain world that the world before refines there is one
--- plain run over the events with the same records, in which the link is lost where it was, and at whose end the world
--- after refines it again and keeps the reference protocol. Each call is answered at most once, and over with its
--- answer, so that no later list answers it.
+-- The events ran over the link with these records: from every plain world that is alike to the world before there is one
+-- plain run over the events with the same records, in which the link is lost where it was, and at whose end it is alike
+-- to the world after, which keeps the reference protocol. Each call is answered at most once, and over with its answer,
+-- so that no later list answers it.
 pub record RunsOver {L : Type 0} (carries : L → L → Traffic → Type 0) (failed : L → ℕ) (old : Session) (link : L)
     (events : List Event) (added : List Record) (new : Session) (last : L) : Type 0 where
   pub recorded : RecordedOver carries failed old link events added new last
-  pub plain_run : (p : Plain) → Refines old.world p
-      → (q : Plain) × SessionRun old p events added new q × Refines new.world q
+  pub plain_run : (p : Plain) → Alike old.world p
+      → (q : Plain) × SessionRun old p events added new q × Alike new.world q
   pub keeps : Keeps new.world
   pub once : AnswersOnce added
   pub ended : CallsEnd old.world added new.world

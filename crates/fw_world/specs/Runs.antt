@@ -7,7 +7,8 @@ use Rattle.fuse_spec.specs.World.Records.{Record}
 use Rattle.fuse_spec.specs.Reference.Plain.{Plain}
 use Rattle.fuse_spec.specs.Reference.PlainWords.{Steps}
 use Rattle.fuse_spec.specs.Claim.Counts.{Keeps}
-use Rattle.fuse_spec.specs.Claim.Runs.{Refines, Run, AnswersOnce, CallsEnd, IsOver}
+use Rattle.fuse_spec.specs.Claim.Alike.{Alike}
+use Rattle.fuse_spec.specs.Claim.Runs.{Run, AnswersOnce, CallsEnd, IsOver}
 
 -- How many calls are not over: those that are unanswered, and those whose answer waits to be collected.
 abbrev pub calls_not_over : World → ℕ
@@ -24,18 +25,18 @@ abbrev pub events_run : {X E : Type 0} → Result X ℕ → List E → List E
 events_run (Ok x) events = events
 events_run (Err k) events = take k events
 
--- The event happened with this outcome: every plain world that the world before refines takes its step, in words of its
--- own, and the world after refines it again and keeps the reference protocol. A call that was over stays so.
+-- The event happened with this outcome: every plain world that is alike to the world before takes its step, in words of
+-- its own, and is alike to the world after, which keeps the reference protocol. A call that was over stays so.
 pub record StepsAs (old : World) (event : Event) (outcome : Outcome) (new : World) : Type 0 where
-  pub plain_step : (p : Plain) → Refines old p → (q : Plain) × Steps p event outcome q × Refines new q
+  pub plain_step : (p : Plain) → Alike old p → (q : Plain) × Steps p event outcome q × Alike new q
   pub keeps : Keeps new
   pub over : (call : ℕ) → IsOver old call → IsOver new call
 
--- The events ran with these records: from every plain world that the world before refines there is one plain run over
--- the events with the same records, at whose end the world after refines it again. Each call is answered at most once,
--- and over with its answer, so that no later list answers it.
+-- The events ran with these records: from every plain world that is alike to the world before there is one plain run
+-- over the events with the same records, at whose end it is alike to the world after. Each call is answered at most
+-- once, and over with its answer, so that no later list answers it.
 pub record RunsAs (old : World) (events : List Event) (added : List Record) (new : World) : Type 0 where
-  pub plain_run : (p : Plain) → Refines old p → (q : Plain) × Run old p events added new q × Refines new q
+  pub plain_run : (p : Plain) → Alike old p → (q : Plain) × Run old p events added new q × Alike new q
   pub keeps : Keeps new
   pub once : AnswersOnce added
   pub ended : CallsEnd old added new

@@ -7,14 +7,14 @@ use Rattle.fuse_spec.specs.declared.Refusal.{Refusal}
 use Rattle.fuse_spec.specs.declared.Refusal.TheVariants.{NoMemory, NoSuch, Exhausted}
 use Rattle.fuse_spec.specs.World.Events as event
 use Rattle.fuse_spec.specs.World.Records as record_of_run
+use Rattle.fk_kernel.specs.declared.pick.Pick.{Pick}
+use Rattle.fk_kernel.specs.declared.pick.Pick.TheVariants as pick
 use Rattle.fk_syscalls.specs.Values.{call_of, answer_of}
 use Rattle.fs_server.specs.declared.server.ServerFault.{ServerFault}
 use Rattle.fs_server.specs.declared.server.ServerFault.TheVariants as fault
 use Rattle.fw_world.specs.declared.event.Event.{Event}
 use Rattle.fw_world.specs.declared.event.Event.TheVariants.{Mount, Call, Read, Take, Do, Again, Write, Settle}
 use Rattle.fw_world.specs.declared.event.Event.TheVariants.{Interrupt, Tick, DropName, Evict, Abort}
-use Rattle.fw_world.specs.declared.event.Pick.{Pick}
-use Rattle.fw_world.specs.declared.event.Pick.TheVariants as pick
 use Rattle.fw_world.specs.declared.event.Outcome.{Outcome}
 use Rattle.fw_world.specs.declared.event.Outcome.TheVariants as outcome
 use Rattle.fw_world.specs.declared.record.Record.{Record}

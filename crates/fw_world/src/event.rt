@@ -1,19 +1,8 @@
 //! Events, and what they come to.
 
-use fk_kernel::Call;
+use fk_kernel::{Call, Pick};
 use fk_wire::Opcode;
 use fuse_spec::{IntrEffect, Minor, Taken, WriteResult};
-
-/// What is read from the kernel's lists, and goes into the request link.
-#[derive(Clone, Copy, Debug, PartialEq, Eq)]
-pub enum Pick {
-    /// The oldest INTERRUPT.
-    Interrupt,
-    /// So many of the oldest forgets as one request: FORGET for 1, else BATCH_FORGET, for 64 at most.
-    Forgets(u64),
-    /// The pending request at a place, counted from 0.
-    Pending(u64),
-}
 
 /// One event: an atomic step of the world. Paths are lent.
 #[derive(Clone, Copy, Debug)]

@@ -11,8 +11,8 @@ mod session;
 mod tables;
 mod world;
 
-pub use event::{Event, Outcome, Pick};
-pub use fk_kernel::{Answer, Call, ListedName};
+pub use event::{Event, Outcome};
+pub use fk_kernel::{Answer, Call, ListedName, Pick};
 pub use fuse_spec::{Attributes, IntrEffect, Kind, Minor, Refusal, Taken, WriteResult};
 pub use laws::lost_where_failed;
 pub use record::Record;

@@ -2,14 +2,14 @@
 
 ghost use Rattle.std.specs.Prelude.{◌≡◌, []};
 
-use fuse_frames::{ReplyCopy, RequestFrame};
+use fuse_frames::{RequestFrame, Sent};
 use fuse_spec::ReplyResult;
 use std::alloc::Allocator;
 
 /// Empties the three links.
 pub(crate) fn clear_links<A: Allocator>(
     requests: &mut Vec<RequestFrame<A>, A>,
-    replies: &mut Vec<ReplyCopy<A>, A>,
+    replies: &mut Vec<Sent<A>, A>,
     results: &mut Vec<ReplyResult, A>,
 )
     ensures requests { requests.new.items ≡ [] }

@@ -7,10 +7,11 @@ ghost use Rattle.fuse_spec.specs.Claim.Counts.{Keeps};
 ghost use Rattle.fuse_spec.specs.Reference.Plain.{Plain, first_plain};
 ghost use Rattle.fuse_spec.specs.World.Steps.{Happens, RefusedWith};
 ghost use Rattle.fuse_spec.specs.declared.Refusal.TheVariants.{LinkLost};
-ghost use Rattle.fuse_spec.specs.Claim.Runs.{Refines, plain_handed_out};
+ghost use Rattle.fuse_spec.specs.Claim.Alike.{Alike};
+ghost use Rattle.fuse_spec.specs.Claim.Runs.{plain_handed_out};
 ghost use Rattle.fk_syscalls.specs.Values.{answer_of};
 ghost use Rattle.fw_link.specs.Carrying.{IsEmpty};
-ghost use Rattle.fuse_theorem.specs.Reached.{IsReached};
+ghost use Rattle.fuse_theorem.specs.SoundWorlds.{IsSoundWorld};
 ghost use Rattle.fw_world.specs.Frames.{IsFrameOf, IsLastFrame, IsShown};
 ghost use Rattle.fw_world.specs.OverLinks.{StepsOver, session_of};
 ghost use Rattle.fw_world.specs.Runs.{call_collected};
@@ -25,7 +26,7 @@ use crate::world::WorldIn;
 use fk_kernel::Answer;
 use fuse_spec::Refusal;
 use fw_link::{Carrier, Link};
-use std::alloc::{Allocator, Global};
+use std::alloc::{AllocError, Allocator, Global};
 
 /// Aborts the mount of a world on whose links something is.
 fn give_up<A: Allocator + Copy>(world: &mut WorldIn<A>)
@@ -59,7 +60,7 @@ impl<L: Link + Drop, A: Allocator + Copy> Session<L, A> {
     /// `NoMemory`. The link is handed back.
     pub fn new(alloc: A, link: L) -> Result<Session<L, A>, L>
         ensures first { IfOk result (λ session. session.world ≡ first_world) }
-        ensures refines { IfOk result (λ session. Refines session.world first_plain) }
+        ensures refines { IfOk result (λ session. Alike session.world first_plain) }
         ensures link { IfOk result (λ session. (session.link ≡ link) × (session.is_lost ≡ false)) }
         ensures back { IfErr result (λ back. back ≡ link) }
     {
@@ -162,17 +163,17 @@ impl<L: Link + Drop, A: Allocator + Copy> Session<L, A> {
         ensures none { IfNone result (self.new.world ≡ self.old.world) }
         ensures taken { IfSome result (λ r. self.new.world ≡ call_collected self.old.world r.0) }
         ensures link { (self.new.link ≡ self.old.link) × (self.new.is_lost ≡ self.old.is_lost) }
-        ensures refines { IfSome result (λ r. (p : Plain) → Refines self.old.world p →
-            Refines self.new.world (plain_handed_out p r.0)) }
+        ensures refines { IfSome result (λ r. (p : Plain) → Alike self.old.world p →
+            Alike self.new.world (plain_handed_out p r.0)) }
     {
         self.world.collect()
     }
 
-    /// A call without effect, for a caller's proof: the session's world refines some plain world, and the reference
-    /// protocol holds of it. No state that events lead to is left out: it is reached from the first world.
+    /// A call without effect, for a caller's proof: what every event keeps is true of the session's world, it is alike
+    /// to some plain world, and the reference protocol holds of it.
     pub fn keeps_protocol(&self)
-        ensures reached { IsReached self.now.world }
-        ensures refines { (p : Plain) × Refines self.now.world p }
+        ensures sound { IsSoundWorld self.now.world }
+        ensures refines { (p : Plain) × Alike self.now.world p }
         ensures keeps { Keeps self.now.world }
     {
         self.world.keeps_protocol();
@@ -196,8 +197,8 @@ impl<L: Link + Drop, A: Allocator + Copy> Session<L, A> {
     ///
     /// # Errors
     ///
-    /// `NoMemory`, for the list.
-    pub fn kernel_nodes(&self) -> Result<Vec<(u64, u64, u64), A>, Refusal>
+    /// Where there is no memory for the list.
+    pub fn kernel_nodes(&self) -> Result<Vec<(u64, u64, u64), A>, AllocError>
         ensures { IfOk result (λ nodes. nodes.items ≡ counted_nodes self.now.world.kernel.nodes) }
     {
         self.world.kernel_nodes()
@@ -207,8 +208,8 @@ impl<L: Link + Drop, A: Allocator + Copy> Session<L, A> {
     ///
     /// # Errors
     ///
-    /// `NoMemory`, for the list.
-    pub fn server_nodes(&self) -> Result<Vec<(u64, u64, u64), A>, Refusal>
+    /// Where there is no memory for the list.
+    pub fn server_nodes(&self) -> Result<Vec<(u64, u64, u64), A>, AllocError>
         ensures { IfOk result (λ nodes. nodes.items ≡ held_nodes self.now.world.server.nodes.rows) }
     {
         self.world.server_nodes()

@@ -9,9 +9,10 @@ ghost use Rattle.fuse_spec.specs.World.Steps.{Happens, is_past, IsRefused, Refus
 ghost use Rattle.fuse_spec.specs.World.Worlds.{World as WorldState, first_world};
 ghost use Rattle.fuse_spec.specs.Claim.Counts.{Keeps};
 ghost use Rattle.fuse_spec.specs.Reference.Plain.{Plain, first_plain};
-ghost use Rattle.fuse_spec.specs.Claim.Runs.{Refines, plain_handed_out};
+ghost use Rattle.fuse_spec.specs.Claim.Alike.{Alike};
+ghost use Rattle.fuse_spec.specs.Claim.Runs.{plain_handed_out};
 ghost use Rattle.fuse_spec.specs.declared.Refusal.TheVariants.{NoMemory};
-ghost use Rattle.fuse_theorem.specs.Reached.{IsReached};
+ghost use Rattle.fuse_theorem.specs.SoundWorlds.{IsSoundWorld};
 ghost use Rattle.fk_syscalls.specs.Values.{call_of, answer_of};
 ghost use Rattle.fs_server.specs.Effects.{AnswersFrame};
 ghost use Rattle.fw_world.specs.declared.world.LastPut.TheVariants.{Request};
@@ -22,19 +23,19 @@ ghost use Rattle.fw_world.specs.Values.{outcome_of, read_of, refusal_for, with_c
 
 mod last_sent;
 
-use crate::event::{Event, Outcome, Pick};
+use crate::event::{Event, Outcome};
 use crate::links::clear_links;
 use crate::tables::{Lists, Maps, Tables};
-use fk_kernel::{Answer, Call, KernelOf};
+use fk_kernel::{Answer, Call, KernelOf, Pick};
 use fk_lookup_count::CountTable;
 use fk_queues::QueueTable;
 use fs_nodes::NodeStore;
 use fs_server::{ServerFault, ServerOf};
-use fuse_frames::{ReplyCopy, RequestFrame};
+use fuse_frames::{RequestFrame, Sent};
 use fuse_spec::limits::MAX_VALIDITY;
 use fuse_spec::{Minor, Purpose, Refusal, ReplyResult, Taken};
 use fuse_tables::take_at;
-use std::alloc::{Allocator, Global};
+use std::alloc::{AllocError, Allocator, Global};
 use std::marker::Model;
 
 /// Which frame the last step put on a link.
@@ -52,7 +53,7 @@ pub struct WorldOf<T: Tables> {
     kernel: KernelOf<T::Queues, T::Counts>,
     server: ServerOf<T::Nodes>,
     requests: Vec<RequestFrame<T::Heap>, T::Heap>,
-    replies: Vec<ReplyCopy<T::Heap>, T::Heap>,
+    replies: Vec<Sent<T::Heap>, T::Heap>,
     results: Vec<ReplyResult, T::Heap>,
     last_put: LastPut,
 }
@@ -72,7 +73,7 @@ pub type ListWorldIn<A = Global> = WorldOf<Lists<A>>;
 impl<T: Tables> Model for WorldOf<T> {
     ghost use Rattle.std.specs.Coded.{codes};
     ghost use Rattle.fuse_spec.specs.World.Worlds.{World as WorldState};
-    ghost use Rattle.fuse_theorem.specs.Reached.{IsReached};
+    ghost use Rattle.fuse_theorem.specs.SoundWorlds.{IsSoundWorld};
 
     ghost Value = { WorldState };
 
@@ -86,7 +87,7 @@ impl<T: Tables> Model for WorldOf<T> {
       results = w.results.items;
     } };
 
-    ghost invariant = { λ w. IsReached (record {
+    ghost invariant = { λ w. IsSoundWorld (record {
       kernel = w.kernel;
       server = w.server;
       requests = w.requests.items;
@@ -103,7 +104,7 @@ impl<T: Tables> WorldOf<T> {
     /// `NoMemory`.
     pub fn new(alloc: T::Heap) -> Result<Self, Refusal>
         ensures first { IfOk result (λ world. world ≡ first_world) }
-        ensures refines { IfOk result (λ world. Refines world first_plain) }
+        ensures refines { IfOk result (λ world. Alike world first_plain) }
         ensures refusal { IfErr result (λ refusal. refusal ≡ NoMemory) }
     {
         let Ok(server) = ServerOf::new(alloc) else {
@@ -171,8 +172,8 @@ impl<T: Tables> WorldOf<T> {
         ensures answer { option_map (λ r. (r.0, answer_of r.1)) result ≡ slice_get self.old.kernel.vfs.answers 0 }
         ensures none { IfNone result (self.new ≡ self.old) }
         ensures taken { IfSome result (λ r. self.new ≡ call_collected self.old r.0) }
-        ensures refines { IfSome result (λ r. (p : Plain) → Refines self.old p
-            → Refines self.new (plain_handed_out p r.0)) }
+        ensures refines { IfSome result (λ r. (p : Plain) → Alike self.old p
+            → Alike self.new (plain_handed_out p r.0)) }
     {
         self.keeps_protocol();
         self.kernel.collect()
@@ -192,11 +193,11 @@ impl<T: Tables> WorldOf<T> {
         self.kernel.unanswered()
     }
 
-    /// A call without effect, for a caller's proof: the world refines some plain world, and the reference protocol
-    /// holds of it. No state that events lead to is left out: it is reached from the first world.
+    /// A call without effect, for a caller's proof: what every event keeps is true of the world, it is alike to some
+    /// plain world, and the reference protocol holds of it.
     pub fn keeps_protocol(&self)
-        ensures reached { IsReached self.now }
-        ensures refines { (p : Plain) × Refines self.now p }
+        ensures sound { IsSoundWorld self.now }
+        ensures refines { (p : Plain) × Alike self.now p }
         ensures keeps { Keeps self.now }
     {
         // A field is touched so that the type's invariant is at hand.
@@ -244,30 +245,22 @@ impl<T: Tables> WorldOf<T> {
     ///
     /// # Errors
     ///
-    /// `NoMemory`, for the list.
-    pub fn kernel_nodes(&self) -> Result<Vec<(u64, u64, u64), T::Heap>, Refusal>
-        ensures nodes { IfOk result (λ nodes. nodes.items ≡ counted_nodes self.now.kernel.nodes) }
-        ensures refusal { IfErr result (λ refusal. refusal ≡ NoMemory) }
+    /// Where there is no memory for the list.
+    pub fn kernel_nodes(&self) -> Result<Vec<(u64, u64, u64), T::Heap>, AllocError>
+        ensures { IfOk result (λ nodes. nodes.items ≡ counted_nodes self.now.kernel.nodes) }
     {
-        match self.kernel.nodes(*self.requests.allocator()) {
-            Ok(nodes) => Ok(nodes),
-            Err(_) => Err(Refusal::NoMemory),
-        }
+        self.kernel.nodes(*self.requests.allocator())
     }
 
     /// The nodes that the server holds, in rising id and without the root: id, generation and lookup count of each.
     ///
     /// # Errors
     ///
-    /// `NoMemory`, for the list.
-    pub fn server_nodes(&self) -> Result<Vec<(u64, u64, u64), T::Heap>, Refusal>
-        ensures nodes { IfOk result (λ nodes. nodes.items ≡ held_nodes self.now.server.nodes.rows) }
-        ensures refusal { IfErr result (λ refusal. refusal ≡ NoMemory) }
+    /// Where there is no memory for the list.
+    pub fn server_nodes(&self) -> Result<Vec<(u64, u64, u64), T::Heap>, AllocError>
+        ensures { IfOk result (λ nodes. nodes.items ≡ held_nodes self.now.server.nodes.rows) }
     {
-        match self.server.nodes(*self.requests.allocator()) {
-            Ok(nodes) => Ok(nodes),
-            Err(_) => Err(Refusal::NoMemory),
-        }
+        self.server.nodes(*self.requests.allocator())
     }
 
     fn mount(&mut self, found_ms: u64, missing_ms: u64, minor: Minor) -> Result<Outcome, Refusal>
@@ -327,9 +320,9 @@ impl<T: Tables> WorldOf<T> {
     {
         within(&self.kernel, &self.server);
         if self.requests.reserve(1).is_err() {
-            return Err(refusal_or_no_memory(self.kernel.read_interrupt_refusal()));
+            return Err(refusal_or_no_memory(self.kernel.read_refusal(Pick::Interrupt)));
         }
-        let frame = self.kernel.read_interrupt()?;
+        let frame = self.kernel.read(Pick::Interrupt)?;
         within(&self.kernel, &self.server);
         Ok(put_read(&mut self.requests, &mut self.last_put, frame))
     }
@@ -343,9 +336,9 @@ impl<T: Tables> WorldOf<T> {
     {
         within(&self.kernel, &self.server);
         if self.requests.reserve(1).is_err() {
-            return Err(refusal_or_no_memory(self.kernel.read_refusal(place)));
+            return Err(refusal_or_no_memory(self.kernel.read_refusal(Pick::Pending(place))));
         }
-        let frame = self.kernel.read_pending(place)?;
+        let frame = self.kernel.read(Pick::Pending(place))?;
         within(&self.kernel, &self.server);
         Ok(put_read(&mut self.requests, &mut self.last_put, frame))
     }
@@ -359,9 +352,9 @@ impl<T: Tables> WorldOf<T> {
     {
         within(&self.kernel, &self.server);
         if self.requests.reserve(1).is_err() {
-            return Err(refusal_or_no_memory(self.kernel.read_forgets_refusal(count)));
+            return Err(refusal_or_no_memory(self.kernel.read_refusal(Pick::Forgets(count))));
         }
-        let frame = self.kernel.read_forgets(count)?;
+        let frame = self.kernel.read(Pick::Forgets(count))?;
         within(&self.kernel, &self.server);
         Ok(put_read(&mut self.requests, &mut self.last_put, frame))
     }
@@ -415,7 +408,7 @@ impl<T: Tables> WorldOf<T> {
             (outcome_of outcome) self.new) }
         ensures shows { IfOk result (IsShown self.new) }
     {
-        if let Err(refusal) = self.kernel.drop_name(directory, name) {
+        if let Err(refusal) = self.kernel.drop_binding(directory, name) {
             return Err(refusal);
         }
         Ok(Outcome::Dropped)
@@ -458,8 +451,8 @@ impl<T: Tables> WorldOf<T> {
         };
         let _request = take_at(&mut self.requests, place);
         within(&self.kernel, &self.server);
-        self.last_put = reply_put(&took.copy);
-        append_if_any(&mut self.replies, took.copy);
+        self.last_put = reply_put(&took.sent);
+        append_if_any(&mut self.replies, took.sent);
         Ok(Outcome::Taken {
             unique: took.unique,
             word: took.word,
@@ -486,7 +479,7 @@ impl<T: Tables> WorldOf<T> {
         };
         within(&self.kernel, &self.server);
         let errno = done.errno;
-        let Some(first) = done.copy else {
+        let Some(first) = done.sent else {
             return Ok(Outcome::Lost { unique, errno });
         };
         let len = put_reply(&mut self.replies, first);
@@ -565,7 +558,7 @@ impl<T: Tables> WorldOf<T> {
             return Err(Refusal::NoSuch);
         }
         let settled = self.results[place];
-        if let Err(refusal) = self.server.settle(settled) {
+        if let Err(refusal) = self.server.settle(settled.number, settled.result) {
             return Err(refusal);
         }
         let _settled = take_at(&mut self.results, place);
@@ -579,7 +572,7 @@ impl<T: Tables> WorldOf<T> {
 /// Makes room for the answer that a request frame gets at once, as only an INTERRUPT may, and tells whether there is
 /// room.
 fn reserve_answer<S: NodeStore>(
-    replies: &mut Vec<ReplyCopy<S::Heap>, S::Heap>,
+    replies: &mut Vec<Sent<S::Heap>, S::Heap>,
     server: &ServerOf<S>,
     bytes: &[u8],
 ) -> bool
@@ -618,7 +611,7 @@ fn put_read<A: Allocator>(
 }
 
 /// Puts a copy of a reply onto its link, which has room, and tells its length.
-fn put_reply<A: Allocator>(replies: &mut Vec<ReplyCopy<A>, A>, copy: ReplyCopy<A>) -> usize
+fn put_reply<A: Allocator>(replies: &mut Vec<Sent<A>, A>, copy: Sent<A>) -> usize
     requires { vec_len replies.old < vec_capacity replies.old }
     ensures items { replies.new.items ≡ replies.old.items ++ copy ∷ [] }
     ensures len { (bytes : List ℕ) × IsCopyFrame bytes copy × (result ≡ length bytes) }
@@ -641,7 +634,7 @@ fn within<Q: QueueTable<Purpose> + Drop, C: CountTable<Heap = Q::Heap> + Drop, S
 }
 
 /// The copy of a reply goes onto its link, if there is one.
-fn append_if_any<A: Allocator>(list: &mut Vec<ReplyCopy<A>, A>, copy: Option<ReplyCopy<A>>)
+fn append_if_any<A: Allocator>(list: &mut Vec<Sent<A>, A>, copy: Option<Sent<A>>)
     requires { IfSome copy (λ copy. vec_len list.old < vec_capacity list.old) }
     ensures { list.new.items ≡ with_copy list.old.items copy }
 {
@@ -651,7 +644,7 @@ fn append_if_any<A: Allocator>(list: &mut Vec<ReplyCopy<A>, A>, copy: Option<Rep
 }
 
 /// Which frame was put, where this copy of a reply is sent.
-fn reply_put<A: Allocator>(copy: &Option<ReplyCopy<A>>) -> LastPut {
+fn reply_put<A: Allocator>(copy: &Option<Sent<A>>) -> LastPut {
     match copy {
         Some(_) => LastPut::Reply,
         None => LastPut::Nothing,

@@ -13,6 +13,8 @@ enum Row {
     Reserve(u64),
     /// An entry reply is counted, with an id and a generation: whether the id is new.
     Lookup(u64, u64, Result<bool, Unlike>),
+    /// Room is made for an id, and then an entry reply is counted, with the id and a generation.
+    Learn(u64, u64, Result<(), Unlike>),
     Evict(u64, Option<Forget>),
     Clear,
     /// Of an id: its generation and its count, if it is counted.
@@ -26,16 +28,30 @@ fn count_lookup<T: CountTable>(
     id: u64,
     generation: u64,
 ) -> Result<Result<bool, Unlike>, AllocError> {
-    if let Some(node) = table.counted(id)
+    if let Some(node) = table.count_of(id)
         && node.count == u64::MAX
     {
         return Err(AllocError);
     }
-    table.count_lookup(id, generation)
+    table.reserve_and_learn(id, generation)
+}
+
+fn learn<T: CountTable>(
+    table: &mut T,
+    id: u64,
+    generation: u64,
+) -> Result<Result<(), Unlike>, AllocError> {
+    if let Some(node) = table.count_of(id)
+        && node.count == u64::MAX
+    {
+        return Err(AllocError);
+    }
+    table.reserve(id)?;
+    Ok(table.learn(id, generation))
 }
 
 fn is_node<T: CountTable>(table: &T, id: u64, wanted: Option<(u64, u64)>) -> bool {
-    match table.counted(id) {
+    match table.count_of(id) {
         Some(node) => wanted == Some((node.generation, node.count)),
         None => wanted.is_none(),
     }
@@ -55,6 +71,10 @@ fn tried<T: CountTable>(table: &mut T, heap: T::Heap, row: Row) -> Outcome {
             Err(AllocError) => Outcome::NoMemory,
         },
         Row::Lookup(id, generation, wanted) => match count_lookup(table, id, generation) {
+            Ok(given) => judged(given == wanted),
+            Err(AllocError) => Outcome::NoMemory,
+        },
+        Row::Learn(id, generation, wanted) => match learn(table, id, generation) {
             Ok(given) => judged(given == wanted),
             Err(AllocError) => Outcome::NoMemory,
         },
@@ -92,7 +112,7 @@ const ONE_OF_2: Forget = Forget {
     nlookup: 1,
 };
 
-static CALLS: [Row; 25] = [
+static CALLS: [Row; 32] = [
     Row::Node(9, None),
     Row::Lookup(9, 4, Ok(true)),
     Row::Lookup(9, 4, Ok(false)),
@@ -116,6 +136,14 @@ static CALLS: [Row; 25] = [
     Row::Nodes(&[(3, 7, 2), (5, 7, 1), (6, 8, 1), (9, 7, 1)]),
     Row::Lookup(4, 2, Ok(true)),
     Row::Node(4, Some((2, 1))),
+    // with room made first
+    Row::Learn(7, 3, Ok(())),
+    Row::Node(7, Some((3, 1))),
+    Row::Learn(7, 3, Ok(())),
+    Row::Learn(7, 4, Err(Unlike)),
+    Row::Node(7, Some((3, 2))),
+    Row::Learn(4, 2, Ok(())),
+    Row::Node(4, Some((2, 2))),
     Row::Clear,
     Row::Node(3, None),
     Row::Nodes(&[]),

@@ -4,7 +4,7 @@
 use crate::tests::assert_right;
 use crate::tests::digits::{spells, unhex};
 use fail_at::{FailAt, Outcome, Tried, first_wrong, judged};
-use fk_kernel::{Answer, Call, KernelOf, ListedName};
+use fk_kernel::{Answer, Call, KernelOf, ListedName, Pick};
 use fk_lookup_count::{CountTable, KernelNodes};
 use fk_queues::{QueueTable, Queues};
 use fk_wire::Opcode;
@@ -178,7 +178,7 @@ fn reads_pending<Q: RequestQueues, C: LookupCounts<Heap = Q::Heap>>(
     place: u64,
     wanted: Reads,
 ) -> Outcome {
-    read_as(alloc, kernel.read_pending(place), wanted)
+    read_as(alloc, kernel.read(Pick::Pending(place)), wanted)
 }
 
 fn reads_interrupt<Q: RequestQueues, C: LookupCounts<Heap = Q::Heap>>(
@@ -186,7 +186,7 @@ fn reads_interrupt<Q: RequestQueues, C: LookupCounts<Heap = Q::Heap>>(
     alloc: Global,
     wanted: Reads,
 ) -> Outcome {
-    read_as(alloc, kernel.read_interrupt(), wanted)
+    read_as(alloc, kernel.read(Pick::Interrupt), wanted)
 }
 
 fn reads_forgets<Q: RequestQueues, C: LookupCounts<Heap = Q::Heap>>(
@@ -195,7 +195,7 @@ fn reads_forgets<Q: RequestQueues, C: LookupCounts<Heap = Q::Heap>>(
     count: u64,
     wanted: Reads,
 ) -> Outcome {
-    read_as(alloc, kernel.read_forgets(count), wanted)
+    read_as(alloc, kernel.read(Pick::Forgets(count)), wanted)
 }
 
 /// A head, and so many times a record.
@@ -264,7 +264,7 @@ fn drops<Q: RequestQueues, C: LookupCounts<Heap = Q::Heap>>(
     name: &str,
     wanted: Result<(), Refusal>,
 ) -> Outcome {
-    gives(kernel.drop_name(directory, name.as_bytes()), wanted)
+    gives(kernel.drop_binding(directory, name.as_bytes()), wanted)
 }
 
 fn evicts<Q: RequestQueues, C: LookupCounts<Heap = Q::Heap>>(

@@ -111,7 +111,10 @@ fn result_written<A: Allocator>(
     unique: u64,
 ) -> Result<(), WireFault> {
     let head = ReplyHead { error, unique };
-    if read_result(bytes) != Ok((error, unique)) || read_reply_head(bytes) != Ok(head) {
+    if read_result(bytes) != Ok((error, unique))
+        || read_reply_head(bytes) != Ok((error, unique))
+        || ReplyHead::read(bytes) != Ok(head)
+    {
         return Err(WireFault::Body);
     }
     write_result(out, error, unique)

@@ -4,10 +4,10 @@ use crate::tests::assert_right;
 use fail_at::{FailAt, Outcome, Tried, first_wrong, judged};
 use fk_wire::{Request, RequestBody, write_request};
 use fs_nodes::{ListNodes, NodeStore, NodeTable};
-use fs_server::{ServerFault, ServerOf, fault_reply_at};
-use fuse_frames::ReplyCopy;
+use fs_server::{ServerFault, ServerOf};
+use fuse_frames::Sent;
 use fuse_spec::limits::MAX_VALIDITY;
-use fuse_spec::{Minor, Refusal, ReplyResult, Taken, WriteResult};
+use fuse_spec::{Minor, Refusal, Taken, WriteResult};
 use std::alloc::{AllocError, Allocator, Global};
 use std::process::Abort;
 
@@ -60,10 +60,10 @@ pub enum Row {
     Again(u64, &'static str),
     /// No copy is sent under a unique.
     NoCopy(u64),
-    /// A copy, by its number and its unique, is settled with a result.
-    Settles(u64, u64, WriteResult),
+    /// A copy, by its number, is settled with a result.
+    Settles(u64, WriteResult),
     /// A copy is not there to be settled.
-    NoSettle(u64, u64),
+    NoSettle(u64),
     /// The nodes in rising nodeid, each with its generation and its count.
     Nodes(&'static [(u64, u64, u64)]),
 }
@@ -143,16 +143,16 @@ pub fn spells(alloc: Global, bytes: &[u8], text: &str) -> bool {
 }
 
 /// What a copy comes to, of which the frame is given.
-fn copied<A: Allocator>(alloc: Global, copy: Option<&ReplyCopy<A>>, text: &str) -> Outcome {
-    match copy {
-        Some(copy) => judged(spells(alloc, copy.bytes(), text)),
+fn copied<A: Allocator>(alloc: Global, sent: Option<&Sent<A>>, text: &str) -> Outcome {
+    match sent {
+        Some(sent) => judged(spells(alloc, sent.bytes(), text)),
         None => Outcome::Wrong,
     }
 }
 
 fn takes<S: NodeStore>(server: &mut ServerOf<S>, frame: &[u8], word: Taken) -> Outcome {
     match server.take(frame) {
-        Ok(took) => judged(took.word == word && took.copy.is_none()),
+        Ok(taken) => judged(taken.word == word && taken.sent.is_none()),
         Err(ServerFault::Memory) => Outcome::NoMemory,
         Err(_) => Outcome::Wrong,
     }
@@ -185,27 +185,24 @@ fn answers<S: NodeStore>(
     text: &str,
 ) -> Outcome {
     match server.take(frame) {
-        Ok(took) if took.word == Taken::Again => copied(alloc, took.copy.as_ref(), text),
+        Ok(taken) if taken.word == Taken::Again => copied(alloc, taken.sent.as_ref(), text),
         Err(ServerFault::Memory) => Outcome::NoMemory,
         _ => Outcome::Wrong,
     }
 }
 
-/// Whether the error reply to a faulty frame is this one at a minor, or there is none.
-fn is_fault_reply(
+/// Whether a server's error reply to a faulty frame is this one, or there is none.
+pub fn is_fault_reply<S: NodeStore>(
+    server: &ServerOf<S>,
     alloc: Global,
-    minor: Minor,
     frame: &[u8],
     fault: ServerFault,
     text: Option<&str>,
 ) -> bool {
-    let Ok(mut out) = Vec::with_capacity(alloc, 16) else {
-        return false;
-    };
-    let replied = fault_reply_at(minor, frame, fault, &mut out);
-    match text {
-        Some(text) => replied && spells(alloc, &out, text),
-        None => !replied && out.is_empty(),
+    match (server.fault_reply(frame, fault), text) {
+        (Some(reply), Some(text)) => spells(alloc, &reply, text),
+        (None, None) => true,
+        _ => false,
     }
 }
 
@@ -216,10 +213,11 @@ fn refuses<S: NodeStore>(
     fault: ServerFault,
     text: Option<&str>,
 ) -> Outcome {
-    let minor = server.minor();
     match server.take(frame) {
         Ok(_) => Outcome::Wrong,
-        Err(given) => { judged(given == fault && is_fault_reply(alloc, minor, frame, fault, text)) }
+        Err(given) => {
+            judged(given == fault && is_fault_reply(server, alloc, frame, fault, text))
+        }
     }
 }
 
@@ -231,7 +229,7 @@ fn performs<S: NodeStore>(
     text: &str,
 ) -> Outcome {
     match server.perform(unique) {
-        Ok(done) if done.errno == errno => copied(alloc, done.copy.as_ref(), text),
+        Ok(done) if done.errno == errno => copied(alloc, done.sent.as_ref(), text),
         Err(Refusal::NoMemory) => Outcome::NoMemory,
         _ => Outcome::Wrong,
     }
@@ -239,7 +237,7 @@ fn performs<S: NodeStore>(
 
 fn is_lost<S: NodeStore>(server: &mut ServerOf<S>, unique: u64, errno: u32) -> Outcome {
     match server.perform(unique) {
-        Ok(done) => judged(done.errno == errno && done.copy.is_none()),
+        Ok(done) => judged(done.errno == errno && done.sent.is_none()),
         Err(Refusal::NoMemory) => Outcome::NoMemory,
         Err(_) => Outcome::Wrong,
     }
@@ -252,13 +250,14 @@ fn copies_again<S: NodeStore>(
     text: &str,
 ) -> Outcome {
     match server.again(unique) {
-        Ok(copy) => judged(spells(alloc, copy.bytes(), text)),
+        Ok(sent) => judged(spells(alloc, sent.bytes(), text)),
         Err(Refusal::NoMemory) => Outcome::NoMemory,
         Err(_) => Outcome::Wrong,
     }
 }
 
 fn lists<S: NodeStore>(server: &ServerOf<S>, heap: S::Heap, nodes: &[(u64, u64, u64)]) -> Outcome {
+    server.keeps_sound();
     match server.nodes(heap) {
         Ok(given) => judged(given.as_slice() == nodes),
         Err(AllocError) => Outcome::NoMemory,
@@ -327,15 +326,6 @@ fn take_digits<S: NodeStore>(
     }
 }
 
-/// The result of a copy.
-fn settled(number: u64, unique: u64, written: WriteResult) -> ReplyResult {
-    ReplyResult {
-        number,
-        unique,
-        result: written,
-    }
-}
-
 impl<S: NodeStore> Tried<Row, S::Heap> for ServerOf<S> {
     fn attempt(&mut self, heap: S::Heap, alloc: Global, row: Row) -> Outcome {
         match row {
@@ -355,12 +345,10 @@ impl<S: NodeStore> Tried<Row, S::Heap> for ServerOf<S> {
             Row::Unheld(unique) => judged(self.perform(unique).err() == Some(Refusal::NoSuch)),
             Row::Again(unique, text) => copies_again(self, alloc, unique, text),
             Row::NoCopy(unique) => judged(self.again(unique).err() == Some(Refusal::NoCopy)),
-            Row::Settles(number, unique, written) => {
-                judged(self.settle(settled(number, unique, written)).is_ok())
+            Row::Settles(copy, result) => judged(self.settle(copy, result).is_ok()),
+            Row::NoSettle(copy) => {
+                judged(self.settle(copy, WriteResult::Accepted) == Err(Refusal::NoSuch))
             }
-            Row::NoSettle(number, unique) => judged(
-                self.settle(settled(number, unique, WriteResult::Accepted)) == Err(Refusal::NoSuch),
-            ),
             Row::Nodes(nodes) => lists(self, heap, nodes),
         }
     }

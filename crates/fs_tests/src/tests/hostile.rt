@@ -17,7 +17,7 @@ static START: [Row; 6] = [
         0,
         "50000000 00000000 0200000000000000 07000000 1f000000 00000000 01200400 0000 0000 00100000 01000000 0000 0000 00000000 00000000 00000000 00000000 00000000 00000000 00000000 00000000",
     ),
-    Row::Settles(1, 2, WriteResult::Accepted),
+    Row::Settles(1, WriteResult::Accepted),
     Row::Holds(4, 1, Asks::Mkdir("a")),
     Row::Performs(
         4,
@@ -28,7 +28,7 @@ static START: [Row; 6] = [
 
 /// Faulty frames, and the replies to them. They change nothing.
 static FAULTY: [Row; 17] = [
-    Row::Settles(2, 4, WriteResult::Accepted),
+    Row::Settles(2, WriteResult::Accepted),
     // a frame of 39 bytes
     Row::Refuses(
         "2a0000000100000064000000000000000100000000000000000000000000000000000000000000",
@@ -117,7 +117,7 @@ static FAULTY: [Row; 17] = [
 
 /// A frame that is given twice.
 static REPEATED: [Row; 9] = [
-    Row::Settles(2, 4, WriteResult::Accepted),
+    Row::Settles(2, WriteResult::Accepted),
     Row::Takes(
         "2a000000 01000000 6400000000000000 0100000000000000 00000000 00000000 00000000 00000000 6100",
         Taken::Held,
@@ -149,7 +149,7 @@ static REPEATED: [Row; 9] = [
         ServerFault::RepeatedUnique,
         None,
     ),
-    Row::Settles(3, 100, WriteResult::Accepted),
+    Row::Settles(3, WriteResult::Accepted),
     Row::Takes(
         "2a000000 01000000 6400000000000000 0100000000000000 00000000 00000000 00000000 00000000 6100",
         Taken::Held,
@@ -158,7 +158,7 @@ static REPEATED: [Row; 9] = [
 
 /// A node is forgotten while a request about it is held.
 static GONE: [Row; 4] = [
-    Row::Settles(2, 4, WriteResult::Accepted),
+    Row::Settles(2, WriteResult::Accepted),
     Row::Takes(
         "38000000 03000000 6400000000000000 0200000000000000 00000000 00000000 00000000 00000000 00000000 00000000 0000000000000000",
         Taken::Held,
@@ -172,7 +172,7 @@ static GONE: [Row; 4] = [
 
 /// An open number that is none.
 static NOT_OPEN: [Row; 7] = [
-    Row::Settles(2, 4, WriteResult::Accepted),
+    Row::Settles(2, WriteResult::Accepted),
     Row::Takes(
         "50000000 0f000000 6400000000000000 0200000000000000 00000000 00000000 00000000 00000000 0700000000000000 0000000000000000 0a000000 00000000 0000000000000000 00000000 00000000",
         Taken::Held,
@@ -192,9 +192,9 @@ static REFUSED_LATE: [Row; 6] = [
         Taken::Forgot,
     ),
     Row::Nodes(&[]),
-    Row::Settles(2, 4, WriteResult::NoEntry),
+    Row::Settles(2, WriteResult::NoEntry),
     Row::Nodes(&[]),
-    Row::NoSettle(2, 4),
+    Row::NoSettle(2),
 ];
 
 #[test]

@@ -17,7 +17,7 @@ static START: [Row; 4] = [
         0,
         "50000000 00000000 0200000000000000 07000000 1f000000 00000000 01000400 0000 0000 00100000 01000000 0000 0000 00000000 00000000 00000000 00000000 00000000 00000000 00000000 00000000",
     ),
-    Row::Settles(1, 2, WriteResult::Accepted),
+    Row::Settles(1, WriteResult::Accepted),
 ];
 
 /// The file `f` loses its last name while it is counted and open, and then its node.
@@ -28,13 +28,13 @@ static LAST_UNLINK: [Row; 28] = [
         0,
         "a0000000 00000000 0400000000000000 0200000000000000 0100000000000000 0100000000000000 0000000000000000 00000000 00000000 0200000000000000 0000000000000000 0000000000000000 0000000000000000 0000000000000000 0000000000000000 00000000 00000000 00000000 a4810000 01000000 00000000 00000000 00000000 00100000 00000000 0100000000000000 00000000 00000000",
     ),
-    Row::Settles(2, 4, WriteResult::Accepted),
+    Row::Settles(2, WriteResult::Accepted),
     Row::Holds(6, 2, Asks::Write(1, 0, "hi")),
     Row::Performs(6, 0, "18000000 00000000 0600000000000000 02000000 00000000"),
-    Row::Settles(3, 6, WriteResult::Accepted),
+    Row::Settles(3, WriteResult::Accepted),
     Row::Holds(8, 1, Asks::Unlink("f")),
     Row::Performs(8, 0, "10000000 00000000 0800000000000000"),
-    Row::Settles(4, 8, WriteResult::Accepted),
+    Row::Settles(4, WriteResult::Accepted),
     // it has no name, and is still what it was
     Row::Holds(10, 2, Asks::Getattr),
     Row::Performs(
@@ -42,13 +42,13 @@ static LAST_UNLINK: [Row; 28] = [
         0,
         "78000000 00000000 0a00000000000000 0000000000000000 00000000 00000000 0200000000000000 0200000000000000 0000000000000000 0000000000000000 0000000000000000 0000000000000000 00000000 00000000 00000000 a4810000 00000000 00000000 00000000 00000000 00100000 00000000",
     ),
-    Row::Settles(5, 10, WriteResult::Accepted),
+    Row::Settles(5, WriteResult::Accepted),
     Row::Holds(12, 2, Asks::Read(1, 0, 10)),
     Row::Performs(12, 0, "12000000 00000000 0c00000000000000 6869"),
-    Row::Settles(6, 12, WriteResult::Accepted),
+    Row::Settles(6, WriteResult::Accepted),
     Row::Holds(14, 1, Asks::Link(2, "g")),
     Row::Performs(14, 2, "10000000 feffffff 0e00000000000000"),
-    Row::Settles(7, 14, WriteResult::Accepted),
+    Row::Settles(7, WriteResult::Accepted),
     // its node goes while a request about it is held
     Row::Holds(16, 2, Asks::Getattr),
     Row::Takes(
@@ -57,7 +57,7 @@ static LAST_UNLINK: [Row; 28] = [
     ),
     Row::Nodes(&[]),
     Row::Performs(16, 5, "10000000 fbffffff 1000000000000000"),
-    Row::Settles(8, 16, WriteResult::Accepted),
+    Row::Settles(8, WriteResult::Accepted),
     Row::Refuses(
         "38000000 03000000 1400000000000000 0200000000000000 00000000 00000000 00000000 00000000 00000000 00000000 0000000000000000",
         ServerFault::UnknownNode,
@@ -70,7 +70,7 @@ static LAST_UNLINK: [Row; 28] = [
         0,
         "a0000000 00000000 1600000000000000 0200000000000000 0200000000000000 0100000000000000 0000000000000000 00000000 00000000 0300000000000000 0000000000000000 0000000000000000 0000000000000000 0000000000000000 0000000000000000 00000000 00000000 00000000 a4810000 01000000 00000000 00000000 00000000 00100000 00000000 0200000000000000 00000000 00000000",
     ),
-    Row::Settles(9, 22, WriteResult::Accepted),
+    Row::Settles(9, WriteResult::Accepted),
     Row::Nodes(&[(2, 2, 1)]),
 ];
 
@@ -92,7 +92,7 @@ static INTERRUPTED: [Row; 19] = [
         Taken::Ignored,
     ),
     Row::Again(4, "10000000 fcffffff 0400000000000000"),
-    Row::Settles(2, 4, WriteResult::Accepted),
+    Row::Settles(2, WriteResult::Accepted),
     // the request is not known any more, and another never was
     Row::Answers(
         "30000000 24000000 0500000000000000 0000000000000000 00000000 00000000 00000000 00000000 0400000000000000",
@@ -103,8 +103,8 @@ static INTERRUPTED: [Row; 19] = [
         "10000000 f5ffffff 0900000000000000",
     ),
     Row::NoCopy(5),
-    Row::Settles(4, 5, WriteResult::Accepted),
-    Row::Settles(5, 9, WriteResult::NoEntry),
+    Row::Settles(4, WriteResult::Accepted),
+    Row::Settles(5, WriteResult::NoEntry),
     // the mark was that of the request: nothing was made, and later ones are performed, also under its number
     Row::Holds(6, 1, Asks::Mkdir("a")),
     Row::Performs(
@@ -151,7 +151,7 @@ static ABORTED: [Row; 36] = [
     Row::Lost(10, 4),
     Row::NoCopy(4),
     Row::NoCopy(6),
-    Row::NoSettle(2, 4),
+    Row::NoSettle(2),
     // the table goes at the mount alone
     Row::Nodes(&[(2, 1, 1)]),
     Row::Holds(12, 1, Asks::Getattr),
@@ -203,7 +203,7 @@ static ABORTED: [Row; 36] = [
         0,
         "20000000 00000000 0600000000000000 0200000000000000 00000000 00000000",
     ),
-    Row::Settles(9, 6, WriteResult::Accepted),
+    Row::Settles(9, WriteResult::Accepted),
     Row::Nodes(&[(2, 5, 1)]),
 ];
 

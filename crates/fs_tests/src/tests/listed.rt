@@ -25,21 +25,21 @@ static START: [Row; 10] = [
         0,
         "50000000 00000000 0200000000000000 07000000 1f000000 00000000 01200400 0000 0000 00100000 01000000 0000 0000 00000000 00000000 00000000 00000000 00000000 00000000 00000000 00000000",
     ),
-    Row::Settles(1, 2, WriteResult::Accepted),
+    Row::Settles(1, WriteResult::Accepted),
     Row::Holds(4, 1, Asks::Mkdir("a")),
     Row::Performs(
         4,
         0,
         "90000000 00000000 0400000000000000 0200000000000000 0100000000000000 0100000000000000 0000000000000000 00000000 00000000 0200000000000000 0000000000000000 0000000000000000 0000000000000000 0000000000000000 0000000000000000 00000000 00000000 00000000 ed410000 01000000 00000000 00000000 00000000 00100000 00000000",
     ),
-    Row::Settles(2, 4, WriteResult::Accepted),
+    Row::Settles(2, WriteResult::Accepted),
     Row::Holds(6, 1, Asks::Create("bb")),
     Row::Performs(
         6,
         0,
         "a0000000 00000000 0600000000000000 0300000000000000 0200000000000000 0100000000000000 0000000000000000 00000000 00000000 0300000000000000 0000000000000000 0000000000000000 0000000000000000 0000000000000000 0000000000000000 00000000 00000000 00000000 a4810000 01000000 00000000 00000000 00000000 00100000 00000000 0100000000000000 00000000 00000000",
     ),
-    Row::Settles(3, 6, WriteResult::Accepted),
+    Row::Settles(3, WriteResult::Accepted),
 ];
 
 /// Each copy counts each file, and each refused copy gives every count back.
@@ -50,13 +50,13 @@ static COPIED: [Row; 12] = [
     Row::Nodes(&[(2, 1, 2), (3, 2, 2)]),
     Row::Again(8, BOTH),
     Row::Nodes(&[(2, 1, 3), (3, 2, 3)]),
-    Row::Settles(5, 8, WriteResult::NoEntry),
+    Row::Settles(5, WriteResult::NoEntry),
     Row::Nodes(&[(2, 1, 2), (3, 2, 2)]),
     // the reply is not kept any longer
     Row::NoCopy(8),
-    Row::Settles(4, 8, WriteResult::Invalid),
+    Row::Settles(4, WriteResult::Invalid),
     Row::Nodes(&[(2, 1, 1), (3, 2, 1)]),
-    Row::NoSettle(4, 8),
+    Row::NoSettle(4),
 ];
 
 /// No copy is sent once one of the nodes is forgotten, nor once its file has a node under another generation.
@@ -77,7 +77,7 @@ static FORGOTTEN: [Row; 10] = [
     ),
     Row::NoCopy(8),
     // what is still held under its generation is given back
-    Row::Settles(4, 8, WriteResult::NoEntry),
+    Row::Settles(4, WriteResult::NoEntry),
     Row::Nodes(&[(2, 3, 1), (3, 2, 1)]),
 ];
 
@@ -93,33 +93,33 @@ static TWO_NAMES: [Row; 20] = [
         0,
         "50000000 00000000 0200000000000000 07000000 1f000000 00000000 01200400 0000 0000 00100000 01000000 0000 0000 00000000 00000000 00000000 00000000 00000000 00000000 00000000 00000000",
     ),
-    Row::Settles(1, 2, WriteResult::Accepted),
+    Row::Settles(1, WriteResult::Accepted),
     Row::Holds(4, 1, Asks::Create("a")),
     Row::Performs(
         4,
         0,
         "a0000000 00000000 0400000000000000 0200000000000000 0100000000000000 0100000000000000 0000000000000000 00000000 00000000 0200000000000000 0000000000000000 0000000000000000 0000000000000000 0000000000000000 0000000000000000 00000000 00000000 00000000 a4810000 01000000 00000000 00000000 00000000 00100000 00000000 0100000000000000 00000000 00000000",
     ),
-    Row::Settles(2, 4, WriteResult::Accepted),
+    Row::Settles(2, WriteResult::Accepted),
     Row::Holds(6, 1, Asks::Link(2, "b")),
     Row::Performs(
         6,
         0,
         "90000000 00000000 0600000000000000 0200000000000000 0100000000000000 0100000000000000 0000000000000000 00000000 00000000 0200000000000000 0000000000000000 0000000000000000 0000000000000000 0000000000000000 0000000000000000 00000000 00000000 00000000 a4810000 02000000 00000000 00000000 00000000 00100000 00000000",
     ),
-    Row::Settles(3, 6, WriteResult::Accepted),
+    Row::Settles(3, WriteResult::Accepted),
     Row::Holds(8, 1, Asks::Readdirplus(0, 4096)),
     Row::Performs(8, 0, TWICE),
     Row::Nodes(&[(2, 1, 4)]),
     Row::Again(8, TWICE),
     Row::Nodes(&[(2, 1, 6)]),
-    Row::Settles(5, 8, WriteResult::NoEntry),
+    Row::Settles(5, WriteResult::NoEntry),
     Row::Nodes(&[(2, 1, 4)]),
     Row::Takes(
         "30000000 02000000 0a00000000000000 0200000000000000 00000000 00000000 00000000 00000000 0200000000000000",
         Taken::Forgot,
     ),
-    Row::Settles(4, 8, WriteResult::NoEntry),
+    Row::Settles(4, WriteResult::NoEntry),
     Row::Nodes(&[]),
 ];
 

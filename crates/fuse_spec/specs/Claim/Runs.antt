@@ -7,16 +7,9 @@ use Rattle.fuse_spec.specs.World.Events.{Event, Outcome}
 use Rattle.fuse_spec.specs.World.Steps.{Happens, RefusedWith}
 use Rattle.fuse_spec.specs.World.Records.{Record, outcome, refused, answered, answers_of, collected}
 use Rattle.fuse_spec.specs.Reference.Plain.{Plain}
-use Rattle.fuse_spec.specs.Reference.PlainReplies.{AsksServed}
 use Rattle.fuse_spec.specs.Reference.PlainWords.{Steps}
 use Rattle.fuse_spec.specs.Claim.Counts.{Keeps}
 use Rattle.fuse_spec.specs.Claim.Alike.{Alike}
-
--- The world refines the plain world: that is one whose replies go with what was asked, and the two are alike. This is
--- the refinement relation of the headline.
-pub record Refines (w : World) (p : Plain) : Type 0 where
-  pub alike : Alike w p
-  pub served : AsksServed p
 
 -- The plain world once the answer of one call is collected.
 abbrev pub plain_handed_out : Plain → ℕ → Plain

@@ -107,7 +107,26 @@ module _ (w : World) (answers : Map Answer) (sorted : T (is_sorted nat_cmp answe
         };
         held = held both.held;
         kept = both.kept;
-        served = both.served;
+        witness =
+            let beside = both.witness in
+            record {
+              plain = plain_with_answers beside.plain answers;
+              alike = answers_alike w answers beside.plain beside.alike answers refl;
+              served = λ unique ask at.
+                  let was = beside.served unique ask at in
+                  record {
+                    replied = was.replied;
+                    not_interrupted = was.not_interrupted;
+                    interrupted = λ live stage.
+                        let of_it = was.interrupted live stage in
+                        record {
+                          even = of_it.even;
+                          drawn = of_it.drawn;
+                          marked = of_it.marked;
+                          of_call = of_it.of_call;
+                        };
+                  };
+            };
       }
 
   pub collected_releases : ReleasesKnown w → ReleasesKnown (with_answers w answers)

@@ -153,7 +153,7 @@ module _ (choice : ℕ → ℕ) (w : World) (p : Plain) (both : BothSound w p) (
         written_heard (IsOfItsNode w.server) w.kernel old.apart numbers.one_request sent.unique sent.wire
         (wire_usable w.server.nodes w.kernel.nodes balanced.known sent.wire entries)
         (opened_fits w p both.nodes (known_held w lookups) sent entries
-        (write_met choice w p sound both.asked both.links both.served both.alike k sent there)) alive
+        (write_met choice w p sound both.asked both.links both.witness both.alike k sent there)) alive
 
   kept_apart : (v : World) → v.kernel ≡ w.kernel → OpensApart v.kernel.vfs v.kernel.closing
   kept_apart v same = subst (λ (k : Kernel). OpensApart k.vfs k.closing) (sym same) old.apart

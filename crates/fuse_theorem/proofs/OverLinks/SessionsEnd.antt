@@ -7,17 +7,18 @@ use Rattle.fuse_spec.specs.Claim.Counts.{Keeps}
 use Rattle.fuse_spec.specs.World.Events.{Event}
 use Rattle.fuse_spec.specs.Reference.Plain.{Plain}
 use Rattle.fuse_spec.specs.World.Records.{Record, outcome, refused, link_lost, answers_of, collected}
-use Rattle.fuse_spec.specs.Claim.Runs.{Refines, AnswersOnce, IsOver, EndsCall, CallsEnd}
+use Rattle.fuse_spec.specs.Claim.Alike.{Alike}
+use Rattle.fuse_spec.specs.Claim.Runs.{AnswersOnce, IsOver, EndsCall, CallsEnd}
 use Rattle.fuse_spec.specs.Claim.Sessions.{Session, SessionRun, linked, lost}
 use Rattle.fuse_spec.specs.World.Worlds.{World}
 use Rattle.fuse_theorem.specs.AnswersSound.{AnswersSound}
-use Rattle.fuse_theorem.specs.Reached.{IsReached}
+use Rattle.fuse_theorem.specs.SoundWorlds.{IsSoundWorld}
 use Rattle.fuse_theorem.specs.SessionRecorded.{SessionRecorded, none_left, one_refused, one_accepted, one_lost, one_too_late}
 use Rattle.fuse_theorem.proofs.WholeLists.AllKeeps.{all_keep}
 use Rattle.fuse_theorem.proofs.Answers.AnswersStay.{IsCollected, calls_stay, collected_sound}
 use Rattle.fuse_theorem.proofs.Calls.CallsEnd.{over_is, is_over, all_answers, ends_before}
 use Rattle.fuse_theorem.proofs.Answers.EachAnsweredOnce.{answered_collected}
-use Rattle.fuse_theorem.proofs.Refining.Refining.{sound_with, refined_by}
+use Rattle.fuse_theorem.proofs.Refining.Refining.{sound_with}
 use Rattle.fuse_theorem.proofs.OverLinks.SessionsAnswered.{both_stay, session_answers_once}
 use Rattle.fuse_theorem.proofs.OverLinks.SessionsRun.{session_run}
 
@@ -73,13 +74,13 @@ session_calls_end s sound events records after (one_too_late v event rest more l
     let next = session_calls_end (lost v) sound rest more last recorded in
     record { ended = All-cons (EndsCall v last.world) (refused LinkLost) more tt next.ended; stay = next.stay }
 
-module _ (s : Session) (here : IsReached s.world) (events : List Event) (records : List Record) (after : Session)
+module _ (s : Session) (here : IsSoundWorld s.world) (events : List Event) (records : List Record) (after : Session)
     (recorded : SessionRecorded s events records after) where
-  pub session_refines : (p : Plain) → Refines s.world p
-      → (q : Plain) × SessionRun s p events records after q × Refines after.world q
+  pub session_refines : (p : Plain) → Alike s.world p
+      → (q : Plain) × SessionRun s p events records after q × Alike after.world q
   session_refines p refines =
       let run = session_run s p (sound_with s.world here p refines) events records after recorded in
-      (run.0, run.1, refined_by s.world here after.world run.0 run.2)
+      (run.0, run.1, run.2.both.alike)
 
   pub session_keeps : Keeps after.world
   session_keeps = let run = session_run s here.plain here.sound events records after recorded in

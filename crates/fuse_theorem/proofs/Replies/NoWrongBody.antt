@@ -124,4 +124,4 @@ module _ (w : World) (p : Plain) (both : BothSound w p) (fit : RepliesFit w) (k 
 pub none_invalid : (w : World) (p : Plain) → BothSound w p → RepliesFit w → (k : ℕ) (sent : Sent)
     → slice_get w.replies k ≡ Some sent → (reply_written w.kernel sent.unique sent.wire).0 ≢ Invalid
 none_invalid w p both fit k sent there = heard_fits w p both fit k sent there
-    (write_met (λ n. n) w p both.world both.asked both.links both.served both.alike k sent there)
+    (write_met (λ n. n) w p both.world both.asked both.links both.witness both.alike k sent there)

@@ -6,11 +6,17 @@ use Rattle.fuse_spec.specs.declared.Purpose.{Purpose}
 use Rattle.fuse_spec.specs.declared.Purpose.TheVariants as purpose
 use Rattle.fuse_spec.specs.declared.QueuedRequest.{QueuedRequest}
 use Rattle.fuse_spec.specs.Values.Maps.{get}
-use Rattle.fuse_spec.specs.Files.Operations.{Reply}
+use Rattle.fuse_spec.specs.Values.Numbers.{eintr}
+use Rattle.fuse_spec.specs.declared.Mark.{Mark}
+use Rattle.fuse_spec.specs.declared.Mark.TheVariants as mark
+use Rattle.fuse_spec.specs.Kernel.Queues.{has_interrupt, is_signalled}
+use Rattle.fuse_spec.specs.Kernel.Messages.{WireReply}
+use Rattle.fuse_spec.specs.Kernel.Replies.{goes_with}
+use Rattle.fuse_spec.specs.Files.Operations.{Operation, lookup, getattr, mkdir, create, unlink, rmdir, rename, link, opening, readdir, readdirplus, read, write, Reply, failed, ReplyAlike}
 use Rattle.fuse_spec.specs.Calls.Vfs.{CallState, asked}
 use Rattle.fuse_spec.specs.Kernel.QueueCalls.{waiting}
 use Rattle.fuse_spec.specs.Kernel.Kernel.{is_live, is_for}
-use Rattle.fuse_spec.specs.Server.Nodes.{HeldNode}
+use Rattle.fuse_spec.specs.Server.Nodes.{HeldNode, NodeTable, HandleTable}
 use Rattle.fuse_spec.specs.Reference.Plain.{Plain, Ask, Stage, performed, declined}
 use Rattle.fuse_spec.specs.Reference.Plain as plain
 use Rattle.fuse_spec.specs.World.Worlds.{World, Sent}
@@ -18,8 +24,8 @@ use Rattle.fuse_spec.specs.World.Events as event
 use Rattle.fuse_spec.specs.Claim.Denotes.{Denotes, MeansIn, MeansOpenIn, generation_known, Names, Opens}
 use Rattle.fuse_spec.specs.Claim.Alike.{Alike, StageTold, IsPaired}
 use Rattle.fuse_theorem.specs.AskedRequests.{RequestsAskedWhileLive}
-use Rattle.fuse_spec.specs.Reference.PlainReplies.{AskServed, AsksServed}
-use Rattle.fuse_theorem.specs.Conditions.{IsReply, IsDeclined}
+use Rattle.fuse_theorem.specs.PlainWitness.{PlainWitness, AskServed}
+use Rattle.fuse_theorem.specs.Conditions.{IsReply, IsDeclined, OpensItsFile}
 use Rattle.fuse_theorem.specs.EachEvent.{CanReceive, Needs}
 use Rattle.fuse_theorem.specs.EachEvent as each
 use Rattle.fuse_theorem.specs.Links.{LinksSound}
@@ -27,7 +33,7 @@ use Rattle.fuse_theorem.specs.Lookups.{EntriesHeld, LookupsBalanced}
 use Rattle.fuse_theorem.specs.Numbering.{IsNumbered, requests_for}
 use Rattle.fuse_theorem.specs.WorldSound.{WorldSound}
 use Rattle.fuse_theorem.proofs.Answers.Answered.{Waits, waiting_is}
-use Rattle.fuse_theorem.proofs.Calls.Cases.{same_operation, same_reply}
+use Rattle.fuse_theorem.proofs.Calls.Cases.{same_operation, SameReply, same_found, same_missing, same_created, same_opened, same_attributes, same_listed, same_listed_plus, same_content, same_written, same_agreed, same_done, same_failed, same_reply}
 use Rattle.fuse_theorem.proofs.Calls.Finding.{same_is, none_passes, found_one, All-found}
 use Rattle.fuse_theorem.proofs.Requests.LinksSound.{AgreesToInit, none_at, init_is_first}
 use Rattle.fuse_theorem.proofs.Refining.Queuing.{All-at}
@@ -35,8 +41,51 @@ use Rattle.fuse_theorem.proofs.Refining.JudgedReplies.{reply_usable}
 use Rattle.fuse_theorem.proofs.Replies.RepliesGo.{wire_goes, wire_opens}
 use Rattle.fuse_theorem.proofs.Nodes.ServerSound.{one_id}
 
-module _ (w : World) (p : Plain) (sound : WorldSound w) (asked_so : RequestsAskedWhileLive w) (links : LinksSound w)
-    (served : AsksServed p) (same : Alike w p) (live : is_live w.kernel.phase ≡ true) (k : ℕ) (sent : Sent)
+-- A reply that fails opens no file.
+opens_none : (t : NodeTable) (h : HandleTable) (operation : Operation ℕ Opened) (errno : ℕ)
+    → OpensItsFile t h operation (failed errno)
+opens_none t h (lookup d name) errno = tt
+opens_none t h (getattr x) errno = tt
+opens_none t h (mkdir d name) errno = tt
+opens_none t h (create d name) errno = tt
+opens_none t h (unlink d name) errno = tt
+opens_none t h (rmdir d name) errno = tt
+opens_none t h (rename d old e new) errno = tt
+opens_none t h (link x d name) errno = tt
+opens_none t h (opening x) errno = tt
+opens_none t h (readdir d after size) errno = tt
+opens_none t h (readdirplus d after size) errno = tt
+opens_none t h (read o offset size) errno = tt
+opens_none t h (write o offset bytes) errno = tt
+
+-- What is alike to an error is that error.
+failed_alike : (t : NodeTable) (h : HandleTable) (errno : ℕ) (wire : WireReply) (reply : Reply ℕ ℕ)
+    → wire ≡ failed errno → ReplyAlike (Names t) (Opens h) wire reply → reply ≡ failed errno
+failed_alike t h errno wire reply is told = by wire reply is (same_reply (Names t) (Opens h) wire reply told)
+  where
+    by : (x : WireReply) (y : Reply ℕ ℕ) → x ≡ failed errno → SameReply (Names t) (Opens h) x y → y ≡ failed errno
+    by _ _ e (same_found x0 y0 x1 y1 r q) = absurd (cc (e))
+    by _ _ e (same_missing x0 y0 q) = absurd (cc (e))
+    by _ _ e (same_created x0 y0 x1 y1 x2 y2 r q s) = absurd (cc (e))
+    by _ _ e (same_opened x0 y0 s) = absurd (cc (e))
+    by _ _ e (same_attributes x0 y0 q) = absurd (cc (e))
+    by _ _ e (same_listed x0 y0 q) = absurd (cc (e))
+    by _ _ e (same_listed_plus x0 y0 q) = absurd (cc (e))
+    by _ _ e (same_content x0 y0 q) = absurd (cc (e))
+    by _ _ e (same_written x0 y0 q) = absurd (cc (e))
+    by _ _ e (same_agreed x0 y0 x1 y1 x2 y2 q r s) = absurd (cc (e))
+    by _ _ e same_done = absurd (cc (e))
+    by _ _ e (same_failed x0 y0 q) = let same : x0 ≡ errno = cc (e) in ap failed (sym q ∙ same)
+
+-- A request whose INTERRUPT was due bears a signal.
+interrupt_signals : (m : Mark) → has_interrupt m ≡ true → is_signalled m ≡ true
+interrupt_signals mark.Unread e = absurd (true≢false (sym e))
+interrupt_signals mark.Flagged e = refl
+interrupt_signals mark.Read e = absurd (true≢false (sym e))
+interrupt_signals mark.Interrupted e = refl
+
+module _ (w : World) (sound : WorldSound w) (asked_so : RequestsAskedWhileLive w) (links : LinksSound w)
+    (witness : PlainWitness w) (p : Plain) (same : Alike w p) (live : is_live w.kernel.phase ≡ true) (k : ℕ) (sent : Sent)
     (there : slice_get w.replies k ≡ Some sent) where
   numbered : IsNumbered w
   numbered = let lookups = sound.lookups in let numbers = lookups.numbers in numbers.live live
@@ -73,31 +122,73 @@ module _ (w : World) (p : Plain) (sound : WorldSound w) (asked_so : RequestsAske
         ≡ false) sent.unique w.kernel.queues.requests is_wait.request fails is_wait.under)
 
     module _ (state : CallState Opened) (state_is : get w.kernel.vfs.calls call ≡ Some state) where
-      pair : IsPaired w p call state
-      pair = (same.asks live).of_calls call state state_is
+      -- its ask, in any plain world that is alike, and what the copy says of it
+      module _ (v : Plain) (alike : Alike w v) where
+        pair_in : IsPaired w v call state
+        pair_in = (alike.asks live).of_calls call state state_is
 
-      same_unique : pair.unique ≡ sent.unique
-      same_unique =
-          let at_most : requests_for call w.kernel.queues ≤ 1 =
-          subst (λ (o : Option (CallState Opened)). requests_for call w.kernel.queues ≤ cond
-          (is_some o) 1 0) state_is (numbered.one_request call) in
-          found_one (λ (x : ℕ × QueuedRequest Purpose). is_for call x.1.kept) sent.unique pair.unique is_wait.request w.kernel.queues.requests at_most is_wait.under mine pair.request
+        same_unique : pair_in.unique ≡ sent.unique
+        same_unique =
+            let at_most : requests_for call w.kernel.queues ≤ 1 =
+            subst (λ (o : Option (CallState Opened)). requests_for call w.kernel.queues ≤ cond
+            (is_some o) 1 0) state_is (numbered.one_request call) in
+            found_one (λ (x : ℕ × QueuedRequest Purpose). is_for call x.1.kept) sent.unique pair_in.unique is_wait.request w.kernel.queues.requests at_most is_wait.under mine pair_in.request
+
+        there_in : get v.asks sent.unique ≡ Some pair_in.ask
+        there_in = subst (λ (n : ℕ). get v.asks n ≡ Some pair_in.ask) same_unique pair_in.there
+
+        said_in : (s : Stage) → pair_in.ask.stage ≡ s → StageTold w.server.nodes w.server.handles s sent.wire
+        said_in s stage = subst (λ (x : Stage). StageTold w.server.nodes w.server.handles x sent.wire) stage
+            (All-at (λ (x : Sent). (ask : Ask) → get v.asks x.unique ≡ Some ask
+            → StageTold w.server.nodes w.server.handles ask.stage x.wire) w.replies k sent
+            (alike.asks live).copies there pair_in.ask there_in)
+
+      abbrev pair : IsPaired w p call state
+      pair = pair_in p same
 
       ask_there : get p.asks sent.unique ≡ Some pair.ask
-      ask_there = subst (λ (n : ℕ). get p.asks n ≡ Some pair.ask) same_unique pair.there
+      ask_there = there_in p same
 
-      told : StageTold w.server.nodes w.server.handles pair.ask.stage sent.wire
-      told = All-at (λ (s : Sent). (ask : Ask) → get p.asks s.unique ≡ Some ask
-          → StageTold w.server.nodes w.server.handles ask.stage s.wire) w.replies k sent
-          (same.asks live).copies there pair.ask ask_there
+      -- the ask of the plain world that stands beside the world
+      abbrev known : IsPaired w witness.plain call state
+      known = pair_in witness.plain witness.alike
 
-      is_served : AskServed pair.ask
-      is_served = served sent.unique pair.ask ask_there
+      is_served : AskServed w.kernel sent.unique known.ask
+      is_served = witness.served sent.unique known.ask (there_in witness.plain witness.alike)
+
+      says : (s : Stage) → known.ask.stage ≡ s → StageTold w.server.nodes w.server.handles s sent.wire
+      says = said_in witness.plain witness.alike
+
+      goes : (s : Stage) → known.ask.stage ≡ s → goes_with (asked state) sent.wire ≡ true
+      goes plain.waiting stage = absurd (says plain.waiting stage)
+      goes (performed reply) stage = wire_goes (MeansIn w) (MeansOpenIn w) w.server.nodes w.server.handles
+          (asked state) known.ask.operation sent.wire reply known.same (says (performed reply) stage)
+          (is_served.replied reply stage)
+      goes declined stage = ap (goes_with (asked state)) (says declined stage)
+
+      opens : (s : Stage) → known.ask.stage ≡ s
+          → OpensItsFile w.server.nodes w.server.handles (asked state) sent.wire
+      opens plain.waiting stage = absurd (says plain.waiting stage)
+      opens (performed reply) stage = wire_opens w.kernel.nodes w.server.nodes w.server.handles one_file (MeansOpenIn w)
+          (asked state) known.ask.operation sent.wire reply
+          (same_operation (MeansIn w) (MeansOpenIn w) (asked state) known.ask.operation known.same)
+          (same_reply (Names w.server.nodes) (Opens w.server.handles) sent.wire reply (says (performed reply) stage))
+          (is_served.replied reply stage)
+      opens declined stage = subst (OpensItsFile w.server.nodes w.server.handles (asked state)) (sym
+          (says declined stage)) (opens_none w.server.nodes w.server.handles (asked state) eintr)
+
+      -- what is declined was interrupted, so that a signal is noted on its ask
+      noted : (s : Stage) → known.ask.stage ≡ s → sent.wire ≡ failed eintr → pair.ask.noted ≡ true
+      noted plain.waiting stage wire = absurd (says plain.waiting stage)
+      noted (performed reply) stage wire = absurd (is_served.not_interrupted reply stage
+          (failed_alike w.server.nodes w.server.handles eintr sent.wire reply wire (says (performed reply) stage)))
+      noted declined stage wire =
+          let interrupted = is_served.interrupted live stage in
+          (same.asks live).signalled sent.unique is_wait.request pair.ask is_wait.under ask_there
+          (interrupt_signals is_wait.request.mark (interrupted.marked is_wait.request is_wait.under))
 
       is_reply : (reply : Reply ℕ ℕ) → pair.ask.stage ≡ performed reply → IsReply w p sent call state reply
       is_reply reply stage =
-          let says = subst (λ (s : Stage). StageTold w.server.nodes w.server.handles s sent.wire) stage told in
-          let so = is_served.replied reply stage in
           let entries = All-at (λ (s : Sent). EntriesHeld w.server.nodes s.wire) w.replies k sent balanced.copies there in
           record {
             request = is_wait.request;
@@ -109,15 +200,11 @@ module _ (w : World) (p : Plain) (sound : WorldSound w) (asked_so : RequestsAske
             by_call = pair.by;
             same = pair.same;
             stage = stage;
-            told = says;
-            goes = wire_goes (MeansIn w) (MeansOpenIn w) w.server.nodes w.server.handles
-                (asked state) pair.ask.operation sent.wire reply pair.same says so;
+            told = said_in p same (performed reply) stage;
+            goes = goes known.ask.stage refl;
             used = reply_usable w.server.nodes w.kernel.nodes
                 (λ id node at. let known = balanced.known id node at in known.2) sent.wire entries;
-            opens = wire_opens w.kernel.nodes w.server.nodes w.server.handles one_file (MeansOpenIn w)
-                (asked state) pair.ask.operation sent.wire reply
-                (same_operation (MeansIn w) (MeansOpenIn w) (asked state) pair.ask.operation pair.same)
-                (same_reply (Names w.server.nodes) (Opens w.server.handles) sent.wire reply says) so;
+            opens = opens known.ask.stage refl;
           }
 
       is_declined : pair.ask.stage ≡ declined → IsDeclined w p sent call state
@@ -130,13 +217,12 @@ module _ (w : World) (p : Plain) (sound : WorldSound w) (asked_so : RequestsAske
         there = ask_there;
         by_call = pair.by;
         stage = stage;
-        noted = is_served.noted stage;
-        wire_is = subst (λ (s : Stage). StageTold w.server.nodes w.server.handles s sent.wire) stage told;
+        noted = noted known.ask.stage refl (said_in p same declined stage);
+        wire_is = said_in p same declined stage;
       }
 
       reply_received : nat_eq (sent.unique % 2) 1 ≡ false → (s : Stage) → pair.ask.stage ≡ s → CanReceive w p sent
-      reply_received even plain.waiting stage = absurd
-          (subst (λ (s : Stage). StageTold w.server.nodes w.server.handles s sent.wire) stage told)
+      reply_received even plain.waiting stage = absurd (said_in p same plain.waiting stage)
       reply_received even (performed reply) stage = let lookups = sound.lookups in let server =
           lookups.server in each.of_call call state reply numbered (one_id w.server.nodes server.nodes) live even waits
           (is_reply reply stage)
@@ -181,9 +267,9 @@ module _ (w : World) (p : Plain) (sound : WorldSound w) (asked_so : RequestsAske
 
 -- What the kernel needs to take any copy holds.
 pub write_met : (choice : ℕ → ℕ) (w : World) (p : Plain) → WorldSound w → RequestsAskedWhileLive w → LinksSound w
-    → AsksServed p → Alike w p → (k : ℕ) → Needs choice w p (event.write k)
-write_met choice w p sound asked_so links served same k sent there = by (is_live w.kernel.phase) refl
+    → PlainWitness w → Alike w p → (k : ℕ) → Needs choice w p (event.write k)
+write_met choice w p sound asked_so links witness same k sent there = by (is_live w.kernel.phase) refl
   where
     by : (b : Bool) → is_live w.kernel.phase ≡ b → CanReceive w p sent
-    by true live = hears w p sound asked_so links served same live k sent there
+    by true live = hears w sound asked_so links witness p same live k sent there
     by false dead = none_at w.replies k sent (links.idle dead).replies there

@@ -49,7 +49,7 @@ pub record Keeps (k l : Kernel) : Type 0 where
   pub still : (unique : ℕ) (r : QueuedRequest Purpose) → request_under k.queues unique ≡ Some r
       → is_unread r.mark ≡ false → StillThere k l unique r ⊎ (request_under l.queues unique ≡ None)
 
-interrupted_still : (k l : Kernel) → Keeps k l → (unique : ℕ) → IsInterrupted k unique → IsInterrupted l unique
+pub interrupted_still : (k l : Kernel) → Keeps k l → (unique : ℕ) → IsInterrupted k unique → IsInterrupted l unique
 interrupted_still k l keeps unique old =
     let rises = keeps.rises in
     let low = old.drawn in

@@ -6,6 +6,7 @@ use Rattle.fuse_spec.specs.Reference.PlainSteps.{Takes}
 use Rattle.fuse_spec.specs.World.Events.{Event, Outcome}
 use Rattle.fuse_spec.specs.World.Events as event
 use Rattle.fuse_spec.specs.World.Steps.{Happens, step, MayStep}
+use Rattle.fuse_spec.specs.Claim.Alike.{Alike}
 use Rattle.fuse_theorem.specs.AllSound.{AllSound}
 use Rattle.fuse_theorem.specs.EachEvent.{Needs}
 use Rattle.fuse_theorem.proofs.WholeLists.EveryList.{first_both, both_met, both_move}
@@ -76,12 +77,39 @@ module _ (w : World) (p : Plain) (all : AllSound w p) where
       both_met w p all.both choice (event.evict node) o after stepped tt
   all_met choice event.abort may o after stepped = both_met w p all.both choice event.abort o after stepped tt
 
+-- All that is sound with one plain world is sound with any other that is alike.
+pub alike_too : (w : World) (p : Plain) → AllSound w p → (v : Plain) → Alike w v → AllSound w v
+alike_too w p all v alike =
+    let both = all.both in
+    record {
+      both = record {
+        alike = alike;
+        world = both.world;
+        asked = both.asked;
+        links = both.links;
+        nodes = both.nodes;
+        held = both.held;
+        kept = both.kept;
+        witness = both.witness;
+      };
+      releases = all.releases;
+      taken = all.taken;
+      faultless = all.faultless;
+      fits = all.fits;
+      still = all.still;
+      opens = all.opens;
+      left = all.left;
+      waiting = all.waiting;
+      once = all.once;
+    }
+
+module _ (w : World) (p : Plain) (all : AllSound w p) where
   -- The plain world takes the step of its outcome, and all stays sound.
   pub all_move : (e : Event) (o : Outcome) (after : World) → Happens w e o after
       → (q : Plain) × Takes p e o q × AllSound after q
   all_move e o after h =
       let both = all.both in
-      let moves = both_move w p both e o after h (all_met h.0 e h.1 o after h.2) in (
+      let moves = both_move w p both e o after h (λ v alike. all_met w v (alike_too w p all v alike) h.0 e h.1 o after h.2) in (
         moves.0,
         moves.1,
         record {

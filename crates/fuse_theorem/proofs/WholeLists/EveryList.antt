@@ -7,6 +7,7 @@ use Rattle.fuse_spec.specs.Reference.PlainSteps.{Takes}
 use Rattle.fuse_spec.specs.World.Events.{Event, Outcome}
 use Rattle.fuse_spec.specs.World.Events as event
 use Rattle.fuse_spec.specs.World.Steps.{Happens, step}
+use Rattle.fuse_spec.specs.Claim.Alike.{Alike}
 use Rattle.fuse_theorem.specs.EachEvent.{CanTake, Needs}
 use Rattle.fuse_theorem.specs.EveryList.{BothSound, ForgetsNothing, NeedsBothAlone}
 use Rattle.fuse_theorem.proofs.WholeLists.EachEvent.{each_moves}
@@ -16,7 +17,8 @@ use Rattle.fuse_theorem.proofs.Requests.InterruptsNoted.{interrupt_noted}
 use Rattle.fuse_theorem.proofs.Replies.KeptOnLink.{first_kept, kept_stay_sent}
 use Rattle.fuse_theorem.proofs.Requests.LinksSound.{first_links, links_stay}
 use Rattle.fuse_theorem.proofs.Nodes.NodesKnown.{first_known, nodes_stay_known}
-use Rattle.fuse_theorem.proofs.PlainWorld.PlainAsks.{first_served, asks_stay_served}
+use Rattle.fuse_theorem.proofs.PlainWorld.PlainAsks.{first_served}
+use Rattle.fuse_theorem.proofs.Requests.InterruptedStay.{asks_stay_served}
 use Rattle.fuse_theorem.proofs.Requests.StayAsked.{first_asked, requests_stay_asked}
 use Rattle.fuse_theorem.proofs.Nodes.UnsentNodes.{evict_met}
 use Rattle.fuse_theorem.proofs.WholeLists.WorldSound.{first_world_sound, worlds_stay, needs_met}
@@ -31,14 +33,17 @@ first_both = record {
   nodes = first_known;
   held = first_held;
   kept = first_kept;
-  served = first_served;
+  witness = record { plain = first_plain; alike = first_alike; served = first_served };
 }
 
 -- An event whose needs hold leads to two that are sound and alike again.
 pub both_move : (w : World) (p : Plain) → BothSound w p → (e : Event) (o : Outcome) (after : World)
-    → (h : Happens w e o after) → Needs h.0 w p e → (q : Plain) × Takes p e o q × BothSound after q
+    → (h : Happens w e o after) → ((v : Plain) → Alike w v → Needs h.0 w v e)
+    → (q : Plain) × Takes p e o q × BothSound after q
 both_move w p both e o after h needs =
-    let moves = each_moves w p both.alike o after h.0 e needs h.2 in (
+    let moves = each_moves w p both.alike o after h.0 e (needs p both.alike) h.2 in
+    let beside = both.witness in
+    let follows = each_moves w beside.plain beside.alike o after h.0 e (needs beside.plain beside.alike) h.2 in (
       moves.0,
       moves.1,
       record {
@@ -49,7 +54,11 @@ both_move w p both e o after h needs =
         nodes = nodes_stay_known w both.world both.nodes e o after h;
         held = held_stay_known w both.world both.asked both.links both.nodes both.held e o after h;
         kept = kept_stay_sent w both.world both.kept e o after h;
-        served = asks_stay_served p both.served e o moves.0 moves.1;
+        witness = record {
+          plain = follows.0;
+          alike = follows.2;
+          served = asks_stay_served w both.world both.asked beside.plain beside.alike beside.served e o after h follows.0 follows.1;
+        };
       },
     )
 
@@ -70,7 +79,7 @@ both_met w p both choice (event.take k) o after stepped alone = λ r there. take
 both_met w p both choice (event.perform unique) o after stepped alone = absurd alone
 both_met w p both choice (event.settle k) o after stepped alone = absurd alone
 both_met w p both choice (event.write k) o after stepped alone =
-    write_met choice w p both.world both.asked both.links both.served both.alike k
+    write_met choice w p both.world both.asked both.links both.witness both.alike k
 both_met w p both choice (event.evict node) o after stepped alone =
     evict_met choice w p both.world both.asked node o after stepped
 both_met w p both choice (event.mount f m v) o after stepped alone =

@@ -21,9 +21,9 @@ pub(super) trait Machine<A: Allocator + Copy>: Sized {
 
     fn frame_of(&self, outcome: &Outcome) -> Option<&[u8]>;
 
-    fn kernel_nodes(&self) -> Result<Vec<(u64, u64, u64), A>, Refusal>;
+    fn kernel_nodes(&self) -> Result<Vec<(u64, u64, u64), A>, AllocError>;
 
-    fn server_nodes(&self) -> Result<Vec<(u64, u64, u64), A>, Refusal>;
+    fn server_nodes(&self) -> Result<Vec<(u64, u64, u64), A>, AllocError>;
 }
 
 impl<T: Tables> Machine<T::Heap> for WorldOf<T> {
@@ -55,11 +55,11 @@ impl<T: Tables> Machine<T::Heap> for WorldOf<T> {
         WorldOf::frame_of(self, outcome)
     }
 
-    fn kernel_nodes(&self) -> Result<Vec<(u64, u64, u64), T::Heap>, Refusal> {
+    fn kernel_nodes(&self) -> Result<Vec<(u64, u64, u64), T::Heap>, AllocError> {
         WorldOf::kernel_nodes(self)
     }
 
-    fn server_nodes(&self) -> Result<Vec<(u64, u64, u64), T::Heap>, Refusal> {
+    fn server_nodes(&self) -> Result<Vec<(u64, u64, u64), T::Heap>, AllocError> {
         WorldOf::server_nodes(self)
     }
 }
@@ -90,11 +90,11 @@ impl<A: Allocator + Copy> Machine<A> for Session<MemoryLink<A>, A> {
         Session::frame_of(self, outcome)
     }
 
-    fn kernel_nodes(&self) -> Result<Vec<(u64, u64, u64), A>, Refusal> {
+    fn kernel_nodes(&self) -> Result<Vec<(u64, u64, u64), A>, AllocError> {
         Session::kernel_nodes(self)
     }
 
-    fn server_nodes(&self) -> Result<Vec<(u64, u64, u64), A>, Refusal> {
+    fn server_nodes(&self) -> Result<Vec<(u64, u64, u64), A>, AllocError> {
         Session::server_nodes(self)
     }
 }

@@ -3,7 +3,7 @@
 use super::{Expected, Reads, Row, START, Written, run_on_new};
 use fk_kernel::Call;
 use fk_wire::Opcode;
-use fuse_spec::{IntrEffect, WriteResult};
+use fuse_spec::{IntrEffect, Refusal, WriteResult};
 use std::alloc::{AllocError, Global};
 use std::process::Abort;
 use std::test::Fail;
@@ -21,6 +21,12 @@ struct Case {
     /// A body that is shorter by so many bytes is one too; 0 where none is.
     step: usize,
 }
+
+/// Up to the read of INIT.
+static MOUNTED: [Row; 2] = [
+    Row::Mount(Ok(())),
+    Row::Read(0, Reads::Head(2, Opcode::Init)),
+];
 
 /// Up to the read of a LOOKUP.
 static STATED: [Row; 2] = [
@@ -155,6 +161,18 @@ static LISTED: [Row; 2] = [
     Row::Read(0, Reads::Head(4, Opcode::Readdir)),
 ];
 
+/// Up to the read of a READDIRPLUS.
+static LISTED_WITH_FILES: [Row; 2] = [
+    Row::Begin(
+        Call::ListPlus {
+            path: b"/",
+            after: 0,
+        },
+        Ok(1),
+    ),
+    Row::Read(0, Reads::Head(4, Opcode::Readdirplus)),
+];
+
 /// Up to the read of a CREATE.
 static CREATED: [Row; 2] = [
     Row::Begin(Call::Create { path: b"/a" }, Ok(1)),
@@ -171,8 +189,40 @@ static SIGNALLED: [Row; 4] = [
     )),
 ];
 
-/// A reply to each kind of request but INIT.
-static CASES: [Case; 14] = [
+/// A reply to each kind of request: to INIT one of 7.31 and one of 7.15, to a LOOKUP also the entry of a missing name.
+static CASES: [Case; 18] = [
+    Case {
+        opcode: Opcode::Init,
+        reply: "50000000 00000000 0200000000000000 07000000 1f000000 00000000 01200400 0000 0000 00100000 01000000 0000 0000 00000000 00000000 00000000 00000000 00000000 00000000 00000000 00000000",
+        len: 80,
+        call: None,
+        waiting: 0,
+        step: 0,
+    },
+    Case {
+        opcode: Opcode::Init,
+        reply: "28000000 00000000 0200000000000000 07000000 0f000000 00000000 01200400 0000 0000 00100000",
+        len: 40,
+        call: None,
+        waiting: 0,
+        step: 0,
+    },
+    Case {
+        opcode: Opcode::Lookup,
+        reply: "90000000 00000000 0400000000000000 0000000000000000 0000000000000000 0100000000000000 0000000000000000 00000000 00000000 0000000000000000 0000000000000000 0000000000000000 0000000000000000 0000000000000000 0000000000000000 0000000000000000 0000000000000000 0000000000000000 0000000000000000 0000000000000000",
+        len: 144,
+        call: Some(1),
+        waiting: 1,
+        step: 0,
+    },
+    Case {
+        opcode: Opcode::Readdirplus,
+        reply: "b0000000 00000000 0400000000000000 0200000000000000 0700000000000000 0100000000000000 0000000000000000 00000000 00000000 0200000000000000 0000000000000000 0000000000000000 0000000000000000 0000000000000000 0000000000000000 00000000 00000000 00000000 a4810000 01000000 00000000 00000000 00000000 00100000 00000000 0200000000000000 0700000000000000 01000000 08000000 6100000000000000",
+        len: 176,
+        call: Some(1),
+        waiting: 1,
+        step: 160,
+    },
     Case {
         opcode: Opcode::Lookup,
         reply: "90000000 00000000 0400000000000000 0200000000000000 0100000000000000 0100000000000000 0000000000000000 00000000 00000000 0200000000000000 0000000000000000 0000000000000000 0000000000000000 0000000000000000 0000000000000000 00000000 00000000 00000000 ed410000 01000000 00000000 00000000 00000000 00100000 00000000",
@@ -287,6 +337,14 @@ static CASES: [Case; 14] = [
     },
 ];
 
+/// What comes before: INIT is answered, or read where its own reply is cut.
+fn start_of(opcode: Opcode) -> &'static [Row] {
+    match opcode {
+        Opcode::Init => &MOUNTED,
+        _ => &START,
+    }
+}
+
 /// What leads to the read of a request, once INIT is answered.
 fn led_to(opcode: Opcode) -> &'static [Row] {
     match opcode {
@@ -302,14 +360,30 @@ fn led_to(opcode: Opcode) -> &'static [Row] {
         Opcode::Write => &WRITTEN,
         Opcode::Release => &CLOSED,
         Opcode::Readdir => &LISTED,
+        Opcode::Readdirplus => &LISTED_WITH_FILES,
         Opcode::Create => &CREATED,
         Opcode::Interrupt => &SIGNALLED,
         _ => &[],
     }
 }
 
-/// Writes so many bytes of a reply and of a byte more, with the reply's `len` or their own: the writer gets Invalid, and
-/// the call EIO or, where it is to wait, nothing.
+/// What follows bytes that are no reply, with a head or with none: the call gets EIO or, where it is to wait, nothing;
+/// a mount whose INIT has got them is aborted, and a later call gets ENOTCONN, or INIT waits.
+fn push_followed(rows: &mut Vec<Row>, case: &Case, has_head: bool) -> Result<(), AllocError> {
+    if case.opcode == Opcode::Init && has_head {
+        rows.push(Row::Begin(Call::Stat { path: b"/" }, Ok(1)))?;
+        rows.push(Row::Answered(1, Expected::Errno(107)))?;
+        return Ok(());
+    }
+    rows.push(match (case.opcode, case.call) {
+        (Opcode::Init, _) => Row::Begin(Call::Stat { path: b"/" }, Err(Refusal::NotReady)),
+        (_, Some(call)) if has_head => Row::Answered(call, Expected::Errno(5)),
+        _ => Row::Unanswered(case.waiting),
+    })?;
+    Ok(())
+}
+
+/// Writes so many bytes of a reply and of a byte more, with the reply's `len` or their own: the writer gets Invalid.
 fn check_cut(
     rt: &impl Abort,
     alloc: Global,
@@ -319,11 +393,8 @@ fn check_cut(
 ) -> Result<(), AllocError> {
     let mut rows = led_to(case.opcode).to_vec(alloc)?;
     rows.push(Row::Write(Written::Cut(case.reply, len, is_own), WriteResult::Invalid))?;
-    rows.push(match case.call {
-        Some(call) if is_own && len >= 16 => Row::Answered(call, Expected::Errno(5)),
-        _ => Row::Unanswered(case.waiting),
-    })?;
-    run_on_new(rt, alloc, &START, &rows, case.opcode.name());
+    push_followed(&mut rows, case, is_own && len >= 16)?;
+    run_on_new(rt, alloc, start_of(case.opcode), &rows, case.opcode.name());
     Ok(())
 }
 

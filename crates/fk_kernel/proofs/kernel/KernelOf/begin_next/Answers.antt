@@ -10,12 +10,12 @@ use Rattle.fk_kernel.proofs.kernel.KernelOf.begin_next.Goals as goal
 pub set_out-requires-clause-closes_none : goal.set_out-requires-clause-closes_none
 set_out-requires-clause-closes_none g c = no_close c.args.call.now c.in_default.not-Close
 
-pub returns-in-Waits-clause-refusal : goal.returns-in-Waits-clause-refusal
-returns-in-Waits-clause-refusal g c =
-    let asks = rw c.in-Waits.is at c.in_ok-errno.ensures.begun in
+pub returns-in-Ask-clause-refusal : goal.returns-in-Ask-clause-refusal
+returns-in-Ask-clause-refusal g c =
+    let asks = rw c.in-Ask.is at c.in_ok-errno.ensures.begun in
     refused_alike c.begin_asking.result (asks_refusal c.args.self.now c.args.call.now
     (plain_begun c.args.self.now c.args.call.now
-    (no_close c.args.call.now c.in_default.not-Close)) c.in-Waits.state c.requires.ready c.requires.few c.requires.number asks) c.begin_asking.ensures.refusal
+    (no_close c.args.call.now c.in_default.not-Close)) c.in-Ask.state c.requires.ready c.requires.few c.requires.number asks) c.begin_asking.ensures.refusal
 
 pub returns-then-is_aborted-clause-refusal : goal.returns-then-is_aborted-clause-refusal
 returns-then-is_aborted-clause-refusal g c =
@@ -36,24 +36,24 @@ returns-then-is_aborted-clause-judged g c =
     if_ok c.begin_answered.result (answered_unrefused k c.args.call.now (aborted_begun k c.args.call.now aborted)
     (failed 107) c.requires.ready c.requires.few c.requires.number high ends)
 
-pub returns-in-Answered-clause-refusal : goal.returns-in-Answered-clause-refusal
-returns-in-Answered-clause-refusal g c =
+pub returns-in-Answer-clause-refusal : goal.returns-in-Answer-clause-refusal
+returns-in-Answer-clause-refusal g c =
     let k = c.args.self.now in
     let high : k.queues.next ≤ 2 ^ 62 = rw (← c.self.view_is) c.keeps_sound.ensures.next.high in
-    let ends = rw c.in-Answered.is at c.in_ok-errno.ensures.begun in
-    refused_alike c.begin_answered-in-Answered.result
+    let ends = rw c.in-Answer.is at c.in_ok-errno.ensures.begun in
+    refused_alike c.begin_answered-in-Answer.result
     (ap or_no_memory (answered_unrefused k c.args.call.now
     (plain_begun k c.args.call.now (no_close c.args.call.now c.in_default.not-Close))
-    (failed c.in-Answered.errno) c.requires.ready c.requires.few c.requires.number high ends)) c.begin_answered-in-Answered.ensures.refusal
+    (failed c.in-Answer.errno) c.requires.ready c.requires.few c.requires.number high ends)) c.begin_answered-in-Answer.ensures.refusal
 
-pub returns-in-Answered-clause-judged : goal.returns-in-Answered-clause-judged
-returns-in-Answered-clause-judged g c =
+pub returns-in-Answer-clause-judged : goal.returns-in-Answer-clause-judged
+returns-in-Answer-clause-judged g c =
     let k = c.args.self.now in
     let high : k.queues.next ≤ 2 ^ 62 = rw (← c.self.view_is) c.keeps_sound.ensures.next.high in
-    let ends = rw c.in-Answered.is at c.in_ok-errno.ensures.begun in
-    if_ok c.begin_answered-in-Answered.result (answered_unrefused k c.args.call.now
+    let ends = rw c.in-Answer.is at c.in_ok-errno.ensures.begun in
+    if_ok c.begin_answered-in-Answer.result (answered_unrefused k c.args.call.now
     (plain_begun k c.args.call.now (no_close c.args.call.now c.in_default.not-Close))
-    (failed c.in-Answered.errno) c.requires.ready c.requires.few c.requires.number high ends)
+    (failed c.in-Answer.errno) c.requires.ready c.requires.few c.requires.number high ends)
 
-pub returns-in-Answered-clause-begun : goal.returns-in-Answered-clause-begun
-returns-in-Answered-clause-begun g c = search rules
+pub returns-in-Answer-clause-begun : goal.returns-in-Answer-clause-begun
+returns-in-Answer-clause-begun g c = search rules

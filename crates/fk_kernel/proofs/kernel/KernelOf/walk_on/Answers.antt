@@ -29,8 +29,8 @@ bind_entry-requires-clause-names_one g c =
       refl,
     )
 
-pub found-requires : goal.found-requires
-found-requires g c =
+pub advance-requires : goal.advance-requires
+advance-requires g c =
     let k = c.self.inside in
     let stands = c.requires.looks_up in
     let here : get k.calls.entries c.args.call ≡ Some (walking stands.directory stands.word stands.words stands.plan) =
@@ -60,14 +60,14 @@ enqueue-unique-requires-clause-number g c =
     let has : HasNames vfs c.bind_entry.new.names.names k.clock =
     rw (← c.self.view_is, names, until) (record { names = refl; clock = refl; root = refl }) in
     let comes : walks_on vfs c.args.call c.args.entry.now.nodeid stands.words stands.plan
-    ≡ asking vfs c.args.call c.in-Waits.state =
-    c.found.ensures vfs c.args.call stands.directory stands.word stands.words stands.plan has state ∙ ap
-    (comes_to vfs c.args.call) c.in-Waits.is in
+    ≡ asking vfs c.args.call c.in-Ask.state =
+    c.advance.ensures vfs c.args.call stands.directory stands.word stands.words stands.plan has state ∙ ap
+    (comes_to vfs c.args.call) c.in-Ask.is in
     let knows : Kernel = record now {
       queues = without now.queues c.args.unique;
       nodes = looked_up now.nodes (c.args.entry.now ∷ []);
     } in
-    let asks : is_past_end (advanced knows c.args.call (asking vfs c.args.call c.in-Waits.state)) ≡ false =
+    let asks : is_past_end (advanced knows c.args.call (asking vfs c.args.call c.in-Ask.state)) ≡ false =
     sym (ap (λ (a : Advance Opened). is_past_end (advanced knows c.args.call a)) comes)
     ∙ sym (ap (λ (r : WriteResult × Kernel). is_past_end r.1)
     (lookup_found now c.args.unique c.args.call c.requires.even c.requires.waits stands.directory stands.word stands.words stands.plan stands.is c.args.entry.now c.args.valid_ms c.requires.usable))
@@ -79,8 +79,8 @@ enqueue-unique-requires-clause-number g c =
 pub put-requires-clause-absent : goal.put-requires-clause-absent
 put-requires-clause-absent g c = rw c.remove.ensures.entries (get_gone_here c.self.inside.calls.entries c.args.call)
 
-pub invariant_of-self-in-Waits : goal.invariant_of-self-in-Waits
-invariant_of-self-in-Waits g c =
+pub invariant_of-self-in-Ask : goal.invariant_of-self-in-Ask
+invariant_of-self-in-Ask g c =
     let k = c.self.inside in
     let s = g.Q.QueueTable.state k.queues in
     let stands = c.requires.looks_up in
@@ -100,9 +100,9 @@ invariant_of-self-in-Waits g c =
     let has : HasNames vfs c.bind_entry.new.names.names k.clock =
     rw (← c.self.view_is, names, until) (record { names = refl; clock = refl; root = refl }) in
     let comes : walks_on vfs c.args.call c.args.entry.now.nodeid stands.words stands.plan
-    ≡ asking vfs c.args.call c.in-Waits.state =
-    c.found.ensures vfs c.args.call stands.directory stands.word stands.words stands.plan has state ∙ ap
-    (comes_to vfs c.args.call) c.in-Waits.is in
+    ≡ asking vfs c.args.call c.in-Ask.state =
+    c.advance.ensures vfs c.args.call stands.directory stands.word stands.words stands.plan has state ∙ ap
+    (comes_to vfs c.args.call) c.in-Ask.is in
     let old = c.self.invariant in
     let some : is_some (get k.calls.entries c.args.call) ≡ true = ap is_some here in
     let there = there_is (get k.calls.entries c.args.call) some in
@@ -122,13 +122,13 @@ invariant_of-self-in-Waits g c =
       c.in_ok-bind_entry.ensures.nodes,
       c.put.ensures.entries,
       c.remove.ensures.entries,
-      put_gone k.calls.entries c.args.call c.in-Waits.state old.sorted,
+      put_gone k.calls.entries c.args.call c.in-Ask.state old.sorted,
     )
     (record {
-      numbers = sound_walks k.calls.entries k.answers.entries k.answers.room k.next_call old.numbers c.args.call c.in-Waits.state there (length_again k.calls.entries c.args.call c.in-Waits.state old.sorted some);
+      numbers = sound_walks k.calls.entries k.answers.entries k.answers.room k.next_call old.numbers c.args.call c.in-Ask.state there (length_again k.calls.entries c.args.call c.in-Ask.state old.sorted some);
       idle = λ down. absurd (there (ap (λ m. get m c.args.call) (old.idle down)));
-      sorted = sorted_put k.calls.entries c.args.call c.in-Waits.state old.sorted;
-      files = walking_files k.calls.entries k.opens.entries k.closing.entries k.next_call old.files c.args.call c.in-Waits.state there;
+      sorted = sorted_put k.calls.entries c.args.call c.in-Ask.state old.sorted;
+      files = walking_files k.calls.entries k.opens.entries k.closing.entries k.next_call old.files c.args.call c.in-Ask.state there;
       releases = omega (
         arith,
         c.in_ok-reserve_request.ensures.room,
@@ -141,8 +141,8 @@ invariant_of-self-in-Waits g c =
       clock_low = old.clock_low;
     })
 
-pub invariant_of-self-in-Answered : goal.invariant_of-self-in-Answered
-invariant_of-self-in-Answered g c =
+pub invariant_of-self-in-Answer : goal.invariant_of-self-in-Answer
+invariant_of-self-in-Answer g c =
     let k = c.self.inside in
     let s = g.Q.QueueTable.state k.queues in
     let stands = c.requires.looks_up in
@@ -161,11 +161,11 @@ invariant_of-self-in-Answered g c =
       c.bind_entry.ensures.state,
       c.reserve_request.ensures.state,
       c.in_ok-bind_entry.ensures.nodes,
-      c.put-in-Answered.ensures.entries,
+      c.put-in-Answer.ensures.entries,
       c.remove.ensures.entries,
     )
     (record {
-      numbers = sound_answered k.calls.entries k.answers.entries k.answers.room k.next_call old.numbers c.args.call _ c.put-in-Answered.new.self.room there c.put-in-Answered.ensures.room;
+      numbers = sound_answered k.calls.entries k.answers.entries k.answers.room k.next_call old.numbers c.args.call _ c.put-in-Answer.new.self.room there c.put-in-Answer.ensures.room;
       idle = λ down. absurd (there (ap (λ m. get m c.args.call) (old.idle down)));
       sorted = sorted_gone k.calls.entries c.args.call old.sorted;
       files = answered_files k.calls.entries k.opens.entries k.closing.entries k.next_call old.files c.args.call;
@@ -181,8 +181,8 @@ invariant_of-self-in-Answered g c =
       clock_low = old.clock_low;
     })
 
-pub returns-in-Waits-clause-ok : goal.returns-in-Waits-clause-ok
-returns-in-Waits-clause-ok g c =
+pub returns-in-Ask-clause-ok : goal.returns-in-Ask-clause-ok
+returns-in-Ask-clause-ok g c =
     let k = c.self.inside in
     let s = g.Q.QueueTable.state k.queues in
     let stands = c.requires.looks_up in
@@ -202,9 +202,9 @@ returns-in-Waits-clause-ok g c =
     let has : HasNames vfs c.bind_entry.new.names.names k.clock =
     rw (← c.self.view_is, names, until) (record { names = refl; clock = refl; root = refl }) in
     let comes : walks_on vfs c.args.call c.args.entry.now.nodeid stands.words stands.plan
-    ≡ asking vfs c.args.call c.in-Waits.state =
-    c.found.ensures vfs c.args.call stands.directory stands.word stands.words stands.plan has state ∙ ap
-    (comes_to vfs c.args.call) c.in-Waits.is in
+    ≡ asking vfs c.args.call c.in-Ask.state =
+    c.advance.ensures vfs c.args.call stands.directory stands.word stands.words stands.plan has state ∙ ap
+    (comes_to vfs c.args.call) c.in-Ask.is in
     lookup_found now c.args.unique c.args.call c.requires.even c.requires.waits stands.directory stands.word stands.words stands.plan stands.is c.args.entry.now c.args.valid_ms c.requires.usable
     ∙ ap (λ (a : Advance Opened). (
       Accepted,
@@ -226,11 +226,11 @@ returns-in-Waits-clause-ok g c =
       c.in_ok-bind_entry.ensures.nodes,
       c.put.ensures.entries,
       c.remove.ensures.entries,
-      put_gone k.calls.entries c.args.call c.in-Waits.state c.self.invariant.sorted,
+      put_gone k.calls.entries c.args.call c.in-Ask.state c.self.invariant.sorted,
     ) refl
 
-pub returns-in-Answered-clause-ok : goal.returns-in-Answered-clause-ok
-returns-in-Answered-clause-ok g c =
+pub returns-in-Answer-clause-ok : goal.returns-in-Answer-clause-ok
+returns-in-Answer-clause-ok g c =
     let k = c.self.inside in
     let s = g.Q.QueueTable.state k.queues in
     let stands = c.requires.looks_up in
@@ -250,9 +250,9 @@ returns-in-Answered-clause-ok g c =
     let has : HasNames vfs c.bind_entry.new.names.names k.clock =
     rw (← c.self.view_is, names, until) (record { names = refl; clock = refl; root = refl }) in
     let comes : walks_on vfs c.args.call c.args.entry.now.nodeid stands.words stands.plan
-    ≡ no_more (answered vfs c.args.call (failed c.in-Answered.errno)) =
-    c.found.ensures vfs c.args.call stands.directory stands.word stands.words stands.plan has state ∙ ap
-    (comes_to vfs c.args.call) c.in-Answered.is in
+    ≡ no_more (answered vfs c.args.call (failed c.in-Answer.errno)) =
+    c.advance.ensures vfs c.args.call stands.directory stands.word stands.words stands.plan has state ∙ ap
+    (comes_to vfs c.args.call) c.in-Answer.is in
     lookup_found now c.args.unique c.args.call c.requires.even c.requires.waits stands.directory stands.word stands.words stands.plan stands.is c.args.entry.now c.args.valid_ms c.requires.usable
     ∙ ap (λ (a : Advance Opened). (
       Accepted,
@@ -271,7 +271,7 @@ returns-in-Answered-clause-ok g c =
       names,
       until,
       c.in_ok-bind_entry.ensures.nodes,
-      c.put-in-Answered.ensures.entries,
+      c.put-in-Answer.ensures.entries,
       c.new.ensures,
       c.remove.ensures.entries,
     ) refl

@@ -8,6 +8,7 @@ use Rattle.fk_kernel.proofs.Taken.{odd_test, even_test, taken_odd, taken_even, a
 use Rattle.fk_wire.specs.declared.opcode.Opcode.TheVariants as op
 use Rattle.fk_wire.specs.Opcodes.{served}
 use Rattle.fk_kernel.proofs.Heads.{no_head}
+use Rattle.fk_kernel.proofs.OfNoCall.{awaited_of_call}
 use Rattle.fk_kernel.proofs.kernel.KernelOf.write.Goals as goal
 
 pub returns-in_default-clause-unawaited : goal.returns-in_default-clause-unawaited
@@ -26,7 +27,9 @@ returns-then-head-eq1-clause-taken g c = λ head.
     let same = c.in-Ok.ensures.ok.3 in
     let say = c.write_to_interrupt.ensures in
     taken_odd c.args.self.now unique c.args.bytes.now _ _ (odd_test c.in-Ok.head.unique unique same c.if-head-eq1.true)
-    (c.in-Ok.head.unique - 1) (ap (λ (n : ℕ). n - 1) same) say.said say.unsaid
+    c.original_of.result
+    (c.original_of.ensures.number ∙ ap (λ (n : ℕ). c.in-Ok.head.unique - n) c.if-head-eq1.true
+    ∙ ap (λ (n : ℕ). n - 1) same) say.said say.unsaid
 
 pub returns-in_default-waiting-clause-taken : goal.returns-in_default-waiting-clause-taken
 returns-in_default-waiting-clause-taken g c = λ head.
@@ -111,3 +114,16 @@ returns-in-Call-clause-memory g c =
     memory_last now c.in-Ok.head.unique c.args.bytes.now (awaited_by_call
     (get now.vfs.calls c.in-Call.call)) c.write_to_call.result
     (λ p. rw (awaits, ← same) at p.1) c.write_to_call.ensures.memory
+
+pub returns-in-Call-clause-of_no_call : goal.returns-in-Call-clause-of_no_call
+returns-in-Call-clause-of_no_call g c = λ head none.
+    let queues = g.Q.QueueTable.state c.self.inside.queues in
+    let now = c.args.self.now in
+    let unique = head_unique c.args.bytes.now in
+    let same = c.in-Ok.ensures.ok.3 in
+    let at : waiting queues c.in-Ok.head.unique ≡ Some c.in-Some.purpose.now = search rules in
+    let waits : waiting now.queues unique ≡ Some (Call c.in-Call.call) =
+    rw (← c.self.view_is) (ap (waiting queues) (sym same) ∙ at ∙ ap Some c.in-Call.is) in
+    let awaits = awaited_even now unique (even_test c.in-Ok.head.unique unique same c.if-head-eq1.false)
+    (Some (Call c.in-Call.call)) waits in
+    absurd (awaited_of_call (get now.vfs.calls c.in-Call.call) (rw awaits at none))

@@ -8,17 +8,17 @@ use Rattle.fs_server.proofs.server.ServerOf.settle.Goals as goal
 pub invariant_of-self : goal.invariant_of-self
 invariant_of-self g c =
     let s = c.self.inside in
-    let k = c.in-Some.copy.now in
-    let less = settled s.files s.held.entries s.kept.entries s.copies.entries s.next_copy s.validity c.self.invariant c.args.settled.number in
+    let k = c.in-Some.sent.now in
+    let less = settled s.files s.held.entries s.kept.entries s.copies.entries s.next_copy s.validity c.self.invariant c.args.copy in
     rw (c.remove-settled.ensures.entries, c.drop_kept.ensures)
     (unkept_copy _ _ _ _ _ _ (settled_files _ _ _ _ _ _ less c.settle_files.new.files
-    (sent_wire c.reply.result.now) c.args.settled.result c.settle_files.ensures.settles c.settle_files.ensures.named) k
+    (sent_wire c.reply.result.now) c.args.settled c.settle_files.ensures.settles c.settle_files.ensures.named) k
     (get s.kept.entries k.unique))
 
 pub returns-clause-effect : goal.returns-clause-effect
 returns-clause-effect g c =
     let s = c.self.inside in
-    let copy = c.in-Some.copy.now in
-    let there : get s.copies.entries c.args.settled.number ≡ Some copy = search rules in
+    let copy = c.in-Some.sent.now in
+    let there : get s.copies.entries c.args.copy ≡ Some copy = search rules in
     rw (← c.self.view_is, c.remove-settled.ensures.entries, c.drop_kept.ensures)
-    (settles s.files c.settle_files.new.files s.held.entries s.kept.entries s.copies.entries s.next_copy s.validity s.minor s.is_aborted c.args.settled copy there (rw c.reply.ensures c.settle_files.ensures.settles))
+    (settles s.files c.settle_files.new.files s.held.entries s.kept.entries s.copies.entries s.next_copy s.validity s.minor s.is_aborted c.args.copy c.args.settled copy there (rw c.reply.ensures c.settle_files.ensures.settles))

@@ -10,8 +10,8 @@ pub returns-then-is_forget-clause-effect : goal.returns-then-is_forget-clause-ef
 returns-then-is_forget-clause-effect g c =
     let r = c.in_ok-request.request in
     let right = c.in_ok-request.ensures.takeable in
-    forgets c.args.self.now c.args.bytes.now r.unique r.nodeid c.took.result c.forget.new.self (request_content r.body)
-    (sym c.is_forget.ensures ∙ c.if-is_forget.true) c.took.ensures c.forget.ensures right.spells
+    forgets c.args.self.now c.args.bytes.now r.unique r.nodeid c.taken_as.result c.forget.new.self (request_content r.body)
+    (sym c.is_forget.ensures ∙ c.if-is_forget.true) c.taken_as.ensures c.forget.ensures right.spells
     (faultless c.args.self.now c.args.bytes.now (request_message r) right)
 
 pub returns-in-Interrupt-clause-effect : goal.returns-in-Interrupt-clause-effect
@@ -38,7 +38,7 @@ returns-in_default g c =
     let is : is_held c.in_ok-request.request.nodeid (request_content c.in_ok-request.request.body) ≡ true = search rules in
     record {
       refused = c.hold.ensures.refused;
-      effect = held_so c.args.self.now c.args.bytes.now m right is c.hold.new.self c.hold.result c.hold.ensures.fault c.hold.ensures.took c.hold.ensures.held;
+      effect = held_so c.args.self.now c.args.bytes.now m right is c.hold.new.self c.hold.result c.hold.ensures.fault c.hold.ensures.taken c.hold.ensures.held;
       memory = hold_wants c.args.self.now c.args.bytes.now m right is c.hold.result;
       can = memory_can c.args.self.now c.args.bytes.now m right c.hold.result;
     }

@@ -10,9 +10,9 @@ returns-in-Err-clause-refusal g c = rw (← c.self.view_is)
 
 pub invariant_of-self-2 : goal.invariant_of-self-2
 invariant_of-self-2 g c =
-    (dropped (world_of c.self.inside.kernel c.self.inside.server c.self.inside.requests.items c.self.inside.replies.items c.self.inside.results.items) c.self.invariant c.drop_name.new.self c.self.inside.server c.self.inside.requests.items c.self.inside.replies.items c.self.inside.results.items c.args.directory c.args.name.now c.in_default.ensures.judged c.in_default.ensures.dropped refl refl refl refl).1
+    (dropped (world_of c.self.inside.kernel c.self.inside.server c.self.inside.requests.items c.self.inside.replies.items c.self.inside.results.items) c.self.invariant c.drop_binding.new.self c.self.inside.server c.self.inside.requests.items c.self.inside.replies.items c.self.inside.results.items c.args.directory c.args.name.now c.in_default.ensures.judged c.in_default.ensures.dropped refl refl refl refl).1
 
 pub returns-clause-happens : goal.returns-clause-happens
 returns-clause-happens g c =
     rw (← c.self.view_is) (dropped
-    (world_of c.self.inside.kernel c.self.inside.server c.self.inside.requests.items c.self.inside.replies.items c.self.inside.results.items) c.self.invariant c.drop_name.new.self c.self.inside.server c.self.inside.requests.items c.self.inside.replies.items c.self.inside.results.items c.args.directory c.args.name.now c.in_default.ensures.judged c.in_default.ensures.dropped refl refl refl refl).0
+    (world_of c.self.inside.kernel c.self.inside.server c.self.inside.requests.items c.self.inside.replies.items c.self.inside.results.items) c.self.invariant c.drop_binding.new.self c.self.inside.server c.self.inside.requests.items c.self.inside.replies.items c.self.inside.results.items c.args.directory c.args.name.now c.in_default.ensures.judged c.in_default.ensures.dropped refl refl refl refl).0

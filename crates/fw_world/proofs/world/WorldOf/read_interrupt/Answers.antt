@@ -11,7 +11,7 @@ use Rattle.fw_world.proofs.world.WorldOf.read_interrupt.Goals as goal
 pub returns-then-is_err-clause-refusal : goal.returns-then-is_err-clause-refusal
 returns-then-is_err-clause-refusal g c =
     let w = (world_of c.self.inside.kernel c.self.inside.server c.self.inside.requests.items c.self.inside.replies.items c.self.inside.results.items) in
-    let given = c.refusal_or_no_memory.ensures ∙ ap or_no_memory c.read_interrupt_refusal.ensures in
+    let given = c.refusal_or_no_memory.ensures ∙ ap or_no_memory c.read_refusal.ensures in
     rw (← c.self.view_is) (judged w event.read_interrupt _ _ (read_interrupt_refused w)
     (λ none is. interrupt_wanting w (c.within.ensures w refl refl) none _ is) given)
 

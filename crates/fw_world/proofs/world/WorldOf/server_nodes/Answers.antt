@@ -1,7 +1,8 @@
-use Rattle.std.proofs.Common.{ap, ◌∙◌}
+use Rattle.std.proofs.Common.{subst}
+use Rattle.std.specs.Prelude.{◌≡◌, IfOk}
 use Rattle.fuse_spec.specs.World.Worlds.{World}
 use Rattle.fw_world.specs.Values.{held_nodes}
 use Rattle.fw_world.proofs.world.WorldOf.server_nodes.Goals as goal
 
-pub returns-in-Ok-clause-nodes : goal.returns-in-Ok-clause-nodes
-returns-in-Ok-clause-nodes g c = c.in-Ok.ensures ∙ ap (λ (w : World). held_nodes w.server.nodes.rows) c.self.view_is
+pub returns : goal.returns
+returns g c = subst (λ (w : World). IfOk c.nodes.result (λ nodes. nodes.items ≡ held_nodes w.server.nodes.rows)) c.self.view_is c.nodes.ensures

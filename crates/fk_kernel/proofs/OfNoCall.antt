@@ -1,0 +1,27 @@
+-- A request of a call is none of INIT, RELEASE and INTERRUPT.
+use Rattle.std.proofs.Common.{ℕ, Option, Some, None}
+use Rattle.fuse_spec.specs.declared.Opened.{Opened}
+use Rattle.fuse_spec.specs.Calls.Vfs.{CallState, asked}
+use Rattle.fuse_spec.specs.Files.Operations.{Operation, lookup, getattr, mkdir, create, unlink, rmdir, rename, link, opening, readdir, readdirplus, read, write}
+use Rattle.fuse_spec.specs.Kernel.Messages.{asks}
+use Rattle.fuse_frames.specs.RequestTies.{asked_opcode}
+use Rattle.fk_kernel.specs.AwaitedReplies.{reply_to, awaited_by_call, IsOfNoCall}
+
+of_call : (operation : Operation ℕ Opened) → IsOfNoCall (reply_to (asked_opcode (asks operation))) → ⊥
+of_call (lookup d w) none = none
+of_call (getattr x) none = none
+of_call (mkdir d n) none = none
+of_call (create d n) none = none
+of_call (unlink d n) none = none
+of_call (rmdir d n) none = none
+of_call (rename d o e n) none = none
+of_call (link x d n) none = none
+of_call (opening x) none = none
+of_call (readdir d a s) none = none
+of_call (readdirplus d a s) none = none
+of_call (read o f s) none = none
+of_call (write o f b) none = none
+
+pub awaited_of_call : (state : Option (CallState Opened)) → IsOfNoCall (awaited_by_call state) → ⊥
+awaited_of_call None none = none
+awaited_of_call (Some state) none = of_call (asked state) none
