@@ -1,0 +1,62 @@
+#!/usr/bin/env python3
+"""Whether the prover refuses each wrong body of tests/wrong_bodies, outside the gate.
+
+tests/wrong_bodies/CRATE/NAME.edit turns a body of that crate into a wrong one, in the form of a must-fail edit. Each is
+tried in a copy of the tree (with what earlier checks kept, so that only what the edit turns is proved again): a line each
+with the clause that refused it, then `N passed, M failed`. Names of crates as arguments try those alone. Status 1 where
+one is not refused.
+"""
+import re
+import shutil
+import subprocess
+import sys
+import tempfile
+import time
+from pathlib import Path
+
+TOP = Path(__file__).resolve().parent.parent
+EDITS = TOP / "tests" / "wrong_bodies"
+
+
+def copy_of_the_tree(room):
+    """The crates as they stand, with what their checks kept, and nothing else."""
+    for name in ("crates.txt", "HANDLES"):
+        shutil.copy(TOP / name, room)
+    shutil.copytree(TOP / "crates", room / "crates", symlinks=True, ignore=shutil.ignore_patterns("must-fail"))
+    return room
+
+
+def try_crate(room, crate, edits):
+    """Tries the edits of a crate, one after another: a name and what rt said of it, for each."""
+    folder = room / "crates" / crate / "must-fail"
+    folder.mkdir(exist_ok=True)
+    for edit in edits:
+        shutil.copy(edit, folder)
+    ran = subprocess.run(["rt", "must-fail", crate], cwd=room, stdout=subprocess.PIPE, stderr=subprocess.STDOUT, text=True)
+    shutil.rmtree(folder)
+    for edit in edits:
+        said = re.search(rf"must-fail {re.escape(crate)}/{re.escape(edit.name)}: (.*)", ran.stdout)
+        yield edit.stem, said[1] if said else f"rt said nothing of it: {ran.stdout[-200:]}"
+
+
+def main(names):
+    passed, failed, start = 0, 0, time.monotonic()
+    with tempfile.TemporaryDirectory(prefix="wrong-bodies-") as made:
+        room = copy_of_the_tree(Path(made))
+        for folder in sorted(EDITS.iterdir()):
+            edits = sorted(folder.glob("*.edit"))
+            if not edits or names and folder.name not in names:
+                continue
+            for name, said in try_crate(room, folder.name, edits):
+                is_refused = said.startswith("refused, as it must be")
+                clause = re.search(r"error: `([^`]*)`", said)
+                why = f"by {clause[1]}" if is_refused and clause else said
+                print(f"{'refused' if is_refused else 'NOT REFUSED'} {folder.name}/{name}: {why}", flush=True)
+                passed, failed = passed + is_refused, failed + (not is_refused)
+    print(f"{time.monotonic() - start:.0f} seconds")
+    print(f"{passed} passed, {failed} failed")
+    return 1 if failed else 0
+
+
+if __name__ == "__main__":
+    sys.exit(main(sys.argv[1:]))
