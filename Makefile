@@ -1,6 +1,6 @@
 # `make run` runs a script through the program, proving and building it first.
 # `make try` runs it without any proof, and says so. `make test` is the gate: first whether what the documents name is
-# there, then the proofs, and then the rows over the built program.
+# there, then the proofs, and then the rows and the frames over the built program.
 
 SCRIPT ?= tests/rows/stat-of-root.script
 
@@ -28,4 +28,5 @@ test:
 	@python3 tests/check_docs.py
 	@log=$$(mktemp); RT_JOBS=$$(nproc) rt ci > "$$log" 2>&1; status=$$?; cat "$$log"; \
 		if [ $$status = 0 ]; then sh tests/run_rows.sh; status=$$?; fi; \
+		if [ $$status = 0 ]; then sh tests/run_frames.sh; status=$$?; fi; \
 		tail -n 1 "$$log"; rm -f "$$log"; exit $$status

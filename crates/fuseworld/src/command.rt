@@ -1,5 +1,6 @@
 //! What the words of the command line ask for.
 
+use crate::frame_commands::{FrameTask, decode_command, frame_command, frame_task, reply_command};
 use clap::error::ErrorKind;
 use clap::{Arg, ArgAction, Command, Error};
 use std::alloc::{AllocError, Global};
@@ -13,8 +14,8 @@ pub enum Task<'a> {
     Run { file: &'a str, hex: bool },
     /// The script in a file, over a Unix socket that is made at a path.
     Socket { file: &'a str, path: &'a str },
-    /// One request frame.
-    Frame { hex: &'a str },
+    /// A command on frames.
+    OnFrame(FrameTask<'a>),
 }
 
 /// Whether memory was wanting, and the words may be good.
@@ -49,22 +50,15 @@ fn socket_command<'a>(alloc: Global) -> Result<Command<'a>, AllocError> {
         .arg(path)
 }
 
-fn frame_command<'a>(alloc: Global) -> Result<Command<'a>, AllocError> {
-    let hex = Arg::new(alloc, "HEX")
-        .required(true)
-        .help("The frame's bytes, two lower-case hex digits each");
-    Command::new(alloc, "frame")
-        .about("Read one request frame and print its opcode, unique, node and length")
-        .arg(hex)
-}
-
 fn program<'a>(alloc: Global) -> Result<Command<'a>, AllocError> {
     Command::new(alloc, "fuseworld")
         .about("A FUSE 7.31 kernel and its server, run by a script")
         .after_help("Without a command, the script is read from standard input.")
         .subcommand(run_command(alloc)?)?
         .subcommand(socket_command(alloc)?)?
-        .subcommand(frame_command(alloc)?)
+        .subcommand(frame_command(alloc)?)?
+        .subcommand(reply_command(alloc)?)?
+        .subcommand(decode_command(alloc)?)
 }
 
 /// What the words ask for: the program's name, and then a command or nothing.
@@ -83,6 +77,5 @@ pub fn read_task<'a>(alloc: Global, words: &'a [String]) -> Result<Task<'a>, Err
         let path = inner.get_str("SOCK").unwrap_or("");
         return Ok(Task::Socket { file, path });
     }
-    let hex = inner.get_str("HEX").unwrap_or("");
-    Ok(Task::Frame { hex })
+    Ok(frame_task(name, inner).map_or(Task::Input, Task::OnFrame))
 }

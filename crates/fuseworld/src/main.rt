@@ -1,11 +1,14 @@
-//! Runs scripts of events on a FUSE kernel and its server, and reads request frames.
+//! Runs scripts of events on a FUSE kernel and its server, and reads frames.
 #![tactic(auto)]
 
 mod command;
+mod decode;
+mod frame_commands;
 mod socket;
 
 use command::{Task, is_memory, read_task};
-use fw_script::{Script, cannot_read, no_memory, run_frame, run_script};
+use frame_commands::run_frame_task;
+use fw_script::{Script, cannot_read, no_memory, run_script};
 use socket::run_socket;
 use std::fs::File;
 use std::io;
@@ -49,9 +52,7 @@ fn run_words(rt: &HostRuntime, words: &[String]) -> u8 {
         Ok(Task::Input) => run_file(rt, None, false),
         Ok(Task::Run { file, hex }) => run_file(rt, Some(file), hex),
         Ok(Task::Socket { file, path }) => run_over_socket(rt, file, path),
-        Ok(Task::Frame { hex }) => {
-            run_frame(rt.alloc(), hex, &mut io::writer(rt), &mut rt.stderr())
-        }
+        Ok(Task::OnFrame(task)) => run_frame_task(rt, task),
         Err(error) if is_memory(&error) => no_memory(&mut rt.stderr()),
         Err(error) => {
             let _ = eprint!(rt; "{error}");

@@ -42,12 +42,13 @@ pub fn run_socket(rt: &HostRuntime, script: &Script, path: &str) -> u8 {
         Ok(listener) => listener,
         Err(error) => return no_socket(rt, &error),
     };
-    let status = match connect(rt, &listener, path) {
-        Ok(link) => run_on(rt, script, link),
-        Err(error) => no_socket(rt, &error),
+    let ran = match connect(rt, &listener, path) {
+        Ok(link) => Ok(run_on(rt, script, link)),
+        Err(error) => Err(error),
     };
-    match fs::remove_file(rt, path) {
-        Ok(()) => status,
-        Err(error) => no_socket(rt, &error),
+    let removed = fs::remove_file(rt, path);
+    match (ran, removed) {
+        (Ok(status), Ok(())) => status,
+        (Err(error), _) | (Ok(_), Err(error)) => no_socket(rt, &error),
     }
 }

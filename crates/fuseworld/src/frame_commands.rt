@@ -1,0 +1,90 @@
+//! The commands on frames: `frame`, `reply` and `decode`.
+
+use crate::decode::run_decode;
+use clap::{Arg, ArgAction, ArgMatches, Command};
+use fw_frames::{run_frame, run_reply};
+use std::alloc::{AllocError, Global};
+use std::io;
+
+/// One run of a command on frames.
+#[derive(Clone, Copy)]
+pub enum FrameTask<'a> {
+    /// One request frame, with its fields under `words`.
+    Frame { hex: &'a str, words: bool },
+    /// One reply frame to a request of the opcode that has a name.
+    Reply { name: &'a str, hex: &'a str },
+    /// The capture in a file, or on standard input.
+    Decode { file: Option<&'a str> },
+}
+
+/// The argument that is a frame.
+fn hex_argument<'a>(alloc: Global) -> Arg<'a> {
+    Arg::new(alloc, "HEX")
+        .required(true)
+        .help("The frame's bytes, two lower-case hex digits each")
+}
+
+/// The command `frame`.
+pub fn frame_command<'a>(alloc: Global) -> Result<Command<'a>, AllocError> {
+    let words = Arg::new(alloc, "words")
+        .long("words")
+        .action(ArgAction::SetTrue)
+        .help("Print the request's fields as well");
+    Command::new(alloc, "frame")
+        .about("Read one request frame and print its opcode, unique, node and length")
+        .arg(words)?
+        .arg(hex_argument(alloc))
+}
+
+/// The command `reply`.
+pub fn reply_command<'a>(alloc: Global) -> Result<Command<'a>, AllocError> {
+    let name = Arg::new(alloc, "OPNAME")
+        .required(true)
+        .help("The opcode of the request, as LOOKUP");
+    Command::new(alloc, "reply")
+        .about(
+            "Read one reply frame and print its opcode, unique, error and length, and what it says",
+        )
+        .arg(name)?
+        .arg(hex_argument(alloc))
+}
+
+/// The command `decode`.
+pub fn decode_command<'a>(alloc: Global) -> Result<Command<'a>, AllocError> {
+    let file = Arg::new(alloc, "FILE").help(
+        "The capture: `>` and a request, or `<` and a reply, in hex, a line each",
+    );
+    Command::new(alloc, "decode")
+        .about("Print the frames of a capture in words, and what a kernel makes of each reply")
+        .arg(file)
+}
+
+/// What the words after the name of a command on frames ask for, if it is one.
+pub fn frame_task<'a>(name: &str, matches: &ArgMatches<'a>) -> Option<FrameTask<'a>> {
+    if name == "decode" {
+        let file = matches.get_str("FILE");
+        return Some(FrameTask::Decode { file });
+    }
+    let hex = matches.get_str("HEX").unwrap_or("");
+    if name == "frame" {
+        let words = matches.get_flag("words");
+        return Some(FrameTask::Frame { hex, words });
+    }
+    if name == "reply" {
+        let name = matches.get_str("OPNAME").unwrap_or("");
+        return Some(FrameTask::Reply { name, hex });
+    }
+    None
+}
+
+/// Runs a command on frames, and gives the exit status.
+pub fn run_frame_task(rt: &HostRuntime, task: FrameTask<'_>) -> u8 {
+    let alloc = rt.alloc();
+    let mut out = io::writer(rt);
+    let mut faults = rt.stderr();
+    match task {
+        FrameTask::Frame { hex, words } => run_frame(alloc, hex, words, &mut out, &mut faults),
+        FrameTask::Reply { name, hex } => run_reply(alloc, name, hex, &mut out, &mut faults),
+        FrameTask::Decode { file } => run_decode(rt, file),
+    }
+}

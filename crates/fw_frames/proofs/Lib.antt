@@ -1,0 +1,3 @@
+pub mod Hexes
+pub mod Statuses
+pub mod Writes

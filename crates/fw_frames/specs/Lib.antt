@@ -1,0 +1,5 @@
+pub mod Captures
+pub mod Frames
+pub mod HexTexts
+pub mod Stops
+pub mod Words

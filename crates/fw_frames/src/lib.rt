@@ -1,0 +1,23 @@
+//! Frames in words: what a request or a reply says, read from its hex.
+#![tactic(auto)]
+
+mod capture_line;
+mod capture_reply;
+mod capture_request;
+mod conversation;
+mod decode;
+mod entry_words;
+mod flag_words;
+mod frame;
+mod hex_text;
+mod name_words;
+mod opcode_name;
+mod reply;
+mod reply_words;
+mod request_words;
+mod stop;
+
+pub use decode::{decode_capture, judge_capture};
+pub use frame::run_frame;
+pub use opcode_name::opcode_of_name;
+pub use reply::run_reply;

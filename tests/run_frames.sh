@@ -1,0 +1,79 @@
+#!/bin/sh
+# Runs the built program's commands on frames, and compares what they print: each line of tests/frames/words.txt that
+# begins with `$` has the words of one run, and the line below it is what that prints. Then a capture, from its file and
+# from standard input, and the faults of the commands.
+# Prints a line for each case that differs, and ends with status 1 where there is one.
+set -u
+cd "$(dirname "$0")/.." || exit 1
+program=$PWD/crates/fuseworld/out/fuseworld
+work=$(mktemp -d)
+trap 'rm -rf "$work"' EXIT
+passed=0
+failed=0
+
+# judge NAME STATUS WANTED-STATUS: compares the files out and err with want-out and want-err.
+judge() {
+    if [ "$2" = "$3" ] && cmp -s "$work/out" "$work/want-out" && cmp -s "$work/err" "$work/want-err"; then
+        passed=$((passed + 1))
+    else
+        echo "not ok $1 (status $2, wanted $3)"
+        diff "$work/want-out" "$work/out"
+        diff "$work/want-err" "$work/err"
+        failed=$((failed + 1))
+    fi
+}
+
+# expect STATUS OUTPUT FAULT ARGUMENTS..: runs the program, whose output and fault are a line each, or nothing.
+expect() {
+    status=$1
+    [ -z "$2" ] || echo "$2" > "$work/want-out"
+    [ -n "$2" ] || : > "$work/want-out"
+    [ -z "$3" ] || echo "$3" > "$work/want-err"
+    [ -n "$3" ] || : > "$work/want-err"
+    shift 3
+    "$program" "$@" < /dev/null > "$work/out" 2> "$work/err"
+    judge "$*" $? "$status"
+}
+
+while IFS= read -r words && IFS= read -r wanted; do
+    # shellcheck disable=SC2086
+    expect 0 "$wanted" "" ${words#\$ }
+done < tests/frames/words.txt
+
+expect 1 "" "bad hex" frame --words 2a0
+expect 1 "" "bad hex" reply LOOKUP 2A
+expect 2 "" "unknown opcode FLUSH" reply FLUSH 10000000000000000400000000000000
+expect 2 "" "unknown opcode lookup" reply lookup 10000000000000000400000000000000
+
+# A capture.
+cp tests/frames/made.expected "$work/want-out"
+: > "$work/want-err"
+"$program" decode tests/frames/made.capture > "$work/out" 2> "$work/err"
+judge "decode a file" $? 0
+"$program" decode < tests/frames/made.capture > "$work/out" 2> "$work/err"
+judge "decode standard input" $? 0
+"$program" decode tests/frames/made.capture > /dev/full 2> "$work/err"
+code=$?
+: > "$work/out"
+: > "$work/want-out"
+judge "decode to a full device" "$code" 5
+expect 0 "requests 0 replies 0 unanswered 0 refused 0 lookups" "" decode
+for fault in "bad hex:> 2A" "bad hex:> 00 00" "bad hex:< 000" "wrong words:>00" "wrong words:<" "unknown direction:00" "unknown direction:"; do
+    printf '> 00\n%s\n' "${fault#*:}" > "$work/capture"
+    expect 1 "" "line 2: ${fault%%:*}" decode "$work/capture"
+done
+expect 1 "" "cannot read $work/none" decode "$work/none"
+
+# The command line. Its help goes to standard error.
+for words in "decode --help" "decode a b" "reply --help" "reply" "reply LOOKUP" "frame --words"; do
+    # shellcheck disable=SC2086
+    "$program" $words < /dev/null > "$work/out" 2> "$work/err"
+    code=$?
+    : > "$work/want-out"
+    cp "$work/err" "$work/want-err"
+    [ -s "$work/err" ] || echo "help" > "$work/want-err"
+    judge "command line: $words" "$code" 2
+done
+
+echo "$passed runs on frames passed, $failed failed"
+[ "$failed" = 0 ]
