@@ -1,0 +1,2 @@
+mod Sendings
+mod Servings

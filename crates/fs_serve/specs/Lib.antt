@@ -1,0 +1,3 @@
+pub mod LongInits
+pub mod Sending
+pub mod Serving

@@ -1,0 +1,58 @@
+-- What is sent: copies of replies, and error replies that are not the server's.
+use Rattle.std.specs.Prelude.{◌≡◌, ◌⊎◌, ℕ, ℤ, List, [], ◌∷◌, Option, Some, None, Result, Ok, Err}
+use Rattle.fuse_spec.specs.declared.Minor.{Minor}
+use Rattle.fuse_spec.specs.declared.Refusal.{Refusal}
+use Rattle.fuse_spec.specs.declared.WriteResult.{WriteResult}
+use Rattle.fuse_spec.specs.Server.Server.{Server}
+use Rattle.fuse_spec.specs.World.Worlds.{Sent}
+use Rattle.fk_wire.specs.declared.opcode.Opcode.{Opcode}
+use Rattle.fk_wire.specs.Replies.{WrittenReply, empty_reply}
+use Rattle.fuse_frames.specs.ReplyTies.{IsReplyFrame}
+use Rattle.fs_server.specs.Effects.{Settles, HasNoCopy}
+use Rattle.fs_server.specs.Faults.{IsFaultReply, IsAnswerable}
+use Rattle.fs_server.specs.declared.server.ServerFault.{ServerFault}
+use Rattle.fuse_device.specs.Transfers.{Transfer, sent, unsent, ended_in}
+use Rattle.fuse_device.specs.declared.device.DeviceEnd.{DeviceEnd}
+
+-- the end at which a call came to its end, if it did
+abbrev pub end_of : {T : Type 0} → Result T DeviceEnd → Option DeviceEnd
+end_of (Ok _) = None
+end_of (Err end) = Some end
+
+-- What went over a device from one of its states to another is such, and it came to this end, if any.
+abbrev pub GoesOver : {D : Type 0} → (D → D → List Transfer → Type 0) → D → D → Option DeviceEnd
+    → (List Transfer → Type 0) → Type 0
+GoesOver logs old new end IsSuch = (log : List Transfer) × logs old new log × IsSuch log × (end ≡ ended_in log)
+
+-- These bytes are sent, with some result, or the device comes to its end at it.
+pub data SendsBytes (bytes : List ℕ) : List Transfer → Type 0 where
+  with_result : (result : WriteResult) → SendsBytes bytes (sent bytes result ∷ [])
+  at_end : (end : DeviceEnd) → SendsBytes bytes (unsent bytes end ∷ [])
+
+-- An error reply to the request under this unique is sent: the header alone.
+pub record SendsError (unique : ℕ) (error : ℤ) (log : List Transfer) : Type 0 where
+  pub bytes : List ℕ
+  pub written : WrittenReply (record { unique = unique; error = error; content = empty_reply }) bytes
+  pub sends : SendsBytes bytes log
+
+-- The reply to a faulty frame is sent, or nothing where it has none.
+pub data SendsFault (minor : Minor) (frame : List ℕ) (fault : ServerFault) : List Transfer → Type 0 where
+  replied : (bytes : List ℕ) → IsFaultReply minor frame fault bytes → (log : List Transfer) → SendsBytes bytes log
+      → SendsFault minor frame fault log
+  unreplied : (IsAnswerable frame fault → ⊥) → SendsFault minor frame fault []
+
+-- The server is told the result of a copy: it is settled where it is there, and else nothing changes.
+abbrev pub IsSettled : Server → (number : ℕ) → WriteResult → Server → Type 0
+IsSettled old number result new = Settles old number result new
+    ⊎ ((refusal : Refusal) × HasNoCopy old number refusal × (new ≡ old))
+
+-- A copy of a reply is sent, in the one frame in which it is written, and the result settles the copy. One at which the
+-- device came to its end is left unsettled.
+pub data Delivers (copy : Sent) (old : Server) : List Transfer → Server → Type 0 where
+  settled : (opcode : Opcode) (bytes : List ℕ)
+      → IsReplyFrame opcode bytes (record { unique = copy.unique; wire = copy.wire }) → (result : WriteResult)
+      → (new : Server) → IsSettled old copy.number result new
+      → Delivers copy old (sent bytes result ∷ []) new
+  unsettled : (opcode : Opcode) (bytes : List ℕ)
+      → IsReplyFrame opcode bytes (record { unique = copy.unique; wire = copy.wire }) → (end : DeviceEnd)
+      → Delivers copy old (unsent bytes end ∷ []) old

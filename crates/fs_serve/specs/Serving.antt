@@ -1,0 +1,86 @@
+-- How a server serves what comes over a device.
+use Rattle.std.specs.Prelude.{◌≡◌, ◌⊎◌, ℕ, ℤ, negsuc, Bool, true, false, List, [], ◌∷◌, ◌++◌, Some, None}
+use Rattle.fuse_spec.specs.Kernel.Messages.{Request}
+use Rattle.fk_wire.specs.Requests.{RequestContent, interrupt}
+use Rattle.fuse_spec.specs.Values.Maps.{remove}
+use Rattle.fuse_spec.specs.Server.Server.{Server}
+use Rattle.fuse_spec.specs.Server.Taking.{taking}
+use Rattle.fuse_spec.specs.World.Worlds.{Sent}
+use Rattle.fuse_spec.specs.declared.Taken.TheVariants.{Held}
+use Rattle.fuse_spec.specs.declared.Refusal.{Refusal}
+use Rattle.fuse_spec.specs.declared.Refusal.TheVariants.{NoMemory}
+use Rattle.fuse_frames.specs.RequestTies.{SaysRequest}
+use Rattle.fs_server.specs.Effects.{CanTake, PerformsHeld, RefusesFrame, RefusesHeld, copy_of, request_fault}
+use Rattle.fs_server.specs.declared.server.ServerFault.{ServerFault}
+use Rattle.fuse_device.specs.Transfers.{Transfer, received, stopped, ended_in}
+use Rattle.fuse_device.specs.declared.device.DeviceEnd.{DeviceEnd}
+use Rattle.fs_serve.specs.LongInits.{IsReadAs}
+use Rattle.fs_serve.specs.Sending.{Delivers, SendsError, SendsFault}
+
+-- ENOMEM and EIO, as error replies have them
+abbrev pub out_of_memory : ℤ
+out_of_memory = negsuc 11
+
+abbrev pub input_output : ℤ
+input_output = negsuc 4
+
+-- the error of a request that cannot be performed
+abbrev pub error_for : Refusal → ℤ
+error_for NoMemory = out_of_memory
+error_for refusal = input_output
+
+-- A frame spells this request, which has no fault, and is taken.
+pub record Takes (old : Server) (frame : List ℕ) (request : Request) (new : Server) : Type 0 where
+  pub says : SaysRequest frame request
+  pub faultless : request_fault old request.unique (Some request.body) ≡ None
+  pub after : new ≡ (taking old request.unique request.body).server
+
+-- whether this is an INTERRUPT, to which nothing is replied where it cannot be taken
+abbrev pub is_interrupt : RequestContent → Bool
+is_interrupt (interrupt unique) = true
+is_interrupt content = false
+
+-- A held request is performed, and its reply sent; after an abort there is none. One for which memory or a number is
+-- wanting is held no longer, and its reply is an error.
+pub data ServesHeld (old : Server) (unique : ℕ) : List Transfer → Server → Type 0 where
+  replied : (errno : ℕ) (copy : Sent) (did : Server) → PerformsHeld old unique errno (Some copy) did
+      → (log : List Transfer) (new : Server) → Delivers copy did log new → ServesHeld old unique log new
+  unreplied : (errno : ℕ) (new : Server) → PerformsHeld old unique errno None new → ServesHeld old unique [] new
+  dropped : (refusal : Refusal) → RefusesHeld old unique refusal ⊎ (refusal ≡ NoMemory) → (log : List Transfer)
+      → SendsError unique (error_for refusal) log
+      → ServesHeld old unique log (record old { held = remove old.held unique })
+
+-- One frame is served.
+pub data ServesFrame (old : Server) (frame : List ℕ) : List Transfer → Server → Type 0 where
+  -- Forgets are done as they are taken, and an INTERRUPT whose request is held, or whose reply is kept: nothing is sent.
+  done_at_once : (request : Request) (new : Server) → Takes old frame request new
+      → (taking old request.unique request.body).reply ≡ None
+      → ((taking old request.unique request.body).word ≡ Held → ⊥) → ServesFrame old frame [] new
+  -- An INTERRUPT of a request that is not known is answered at once.
+  replied_at_once : (request : Request) (taken : Server) → Takes old frame request taken → (copy : Sent)
+      → Some copy ≡ copy_of old.next_copy request.unique (taking old request.unique request.body).reply
+      → (log : List Transfer) (new : Server) → Delivers copy taken log new → ServesFrame old frame log new
+  -- Any other request is held, and performed.
+  performed : (request : Request) (taken : Server) → Takes old frame request taken
+      → (taking old request.unique request.body).word ≡ Held → (log : List Transfer) (new : Server)
+      → ServesHeld taken request.unique log new → ServesFrame old frame log new
+  -- Memory is wanting to take it: nothing changes. The reply is an error, and to an INTERRUPT there is none.
+  untaken : (can : CanTake old frame) → is_interrupt can.says.message.content ≡ false → (log : List Transfer)
+      → SendsError can.request.unique out_of_memory log → ServesFrame old frame log old
+  uninterrupted : (can : CanTake old frame) → is_interrupt can.says.message.content ≡ true → ServesFrame old frame [] old
+  -- A faulty frame changes nothing.
+  refused : (fault : ServerFault) → RefusesFrame old frame fault → (log : List Transfer)
+      → SendsFault old.minor frame fault log → ServesFrame old frame log old
+
+-- One frame is received and served, or the device comes to its end.
+pub data ServesNext (old : Server) : List Transfer → Server → Type 0 where
+  one : (bytes frame : List ℕ) → IsReadAs bytes frame → (log : List Transfer) (new : Server)
+      → ServesFrame old frame log new → ServesNext old (received bytes ∷ log) new
+  none : (end : DeviceEnd) → ServesNext old (stopped end ∷ []) old
+
+-- All that went over a device is so served, one frame after another, until the device came to its end, or nothing more
+-- was asked of it.
+pub data Serves (old : Server) : List Transfer → Server → Type 0 where
+  nothing : Serves old [] old
+  next : (before : List Transfer) (mid : Server) → Serves old before mid → ended_in before ≡ None
+      → (log : List Transfer) (new : Server) → ServesNext mid log new → Serves old (before ++ log) new

@@ -1,0 +1,32 @@
+//! INIT of later kernels.
+
+ghost use Rattle.std.specs.Prelude.{◌≡◌, ◌↔◌, ◌<◌, IsTrue, length};
+ghost use Rattle.fs_serve.specs.LongInits.{IsLongInit, first_of};
+
+use fk_wire::read_request_head;
+
+/// The opcode of INIT, and how many bytes one of 7.31 has (`struct fuse_init_in` up to 7.35, behind its header).
+const INIT: u32 = 26;
+
+pub(crate) const INIT_LEN: usize = 56;
+
+/// Whether a frame is an INIT with more than 7.31 has.
+pub(crate) fn is_long_init(frame: &[u8]) -> bool
+    ensures { IsTrue result ↔ IsLongInit frame.now }
+{
+    match read_request_head(frame) {
+        Ok((code, _unique)) => code == INIT && frame.len() > INIT_LEN,
+        Err(_) => false,
+    }
+}
+
+/// The INIT of 7.31 with which a longer one begins.
+pub(crate) fn first_of(frame: &[u8]) -> [u8; 56]
+    requires { 56 < length frame.now }
+    ensures { result ≡ first_of frame.now }
+{
+    let mut init = [0; INIT_LEN];
+    init[0] = INIT_LEN as u8;
+    init[4..].copy_from_slice(&frame[4..INIT_LEN]);
+    init
+}

@@ -1,0 +1,176 @@
+//! Frames are received and served, one after another.
+
+ghost use Rattle.std.specs.Prelude.{◌≡◌, OnErr, IfOk};
+ghost use Rattle.fs_server.specs.Effects.{CanTake};
+ghost use Rattle.fs_serve.specs.Sending.{Delivers, GoesOver, SendsError, end_of};
+ghost use Rattle.fs_serve.specs.Serving.{Serves, ServesFrame, ServesHeld, ServesNext, error_for, is_interrupt};
+ghost use Rattle.fk_wire.specs.Requests.{request_content};
+
+use crate::errors::{send_error, send_fault};
+use crate::init::{first_of, is_long_init};
+use fk_wire::{RequestBody, read_request};
+use fs_server::{Server, ServerFault};
+use fuse_device::{Device, DeviceEnd};
+use fuse_frames::Sent;
+use fuse_spec::{Refusal, Taken};
+use std::alloc::{AllocError, Allocator};
+
+/// How many bytes are read at once. The kernel refuses a read of under 8,192, and its longest request is a WRITE.
+const ROOM: usize = 131_072;
+
+/// ENOMEM and EIO, as error replies have them.
+const ENOMEM: i32 = -12;
+
+const EIO: i32 = -5;
+
+/// Serves what comes over a device, until it ends, and gives its end; `None` after 2^64 - 1 frames. Each frame is
+/// taken, what is held is performed at once, its reply is sent, and the result of that settles the copy.
+///
+/// # Errors
+///
+/// Where there is no memory for the frames to come. Nothing is then received.
+pub fn serve<A: Allocator + Copy, D: Device>(
+    alloc: A,
+    server: &mut Server<A>,
+    device: &mut D,
+) -> Result<Option<DeviceEnd>, AllocError>
+    ensures served { IfOk result (λ end. GoesOver D.logs device.old device.new end
+        (λ log. Serves server.old log server.new)) }
+    ensures refused { OnErr result ((server.new ≡ server.old) × (device.new ≡ device.old)) }
+{
+    let mut room = vec![in alloc; 0u8; ROOM]?;
+    Ok(serve_frames(server, device, &mut room))
+}
+
+/// Serves frame after frame.
+fn serve_frames<A: Allocator + Copy, D: Device>(
+    server: &mut Server<A>,
+    device: &mut D,
+    room: &mut [u8],
+) -> Option<DeviceEnd>
+    ensures { GoesOver D.logs device.old device.new result (λ log. Serves server.old log server.new) }
+{
+    for _frame in 0..u64::MAX {
+        if let Err(end) = serve_next(server, device, room) {
+            return Some(end);
+        }
+    }
+    None
+}
+
+/// Receives one frame and serves it.
+fn serve_next<A: Allocator + Copy, D: Device>(
+    server: &mut Server<A>,
+    device: &mut D,
+    room: &mut [u8],
+) -> Result<(), DeviceEnd>
+    ensures { GoesOver D.logs device.old device.new (end_of result) (λ log. ServesNext server.old log server.new) }
+{
+    let count = match device.receive(room) {
+        Ok(count) => count,
+        Err(end) => return Err(end),
+    };
+    let frame = &room[..count];
+    if is_long_init(frame) {
+        return serve_frame(server, device, &first_of(frame));
+    }
+    serve_frame(server, device, frame)
+}
+
+/// Serves one frame.
+fn serve_frame<A: Allocator + Copy, D: Device>(
+    server: &mut Server<A>,
+    device: &mut D,
+    frame: &[u8],
+) -> Result<(), DeviceEnd>
+    ensures { GoesOver D.logs device.old device.new (end_of result)
+        (λ log. ServesFrame server.old frame.now log server.new) }
+{
+    let taken = match server.take(frame) {
+        Ok(taken) => taken,
+        Err(ServerFault::Memory) => return send_untaken(server, device, frame),
+        Err(fault) => return send_fault(server, device, frame, fault),
+    };
+    if let Some(sent) = &taken.sent {
+        return deliver(server, device, sent);
+    }
+    match taken.word {
+        Taken::Held => serve_held(server, device, taken.unique),
+        _ => Ok(()),
+    }
+}
+
+/// Replies that memory is wanting for a request that could not be taken. Nothing is replied so to an INTERRUPT.
+fn send_untaken<A: Allocator + Copy, D: Device>(
+    server: &Server<A>,
+    device: &mut D,
+    frame: &[u8],
+) -> Result<(), DeviceEnd>
+    requires { CanTake server.now frame.now }
+    ensures { GoesOver D.logs device.old device.new (end_of result)
+        (λ log. ServesFrame server.now frame.now log server.now) }
+{
+    let Ok(request) = read_request(frame) else {
+        unreachable!();
+    };
+    if is_interrupt(&request.body) {
+        return Ok(());
+    }
+    send_error(device, request.unique, ENOMEM)
+}
+
+/// Performs a held request, and sends its reply. One that cannot be performed is dropped, and replied an error.
+fn serve_held<A: Allocator + Copy, D: Device>(
+    server: &mut Server<A>,
+    device: &mut D,
+    unique: u64,
+) -> Result<(), DeviceEnd>
+    ensures { GoesOver D.logs device.old device.new (end_of result)
+        (λ log. ServesHeld server.old unique log server.new) }
+{
+    match server.perform(unique) {
+        Ok(done) => match &done.sent {
+            Some(sent) => deliver(server, device, sent),
+            None => Ok(()),
+        },
+        Err(refusal) => {
+            server.drop_held(unique);
+            send_refusal(device, unique, refusal)
+        }
+    }
+}
+
+/// Whether a request is an INTERRUPT.
+fn is_interrupt(body: &RequestBody<'_>) -> bool
+    ensures { result ≡ is_interrupt (request_content body.now) }
+{
+    matches!(body, RequestBody::Interrupt { .. })
+}
+
+/// Sends the error reply to a request that cannot be performed.
+fn send_refusal<D: Device>(device: &mut D, unique: u64, refusal: Refusal) -> Result<(), DeviceEnd>
+    ensures { GoesOver D.logs device.old device.new (end_of result) (SendsError unique (error_for refusal)) }
+{
+    match refusal {
+        Refusal::NoMemory => send_error(device, unique, ENOMEM),
+        _ => send_error(device, unique, EIO),
+    }
+}
+
+/// Sends a copy of a reply, and settles it by the result.
+fn deliver<A: Allocator + Copy, D: Device>(
+    server: &mut Server<A>,
+    device: &mut D,
+    sent: &Sent<A>,
+) -> Result<(), DeviceEnd>
+    ensures { GoesOver D.logs device.old device.new (end_of result)
+        (λ log. Delivers sent.now server.old log server.new) }
+{
+    match device.send(sent.bytes()) {
+        Ok(result) => {
+            let _settled = server.settle(sent.number(), result);
+            Ok(())
+        }
+        Err(end) => Err(end),
+    }
+}

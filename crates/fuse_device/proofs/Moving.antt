@@ -1,0 +1,41 @@
+-- What one call moves.
+use Rattle.std.proofs.Common.{ℕ, List, [], ◌∷◌, Option, Result, Ok, Err, take, refl, sym, append-nil}
+use Rattle.std.specs.Prelude.{IfOk, IfErr, OnErr}
+use Rattle.std.specs.Io.KnownBytes.{Appends}
+use Rattle.std.proofs.KnownBytes.{Consumes-nil}
+use Rattle.fuse_spec.specs.declared.WriteResult.{WriteResult}
+use Rattle.fuse_device.specs.Transfers.{Transfer, sent, unsent}
+use Rattle.fuse_device.specs.Streamed.{Moves, Streamed, Reads, Writes, accepted_bytes}
+use Rattle.fuse_device.specs.declared.device.DeviceEnd.{DeviceEnd}
+
+moves_one : (by : Transfer → List ℕ → Type 0) (t : Transfer) (bytes : List ℕ) → by t bytes → Moves by (t ∷ []) bytes
+moves_one by t bytes moved = (bytes, [], moved, refl, sym (append-nil bytes))
+
+module _ {R W : Type 0} (remaining : R → Option (List ℕ)) (contents : W → Option (List ℕ)) where
+  pub sent_one : (reader : R) (old new : W) (frame : List ℕ) (r : Result WriteResult DeviceEnd)
+      → IfOk r (λ w. Appends (contents old) (contents new) (accepted_bytes frame w))
+      → IfOk r (λ w. Streamed remaining contents (record { reader = reader; writer = old })
+      (record { reader = reader; writer = new }) (sent frame w ∷ []))
+  sent_one reader old new frame (Err end) h = tt
+  sent_one reader old new frame (Ok w) h = record {
+    read = [];
+    reads = moves_one Reads (sent frame w) [] refl;
+    given = Consumes-nil (remaining reader);
+    written = accepted_bytes frame w;
+    writes = moves_one Writes (sent frame w) (accepted_bytes frame w) refl;
+    taken = h;
+  }
+
+  pub unsent_one : (reader : R) (old new : W) (frame : List ℕ) (r : Result WriteResult DeviceEnd)
+      → OnErr r ((n : ℕ) × Appends (contents old) (contents new) (take n frame))
+      → IfErr r (λ end. Streamed remaining contents (record { reader = reader; writer = old })
+      (record { reader = reader; writer = new }) (unsent frame end ∷ []))
+  unsent_one reader old new frame (Ok w) h = tt
+  unsent_one reader old new frame (Err end) (n, h) = record {
+    read = [];
+    reads = moves_one Reads (unsent frame end) [] refl;
+    given = Consumes-nil (remaining reader);
+    written = take n frame;
+    writes = moves_one Writes (unsent frame end) (take n frame) (n, refl);
+    taken = h;
+  }

@@ -1,0 +1,7 @@
+use Rattle.std.proofs.Common.{[]}
+use Rattle.std.specs.Io.KnownBytes.{Consumes}
+use Rattle.fuse_device.proofs.stream.read_frame.Given as goal
+
+-- nothing is read yet
+abbrev pub invariant-loop-try : goal.invariant-loop-try
+invariant-loop-try g l = Consumes (g.R.Read.remaining l.initial.from) (g.R.Read.remaining l.from) []

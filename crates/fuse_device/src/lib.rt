@@ -1,0 +1,10 @@
+//! Devices of bare FUSE frames: one frame is received in a call, and one is sent, whose result is told.
+//!
+//! /dev/fuse is such a device, and so is a socket with a FUSE server or a kernel behind it.
+#![tactic(auto)]
+
+mod device;
+mod stream;
+
+pub use device::{Device, DeviceEnd};
+pub use stream::StreamDevice;
