@@ -4,7 +4,7 @@
 
 SCRIPT ?= tests/rows/stat-of-root.script
 
-.PHONY: run try test build wrong-bodies
+.PHONY: run try test build vectors wrong-bodies
 
 run: build
 	@crates/fuseworld/out/fuseworld run "$(SCRIPT)"
@@ -18,6 +18,10 @@ try:
 build:
 	@log=$$(mktemp); cd crates/fuseworld && rt run -- run /dev/null > "$$log" 2>&1 \
 		|| { cat "$$log" >&2; rm -f "$$log"; exit 1; }; rm -f "$$log"
+
+# The codec's verdict on frames of each kind, a JSON object a line.
+vectors: build
+	@crates/fuseworld/out/fuseworld vectors > vectors.jsonl && echo "$$(wc -l < vectors.jsonl) vectors in vectors.jsonl"
 
 # Whether each wrong body of tests/wrong_bodies is refused; CRATES names the crates whose bodies are tried, or none for all.
 wrong-bodies:

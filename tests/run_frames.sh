@@ -1,7 +1,7 @@
 #!/bin/sh
 # Runs the built program's commands on frames, and compares what they print: each line of tests/frames/words.txt that
 # begins with `$` has the words of one run, and the line below it is what that prints. Then a capture, from its file and
-# from standard input, and the faults of the commands.
+# from standard input, the faults of the commands, and the vectors, which Python's decoder judges too.
 # Prints a line for each case that differs, and ends with status 1 where there is one.
 set -u
 cd "$(dirname "$0")/.." || exit 1
@@ -64,8 +64,21 @@ for fault in "bad hex:> 2A" "bad hex:> 00 00" "bad hex:< 000" "wrong words:>00" 
 done
 expect 1 "" "cannot read $work/none" decode "$work/none"
 
+# The vectors.
+"$program" vectors > "$work/vectors" 2> "$work/err"
+code=$?
+python3 tests/check_vectors.py < "$work/vectors" > "$work/out" || code=vectors
+echo "$(wc -l < "$work/vectors") vectors, 0 wrong" > "$work/want-out"
+: > "$work/want-err"
+judge "vectors" "$code" 0
+"$program" vectors > /dev/full 2> "$work/err"
+code=$?
+: > "$work/out"
+: > "$work/want-out"
+judge "vectors to a full device" "$code" 5
+
 # The command line. Its help goes to standard error.
-for words in "decode --help" "decode a b" "reply --help" "reply" "reply LOOKUP" "frame --words"; do
+for words in "decode --help" "decode a b" "vectors a" "reply --help" "reply" "reply LOOKUP" "frame --words"; do
     # shellcheck disable=SC2086
     "$program" $words < /dev/null > "$work/out" 2> "$work/err"
     code=$?

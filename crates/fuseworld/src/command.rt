@@ -1,6 +1,8 @@
 //! What the words of the command line ask for.
 
-use crate::frame_commands::{FrameTask, decode_command, frame_command, frame_task, reply_command};
+use crate::frame_commands::{
+    FrameTask, decode_command, frame_command, frame_task, reply_command, vectors_command,
+};
 use clap::error::ErrorKind;
 use clap::{Arg, ArgAction, Command, Error};
 use std::alloc::{AllocError, Global};
@@ -58,7 +60,8 @@ fn program<'a>(alloc: Global) -> Result<Command<'a>, AllocError> {
         .subcommand(socket_command(alloc)?)?
         .subcommand(frame_command(alloc)?)?
         .subcommand(reply_command(alloc)?)?
-        .subcommand(decode_command(alloc)?)
+        .subcommand(decode_command(alloc)?)?
+        .subcommand(vectors_command(alloc))
 }
 
 /// What the words ask for: the program's name, and then a command or nothing.

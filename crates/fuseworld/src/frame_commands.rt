@@ -1,10 +1,12 @@
-//! The commands on frames: `frame`, `reply` and `decode`.
+//! The commands on frames: `frame`, `reply`, `decode` and `vectors`.
 
 use crate::decode::run_decode;
 use clap::{Arg, ArgAction, ArgMatches, Command};
 use fw_frames::{run_frame, run_reply};
+use fw_vectors::print_vectors;
 use std::alloc::{AllocError, Global};
 use std::io;
+use std::io::{BufWriter, Write};
 
 /// One run of a command on frames.
 #[derive(Clone, Copy)]
@@ -15,6 +17,8 @@ pub enum FrameTask<'a> {
     Reply { name: &'a str, hex: &'a str },
     /// The capture in a file, or on standard input.
     Decode { file: Option<&'a str> },
+    /// Frames of each kind with the codec's verdicts.
+    Vectors,
 }
 
 /// The argument that is a frame.
@@ -59,8 +63,18 @@ pub fn decode_command<'a>(alloc: Global) -> Result<Command<'a>, AllocError> {
         .arg(file)
 }
 
+/// The command `vectors`.
+pub fn vectors_command<'a>(alloc: Global) -> Command<'a> {
+    Command::new(alloc, "vectors").about(
+        "Print frames of each kind with what the codec says of them, a JSON object a line",
+    )
+}
+
 /// What the words after the name of a command on frames ask for, if it is one.
 pub fn frame_task<'a>(name: &str, matches: &ArgMatches<'a>) -> Option<FrameTask<'a>> {
+    if name == "vectors" {
+        return Some(FrameTask::Vectors);
+    }
     if name == "decode" {
         let file = matches.get_str("FILE");
         return Some(FrameTask::Decode { file });
@@ -77,6 +91,16 @@ pub fn frame_task<'a>(name: &str, matches: &ArgMatches<'a>) -> Option<FrameTask<
     None
 }
 
+/// Prints the vectors, and gives the exit status.
+fn run_vectors(rt: &HostRuntime) -> u8 {
+    let mut faults = rt.stderr();
+    let Ok(mut out) = BufWriter::new(rt.alloc(), io::writer(rt)) else {
+        let _ = writeln!(faults, "no memory");
+        return 3;
+    };
+    print_vectors(rt.alloc(), &mut out, &mut faults)
+}
+
 /// Runs a command on frames, and gives the exit status.
 pub fn run_frame_task(rt: &HostRuntime, task: FrameTask<'_>) -> u8 {
     let alloc = rt.alloc();
@@ -86,5 +110,6 @@ pub fn run_frame_task(rt: &HostRuntime, task: FrameTask<'_>) -> u8 {
         FrameTask::Frame { hex, words } => run_frame(alloc, hex, words, &mut out, &mut faults),
         FrameTask::Reply { name, hex } => run_reply(alloc, name, hex, &mut out, &mut faults),
         FrameTask::Decode { file } => run_decode(rt, file),
+        FrameTask::Vectors => run_vectors(rt),
     }
 }

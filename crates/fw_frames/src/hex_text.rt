@@ -69,8 +69,12 @@ fn write_block<W: Write>(out: &mut W, bytes: &[u8]) -> io::Result<()>
     out.write_all(text)
 }
 
-/// Writes bytes as lower-case hex.
-fn write_hex<W: Write>(out: &mut W, bytes: &[u8]) -> io::Result<()>
+/// Writes bytes as lower-case hex, two digits a byte.
+///
+/// # Errors
+///
+/// Where `out` refuses.
+pub fn write_hex<W: Write>(out: &mut W, bytes: &[u8]) -> io::Result<()>
     ensures { OnOk result (Appends (W.contents out.old) (W.contents out.new) (encode_lower bytes.now)) }
 {
     let mut written = 0;

@@ -19,5 +19,6 @@ mod stop;
 
 pub use decode::{decode_capture, judge_capture};
 pub use frame::run_frame;
+pub use hex_text::write_hex;
 pub use opcode_name::opcode_of_name;
 pub use reply::run_reply;
