@@ -1,6 +1,6 @@
 -- The exit statuses of what ends a command early.
-use Rattle.std.proofs.Common.{◌≢◌, [], ◌∷◌, arith, refl}
-use Rattle.std.specs.Prelude.{Contains}
+use Rattle.std.proofs.Common.{◌≢◌, [], ◌∷◌, zero, suc, Result, Ok, Err, arith, refl}
+use Rattle.std.specs.Prelude.{Contains, IfErr}
 use Rattle.fw_frames.specs.Stops.{status_of}
 use Rattle.fw_frames.specs.declared.stop.Stop.{Stop}
 use Rattle.fw_frames.specs.declared.stop.Stop.TheVariants as stop
@@ -20,3 +20,17 @@ status_of_reply stop.BadHex = (1, omega arith, refl)
 status_of_reply (stop.UnknownOpcode name) = (2, omega arith, refl)
 status_of_reply stop.NoMemory = (3, omega arith, refl)
 status_of_reply stop.OutputRefused = (4, omega arith, refl)
+
+-- what stops a frame stops its line
+pub stops_line : {T : Type 0} (r : Result T Stop) → IfErr r (λ s. Contains (3 ∷ 5 ∷ []) (status_of s))
+    → IfErr r (λ s. Contains (1 ∷ 3 ∷ 5 ∷ []) (status_of s))
+stops_line (Ok x) h = tt
+stops_line (Err s) h = (suc h.0, omega (arith, h.1), h.2)
+
+-- and what stops the reading stops all
+pub stops_reading : {T : Type 0} (r : Result T Stop) → IfErr r (λ s. Contains (1 ∷ 3 ∷ []) (status_of s))
+    → IfErr r (λ s. Contains (1 ∷ 3 ∷ 5 ∷ []) (status_of s))
+stops_reading (Ok x) h = tt
+stops_reading (Err s) (zero, below, is) = (0, omega arith, is)
+stops_reading (Err s) (suc zero, below, is) = (1, omega arith, is)
+stops_reading (Err s) (suc (suc n), below, is) = absurd (omega (arith, below))

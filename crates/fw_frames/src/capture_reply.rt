@@ -1,5 +1,8 @@
 //! The replies of a capture.
 
+ghost use Rattle.std.specs.Prelude.{◌≡◌, ◌∷◌, [], Contains, IfErr};
+ghost use Rattle.fw_frames.specs.Stops.{status_of};
+
 use crate::conversation::{Conversation, Waiting};
 use crate::frame::write_fault;
 use crate::reply::write_reply;
@@ -206,7 +209,9 @@ pub(crate) fn decode_reply<A: Allocator + Copy, W: Write>(
     conversation: &mut Conversation<A>,
     frame: &[u8],
     out: &mut W,
-) -> Result<(), Stop<'static>> {
+) -> Result<(), Stop<'static>>
+    ensures { IfErr result (λ stop. Contains (3 ∷ 5 ∷ []) (status_of stop)) }
+{
     conversation.count_reply();
     let judged = judge(conversation, frame);
     if write_judged(out, &judged, frame.len()).is_err() {

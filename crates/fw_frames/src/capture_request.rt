@@ -1,5 +1,8 @@
 //! The requests of a capture.
 
+ghost use Rattle.std.specs.Prelude.{◌≡◌, ◌∷◌, [], Contains, IfErr};
+ghost use Rattle.fw_frames.specs.Stops.{status_of};
+
 use crate::conversation::{Conversation, Waiting};
 use crate::frame::{write_fault, write_request_head};
 use crate::request_words::write_request_words;
@@ -100,7 +103,9 @@ pub(crate) fn decode_request<A: Allocator + Copy, W: Write>(
     conversation: &mut Conversation<A>,
     frame: &[u8],
     out: &mut W,
-) -> Result<(), Stop<'static>> {
+) -> Result<(), Stop<'static>>
+    ensures { IfErr result (λ stop. Contains (3 ∷ 5 ∷ []) (status_of stop)) }
+{
     conversation.count_request();
     let (opcode, unique) = match read_request_head(frame) {
         Ok(head) => head,
