@@ -3,6 +3,7 @@
 use crate::frame_commands::{
     FrameTask, decode_command, frame_command, frame_task, reply_command, vectors_command,
 };
+use crate::version::VERSION;
 use clap::error::ErrorKind;
 use clap::{Arg, ArgAction, Command, Error};
 use std::alloc::{AllocError, Global};
@@ -54,6 +55,7 @@ fn socket_command<'a>(alloc: Global) -> Result<Command<'a>, AllocError> {
 
 fn program<'a>(alloc: Global) -> Result<Command<'a>, AllocError> {
     Command::new(alloc, "fuseworld")
+        .version(VERSION)
         .about("A FUSE 7.31 kernel and its server, run by a script")
         .after_help("Without a command, the script is read from standard input.")
         .subcommand(run_command(alloc)?)?

@@ -5,6 +5,7 @@ mod command;
 mod decode;
 mod frame_commands;
 mod socket;
+mod version;
 
 use command::{Task, is_memory, read_task};
 use frame_commands::run_frame_task;
@@ -14,6 +15,7 @@ use std::fs::File;
 use std::io;
 use std::io::{BufWriter, ErrorKind};
 use std::process::ExitCode;
+use version::{is_version, print_version};
 
 /// Runs the script on standard input, or in a file, and gives the exit status.
 fn run_file(rt: &HostRuntime, file: Option<&str>, hex: bool) -> u8 {
@@ -53,6 +55,7 @@ fn run_words(rt: &HostRuntime, words: &[String]) -> u8 {
         Ok(Task::Run { file, hex }) => run_file(rt, Some(file), hex),
         Ok(Task::Socket { file, path }) => run_over_socket(rt, file, path),
         Ok(Task::OnFrame(task)) => run_frame_task(rt, task),
+        Err(error) if is_version(&error) => print_version(rt),
         Err(error) if is_memory(&error) => no_memory(&mut rt.stderr()),
         Err(error) => {
             let _ = eprint!(rt; "{error}");

@@ -1,0 +1,23 @@
+//! The program's version.
+
+use clap::Error;
+use clap::error::ErrorKind;
+use std::io;
+use std::io::Write;
+
+/// The version, and the identity of the toolchain by which it is proved: what `rt version` prints.
+pub const VERSION: &str = "1.0.0 (rattle-kit-13b logic dac8208d650f15bf)";
+
+/// Whether the command line asks for the version.
+pub fn is_version(error: &Error) -> bool {
+    error.kind() == ErrorKind::DisplayVersion
+}
+
+/// Prints the name and the version, and gives the exit status: 0, or 5 where standard output refuses.
+pub fn print_version(rt: &HostRuntime) -> u8 {
+    let mut out = io::writer(rt);
+    match writeln!(out, "fuseworld {VERSION}") {
+        Ok(()) => 0,
+        Err(_) => 5,
+    }
+}
