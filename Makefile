@@ -1,10 +1,10 @@
 # `make run` runs a script through the program, proving and building it first.
 # `make try` runs it without any proof, and says so. `make test` is the gate: first whether what the documents name is
-# there, then the proofs, and then the rows and the frames over the built program.
+# there, then the proofs, and then the rows, the frames, the man page and the completions over the built program.
 
 SCRIPT ?= tests/rows/stat-of-root.script
 
-.PHONY: run try test build vectors wrong-bodies
+.PHONY: run try test build vectors install uninstall wrong-bodies
 
 run: build
 	@crates/fuseworld/out/fuseworld run "$(SCRIPT)"
@@ -23,6 +23,23 @@ build:
 vectors: build
 	@crates/fuseworld/out/fuseworld vectors > vectors.jsonl && echo "$$(wc -l < vectors.jsonl) vectors in vectors.jsonl"
 
+# The program, its man page and its completions, below PREFIX; DESTDIR goes in front of it.
+PREFIX ?= /usr/local
+INSTALL ?= install
+BIN = $(DESTDIR)$(PREFIX)/bin
+SHARE = $(DESTDIR)$(PREFIX)/share
+
+install: build
+	$(INSTALL) -D -m 755 crates/fuseworld/out/fuseworld "$(BIN)/fuseworld"
+	$(INSTALL) -D -m 644 man/fuseworld.1 "$(SHARE)/man/man1/fuseworld.1"
+	$(INSTALL) -D -m 644 completions/fuseworld.bash "$(SHARE)/bash-completion/completions/fuseworld"
+	$(INSTALL) -D -m 644 completions/_fuseworld "$(SHARE)/zsh/site-functions/_fuseworld"
+	$(INSTALL) -D -m 644 completions/fuseworld.fish "$(SHARE)/fish/vendor_completions.d/fuseworld.fish"
+
+uninstall:
+	rm -f "$(BIN)/fuseworld" "$(SHARE)/man/man1/fuseworld.1" "$(SHARE)/bash-completion/completions/fuseworld" \
+		"$(SHARE)/zsh/site-functions/_fuseworld" "$(SHARE)/fish/vendor_completions.d/fuseworld.fish"
+
 # Whether each wrong body of tests/wrong_bodies is refused; CRATES names the crates whose bodies are tried, or none for all.
 wrong-bodies:
 	@python3 tests/wrong_bodies.py $(CRATES)
@@ -33,4 +50,5 @@ test:
 	@log=$$(mktemp); RT_JOBS=$$(nproc) rt ci > "$$log" 2>&1; status=$$?; cat "$$log"; \
 		if [ $$status = 0 ]; then sh tests/run_rows.sh; status=$$?; fi; \
 		if [ $$status = 0 ]; then sh tests/run_frames.sh; status=$$?; fi; \
+		if [ $$status = 0 ]; then python3 tests/check_commands.py; status=$$?; fi; \
 		tail -n 1 "$$log"; rm -f "$$log"; exit $$status

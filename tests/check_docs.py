@@ -3,7 +3,7 @@
 
 A lone word in backticks has to be a word of a source outside its comments, or in the name of a file, a folder or a crate.
 In the tables whose second column is "Definition", each rule has to lead to a definition, a function and a test.
-Each sample of Rust has to be lines of crates/callers. Prints a line for each name that leads nowhere, and ends with
+Each sample of Rust has to be lines of crates/callers, and the version has to be the program's everywhere. Prints a line for each name that leads nowhere, and ends with
 status 1 where there is one.
 """
 import re
@@ -11,7 +11,7 @@ import sys
 from pathlib import Path
 
 TOP = Path(__file__).resolve().parent.parent
-PAGES = [TOP / "README.md", *sorted((TOP / "docs").glob("*.md"))]
+PAGES = [TOP / "README.md", TOP / "CHANGELOG.md", *sorted((TOP / "docs").glob("*.md"))]
 CRATES = {folder.name for folder in (TOP / "crates").iterdir() if (folder / "src").is_dir()}
 CODE = {crate: "\n".join(file.read_text() for file in (TOP / "crates" / crate / "src").rglob("*.rt")) for crate in CRATES}
 EDITS = {(file.parts[-2], file.stem) for file in TOP.glob("tests/wrong_bodies/*/*.edit")}
@@ -94,8 +94,17 @@ def unlike_callers(page):
     samples = re.findall(r"```rust\n(.*?)```", page.read_text(), re.S)
     return [sample for sample in samples if not any("\n".join(flat(sample)) in source for source in sources)]
 
+def versions():
+    """Where the version and the toolchain's identity stand, with what stands there: they have to agree."""
+    program = re.search(r'VERSION: &str = "(\S+) \((.*)\)"', (TOP / "crates/fuseworld/src/version.rt").read_text())
+    yield "README.md", program[2], re.search(r"^Proved with `(.*?)`", (TOP / "README.md").read_text(), re.M)[1]
+    yield "CHANGELOG.md", program[1], re.search(r"^## (\S+)", (TOP / "CHANGELOG.md").read_text(), re.M)[1]
+    yield "man/fuseworld.1", f"fuseworld {program[1]}", re.search(r'^\.TH .*?"(.*?)"', (TOP / "man/fuseworld.1").read_text(), re.M)[1]
+
+
 def main():
-    wrong = [f"{page.relative_to(TOP)}: no lines of crates/callers: {sample}" for page in PAGES for sample in unlike_callers(page)]
+    wrong = [f"{place}: {there}, and fuseworld --version has {program}" for place, program, there in versions() if program != there]
+    wrong += [f"{page.relative_to(TOP)}: no lines of crates/callers: {sample}" for page in PAGES for sample in unlike_callers(page)]
     for page in PAGES:
         in_rules = False
         for number, line in enumerate(page.read_text().split("\n"), 1):

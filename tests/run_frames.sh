@@ -77,6 +77,14 @@ code=$?
 : > "$work/want-out"
 judge "vectors to a full device" "$code" 5
 
+# The version.
+expect 0 "fuseworld $(sed -n 's/.*VERSION: &str = "\(.*\)";/\1/p' crates/fuseworld/src/version.rt)" "" --version
+"$program" --version > /dev/full 2> "$work/err"
+code=$?
+: > "$work/out"
+: > "$work/want-out"
+judge "version to a full device" "$code" 5
+
 # The command line. Its help goes to standard error.
 for words in "decode --help" "decode a b" "vectors a" "reply --help" "reply" "reply LOOKUP" "frame --words"; do
     # shellcheck disable=SC2086

@@ -1,0 +1,33 @@
+# Completion of fuseworld's command line for bash.
+_fuseworld() {
+    local word=${COMP_WORDS[COMP_CWORD]} commands="run socket frame reply decode vectors help" flags="" words="" files=no
+    COMPREPLY=()
+    if [ "$COMP_CWORD" -le 1 ]; then
+        flags="--help --version"
+        words=$commands
+    else
+        case ${COMP_WORDS[1]} in
+            run) flags="--hex --help"; files=yes ;;
+            socket) flags="--help"; files=yes ;;
+            frame) flags="--words --help" ;;
+            reply)
+                flags="--help"
+                [ "$COMP_CWORD" -gt 2 ] || words="LOOKUP GETATTR MKDIR UNLINK RMDIR RENAME LINK OPEN READ WRITE RELEASE INIT READDIR CREATE INTERRUPT READDIRPLUS"
+                ;;
+            decode) flags="--help"; files=yes ;;
+            vectors) flags="--help" ;;
+            help) words=$commands ;;
+        esac
+    fi
+    case $word in
+        -*) mapfile -t COMPREPLY < <(compgen -W "$flags" -- "$word") ;;
+        *)
+            mapfile -t COMPREPLY < <(compgen -W "$words" -- "$word")
+            if [ "$files" = yes ]; then
+                compopt -o filenames 2> /dev/null
+                mapfile -t -O "${#COMPREPLY[@]}" COMPREPLY < <(compgen -f -- "$word")
+            fi
+            ;;
+    esac
+}
+complete -F _fuseworld fuseworld

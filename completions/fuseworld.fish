@@ -1,0 +1,28 @@
+# Completion of fuseworld's command line for fish.
+complete -c fuseworld -n 'not __fish_seen_subcommand_from run socket decode' -f
+complete -c fuseworld -n __fish_use_subcommand -s h -l help -d 'Print help'
+complete -c fuseworld -n __fish_use_subcommand -s V -l version -d 'Print the version'
+
+complete -c fuseworld -n __fish_use_subcommand -a run -d 'Run a script of events'
+complete -c fuseworld -n '__fish_seen_subcommand_from run' -l hex -d 'Print each frame that is put'
+complete -c fuseworld -n '__fish_seen_subcommand_from run' -l help -d 'Print help'
+
+complete -c fuseworld -n __fish_use_subcommand -a socket -d 'Run a script over a Unix socket'
+complete -c fuseworld -n '__fish_seen_subcommand_from socket' -l help -d 'Print help'
+
+complete -c fuseworld -n __fish_use_subcommand -a frame -d 'Read one request frame'
+complete -c fuseworld -n '__fish_seen_subcommand_from frame' -l words -d 'Print the fields as well'
+complete -c fuseworld -n '__fish_seen_subcommand_from frame' -l help -d 'Print help'
+
+complete -c fuseworld -n __fish_use_subcommand -a reply -d 'Read one reply frame'
+complete -c fuseworld -n '__fish_seen_subcommand_from reply' -l help -d 'Print help'
+complete -c fuseworld -n '__fish_seen_subcommand_from reply' -a 'LOOKUP GETATTR MKDIR UNLINK RMDIR RENAME LINK OPEN READ WRITE RELEASE INIT READDIR CREATE INTERRUPT READDIRPLUS'
+
+complete -c fuseworld -n __fish_use_subcommand -a decode -d 'Print the frames of a capture in words'
+complete -c fuseworld -n '__fish_seen_subcommand_from decode' -l help -d 'Print help'
+
+complete -c fuseworld -n __fish_use_subcommand -a vectors -d 'Print frames of each kind with the codec\'s verdicts'
+complete -c fuseworld -n '__fish_seen_subcommand_from vectors' -l help -d 'Print help'
+
+complete -c fuseworld -n __fish_use_subcommand -a help -d 'Print the help of the program or of a command'
+complete -c fuseworld -n '__fish_seen_subcommand_from help' -a 'run socket frame reply decode vectors'
