@@ -17,6 +17,7 @@ ghost use Rattle.fk_syscalls.specs.Values.{call_of, answer_of};
 ghost use Rattle.fs_server.specs.Effects.{AnswersFrame};
 ghost use Rattle.fw_world.specs.declared.world.LastPut.TheVariants.{Request};
 ghost use Rattle.fw_world.specs.Frames.{IsCopyFrame, IsFrameOf, IsLastFrame, IsShown};
+ghost use Rattle.fw_world.specs.ListedNodes.{AreListed};
 ghost use Rattle.fw_world.specs.Runs.{StepsAs, call_collected};
 ghost use Rattle.fw_world.specs.Values.{counted_nodes, event_of, held_nodes};
 ghost use Rattle.fw_world.specs.Values.{outcome_of, read_of, refusal_for, with_copy};
@@ -247,8 +248,11 @@ impl<T: Tables> WorldOf<T> {
     ///
     /// Where there is no memory for the list.
     pub fn kernel_nodes(&self) -> Result<Vec<(u64, u64, u64), T::Heap>, AllocError>
-        ensures { IfOk result (λ nodes. nodes.items ≡ counted_nodes self.now.kernel.nodes) }
+        ensures nodes { IfOk result (λ nodes. nodes.items ≡ counted_nodes self.now.kernel.nodes) }
+        ensures listed { IfOk result (λ nodes. AreListed nodes.items) }
     {
+        self.keeps_protocol();
+        self.kernel.counts_within();
         self.kernel.nodes(*self.requests.allocator())
     }
 
@@ -258,8 +262,11 @@ impl<T: Tables> WorldOf<T> {
     ///
     /// Where there is no memory for the list.
     pub fn server_nodes(&self) -> Result<Vec<(u64, u64, u64), T::Heap>, AllocError>
-        ensures { IfOk result (λ nodes. nodes.items ≡ held_nodes self.now.server.nodes.rows) }
+        ensures nodes { IfOk result (λ nodes. nodes.items ≡ held_nodes self.now.server.nodes.rows) }
+        ensures listed { IfOk result (λ nodes. AreListed nodes.items) }
     {
+        self.keeps_protocol();
+        self.server.keeps_sound();
         self.server.nodes(*self.requests.allocator())
     }
 
