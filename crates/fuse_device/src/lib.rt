@@ -4,7 +4,11 @@
 #![tactic(auto)]
 
 mod device;
+mod errors;
+mod packet;
+mod reading;
 mod stream;
 
 pub use device::{Device, DeviceEnd};
+pub use packet::PacketDevice;
 pub use stream::StreamDevice;
