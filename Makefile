@@ -1,10 +1,11 @@
 # `make run` runs a script through the program, proving and building it first.
 # `make try` runs it without any proof, and says so. `make test` is the gate: first whether what the documents name is
-# there, then the proofs, and then the rows and the frames over the built program.
+# there, then the proofs, and then the rows, the frames and the mount over the built program. `make mount DIR=path` proves
+# and builds the program and serves a folder by it, until it is unmounted or a signal comes.
 
 SCRIPT ?= tests/rows/stat-of-root.script
 
-.PHONY: run try test build wrong-bodies
+.PHONY: run try test build mount wrong-bodies
 
 run: build
 	@crates/fuseworld/out/fuseworld run "$(SCRIPT)"
@@ -19,6 +20,11 @@ build:
 	@log=$$(mktemp); cd crates/fuseworld && rt run -- run /dev/null > "$$log" 2>&1 \
 		|| { cat "$$log" >&2; rm -f "$$log"; exit 1; }; rm -f "$$log"
 
+# ARGS has further words for the command `serve`.
+mount: build
+	@cc -O2 -Wall -Wextra -o crates/fuseworld/out/mount examples/mount.c
+	@crates/fuseworld/out/mount "$(DIR)" crates/fuseworld/out/fuseworld $(ARGS)
+
 # Whether each wrong body of tests/wrong_bodies is refused; CRATES names the crates whose bodies are tried, or none for all.
 wrong-bodies:
 	@python3 tests/wrong_bodies.py $(CRATES)
@@ -29,4 +35,6 @@ test:
 	@log=$$(mktemp); RT_JOBS=$$(nproc) rt ci > "$$log" 2>&1; status=$$?; cat "$$log"; \
 		if [ $$status = 0 ]; then sh tests/run_rows.sh; status=$$?; fi; \
 		if [ $$status = 0 ]; then sh tests/run_frames.sh; status=$$?; fi; \
+		if [ $$status = 0 ]; then python3 tests/serve_frames.py; status=$$?; fi; \
+		if [ $$status = 0 ]; then sh tests/real_mount.sh; status=$$?; fi; \
 		tail -n 1 "$$log"; rm -f "$$log"; exit $$status

@@ -9,7 +9,7 @@ ghost use Rattle.fs_serve.specs.Serving.{Serves, ServesFrame, ServesHeld, Serves
 ghost use Rattle.fk_wire.specs.Requests.{request_content};
 
 use crate::errors::{send_error, send_fault};
-use crate::init::{first_of, is_long_init};
+use crate::init::{init_in, is_long_init};
 use fk_wire::{RequestBody, read_request};
 use fs_server::{Server, ServerFault};
 use fuse_device::{Device, DeviceEnd};
@@ -77,7 +77,7 @@ fn serve_next<A: Allocator + Copy, D: Device>(
     };
     let frame = &room[..count];
     if is_long_init(frame) {
-        return serve_frame(server, device, &first_of(frame));
+        return serve_frame(server, device, &init_in(frame));
     }
     serve_frame(server, device, frame)
 }

@@ -21,3 +21,5 @@ pub use decode::{decode_capture, judge_capture};
 pub use frame::run_frame;
 pub use opcode_name::opcode_of_name;
 pub use reply::run_reply;
+pub use reply_words::write_reply_words;
+pub use request_words::write_request_words;
