@@ -10,5 +10,6 @@ mod lines;
 mod machine;
 mod over_links;
 mod over_lists;
+mod pieces;
 mod rows;
 mod want;
