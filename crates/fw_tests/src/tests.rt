@@ -11,5 +11,6 @@ mod lines;
 mod machine;
 mod over_links;
 mod over_lists;
+mod pieces;
 mod rows;
 mod want;
