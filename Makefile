@@ -1,10 +1,11 @@
 # `make run` runs a script through the program, proving and building it first.
 # `make try` runs it without any proof, and says so. `make test` is the gate: first whether what the documents name is
-# there, then the proofs, and then the rows, the frames, the man page and the completions over the built program.
+# there, then the proofs, and then the rows, the frames, the man page and completions, and the mount over the built program.
+# `make mount DIR=path` proves and builds the program and serves a folder by it, until it is unmounted or a signal comes.
 
 SCRIPT ?= tests/rows/stat-of-root.script
 
-.PHONY: run try test build vectors install uninstall wrong-bodies
+.PHONY: run try test build mount vectors install uninstall wrong-bodies
 
 run: build
 	@crates/fuseworld/out/fuseworld run "$(SCRIPT)"
@@ -18,6 +19,11 @@ try:
 build:
 	@log=$$(mktemp); cd crates/fuseworld && rt run -- run /dev/null > "$$log" 2>&1 \
 		|| { cat "$$log" >&2; rm -f "$$log"; exit 1; }; rm -f "$$log"
+
+# ARGS has further words for the command `serve`.
+mount: build
+	@cc -O2 -Wall -Wextra -o crates/fuseworld/out/mount examples/mount.c
+	@crates/fuseworld/out/mount "$(DIR)" crates/fuseworld/out/fuseworld $(ARGS)
 
 # The codec's verdict on frames of each kind, a JSON object a line.
 vectors: build
@@ -51,4 +57,6 @@ test:
 		if [ $$status = 0 ]; then sh tests/run_rows.sh; status=$$?; fi; \
 		if [ $$status = 0 ]; then sh tests/run_frames.sh; status=$$?; fi; \
 		if [ $$status = 0 ]; then python3 tests/check_commands.py; status=$$?; fi; \
+		if [ $$status = 0 ]; then python3 tests/serve_frames.py; status=$$?; fi; \
+		if [ $$status = 0 ]; then sh tests/real_mount.sh; status=$$?; fi; \
 		tail -n 1 "$$log"; rm -f "$$log"; exit $$status

@@ -1,6 +1,6 @@
 # Completion of fuseworld's command line for bash.
 _fuseworld() {
-    local word=${COMP_WORDS[COMP_CWORD]} commands="run socket frame reply decode vectors help" flags="" words="" files=no
+    local word=${COMP_WORDS[COMP_CWORD]} commands="run socket frame reply decode vectors serve help" flags="" words="" files=no
     COMPREPLY=()
     if [ "$COMP_CWORD" -le 1 ]; then
         flags="--help --version"
@@ -16,6 +16,7 @@ _fuseworld() {
                 ;;
             decode) flags="--help"; files=yes ;;
             vectors) flags="--help" ;;
+            serve) flags="--found --missing --minor --show --trace --help"; files=yes ;;
             help) words=$commands ;;
         esac
     fi

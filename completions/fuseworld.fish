@@ -1,5 +1,5 @@
 # Completion of fuseworld's command line for fish.
-complete -c fuseworld -n 'not __fish_seen_subcommand_from run socket decode' -f
+complete -c fuseworld -n 'not __fish_seen_subcommand_from run socket decode serve' -f
 complete -c fuseworld -n __fish_use_subcommand -s h -l help -d 'Print help'
 complete -c fuseworld -n __fish_use_subcommand -s V -l version -d 'Print the version'
 
@@ -24,5 +24,13 @@ complete -c fuseworld -n '__fish_seen_subcommand_from decode' -l help -d 'Print 
 complete -c fuseworld -n __fish_use_subcommand -a vectors -d 'Print frames of each kind with the codec\'s verdicts'
 complete -c fuseworld -n '__fish_seen_subcommand_from vectors' -l help -d 'Print help'
 
+complete -c fuseworld -n __fish_use_subcommand -a serve -d 'Serve a file system in memory to a FUSE kernel'
+complete -c fuseworld -n '__fish_seen_subcommand_from serve' -l found -x -d 'How many milliseconds a name is valid'
+complete -c fuseworld -n '__fish_seen_subcommand_from serve' -l missing -x -d 'How many milliseconds a missing name is'
+complete -c fuseworld -n '__fish_seen_subcommand_from serve' -l minor -x -a '15 31' -d 'The minor version'
+complete -c fuseworld -n '__fish_seen_subcommand_from serve' -l show -d 'Print the nodes that are held at the end'
+complete -c fuseworld -n '__fish_seen_subcommand_from serve' -l trace -d 'Print each frame in words'
+complete -c fuseworld -n '__fish_seen_subcommand_from serve' -l help -d 'Print help'
+
 complete -c fuseworld -n __fish_use_subcommand -a help -d 'Print the help of the program or of a command'
-complete -c fuseworld -n '__fish_seen_subcommand_from help' -a 'run socket frame reply decode vectors'
+complete -c fuseworld -n '__fish_seen_subcommand_from help' -a 'run socket frame reply decode vectors serve'

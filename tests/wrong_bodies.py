@@ -39,6 +39,15 @@ def try_crate(room, crate, edits):
         yield edit.stem, said[1] if said else f"rt said nothing of it: {ran.stdout[-200:]}"
 
 
+def clause_in(said):
+    """The clause that refused it, as rt names it, and the line whose function has it."""
+    placed = re.search(r"(src/[\w/]+\.rt:\d+).*?\(`([^`]*)`\)", said)
+    if placed:
+        return f"{placed[2]} ({placed[1]})"
+    named = re.search(r"error: `([^`]*)`", said)
+    return named[1] if named else said
+
+
 def main(names):
     passed, failed, start = 0, 0, time.monotonic()
     with tempfile.TemporaryDirectory(prefix="wrong-bodies-") as made:
@@ -49,8 +58,7 @@ def main(names):
                 continue
             for name, said in try_crate(room, folder.name, edits):
                 is_refused = said.startswith("refused, as it must be")
-                clause = re.search(r"error: `([^`]*)`", said)
-                why = f"by {clause[1]}" if is_refused and clause else said
+                why = f"by {clause_in(said)}" if is_refused else said
                 print(f"{'refused' if is_refused else 'NOT REFUSED'} {folder.name}/{name}: {why}", flush=True)
                 passed, failed = passed + is_refused, failed + (not is_refused)
     print(f"{time.monotonic() - start:.0f} seconds")

@@ -4,13 +4,12 @@ ghost use Rattle.std.specs.Prelude.{◌≡◌, ◌||◌, nat_eq};
 ghost use Rattle.std.specs.List.{list_any};
 ghost use Rattle.fuse_spec.specs.Kernel.Kernel.{nodes_of_state};
 ghost use Rattle.fuse_spec.specs.Values.Maps.{values};
-ghost use Rattle.fuse_spec.specs.declared.Opened.{Opened as OpenedFile};
 ghost use Rattle.fk_dentry.specs.NamesInForce.{names_the_node};
 ghost use Rattle.fk_calls.specs.Pins.{pins};
 
 use fk_dentry::Bindings;
+use fk_opens::OpenFiles;
 use fk_syscalls::CallState;
-use fuse_spec::Opened;
 use fuse_tables::Table;
 use std::alloc::Allocator;
 
@@ -26,30 +25,11 @@ fn is_named<A: Allocator + Copy>(calls: &[(u64, CallState<A>)], node: u64) -> bo
     false
 }
 
-/// Whether an open file is of a node.
-fn is_of(opened: &Opened, node: u64) -> bool
-    ensures { result ≡ nat_eq opened.now.nodeid node }
-{
-    opened.nodeid == node
-}
-
-/// Whether one of the open files is of a node.
-fn is_open(opens: &[(u64, Opened)], node: u64) -> bool
-    ensures { result ≡ list_any (λ (opened : OpenedFile). nat_eq opened.nodeid node) (values opens.now) }
-{
-    for file in opens {
-        if is_of(&file.1, node) {
-            return true;
-        }
-    }
-    false
-}
-
 /// Whether an unanswered call stands on the node or names it, an open file is of it, or the RELEASE of one is
 /// unanswered.
 fn is_pinned<A: Allocator + Copy>(
     calls: &Table<CallState<A>, A>,
-    opens: &Table<Opened, A>,
+    opens: &OpenFiles<A>,
     is_releasing: bool,
     node: u64,
 ) -> bool
@@ -58,7 +38,7 @@ fn is_pinned<A: Allocator + Copy>(
     if is_named(calls.rows(), node) {
         return true;
     }
-    if is_open(opens.rows(), node) {
+    if opens.is_open(node) {
         return true;
     }
     is_releasing
@@ -67,7 +47,7 @@ fn is_pinned<A: Allocator + Copy>(
 /// Whether a node is pinned, or a name in force, valid or not, names it.
 pub fn is_node_in_use<A: Allocator + Copy>(
     calls: &Table<CallState<A>, A>,
-    opens: &Table<Opened, A>,
+    opens: &OpenFiles<A>,
     is_releasing: bool,
     names: &Bindings<A>,
     node: u64,

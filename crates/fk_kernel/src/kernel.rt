@@ -13,6 +13,7 @@ use fk_calls::StoredAnswer;
 use fk_dentry::Bindings;
 use fk_lookup_count::{CountTable, KernelNodes, ListCounts};
 use fk_nodes::CountedNodes;
+use fk_opens::OpenFiles;
 use fk_queues::{ListQueues, QueueTable, Queues};
 use fk_syscalls::CallState;
 use fuse_spec::{Minor, Opened, Phase, Purpose, Refusal};
@@ -30,7 +31,7 @@ pub struct KernelOf<Q: QueueTable<Purpose>, C: CountTable<Heap = Q::Heap>> {
     pub(crate) calls: Table<CallState<Q::Heap>, Q::Heap>,
     pub(crate) answers: Table<StoredAnswer<Q::Heap>, Q::Heap>,
     /// The open files, by the numbers of the calls that opened them.
-    pub(crate) opens: Table<Opened, Q::Heap>,
+    pub(crate) opens: OpenFiles<Q::Heap>,
     /// The closed files of which a read or write is unanswered.
     pub(crate) closing: Table<Opened, Q::Heap>,
     pub(crate) names: Bindings<Q::Heap>,
@@ -91,7 +92,7 @@ impl<Q: QueueTable<Purpose> + Drop, C: CountTable<Heap = Q::Heap> + Drop> Kernel
             queues: Q::new(alloc),
             calls: Table::new(alloc),
             answers: Table::new(alloc),
-            opens: Table::new(alloc),
+            opens: OpenFiles::new(alloc),
             closing: Table::new(alloc),
             names: Bindings::new(alloc),
             nodes: CountedNodes::new(alloc),

@@ -20,10 +20,10 @@ use crate::plan::{FinalOperation, Plan};
 use crate::state::{CallState, Next, ROOT};
 use crate::walk::walk;
 use fk_dentry::Bindings;
+use fk_opens::OpenFiles;
 use fuse_spec::errno::{EBADF, EINVAL, ENOENT};
 use fuse_spec::limits::{self, MAX_FILE};
 use fuse_spec::{Opened, Operation};
-use fuse_tables::Table;
 use std::alloc::{AllocError, Allocator};
 
 /// A read or write has at most so many bytes.
@@ -39,7 +39,7 @@ pub fn begin<A: Allocator + Copy>(
     alloc: A,
     names: &Bindings<A>,
     clock: u64,
-    opens: &Table<Opened, A>,
+    opens: &OpenFiles<A>,
     call: &Call<'_>,
 ) -> Result<Next<A>, AllocError>
     requires { ClosesNone call.now }
@@ -316,7 +316,7 @@ fn set_out_again<A: Allocator + Copy>(
 /// A call that reads bytes of an open file.
 fn begin_read<A: Allocator + Copy>(
     alloc: A,
-    opens: &Table<Opened, A>,
+    opens: &OpenFiles<A>,
     handle: u64,
     offset: u64,
     size: u64,
@@ -337,7 +337,7 @@ fn begin_read<A: Allocator + Copy>(
 /// A call that puts bytes into an open file.
 fn begin_write<A: Allocator + Copy>(
     alloc: A,
-    opens: &Table<Opened, A>,
+    opens: &OpenFiles<A>,
     handle: u64,
     offset: u64,
     bytes: &[u8],

@@ -1,2 +1,7 @@
 mod Sendings
 mod Servings
+mod BetweenFrames
+mod Delivered
+mod Forgetting
+mod HeldCounts
+mod LookupCounts

@@ -34,7 +34,7 @@ module _ {A : Type 0} (old taken : Server) (frame : List ℕ) (word : Taken A) (
   serves_performed held log new serves = performed t.request taken takes (t.as_word ∙ held) log new
       (subst (λ (u : ℕ). ServesHeld taken u log new) (sym t.under) serves)
 
-ended_append : (h k : List Transfer) → ended_in h ≡ None → ended_in (h ++ k) ≡ ended_in k
+pub ended_append : (h k : List Transfer) → ended_in h ≡ None → ended_in (h ++ k) ≡ ended_in k
 ended_append [] k none = refl
 ended_append (received frame ∷ h) k none = ended_append h k none
 ended_append (sent frame result ∷ h) k none = ended_append h k none

@@ -1,3 +1,4 @@
 pub mod LongInits
 pub mod Sending
 pub mod Serving
+pub mod LookupCounts

@@ -1,17 +1,19 @@
 -- How a server serves what comes over a device.
-use Rattle.std.specs.Prelude.{◌≡◌, ◌⊎◌, ℕ, ℤ, negsuc, Bool, true, false, List, [], ◌∷◌, ◌++◌, Some, None}
+use Rattle.std.specs.Prelude.{◌≡◌, ◌≢◌, ◌⊎◌, ℕ, ℤ, negsuc, Bool, true, false, List, [], ◌∷◌, ◌++◌, Some, None}
 use Rattle.fuse_spec.specs.Kernel.Messages.{Request}
 use Rattle.fk_wire.specs.Requests.{RequestContent, interrupt}
 use Rattle.fuse_spec.specs.Values.Maps.{remove}
 use Rattle.fuse_spec.specs.Server.Server.{Server}
+use Rattle.fuse_spec.specs.Server.Refusals.{is_past_end}
 use Rattle.fuse_spec.specs.Server.Taking.{taking}
 use Rattle.fuse_spec.specs.World.Worlds.{Sent}
 use Rattle.fuse_spec.specs.declared.Taken.TheVariants.{Held}
 use Rattle.fuse_spec.specs.declared.Refusal.{Refusal}
 use Rattle.fuse_spec.specs.declared.Refusal.TheVariants.{NoMemory}
 use Rattle.fuse_frames.specs.RequestTies.{SaysRequest}
-use Rattle.fs_server.specs.Effects.{CanTake, PerformsHeld, RefusesFrame, RefusesHeld, copy_of, request_fault}
+use Rattle.fs_server.specs.Effects.{CanTake, PerformsHeld, RefusesFrame, RefusesHeld, WantsMemory, copy_of, request_fault}
 use Rattle.fs_server.specs.declared.server.ServerFault.{ServerFault}
+use Rattle.fs_server.specs.declared.server.ServerFault.TheVariants.{Memory}
 use Rattle.fuse_device.specs.Transfers.{Transfer, received, stopped, ended_in}
 use Rattle.fuse_device.specs.declared.device.DeviceEnd.{DeviceEnd}
 use Rattle.fs_serve.specs.LongInits.{IsReadAs}
@@ -64,13 +66,15 @@ pub data ServesFrame (old : Server) (frame : List ℕ) : List Transfer → Serve
   performed : (request : Request) (taken : Server) → Takes old frame request taken
       → (taking old request.unique request.body).word ≡ Held → (log : List Transfer) (new : Server)
       → ServesHeld taken request.unique log new → ServesFrame old frame log new
-  -- Memory is wanting to take it: nothing changes. The reply is an error, and to an INTERRUPT there is none.
-  untaken : (can : CanTake old frame) → is_interrupt can.says.message.content ≡ false → (log : List Transfer)
-      → SendsError can.request.unique out_of_memory log → ServesFrame old frame log old
-  uninterrupted : (can : CanTake old frame) → is_interrupt can.says.message.content ≡ true → ServesFrame old frame [] old
-  -- A faulty frame changes nothing.
-  refused : (fault : ServerFault) → RefusesFrame old frame fault → (log : List Transfer)
-      → SendsFault old.minor frame fault log → ServesFrame old frame log old
+  -- Memory is wanting to take one that takes memory: nothing changes. The reply is an error, and to an INTERRUPT there
+  -- is none.
+  untaken : (can : CanTake old frame) → WantsMemory old frame → is_interrupt can.says.message.content ≡ false
+      → (log : List Transfer) → SendsError can.request.unique out_of_memory log → ServesFrame old frame log old
+  uninterrupted : (can : CanTake old frame) → WantsMemory old frame → is_interrupt can.says.message.content ≡ true
+      → ServesFrame old frame [] old
+  -- A faulty frame, or one for which a number is wanting, changes nothing.
+  refused : (fault : ServerFault) → RefusesFrame old frame fault → fault ≢ Memory → is_past_end old ≡ false
+      → (log : List Transfer) → SendsFault old.minor frame fault log → ServesFrame old frame log old
 
 -- One frame is received and served, or the device comes to its end.
 pub data ServesNext (old : Server) : List Transfer → Server → Type 0 where

@@ -8,10 +8,10 @@ use fk_wire::read_request_head;
 /// The opcode of INIT, and how many bytes one of 7.31 has (`struct fuse_init_in` up to 7.35, behind its header).
 const INIT: u32 = 26;
 
-pub(crate) const INIT_LEN: usize = 56;
+const INIT_LEN: usize = 56;
 
-/// Whether a frame is an INIT with more than 7.31 has.
-pub(crate) fn is_long_init(frame: &[u8]) -> bool
+/// Whether a frame is an INIT with more than 7.31 has: kernels of 7.36 and later send 104 bytes.
+pub fn is_long_init(frame: &[u8]) -> bool
     ensures { IsTrue result ↔ IsLongInit frame.now }
 {
     match read_request_head(frame) {
@@ -20,8 +20,8 @@ pub(crate) fn is_long_init(frame: &[u8]) -> bool
     }
 }
 
-/// The INIT of 7.31 with which a longer one begins.
-pub(crate) fn first_of(frame: &[u8]) -> [u8; 56]
+/// The INIT of 7.31 with which a longer one begins: its first 56 bytes, with 56 as their length (this project's rule).
+pub fn init_in(frame: &[u8]) -> [u8; 56]
     requires { 56 < length frame.now }
     ensures { result ≡ first_of frame.now }
 {

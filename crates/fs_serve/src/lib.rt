@@ -5,4 +5,5 @@ mod errors;
 mod init;
 mod serving;
 
+pub use init::{init_in, is_long_init};
 pub use serving::serve;

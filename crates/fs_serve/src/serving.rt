@@ -1,13 +1,15 @@
 //! Frames are received and served, one after another.
 
 ghost use Rattle.std.specs.Prelude.{◌≡◌, OnErr, IfOk};
-ghost use Rattle.fs_server.specs.Effects.{CanTake};
+ghost use Rattle.fs_server.specs.Effects.{CanTake, RefusesFrame, WantsMemory};
+ghost use Rattle.fs_server.specs.declared.server.ServerFault.TheVariants.{Memory as MemoryFault};
+ghost use Rattle.fs_serve.specs.LookupCounts.{IsServed};
 ghost use Rattle.fs_serve.specs.Sending.{Delivers, GoesOver, SendsError, end_of};
 ghost use Rattle.fs_serve.specs.Serving.{Serves, ServesFrame, ServesHeld, ServesNext, error_for, is_interrupt};
 ghost use Rattle.fk_wire.specs.Requests.{request_content};
 
 use crate::errors::{send_error, send_fault};
-use crate::init::{first_of, is_long_init};
+use crate::init::{init_in, is_long_init};
 use fk_wire::{RequestBody, read_request};
 use fs_server::{Server, ServerFault};
 use fuse_device::{Device, DeviceEnd};
@@ -26,6 +28,9 @@ const EIO: i32 = -5;
 /// Serves what comes over a device, until it ends, and gives its end; `None` after 2^64 - 1 frames. Each frame is
 /// taken, what is held is performed at once, its reply is sent, and the result of that settles the copy.
 ///
+/// Of a server that was just mounted each lookup count follows the frames: it is at every moment what the entries of
+/// accepted replies told, less what forgets gave back (libfuse's low-level notes, "forget").
+///
 /// # Errors
 ///
 /// Where there is no memory for the frames to come. Nothing is then received.
@@ -35,7 +40,7 @@ pub fn serve<A: Allocator + Copy, D: Device>(
     device: &mut D,
 ) -> Result<Option<DeviceEnd>, AllocError>
     ensures served { IfOk result (λ end. GoesOver D.logs device.old device.new end
-        (λ log. Serves server.old log server.new)) }
+        (λ log. IsServed server.old log server.new)) }
     ensures refused { OnErr result ((server.new ≡ server.old) × (device.new ≡ device.old)) }
 {
     let mut room = vec![in alloc; 0u8; ROOM]?;
@@ -72,7 +77,7 @@ fn serve_next<A: Allocator + Copy, D: Device>(
     };
     let frame = &room[..count];
     if is_long_init(frame) {
-        return serve_frame(server, device, &first_of(frame));
+        return serve_frame(server, device, &init_in(frame));
     }
     serve_frame(server, device, frame)
 }
@@ -88,8 +93,7 @@ fn serve_frame<A: Allocator + Copy, D: Device>(
 {
     let taken = match server.take(frame) {
         Ok(taken) => taken,
-        Err(ServerFault::Memory) => return send_untaken(server, device, frame),
-        Err(fault) => return send_fault(server, device, frame, fault),
+        Err(fault) => return refuse(server, device, frame, fault),
     };
     if let Some(sent) = &taken.sent {
         return deliver(server, device, sent);
@@ -100,13 +104,36 @@ fn serve_frame<A: Allocator + Copy, D: Device>(
     }
 }
 
+/// Replies to a frame that is not taken, which changes nothing.
+fn refuse<A: Allocator + Copy, D: Device>(
+    server: &Server<A>,
+    device: &mut D,
+    frame: &[u8],
+    fault: ServerFault,
+) -> Result<(), DeviceEnd>
+    requires refused { RefusesFrame server.now frame.now fault }
+    requires can { fault ≡ MemoryFault → CanTake server.now frame.now }
+    requires wants { fault ≡ MemoryFault → WantsMemory server.now frame.now }
+    ensures { GoesOver D.logs device.old device.new (end_of result)
+        (λ log. ServesFrame server.now frame.now log server.now) }
+{
+    match fault {
+        ServerFault::Memory => send_untaken(server, device, frame),
+        _ => {
+            server.within();
+            send_fault(server, device, frame, fault)
+        }
+    }
+}
+
 /// Replies that memory is wanting for a request that could not be taken. Nothing is replied so to an INTERRUPT.
 fn send_untaken<A: Allocator + Copy, D: Device>(
     server: &Server<A>,
     device: &mut D,
     frame: &[u8],
 ) -> Result<(), DeviceEnd>
-    requires { CanTake server.now frame.now }
+    requires can { CanTake server.now frame.now }
+    requires wants { WantsMemory server.now frame.now }
     ensures { GoesOver D.logs device.old device.new (end_of result)
         (λ log. ServesFrame server.now frame.now log server.now) }
 {

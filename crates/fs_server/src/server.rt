@@ -15,7 +15,7 @@ use fs_files::{Files, HeldRequest};
 use fs_nodes::{ListNodes, NodeStore, NodeTable};
 use fuse_frames::Sent;
 use fuse_spec::{Minor, Validity};
-use fuse_tables::Table;
+use fuse_tables::RisingTable;
 use std::alloc::{AllocError, Allocator, Global};
 use std::marker::Model;
 use thiserror::Error;
@@ -58,9 +58,9 @@ pub struct Taken<A: Allocator = Global> {
 pub struct ServerOf<S: NodeStore> {
     pub(crate) alloc: S::Heap,
     pub(crate) files: Files<S>,
-    pub(crate) held: Table<HeldRequest<S::Heap>, S::Heap>,
-    pub(crate) kept: Table<KeptReply<S::Heap>, S::Heap>,
-    pub(crate) copies: Table<SentCopy<S::Heap>, S::Heap>,
+    pub(crate) held: RisingTable<HeldRequest<S::Heap>, S::Heap>,
+    pub(crate) kept: RisingTable<KeptReply<S::Heap>, S::Heap>,
+    pub(crate) copies: RisingTable<SentCopy<S::Heap>, S::Heap>,
     pub(crate) next_copy: u64,
     pub(crate) validity: Validity,
     pub(crate) minor: Minor,
@@ -103,9 +103,9 @@ impl<S: NodeStore> ServerOf<S> {
         Ok(ServerOf {
             alloc,
             files,
-            held: Table::new(alloc),
-            kept: Table::new(alloc),
-            copies: Table::new(alloc),
+            held: RisingTable::new(alloc),
+            kept: RisingTable::new(alloc),
+            copies: RisingTable::new(alloc),
             next_copy: 1,
             validity: Validity {
                 found_ms: 0,

@@ -12,7 +12,7 @@ use crate::server::ServerOf;
 use fs_files::{Files, SentReply, file_entries, opened};
 use fs_nodes::NodeStore;
 use fuse_spec::{Entry, Refusal, WriteResult};
-use fuse_tables::Table;
+use fuse_tables::RisingTable;
 use std::alloc::Allocator;
 
 impl<S: NodeStore> ServerOf<S> {
@@ -37,7 +37,7 @@ impl<S: NodeStore> ServerOf<S> {
 }
 
 /// The reply of which this was a copy is not kept any longer, if it was.
-fn drop_kept<A: Allocator + Copy>(kept: &mut Table<KeptReply<A>, A>, copy: &SentCopy<A>)
+fn drop_kept<A: Allocator + Copy>(kept: &mut RisingTable<KeptReply<A>, A>, copy: &SentCopy<A>)
     ensures { kept.new.entries ≡ kept_after kept.old.entries copy.now (get kept.old.entries copy.now.unique) }
 {
     if keeps_first(kept, copy.unique(), copy.first()) {
@@ -46,7 +46,11 @@ fn drop_kept<A: Allocator + Copy>(kept: &mut Table<KeptReply<A>, A>, copy: &Sent
 }
 
 /// Whether the reply under a unique is kept, and its first copy has this number.
-fn keeps_first<A: Allocator + Copy>(kept: &Table<KeptReply<A>, A>, unique: u64, first: u64) -> bool
+fn keeps_first<A: Allocator + Copy>(
+    kept: &RisingTable<KeptReply<A>, A>,
+    unique: u64,
+    first: u64,
+) -> bool
     ensures { result ≡ is_of_copy (get kept.now.entries unique) first }
 {
     match kept.get(unique) {

@@ -3,7 +3,8 @@ use Rattle.std.proofs.Common.{◌≡◌, ℕ, ◌<◌, Bool, true, false, cond, 
 use Rattle.std.specs.Option.{option_map}
 use Rattle.std.specs.declared.cmp.Ordering.{Ordering}
 use Rattle.std.specs.Ordering.{nat_cmp, is_eq}
-use Rattle.std.specs.Map.{lookup}
+use Rattle.std.specs.Map.{lookup, set_value}
+use Rattle.std.proofs.lemmas.Option.{same_Some}
 use Rattle.std.specs.BTreeMap.{insert_entry}
 use Rattle.std.specs.FinMap.Entries.{by_order}
 use Rattle.std.specs.Cmp.{nat_cmp_is}
@@ -29,7 +30,7 @@ is_eq-nat_cmp x y = by (nat_lt x y) refl (nat_eq x y) refl
 some_none : {X : Type 0} {x : X} → Some x ≡ None → ⊥
 some_none e = cc
 
-none_some : {X : Type 0} (o : Option X) → o ≡ None → IsSome o → ⊥
+pub none_some : {X : Type 0} (o : Option X) → o ≡ None → IsSome o → ⊥
 none_some None e there = cc
 none_some (Some x) e there = some_none e
 
@@ -76,6 +77,20 @@ module _ {V W : Type 0} (h : V → W) where
       by Less rest = refl
       by Equal rest = refl
       by Greater rest = ap (λ l. seen e ∷ l) rest
+
+  -- a file written in place with a value that stands for the same
+  pub same-seen : (test : ℕ → Bool) (es : List (ℕ × V)) (old new : V) → h new ≡ h old → Some old ≡ lookup test es
+      → map seen (set_value test es new) ≡ map seen es
+  same-seen test [] old new same there = refl
+  same-seen test (e ∷ es) old new same there = by (test e.0) (same-seen test es old new same) there
+    where
+      by : (b : Bool) → (Some old ≡ lookup test es → map seen (set_value test es new) ≡ map seen es)
+          → Some old ≡ cond b (Some e.1) (lookup test es)
+          → map seen (cond b ((e.0, new) ∷ es) (e ∷ set_value test es new)) ≡ seen e ∷ map seen es
+      by true rest there =
+          let is : old ≡ e.1 = same_Some old e.1 there in
+          ap (λ x. (e.0, x) ∷ map seen es) (same ∙ ap h is)
+      by false rest there = ap (λ l. seen e ∷ l) (rest there)
 
 module _ {V : Type 0} where
   -- a file put behind all others, and taken away again

@@ -15,3 +15,4 @@ pub mod Shaping
 pub mod KeepsShape
 pub mod KeepsNames
 pub mod Leads
+pub mod WrittenFiles

@@ -90,8 +90,7 @@ impl<A: Allocator + Copy> Tree<A> {
         if bytes.is_empty() {
             return Ok(());
         }
-        let written = with_bytes(self.alloc, self.files.bytes(file), offset as usize, bytes)?;
-        self.files.store(file, written);
+        self.files.write(file, offset as usize, bytes)?;
         Ok(())
     }
 }
@@ -103,24 +102,31 @@ fn fits(offset: u64, len: usize) -> bool
     offset <= MAX_FILE && len as u64 <= MAX_FILE - offset
 }
 
-/// The bytes with others written over them from an offset on. A gap is zeros.
-fn with_bytes<A: Allocator>(
-    alloc: A,
-    old: &[u8],
+/// Writes bytes over others, in place, from an offset on. A gap becomes zeros.
+///
+/// # Errors
+///
+/// Memory was wanting. The bytes are as before.
+pub(crate) fn overwrite<A: Allocator>(
+    old: &mut Vec<u8, A>,
     offset: usize,
     bytes: &[u8],
-) -> Result<Vec<u8, A>, AllocError>
+) -> Result<(), AllocError>
     requires fits { offset + length bytes.now ≤ 65536 }
     requires some { 0 < length bytes.now }
-    ensures { IfOk result (λ new. new.items ≡ overwritten old.now offset bytes.now) }
+    ensures ok { OnOk result (old.new.items ≡ overwritten old.old.items offset bytes.now) }
+    ensures unchanged { OnErr result (old.new.items ≡ old.old.items) }
 {
     let end = offset + bytes.len();
-    let mut new = Vec::with_capacity(alloc, end.max(old.len()))?;
-    new.extend_from_slice(first_bytes(old, offset))?;
-    new.resize(offset, 0)?;
-    new.extend_from_slice(bytes)?;
-    new.extend_from_slice(bytes_from(old, end))?;
-    Ok(new)
+    if end <= old.len() {
+        old[offset..end].copy_from_slice(bytes);
+        return Ok(());
+    }
+    old.reserve(end - old.len())?;
+    // It is filled up with zeros, or cut where the bytes begin.
+    old.resize(offset, 0).unwrap();
+    old.extend_from_slice(bytes).unwrap();
+    Ok(())
 }
 
 /// At most so many bytes, the first ones.

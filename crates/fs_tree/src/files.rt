@@ -1,11 +1,12 @@
 //! The files of a tree: what each is.
 
-ghost use Rattle.std.specs.Prelude.{◌≡◌, [], Some, filter, not, cond, count_by, length, nat_eq, OnErr, OnOk};
+ghost use Rattle.std.specs.Prelude.{◌≡◌, ◌+◌, ◌<◌, ◌≤◌, [], Some, filter, not, cond, count_by, length, nat_eq, OnErr, OnOk};
 ghost use Rattle.fuse_spec.specs.Values.Maps.{get, put, remove};
-ghost use Rattle.fuse_spec.specs.Files.Trees.{kind_of, bytes_of, a_file};
+ghost use Rattle.fuse_spec.specs.Files.Trees.{kind_of, bytes_of, a_file, overwritten};
 ghost use Rattle.fuse_spec.specs.declared.Kind.TheVariants.{Regular};
 ghost use Rattle.fs_tree.specs.Views.{content_in};
 
+use crate::bytes::overwrite;
 use crate::names::Names;
 use crate::tree::ROOT;
 use fuse_spec::Kind;
@@ -36,6 +37,22 @@ impl<A: Allocator> Content<A> {
         match self {
             Content::Directory => &[],
             Content::Regular(bytes) => bytes,
+        }
+    }
+
+    /// Writes bytes into a regular file from an offset on.
+    fn write(&mut self, offset: usize, bytes: &[u8]) -> Result<(), AllocError>
+        requires fits { offset + length bytes.now ≤ 65536 }
+        requires some { 0 < length bytes.now }
+        requires regular { kind_of (Some (content_in self.old)) ≡ Regular }
+        ensures ok { OnOk result (content_in self.new
+            ≡ a_file (overwritten (bytes_of (Some (content_in self.old))) offset bytes.now)) }
+        ensures unchanged { OnErr result (content_in self.new ≡ content_in self.old) }
+    {
+        match self {
+            // It is regular.
+            Content::Directory => Ok(()),
+            Content::Regular(old) => overwrite(old, offset, bytes),
         }
     }
 }
@@ -116,13 +133,20 @@ impl<A: Allocator + Copy> Files<A> {
         let _content = self.contents.remove(&file);
     }
 
-    /// Gives a regular file these bytes.
-    pub(crate) fn store(&mut self, file: u64, bytes: Vec<u8, A>)
-        requires { kind_of (get self.old file) ≡ Regular }
-        ensures { self.new ≡ put self.old file (a_file bytes.items) }
+    /// Writes bytes into a regular file, in place, from an offset on. Where memory is refused nothing changes.
+    pub(crate) fn write(&mut self, file: u64, offset: usize, bytes: &[u8]) -> Result<(), AllocError>
+        requires fits { offset + length bytes.now ≤ 65536 }
+        requires some { 0 < length bytes.now }
+        requires regular { kind_of (get self.old file) ≡ Regular }
+        ensures ok { OnOk result (self.new
+            ≡ put self.old file (a_file (overwritten (bytes_of (get self.old file)) offset bytes.now))) }
+        ensures unchanged { OnErr result (self.new ≡ self.old) }
     {
-        let stored: Result<_, _> = self.contents.insert(file, Content::Regular(bytes));
-        let _old = stored.unwrap();
+        let Some(content) = self.contents.get_mut(&file) else {
+            // It is there.
+            return Ok(());
+        };
+        content.write(offset, bytes)
     }
 
     /// Takes away each file that no name leads to, but for the root.

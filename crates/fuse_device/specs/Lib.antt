@@ -1,2 +1,3 @@
 pub mod Transfers
+pub mod Listed
 pub mod Streamed

@@ -1,19 +1,38 @@
 -- What goes over a device of a reader and a writer, where those know their bytes.
-use Rattle.std.specs.Prelude.{◌≡◌, ℕ, List, [], ◌∷◌, ◌++◌, Option, take}
+use Rattle.std.specs.Prelude.{◌≡◌, ◌≤◌, ℕ, List, [], ◌∷◌, ◌++◌, Option, length, take}
 use Rattle.std.proofs.Common.{refl, sym, ap, subst, ◌∙◌, append_assoc}
 use Rattle.std.specs.Io.KnownBytes.{Appends, Consumes}
 use Rattle.std.proofs.KnownBytes.{Appends-nil, Appends-trans, Consumes-nil, Consumes-trans}
+use Rattle.byteorder.specs.Endian.{little_number}
 use Rattle.fuse_spec.specs.declared.WriteResult.{WriteResult}
 use Rattle.fuse_spec.specs.declared.WriteResult.TheVariants.{Accepted, NoEntry, Invalid}
 use Rattle.fuse_device.specs.Transfers.{Transfer, received, sent, unsent, stopped}
-use Rattle.fuse_device.specs.declared.stream.StreamDevice.{StreamDevice}
+use Rattle.fuse_device.specs.declared.device.DeviceEnd.TheVariants.{Ended, Failed}
 
--- A call read these bytes: the frame that was received.
-abbrev pub Reads : Transfer → List ℕ → Type 0
-Reads (received frame) bytes = bytes ≡ frame
-Reads (sent frame result) bytes = bytes ≡ []
-Reads (unsent frame end) bytes = bytes ≡ []
-Reads (stopped end) bytes = bytes ≡ []
+-- A call read these bytes of a reader of packets: the frame that was received.
+abbrev pub ReadsPacket : Transfer → List ℕ → Type 0
+ReadsPacket (received frame) bytes = bytes ≡ frame
+ReadsPacket (sent frame result) bytes = bytes ≡ []
+ReadsPacket (unsent frame end) bytes = bytes ≡ []
+ReadsPacket (stopped end) bytes = bytes ≡ []
+
+-- the length that the first four bytes of a frame state (linux/fuse.h, struct fuse_in_header)
+abbrev pub stated_len : List ℕ → ℕ
+stated_len bytes = little_number 4 bytes
+
+-- the bytes are one whole request frame, by its length: a header of 40 bytes, and what it says follows
+pub record IsWhole (bytes : List ℕ) : Type 0 where
+  pub header : 40 ≤ length bytes
+  pub stated : stated_len bytes ≡ length bytes
+
+-- A call read these bytes of a stream: the frame that was received, which is whole. At the other side's end it read
+-- none, and where the device failed no whole frame.
+abbrev pub ReadsStream : Transfer → List ℕ → Type 0
+ReadsStream (received frame) bytes = (bytes ≡ frame) × IsWhole frame
+ReadsStream (sent frame result) bytes = bytes ≡ []
+ReadsStream (unsent frame end) bytes = bytes ≡ []
+ReadsStream (stopped Ended) bytes = bytes ≡ []
+ReadsStream (stopped Failed) bytes = IsWhole bytes → ⊥
 
 -- the bytes of a frame that reach a writer, by its result
 abbrev pub accepted_bytes : List ℕ → WriteResult → List ℕ
@@ -46,35 +65,34 @@ Moves-append by (t ∷ h) k bs cs (front, rest, moved, others, is) there = (
   ap (λ (l : List ℕ). l ++ cs) is ∙ append_assoc front rest cs,
 )
 
-module _ {R W : Type 0} (remaining : R → Option (List ℕ)) (contents : W → Option (List ℕ)) where
-  -- the reader gave the bytes that were read, and the writer took those that were written
-  pub record Streamed (old new : StreamDevice R W) (log : List Transfer) : Type 0 where
+module _ {R W : Type 0} (remaining : R → Option (List ℕ)) (contents : W → Option (List ℕ))
+    (reads : Transfer → List ℕ → Type 0) where
+  -- The reader gave the bytes that these calls read, each as `reads` says, and the writer took those that they wrote.
+  pub record Streamed (old_reader new_reader : R) (old_writer new_writer : W) (log : List Transfer) : Type 0 where
     pub read : List ℕ
-    pub reads : Moves Reads log read
-    pub given : Consumes (remaining old.reader) (remaining new.reader) read
+    pub moved : Moves reads log read
+    pub given : Consumes (remaining old_reader) (remaining new_reader) read
     pub written : List ℕ
     pub writes : Moves Writes log written
-    pub taken : Appends (contents old.writer) (contents new.writer) written
+    pub taken : Appends (contents old_writer) (contents new_writer) written
 
-  pub nothing_streamed : (device : StreamDevice R W) → Streamed device device []
-  nothing_streamed device = record {
+  pub nothing_streamed : (reader : R) (writer : W) → Streamed reader reader writer writer []
+  nothing_streamed reader writer = record {
     read = [];
-    reads = refl;
-    given = Consumes-nil (remaining device.reader);
+    moved = refl;
+    given = Consumes-nil (remaining reader);
     written = [];
     writes = refl;
-    taken = Appends-nil (contents device.writer);
+    taken = Appends-nil (contents writer);
   }
 
-  pub streamed_in_turn : (first mid last : StreamDevice R W) (h k : List Transfer) → Streamed first mid h
-      → Streamed mid last k → Streamed first last (h ++ k)
-  streamed_in_turn first mid last h k one two = record {
+  pub streamed_in_turn : (r s t : R) (u v w : W) (h k : List Transfer) → Streamed r s u v h → Streamed s t v w k
+      → Streamed r t u w (h ++ k)
+  streamed_in_turn r s t u v w h k one two = record {
     read = one.read ++ two.read;
-    reads = Moves-append Reads h k one.read two.read one.reads two.reads;
-    given = Consumes-trans (remaining first.reader) (remaining mid.reader) (remaining last.reader)
-        one.read two.read one.given two.given;
+    moved = Moves-append reads h k one.read two.read one.moved two.moved;
+    given = Consumes-trans (remaining r) (remaining s) (remaining t) one.read two.read one.given two.given;
     written = one.written ++ two.written;
     writes = Moves-append Writes h k one.written two.written one.writes two.writes;
-    taken = Appends-trans (contents first.writer) (contents mid.writer) (contents last.writer)
-        one.written two.written one.taken two.taken;
+    taken = Appends-trans (contents u) (contents v) (contents w) one.written two.written one.taken two.taken;
   }

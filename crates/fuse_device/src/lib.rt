@@ -4,7 +4,13 @@
 #![tactic(auto)]
 
 mod device;
+mod errors;
+mod list;
+mod packet;
+mod reading;
 mod stream;
 
 pub use device::{Device, DeviceEnd};
+pub use list::ListDevice;
+pub use packet::PacketDevice;
 pub use stream::StreamDevice;

@@ -1,61 +1,86 @@
-//! A device over a reader and a writer: one read is one frame, and one write.
+//! A device over a stream of bytes, which is cut into frames by the length that each states.
 
-ghost use Rattle.std.specs.Prelude.{◌≡◌, ◌≢◌, ℕ, ◌<◌, ◌≤◌, [], length, take, IfOk, OnOk, OnErr};
+ghost use Rattle.std.specs.Prelude.{◌≡◌, ℕ, ◌+◌, ◌<◌, ◌≤◌, ◌++◌, [], List, length, take, IfErr, IfOk, IsErrOf, OnOk, OnErr};
 ghost use Rattle.std.specs.Io.KnownBytes.{Appends, Consumes};
-ghost use Rattle.fuse_device.specs.Streamed.{accepted_bytes};
+ghost use Rattle.fuse_device.specs.Streamed.{IsWhole, ReadsStream};
+ghost use Rattle.fuse_device.specs.Transfers.{stopped};
 
 use crate::device::{Device, DeviceEnd};
+use crate::errors::{end_of, is_written_again};
+use crate::reading::read_some;
+use byteorder::{ByteOrder, LittleEndian};
 use fuse_spec::WriteResult;
 use std::io::{Read, Write};
 
-/// ENOENT of a read: the request went before it was read. Of a write: nothing awaits the reply.
-const ENOENT: i32 = 2;
+/// The bytes of a frame's length, and the fewest that it may state: a request's header (`struct fuse_in_header`).
+const LEN_BYTES: usize = 4;
 
-/// EINTR, a signal came first.
-const EINTR: i32 = 4;
+const HEADER: usize = 40;
 
-/// EAGAIN, nothing is there yet.
-const EAGAIN: i32 = 11;
-
-/// ENODEV of a read: the mount has gone.
-const ENODEV: i32 = 19;
-
-/// EINVAL of a write: the frame is no reply.
-const EINVAL: i32 = 22;
-
-/// EPIPE, ECONNABORTED and ECONNRESET: the other side closed, or the mount was aborted.
-const EPIPE: i32 = 32;
-
-const ECONNABORTED: i32 = 103;
-
-const ECONNRESET: i32 = 104;
-
-/// Whether the system asks to try a read again that failed with this error number.
-fn is_tried_again(number: i32) -> bool {
-    number == EINTR || number == EAGAIN || number == ENOENT
+/// Reads behind the front of the room.
+fn read_at<R: Read>(from: &mut R, room: &mut [u8], at: usize) -> Result<usize, DeviceEnd>
+    requires { at ≤ length room.old }
+    ensures count { IfOk result (λ n. (0 < n) × (at + n ≤ length room.new)) }
+    ensures bytes { IfOk result (λ n. (bytes : List ℕ) × (take (at + n) room.new ≡ take at room.old ++ bytes)
+        × Consumes (R.remaining from.old) (R.remaining from.new) bytes) }
+    ensures end { OnErr result (Consumes (R.remaining from.old) (R.remaining from.new) []) }
+{
+    read_some(from, &mut room[at..])
 }
 
-/// What a call that failed with this error number says of the device.
-fn end_of(number: i32) -> DeviceEnd {
-    match number {
-        ENODEV | EPIPE | ECONNABORTED | ECONNRESET => DeviceEnd::Ended,
-        _ => DeviceEnd::Failed,
+/// Fills the room. Where the stream comes to its end before its first byte that is given, and else it is a failure.
+fn fill<R: Read>(from: &mut R, room: &mut [u8]) -> Result<(), DeviceEnd>
+    ensures ok { OnOk result (Consumes (R.remaining from.old) (R.remaining from.new) room.new) }
+    ensures ended { IsErrOf result DeviceEnd.Ended → Consumes (R.remaining from.old) (R.remaining from.new) [] }
+    ensures failed { OnErr result ((bytes : List ℕ) × (length bytes < length room.old)
+        × Consumes (R.remaining from.old) (R.remaining from.new) bytes) }
+{
+    let mut done = 0;
+    while done < room.len() {
+        match read_at(from, room, done) {
+            Ok(count) => done += count,
+            Err(end) if done == 0 => return Err(end),
+            Err(_) => return Err(DeviceEnd::Failed),
+        }
+    }
+    Ok(())
+}
+
+/// Reads one frame into the front of the room, and says how many bytes it has.
+fn read_frame<R: Read>(from: &mut R, room: &mut [u8]) -> Result<usize, DeviceEnd>
+    ensures count { IfOk result (λ n. n ≤ length room.new) }
+    ensures frame { IfOk result (λ n. IsWhole (take n room.new)
+        × Consumes (R.remaining from.old) (R.remaining from.new) (take n room.new)) }
+    ensures end { IfErr result (λ end. (bytes : List ℕ) × ReadsStream (stopped end) bytes
+        × Consumes (R.remaining from.old) (R.remaining from.new) bytes) }
+{
+    if room.len() < HEADER {
+        return Err(DeviceEnd::Failed);
+    }
+    fill(from, &mut room[..LEN_BYTES])?;
+    let len = LittleEndian::read_u32(room) as usize;
+    if len < HEADER || room.len() < len {
+        return Err(DeviceEnd::Failed);
+    }
+    match fill(from, &mut room[LEN_BYTES..len]) {
+        Ok(()) => Ok(len),
+        Err(_) => Err(DeviceEnd::Failed),
     }
 }
 
-/// Reads one frame into the front of the room.
-fn read_frame<R: Read>(from: &mut R, room: &mut [u8]) -> Result<usize, DeviceEnd>
-    ensures count { IfOk result (λ n. (0 < n) × (n ≤ length room.new)) }
-    ensures bytes { IfOk result (λ n. Consumes (R.remaining from.old) (R.remaining from.new) (take n room.new)) }
-    ensures end { OnErr result (Consumes (R.remaining from.old) (R.remaining from.new) []) }
+/// Writes bytes, and says how many were taken. A write of none is a failure.
+fn write_some<W: Write>(out: &mut W, bytes: &[u8]) -> Result<usize, DeviceEnd>
+    ensures count { IfOk result (λ n. (0 < n) × (n ≤ length bytes.now)) }
+    ensures ok { IfOk result (λ n. Appends (W.contents out.old) (W.contents out.new) (take n bytes.now)) }
+    ensures end { OnErr result (Appends (W.contents out.old) (W.contents out.new) []) }
 {
     for _try in 0..u64::MAX {
-        match from.read(room) {
-            Ok(0) => return Err(DeviceEnd::Ended),
+        match out.write(bytes) {
+            Ok(0) => return Err(DeviceEnd::Failed),
             Ok(count) => return Ok(count),
             Err(error) => {
                 let number = error.raw_os_error().unwrap_or(0);
-                if !is_tried_again(number) {
+                if !is_written_again(number) {
                     return Err(end_of(number));
                 }
             }
@@ -64,33 +89,22 @@ fn read_frame<R: Read>(from: &mut R, room: &mut [u8]) -> Result<usize, DeviceEnd
     Err(DeviceEnd::Failed)
 }
 
-/// What a write that failed with this error number says of the frame.
-fn result_of(number: i32) -> Result<WriteResult, DeviceEnd>
-    ensures { IfOk result (λ w. w ≢ WriteResult.Accepted) }
-{
-    match number {
-        ENOENT => Ok(WriteResult::NoEntry),
-        EINVAL => Ok(WriteResult::Invalid),
-        _ => Err(end_of(number)),
-    }
-}
-
-/// Writes one frame. A write of less than the frame is a failure.
-fn write_frame<W: Write>(out: &mut W, frame: &[u8]) -> Result<WriteResult, DeviceEnd>
-    ensures result { IfOk result
-        (λ w. Appends (W.contents out.old) (W.contents out.new) (accepted_bytes frame.now w)) }
+/// Writes a whole frame. Where it comes to the end, a beginning of it may be written.
+fn write_frame<W: Write>(out: &mut W, frame: &[u8]) -> Result<(), DeviceEnd>
+    ensures ok { OnOk result (Appends (W.contents out.old) (W.contents out.new) frame.now) }
     ensures end { OnErr result ((n : ℕ) × Appends (W.contents out.old) (W.contents out.new) (take n frame.now)) }
 {
-    match out.write(frame) {
-        Ok(count) if count == frame.len() => Ok(WriteResult::Accepted),
-        Ok(_) => Err(DeviceEnd::Failed),
-        Err(error) => result_of(error.raw_os_error().unwrap_or(0)),
+    let mut rest = frame;
+    while !rest.is_empty() {
+        let count = write_some(out, rest)?;
+        rest = &rest[count..];
     }
+    Ok(())
 }
 
-/// A device over a reader and a writer, for /dev/fuse and a SOCK_SEQPACKET socket: each read gives one frame, and each
-/// write takes one. A read of no byte, ENODEV, EPIPE, ECONNABORTED and ECONNRESET are the other side's end; a read that
-/// gives EINTR, EAGAIN or ENOENT is tried again.
+/// A device over a reader and a writer of a stream, as a SOCK_STREAM socket: frames follow one another, each of as many
+/// bytes as its first four state. A length under 40 or over the room is a failure, and so is the end in the middle of a
+/// frame; between frames it is the other side's end. A stream refuses no frame.
 #[derive(Drop)]
 pub struct StreamDevice<R: Read + Drop, W: Write + Drop> {
     reader: R,
@@ -107,19 +121,24 @@ impl<R: Read + Drop, W: Write + Drop> StreamDevice<R, W> {
 }
 
 impl<R: Read + Drop, W: Write + Drop> Device for StreamDevice<R, W> {
-    ghost use Rattle.fuse_device.specs.Streamed.{Streamed, nothing_streamed, streamed_in_turn};
+    ghost use Rattle.fuse_device.specs.Streamed.{ReadsStream, Streamed, nothing_streamed, streamed_in_turn};
 
-    ghost logs = { Streamed R.remaining W.contents };
+    ghost logs = { λ old new log. Streamed R.remaining W.contents ReadsStream old.reader new.reader
+        old.writer new.writer log };
 
     fn receive(&mut self, room: &mut [u8]) -> Result<usize, DeviceEnd> {
         read_frame(&mut self.reader, room)
     }
 
     fn send(&mut self, frame: &[u8]) -> Result<WriteResult, DeviceEnd> {
-        write_frame(&mut self.writer, frame)
+        match write_frame(&mut self.writer, frame) {
+            Ok(()) => Ok(WriteResult::Accepted),
+            Err(end) => Err(end),
+        }
     }
 
-    ghost stays = { nothing_streamed R.remaining W.contents };
+    ghost stays = { λ device. nothing_streamed R.remaining W.contents ReadsStream device.reader device.writer };
 
-    ghost goes_on = { streamed_in_turn R.remaining W.contents };
+    ghost goes_on = { λ first mid last. streamed_in_turn R.remaining W.contents ReadsStream first.reader mid.reader
+        last.reader first.writer mid.writer last.writer };
 }

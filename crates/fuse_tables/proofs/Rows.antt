@@ -6,7 +6,7 @@ use Rattle.std.specs.Ordering.{nat_cmp, is_lt, is_eq}
 use Rattle.std.specs.FinMap.{is_sorted}
 use Rattle.std.specs.FinMap.Entries.{below_all}
 use Rattle.std.proofs.lemmas.Bool.Decides.{eqb_tells}
-use Rattle.std.proofs.lemmas.Option.{same_Some, slice_get_read, slice_get_past, get_or_from_slice_get}
+use Rattle.std.proofs.lemmas.Option.{same_Some, slice_get_read, slice_get_past, slice_get_within, get_or_from_slice_get}
 use Rattle.std.specs.FinMap.Entries.{is_sorted-put, is_sorted-where_key}
 use Rattle.std.proofs.lemmas.Cmp.{nat_cmp_total}
 use Rattle.std.specs.List.{remove as removed}
@@ -158,6 +158,11 @@ module _ {V : Type 0} where
             rw (lt-ltb e.0 key high) (found_is es key (both_second _ _ h))
       ] refl
 
+  -- what stands behind the first row has another key
+  pub none_past_first : (e : ℕ × V) (es : List (ℕ × V)) (key : ℕ) → T (is_sorted nat_cmp (e ∷ es)) → e.0 ≡ key
+      → get es key ≡ None
+  none_past_first e es key h same = none_below key es e.0 (omega arith) (both_first _ _ h)
+
   -- ---- removing
 
   kept_above : (key : ℕ) (es : List (ℕ × V)) (low : ℕ) → key ≤ low → T (below_all nat_cmp low es) → remove es key ≡ es
@@ -200,6 +205,30 @@ module _ {V : Type 0} where
       ] refl none
 
   -- ---- what the code reads at a place
+
+  place_at : (es : List (ℕ × V)) (i : ℕ) (row : ℕ × V) → T (is_sorted nat_cmp es) → slice_get es i ≡ Some row
+      → i ≡ place_of row.0 es
+  place_at [] i row h at = absurd (subst is_found (sym at) tt)
+  place_at (e ∷ es) zero row h at =
+      let same = same_Some e row at in rw (← same, ge_not_less e.0 e.0 (omega arith)) refl
+  place_at (e ∷ es) (suc i) row h at =
+      let within = slice_get_within es i row at in
+      let low = below_at e.0 es (both_first _ _ h) i row within in
+      let lower = subst (λ (x : ℕ × V). e.0 < x.0) (get_or_from_slice_get es i row row at) low in
+      rw (lt-ltb e.0 row.0 lower) (ap suc (place_at es i row (both_second _ _ h) at))
+
+  -- a row that has the key stands at the key's place
+  pub row_at : (rows : List (ℕ × V)) (key place : ℕ) (row : ℕ × V) → T (is_sorted nat_cmp rows) → place < length rows
+      → row ≡ slice_index_or rows place row → row.0 ≡ key → IsRowOf rows key place
+  row_at rows key place row h within is same =
+      let there = slice_get_read rows (length rows) place row refl within is in
+      record {
+        at = place_at rows place row h there ∙ ap (λ k. place_of k rows) same;
+        bound = within;
+        row = row;
+        there = there;
+        same = same;
+      }
 
   pub row_there : (rows : List (ℕ × V)) (key place : ℕ) (row : ℕ × V) → place ≡ place_of key rows → place ≤ length rows
       → place ≢ length rows → row ≡ slice_index_or rows place row → row.0 ≡ key → IsRowOf rows key place

@@ -1,9 +1,12 @@
 //! Tables kept in the order of their keys, with room that is made before it is used, and what stands at a place of a
-//! list.
+//! queue.
 #![tactic(auto)]
 
 mod list;
+mod queue;
+mod rising;
 mod table;
 
-pub use list::take_at;
+pub use queue::{last, take_at};
+pub use rising::RisingTable;
 pub use table::Table;

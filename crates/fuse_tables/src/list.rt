@@ -8,7 +8,7 @@ use std::alloc::Allocator;
 
 /// Takes out what stands at a place. Those after it move up by one place each: the last one moves no other.
 #[inline(always)]
-pub fn take_at<T: Drop, A: Allocator>(list: &mut Vec<T, A>, place: usize) -> T
+pub(crate) fn take_at<T: Drop, A: Allocator>(list: &mut Vec<T, A>, place: usize) -> T
     requires { place < vec_len list.old }
     ensures value { result ≡ slice_index_or list.old.items place result }
     ensures items { list.new.items ≡ removed list.old.items place }

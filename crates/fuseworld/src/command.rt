@@ -3,6 +3,7 @@
 use crate::frame_commands::{
     FrameTask, decode_command, frame_command, frame_task, reply_command, vectors_command,
 };
+use crate::serve::{ServeTask, serve_command, serve_task};
 use crate::version::VERSION;
 use clap::error::ErrorKind;
 use clap::{Arg, ArgAction, Command, Error};
@@ -19,6 +20,8 @@ pub enum Task<'a> {
     Socket { file: &'a str, path: &'a str },
     /// A command on frames.
     OnFrame(FrameTask<'a>),
+    /// The server before a kernel.
+    Serve(ServeTask<'a>),
 }
 
 /// Whether memory was wanting, and the words may be good.
@@ -56,14 +59,15 @@ fn socket_command<'a>(alloc: Global) -> Result<Command<'a>, AllocError> {
 fn program<'a>(alloc: Global) -> Result<Command<'a>, AllocError> {
     Command::new(alloc, "fuseworld")
         .version(VERSION)
-        .about("A FUSE 7.31 kernel and its server, run by a script")
+        .about("A FUSE 7.31 kernel and its server, run by a script or before others")
         .after_help("Without a command, the script is read from standard input.")
         .subcommand(run_command(alloc)?)?
         .subcommand(socket_command(alloc)?)?
         .subcommand(frame_command(alloc)?)?
         .subcommand(reply_command(alloc)?)?
         .subcommand(decode_command(alloc)?)?
-        .subcommand(vectors_command(alloc))
+        .subcommand(vectors_command(alloc))?
+        .subcommand(serve_command(alloc)?)
 }
 
 /// What the words ask for: the program's name, and then a command or nothing.
@@ -81,6 +85,9 @@ pub fn read_task<'a>(alloc: Global, words: &'a [String]) -> Result<Task<'a>, Err
         let file = inner.get_str("FILE").unwrap_or("");
         let path = inner.get_str("SOCK").unwrap_or("");
         return Ok(Task::Socket { file, path });
+    }
+    if name == "serve" {
+        return Ok(Task::Serve(serve_task(inner)));
     }
     Ok(frame_task(name, inner).map_or(Task::Input, Task::OnFrame))
 }

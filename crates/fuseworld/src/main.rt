@@ -1,15 +1,17 @@
-//! Runs scripts of events on a FUSE kernel and its server, and reads frames.
+//! Runs scripts of events on a FUSE kernel and its server, reads frames, and serves a kernel.
 #![tactic(auto)]
 
 mod command;
 mod decode;
 mod frame_commands;
+mod serve;
 mod socket;
 mod version;
 
 use command::{Task, is_memory, read_task};
 use frame_commands::run_frame_task;
 use fw_script::{Script, cannot_read, no_memory, run_script};
+use serve::run_serve;
 use socket::run_socket;
 use std::fs::File;
 use std::io;
@@ -55,6 +57,7 @@ fn run_words(rt: &HostRuntime, words: &[String]) -> u8 {
         Ok(Task::Run { file, hex }) => run_file(rt, Some(file), hex),
         Ok(Task::Socket { file, path }) => run_over_socket(rt, file, path),
         Ok(Task::OnFrame(task)) => run_frame_task(rt, task),
+        Ok(Task::Serve(task)) => run_serve(rt, task),
         Err(error) if is_version(&error) => print_version(rt),
         Err(error) if is_memory(&error) => no_memory(&mut rt.stderr()),
         Err(error) => {

@@ -22,3 +22,5 @@ pub use frame::run_frame;
 pub use hex_text::write_hex;
 pub use opcode_name::opcode_of_name;
 pub use reply::run_reply;
+pub use reply_words::write_reply_words;
+pub use request_words::write_request_words;

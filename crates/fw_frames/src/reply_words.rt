@@ -76,7 +76,11 @@ fn write_open<W: Write>(out: &mut W, fh: u64) -> io::Result<()>
 }
 
 /// Writes what a reply says, each word after a space.
-pub(crate) fn write_reply_words<W: Write>(out: &mut W, body: &ReplyBody<'_>) -> io::Result<()>
+///
+/// # Errors
+///
+/// Where `out` refuses.
+pub fn write_reply_words<W: Write>(out: &mut W, body: &ReplyBody<'_>) -> io::Result<()>
     ensures { OnOk result (Appends (W.contents out.old) (W.contents out.new) (reply_words (reply_content body.now))) }
 {
     match body {

@@ -77,7 +77,11 @@ fn write_pairs<W: Write>(out: &mut W, pairs: Pairs<'_>) -> io::Result<()>
 }
 
 /// Writes the fields of a request, each after a space.
-pub(crate) fn write_request_words<W: Write>(out: &mut W, body: &RequestBody<'_>) -> io::Result<()>
+///
+/// # Errors
+///
+/// Where `out` refuses.
+pub fn write_request_words<W: Write>(out: &mut W, body: &RequestBody<'_>) -> io::Result<()>
     ensures { OnOk result (Appends (W.contents out.old) (W.contents out.new) (request_words (request_content body.now))) }
 {
     match body {

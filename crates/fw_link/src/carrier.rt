@@ -16,9 +16,6 @@ use std::alloc::{AllocError, Allocator, Global};
 use std::io::{Read, Write};
 use std::marker::Model;
 
-/// The most bytes that are got in one call.
-const PIECE: usize = 512;
-
 /// Gets some of what a side put at the other end, and lends it.
 fn get_piece<'a, L: Link>(
     link: &mut L,
@@ -34,7 +31,8 @@ fn get_piece<'a, L: Link>(
     Ok(&room[..count])
 }
 
-/// Gets so many bytes of what a side put into the cutter at the other end.
+/// Gets so many bytes of what a side put into the cutter at the other end, through a room for as many as are got in
+/// one call.
 ///
 /// # Errors
 ///
@@ -43,6 +41,7 @@ fn get_bytes<L: Link, A: Allocator + Copy>(
     link: &mut L,
     from: Side,
     len: usize,
+    room: &mut [u8],
     cutter: &mut Cutter<A>,
 ) -> Result<(), LinkFault>
     requires empty { IsEmpty cutter.old }
@@ -53,10 +52,9 @@ fn get_bytes<L: Link, A: Allocator + Copy>(
     ensures err { OnErr result ((got : List ℕ) × L.carries link.old link.new (sent from [] got)
         × (HasFailed (L.failed link.old) (L.failed link.new) ⊎ CutsOtherwise len got)) }
 {
-    let mut room = [0u8; PIECE];
     let mut left = len;
     while left > 0 {
-        let most = left.min(PIECE);
+        let most = left.min(room.len());
         let piece = get_piece(link, from, &mut room[..most])?;
         let taken = match cutter.feed(piece) {
             Ok(taken) => taken,
@@ -83,12 +81,14 @@ fn stands<A: Allocator + Copy>(cutter: &Cutter<A>, envelope: &Envelope<'_>) -> b
     }
 }
 
-/// Carries envelopes over a link, one at a time: the bytes of the one that is put, and the cutter at the other end.
+/// Carries envelopes over a link, one at a time: the bytes of the one that is put, the room through which they are got,
+/// and the cutter at the other end.
 ///
 /// Contracts see what the cutter holds.
 #[derive(Drop)]
 pub struct Carrier<A: Allocator + Copy = Global> {
     sending: Vec<u8, A>,
+    piece: Vec<u8, A>,
     cutter: Cutter<A>,
 }
 
@@ -109,8 +109,13 @@ impl<A: Allocator + Copy> Carrier<A> {
         ensures { IfOk result IsEmpty }
     {
         let sending = Vec::with_capacity(alloc, LONGEST)?;
+        let piece = vec![in alloc; 0; LONGEST]?;
         let cutter = Cutter::new(alloc)?;
-        Ok(Carrier { sending, cutter })
+        Ok(Carrier {
+            sending,
+            piece,
+            cutter,
+        })
     }
 
     /// Puts an envelope on a link, gets it at the other end, and lets it go.
@@ -139,7 +144,8 @@ impl<A: Allocator + Copy> Carrier<A> {
         self.sending.clear();
         put_envelope(&mut self.sending, envelope).unwrap();
         link.put(from, &self.sending)?;
-        get_bytes(link, from, self.sending.len(), &mut self.cutter)?;
+        let len = self.sending.len();
+        get_bytes(link, from, len, &mut self.piece, &mut self.cutter)?;
         if !stands(&self.cutter, envelope) {
             return Err(LinkFault);
         }

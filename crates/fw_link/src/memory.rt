@@ -1,7 +1,7 @@
 //! A link in memory.
 
 ghost use Rattle.std.specs.Prelude.{◌≡◌, ℕ, ◌+◌, ◌<◌, ◌≤◌, ◌↔◌, ◌++◌, [], List, length, take};
-ghost use Rattle.std.specs.Prelude.{drop, min, IsTrue, IfOk, OnOk, OnErr, IsOk, vec_capacity};
+ghost use Rattle.std.specs.Prelude.{drop, min, IsTrue, IfOk, OnOk, OnErr, IsOk, vec_capacity, vec_len};
 ghost use Rattle.fw_link.specs.Traffic.{HasFailed, IsCounted, no_traffic, other_side, sent};
 
 use crate::envelope::LONGEST;
@@ -10,18 +10,24 @@ use crate::side::Side;
 use std::alloc::{AllocError, Allocator, Global};
 use std::marker::Model;
 
+/// How many bytes a way keeps, got ones among them: so twice an envelope that, before those that are left move to the
+/// front, at least as many were got.
+const KEPT: usize = 2 * LONGEST;
+
 /// The bytes on their way to one side.
 #[derive(Drop)]
 pub(crate) struct Way<A: Allocator + Copy> {
     held: Vec<u8, A>,
+    /// How many of them were got.
+    got: usize,
 }
 
 impl<A: Allocator + Copy> Model for Way<A> {
     ghost Value = { List ℕ };
 
-    ghost view = { λ w. w.held.items };
+    ghost view = { λ w. drop w.got w.held.items };
 
-    ghost invariant = { λ w. 4185 ≤ vec_capacity w.held };
+    ghost invariant = { λ w. (w.got ≤ vec_len w.held) × (8370 ≤ vec_capacity w.held) };
 }
 
 impl<A: Allocator + Copy> Way<A> {
@@ -29,15 +35,15 @@ impl<A: Allocator + Copy> Way<A> {
     fn new(alloc: A) -> Result<Self, AllocError>
         ensures { IfOk result (λ w. w ≡ []) }
     {
-        let held = Vec::with_capacity(alloc, LONGEST)?;
-        Ok(Way { held })
+        let held = Vec::with_capacity(alloc, KEPT)?;
+        Ok(Way { held, got: 0 })
     }
 
     /// Whether so many more bytes have room.
     fn has_room(&self, count: usize) -> bool
         ensures { IsTrue result ↔ (length self.now + count ≤ 4185) }
     {
-        let len = self.held.len();
+        let len = self.held.len() - self.got;
         len <= LONGEST && count <= LONGEST - len
     }
 
@@ -46,6 +52,12 @@ impl<A: Allocator + Copy> Way<A> {
         requires { length self.old + length bytes.now ≤ 4185 }
         ensures { self.new ≡ self.old ++ bytes.now }
     {
+        if bytes.len() > KEPT - self.held.len().min(KEPT) {
+            drop_front(&mut self.held, self.got);
+            self.got = 0;
+            self.held.extend_from_slice(bytes).unwrap();
+            return;
+        }
         self.held.extend_from_slice(bytes).unwrap();
     }
 
@@ -55,12 +67,27 @@ impl<A: Allocator + Copy> Way<A> {
         ensures given { take result room.new ≡ take result self.old }
         ensures left { self.new ≡ drop result self.old }
     {
-        let count = room.len().min(self.held.len());
-        room[..count].copy_from_slice(&self.held[..count]);
-        self.held.rotate_left(count);
-        self.held.truncate(self.held.len() - count);
+        let left = &self.held[self.got..];
+        let count = room.len().min(left.len());
+        room[..count].copy_from_slice(&left[..count]);
+        self.got += count;
+        if self.got == self.held.len() {
+            self.held.clear();
+            self.got = 0;
+        }
         count
     }
+}
+
+/// Takes out the first so many bytes: the others move to the front. The room stays.
+fn drop_front<A: Allocator>(held: &mut Vec<u8, A>, count: usize)
+    requires { count ≤ vec_len held.old }
+    ensures items { held.new.items ≡ drop count held.old.items }
+    ensures len { vec_len held.new + count ≡ vec_len held.old }
+    ensures capacity { vec_capacity held.new ≡ vec_capacity held.old }
+{
+    held.rotate_left(count);
+    held.truncate(held.len() - count);
 }
 
 /// Puts bytes on a way, or counts a failure where they have no room.

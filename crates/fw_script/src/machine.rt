@@ -1,7 +1,7 @@
 //! What runs the events of a script: a world, or a session over a link.
 
 use fw_link::Link;
-use fw_world::{Event, Record, Session, Tables, WorldOf, run};
+use fw_world::{Event, Outcome, Record, Session, Tables, WorldOf, run};
 use std::alloc::{AllocError, Allocator};
 
 /// The nodes of one side: id, generation and lookup count of each.
@@ -11,7 +11,7 @@ pub(crate) type Nodes<A> = Vec<(u64, u64, u64), A>;
 pub(crate) trait Machine<A: Allocator> {
     fn run(&mut self, events: &[Event<'_>], records: &mut Vec<Record<A>, A>) -> Result<(), usize>;
 
-    fn last_put(&self) -> Option<&[u8]>;
+    fn frame_of(&self, outcome: &Outcome) -> Option<&[u8]>;
 
     fn kernel_nodes(&self) -> Result<Nodes<A>, AllocError>;
 
@@ -27,8 +27,8 @@ impl<T: Tables> Machine<T::Heap> for WorldOf<T> {
         run(self, events, records)
     }
 
-    fn last_put(&self) -> Option<&[u8]> {
-        WorldOf::last_put(self)
+    fn frame_of(&self, outcome: &Outcome) -> Option<&[u8]> {
+        WorldOf::frame_of(self, outcome)
     }
 
     fn kernel_nodes(&self) -> Result<Nodes<T::Heap>, AllocError> {
@@ -45,8 +45,8 @@ impl<L: Link + Drop, A: Allocator + Copy> Machine<A> for Session<L, A> {
         Session::run(self, events, records)
     }
 
-    fn last_put(&self) -> Option<&[u8]> {
-        Session::last_put(self)
+    fn frame_of(&self, outcome: &Outcome) -> Option<&[u8]> {
+        Session::frame_of(self, outcome)
     }
 
     fn kernel_nodes(&self) -> Result<Nodes<A>, AllocError> {

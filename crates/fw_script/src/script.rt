@@ -36,12 +36,16 @@ struct Room<A: Allocator> {
     bytes: Vec<u8, A>,
 }
 
-/// The frame that the last event put, if frames are printed.
-fn frame_put<A: Allocator + Copy, M: Machine<A>>(machine: &M, hex: bool) -> Option<&[u8]> {
-    if !hex {
-        return None;
+/// The frame that the event with these records put, if frames are printed.
+fn frame_put<'m, A: Allocator + Copy, M: Machine<A>>(
+    machine: &'m M,
+    records: &[Record<A>],
+    hex: bool,
+) -> Option<&'m [u8]> {
+    match records.first() {
+        Some(Record::Outcome(outcome)) if hex => machine.frame_of(outcome),
+        _ => None,
     }
-    machine.last_put()
 }
 
 /// Runs one event, and writes what it came to.
@@ -58,7 +62,7 @@ fn run_event<A: Allocator + Copy, M: Machine<A>, W: Write>(
     if machine.run(from_ref(event), records).is_err() {
         return Err(Stop::NoMemory);
     }
-    let frame = frame_put(machine, hex);
+    let frame = frame_put(machine, records.as_slice(), hex);
     write_event(out, records.as_slice(), frame).map_err(|_| Stop::OutputRefused)
 }
 

@@ -15,3 +15,4 @@ pub mod Sending
 pub mod Losing
 pub mod OverLinks
 pub mod InOrder
+mod ListedNodes

@@ -3,3 +3,4 @@ pub mod Runs
 pub mod Frames
 pub mod Sends
 pub mod OverLinks
+pub mod ListedNodes

@@ -13,6 +13,7 @@ ghost use Rattle.fk_syscalls.specs.Values.{answer_of};
 ghost use Rattle.fw_link.specs.Carrying.{IsEmpty};
 ghost use Rattle.fuse_theorem.specs.SoundWorlds.{IsSoundWorld};
 ghost use Rattle.fw_world.specs.Frames.{IsFrameOf, IsLastFrame, IsShown};
+ghost use Rattle.fw_world.specs.ListedNodes.{AreListed};
 ghost use Rattle.fw_world.specs.OverLinks.{StepsOver, session_of};
 ghost use Rattle.fw_world.specs.Runs.{call_collected};
 ghost use Rattle.fw_world.specs.Sends.{IsLostOn, IsOut, IsSent, LosesIn};
@@ -199,7 +200,8 @@ impl<L: Link + Drop, A: Allocator + Copy> Session<L, A> {
     ///
     /// Where there is no memory for the list.
     pub fn kernel_nodes(&self) -> Result<Vec<(u64, u64, u64), A>, AllocError>
-        ensures { IfOk result (λ nodes. nodes.items ≡ counted_nodes self.now.world.kernel.nodes) }
+        ensures nodes { IfOk result (λ nodes. nodes.items ≡ counted_nodes self.now.world.kernel.nodes) }
+        ensures listed { IfOk result (λ nodes. AreListed nodes.items) }
     {
         self.world.kernel_nodes()
     }
@@ -210,7 +212,8 @@ impl<L: Link + Drop, A: Allocator + Copy> Session<L, A> {
     ///
     /// Where there is no memory for the list.
     pub fn server_nodes(&self) -> Result<Vec<(u64, u64, u64), A>, AllocError>
-        ensures { IfOk result (λ nodes. nodes.items ≡ held_nodes self.now.world.server.nodes.rows) }
+        ensures nodes { IfOk result (λ nodes. nodes.items ≡ held_nodes self.now.world.server.nodes.rows) }
+        ensures listed { IfOk result (λ nodes. AreListed nodes.items) }
     {
         self.world.server_nodes()
     }

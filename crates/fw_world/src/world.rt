@@ -2,7 +2,7 @@
 
 ghost use Rattle.std.specs.Prelude.{◌≡◌, ◌≤◌, ◌<◌, ◌++◌, ◌∷◌, [], ℕ, List, true, false, OnErr};
 ghost use Rattle.std.specs.Prelude.{IfOk, IfErr, IfNone, IfSome, length, option_map, slice_get};
-ghost use Rattle.std.specs.Vec.{vec_len, vec_capacity};
+ghost use Rattle.std.specs.VecDeque.{deque_len, deque_capacity};
 ghost use Rattle.fuse_spec.specs.World.Events as event;
 ghost use Rattle.fuse_spec.specs.Kernel.Refusals.{or_no_memory};
 ghost use Rattle.fuse_spec.specs.World.Steps.{Happens, is_past, IsRefused, RefusedWith};
@@ -17,6 +17,7 @@ ghost use Rattle.fk_syscalls.specs.Values.{call_of, answer_of};
 ghost use Rattle.fs_server.specs.Effects.{AnswersFrame};
 ghost use Rattle.fw_world.specs.declared.world.LastPut.TheVariants.{Request};
 ghost use Rattle.fw_world.specs.Frames.{IsCopyFrame, IsFrameOf, IsLastFrame, IsShown};
+ghost use Rattle.fw_world.specs.ListedNodes.{AreListed};
 ghost use Rattle.fw_world.specs.Runs.{StepsAs, call_collected};
 ghost use Rattle.fw_world.specs.Values.{counted_nodes, event_of, held_nodes};
 ghost use Rattle.fw_world.specs.Values.{outcome_of, read_of, refusal_for, with_copy};
@@ -34,8 +35,9 @@ use fs_server::{ServerFault, ServerOf};
 use fuse_frames::{RequestFrame, Sent};
 use fuse_spec::limits::MAX_VALIDITY;
 use fuse_spec::{Minor, Purpose, Refusal, ReplyResult, Taken};
-use fuse_tables::take_at;
+use fuse_tables::{last, take_at};
 use std::alloc::{AllocError, Allocator, Global};
+use std::collections::VecDeque;
 use std::marker::Model;
 
 /// Which frame the last step put on a link.
@@ -52,9 +54,9 @@ enum LastPut {
 pub struct WorldOf<T: Tables> {
     kernel: KernelOf<T::Queues, T::Counts>,
     server: ServerOf<T::Nodes>,
-    requests: Vec<RequestFrame<T::Heap>, T::Heap>,
-    replies: Vec<Sent<T::Heap>, T::Heap>,
-    results: Vec<ReplyResult, T::Heap>,
+    requests: VecDeque<RequestFrame<T::Heap>, T::Heap>,
+    replies: VecDeque<Sent<T::Heap>, T::Heap>,
+    results: VecDeque<ReplyResult, T::Heap>,
     last_put: LastPut,
 }
 
@@ -113,9 +115,9 @@ impl<T: Tables> WorldOf<T> {
         Ok(WorldOf {
             kernel: KernelOf::new(alloc),
             server,
-            requests: Vec::new(alloc),
-            replies: Vec::new(alloc),
-            results: Vec::new(alloc),
+            requests: VecDeque::new(alloc),
+            replies: VecDeque::new(alloc),
+            results: VecDeque::new(alloc),
             last_put: LastPut::Nothing,
         })
     }
@@ -210,11 +212,11 @@ impl<T: Tables> WorldOf<T> {
     {
         match self.last_put {
             LastPut::Nothing => None,
-            LastPut::Request => match self.requests.last() {
+            LastPut::Request => match last(&self.requests) {
                 Some(frame) => Some(frame.bytes()),
                 None => None,
             },
-            LastPut::Reply => match self.replies.last() {
+            LastPut::Reply => match last(&self.replies) {
                 Some(copy) => Some(copy.bytes()),
                 None => None,
             },
@@ -247,8 +249,11 @@ impl<T: Tables> WorldOf<T> {
     ///
     /// Where there is no memory for the list.
     pub fn kernel_nodes(&self) -> Result<Vec<(u64, u64, u64), T::Heap>, AllocError>
-        ensures { IfOk result (λ nodes. nodes.items ≡ counted_nodes self.now.kernel.nodes) }
+        ensures nodes { IfOk result (λ nodes. nodes.items ≡ counted_nodes self.now.kernel.nodes) }
+        ensures listed { IfOk result (λ nodes. AreListed nodes.items) }
     {
+        self.keeps_protocol();
+        self.kernel.counts_within();
         self.kernel.nodes(*self.requests.allocator())
     }
 
@@ -258,8 +263,11 @@ impl<T: Tables> WorldOf<T> {
     ///
     /// Where there is no memory for the list.
     pub fn server_nodes(&self) -> Result<Vec<(u64, u64, u64), T::Heap>, AllocError>
-        ensures { IfOk result (λ nodes. nodes.items ≡ held_nodes self.now.server.nodes.rows) }
+        ensures nodes { IfOk result (λ nodes. nodes.items ≡ held_nodes self.now.server.nodes.rows) }
+        ensures listed { IfOk result (λ nodes. AreListed nodes.items) }
     {
+        self.keeps_protocol();
+        self.server.keeps_sound();
         self.server.nodes(*self.requests.allocator())
     }
 
@@ -536,7 +544,7 @@ impl<T: Tables> WorldOf<T> {
         };
         within(&self.kernel, &self.server);
         let _copy = take_at(&mut self.replies, place);
-        self.results.push_reserved(ReplyResult {
+        self.results.push_back_reserved(ReplyResult {
             number,
             unique,
             result: written,
@@ -572,12 +580,12 @@ impl<T: Tables> WorldOf<T> {
 /// Makes room for the answer that a request frame gets at once, as only an INTERRUPT may, and tells whether there is
 /// room.
 fn reserve_answer<S: NodeStore>(
-    replies: &mut Vec<Sent<S::Heap>, S::Heap>,
+    replies: &mut VecDeque<Sent<S::Heap>, S::Heap>,
     server: &ServerOf<S>,
     bytes: &[u8],
 ) -> bool
     ensures items { replies.new.items ≡ replies.old.items }
-    ensures room { result ≡ true → AnswersFrame server.now bytes.now → vec_len replies.new < vec_capacity replies.new }
+    ensures room { result ≡ true → AnswersFrame server.now bytes.now → deque_len replies.new < deque_capacity replies.new }
     ensures answers { result ≡ false → AnswersFrame server.now bytes.now }
 {
     if !server.take_answers(bytes) {
@@ -589,11 +597,11 @@ fn reserve_answer<S: NodeStore>(
 /// Puts the frame of a request that was read onto its link, which has room, and tells what the read came to.
 #[inline(always)]
 fn put_read<A: Allocator>(
-    requests: &mut Vec<RequestFrame<A>, A>,
+    requests: &mut VecDeque<RequestFrame<A>, A>,
     last_put: &mut LastPut,
     frame: RequestFrame<A>,
 ) -> Outcome
-    requires { vec_len requests.old < vec_capacity requests.old }
+    requires { deque_len requests.old < deque_capacity requests.old }
     ensures items { requests.new.items ≡ requests.old.items ++ frame ∷ [] }
     ensures last { last_put.new ≡ Request }
     ensures outcome { outcome_of result ≡ event.is_read frame.unique }
@@ -601,7 +609,7 @@ fn put_read<A: Allocator>(
 {
     let (unique, opcode) = frame.head();
     let len = frame.bytes().len();
-    requests.push_reserved(frame);
+    requests.push_back_reserved(frame);
     *last_put = LastPut::Request;
     Outcome::Read {
         unique,
@@ -611,13 +619,13 @@ fn put_read<A: Allocator>(
 }
 
 /// Puts a copy of a reply onto its link, which has room, and tells its length.
-fn put_reply<A: Allocator>(replies: &mut Vec<Sent<A>, A>, copy: Sent<A>) -> usize
-    requires { vec_len replies.old < vec_capacity replies.old }
+fn put_reply<A: Allocator>(replies: &mut VecDeque<Sent<A>, A>, copy: Sent<A>) -> usize
+    requires { deque_len replies.old < deque_capacity replies.old }
     ensures items { replies.new.items ≡ replies.old.items ++ copy ∷ [] }
     ensures len { (bytes : List ℕ) × IsCopyFrame bytes copy × (result ≡ length bytes) }
 {
     let len = copy.bytes().len();
-    replies.push_reserved(copy);
+    replies.push_back_reserved(copy);
     len
 }
 
@@ -634,12 +642,12 @@ fn within<Q: QueueTable<Purpose> + Drop, C: CountTable<Heap = Q::Heap> + Drop, S
 }
 
 /// The copy of a reply goes onto its link, if there is one.
-fn append_if_any<A: Allocator>(list: &mut Vec<Sent<A>, A>, copy: Option<Sent<A>>)
-    requires { IfSome copy (λ copy. vec_len list.old < vec_capacity list.old) }
+fn append_if_any<A: Allocator>(list: &mut VecDeque<Sent<A>, A>, copy: Option<Sent<A>>)
+    requires { IfSome copy (λ copy. deque_len list.old < deque_capacity list.old) }
     ensures { list.new.items ≡ with_copy list.old.items copy }
 {
     if let Some(copy) = copy {
-        list.push_reserved(copy);
+        list.push_back_reserved(copy);
     }
 }
 

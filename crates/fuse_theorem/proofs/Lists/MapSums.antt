@@ -23,7 +23,7 @@ put_rises m k x rises = is_sorted-put nat_cmp nat_cmp_total k x m rises
 pub gone_rises : {X : Type 0} (m : Map X) (k : ℕ) → Rises m → Rises (remove m k)
 gone_rises m k rises = is_sorted-where_key nat_cmp (λ n. not (nat_eq n k)) m rises
 
-less_is : (a b : ℕ) → T (is_lt (nat_cmp a b)) → a < b
+pub less_is : (a b : ℕ) → T (is_lt (nat_cmp a b)) → a < b
 less_is a b h = by (nat_cmp a b) refl h
   where
     by : (r : Ordering) → nat_cmp a b ≡ r → T (is_lt r) → a < b

@@ -33,7 +33,7 @@ use Rattle.fuse_theorem.proofs.Trees.TreeSound.{OpensNoRoot, given_not_root, ope
 -- ---- parts that change alone
 
 -- The files that nothing holds go. The root is held by no node, but counts as having a name.
-discarded_unheld_sound : (s : Server) → ServerSound s → ServerSound (without_unheld_files s)
+pub discarded_unheld_sound : (s : Server) → ServerSound s → ServerSound (without_unheld_files s)
 discarded_unheld_sound s sound =
     let tree = sound.tree in
     record {
@@ -77,7 +77,7 @@ forgetting_sound s sound fs = discarded_unheld_sound (record s { nodes = _ })
       copies = sound.copies;
     })
 
-taking_sound : (s : Server) → ServerSound s → (unique : ℕ) (body : RequestBody)
+pub taking_sound : (s : Server) → ServerSound s → (unique : ℕ) (body : RequestBody)
     → ServerSound (taking s unique body).server
 taking_sound s sound unique (init flags) = record {
   tree = sound.tree;
@@ -224,7 +224,7 @@ replying_sound s sound unique wire = record {
     by false number later = copy_sound s.copies s.next_copy sound.copies
         (record { unique = unique; wire = wire; first = s.next_copy }) number later
 
-served_sound : (choice : ℕ → ℕ) (s : Server) → ServerSound s → (unique : ℕ) (t : HeldRequest)
+pub served_sound : (choice : ℕ → ℕ) (s : Server) → ServerSound s → (unique : ℕ) (t : HeldRequest)
     → MayChoose choice s.nodes (files_given s t) → ServerSound (served choice s unique t).server
 served_sound choice s sound unique t may =
     let less = record s { held = remove s.held unique } in
@@ -249,7 +249,7 @@ again_sound s sound unique kept = record {
       (record { unique = unique; wire = kept.wire; first = kept.first });
 }
 
-result_sound : (s : Server) → ServerSound s → (wire : WireReply) (result : WriteResult)
+pub result_sound : (s : Server) → ServerSound s → (wire : WireReply) (result : WriteResult)
     → ServerSound (after_result s wire result)
 result_sound s sound wire Accepted = sound
 result_sound s sound wire NoEntry = discarded_unheld_sound (record s { nodes = _; handles = _ })

@@ -1,6 +1,7 @@
 //! Rows over links of bytes: one that fails at one envelope, and one that gives one byte at a time.
 
-use super::rows::{Row, STAT_OF_ROOT, short_lists};
+use super::after_loss::is_after_loss;
+use super::rows::{Row, STAT_OF_ROOT, lists, long_lists, short_lists};
 use fw_link::{FailingLink, FailsIn, Link, MemoryLink, StreamLink};
 use fw_script::run_over;
 use std::alloc::{AllocError, Global};
@@ -46,32 +47,15 @@ fn envelopes_of(row: &Row) -> u64 {
     count
 }
 
-/// Whether these lines are answers, and then refusals alone, but for the nodes that are shown.
-fn is_after_loss(lines: &str) -> bool {
-    let mut is_answered = true;
-    for line in lines.lines() {
-        if line.starts_with("answer ") {
-            if !is_answered {
-                return false;
-            }
-        } else if line == "refused 10 LinkLost"
-            || line.starts_with("kernel")
-            || line.starts_with("server")
-        {
-            is_answered = false;
-        } else {
-            return false;
-        }
-    }
-    true
-}
-
 /// Whether what is printed is a beginning of what a row prints, then the lost link, and then what comes after that.
 /// Each event has its line.
-fn is_cut_off(row: &Row, printed: &str) -> bool {
-    match printed.split_once("link lost\n") {
-        Some((before, after)) => row.output.starts_with(before) && is_after_loss(after),
-        None => false,
+fn is_cut_off(alloc: Global, row: &Row, printed: &str) -> Result<bool, AllocError> {
+    let Some((before, after)) = printed.split_once("link lost\n") else {
+        return Ok(false);
+    };
+    match row.output.strip_prefix(before) {
+        Some(rest) => is_after_loss(alloc, before, rest, after),
+        None => Ok(false),
     }
 }
 
@@ -86,7 +70,7 @@ fn is_cut_off_at_each(
     for envelope in 0..envelopes {
         let status = run_failing(alloc, fails_in, envelope.saturating_add(1), row, out)?;
         let printed = str::from_utf8(out.as_slice()).unwrap_or("");
-        if status != 4 || !is_cut_off(row, printed) {
+        if status != 4 || !is_cut_off(alloc, row, printed)? {
             return Ok(false);
         }
     }
@@ -118,6 +102,14 @@ fn check_cut_off(rt: &impl Abort, alloc: Global, rows: &[Row]) -> Result<(), All
 #[test]
 fn a_failure_at_each_envelope(rt: HostRuntime) -> Result<(), Fail> {
     for rows in short_lists() {
+        check_cut_off(&rt, rt.alloc(), rows)?;
+    }
+    Ok(())
+}
+
+#[test]
+fn a_failure_at_each_envelope_of_long_lists(rt: HostRuntime) -> Result<(), Fail> {
+    for rows in long_lists() {
         check_cut_off(&rt, rt.alloc(), rows)?;
     }
     Ok(())
@@ -250,7 +242,7 @@ fn check_slow_rows<R: Abort + Net>(
 #[test]
 fn each_row_one_byte_at_a_time(rt: HostRuntime) -> Result<(), Fail> {
     let mut out = Vec::new(rt.alloc());
-    for rows in short_lists() {
+    for rows in lists() {
         check_slow_rows(&rt, rt.alloc(), rows, &mut out)?;
     }
     Ok(())

@@ -627,6 +627,12 @@ pub(super) fn short_lists() -> [&'static [Row]; 6] {
     [first, second, third, fourth, fifth, seventh]
 }
 
+/// The three rows with more than a hundred lines.
+pub(super) fn long_lists() -> [&'static [Row]; 2] {
+    let [_, _, _, _, _, _, sixth, long] = lists();
+    [sixth, long]
+}
+
 /// The rows, in several lists: of a long one the check runs out of steps. The long ones come last.
 pub(super) fn lists() -> [&'static [Row]; 8] {
     [

@@ -10,6 +10,7 @@ ghost use Rattle.fw_world.specs.Sends.{last_of};
 use super::WorldOf;
 use crate::tables::Tables;
 use fuse_spec::ReplyResult;
+use fuse_tables::last;
 
 impl<T: Tables> WorldOf<T> {
     /// The frame of the last request on its link.
@@ -18,7 +19,7 @@ impl<T: Tables> WorldOf<T> {
             × IsRequestFrame bytes.now request) }
         ensures none { IfNone result (self.now.requests ≡ []) }
     {
-        match self.requests.last() {
+        match last(&self.requests) {
             Some(frame) => Some(frame.bytes()),
             None => None,
         }
@@ -30,7 +31,7 @@ impl<T: Tables> WorldOf<T> {
             × (copy.0 ≡ reply.number) × IsCopyFrame copy.1.now reply) }
         ensures none { IfNone result (self.now.replies ≡ []) }
     {
-        match self.replies.last() {
+        match last(&self.replies) {
             Some(copy) => Some((copy.number(), copy.bytes())),
             None => None,
         }
@@ -41,7 +42,7 @@ impl<T: Tables> WorldOf<T> {
         ensures some { IfSome result (λ settled. last_of self.now.results ≡ Some settled) }
         ensures none { IfNone result (self.now.results ≡ []) }
     {
-        match self.results.last() {
+        match last(&self.results) {
             Some(settled) => Some(*settled),
             None => None,
         }

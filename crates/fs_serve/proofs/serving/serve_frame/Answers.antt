@@ -1,33 +1,26 @@
 use Rattle.std.proofs.Common.{[], refl, sym, subst}
 use Rattle.fuse_spec.specs.Server.Server.{Server}
-use Rattle.fs_server.specs.Effects.{CanTake}
-use Rattle.fs_serve.specs.Sending.{SendsFault}
-use Rattle.fs_serve.specs.Serving.{ServesFrame, refused}
+use Rattle.fs_server.specs.Effects.{CanTake, RefusesFrame, WantsMemory}
+use Rattle.fs_serve.specs.Serving.{ServesFrame}
 use Rattle.fs_serve.proofs.Servings.{serves_at_once, serves_silently, serves_performed}
 use Rattle.fs_serve.proofs.serving.serve_frame.Goals as goal
 
-pub returns-in-Err-Memory : goal.returns-in-Err-Memory
-returns-in-Err-Memory g c =
-    let (log, logs, serves, ends) = c.send_untaken.ensures in
-    (log, logs, subst (λ (s : Server). ServesFrame s c.args.frame.now log c.take.new.self) c.in-Err-Memory.ensures.refused serves, ends)
-
-pub send_untaken-requires : goal.send_untaken-requires
-send_untaken-requires g c =
-    subst (λ (s : Server). CanTake s c.args.frame.now) (sym c.in-Err-Memory.ensures.refused)
-    (c.in-Err-Memory.ensures.can c.in-Err-Memory.field-0-is)
-
 pub returns-in-Err : goal.returns-in-Err
 returns-in-Err g c =
-    let (log, logs, sends, ends) = c.send_fault.ensures in
-    let same = c.in-Err.ensures.refused in
-    let old = c.args.server.now in
-    let here = subst (λ (s : Server). SendsFault s.minor c.args.frame.now c.in-Err.fault log) same sends in (
-      log,
-      logs,
-      subst (λ (s : Server). ServesFrame old c.args.frame.now log s) (sym same)
-          (refused c.in-Err.fault c.in-Err.ensures.effect log here),
-      ends,
-    )
+    let (log, logs, serves, ends) = c.refuse.ensures in
+    (log, logs, subst (λ (s : Server). ServesFrame s c.args.frame.now log c.take.new.self) c.in-Err.ensures.refused serves, ends)
+
+pub refuse-requires-clause-refused : goal.refuse-requires-clause-refused
+refuse-requires-clause-refused g c =
+    subst (λ (s : Server). RefusesFrame s c.args.frame.now c.in-Err.fault) (sym c.in-Err.ensures.refused) c.in-Err.ensures.effect
+
+pub refuse-requires-clause-can : goal.refuse-requires-clause-can
+refuse-requires-clause-can g c memory =
+    subst (λ (s : Server). CanTake s c.args.frame.now) (sym c.in-Err.ensures.refused) (c.in-Err.ensures.can memory)
+
+pub refuse-requires-clause-wants : goal.refuse-requires-clause-wants
+refuse-requires-clause-wants g c memory =
+    subst (λ (s : Server). WantsMemory s c.args.frame.now) (sym c.in-Err.ensures.refused) (c.in-Err.ensures.memory memory)
 
 pub returns-in-Some : goal.returns-in-Some
 returns-in-Some g c =

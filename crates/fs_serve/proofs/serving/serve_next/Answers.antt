@@ -14,7 +14,7 @@ returns-then-is_long_init g c =
     let long = c.is_long_init.ensures.0 c.if-is_long_init.true in (
       received bytes ∷ log,
       g.met.D.Device.goes_on c.args.device.now c.receive.new.self c.serve_frame.new.device (received bytes ∷ []) log c.in-Ok.ensures.frame logs,
-      one bytes c.first_of.result (inl (long, c.first_of.ensures)) log c.serve_frame.new.server serves,
+      one bytes c.init_in.result (inl (long, c.init_in.ensures)) log c.serve_frame.new.server serves,
       ends,
     )
 

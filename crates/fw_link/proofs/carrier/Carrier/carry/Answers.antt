@@ -15,7 +15,7 @@ pub returns-in_err-get_bytes-clause-err : goal.returns-in_err-get_bytes-clause-e
 returns-in_err-get_bytes-clause-err g c =
     let bytes = spelled c.args.envelope.now in
     let put : c.deref.result.now ≡ bytes = search rules in
-    let len : length c.deref.result.now ≡ c.len.result = search rules in
+    let len : length c.deref.result.now ≡ c.len-len.result = search rules in
     let (got, carried, why) = c.in_err-get_bytes.ensures.err in
     on_err (IsLost (g.L.Link.carries c.args.link.now c.get_bytes.new.link) c.args.from bytes
     (g.L.Link.failed c.args.link.now) (g.L.Link.failed c.get_bytes.new.link)) _ (lost
@@ -42,7 +42,7 @@ pub returns-then-not-stands-clause-err : goal.returns-then-not-stands-clause-err
 returns-then-not-stands-clause-err g c =
     let bytes = spelled c.args.envelope.now in
     let put : c.deref.result.now ≡ bytes = search rules in
-    let len : length c.deref.result.now ≡ c.len.result = search rules in
+    let len : length c.deref.result.now ≡ c.len-len.result = search rules in
     lost
     g.L.Link.carries
     g.met.L.Link.goes_on

@@ -4,5 +4,5 @@ use Rattle.fuse_spec.specs.World.Worlds.{World}
 use Rattle.fw_world.specs.Values.{held_nodes}
 use Rattle.fw_world.proofs.world.WorldOf.server_nodes.Goals as goal
 
-pub returns : goal.returns
-returns g c = subst (λ (w : World). IfOk c.nodes.result (λ nodes. nodes.items ≡ held_nodes w.server.nodes.rows)) c.self.view_is c.nodes.ensures
+pub returns-clause-nodes : goal.returns-clause-nodes
+returns-clause-nodes g c = subst (λ (w : World). IfOk c.nodes.result (λ nodes. nodes.items ≡ held_nodes w.server.nodes.rows)) c.self.view_is c.nodes.ensures

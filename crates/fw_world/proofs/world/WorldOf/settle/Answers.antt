@@ -15,7 +15,7 @@ invariant_of-self-2 g c =
     let there = slice_get_read c.self.inside.results.items
     (length c.self.inside.results.items) c.args.place result refl
     (omega (arith, c.if-place-len.false, c.len.ensures)) c.index-settled.ensures in
-    (settled (world_of c.self.inside.kernel c.self.inside.server c.self.inside.requests.items c.self.inside.replies.items c.self.inside.results.items) c.self.invariant c.self.inside.kernel c.settle.new.self c.self.inside.requests.items c.self.inside.replies.items c.take_at-settled.new.list.items c.args.place result
+    (settled (world_of c.self.inside.kernel c.self.inside.server c.self.inside.requests.items c.self.inside.replies.items c.self.inside.results.items) c.self.invariant c.self.inside.kernel c.settle.new.self c.self.inside.requests.items c.self.inside.replies.items c.take_at-settled.new.queue.items c.args.place result
     there c.in_default.ensures.effect refl refl refl c.take_at-settled.ensures.items).1
 
 pub returns-clause-happens : goal.returns-clause-happens
@@ -25,5 +25,5 @@ returns-clause-happens g c =
     (length c.self.inside.results.items) c.args.place result refl
     (omega (arith, c.if-place-len.false, c.len.ensures)) c.index-settled.ensures in
     rw (← c.self.view_is)
-    (settled (world_of c.self.inside.kernel c.self.inside.server c.self.inside.requests.items c.self.inside.replies.items c.self.inside.results.items) c.self.invariant c.self.inside.kernel c.settle.new.self c.self.inside.requests.items c.self.inside.replies.items c.take_at-settled.new.list.items c.args.place result
+    (settled (world_of c.self.inside.kernel c.self.inside.server c.self.inside.requests.items c.self.inside.replies.items c.self.inside.results.items) c.self.invariant c.self.inside.kernel c.settle.new.self c.self.inside.requests.items c.self.inside.replies.items c.take_at-settled.new.queue.items c.args.place result
     there c.in_default.ensures.effect refl refl refl c.take_at-settled.ensures.items).0

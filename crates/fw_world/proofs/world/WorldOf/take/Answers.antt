@@ -30,7 +30,7 @@ invariant_of-self-2 g c =
     let there = slice_get_read c.self.inside.requests.items
     (length c.self.inside.requests.items) c.args.place c.index.result.now refl
     (omega (arith, c.if-place-len.false, c.len.ensures)) c.index.ensures in
-    (took (world_of c.self.inside.kernel c.self.inside.server c.self.inside.requests.items c.self.inside.replies.items c.self.inside.results.items) c.self.invariant c.self.inside.kernel c.take.new.self c.take_at-request.new.list.items c.append_if_any.new.list.items c.self.inside.results.items c.args.place c.index.result.now c.bytes-bytes.result.now c.in-Ok.took
+    (took (world_of c.self.inside.kernel c.self.inside.server c.self.inside.requests.items c.self.inside.replies.items c.self.inside.results.items) c.self.invariant c.self.inside.kernel c.take.new.self c.take_at-request.new.queue.items c.append_if_any.new.list.items c.self.inside.results.items c.args.place c.index.result.now c.bytes-bytes.result.now c.in-Ok.took
     there c.bytes-bytes.ensures c.in-Ok.ensures.effect refl c.take_at-request.ensures.items
     (rw (← c.reserve_answer.ensures.items) c.append_if_any.ensures) refl c.within-2.ensures).1
 
@@ -40,7 +40,7 @@ returns-clause-happens g c =
     (length c.self.inside.requests.items) c.args.place c.index.result.now refl
     (omega (arith, c.if-place-len.false, c.len.ensures)) c.index.ensures in
     rw (← c.self.view_is)
-    (took (world_of c.self.inside.kernel c.self.inside.server c.self.inside.requests.items c.self.inside.replies.items c.self.inside.results.items) c.self.invariant c.self.inside.kernel c.take.new.self c.take_at-request.new.list.items c.append_if_any.new.list.items c.self.inside.results.items c.args.place c.index.result.now c.bytes-bytes.result.now c.in-Ok.took
+    (took (world_of c.self.inside.kernel c.self.inside.server c.self.inside.requests.items c.self.inside.replies.items c.self.inside.results.items) c.self.invariant c.self.inside.kernel c.take.new.self c.take_at-request.new.queue.items c.append_if_any.new.list.items c.self.inside.results.items c.args.place c.index.result.now c.bytes-bytes.result.now c.in-Ok.took
     there c.bytes-bytes.ensures c.in-Ok.ensures.effect refl c.take_at-request.ensures.items
     (rw (← c.reserve_answer.ensures.items) c.append_if_any.ensures) refl c.within-2.ensures).0
 

@@ -37,8 +37,8 @@ invariant_of-self-2 g c =
     (omega (arith, c.if-place-len.false, c.len.ensures)) c.index-copy.ensures in
     let took = written_so (world_of c.self.inside.kernel c.self.inside.server c.self.inside.requests.items c.self.inside.replies.items c.self.inside.results.items) c.self.invariant c.args.place sent there c.bytes-2.result.now c.bytes-2.ensures.frame c.bytes-2.ensures.fits c.bytes-2.ensures.init c.bytes-2.ensures.empty c.in-Ok.written c.write.new.self
     (λ head none. let h = c.in-Ok.ensures.unawaited head none in (was_written h.0, h.1)) c.in-Ok.ensures.taken in
-    let results = after_result c.self.inside.results.items c.reserve.new.self.items c.push_reserved.new.self.items c.number-number.result c.unique-unique.result c.in-Ok.written sent c.reserve.ensures.items c.push_reserved.ensures.items c.number-number.ensures c.unique-unique.ensures in
-    (wrote (world_of c.self.inside.kernel c.self.inside.server c.self.inside.requests.items c.self.inside.replies.items c.self.inside.results.items) c.self.invariant c.write.new.self c.self.inside.server c.self.inside.requests.items c.take_at-copy.new.list.items c.push_reserved.new.self.items c.args.place sent c.in-Ok.written
+    let results = after_result c.self.inside.results.items c.reserve.new.self.items c.push_back_reserved.new.self.items c.number-number.result c.unique-unique.result c.in-Ok.written sent c.reserve.ensures.items c.push_back_reserved.ensures.items c.number-number.ensures c.unique-unique.ensures in
+    (wrote (world_of c.self.inside.kernel c.self.inside.server c.self.inside.requests.items c.self.inside.replies.items c.self.inside.results.items) c.self.invariant c.write.new.self c.self.inside.server c.self.inside.requests.items c.take_at-copy.new.queue.items c.push_back_reserved.new.self.items c.args.place sent c.in-Ok.written
     there took refl refl c.take_at-copy.ensures.items results c.within-2.ensures).1
 
 pub returns-clause-happens : goal.returns-clause-happens
@@ -48,11 +48,11 @@ returns-clause-happens g c =
     (omega (arith, c.if-place-len.false, c.len.ensures)) c.index-copy.ensures in
     let took = written_so (world_of c.self.inside.kernel c.self.inside.server c.self.inside.requests.items c.self.inside.replies.items c.self.inside.results.items) c.self.invariant c.args.place sent there c.bytes-2.result.now c.bytes-2.ensures.frame c.bytes-2.ensures.fits c.bytes-2.ensures.init c.bytes-2.ensures.empty c.in-Ok.written c.write.new.self
     (λ head none. let h = c.in-Ok.ensures.unawaited head none in (was_written h.0, h.1)) c.in-Ok.ensures.taken in
-    let results = after_result c.self.inside.results.items c.reserve.new.self.items c.push_reserved.new.self.items c.number-number.result c.unique-unique.result c.in-Ok.written sent c.reserve.ensures.items c.push_reserved.ensures.items c.number-number.ensures c.unique-unique.ensures in
+    let results = after_result c.self.inside.results.items c.reserve.new.self.items c.push_back_reserved.new.self.items c.number-number.result c.unique-unique.result c.in-Ok.written sent c.reserve.ensures.items c.push_back_reserved.ensures.items c.number-number.ensures c.unique-unique.ensures in
     rw (← c.self.view_is, c.unique-unique.ensures)
-    (wrote (world_of c.self.inside.kernel c.self.inside.server c.self.inside.requests.items c.self.inside.replies.items c.self.inside.results.items) c.self.invariant c.write.new.self c.self.inside.server c.self.inside.requests.items c.take_at-copy.new.list.items c.push_reserved.new.self.items c.args.place sent c.in-Ok.written
+    (wrote (world_of c.self.inside.kernel c.self.inside.server c.self.inside.requests.items c.self.inside.replies.items c.self.inside.results.items) c.self.invariant c.write.new.self c.self.inside.server c.self.inside.requests.items c.take_at-copy.new.queue.items c.push_back_reserved.new.self.items c.args.place sent c.in-Ok.written
     there took refl refl c.take_at-copy.ensures.items results c.within-2.ensures).0
 
-pub push_reserved-requires : goal.push_reserved-requires
-push_reserved-requires g c = has_room c.reserve.result _ _ c.reserve.ensures.ok
+pub push_back_reserved-requires : goal.push_back_reserved-requires
+push_back_reserved-requires g c = has_room c.reserve.result _ _ c.reserve.ensures.ok
     (sym c.is_err.ensures.value ∙ c.if-is_err.false)

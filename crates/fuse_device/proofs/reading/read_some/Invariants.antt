@@ -1,6 +1,6 @@
 use Rattle.std.proofs.Common.{[]}
 use Rattle.std.specs.Io.KnownBytes.{Consumes}
-use Rattle.fuse_device.proofs.stream.read_frame.Given as goal
+use Rattle.fuse_device.proofs.reading.read_some.Given as goal
 
 -- nothing is read yet
 abbrev pub invariant-loop-try : goal.invariant-loop-try

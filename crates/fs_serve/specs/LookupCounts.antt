@@ -1,0 +1,83 @@
+-- How the lookup counts of a server follow the frames that go over its device: what a server's author has to keep.
+use Rattle.std.specs.Prelude.{◌≡◌, ◌≢◌, ◌≤◌, ◌+◌, ℕ, ℤ, true, List, [], ◌∷◌, ◌++◌, All}
+use Rattle.fuse_spec.specs.declared.Minor.{Minor}
+use Rattle.fuse_spec.specs.declared.Validity.{Validity}
+use Rattle.fuse_spec.specs.declared.WriteResult.{WriteResult}
+use Rattle.fuse_spec.specs.declared.WriteResult.TheVariants.{Accepted}
+use Rattle.fuse_spec.specs.Values.Maps.{get}
+use Rattle.fuse_spec.specs.Kernel.Messages.{Forget, Request, WireReply}
+use Rattle.fuse_spec.specs.Server.Server.{Server, count_in, forgets_of, forgotten, knows}
+use Rattle.fuse_spec.specs.Server.Copies.{remounted}
+use Rattle.fuse_spec.specs.Claim.Counts.{names_in}
+use Rattle.fuse_spec.specs.World.Worlds.{first_server}
+use Rattle.fk_wire.specs.declared.opcode.Opcode.{Opcode}
+use Rattle.fk_wire.specs.Replies.{WrittenReply, empty_reply}
+use Rattle.fuse_frames.specs.RequestTies.{SaysRequest}
+use Rattle.fuse_frames.specs.ReplyTies.{IsReplyFrame}
+use Rattle.fuse_device.specs.Transfers.{Transfer, received, sent, unsent, stopped}
+use Rattle.fuse_device.specs.declared.device.DeviceEnd.{DeviceEnd}
+use Rattle.fs_serve.specs.LongInits.{IsReadAs}
+use Rattle.fs_serve.specs.Sending.{SendsBytes}
+use Rattle.fs_serve.specs.Serving.{Serves}
+
+-- How often the server counts a node: 0 where it holds none of this id. (libfuse, low-level: lookup)
+abbrev pub lookup_count : Server → ℕ → ℕ
+lookup_count s id = count_in (get s.nodes.rows id)
+
+-- A server that was just mounted.
+pub data IsFresh : Server → Type 0 where
+  fresh : (validity : Validity) (minor : Minor) → IsFresh (remounted first_server validity minor)
+
+-- Forgets may be taken: each is of a node that is counted, and no node is forgotten more often than it is counted.
+-- (libfuse, low-level: forget)
+pub record MayForget (counts : ℕ → ℕ) (fs : List Forget) : Type 0 where
+  pub known : All (λ (f : Forget). 1 ≤ counts f.0) fs
+  pub counted : (id : ℕ) → forgotten id fs ≤ counts id
+
+-- How many lookups of each node a frame gives back: those of its forgets, where the minor knows them and they may be
+-- taken, and else none.
+pub data GivesBack (minor : Minor) (counts : ℕ → ℕ) (frame : List ℕ) : (ℕ → ℕ) → Type 0 where
+  forgets : (request : Request) → SaysRequest frame request → knows minor request.body ≡ true
+      → MayForget counts (forgets_of request.body)
+      → GivesBack minor counts frame (λ id. forgotten id (forgets_of request.body))
+  none : ((request : Request) → SaysRequest frame request → knows minor request.body ≡ true
+      → MayForget counts (forgets_of request.body) → forgets_of request.body ≡ [])
+      → GivesBack minor counts frame (λ id. 0)
+
+-- How many lookups of each node are told by what is sent after a frame: as many as entries of an accepted reply name it.
+-- A refused reply tells none, and an error none. One at which the device came to its end is counted as accepted, since
+-- nobody knows.
+pub data Tells : List Transfer → (ℕ → ℕ) → Type 0 where
+  nothing_sent : Tells [] (λ id. 0)
+  told : (opcode : Opcode) (unique : ℕ) (wire : WireReply) (bytes : List ℕ)
+      → IsReplyFrame opcode bytes (record { unique = unique; wire = wire })
+      → Tells (sent bytes Accepted ∷ []) (λ id. names_in id wire)
+  refused : (bytes : List ℕ) (result : WriteResult) → result ≢ Accepted → Tells (sent bytes result ∷ []) (λ id. 0)
+  cut_off : (opcode : Opcode) (unique : ℕ) (wire : WireReply) (bytes : List ℕ)
+      → IsReplyFrame opcode bytes (record { unique = unique; wire = wire }) → (end : DeviceEnd)
+      → Tells (unsent bytes end ∷ []) (λ id. names_in id wire)
+  error : (unique : ℕ) (code : ℤ) (bytes : List ℕ)
+      → WrittenReply (record { unique = unique; error = code; content = empty_reply }) bytes
+      → (log : List Transfer) → SendsBytes bytes log → Tells log (λ id. 0)
+
+-- After a frame each count has risen by what was told and fallen by what was given back.
+pub record FollowsFrame (minor : Minor) (old : ℕ → ℕ) (frame : List ℕ) (log : List Transfer) (new : ℕ → ℕ) : Type 0 where
+  pub back : ℕ → ℕ
+  pub gives_back : GivesBack minor old frame back
+  pub more : ℕ → ℕ
+  pub tells : Tells log more
+  pub balance : (id : ℕ) → new id + back id ≡ old id + more id
+
+-- The counts follow what went over the device, frame after frame.
+pub data Follows (minor : Minor) (old : ℕ → ℕ) : List Transfer → (ℕ → ℕ) → Type 0 where
+  nothing : Follows minor old [] old
+  frame : (before : List Transfer) (mid : ℕ → ℕ) → Follows minor old before mid → (bytes frame : List ℕ)
+      → IsReadAs bytes frame → (log : List Transfer) (new : ℕ → ℕ) → FollowsFrame minor mid frame log new
+      → Follows minor old (before ++ received bytes ∷ log) new
+  end : (before : List Transfer) (mid : ℕ → ℕ) → Follows minor old before mid → (end : DeviceEnd)
+      → Follows minor old (before ++ stopped end ∷ []) mid
+
+-- All that went over a device is served so, and the lookup counts of a server that was just mounted follow it.
+pub record IsServed (old : Server) (log : List Transfer) (new : Server) : Type 0 where
+  pub serves : Serves old log new
+  pub counts : IsFresh old → Follows old.minor (lookup_count old) log (lookup_count new)

@@ -1,0 +1,72 @@
+//! Each growth of the server's memory is refused in turn.
+
+use crate::tests::session::{lent, mounted, session};
+use crate::tests::told::{Told, told_by};
+use fail_at::FailAt;
+use fs_serve::serve;
+use fuse_device::ListDevice;
+use std::alloc::{AllocError, Allocator};
+use std::process::Abort;
+use std::test::Fail;
+
+/// ENOMEM, as a reply has it.
+const ENOMEM: i32 = -12;
+
+/// Serves frames: the nodes that are left, or that memory was wanting before the first frame or to list them.
+fn serve_on<A: Allocator + Copy>(
+    heap: A,
+    device: &mut ListDevice<'_>,
+) -> Result<Vec<(u64, u64, u64), A>, AllocError> {
+    let mut server = mounted(heap)?;
+    let _end = serve(heap, &mut server, device)?;
+    server.nodes(heap)
+}
+
+/// How many replies say that memory is wanting.
+fn refusals(told: &Told) -> usize {
+    told.errors
+        .iter()
+        .filter(|(error, _)| *error == ENOMEM)
+        .count()
+}
+
+/// Asserts that each of the seven requests was answered, and each node counted as often as it was told.
+fn assert_counts(rt: &impl Abort, nodes: &[(u64, u64, u64)], told: &Told, turn: u64) {
+    assert_eq!(rt; told.errors.len(), 7, "turn {turn}");
+    let mut counts = 0u64;
+    for (nodeid, _generation, count) in nodes {
+        assert_eq!(rt; *count, told.count(*nodeid), "turn {turn}, node {nodeid}");
+        counts = counts.wrapping_add(*count);
+    }
+    assert_eq!(rt; counts, told.nodes.len() as u64, "turn {turn}");
+}
+
+/// In each turn but the last one growth is refused: before the first frame or in the list of nodes, or one request is
+/// replied ENOMEM, and the others are served.
+#[test]
+fn each_growth_is_refused(rt: HostRuntime) -> Result<(), Fail> {
+    let frames = session(rt.alloc())?;
+    let slices = lent(rt.alloc(), &frames)?;
+    let heap = FailAt::new(rt.alloc());
+    let mut turns = 0;
+    let mut refused = 0u64;
+    for turn in heap.each_growth(200) {
+        let mut device = ListDevice::new(rt.alloc(), &slices);
+        let nodes = serve_on(&heap, &mut device);
+        let told = told_by(rt.alloc(), device.sent())?.expect(&rt, "replies");
+        turns = turn;
+        match nodes {
+            Ok(nodes) => {
+                assert_counts(&rt, &nodes, &told, turn);
+                refused = refused.wrapping_add(refusals(&told) as u64);
+            }
+            Err(AllocError) => {
+                assert_eq!(rt; refusals(&told), 0, "turn {turn}");
+                refused = refused.wrapping_add(1);
+            }
+        }
+    }
+    assert!(rt; turns < 200);
+    assert_eq!(rt; refused.wrapping_add(1), turns);
+    Ok(())
+}

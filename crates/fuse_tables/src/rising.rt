@@ -1,0 +1,166 @@
+//! A table from numbers to values, of which the oldest and the newest come and go.
+
+ghost use Rattle.std.specs.Prelude.{◌≡◌, ◌+◌, ◌<◌, ◌≤◌, ◌^◌, [], MatchOption, None, OnErr, OnOk, T};
+ghost use Rattle.std.specs.Prelude.{if◌then◌else◌, is_some, length};
+ghost use Rattle.std.specs.Option.{option_copied};
+ghost use Rattle.std.specs.Ordering.{nat_cmp};
+ghost use Rattle.std.specs.FinMap.{is_sorted};
+ghost use Rattle.std.specs.List.{insert as inserted};
+ghost use Rattle.std.specs.VecDeque.{deque_len, deque_capacity};
+ghost use Rattle.fuse_spec.specs.Values.Maps.{get as value_at, put as with_value, remove as without_key};
+ghost use Rattle.fuse_tables.specs.TableState.{place_of, IsRowOf};
+
+use crate::queue::take_at;
+use std::alloc::{AllocError, Allocator, Global};
+use std::collections::VecDeque;
+use std::marker::Model;
+
+/// A map from numbers to values, for numbers that mostly rise: the lowest and the highest keys come and go without the
+/// others moving. Seen as its entries in rising key and its room: how many more it takes with no memory.
+#[derive(Drop)]
+pub struct RisingTable<V, A: Allocator = Global> {
+    rows: VecDeque<(u64, V), A>,
+}
+
+impl<V, A: Allocator> Model for RisingTable<V, A> {
+    ghost use Rattle.std.specs.Prelude.{T, ◌-◌};
+    ghost use Rattle.std.specs.VecDeque.{deque_len, deque_capacity};
+    ghost use Rattle.std.specs.Ordering.{nat_cmp};
+    ghost use Rattle.std.specs.FinMap.{is_sorted};
+    ghost use Rattle.fuse_tables.specs.TableState.{TableState, table_code};
+
+    ghost Value = { TableState V };
+
+    ghost coded = { table_code V.code };
+
+    ghost view = { λ t. record { entries = t.rows.items; room = deque_capacity t.rows - deque_len t.rows } };
+
+    ghost invariant = { λ t. T (is_sorted nat_cmp t.rows.items) };
+}
+
+/// How many of the rows, from the first on, have a lower key.
+fn place_in<V, A: Allocator>(rows: &VecDeque<(u64, V), A>, key: u64) -> usize
+    requires { T (is_sorted nat_cmp rows.now.items) }
+    ensures place { result ≡ place_of key rows.now.items }
+    ensures bound { result ≤ deque_len rows.now }
+{
+    rows.partition_point(|row| row.0 < key)
+}
+
+/// Where the row of a key stands. Most keys that are looked up stand last.
+#[inline(always)]
+fn find_in<V, A: Allocator>(rows: &VecDeque<(u64, V), A>, key: u64) -> Option<usize>
+    requires { T (is_sorted nat_cmp rows.now.items) }
+    ensures { MatchOption result (value_at rows.now.items key ≡ None) (IsRowOf rows.now.items key) }
+{
+    let len = rows.len();
+    if len == 0 {
+        return None;
+    }
+    if rows[len - 1].0 == key {
+        return Some(len - 1);
+    }
+    let place = place_in(rows, key);
+    if place == len {
+        return None;
+    }
+    let row = &rows[place];
+    if row.0 == key { Some(place) } else { None }
+}
+
+/// Puts a row at a place, for which there is room. Most keys rise, so most rows come last.
+#[inline(always)]
+fn put_at<V: Drop, A: Allocator>(rows: &mut VecDeque<(u64, V), A>, place: usize, row: (u64, V))
+    requires place { place ≤ deque_len rows.old }
+    requires room { deque_len rows.old < deque_capacity rows.old }
+    ensures items { rows.new.items ≡ inserted rows.old.items place row }
+    ensures len { deque_len rows.new ≡ deque_len rows.old + 1 }
+    ensures capacity { deque_capacity rows.old ≤ deque_capacity rows.new }
+{
+    if place == rows.len() {
+        return rows.push_back_reserved(row);
+    }
+    let put: Result<(), _> = rows.insert(place, row);
+    put.unwrap();
+}
+
+impl<V: Drop, A: Allocator + Copy> RisingTable<V, A> {
+    pub fn new(alloc: A) -> Self
+        ensures { result.entries ≡ [] }
+    {
+        RisingTable {
+            rows: VecDeque::new(alloc),
+        }
+    }
+
+    /// How many entries there are.
+    pub fn len(&self) -> usize
+        ensures { result ≡ length self.now.entries }
+    {
+        self.rows.len()
+    }
+
+    /// The value at a key.
+    #[inline(always)]
+    pub fn get(&self, key: u64) -> Option<&V>
+        ensures { option_copied result ≡ value_at self.now.entries key }
+    {
+        let place = find_in(&self.rows, key)?;
+        Some(&self.rows[place].1)
+    }
+
+    /// Memory holds fewer than 2^63 entries. A call without effect, made where a proof rests on that.
+    pub fn keeps_sound(&self)
+        ensures few { length self.now.entries < 2 ^ 63 }
+    {
+        let _len = self.rows.len();
+    }
+
+    /// Makes room for so many more entries.
+    ///
+    /// # Errors
+    ///
+    /// Memory was wanting. The entries are as before.
+    pub fn reserve(&mut self, more: usize) -> Result<(), AllocError>
+        ensures entries { self.new.entries ≡ self.old.entries }
+        ensures room { OnOk result (more ≤ self.new.room) }
+        ensures kept { self.old.room ≤ self.new.room }
+        ensures refused { OnErr result (self.old.room < more) }
+    {
+        self.rows.reserve(more)
+    }
+
+    /// Puts a value at a key that has none, into room that was made.
+    #[inline(always)]
+    pub fn put(&mut self, key: u64, value: V)
+        requires room { 0 < self.old.room }
+        requires absent { value_at self.old.entries key ≡ None }
+        ensures entries { self.new.entries ≡ with_value self.old.entries key value }
+        ensures room { self.old.room ≤ self.new.room + 1 }
+    {
+        let place = place_in(&self.rows, key);
+        put_at(&mut self.rows, place, (key, value));
+    }
+
+    /// Takes out the value at a key. Its room stays.
+    #[inline(always)]
+    pub fn remove(&mut self, key: u64) -> Option<V>
+        ensures value { result ≡ value_at self.old.entries key }
+        ensures entries { self.new.entries ≡ without_key self.old.entries key }
+        ensures sorted { T (is_sorted nat_cmp self.old.entries) }
+        ensures room { (if is_some result then self.old.room + 1 else self.old.room) ≤ self.new.room }
+    {
+        let Some(place) = find_in(&self.rows, key) else {
+            return None;
+        };
+        Some(take_at(&mut self.rows, place).1)
+    }
+
+    /// Takes out all entries. Their room stays.
+    pub fn clear(&mut self)
+        ensures entries { self.new.entries ≡ [] }
+        ensures room { self.old.room ≤ self.new.room }
+    {
+        self.rows.clear();
+    }
+}

@@ -1,0 +1,29 @@
+-- How a mount is served.
+use Rattle.std.specs.Prelude.{◌≡◌, ℕ, List, Option, Some, None}
+use Rattle.fuse_spec.specs.Server.Server.{Server}
+use Rattle.fuse_spec.specs.Server.Copies.{remounted}
+use Rattle.fuse_spec.specs.World.Worlds.{first_server}
+use Rattle.fuse_device.specs.Transfers.{Transfer}
+use Rattle.fuse_device.specs.declared.device.DeviceEnd.{DeviceEnd}
+use Rattle.fuse_device.specs.declared.device.DeviceEnd.TheVariants.{Ended, Failed}
+use Rattle.fs_serve.specs.Sending.{GoesOver}
+use Rattle.fs_serve.specs.Serving.{Serves}
+use Rattle.fw_serve.specs.declared.serving.Mount.{Mount}
+
+-- the server at its mount: its tree is the root alone
+abbrev pub first_of : Mount → Server
+first_of mount = remounted first_server mount.validity mount.minor
+
+-- the exit status at a device's end, or without one
+abbrev pub status_of : Option DeviceEnd → ℕ
+status_of (Some Ended) = 0
+status_of (Some Failed) = 4
+status_of None = 4
+
+-- All that went over the device was served from the mount on, until it ended so.
+pub record ServesMount {D : Type 0} (logs : D → D → List Transfer → Type 0) (mount : Mount) (old new : D) (status : ℕ)
+    : Type 0 where
+  pub end : Option DeviceEnd
+  pub server : Server
+  pub served : GoesOver logs old new end (λ log. Serves (first_of mount) log server)
+  pub stopped : status ≡ status_of end

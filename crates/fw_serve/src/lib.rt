@@ -1,0 +1,10 @@
+//! The program's command `serve`: the server before one device, from its mount to the end of the device.
+#![tactic(auto)]
+
+mod nodes_line;
+mod serving;
+mod trace_words;
+mod traced;
+
+pub use serving::{Mount, serve_device};
+pub use traced::TracedDevice;

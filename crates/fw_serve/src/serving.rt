@@ -1,0 +1,108 @@
+//! A mount is served from its start to the end of its device.
+
+ghost use Rattle.std.specs.Prelude.{◌≡◌, ◌≤◌, ◌⊎◌, ◌∷◌, [], Contains, IfOk, OnErr};
+ghost use Rattle.fuse_spec.specs.Values.Numbers.{max_validity};
+ghost use Rattle.fw_serve.specs.Mounts.{ServesMount, first_of, status_of};
+
+use crate::nodes_line::write_nodes_line;
+use fs_serve::serve;
+use fs_server::Server;
+use fuse_device::{Device, DeviceEnd};
+use fuse_spec::{Minor, Validity};
+use std::alloc::{AllocError, Allocator};
+use std::io::Write;
+
+/// How a mount is served.
+#[derive(Clone, Copy, Debug, PartialEq, Eq)]
+pub struct Mount {
+    /// For how many milliseconds found names and missing ones are valid, each at most 86,400,000.
+    pub validity: Validity,
+    /// The minor that is spoken.
+    pub minor: Minor,
+    /// Whether the nodes that are held at the end are printed.
+    pub shows_nodes: bool,
+}
+
+/// The exit status at a device's end: 0 where the other side ended, and else 4.
+fn status_at(end: Option<DeviceEnd>) -> u8
+    ensures { result ≡ status_of end }
+{
+    match end {
+        Some(DeviceEnd::Ended) => 0,
+        Some(DeviceEnd::Failed) | None => 4,
+    }
+}
+
+/// The server at its mount.
+fn mounted<A: Allocator + Copy>(alloc: A, mount: Mount) -> Result<Server<A>, AllocError>
+    requires found { mount.validity.found_ms ≤ max_validity }
+    requires missing { mount.validity.missing_ms ≤ max_validity }
+    ensures { IfOk result (λ server. server ≡ first_of mount) }
+{
+    let mut server = Server::new(alloc)?;
+    server.remount(
+        mount.validity.found_ms,
+        mount.validity.missing_ms,
+        mount.minor,
+    );
+    Ok(server)
+}
+
+/// Prints the nodes that a server holds, each as `ID:GENERATION:COUNT`, behind the word `server`; or `no memory`. What
+/// `out` refuses is lost.
+fn show_nodes<A: Allocator + Copy, W: Write>(alloc: A, server: &Server<A>, out: &mut W) {
+    let _shown = match server.nodes(alloc) {
+        Ok(nodes) => write_nodes_line(out, nodes.as_slice()),
+        Err(_) => writeln!(out, "no memory"),
+    };
+}
+
+/// Serves a mount until its device ends.
+fn serve_mount<A: Allocator + Copy, D: Device, F: Write>(
+    alloc: A,
+    mount: Mount,
+    device: &mut D,
+    faults: &mut F,
+) -> Result<u8, AllocError>
+    requires found { mount.validity.found_ms ≤ max_validity }
+    requires missing { mount.validity.missing_ms ≤ max_validity }
+    ensures served { IfOk result (ServesMount D.logs mount device.old device.new) }
+    ensures refused { OnErr result (device.new ≡ device.old) }
+{
+    let mut server = mounted(alloc, mount)?;
+    let end = serve(alloc, &mut server, device)?;
+    let status = status_at(end);
+    if status != 0 {
+        let _ = writeln!(faults, "device failed");
+    }
+    if mount.shows_nodes {
+        show_nodes(alloc, &server, faults);
+    }
+    Ok(status)
+}
+
+/// Serves a mount over a device until that ends, with a tree of the root alone at the start.
+///
+/// Gives the exit status: 0 where the other side ended; 4 after `device failed` on `faults`, also after 2^64 - 1 frames;
+/// or 3 after `no memory`, where memory is wanting at the start: nothing is then received. Where the mount asks for it,
+/// a line `server ID:GENERATION:COUNT ..` on `faults` has the nodes that are held at the end.
+pub fn serve_device<A: Allocator + Copy, D: Device, F: Write>(
+    alloc: A,
+    mount: Mount,
+    device: &mut D,
+    faults: &mut F,
+) -> u8
+    requires found { mount.validity.found_ms ≤ max_validity }
+    requires missing { mount.validity.missing_ms ≤ max_validity }
+    ensures statuses { Contains (0 ∷ 3 ∷ 4 ∷ []) result }
+    ensures served { (result ≡ 0) ⊎ (result ≡ 4) → ServesMount D.logs mount device.old device.new result }
+    ensures refused { result ≡ 3 → device.new ≡ device.old }
+{
+    match serve_mount(alloc, mount, device, faults) {
+        Ok(status) => status,
+        Err(_) => {
+            let _ = writeln!(faults, "no memory");
+            3
+        }
+    }
+}
