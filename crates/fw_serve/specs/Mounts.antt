@@ -20,10 +20,10 @@ status_of (Some Ended) = 0
 status_of (Some Failed) = 4
 status_of None = 4
 
--- All that went over the device was served from the mount on, until it ended so.
-pub record ServesMount {D : Type 0} (logs : D → D → List Transfer → Type 0) (mount : Mount) (old new : D) (status : ℕ)
+-- All that went over the device was served from this server on, until the device ended so.
+pub record ServesFrom {D : Type 0} (logs : D → D → List Transfer → Type 0) (first : Server) (old new : D) (status : ℕ)
     : Type 0 where
   pub end : Option DeviceEnd
-  pub server : Server
-  pub served : GoesOver logs old new end (λ log. Serves (first_of mount) log server)
+  pub last : Server
+  pub served : GoesOver logs old new end (λ log. Serves first log last)
   pub stopped : status ≡ status_of end

@@ -2,7 +2,7 @@
 
 ghost use Rattle.std.specs.Prelude.{◌≡◌, ◌≤◌, ◌⊎◌, ◌∷◌, [], Contains, IfOk, OnErr};
 ghost use Rattle.fuse_spec.specs.Values.Numbers.{max_validity};
-ghost use Rattle.fw_serve.specs.Mounts.{ServesMount, first_of, status_of};
+ghost use Rattle.fw_serve.specs.Mounts.{ServesFrom, first_of, status_of};
 
 use crate::nodes_line::write_nodes_line;
 use fs_serve::serve;
@@ -57,6 +57,41 @@ fn show_nodes<A: Allocator + Copy, W: Write>(alloc: A, server: &Server<A>, out: 
     };
 }
 
+/// Serves a device until it ends, and gives the exit status.
+fn serve_until_end<A: Allocator + Copy, D: Device>(
+    alloc: A,
+    server: &mut Server<A>,
+    device: &mut D,
+) -> Result<u8, AllocError>
+    ensures served { IfOk result (ServesFrom D.logs server.old device.old device.new) }
+    ensures refused { OnErr result (device.new ≡ device.old) }
+{
+    match serve(alloc, server, device) {
+        Ok(end) => Ok(status_at(end)),
+        Err(AllocError) => Err(AllocError),
+    }
+}
+
+/// Prints how a mount ended: `device failed` under another status than 0, and the nodes that are held, if the mount asks
+/// for them.
+fn print_end<A: Allocator + Copy, F: Write>(
+    alloc: A,
+    mount: Mount,
+    server: &Server<A>,
+    status: u8,
+    faults: &mut F,
+) {
+    if status != 0 {
+        let _ = writeln!(faults, "device failed");
+    }
+    if mount.shows_nodes {
+        show_nodes(alloc, server, faults);
+    }
+}
+
+/// Lets a server go.
+fn let_go<A: Allocator + Copy>(_server: Server<A>) {}
+
 /// Serves a mount until its device ends.
 fn serve_mount<A: Allocator + Copy, D: Device, F: Write>(
     alloc: A,
@@ -66,19 +101,16 @@ fn serve_mount<A: Allocator + Copy, D: Device, F: Write>(
 ) -> Result<u8, AllocError>
     requires found { mount.validity.found_ms ≤ max_validity }
     requires missing { mount.validity.missing_ms ≤ max_validity }
-    ensures served { IfOk result (ServesMount D.logs mount device.old device.new) }
+    ensures served { IfOk result (ServesFrom D.logs (first_of mount) device.old device.new) }
     ensures refused { OnErr result (device.new ≡ device.old) }
 {
     let mut server = mounted(alloc, mount)?;
-    let end = serve(alloc, &mut server, device)?;
-    let status = status_at(end);
-    if status != 0 {
-        let _ = writeln!(faults, "device failed");
+    let status = serve_until_end(alloc, &mut server, device);
+    if let Ok(status) = status {
+        print_end(alloc, mount, &server, status, faults);
     }
-    if mount.shows_nodes {
-        show_nodes(alloc, &server, faults);
-    }
-    Ok(status)
+    let_go(server);
+    status
 }
 
 /// Serves a mount over a device until that ends, with a tree of the root alone at the start.
@@ -95,7 +127,7 @@ pub fn serve_device<A: Allocator + Copy, D: Device, F: Write>(
     requires found { mount.validity.found_ms ≤ max_validity }
     requires missing { mount.validity.missing_ms ≤ max_validity }
     ensures statuses { Contains (0 ∷ 3 ∷ 4 ∷ []) result }
-    ensures served { (result ≡ 0) ⊎ (result ≡ 4) → ServesMount D.logs mount device.old device.new result }
+    ensures served { (result ≡ 0) ⊎ (result ≡ 4) → ServesFrom D.logs (first_of mount) device.old device.new result }
     ensures refused { result ≡ 3 → device.new ≡ device.old }
 {
     match serve_mount(alloc, mount, device, faults) {
