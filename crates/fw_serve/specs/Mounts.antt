@@ -7,7 +7,7 @@ use Rattle.fuse_device.specs.Transfers.{Transfer}
 use Rattle.fuse_device.specs.declared.device.DeviceEnd.{DeviceEnd}
 use Rattle.fuse_device.specs.declared.device.DeviceEnd.TheVariants.{Ended, Failed}
 use Rattle.fs_serve.specs.Sending.{GoesOver}
-use Rattle.fs_serve.specs.Serving.{Serves}
+use Rattle.fs_serve.specs.LookupCounts.{IsServed}
 use Rattle.fw_serve.specs.declared.serving.Mount.{Mount}
 
 -- the server at its mount: its tree is the root alone
@@ -25,5 +25,5 @@ pub record ServesFrom {D : Type 0} (logs : D → D → List Transfer → Type 0)
     : Type 0 where
   pub end : Option DeviceEnd
   pub last : Server
-  pub served : GoesOver logs old new end (λ log. Serves first log last)
+  pub served : GoesOver logs old new end (λ log. IsServed first log last)
   pub stopped : status ≡ status_of end
