@@ -22,9 +22,10 @@ use Rattle.fs_server.specs.declared.server.ServerFault.TheVariants.{Memory}
 use Rattle.fuse_frames.specs.RequestTies.{SaysRequest}
 use Rattle.fuse_device.specs.Transfers.{Transfer, stopped, ended_in}
 use Rattle.fuse_device.specs.declared.device.DeviceEnd.{DeviceEnd}
-use Rattle.fs_serve.specs.LookupCounts.{Follows, FollowsFrame, GivesBack, IsFresh, MayForget, Tells, lookup_count, forgets, none, nothing_sent, error, nothing, frame, end}
+use Rattle.fs_serve.specs.LongBatches.{first_pairs, part_of}
+use Rattle.fs_serve.specs.LookupCounts.{Follows, FollowsFrame, FollowsPairs, GivesBack, IsFresh, MayForget, Tells, lookup_count, batch, end, error, forgets, frame, more_pairs, no_pairs, none, nothing, nothing_sent}
 use Rattle.fs_serve.specs.Sending.{Delivers, SendsFault, replied, unreplied}
-use Rattle.fs_serve.specs.Serving.{Serves, ServesFrame, ServesHeld, ServesNext, Takes, done_at_once, replied_at_once, performed, untaken, uninterrupted, refused, one, out_of_memory}
+use Rattle.fs_serve.specs.Serving.{Serves, ServesFrame, ServesHeld, ServesNext, ServesPairs, Takes, done_at_once, replied_at_once, performed, untaken, uninterrupted, refused, one, out_of_memory}
 use Rattle.fs_serve.specs.Serving as serving
 use Rattle.fs_serve.proofs.BetweenFrames.{IsBetween, fresh_between}
 use Rattle.fs_serve.proofs.Delivered.{Delivered, SendsOne, alone_gone, delivered, some_same}
@@ -319,6 +320,24 @@ record FollowsAll (minor : Minor) (old : ℕ → ℕ) (log : List Transfer) (new
   counts : Follows minor old log (lookup_count new)
   between : ended_in log ≡ None → IsBetween minor new
 
+-- The counts follow the pairs of a long BATCH_FORGET, and the server is between frames after each.
+record FollowsSome (minor : Minor) (bytes : List ℕ) (old : ℕ → ℕ) (pairs : List ℕ) (log : List Transfer) (new : Server)
+    : Type 0 where
+  counts : FollowsPairs minor bytes old pairs log (lookup_count new)
+  between : ended_in log ≡ None → IsBetween minor new
+
+pairs_follow : (minor : Minor) (bytes : List ℕ) (old : Server) → IsBetween minor old → (pairs : List ℕ)
+    → (log : List Transfer) (new : Server) → ServesPairs bytes old pairs log new
+    → FollowsSome minor bytes (lookup_count old) pairs log new
+pairs_follow minor bytes old is pairs log new serving.no_pairs = record { counts = no_pairs; between = λ ended. is }
+pairs_follow minor bytes old is pairs log new (serving.more_pairs served before mid serves going left split log' new' more) =
+    let so_far = pairs_follow minor bytes old is served before mid serves in
+    let follow = frame_follows minor mid (so_far.between going) (part_of bytes (first_pairs left)) log' new more in
+    record {
+      counts = more_pairs served before (lookup_count mid) so_far.counts left split log' (lookup_count new) follow.counts;
+      between = λ ended. follow.between (sym (ended_append before log' going) ∙ ended);
+    }
+
 next_follows : (minor : Minor) (old : ℕ → ℕ) (before : List Transfer) (mid : Server) → FollowsAll minor old before mid
     → ended_in before ≡ None → (log : List Transfer) (new : Server) → ServesNext mid log new
     → FollowsAll minor old (before ++ log) new
@@ -327,6 +346,13 @@ next_follows minor old before mid so_far going log new (one bytes read is_read l
     record {
       counts = frame before (lookup_count mid) so_far.counts bytes read is_read log' (lookup_count new) follow.counts;
       between = λ ended. follow.between (sym (ended_append before log going) ∙ ended);
+    }
+next_follows minor old before mid so_far going log new (serving.batch bytes long log' new' serves) =
+    let pairs = pairs_follow minor bytes mid (so_far.between going) serves.pairs log' new serves.serves in
+    record {
+      counts = batch before (lookup_count mid) so_far.counts bytes long serves.pairs log' (lookup_count new) pairs.counts
+          serves.all;
+      between = λ ended. pairs.between (sym (ended_append before log going) ∙ ended);
     }
 next_follows minor old before mid so_far going log new (serving.none ends) = record {
   counts = end before (lookup_count mid) so_far.counts ends;

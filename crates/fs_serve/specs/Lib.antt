@@ -1,3 +1,4 @@
+pub mod LongBatches
 pub mod LongInits
 pub mod Sending
 pub mod Serving

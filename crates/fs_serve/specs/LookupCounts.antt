@@ -1,5 +1,5 @@
 -- How the lookup counts of a server follow the frames that go over its device: what a server's author has to keep.
-use Rattle.std.specs.Prelude.{◌≡◌, ◌≢◌, ◌≤◌, ◌+◌, ℕ, ℤ, true, List, [], ◌∷◌, ◌++◌, All}
+use Rattle.std.specs.Prelude.{◌≡◌, ◌≢◌, ◌≤◌, ◌+◌, ℕ, ℤ, true, List, [], ◌∷◌, ◌++◌, All, drop, None}
 use Rattle.fuse_spec.specs.declared.Minor.{Minor}
 use Rattle.fuse_spec.specs.declared.Validity.{Validity}
 use Rattle.fuse_spec.specs.declared.WriteResult.{WriteResult}
@@ -14,8 +14,9 @@ use Rattle.fk_wire.specs.declared.opcode.Opcode.{Opcode}
 use Rattle.fk_wire.specs.Replies.{WrittenReply, empty_reply}
 use Rattle.fuse_frames.specs.RequestTies.{SaysRequest}
 use Rattle.fuse_frames.specs.ReplyTies.{IsReplyFrame}
-use Rattle.fuse_device.specs.Transfers.{Transfer, received, sent, unsent, stopped}
+use Rattle.fuse_device.specs.Transfers.{Transfer, received, sent, unsent, stopped, ended_in}
 use Rattle.fuse_device.specs.declared.device.DeviceEnd.{DeviceEnd}
+use Rattle.fs_serve.specs.LongBatches.{IsLongBatch, first_pairs, part_of}
 use Rattle.fs_serve.specs.LongInits.{IsReadAs}
 use Rattle.fs_serve.specs.Sending.{SendsBytes}
 use Rattle.fs_serve.specs.Serving.{Serves}
@@ -68,12 +69,25 @@ pub record FollowsFrame (minor : Minor) (old : ℕ → ℕ) (frame : List ℕ) (
   pub tells : Tells log more
   pub balance : (id : ℕ) → new id + back id ≡ old id + more id
 
+-- The counts follow the pairs of a long BATCH_FORGET up to some place, 64 after 64: each frame of them that may be
+-- taken gives its lookups back.
+pub data FollowsPairs (minor : Minor) (bytes : List ℕ) (old : ℕ → ℕ)
+    : (pairs : List ℕ) → List Transfer → (ℕ → ℕ) → Type 0 where
+  no_pairs : FollowsPairs minor bytes old [] [] old
+  more_pairs : (pairs : List ℕ) (before : List Transfer) (mid : ℕ → ℕ) → FollowsPairs minor bytes old pairs before mid
+      → (left : List ℕ) → drop 48 bytes ≡ pairs ++ left → (log : List Transfer) (new : ℕ → ℕ)
+      → FollowsFrame minor mid (part_of bytes (first_pairs left)) log new
+      → FollowsPairs minor bytes old (pairs ++ first_pairs left) (before ++ log) new
+
 -- The counts follow what went over the device, frame after frame.
 pub data Follows (minor : Minor) (old : ℕ → ℕ) : List Transfer → (ℕ → ℕ) → Type 0 where
   nothing : Follows minor old [] old
   frame : (before : List Transfer) (mid : ℕ → ℕ) → Follows minor old before mid → (bytes frame : List ℕ)
       → IsReadAs bytes frame → (log : List Transfer) (new : ℕ → ℕ) → FollowsFrame minor mid frame log new
       → Follows minor old (before ++ received bytes ∷ log) new
+  batch : (before : List Transfer) (mid : ℕ → ℕ) → Follows minor old before mid → (bytes : List ℕ) → IsLongBatch bytes
+      → (pairs : List ℕ) (log : List Transfer) (new : ℕ → ℕ) → FollowsPairs minor bytes mid pairs log new
+      → (ended_in log ≡ None → pairs ≡ drop 48 bytes) → Follows minor old (before ++ received bytes ∷ log) new
   end : (before : List Transfer) (mid : ℕ → ℕ) → Follows minor old before mid → (end : DeviceEnd)
       → Follows minor old (before ++ stopped end ∷ []) mid
 

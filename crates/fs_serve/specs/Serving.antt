@@ -1,5 +1,5 @@
 -- How a server serves what comes over a device.
-use Rattle.std.specs.Prelude.{◌≡◌, ◌≢◌, ◌⊎◌, ℕ, ℤ, negsuc, Bool, true, false, List, [], ◌∷◌, ◌++◌, Some, None}
+use Rattle.std.specs.Prelude.{◌≡◌, ◌≢◌, ◌⊎◌, ℕ, ℤ, negsuc, Bool, true, false, List, [], ◌∷◌, ◌++◌, drop, Some, None}
 use Rattle.fuse_spec.specs.Kernel.Messages.{Request}
 use Rattle.fk_wire.specs.Requests.{RequestContent, interrupt}
 use Rattle.fuse_spec.specs.Values.Maps.{remove}
@@ -16,6 +16,7 @@ use Rattle.fs_server.specs.declared.server.ServerFault.{ServerFault}
 use Rattle.fs_server.specs.declared.server.ServerFault.TheVariants.{Memory}
 use Rattle.fuse_device.specs.Transfers.{Transfer, received, stopped, ended_in}
 use Rattle.fuse_device.specs.declared.device.DeviceEnd.{DeviceEnd}
+use Rattle.fs_serve.specs.LongBatches.{IsLongBatch, first_pairs, part_of}
 use Rattle.fs_serve.specs.LongInits.{IsReadAs}
 use Rattle.fs_serve.specs.Sending.{Delivers, SendsError, SendsFault}
 
@@ -76,10 +77,26 @@ pub data ServesFrame (old : Server) (frame : List ℕ) : List Transfer → Serve
   refused : (fault : ServerFault) → RefusesFrame old frame fault → fault ≢ Memory → is_past_end old ≡ false
       → (log : List Transfer) → SendsFault old.minor frame fault log → ServesFrame old frame log old
 
+-- The pairs of a long BATCH_FORGET are served up to some place, the first 64 of those that are left in each frame.
+pub data ServesPairs (bytes : List ℕ) (old : Server) : (pairs : List ℕ) → List Transfer → Server → Type 0 where
+  no_pairs : ServesPairs bytes old [] [] old
+  more_pairs : (pairs : List ℕ) (before : List Transfer) (mid : Server) → ServesPairs bytes old pairs before mid
+      → ended_in before ≡ None → (left : List ℕ) → drop 48 bytes ≡ pairs ++ left → (log : List Transfer) (new : Server)
+      → ServesFrame mid (part_of bytes (first_pairs left)) log new
+      → ServesPairs bytes old (pairs ++ first_pairs left) (before ++ log) new
+
+-- All its pairs are served, or the device came to its end before.
+pub record ServesBatch (bytes : List ℕ) (old : Server) (log : List Transfer) (new : Server) : Type 0 where
+  pub pairs : List ℕ
+  pub serves : ServesPairs bytes old pairs log new
+  pub all : ended_in log ≡ None → pairs ≡ drop 48 bytes
+
 -- One frame is received and served, or the device comes to its end.
 pub data ServesNext (old : Server) : List Transfer → Server → Type 0 where
   one : (bytes frame : List ℕ) → IsReadAs bytes frame → (log : List Transfer) (new : Server)
       → ServesFrame old frame log new → ServesNext old (received bytes ∷ log) new
+  batch : (bytes : List ℕ) → IsLongBatch bytes → (log : List Transfer) (new : Server) → ServesBatch bytes old log new
+      → ServesNext old (received bytes ∷ log) new
   none : (end : DeviceEnd) → ServesNext old (stopped end ∷ []) old
 
 -- All that went over a device is so served, one frame after another, until the device came to its end, or nothing more

@@ -1,9 +1,11 @@
 //! The server before a device: each frame that is received is taken, performed, replied to and settled.
 #![tactic(auto)]
 
+mod batch;
 mod errors;
 mod init;
 mod serving;
 
+pub use batch::is_long_batch;
 pub use init::{init_in, is_long_init};
 pub use serving::serve;

@@ -5,11 +5,14 @@ ghost use Rattle.fs_server.specs.Effects.{CanTake, RefusesFrame, WantsMemory};
 ghost use Rattle.fs_server.specs.declared.server.ServerFault.TheVariants.{Memory as MemoryFault};
 ghost use Rattle.fs_serve.specs.LookupCounts.{IsServed};
 ghost use Rattle.fs_serve.specs.Sending.{Delivers, GoesOver, SendsError, end_of};
-ghost use Rattle.fs_serve.specs.Serving.{Serves, ServesFrame, ServesHeld, ServesNext, error_for, is_interrupt};
+ghost use Rattle.fs_serve.specs.LongBatches.{IsLongBatch};
+ghost use Rattle.fs_serve.specs.Serving.{Serves, ServesBatch, ServesFrame, ServesHeld, ServesNext, error_for, is_interrupt};
 ghost use Rattle.fk_wire.specs.Requests.{request_content};
 
+use crate::batch::{PAIRS, is_long_batch, pairs_in, put_part};
 use crate::errors::{send_error, send_fault};
 use crate::init::{init_in, is_long_init};
+use arrayvec::ArrayVec;
 use fk_wire::{RequestBody, read_request};
 use fs_server::{Server, ServerFault};
 use fuse_device::{Device, DeviceEnd};
@@ -79,7 +82,33 @@ fn serve_next<A: Allocator + Copy, D: Device>(
     if is_long_init(frame) {
         return serve_frame(server, device, &init_in(frame));
     }
+    if is_long_batch(frame) {
+        return serve_batch(server, device, frame);
+    }
     serve_frame(server, device, frame)
+}
+
+/// Serves the pairs of a long BATCH_FORGET, 64 in each frame.
+fn serve_batch<A: Allocator + Copy, D: Device>(
+    server: &mut Server<A>,
+    device: &mut D,
+    frame: &[u8],
+) -> Result<(), DeviceEnd>
+    requires { IsLongBatch frame.now }
+    ensures { GoesOver D.logs device.old device.new (end_of result)
+        (λ log. ServesBatch frame.now server.old log server.new) }
+{
+    let mut part = ArrayVec::new();
+    let mut rest = pairs_in(frame);
+    while !rest.is_empty() {
+        let count = rest.len().min(PAIRS);
+        put_part(&mut part, frame, &rest[..count]);
+        if let Err(end) = serve_frame(server, device, part.as_slice()) {
+            return Err(end);
+        }
+        rest = &rest[count..];
+    }
+    Ok(())
 }
 
 /// Serves one frame.
