@@ -4,7 +4,7 @@
 
 SCRIPT ?= tests/rows/stat-of-root.script
 
-.PHONY: run try test build wrong-bodies
+.PHONY: run try test build bench wrong-bodies
 
 run: build
 	@crates/fuseworld/out/fuseworld run "$(SCRIPT)"
@@ -18,6 +18,10 @@ try:
 build:
 	@log=$$(mktemp); cd crates/fuseworld && rt run -- run /dev/null > "$$log" 2>&1 \
 		|| { cat "$$log" >&2; rm -f "$$log"; exit 1; }; rm -f "$$log"
+
+# What a line of a script costs, and how that grows with what the script lets grow.
+bench: build
+	@python3 tests/bench.py
 
 # Whether each wrong body of tests/wrong_bodies is refused; CRATES names the crates whose bodies are tried, or none for all.
 wrong-bodies:

@@ -1,8 +1,8 @@
 -- The last frame of a link.
-use Rattle.std.proofs.Common.{◌≡◌, ℕ, ◌+◌, ◌-◌, Bool, true, false, List, [], ◌∷◌, ◌++◌, Some, length, get_or, slice_get, ap, sym, subst, ◌∙◌, arith}
+use Rattle.std.proofs.Common.{◌≡◌, ℕ, ◌+◌, ◌-◌, Bool, true, false, List, [], ◌∷◌, ◌++◌, None, Some, length, get_or, slice_get, ap, sym, subst, ◌∙◌, arith}
 use Rattle.std.proofs.Math.Seq.{get_or-append_seam}
 use Rattle.std.proofs.lemmas.List.{length-append}
-use Rattle.std.proofs.lemmas.Option.{slice_get-get_or}
+use Rattle.std.proofs.lemmas.Option.{none-some, slice_get-get_or}
 use Rattle.fuse_spec.specs.Kernel.Messages.{WireReply}
 use Rattle.fuse_spec.specs.Server.Performs.{served}
 use Rattle.fuse_spec.specs.Server.Server.{Server}
@@ -28,6 +28,14 @@ last_copy w copies sent bytes same is_last frame =
 pub copy_frame : (bytes : List ℕ) (sent : Sent) → (opcode : Opcode)
     × IsReplyFrame opcode bytes (record { unique = sent.unique; wire = sent.wire }) → IsCopyFrame bytes sent
 copy_frame bytes sent written = record { opcode = written.0; written = written.1 }
+
+-- Nothing stands last in an empty list alone.
+pub none_stands_last : {X : Type 0} (xs : List X) → None ≡ slice_get xs (length xs - 1) → xs ≡ []
+none_stands_last [] none = refl
+none_stands_last (x ∷ xs) none =
+    let there : slice_get (x ∷ xs) (length (x ∷ xs) - 1) ≡ Some (get_or (x ∷ xs) (length (x ∷ xs) - 1) x) =
+    slice_get-get_or (x ∷ xs) (length (x ∷ xs) - 1) x (omega arith) in
+    absurd (none-some _ (none ∙ there))
 
 -- What was appended stands last.
 appended_last : {X : Type 0} (xs : List X) (x : X) → slice_get (xs ++ x ∷ []) (length (xs ++ x ∷ []) - 1) ≡ Some x
