@@ -5,7 +5,7 @@
 
 SCRIPT ?= tests/rows/stat-of-root.script
 
-.PHONY: run try test build mount vectors install uninstall wrong-bodies
+.PHONY: run try test build mount vectors install uninstall bench wrong-bodies
 
 run: build
 	@crates/fuseworld/out/fuseworld run "$(SCRIPT)"
@@ -45,6 +45,10 @@ install: build
 uninstall:
 	rm -f "$(BIN)/fuseworld" "$(SHARE)/man/man1/fuseworld.1" "$(SHARE)/bash-completion/completions/fuseworld" \
 		"$(SHARE)/zsh/site-functions/_fuseworld" "$(SHARE)/fish/vendor_completions.d/fuseworld.fish"
+
+# What a line of a script costs, and how that grows with what the script lets grow.
+bench: build
+	@python3 tests/bench.py
 
 # Whether each wrong body of tests/wrong_bodies is refused; CRATES names the crates whose bodies are tried, or none for all.
 wrong-bodies:

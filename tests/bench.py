@@ -18,6 +18,9 @@ import tempfile
 import time
 from concurrent.futures import ThreadPoolExecutor
 
+# As long as a name can stay in force, in milliseconds.
+LONG = 86_400_000
+
 TOP = os.path.dirname(os.path.dirname(os.path.abspath(__file__)))
 
 
@@ -45,16 +48,16 @@ class Script:
         self.calls += 1
         return self.calls
 
-    def trip(self):
-        """One request from the kernel to the server and back."""
+    def trip(self, before=0):
+        """One request from the kernel to the server and back, behind so many on their link."""
         unique = self.take_unique()
-        self.add("read p 0", "take 0", f"do {unique}", "write 0", "settle 0")
+        self.add("read p 0", f"take {before}", f"do {unique}", "write 0", "settle 0")
 
-    def ask(self, words, trips=1):
+    def ask(self, words, trips=1, before=0):
         """A call with its trips."""
         call = self.call(words)
         for _ in range(trips):
-            self.trip()
+            self.trip(before)
         return call
 
     def prepare(self):
@@ -106,7 +109,7 @@ def opened(n):
     return script, [script.ask("open /f") for _ in range(n)]
 
 
-def opens(n, _takes=None):
+def opens(n):
     """So many open files: each opening."""
     script = Script()
     script.ask("create /f")
@@ -152,46 +155,39 @@ def drawn(n, part):
     script.add(*[f"do {uniques[place]}" for place in random_order(n)])
     if part == "kept":
         script.prepare()
-        script.add(*[line for unique in random_order(n) for line in (f"again {uniques[unique]}",)])
+        script.add(*[f"again {uniques[place]}" for place in random_order(n)])
     return script
 
 
-def evicting(script, rounds=200):
-    """A directory is looked up, its name dropped and its node given up, round after round. It is node 3."""
-    script.add("drop 1 a", "evict 3", "read f 1", "take 0")
-    script.take_unique()
+def evicting(script, before=0, rounds=200):
+    """A directory is looked up, its name dropped and its node, which is 3, given up, round after round, behind so many
+    requests on their link."""
+
+    def give_up():
+        script.add("drop 1 a", "evict 3", "read f 1", f"take {before}")
+        script.take_unique()
+
+    give_up()
     script.prepare()
     for _ in range(rounds):
-        script.ask("stat /a", 2)
-        script.add("drop 1 a", "evict 3", "read f 1", "take 0")
-        script.take_unique()
+        script.ask("stat /a", 2, before)
+        give_up()
     return script
 
 
-def evict_beside_opens(n, _takes=None):
+def evict_beside_opens(n):
     script, _numbers = opened(n)
     return evicting(script)
 
 
-def evict_beside_releases(n, _takes=None):
+def evict_beside_releases(n):
     script, numbers = opened(n)
-    script.add(*[f"call close {number}" for number in numbers])
+    script.add(*[f"call close {number}" for number in numbers], *["read p 0"] * n)
     script.unique += 2 * n
-    script.add(*["read p 0"] * n)
-    return evicting_at(script, n)
+    return evicting(script, n)
 
 
-def evicting_at(script, n, rounds=200):
-    """The same where so many requests stand on the link before those of a round."""
-    script.prepare()
-    for _ in range(rounds):
-        script.call("stat /")
-        unique = script.take_unique()
-        script.add("read p 0", f"take {n}", f"do {unique}", "write 0", "settle 0", "evict 3")
-    return script
-
-
-def forgets(n, _takes=None):
+def forgets(n):
     """So many forgets are queued, and read one by one."""
     script = Script()
     script.ask("mkdir /a")
@@ -203,7 +199,7 @@ def forgets(n, _takes=None):
     return script
 
 
-def interrupts(n, _takes=None):
+def interrupts(n):
     """An INTERRUPT that overtakes its request is answered EAGAIN, and queued again, so many times."""
     script = Script()
     call = script.call("stat /")
@@ -216,9 +212,9 @@ def interrupts(n, _takes=None):
     return script
 
 
-def names(n, _takes=None):
+def names(n):
     """So many names in force, of files that are missing: each is looked up once, and found missing again."""
-    script = Script(10**9, 10**9)
+    script = Script(LONG, LONG)
     script.prepare()
     for name in range(n):
         script.ask(f"stat /n{name}")
@@ -227,7 +223,7 @@ def names(n, _takes=None):
     return script
 
 
-def nodes(n, _takes=None):
+def nodes(n):
     """So many counted nodes, whose directories were removed."""
     script = Script()
     script.prepare()
@@ -240,7 +236,7 @@ def nodes(n, _takes=None):
 # ---- calls over a tree of a given size
 
 
-def stat(rounds, _takes=None):
+def stat(rounds):
     """Each `stat` looks up, since a second passes before it."""
     script = Script()
     script.ask("mkdir /a")
@@ -253,7 +249,7 @@ def stat(rounds, _takes=None):
 
 def look_ups(n, rounds=1500):
     """Names that stay in force are looked up in turn, and one is dropped each round."""
-    script = Script(10**9, 10**9)
+    script = Script(LONG, LONG)
     for name in range(n):
         script.ask(f"mkdir /d{name}")
     script.prepare()
@@ -274,7 +270,7 @@ def transfers(rounds, words):
     return script
 
 
-def full_file(rounds, _takes=None):
+def full_file(rounds):
     """Writes of 4,096 bytes into a file of 65,536."""
     script = Script()
     script.ask("create /f")
@@ -301,7 +297,7 @@ def listing(rounds, word):
 
 def pages(n, word, a_page):
     """So many names are made in a directory, which is then listed page by page."""
-    script = Script(10**9, 10**9)
+    script = Script(LONG, LONG)
     script.ask("mkdir /l")
     for name in range(n):
         script.ask(f"mkdir /l/{name}")
@@ -312,36 +308,76 @@ def pages(n, word, a_page):
     return script
 
 
-def at_random(n, _takes=None):
-    """Lines of all kinds, drawn, of which some are refused."""
-    drawing = random.Random(7)
-    script = Script(1000, 1000)
-    paths = [f"/{name}" for name in "abcdefgh"] + ["/a/x", "/b/y"]
-    kinds = ["stat", "mkdir", "create", "open", "unlink", "rmdir", "list", "listplus"]
-    script.prepare()
-    while len(script.lines) - script.prepared < n:
-        script.lines.append(drawn_line(drawing, script, paths, kinds))
-        if drawing.random() < 0.7:
-            script.add("read p 0", "take 0", f"do {script.unique}", "write 0", "settle 0")
-            script.unique += 2
-    return script
+class Drawn:
+    """Lines of all kinds, drawn, over a few names of the root, which are looked up each time."""
+
+    def __init__(self, n):
+        self.drawing = random.Random(7)
+        self.script = Script(0, 0)
+        self.kinds = {}
+        self.files = []
+        self.script.prepare()
+        while len(self.script.lines) - self.script.prepared < n:
+            self.drawing.choice([self.look, self.look, self.make, self.remove, self.transfer, self.signal, self.pass_by])()
+
+    def serve(self, words, trips=1):
+        """A call whose replies are at times sent twice."""
+        call = self.script.call(words)
+        for _ in range(trips):
+            unique = self.script.take_unique()
+            self.script.add("read p 0", "take 0", f"do {unique}")
+            copies = self.drawing.choice([1, 1, 1, 2, 3])
+            self.script.add(*[f"again {unique}"] * (copies - 1))
+            self.script.add(*["write 0"] * copies, *["settle 0"] * copies)
+        return call
+
+    def look(self):
+        name = self.drawing.choice("abcdefgh")
+        there = name in self.kinds
+        self.serve(f"stat /{name}", 2 if there else 1)
+        if there and self.drawing.random() < 0.3:
+            self.script.add(f"drop 1 {name}")
+
+    def make(self):
+        name = self.drawing.choice("abcdefgh")
+        word = self.drawing.choice(["mkdir", "create"])
+        call = self.serve(f"{word} /{name}")
+        if name not in self.kinds:
+            self.kinds[name] = word
+            if word == "create":
+                self.files.append(call)
+
+    def remove(self):
+        name = self.drawing.choice("abcdefgh")
+        word = self.drawing.choice(["unlink", "rmdir"])
+        self.serve(f"{word} /{name}")
+        if self.kinds.get(name) == {"unlink": "create", "rmdir": "mkdir"}[word]:
+            del self.kinds[name]
+
+    def transfer(self):
+        if not self.files:
+            return
+        handle = self.drawing.choice(self.files)
+        if self.drawing.random() < 0.3:
+            self.files.remove(handle)
+            self.serve(f"close {handle}")
+        elif self.drawing.random() < 0.5:
+            self.serve(f"read {handle} 0 64")
+        else:
+            self.serve(f"write {handle} {self.drawing.randrange(64)} 616263")
+
+    def signal(self):
+        """A call that is signalled before its request is read: a fatal one ends it."""
+        call = self.script.call("stat /")
+        self.script.take_unique()
+        self.script.add(f"intr {call} fatal")
+
+    def pass_by(self):
+        self.script.add(f"tick {self.drawing.randrange(1500)}", "evict 9999")
 
 
-def drawn_line(drawing, script, paths, kinds):
-    kind = drawing.randrange(12)
-    if kind < 7:
-        word = drawing.choice(kinds)
-        script.calls += 1
-        return f"call {word} {drawing.choice(paths)}" + (" 0" if word.startswith("list") else "")
-    few = drawing.randrange(3)
-    number = max(1, script.calls - drawing.randrange(4))
-    return [
-        f"tick {drawing.randrange(1500)}",
-        f"drop 1 {drawing.choice('abcdefgh')}",
-        f"evict {drawing.randrange(2, 12)}",
-        f"intr {number} {drawing.choice(['soft', 'fatal'])}",
-        drawing.choice(["read i", "read f 1", f"again {script.unique - 2}", f"write {few}", f"settle {few}"]),
-    ][kind - 7]
+def at_random(n):
+    return Drawn(n).script
 
 
 # ---- the rows: a name, what makes a script of a size, and the sizes
@@ -451,7 +487,7 @@ def main():
         bench = Bench(os.path.abspath(words.program), folder)
         print(f"| Script | Sizes | {'Instructions' if bench.counts else 'Nanoseconds'} a line | | | Exponent |")
         print("|---|---|---|---|---|---|")
-        with ThreadPoolExecutor(os.cpu_count() if bench.counts else 1) as pool:
+        with ThreadPoolExecutor(len(os.sched_getaffinity(0)) if bench.counts else 1) as pool:
             for line in pool.map(lambda row: bench.line_of(*row), told):
                 print(line, flush=True)
     return 0
