@@ -1,4 +1,4 @@
-//! BATCH_FORGET of more pairs than one frame of this project has.
+//! BATCH_FORGET of more than the 64 pairs that one has here.
 
 use crate::tests::session::{frames_of, lent, mounted};
 use fk_wire::RequestBody;
