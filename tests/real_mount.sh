@@ -6,27 +6,9 @@
 # a mount is refused or there is no C compiler, it says so and ends with status 0.
 set -u
 cd "$(dirname "$0")/.." || exit 1
-program=$PWD/crates/fuseworld/out/fuseworld
-work=$(mktemp -d)
-mount=$work/mount
-launcher=
+. tests/mounted.sh
 passed=0
 failed=0
-export LC_ALL=C
-
-# Leaves nothing mounted. A lazy unmount needs no answer of the server.
-leave() {
-    grep -q " $mount fuse " /proc/self/mounts && umount -l "$mount"
-    [ -z "$launcher" ] || kill "$launcher" 2> /dev/null
-    rm -rf --one-file-system "$work"
-}
-trap leave EXIT
-trap 'exit 1' HUP INT TERM
-
-skip() {
-    echo "skipped: $1"
-    exit 0
-}
 
 # step COMMANDS: runs them in the mounted folder, and compares what they print with standard input.
 step() {
@@ -56,24 +38,7 @@ check() {
     fi
 }
 
-mkdir "$mount"
-# shellcheck disable=SC2188
-(: <> /dev/fuse) 2> /dev/null || skip "/dev/fuse cannot be opened"
-command -v cc > /dev/null || skip "there is no C compiler"
-cc -O2 -Wall -Wextra -o "$work/launcher" examples/mount.c || exit 1
-timeout -k 2 120 "$work/launcher" "$mount" "$program" --show --trace > "$work/status" 2> "$work/trace" &
-launcher=$!
-for _ in 1 2 3 4 5 6 7 8 9 10; do
-    grep -q " $mount fuse " /proc/self/mounts && break
-    kill -0 $launcher 2> /dev/null || break
-    sleep 0.2
-done
-if ! grep -q " $mount fuse " /proc/self/mounts; then
-    grep -q "^mount: " "$work/trace" && skip "a mount is refused ($(head -n 1 "$work/trace"))"
-    echo "not ok: nothing is mounted"
-    cat "$work/trace"
-    exit 1
-fi
+start 120 --show --trace
 
 step 'mkdir d; ls' << 'END'
 d
@@ -178,17 +143,13 @@ END
 step 'rm third big d/new moved/f/g moved/[0-9]*; rmdir moved/f moved d; ls -A' << 'END'
 END
 
-# The forgets of what was removed are on their way.
-sleep 0.5
-timeout 5 umount "$mount" || umount -l "$mount"
-wait "$launcher"
+finish
 status=$?
-launcher=
 check "the launcher's status is 0, not $status" [ "$status" = 0 ]
-check "the server holds nodes: $(tail -n 1 "$work/trace")" [ "$(tail -n 1 "$work/trace")" = server ]
-check "a reply was refused, or not sent" sh -c "! grep -qE '^->.*( refused | not sent)' '$work/trace'"
+check "the server holds nodes: $(tail -n 1 "$trace")" [ "$(tail -n 1 "$trace")" = server ]
+check "a reply was refused, or not sent" [ "$(grep -cE "^->.*( refused | not sent)" "$trace")" = 0 ]
 for opcode in INIT LOOKUP FORGET GETATTR MKDIR UNLINK RMDIR RENAME LINK OPEN READ WRITE RELEASE READDIRPLUS CREATE; do
-    check "no $opcode came" grep -q "^$opcode " "$work/trace"
+    check "no $opcode came" grep -q "^$opcode " "$trace"
 done
-echo "$passed checks on a real mount passed, $failed failed; $(grep -cv '^->\|^server' "$work/trace") requests came"
+echo "$passed checks on a real mount passed, $failed failed; $(grep -cv '^->\|^server' "$trace") requests came"
 [ "$failed" = 0 ]

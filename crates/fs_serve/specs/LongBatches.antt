@@ -1,4 +1,4 @@
--- BATCH_FORGET of more pairs than a frame of this project has.
+-- BATCH_FORGET of more than the 64 pairs that one has here.
 use Rattle.std.specs.Prelude.{◌≡◌, ◌+◌, ◌*◌, ◌/◌, ◌<◌, ℕ, List, ◌++◌, length, take, drop, min}
 use Rattle.byteorder.specs.Endian.{little_bytes}
 use Rattle.fk_wire.specs.Faults.{HasLength}

@@ -1,4 +1,4 @@
-//! BATCH_FORGET of more pairs than a frame of this project has.
+//! BATCH_FORGET of more than the 64 pairs that one has here.
 
 ghost use Rattle.std.specs.Prelude.{◌≡◌, ◌+◌, ◌*◌, ◌↔◌, ◌<◌, ◌≤◌, IsTrue, drop, length};
 ghost use Rattle.fk_wire.specs.Fields.{number_at};
@@ -14,10 +14,10 @@ const BATCH_FORGET: u32 = 42;
 /// The bytes before the pairs (`struct fuse_in_header` and `struct fuse_batch_forget_in`).
 const HEAD: usize = 48;
 
-/// The bytes of 64 pairs (`struct fuse_forget_one`), the most of one frame.
+/// The bytes of 64 pairs (`struct fuse_forget_one`), the most of one BATCH_FORGET (this project's rule).
 pub(crate) const PAIRS: usize = 1024;
 
-/// The bytes of a frame of 64 pairs.
+/// The bytes of a BATCH_FORGET of 64 pairs.
 const LONGEST: usize = 1072;
 
 /// The length of a BATCH_FORGET of as many pairs as a frame counts.

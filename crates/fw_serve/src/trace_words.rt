@@ -9,12 +9,17 @@ use fk_wire::{
     Minor, Opcode, ReplyBody, ReplyHead, Request, WireFault, opcode_of_code, read_reply_at,
     read_request, read_request_head,
 };
-use fs_serve::{init_in, is_long_init};
+use fs_serve::{init_in, is_long_batch, is_long_init};
 use fuse_device::DeviceEnd;
 use fuse_spec::WriteResult;
 use fw_frames::{write_reply_words, write_request_words};
 use std::io;
 use std::io::Write;
+
+/// The bytes of a BATCH_FORGET before its pairs, and those of a pair.
+const BATCH_HEAD: usize = 48;
+
+const PAIR: usize = 16;
 
 /// The name of an error number, of those that the server replies.
 fn error_word(number: u32) -> &'static str {
@@ -92,11 +97,26 @@ fn write_frame<W: Write>(out: &mut W, frame: &[u8]) -> io::Result<()> {
     }
 }
 
+/// Writes the words of a BATCH_FORGET that is served in frames of 64 pairs.
+fn write_long_batch<W: Write>(out: &mut W, frame: &[u8]) -> io::Result<()> {
+    let Ok((_code, unique)) = read_request_head(frame) else {
+        return Ok(());
+    };
+    let pairs = frame.len().saturating_sub(BATCH_HEAD) / PAIR;
+    write!(
+        out,
+        "BATCH_FORGET {unique} node 0 forget {pairs} pairs (64 in each frame)"
+    )
+}
+
 /// Writes the line of a frame that was received.
 pub(crate) fn write_received<W: Write>(out: &mut W, frame: &[u8]) -> io::Result<()> {
     if is_long_init(frame) {
         write_frame(out, &init_in(frame))?;
         out.write_all(b" (its first 56 bytes)\n")
+    } else if is_long_batch(frame) {
+        write_long_batch(out, frame)?;
+        out.write_all(b"\n")
     } else {
         write_frame(out, frame)?;
         out.write_all(b"\n")

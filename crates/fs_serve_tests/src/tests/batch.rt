@@ -1,8 +1,7 @@
-//! BATCH_FORGET of more pairs than one frame of this project has.
+//! BATCH_FORGET of more than the 64 pairs that one has here.
 
-use crate::tests::session::{frames_of, lent, mounted};
+use crate::tests::session::{frames_of, lent, serve_device};
 use fk_wire::RequestBody;
-use fs_serve::serve;
 use fuse_device::ListDevice;
 use std::alloc::{AllocError, Global};
 use std::test::Fail;
@@ -37,9 +36,8 @@ fn left_after(alloc: Global, told: usize, batch: Vec<u8>) -> Result<Vec<(u64, u6
     frames.push(batch)?;
     let slices = lent(alloc, &frames)?;
     let mut device = ListDevice::new(alloc, &slices);
-    let mut server = mounted(alloc)?;
-    let _end = serve(alloc, &mut server, &mut device)?;
-    Ok(server.nodes(alloc)?)
+    let (_end, nodes) = serve_device(alloc, &mut device)?;
+    Ok(nodes)
 }
 
 /// 64 pairs are one frame, 65 two, and 200 four. Of a batch that counts other pairs than it has, nothing is forgotten.

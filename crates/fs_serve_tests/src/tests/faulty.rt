@@ -1,7 +1,6 @@
 //! Frames that are refused, with an error reply and without, and INIT of a later kernel.
 
-use crate::tests::session::{lent, mounted};
-use fs_serve::serve;
+use crate::tests::session::{lent, serve_device};
 use fuse_device::{DeviceEnd, ListDevice};
 use std::alloc::Global;
 use std::test::Fail;
@@ -100,11 +99,10 @@ fn faulty_frames_are_replied_or_not(rt: HostRuntime) -> Result<(), Fail> {
     let slices = lent(rt.alloc(), &frames)?;
     let replies = replies_in_bytes(rt.alloc())?;
     let mut device = ListDevice::new(rt.alloc(), &slices);
-    let mut server = mounted(rt.alloc())?;
-    let end = serve(rt.alloc(), &mut server, &mut device)?;
+    let (end, nodes) = serve_device(rt.alloc(), &mut device)?;
     assert_eq!(rt; end, Some(DeviceEnd::Ended));
     assert_eq!(rt; device.sent(), replies.as_slice());
     // The directory that MKDIR told is forgotten.
-    assert_eq!(rt; server.nodes(rt.alloc())?.len(), 0);
+    assert_eq!(rt; nodes.len(), 0);
     Ok(())
 }

@@ -1,26 +1,15 @@
 //! Each growth of the server's memory is refused in turn.
 
-use crate::tests::session::{lent, mounted, session};
+use crate::tests::session::{lent, serve_device, session};
 use crate::tests::told::{Told, told_by};
 use fail_at::FailAt;
-use fs_serve::serve;
 use fuse_device::ListDevice;
-use std::alloc::{AllocError, Allocator};
+use std::alloc::AllocError;
 use std::process::Abort;
 use std::test::Fail;
 
 /// ENOMEM, as a reply has it.
 const ENOMEM: i32 = -12;
-
-/// Serves frames: the nodes that are left, or that memory was wanting before the first frame or to list them.
-fn serve_on<A: Allocator + Copy>(
-    heap: A,
-    device: &mut ListDevice<'_>,
-) -> Result<Vec<(u64, u64, u64), A>, AllocError> {
-    let mut server = mounted(heap)?;
-    let _end = serve(heap, &mut server, device)?;
-    server.nodes(heap)
-}
 
 /// How many replies say that memory is wanting.
 fn refusals(told: &Told) -> usize {
@@ -52,11 +41,11 @@ fn each_growth_is_refused(rt: HostRuntime) -> Result<(), Fail> {
     let mut refused = 0u64;
     for turn in heap.each_growth(200) {
         let mut device = ListDevice::new(rt.alloc(), &slices);
-        let nodes = serve_on(&heap, &mut device);
+        let served = serve_device(&heap, &mut device);
         let told = told_by(rt.alloc(), device.sent())?.expect(&rt, "replies");
         turns = turn;
-        match nodes {
-            Ok(nodes) => {
+        match served {
+            Ok((_end, nodes)) => {
                 assert_counts(&rt, &nodes, &told, turn);
                 refused = refused.wrapping_add(refusals(&told) as u64);
             }

@@ -100,10 +100,38 @@ pub fn lent<'a>(alloc: Global, frames: &'a [Vec<u8>]) -> Result<Vec<&'a [u8]>, A
 }
 
 /// A server at its mount, whose found names are valid for a second.
-pub fn mounted<A: Allocator + Copy>(heap: A) -> Result<Server<A>, AllocError> {
+fn mounted<A: Allocator + Copy>(heap: A) -> Result<Server<A>, AllocError> {
     let mut server = Server::new(heap)?;
     server.remount(1000, 0, Minor::M31);
     Ok(server)
+}
+
+/// How serving ended, and the nodes that are left.
+type Served<A> = (Option<DeviceEnd>, Vec<(u64, u64, u64), A>);
+
+/// Serves a device by a server.
+fn serve_by<A: Allocator + Copy>(
+    heap: A,
+    server: &mut Server<A>,
+    device: &mut ListDevice<'_>,
+) -> Result<Served<A>, AllocError> {
+    let end = serve(heap, server, device)?;
+    let nodes = server.nodes(heap)?;
+    Ok((end, nodes))
+}
+
+/// Lets a server go.
+fn let_go<A: Allocator + Copy>(_server: Server<A>) {}
+
+/// Serves a device by a server of its own.
+pub fn serve_device<A: Allocator + Copy>(
+    heap: A,
+    device: &mut ListDevice<'_>,
+) -> Result<Served<A>, AllocError> {
+    let mut server = mounted(heap)?;
+    let served = serve_by(heap, &mut server, device);
+    let_go(server);
+    served
 }
 
 /// Serves the session, with another result at a send: how it ended, after how many sends, and the nodes that are left.
@@ -116,9 +144,8 @@ fn serve_session(
     let slices = lent(alloc, &frames)?;
     let mut device = ListDevice::new(alloc, &slices);
     device.answer_send(send, at_send);
-    let mut server = mounted(alloc)?;
-    let end = serve(alloc, &mut server, &mut device)?;
-    Ok((end, device.sends(), server.nodes(alloc)?))
+    let (end, nodes) = serve_device(alloc, &mut device)?;
+    Ok((end, device.sends(), nodes))
 }
 
 #[test]
