@@ -1,5 +1,8 @@
 //! The command `serve`: the server before a kernel, or whoever speaks FUSE to it.
 
+ghost use Rattle.std.specs.Prelude.{◌≤◌};
+ghost use Rattle.fuse_spec.specs.Values.Numbers.{max_validity};
+
 use clap::builder::ValueParser;
 use clap::{Arg, ArgAction, ArgMatches, Command};
 use fuse_device::{Device, PacketDevice, StreamDevice};
@@ -21,6 +24,8 @@ pub struct ServeTask<'a> {
     is_traced: bool,
     /// Where a socket is made for the one connection that is served, in the place of standard input and output.
     socket: Option<&'a str>,
+    ghost found: { mount.validity.found_ms ≤ max_validity },
+    ghost missing: { mount.validity.missing_ms ≤ max_validity },
 }
 
 /// The minors that are spoken.
