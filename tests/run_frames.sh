@@ -5,23 +5,7 @@
 # Prints a line for each case that differs, and ends with status 1 where there is one.
 set -u
 cd "$(dirname "$0")/.." || exit 1
-program=$PWD/crates/fuseworld/out/fuseworld
-work=$(mktemp -d)
-trap 'rm -rf "$work"' EXIT
-passed=0
-failed=0
-
-# judge NAME STATUS WANTED-STATUS: compares the files out and err with want-out and want-err.
-judge() {
-    if [ "$2" = "$3" ] && cmp -s "$work/out" "$work/want-out" && cmp -s "$work/err" "$work/want-err"; then
-        passed=$((passed + 1))
-    else
-        echo "not ok $1 (status $2, wanted $3)"
-        diff "$work/want-out" "$work/out"
-        diff "$work/want-err" "$work/err"
-        failed=$((failed + 1))
-    fi
-}
+. tests/judge.sh
 
 # expect STATUS OUTPUT FAULT ARGUMENTS..: runs the program, whose output and fault are a line each, or nothing.
 expect() {

@@ -1,0 +1,18 @@
+# What the scripts that run the built program share: a folder for its output, and how that is judged. Read by `.`.
+program=$PWD/crates/fuseworld/out/fuseworld
+work=$(mktemp -d)
+trap 'rm -rf "$work"' EXIT
+passed=0
+failed=0
+
+# judge NAME STATUS WANTED-STATUS: compares the files out and err with want-out and want-err.
+judge() {
+    if [ "$2" = "$3" ] && cmp -s "$work/out" "$work/want-out" && cmp -s "$work/err" "$work/want-err"; then
+        passed=$((passed + 1))
+    else
+        echo "not ok $1 (status $2, wanted $3)"
+        diff "$work/want-out" "$work/out"
+        diff "$work/want-err" "$work/err"
+        failed=$((failed + 1))
+    fi
+}
