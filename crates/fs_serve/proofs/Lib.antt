@@ -5,3 +5,5 @@ mod Delivered
 mod Forgetting
 mod HeldCounts
 mod LookupCounts
+mod NodesLater
+mod PairsOnce

@@ -3,3 +3,4 @@ pub mod LongInits
 pub mod Sending
 pub mod Serving
 pub mod LookupCounts
+pub mod NodePairs

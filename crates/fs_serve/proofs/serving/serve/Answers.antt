@@ -1,4 +1,5 @@
 use Rattle.fs_serve.proofs.LookupCounts.{counts_follow}
+use Rattle.fs_serve.proofs.PairsOnce.{pairs_once}
 use Rattle.fs_serve.proofs.serving.serve.Goals as goal
 
 pub returns-clause-served : goal.returns-clause-served
@@ -6,6 +7,10 @@ returns-clause-served g c =
     let (log, logs, serves, ends) = c.serve_frames.ensures in (
       log,
       logs,
-      record { serves = serves; counts = counts_follow c.args.server.now log c.serve_frames.new.server serves },
+      record {
+        serves = serves;
+        counts = counts_follow c.args.server.now log c.serve_frames.new.server serves;
+        pairs = pairs_once c.args.server.now;
+      },
       ends,
     )
