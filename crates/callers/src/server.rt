@@ -2,9 +2,9 @@
 
 ghost use Rattle.std.specs.Prelude.{◌≡◌, true, OnOk, OnErr, IsTrue, is_some};
 ghost use Rattle.fk_wire.specs.Opcodes.{kind_of, knows, served};
-ghost use Rattle.fk_wire.specs.Requests.{opcode_of, request_content};
+ghost use Rattle.fk_wire.specs.Requests.{opcode_of, request_content, request_message};
 ghost use Rattle.fk_wire.specs.Replies.{GoesWith, reply_message};
-ghost use Rattle.callers.specs.Answered.{Answers};
+ghost use Rattle.callers.specs.Answered.{Answers, reply_to};
 
 use fk_wire::{
     Attr, InitFlags, Reply, ReplyBody, Request, RequestBody, WireFault, read_request, write_reply,
@@ -15,7 +15,7 @@ const ENOSYS: i32 = 38;
 
 /// Appends the reply to a request frame, which may be any bytes. A FORGET and a BATCH_FORGET have none.
 pub fn answer<A: Allocator>(frame: &[u8], out: &mut Vec<u8, A>) -> Result<(), WireFault>
-    // What is appended is a frame that spells a reply to the request, under its number.
+    // What is appended is a frame that spells the reply to the request, under its number.
     ensures answered { OnOk result (Answers frame.now out.old.items out.new.items) }
     ensures refused { OnErr result (out.new.items ≡ out.old.items) }
 {
@@ -42,7 +42,7 @@ fn has_reply(body: &RequestBody<'_>) -> bool
 fn reply_to(request: &Request<'_>) -> Reply<'static>
     requires known { IsTrue (knows served (opcode_of (request_content request.now.body))) }
     requires replies { is_some (kind_of (opcode_of (request_content request.now.body))) ≡ true }
-    ensures unique { result.unique ≡ request.now.unique }
+    ensures reply { reply_message result ≡ reply_to (request_message request.now) }
     ensures goes { GoesWith served (opcode_of (request_content request.now.body)) (reply_message result) }
 {
     let unique = request.unique;

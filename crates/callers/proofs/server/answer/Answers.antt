@@ -12,7 +12,7 @@ returns-then-has_reply-clause-answered g c =
     on_ok_weaker c.write_reply.result
     (answered_by c.args.frame.now c.args.out.now.items c.write_reply.new.out.items
     (request_message c.in_ok-request.request) (reply_message c.reply_to-reply.result)
-    c.in_ok-request.ensures.ok c.reply_to-reply.ensures.unique c.reply_to-reply.ensures.goes)
+    c.in_ok-request.ensures.ok c.reply_to-reply.ensures.reply c.reply_to-reply.ensures.goes)
     c.write_reply.ensures.ok
 
 pub returns-else-has_reply-clause-answered : goal.returns-else-has_reply-clause-answered

@@ -4,8 +4,8 @@ use Rattle.fk_wire.specs.Requests.{opcode_of, request_content}
 use Rattle.callers.proofs.Answering.{kind_there}
 use Rattle.callers.proofs.server.reply_to.Goals as goal
 
-pub returns-in_default : goal.returns-in_default
-returns-in_default c =
+pub returns-in_default-clause-goes : goal.returns-in_default-clause-goes
+returns-in_default-clause-goes c =
     let opcode = opcode_of (request_content c.args.request.now.body) in
     let there = kind_there (knows served opcode) (kind_of opcode) c.requires.known c.requires.replies in
-    record { unique = refl; goes = (there.0, there.1, refl) }
+    (there.0, there.1, refl)
