@@ -48,7 +48,7 @@ fn is_hex(text: &[u8]) -> bool
 }
 
 /// Whether a text is that, or `-` for no bytes.
-pub(crate) fn is_hex_or_none(text: &[u8]) -> bool
+pub fn is_hex_or_none(text: &[u8]) -> bool
     ensures { IsTrue result ↔ IsHexOrNone text.now }
 {
     text == b"-".as_slice() || is_hex(text)
@@ -93,10 +93,11 @@ fn decode(bytes: &mut [u8], text: &[u8])
 }
 
 /// Reads the bytes of a text, which may be `-` for none, in place of those that stood there.
-pub(crate) fn read_hex_or_none<A: Allocator>(
-    bytes: &mut Vec<u8, A>,
-    text: &[u8],
-) -> Result<(), AllocError>
+///
+/// # Errors
+///
+/// Memory was wanting.
+pub fn read_hex_or_none<A: Allocator>(bytes: &mut Vec<u8, A>, text: &[u8]) -> Result<(), AllocError>
     requires { IsHexOrNone text.now }
     ensures { OnOk result (text.now ≡ hex_or_none bytes.new.items) }
 {
@@ -136,7 +137,11 @@ pub fn write_hex<W: Write>(out: &mut W, bytes: &[u8]) -> Result<(), OutputRefuse
 }
 
 /// Writes bytes as lower-case hex, `-` for none.
-pub(crate) fn write_hex_or_none<W: Write>(out: &mut W, bytes: &[u8]) -> Result<(), OutputRefused>
+///
+/// # Errors
+///
+/// The output refused.
+pub fn write_hex_or_none<W: Write>(out: &mut W, bytes: &[u8]) -> Result<(), OutputRefused>
     ensures { OnOk result (Appends (W.contents out.old) (W.contents out.new) (hex_or_none bytes.now)) }
 {
     if bytes.is_empty() {

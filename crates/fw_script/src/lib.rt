@@ -20,10 +20,13 @@ mod stop;
 mod word;
 
 pub use frame::run_frame;
-pub use hex_text::{HexFault, read_hex, write_hex};
+pub use hex_text::{
+    HexFault, is_hex_or_none, read_hex, read_hex_or_none, write_hex, write_hex_or_none,
+};
 pub use line::{Line, LineFault, read_line};
 pub use number::read_number;
 pub use output::OutputRefused;
+pub use print::{name_of_refusal, number_of_refusal, word_of_effect, word_of_kind};
 pub use records::write_record;
 pub use script::{Script, run_lists, run_over, run_script};
 pub use stop::{cannot_read, no_memory, socket_failed};

@@ -27,7 +27,7 @@ fn put_taken_word(text: &mut ShortText, taken: Taken)
 }
 
 /// What a signal did, in one word.
-fn word_of_effect(effect: IntrEffect) -> &'static str
+pub fn word_of_effect(effect: IntrEffect) -> &'static str
     ensures word { result.now ≡ effect_word effect }
     ensures short { length result.now ≤ 14 }
 {
@@ -54,7 +54,7 @@ fn put_result_number(text: &mut ShortText, written: WriteResult)
 }
 
 /// The kind of a file, in one word.
-pub(crate) fn word_of_kind(kind: Kind) -> &'static str
+pub fn word_of_kind(kind: Kind) -> &'static str
     ensures word { result.now ≡ kind_word kind }
     ensures short { length result.now ≤ 14 }
 {
@@ -66,14 +66,14 @@ pub(crate) fn word_of_kind(kind: Kind) -> &'static str
 }
 
 /// The number of a refusal.
-pub(crate) fn number_of_refusal(refusal: Refusal) -> u8
+pub fn number_of_refusal(refusal: Refusal) -> u8
     ensures { result ≡ refusal_number refusal }
 {
     refusal as u8
 }
 
 /// The name of a refusal.
-pub(crate) fn name_of_refusal(refusal: Refusal) -> &'static str
+pub fn name_of_refusal(refusal: Refusal) -> &'static str
     ensures word { result.now ≡ refusal_name refusal }
     ensures short { length result.now ≤ 14 }
 {
