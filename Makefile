@@ -5,7 +5,7 @@
 
 SCRIPT ?= tests/rows/stat-of-root.script
 
-.PHONY: run try test build mount vectors install uninstall bench wrong-bodies
+.PHONY: run try test build mount vectors lib install uninstall bench wrong-bodies
 
 run: build
 	@crates/fuseworld/out/fuseworld run "$(SCRIPT)"
@@ -29,22 +29,49 @@ mount: build
 vectors: build
 	@crates/fuseworld/out/fuseworld vectors > vectors.jsonl && echo "$$(wc -l < vectors.jsonl) vectors in vectors.jsonl"
 
-# The program, its man page and its completions, below PREFIX; DESTDIR goes in front of it.
 PREFIX ?= /usr/local
+
+# The codec as a library for C, proved and built: an archive, a shared object, and what pkg-config reads.
+CODEC = crates/fuseworld_codec/out
+CODEC_VERSION = 1.0.0
+SHARED = libfuseworld_codec.so
+
+lib:
+	@log=$$(mktemp); cd crates/fuseworld_codec && rt lib > "$$log" 2>&1 \
+		|| { cat "$$log" >&2; rm -f "$$log"; exit 1; }; rm -f "$$log"
+	@cc -shared -o $(CODEC)/$(SHARED).$(CODEC_VERSION) -Wl,-soname,$(SHARED).1 \
+		-Wl,--whole-archive $(CODEC)/libfuseworld_codec.a -Wl,--no-whole-archive
+	@ln -sf $(SHARED).$(CODEC_VERSION) $(CODEC)/$(SHARED).1
+	@ln -sf $(SHARED).1 $(CODEC)/$(SHARED)
+	@printf '%s\n' 'prefix=$(PREFIX)' 'libdir=$${prefix}/lib' 'includedir=$${prefix}/include' '' 'Name: fuseworld' \
+		'Description: Frames of FUSE 7.31 and 7.15, read and written, with proofs' 'Version: $(CODEC_VERSION)' \
+		'Libs: -L$${libdir} -lfuseworld_codec' 'Cflags: -I$${includedir}' > $(CODEC)/fuseworld.pc
+	@echo "$(CODEC)/libfuseworld_codec.a, $(SHARED) and fuseworld.pc"
+
+# The program, its man page and its completions, and the library with its header, below PREFIX; DESTDIR goes in front.
 INSTALL ?= install
 BIN = $(DESTDIR)$(PREFIX)/bin
 SHARE = $(DESTDIR)$(PREFIX)/share
+LIB = $(DESTDIR)$(PREFIX)/lib
 
-install: build
+install: build lib
 	$(INSTALL) -D -m 755 crates/fuseworld/out/fuseworld "$(BIN)/fuseworld"
 	$(INSTALL) -D -m 644 man/fuseworld.1 "$(SHARE)/man/man1/fuseworld.1"
 	$(INSTALL) -D -m 644 completions/fuseworld.bash "$(SHARE)/bash-completion/completions/fuseworld"
 	$(INSTALL) -D -m 644 completions/_fuseworld "$(SHARE)/zsh/site-functions/_fuseworld"
 	$(INSTALL) -D -m 644 completions/fuseworld.fish "$(SHARE)/fish/vendor_completions.d/fuseworld.fish"
+	$(INSTALL) -D -m 644 include/fuseworld.h "$(DESTDIR)$(PREFIX)/include/fuseworld.h"
+	$(INSTALL) -D -m 644 $(CODEC)/libfuseworld_codec.a "$(LIB)/libfuseworld_codec.a"
+	$(INSTALL) -D -m 755 $(CODEC)/$(SHARED).$(CODEC_VERSION) "$(LIB)/$(SHARED).$(CODEC_VERSION)"
+	ln -sf $(SHARED).$(CODEC_VERSION) "$(LIB)/$(SHARED).1"
+	ln -sf $(SHARED).1 "$(LIB)/$(SHARED)"
+	$(INSTALL) -D -m 644 $(CODEC)/fuseworld.pc "$(LIB)/pkgconfig/fuseworld.pc"
 
 uninstall:
 	rm -f "$(BIN)/fuseworld" "$(SHARE)/man/man1/fuseworld.1" "$(SHARE)/bash-completion/completions/fuseworld" \
-		"$(SHARE)/zsh/site-functions/_fuseworld" "$(SHARE)/fish/vendor_completions.d/fuseworld.fish"
+		"$(SHARE)/zsh/site-functions/_fuseworld" "$(SHARE)/fish/vendor_completions.d/fuseworld.fish" \
+		"$(DESTDIR)$(PREFIX)/include/fuseworld.h" "$(LIB)/libfuseworld_codec.a" "$(LIB)/$(SHARED)" "$(LIB)/$(SHARED).1" \
+		"$(LIB)/$(SHARED).$(CODEC_VERSION)" "$(LIB)/pkgconfig/fuseworld.pc"
 
 # What a line of a script costs, and how that grows with what the script lets grow.
 bench: build
@@ -60,6 +87,9 @@ test:
 	@log=$$(mktemp); RT_JOBS=$$(nproc) rt ci > "$$log" 2>&1; status=$$?; cat "$$log"; \
 		if [ $$status = 0 ]; then sh tests/run_rows.sh; status=$$?; fi; \
 		if [ $$status = 0 ]; then sh tests/run_frames.sh; status=$$?; fi; \
+		if [ $$status = 0 ]; then sh tests/run_sides.sh; status=$$?; fi; \
+		if [ $$status = 0 ]; then sh tests/run_draw.sh; status=$$?; fi; \
+		if [ $$status = 0 ]; then sh tests/codec_library.sh; status=$$?; fi; \
 		if [ $$status = 0 ]; then python3 tests/check_commands.py; status=$$?; fi; \
 		if [ $$status = 0 ]; then python3 tests/serve_frames.py; status=$$?; fi; \
 		if [ $$status = 0 ]; then sh tests/real_mount.sh; status=$$?; fi; \

@@ -1,0 +1,58 @@
+-- What the struct of a reply says. Data stand in it as a place in bytes of the caller's.
+use Rattle.std.specs.Prelude.{◌≡◌, ◌≤◌, ◌+◌, ℕ, List, length}
+use Rattle.std.specs.Int.RustNames.{bit_and}
+use Rattle.fk_wire.specs.Fields.{bytes_at}
+use Rattle.fk_wire.specs.Entries.{EntryContent, entry_of}
+use Rattle.fk_wire.specs.Dirents.{DirentContent}
+use Rattle.fk_wire.specs.Records.{AreRecords, AreRecordsPlus}
+use Rattle.fk_wire.specs.Requests.{known_flags}
+use Rattle.fk_wire.specs.Replies.{ReplyMessage, ReplyContent, empty_reply, entry_reply, attr_reply, open_reply}
+use Rattle.fk_wire.specs.Replies.{bytes_reply, write_reply, init_reply, create_reply, records_reply, plus_reply}
+use Rattle.fk_wire.specs.declared.entry.Attr.{Attr}
+use Rattle.fuseworld_codec.specs.declared.layout.FlatAttr.{FlatAttr}
+use Rattle.fuseworld_codec.specs.declared.layout.FlatDirent.{FlatDirent}
+use Rattle.fuseworld_codec.specs.declared.layout.FlatEntry.{FlatEntry}
+use Rattle.fuseworld_codec.specs.declared.layout.FlatReply.{FlatReply}
+
+-- the attributes that a struct says
+abbrev pub attr_said : FlatAttr → Attr
+attr_said a = record { ino = a.ino; size = a.size; mode = a.mode; nlink = a.nlink }
+
+-- the entry that a struct says, which with node id 0 is a missing name
+abbrev pub entry_said : FlatEntry → EntryContent
+entry_said e = entry_of e.nodeid e.generation e.entry_valid e.entry_valid_nsec (attr_said e.attr)
+
+-- the record that a struct says, whose name lies in these bytes
+abbrev pub dirent_said : FlatDirent → List ℕ → DirentContent
+dirent_said d bytes = record {
+  ino = d.ino;
+  off = d.off;
+  kind = d.kind;
+  name = bytes_at d.name_offset d.name_length bytes;
+}
+
+-- the bytes of a reply
+abbrev pub bytes_said : FlatReply → List ℕ → List ℕ
+bytes_said r bytes = bytes_at r.data_offset r.data_length bytes
+
+-- The struct replies this, by the fields that count for its opcode.
+abbrev pub Replies : FlatReply → List ℕ → ReplyContent → Type 0
+Replies r bytes empty_reply = Unit {0}
+Replies r bytes (entry_reply e) = entry_said r.entry ≡ e
+Replies r bytes (attr_reply a) = attr_said r.entry.attr ≡ a
+Replies r bytes (open_reply fh) = r.fh ≡ fh
+Replies r bytes (bytes_reply data') = bytes_said r bytes ≡ data'
+Replies r bytes (write_reply size) = r.size ≡ size
+Replies r bytes (init_reply major minor flags) = (r.major ≡ major) × (r.minor ≡ minor)
+    × (bit_and r.flags known_flags ≡ flags)
+Replies r bytes (create_reply e fh) = (entry_said r.entry ≡ e) × (r.fh ≡ fh)
+Replies r bytes (records_reply ds) = AreRecords 0 (bytes_said r bytes) ds
+Replies r bytes (plus_reply ps) = AreRecordsPlus 0 (bytes_said r bytes) ps
+
+-- The struct is this reply.
+abbrev pub SaysReply : FlatReply → List ℕ → ReplyMessage → Type 0
+SaysReply r bytes t = (r.unique ≡ t.unique) × (r.error ≡ t.error) × Replies r bytes t.content
+
+-- The data of the struct lie within the bytes.
+abbrev pub HasReplyPlace : FlatReply → List ℕ → Type 0
+HasReplyPlace r bytes = r.data_offset + r.data_length ≤ length bytes

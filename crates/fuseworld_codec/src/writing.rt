@@ -1,0 +1,97 @@
+//! Request frames that are written.
+
+ghost use Rattle.std.specs.Prelude.{◌≡◌, ◌≢◌, ◌≤◌, ◌<◌, ◌+◌, drop, length, take};
+ghost use Rattle.fk_wire.specs.Fields.{sizes};
+ghost use Rattle.fk_wire.specs.Faults.{RefusalIsAt};
+ghost use Rattle.fk_wire.specs.Opcodes.{code_of};
+ghost use Rattle.fk_wire.specs.Requests.{RequestMessage, WrittenAt, opcode_of, request_body, request_content};
+ghost use Rattle.fk_wire.specs.Requests.{request_message};
+ghost use Rattle.fk_wire.specs.declared.opcode.Minor.{Minor};
+ghost use Rattle.fuseworld_codec.specs.RequestStructs.{HasPlaces, SaysRequest};
+ghost use Rattle.fuseworld_codec.specs.Status.{AnswersFault, IsNoMinor, IsNoOpcode, minor_number};
+
+use crate::layout::FlatRequest;
+use crate::request_bytes::put_request;
+use crate::request_checks::frame_size;
+use crate::request_message::request_of;
+use crate::status::{DONE, MINOR, ROOM, minor_of};
+use fk_wire::{Minor, Request};
+
+/// Writes the frame of a request, of this opcode's number, at the beginning of a buffer.
+fn write_message(
+    version: Minor,
+    code: u32,
+    request: &Request<'_>,
+    buffer: &mut [u8],
+    wanted: &mut usize,
+) -> u32
+    requires { code ≡ code_of (opcode_of (request_content request.now.body)) }
+    ensures ok { result ≡ 0 → WrittenAt version (request_message request.now) (take wanted.new buffer.new)
+        × (drop wanted.new buffer.new ≡ drop wanted.new buffer.old) }
+    ensures wanted { result ≡ 0 → wanted.new ≡ 40 + sizes (request_body (request_content request.now.body)) }
+    ensures room { result ≡ 9 → (wanted.new ≡ 40 + sizes (request_body (request_content request.now.body)))
+        × (length buffer.old < wanted.new) }
+    ensures fault { result ≢ 0 → result ≢ 9 → AnswersFault result (RefusalIsAt version (request_message request.now)) }
+    ensures within { result ≡ 0 → wanted.new ≤ length buffer.old }
+    ensures none { result ≢ 0 → result ≢ 9 → wanted.new ≡ 0 }
+    ensures kept { result ≢ 0 → buffer.new ≡ buffer.old }
+{
+    let size = match frame_size(version, request) {
+        Ok(size) => size,
+        Err(fault) => {
+            *wanted = 0;
+            return fault.number() as u32;
+        }
+    };
+    *wanted = size;
+    if buffer.len() < size {
+        return ROOM;
+    }
+    put_request(&mut buffer[..size], version, code, request);
+    DONE
+}
+
+/// Writes the request that a struct says, at a minor version, at the beginning of `buffer`.
+///
+/// The frame has `wanted` bytes, and behind it the buffer stays as it was. The names and the data of the
+/// struct lie in `bytes`.
+///
+/// # Errors
+///
+/// 8 where the minor version is neither 15 nor 31; 10 where a name or the data lead beyond the bytes; the
+/// number of the first of `Opcode`, `Body` and `Name` that applies; 9 where the buffer has fewer bytes than
+/// `wanted`. Then the buffer stays as it was, and but for 9 `wanted` is 0.
+#[unsafe(no_mangle)]
+pub extern "C" fn fuseworld_write_request(
+    minor: u32,
+    request: &FlatRequest,
+    bytes: &[u8],
+    buffer: &mut [u8],
+    wanted: &mut usize,
+) -> u32
+    // What is written is the one spelling of the request that the struct says.
+    ensures ok { (v : Minor) → minor_number v ≡ minor → result ≡ 0 → (m : RequestMessage)
+        × SaysRequest request.now bytes.now m × WrittenAt v m (take wanted.new buffer.new)
+        × (drop wanted.new buffer.new ≡ drop wanted.new buffer.old) }
+    // Too small a buffer: so many bytes are wanted.
+    ensures room { result ≡ 9 → (m : RequestMessage) × SaysRequest request.now bytes.now m
+        × (wanted.new ≡ 40 + sizes (request_body m.content)) × (length buffer.old < wanted.new) }
+    // Else the answer is the first fault that applies, or there is no such request.
+    ensures fault { (v : Minor) → minor_number v ≡ minor → result ≢ 0 → result ≢ 9 → HasPlaces request.now bytes.now
+        → (m : RequestMessage) → SaysRequest request.now bytes.now m → AnswersFault result (RefusalIsAt v m) }
+    ensures place { result ≡ 10 → HasPlaces request.now bytes.now → ⊥ }
+    ensures unknown { (v : Minor) → minor_number v ≡ minor → IsNoOpcode request.now.opcode → result ≡ 3 }
+    ensures minor { IsNoMinor minor → result ≡ 8 }
+    ensures within { result ≡ 0 → wanted.new ≤ length buffer.old }
+    ensures none { result ≢ 0 → result ≢ 9 → wanted.new ≡ 0 }
+    ensures kept { result ≢ 0 → buffer.new ≡ buffer.old }
+{
+    *wanted = 0;
+    let Some(version) = minor_of(minor) else {
+        return MINOR;
+    };
+    match request_of(request, bytes) {
+        Ok(message) => write_message(version, request.opcode, &message, buffer, wanted),
+        Err(status) => status,
+    }
+}
