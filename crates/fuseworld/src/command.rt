@@ -1,9 +1,11 @@
 //! What the words of the command line ask for.
 
+use crate::draw::draw_command;
 use crate::frame_commands::{
     FrameTask, decode_command, frame_command, frame_task, reply_command, vectors_command,
 };
 use crate::serve::{ServeTask, serve_command, serve_task};
+use crate::sides::{SideTask, kernel_command, server_command, side_task};
 use crate::version::VERSION;
 use clap::error::ErrorKind;
 use clap::{Arg, ArgAction, Command, Error};
@@ -18,10 +20,14 @@ pub enum Task<'a> {
     Run { file: &'a str, hex: bool },
     /// The script in a file, over a Unix socket that is made at a path.
     Socket { file: &'a str, path: &'a str },
+    /// The picture of the run of the script in a file.
+    Draw { file: &'a str },
     /// A command on frames.
     OnFrame(FrameTask<'a>),
     /// The server before a kernel.
     Serve(ServeTask<'a>),
+    /// The kernel or the server, by itself.
+    Side(SideTask),
 }
 
 /// Whether memory was wanting, and the words may be good.
@@ -63,11 +69,14 @@ fn program<'a>(alloc: Global) -> Result<Command<'a>, AllocError> {
         .after_help("Without a command, the script is read from standard input.")
         .subcommand(run_command(alloc)?)?
         .subcommand(socket_command(alloc)?)?
+        .subcommand(draw_command(alloc)?)?
         .subcommand(frame_command(alloc)?)?
         .subcommand(reply_command(alloc)?)?
         .subcommand(decode_command(alloc)?)?
         .subcommand(vectors_command(alloc))?
-        .subcommand(serve_command(alloc)?)
+        .subcommand(serve_command(alloc)?)?
+        .subcommand(kernel_command(alloc)?)?
+        .subcommand(server_command(alloc)?)
 }
 
 /// What the words ask for: the program's name, and then a command or nothing.
@@ -86,8 +95,15 @@ pub fn read_task<'a>(alloc: Global, words: &'a [String]) -> Result<Task<'a>, Err
         let path = inner.get_str("SOCK").unwrap_or("");
         return Ok(Task::Socket { file, path });
     }
+    if name == "draw" {
+        let file = inner.get_str("FILE").unwrap_or("");
+        return Ok(Task::Draw { file });
+    }
     if name == "serve" {
         return Ok(Task::Serve(serve_task(inner)));
+    }
+    if let Some(task) = side_task(name, inner) {
+        return Ok(Task::Side(task));
     }
     Ok(frame_task(name, inner).map_or(Task::Input, Task::OnFrame))
 }

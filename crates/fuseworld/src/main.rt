@@ -3,15 +3,19 @@
 
 mod command;
 mod decode;
+mod draw;
 mod frame_commands;
 mod serve;
+mod sides;
 mod socket;
 mod version;
 
 use command::{Task, is_memory, read_task};
+use draw::run_draw;
 use frame_commands::run_frame_task;
 use fw_script::{Script, cannot_read, no_memory, run_script};
 use serve::run_serve;
+use sides::run_side;
 use socket::run_socket;
 use std::fs::File;
 use std::io;
@@ -56,8 +60,10 @@ fn run_words(rt: &HostRuntime, words: &[String]) -> u8 {
         Ok(Task::Input) => run_file(rt, None, false),
         Ok(Task::Run { file, hex }) => run_file(rt, Some(file), hex),
         Ok(Task::Socket { file, path }) => run_over_socket(rt, file, path),
+        Ok(Task::Draw { file }) => run_draw(rt, file),
         Ok(Task::OnFrame(task)) => run_frame_task(rt, task),
         Ok(Task::Serve(task)) => run_serve(rt, task),
+        Ok(Task::Side(task)) => run_side(rt, task),
         Err(error) if is_version(&error) => print_version(rt),
         Err(error) if is_memory(&error) => no_memory(&mut rt.stderr()),
         Err(error) => {

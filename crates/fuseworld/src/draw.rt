@@ -1,0 +1,36 @@
+//! The command `draw`: a run as a picture.
+
+use clap::{Arg, Command};
+use fw_draw::draw_script;
+use fw_script::{cannot_read, no_memory};
+use std::alloc::{AllocError, Global};
+use std::fs::File;
+use std::io;
+use std::io::{BufWriter, ErrorKind};
+
+/// The command `draw`.
+pub fn draw_command<'a>(alloc: Global) -> Result<Command<'a>, AllocError> {
+    let file = Arg::new(alloc, "FILE")
+        .required(true)
+        .help("The script: one event a line, or - for standard input");
+    Command::new(alloc, "draw")
+        .about("Run a script of events and print the run as a picture, in SVG")
+        .arg(file)
+}
+
+/// Draws the run of the script in a file, or on standard input, and gives the exit status.
+pub fn run_draw(rt: &HostRuntime, path: &str) -> u8 {
+    let alloc = rt.alloc();
+    let mut faults = rt.stderr();
+    let Ok(mut out) = BufWriter::new(alloc, io::writer(rt)) else {
+        return no_memory(&mut faults);
+    };
+    if path == "-" {
+        return draw_script(alloc, path, &mut rt.reader(), &mut out, &mut faults);
+    }
+    match File::open(rt, path) {
+        Ok(mut input) => draw_script(alloc, path, &mut input, &mut out, &mut faults),
+        Err(error) if error.kind() == ErrorKind::OutOfMemory => no_memory(&mut faults),
+        Err(_) => cannot_read(path, &mut faults),
+    }
+}

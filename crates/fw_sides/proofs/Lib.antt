@@ -1,0 +1,2 @@
+mod Collected
+mod Outputs

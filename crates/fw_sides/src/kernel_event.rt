@@ -1,0 +1,98 @@
+//! The kernel by itself, one event at a time.
+
+ghost use Rattle.std.specs.Prelude.{◌≡◌, IfErr, IfOk, OnErr};
+ghost use Rattle.fw_sides.specs.KernelSteps.{KernelDoes, KernelRefuses};
+
+use fk_kernel::{Call, Kernel, Pick};
+use fuse_frames::RequestFrame;
+use fuse_spec::{IntrEffect, Refusal, WriteResult};
+use std::alloc::{Allocator, Global};
+
+/// One event of a kernel whose server is another program. Paths, names and bytes are lent.
+#[derive(Clone, Copy, Debug)]
+pub enum KernelEvent<'a> {
+    /// The kernel mounts, and queues INIT.
+    Mount,
+    /// A system call begins.
+    Call(Call<'a>),
+    /// A request is read.
+    Read(Pick),
+    /// These bytes are written as a reply. They may be any.
+    Write(&'a [u8]),
+    /// An unanswered call is signalled, fatally or not.
+    Interrupt { call: u64, fatal: bool },
+    /// So many milliseconds pass.
+    Tick(u64),
+    /// The kernel forgets the name of a directory, which is a node.
+    DropName { directory: u64, name: &'a [u8] },
+    /// The kernel gives a node up, and its whole lookup count is to be forgotten.
+    Evict(u64),
+    /// The connection is aborted: every unanswered call is answered ECONNABORTED.
+    Abort,
+}
+
+/// What an accepted event of the kernel came to. Answers of calls are collected from the kernel itself.
+#[derive(Drop)]
+pub enum KernelStep<A: Allocator = Global> {
+    Mounted,
+    Begun { call: u64 },
+    /// The frame that was read, which goes to the server.
+    Read(RequestFrame<A>),
+    /// What the writer of a reply is told.
+    Written(WriteResult),
+    /// What the signal did to the call's request.
+    Interrupted { call: u64, effect: IntrEffect },
+    /// The time since the kernel began, in milliseconds.
+    Now { clock: u64 },
+    Dropped,
+    /// The lookup count that is to be forgotten.
+    Evicted { node: u64, count: u64 },
+    Aborted,
+}
+
+/// One event happens to the kernel.
+///
+/// # Errors
+///
+/// As the kernel's own calls refuse it: want of memory last. The kernel is then as before.
+pub fn step_kernel<A: Allocator + Copy>(
+    kernel: &mut Kernel<A>,
+    event: &KernelEvent<'_>,
+) -> Result<KernelStep<A>, Refusal>
+    ensures does { IfOk result (λ step. KernelDoes kernel.old event.now step kernel.new) }
+    ensures refused { IfErr result (KernelRefuses kernel.old event.now) }
+    ensures err { OnErr result (kernel.new ≡ kernel.old) }
+{
+    match *event {
+        KernelEvent::Mount => {
+            kernel.mount()?;
+            Ok(KernelStep::Mounted)
+        }
+        KernelEvent::Call(call) => {
+            let call = kernel.begin(&call)?;
+            Ok(KernelStep::Begun { call })
+        }
+        KernelEvent::Read(pick) => Ok(KernelStep::Read(kernel.read(pick)?)),
+        KernelEvent::Write(bytes) => Ok(KernelStep::Written(kernel.write(bytes)?)),
+        KernelEvent::Interrupt { call, fatal } => {
+            let effect = kernel.interrupt(call, fatal)?;
+            Ok(KernelStep::Interrupted { call, effect })
+        }
+        KernelEvent::Tick(ms) => {
+            let clock = kernel.tick(ms)?;
+            Ok(KernelStep::Now { clock })
+        }
+        KernelEvent::DropName { directory, name } => {
+            kernel.drop_binding(directory, name)?;
+            Ok(KernelStep::Dropped)
+        }
+        KernelEvent::Evict(node) => {
+            let count = kernel.evict(node)?;
+            Ok(KernelStep::Evicted { node, count })
+        }
+        KernelEvent::Abort => {
+            kernel.abort()?;
+            Ok(KernelStep::Aborted)
+        }
+    }
+}

@@ -1,0 +1,216 @@
+//! A kernel by itself, given one line after another.
+
+ghost use Rattle.std.specs.Prelude.{◌≡◌, ◌++◌, ℕ, List, OnOk, codes};
+ghost use Rattle.fw_script.specs.HexTexts.{IsHexOrNone};
+ghost use Rattle.fw_sides.specs.KernelLines.{SaysLine};
+ghost use Rattle.fuse_spec.specs.Kernel.Kernel.{Kernel as KernelState};
+ghost use Rattle.fuse_spec.specs.World.Worlds.{first_kernel};
+ghost use Rattle.fw_sides.specs.KernelRuns.{DoesLine, DoesLines, Happens};
+
+use crate::form::Form;
+use crate::input::{End, is_passed_over, next_line};
+use crate::kernel_event::{KernelEvent, step_kernel};
+use crate::kernel_line::{KernelLine, read_kernel_line};
+use crate::kernel_text::print_kernel_step;
+use crate::nodes_text::print_nodes;
+use crate::refusal_text::{print_line_fault, print_refusal};
+use fk_kernel::{Call, Kernel};
+use fuse_spec::Refusal;
+use fw_script::{OutputRefused, read_hex_or_none};
+use std::alloc::Allocator;
+use std::io::{BufRead, Write};
+
+/// One event happens, and what it came to is printed.
+fn run_event<A: Allocator + Copy, W: Write>(
+    kernel: &mut Kernel<A>,
+    event: &KernelEvent<'_>,
+    form: Form,
+    out: &mut W,
+) -> Result<(), OutputRefused>
+    ensures { OnOk result (Happens A kernel.old event.now kernel.new) }
+{
+    match step_kernel(kernel, event) {
+        Ok(step) => print_kernel_step(out, form, &step, kernel),
+        Err(refusal) => print_refusal(out, form, refusal),
+    }
+}
+
+/// Bytes that stand in hex are written as a reply.
+fn write_reply<A: Allocator + Copy, W: Write>(
+    kernel: &mut Kernel<A>,
+    bytes: &mut Vec<u8, A>,
+    hex: &[u8],
+    form: Form,
+    out: &mut W,
+) -> Result<(), OutputRefused>
+    requires { IsHexOrNone hex.now }
+    ensures { OnOk result (DoesLine A kernel.old (codes "write " ++ hex.now) kernel.new) }
+{
+    match read_hex_or_none(bytes, hex) {
+        Ok(()) => run_event(kernel, &KernelEvent::Write(bytes.as_slice()), form, out),
+        Err(_) => print_refusal(out, form, Refusal::NoMemory),
+    }
+}
+
+/// A call begins that puts bytes into an open file, which stand in hex.
+fn begin_write<A: Allocator + Copy, W: Write>(
+    kernel: &mut Kernel<A>,
+    bytes: &mut Vec<u8, A>,
+    place: (u64, u64),
+    hex: &[u8],
+    form: Form,
+    out: &mut W,
+) -> Result<(), OutputRefused>
+    requires { IsHexOrNone hex.now }
+    ensures { OnOk result ((text : List ℕ) → SaysLine text (KernelLine.CallWrite place.0 place.1 hex.entry)
+        → DoesLine A kernel.old text kernel.new) }
+{
+    let (handle, offset) = place;
+    match read_hex_or_none(bytes, hex) {
+        Ok(()) => {
+            let bytes = bytes.as_slice();
+            let call = Call::Write {
+                handle,
+                offset,
+                bytes,
+            };
+            run_event(kernel, &KernelEvent::Call(call), form, out)
+        }
+        Err(_) => print_refusal(out, form, Refusal::NoMemory),
+    }
+}
+
+/// Prints the nodes that the kernel counts.
+fn show<A: Allocator + Copy, W: Write>(
+    alloc: A,
+    kernel: &Kernel<A>,
+    form: Form,
+    out: &mut W,
+) -> Result<(), OutputRefused> {
+    match kernel.nodes(alloc) {
+        Ok(nodes) => print_nodes(out, form, "kernel", nodes.as_slice()),
+        Err(_) => print_refusal(out, form, Refusal::NoMemory),
+    }
+}
+
+/// Does what a line says, and prints what it came to. `bytes` is room for what stands in hex.
+fn run_line<A: Allocator + Copy, W: Write>(
+    alloc: A,
+    kernel: &mut Kernel<A>,
+    bytes: &mut Vec<u8, A>,
+    line: &[u8],
+    form: Form,
+    out: &mut W,
+) -> Result<(), OutputRefused>
+    ensures { OnOk result (DoesLine A kernel.old line.now kernel.new) }
+{
+    match read_kernel_line(line) {
+        Ok(KernelLine::Event(event)) => run_event(kernel, &event, form, out),
+        Ok(KernelLine::Write { hex }) => write_reply(kernel, bytes, hex, form, out),
+        Ok(
+            KernelLine::CallWrite {
+                handle,
+                offset,
+                hex,
+            },
+        ) => begin_write(kernel, bytes, (handle, offset), hex, form, out),
+        Ok(KernelLine::Show) => show(alloc, kernel, form, out),
+        Err(fault) => print_line_fault(out, form, fault),
+    }
+}
+
+/// Room that one line after another uses: the line, and the bytes that its hex spells.
+#[derive(Drop)]
+struct Room<A: Allocator> {
+    line: Vec<u8, A>,
+    bytes: Vec<u8, A>,
+}
+
+/// Does what a line says, if it says anything, and hands on what was printed.
+fn do_line<A: Allocator + Copy, W: Write>(
+    alloc: A,
+    kernel: &mut Kernel<A>,
+    room: &mut Room<A>,
+    form: Form,
+    out: &mut W,
+) -> Result<(), OutputRefused>
+    ensures { OnOk result (DoesLine A kernel.old room.old.line.items kernel.new) }
+{
+    if is_passed_over(room.line.as_slice()) {
+        return Ok(());
+    }
+    run_line(
+        alloc,
+        kernel,
+        &mut room.bytes,
+        room.line.as_slice(),
+        form,
+        out,
+    )?;
+    out.flush().map_err(|_| OutputRefused)
+}
+
+/// Reads the next line and does what it says. Says whether there was one.
+fn run_next<A: Allocator + Copy, R: BufRead, W: Write>(
+    alloc: A,
+    kernel: &mut Kernel<A>,
+    room: &mut Room<A>,
+    form: Form,
+    input: &mut R,
+    out: &mut W,
+) -> Result<bool, End>
+    ensures { OnOk result ((text : List ℕ) × DoesLine A kernel.old text kernel.new) }
+{
+    if !next_line(input, &mut room.line)? {
+        return Ok(false);
+    }
+    match do_line(alloc, kernel, room, form, out) {
+        Ok(()) => Ok(true),
+        Err(_) => Err(End::OutputRefused),
+    }
+}
+
+/// Does what the next lines say, until the input ends.
+fn run_lines<A: Allocator + Copy, R: BufRead, W: Write>(
+    alloc: A,
+    kernel: &mut Kernel<A>,
+    form: Form,
+    input: &mut R,
+    out: &mut W,
+) -> Result<(), End>
+    ensures { OnOk result ((lines : List (List ℕ)) × DoesLines A kernel.old lines kernel.new) }
+{
+    let mut room = Room {
+        line: Vec::new(alloc),
+        bytes: Vec::new(alloc),
+    };
+    for _line in 0..u64::MAX {
+        match run_next(alloc, kernel, &mut room, form, input, out) {
+            Ok(true) => {}
+            Ok(false) => return Ok(()),
+            Err(end) => return Err(end),
+        }
+    }
+    Ok(())
+}
+
+/// Runs a kernel whose server is another program: each line of the input is one call on it, and what that came to is
+/// printed before the next line is read. A line that is refused, or that says nothing, changes nothing.
+///
+/// # Errors
+///
+/// Where the input cannot be read, where a line has no room in memory, or where the output refuses.
+pub fn run_kernel<A: Allocator + Copy, R: BufRead, W: Write>(
+    alloc: A,
+    form: Form,
+    input: &mut R,
+    out: &mut W,
+) -> Result<(), End>
+    ensures { OnOk result ((lines : List (List ℕ)) × (last : KernelState) × DoesLines A first_kernel lines last) }
+{
+    let mut kernel = Kernel::new(alloc);
+    let ended = run_lines(alloc, &mut kernel, form, input, out);
+    // By a call, since at the end of a scope the whole drop is proved as part of this function.
+    drop(kernel);
+    ended
+}

@@ -1,0 +1,134 @@
+//! The server by itself, one event at a time.
+
+ghost use Rattle.std.specs.Prelude.{◌≡◌, IfErr, IfOk, OnErr};
+ghost use Rattle.fw_sides.specs.ServerSteps.{ServerDoes, ServerRefuses};
+
+use fs_server::{Done, Server, ServerFault, Taken};
+use fuse_frames::Sent;
+use fuse_spec::limits::MAX_VALIDITY;
+use fuse_spec::{Minor, Refusal, WriteResult};
+use std::alloc::{Allocator, Global};
+
+/// One event of a server whose kernel is another program. Bytes are lent.
+#[derive(Clone, Copy, Debug)]
+pub enum ServerEvent<'a> {
+    /// A kernel mounts the server, which speaks this minor, with these validities of found and of missing names, in
+    /// milliseconds.
+    Mount {
+        found_ms: u64,
+        missing_ms: u64,
+        minor: Minor,
+    },
+    /// These bytes are taken as a request. They may be any.
+    Take(&'a [u8]),
+    /// The request that is held under a unique is performed.
+    Do(u64),
+    /// One more copy of the reply that is kept under a unique is sent.
+    Again(u64),
+    /// The server is told what the writer of a copy was told.
+    Settle {
+        copy: u64,
+        result: WriteResult,
+    },
+    /// The connection is aborted.
+    Abort,
+}
+
+/// What an accepted event of the server came to.
+#[derive(Drop)]
+pub enum ServerStep<A: Allocator = Global> {
+    Mounted,
+    Taken(Taken<A>),
+    Done { unique: u64, done: Done<A> },
+    SentAgain(Sent<A>),
+    Settled { copy: u64, result: WriteResult },
+    Aborted,
+}
+
+/// Why an event of the server is refused. The server is then as before.
+#[derive(Clone, Copy, Debug, PartialEq, Eq)]
+pub enum ServerRefused {
+    Event(Refusal),
+    /// The bytes that were to be taken are at fault. The reply says so to the kernel, where the fault has one.
+    Frame {
+        fault: ServerFault,
+        reply: Option<[u8; 16]>,
+    },
+}
+
+/// A kernel mounts the server, where its validities are at most a day each.
+fn mount<A: Allocator + Copy>(
+    server: &mut Server<A>,
+    found_ms: u64,
+    missing_ms: u64,
+    minor: Minor,
+) -> Result<ServerStep<A>, ServerRefused>
+    ensures does { IfOk result (λ step.
+        ServerDoes server.old (ServerEvent.Mount found_ms missing_ms minor) step server.new) }
+    ensures refused { IfErr result (ServerRefuses server.old (ServerEvent.Mount found_ms missing_ms minor)) }
+    ensures err { OnErr result (server.new ≡ server.old) }
+{
+    if found_ms > MAX_VALIDITY || missing_ms > MAX_VALIDITY {
+        return Err(ServerRefused::Event(Refusal::BadTime));
+    }
+    server.remount(found_ms, missing_ms, minor);
+    Ok(ServerStep::Mounted)
+}
+
+/// Bytes are taken as a request.
+fn take<A: Allocator + Copy>(
+    server: &mut Server<A>,
+    bytes: &[u8],
+) -> Result<ServerStep<A>, ServerRefused>
+    ensures does { IfOk result (λ step. ServerDoes server.old (ServerEvent.Take bytes.entry) step server.new) }
+    ensures refused { IfErr result (ServerRefuses server.old (ServerEvent.Take bytes.entry)) }
+    ensures err { OnErr result (server.new ≡ server.old) }
+{
+    match server.take(bytes) {
+        Ok(taken) => Ok(ServerStep::Taken(taken)),
+        Err(fault) => Err(ServerRefused::Frame {
+            fault,
+            reply: server.fault_reply(bytes, fault),
+        }),
+    }
+}
+
+/// One event happens to the server.
+///
+/// # Errors
+///
+/// `BadTime` for a mount with a validity of more than a day, and else as the server's own calls refuse it: want of
+/// memory last. The server is then as before.
+pub fn step_server<A: Allocator + Copy>(
+    server: &mut Server<A>,
+    event: &ServerEvent<'_>,
+) -> Result<ServerStep<A>, ServerRefused>
+    ensures does { IfOk result (λ step. ServerDoes server.old event.now step server.new) }
+    ensures refused { IfErr result (ServerRefuses server.old event.now) }
+    ensures err { OnErr result (server.new ≡ server.old) }
+{
+    match *event {
+        ServerEvent::Mount {
+            found_ms,
+            missing_ms,
+            minor,
+        } => mount(server, found_ms, missing_ms, minor),
+        ServerEvent::Take(bytes) => take(server, bytes),
+        ServerEvent::Do(unique) => match server.perform(unique) {
+            Ok(done) => Ok(ServerStep::Done { unique, done }),
+            Err(refusal) => Err(ServerRefused::Event(refusal)),
+        },
+        ServerEvent::Again(unique) => match server.again(unique) {
+            Ok(sent) => Ok(ServerStep::SentAgain(sent)),
+            Err(refusal) => Err(ServerRefused::Event(refusal)),
+        },
+        ServerEvent::Settle { copy, result } => match server.settle(copy, result) {
+            Ok(()) => Ok(ServerStep::Settled { copy, result }),
+            Err(refusal) => Err(ServerRefused::Event(refusal)),
+        },
+        ServerEvent::Abort => {
+            server.connection_lost();
+            Ok(ServerStep::Aborted)
+        }
+    }
+}

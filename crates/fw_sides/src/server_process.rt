@@ -1,0 +1,185 @@
+//! A server by itself, given one line after another.
+
+ghost use Rattle.std.specs.Prelude.{◌≡◌, ◌++◌, ℕ, List, OnOk, codes};
+ghost use Rattle.fw_script.specs.HexTexts.{IsHexOrNone};
+ghost use Rattle.fuse_spec.specs.Server.Server.{Server as ServerState};
+ghost use Rattle.fuse_spec.specs.World.Worlds.{first_server};
+ghost use Rattle.fw_sides.specs.ServerRuns.{DoesLine, DoesLines, Happens};
+
+use crate::form::Form;
+use crate::input::{End, is_passed_over, next_line};
+use crate::nodes_text::print_nodes;
+use crate::refusal_text::{print_line_fault, print_refusal};
+use crate::server_event::{ServerEvent, step_server};
+use crate::server_line::{ServerLine, read_server_line};
+use crate::server_text::{print_server_refused, print_server_step};
+use fs_server::Server;
+use fuse_spec::Refusal;
+use fw_script::{OutputRefused, read_hex_or_none};
+use std::alloc::Allocator;
+use std::io::{BufRead, Write};
+
+/// One event happens, and what it came to is printed.
+fn run_event<A: Allocator + Copy, W: Write>(
+    server: &mut Server<A>,
+    event: &ServerEvent<'_>,
+    form: Form,
+    out: &mut W,
+) -> Result<(), OutputRefused>
+    ensures { OnOk result (Happens A server.old event.now server.new) }
+{
+    match step_server(server, event) {
+        Ok(step) => print_server_step(out, form, &step),
+        Err(refused) => print_server_refused(out, form, refused),
+    }
+}
+
+/// Bytes that stand in hex are taken as a request.
+fn take<A: Allocator + Copy, W: Write>(
+    server: &mut Server<A>,
+    bytes: &mut Vec<u8, A>,
+    hex: &[u8],
+    form: Form,
+    out: &mut W,
+) -> Result<(), OutputRefused>
+    requires { IsHexOrNone hex.now }
+    ensures { OnOk result (DoesLine A server.old (codes "take " ++ hex.now) server.new) }
+{
+    match read_hex_or_none(bytes, hex) {
+        Ok(()) => run_event(server, &ServerEvent::Take(bytes.as_slice()), form, out),
+        Err(_) => print_refusal(out, form, Refusal::NoMemory),
+    }
+}
+
+/// Prints the nodes that the server holds.
+fn show<A: Allocator + Copy, W: Write>(
+    alloc: A,
+    server: &Server<A>,
+    form: Form,
+    out: &mut W,
+) -> Result<(), OutputRefused> {
+    match server.nodes(alloc) {
+        Ok(nodes) => print_nodes(out, form, "server", nodes.as_slice()),
+        Err(_) => print_refusal(out, form, Refusal::NoMemory),
+    }
+}
+
+/// Does what a line says, and prints what it came to. `bytes` is room for what stands in hex.
+fn run_line<A: Allocator + Copy, W: Write>(
+    alloc: A,
+    server: &mut Server<A>,
+    bytes: &mut Vec<u8, A>,
+    line: &[u8],
+    form: Form,
+    out: &mut W,
+) -> Result<(), OutputRefused>
+    ensures { OnOk result (DoesLine A server.old line.now server.new) }
+{
+    match read_server_line(line) {
+        Ok(ServerLine::Event(event)) => run_event(server, &event, form, out),
+        Ok(ServerLine::Take { hex }) => take(server, bytes, hex, form, out),
+        Ok(ServerLine::Show) => show(alloc, server, form, out),
+        Err(fault) => print_line_fault(out, form, fault),
+    }
+}
+
+/// Room that one line after another uses: the line, and the bytes that its hex spells.
+#[derive(Drop)]
+struct Room<A: Allocator> {
+    line: Vec<u8, A>,
+    bytes: Vec<u8, A>,
+}
+
+/// Does what a line says, if it says anything, and hands on what was printed.
+fn do_line<A: Allocator + Copy, W: Write>(
+    alloc: A,
+    server: &mut Server<A>,
+    room: &mut Room<A>,
+    form: Form,
+    out: &mut W,
+) -> Result<(), OutputRefused>
+    ensures { OnOk result (DoesLine A server.old room.old.line.items server.new) }
+{
+    if is_passed_over(room.line.as_slice()) {
+        return Ok(());
+    }
+    run_line(
+        alloc,
+        server,
+        &mut room.bytes,
+        room.line.as_slice(),
+        form,
+        out,
+    )?;
+    out.flush().map_err(|_| OutputRefused)
+}
+
+/// Reads the next line and does what it says. Says whether there was one.
+fn run_next<A: Allocator + Copy, R: BufRead, W: Write>(
+    alloc: A,
+    server: &mut Server<A>,
+    room: &mut Room<A>,
+    form: Form,
+    input: &mut R,
+    out: &mut W,
+) -> Result<bool, End>
+    ensures { OnOk result ((text : List ℕ) × DoesLine A server.old text server.new) }
+{
+    if !next_line(input, &mut room.line)? {
+        return Ok(false);
+    }
+    match do_line(alloc, server, room, form, out) {
+        Ok(()) => Ok(true),
+        Err(_) => Err(End::OutputRefused),
+    }
+}
+
+/// Does what the next lines say, until the input ends.
+fn run_lines<A: Allocator + Copy, R: BufRead, W: Write>(
+    alloc: A,
+    server: &mut Server<A>,
+    form: Form,
+    input: &mut R,
+    out: &mut W,
+) -> Result<(), End>
+    ensures { OnOk result ((lines : List (List ℕ)) × DoesLines A server.old lines server.new) }
+{
+    let mut room = Room {
+        line: Vec::new(alloc),
+        bytes: Vec::new(alloc),
+    };
+    for _line in 0..u64::MAX {
+        match run_next(alloc, server, &mut room, form, input, out) {
+            Ok(true) => {}
+            Ok(false) => return Ok(()),
+            Err(end) => return Err(end),
+        }
+    }
+    Ok(())
+}
+
+/// Lets a server go.
+fn let_go<A: Allocator + Copy>(_server: Server<A>) {}
+
+/// Runs a server whose kernel is another program: each line of the input is one call on it, and what that came to is
+/// printed before the next line is read. A line that is refused, or that says nothing, changes nothing.
+///
+/// # Errors
+///
+/// Where memory is wanting for the server, where the input cannot be read, where a line has no room in memory, or where
+/// the output refuses.
+pub fn run_server<A: Allocator + Copy, R: BufRead, W: Write>(
+    alloc: A,
+    form: Form,
+    input: &mut R,
+    out: &mut W,
+) -> Result<(), End>
+    ensures { OnOk result ((lines : List (List ℕ)) × (last : ServerState) × DoesLines A first_server lines last) }
+{
+    let Ok(mut server) = Server::new(alloc) else {
+        return Err(End::NoMemory);
+    };
+    let ended = run_lines(alloc, &mut server, form, input, out);
+    let_go(server);
+    ended
+}
