@@ -1,6 +1,6 @@
 # Completion of fuseworld's command line for bash.
 _fuseworld() {
-    local word=${COMP_WORDS[COMP_CWORD]} commands="run socket frame reply decode vectors serve help" flags="" words="" files=no
+    local word=${COMP_WORDS[COMP_CWORD]} commands="run socket draw frame reply decode vectors serve kernel server help" flags="" words="" files=no
     COMPREPLY=()
     if [ "$COMP_CWORD" -le 1 ]; then
         flags="--help --version"
@@ -9,6 +9,7 @@ _fuseworld() {
         case ${COMP_WORDS[1]} in
             run) flags="--hex --help"; files=yes ;;
             socket) flags="--help"; files=yes ;;
+            draw) flags="--help"; files=yes ;;
             frame) flags="--words --help" ;;
             reply)
                 flags="--help"
@@ -17,6 +18,7 @@ _fuseworld() {
             decode) flags="--help"; files=yes ;;
             vectors) flags="--help" ;;
             serve) flags="--found --missing --minor --show --trace --help"; files=yes ;;
+            kernel | server) flags="--json --help" ;;
             help) words=$commands ;;
         esac
     fi

@@ -1,5 +1,5 @@
 # Completion of fuseworld's command line for fish.
-complete -c fuseworld -n 'not __fish_seen_subcommand_from run socket decode serve' -f
+complete -c fuseworld -n 'not __fish_seen_subcommand_from run socket draw decode serve' -f
 complete -c fuseworld -n __fish_use_subcommand -s h -l help -d 'Print help'
 complete -c fuseworld -n __fish_use_subcommand -s V -l version -d 'Print the version'
 
@@ -9,6 +9,9 @@ complete -c fuseworld -n '__fish_seen_subcommand_from run' -l help -d 'Print hel
 
 complete -c fuseworld -n __fish_use_subcommand -a socket -d 'Run a script over a Unix socket'
 complete -c fuseworld -n '__fish_seen_subcommand_from socket' -l help -d 'Print help'
+
+complete -c fuseworld -n __fish_use_subcommand -a draw -d 'Draw a run of a script as an SVG picture'
+complete -c fuseworld -n '__fish_seen_subcommand_from draw' -l help -d 'Print help'
 
 complete -c fuseworld -n __fish_use_subcommand -a frame -d 'Read one request frame'
 complete -c fuseworld -n '__fish_seen_subcommand_from frame' -l words -d 'Print the fields as well'
@@ -32,5 +35,13 @@ complete -c fuseworld -n '__fish_seen_subcommand_from serve' -l show -d 'Print t
 complete -c fuseworld -n '__fish_seen_subcommand_from serve' -l trace -d 'Print each frame in words'
 complete -c fuseworld -n '__fish_seen_subcommand_from serve' -l help -d 'Print help'
 
+complete -c fuseworld -n __fish_use_subcommand -a kernel -d 'Be the kernel alone, a line at a time'
+complete -c fuseworld -n '__fish_seen_subcommand_from kernel' -l json -d 'Print one JSON object for each line'
+complete -c fuseworld -n '__fish_seen_subcommand_from kernel' -l help -d 'Print help'
+
+complete -c fuseworld -n __fish_use_subcommand -a server -d 'Be the server alone, a line at a time'
+complete -c fuseworld -n '__fish_seen_subcommand_from server' -l json -d 'Print one JSON object for each line'
+complete -c fuseworld -n '__fish_seen_subcommand_from server' -l help -d 'Print help'
+
 complete -c fuseworld -n __fish_use_subcommand -a help -d 'Print the help of the program or of a command'
-complete -c fuseworld -n '__fish_seen_subcommand_from help' -a 'run socket frame reply decode vectors serve'
+complete -c fuseworld -n '__fish_seen_subcommand_from help' -a 'run socket draw frame reply decode vectors serve kernel server'

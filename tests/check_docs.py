@@ -42,7 +42,7 @@ def is_item(code, name):
 
 def leads(token, page):
     """Whether a name on a page leads somewhere; None where it is none of those that are looked up."""
-    if re.fullmatch(r"(crates|tests|docs)/[\w./-]+", token):
+    if re.fullmatch(r"(crates|tests|docs|examples|include|man|completions)/[\w./-]+", token):
         return "/out/" in token or (TOP / token).exists()
     if re.fullmatch(r"(\w+/)*\w+\.(rt|antt|md|py|sh)", token):
         return any(file.endswith(f"/{token}") for file in FILES)
