@@ -15,15 +15,15 @@ use Rattle.std.specs.Cmp.{ranked, nat_cmp_is}
 use Rattle.fuse_spec.specs.Values.Maps.{get, put as with_value, remove}
 use Rattle.fuse_tables.specs.TableState.{place_of, IsRowOf}
 
-both_first : (a b : Bool) → T (a && b) → T a
+pub both_first : (a b : Bool) → T (a && b) → T a
 both_first true b h = tt
 both_first false b h = absurd h
 
-both_second : (a b : Bool) → T (a && b) → T b
+pub both_second : (a b : Bool) → T (a && b) → T b
 both_second true b h = h
 both_second false b h = absurd h
 
-less_lower : (x y : ℕ) → T (is_lt (nat_cmp x y)) → x < y
+pub less_lower : (x y : ℕ) → T (is_lt (nat_cmp x y)) → x < y
 less_lower x y h = ltb-true x y (by (nat_lt x y) (x == y) h)
   where
     by : (lower same : Bool) → T (is_lt (cond lower Less (cond same Equal Greater))) → lower ≡ true
@@ -38,10 +38,10 @@ ge_not_less x y h = by (nat_lt x y) refl
     by true e = let low = ltb-true x y e in absurd (omega arith)
     by false e = e
 
-apart : (x y : ℕ) → x ≢ y → (x == y) ≡ false
+pub apart : (x y : ℕ) → x ≢ y → (x == y) ≡ false
 apart x y ne = elim (eqb_tells x y) [ inl h ↦ absurd (ne h.1) | inr h ↦ h.0 ]
 
-tied : (x y : ℕ) → x ≡ y → (x == y) ≡ true
+pub tied : (x y : ℕ) → x ≡ y → (x == y) ≡ true
 tied x y e = elim (eqb_tells x y) [ inl h ↦ h.0 | inr h ↦ absurd (h.1 e) ]
 
 abbrev is_found : {A : Type 0} → Option A → Type 0
@@ -137,7 +137,7 @@ module _ {V : Type 0} where
   found key None = None
   found key (Some e) = cond (e.0 == key) (Some e.1) None
 
-  none_below : (key : ℕ) (es : List (ℕ × V)) (low : ℕ) → key ≤ low → T (below_all nat_cmp low es) → get es key ≡ None
+  pub none_below : (key : ℕ) (es : List (ℕ × V)) (low : ℕ) → key ≤ low → T (below_all nat_cmp low es) → get es key ≡ None
   none_below key [] low le h = refl
   none_below key (e ∷ es) low le h =
       let lower = less_lower low e.0 (both_first _ _ h) in
@@ -165,7 +165,7 @@ module _ {V : Type 0} where
 
   -- ---- removing
 
-  kept_above : (key : ℕ) (es : List (ℕ × V)) (low : ℕ) → key ≤ low → T (below_all nat_cmp low es) → remove es key ≡ es
+  pub kept_above : (key : ℕ) (es : List (ℕ × V)) (low : ℕ) → key ≤ low → T (below_all nat_cmp low es) → remove es key ≡ es
   kept_above key [] low le h = refl
   kept_above key (e ∷ es) low le h =
       let lower = less_lower low e.0 (both_first _ _ h) in
@@ -279,3 +279,15 @@ module _ {V : Type 0} where
       let there = subst (λ es. IsRowOf es key place) same r in
       sym (value_there rows key place h there ∙ ap (λ (x : ℕ × V). Some x.1)
       (sym (is ∙ get_or_from_slice_get rows place there.row row there.there)))
+
+  row_is : (rows : List (ℕ × V)) (key place : ℕ) (row : ℕ × V) → (r : IsRowOf rows key place)
+      → row ≡ slice_index_or rows place row → row ≡ r.row
+  row_is rows key place row r is = is ∙ get_or_from_slice_get rows place r.row row r.there
+
+  -- another value in the row of a key
+  pub replaced_there : (rows : List (ℕ × V)) (key place : ℕ) (row : ℕ × V) (v w : V) → IsRowOf rows key place
+      → row ≡ slice_index_or rows place row → v ≡ w → slice_set rows place (row.0, v) ≡ with_value rows key w
+  replaced_there rows key place row v w r is same =
+      let at : row.0 ≡ key = ap (λ (x : ℕ × V). x.0) (row_is rows key place row r is) ∙ r.same in
+      ap (λ (k : ℕ). slice_set rows place (k, v)) at ∙ ap (λ (x : V). slice_set rows place (key, x)) same
+      ∙ written_there rows key place w r

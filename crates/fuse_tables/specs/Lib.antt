@@ -1,1 +1,2 @@
+pub mod LiveRows
 pub mod TableState

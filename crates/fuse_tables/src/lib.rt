@@ -3,6 +3,7 @@
 #![tactic(auto)]
 
 mod list;
+mod live_rows;
 mod queue;
 mod rising;
 mod table;

@@ -1,87 +1,49 @@
 //! A table from numbers to values, of which the oldest and the newest come and go.
 
-ghost use Rattle.std.specs.Prelude.{◌≡◌, ◌+◌, ◌<◌, ◌≤◌, ◌^◌, [], MatchOption, None, OnErr, OnOk, T};
+ghost use Rattle.std.specs.Prelude.{◌≡◌, ◌+◌, ◌<◌, ◌≤◌, ◌*◌, ◌^◌, [], MatchOption, None, OnErr, OnOk, T};
 ghost use Rattle.std.specs.Prelude.{if◌then◌else◌, is_some, length};
 ghost use Rattle.std.specs.Option.{option_copied};
 ghost use Rattle.std.specs.Ordering.{nat_cmp};
 ghost use Rattle.std.specs.FinMap.{is_sorted};
-ghost use Rattle.std.specs.List.{insert as inserted};
-ghost use Rattle.std.specs.VecDeque.{deque_len, deque_capacity};
 ghost use Rattle.fuse_spec.specs.Values.Maps.{get as value_at, put as with_value, remove as without_key};
-ghost use Rattle.fuse_tables.specs.TableState.{place_of, IsRowOf};
 
-use crate::queue::take_at;
+use crate::live_rows::{Rows, free_row, put_row, take_row, value_in};
 use std::alloc::{AllocError, Allocator, Global};
 use std::collections::VecDeque;
 use std::marker::Model;
 
-/// A map from numbers to values, for numbers that mostly rise: the lowest and the highest keys come and go without the
-/// others moving. Seen as its entries in rising key and its room: how many more it takes with no memory.
+/// A map from numbers to values, for numbers that mostly rise: a value is put last or taken out without another moving.
+/// Seen as its entries in rising key and its room: how many more it takes with no memory.
+///
+/// A value that is taken out between others leaves an empty row, and the empty rows go all at once where no row is left
+/// to fill. Room is half of what fits in all, so each such pass frees at least as many rows as it keeps.
 #[derive(Drop)]
 pub struct RisingTable<V, A: Allocator = Global> {
-    rows: VecDeque<(u64, V), A>,
+    rows: Rows<V, A>,
+    count: usize,
 }
 
 impl<V, A: Allocator> Model for RisingTable<V, A> {
-    ghost use Rattle.std.specs.Prelude.{T, ◌-◌};
-    ghost use Rattle.std.specs.VecDeque.{deque_len, deque_capacity};
-    ghost use Rattle.std.specs.Ordering.{nat_cmp};
-    ghost use Rattle.std.specs.FinMap.{is_sorted};
+    ghost use Rattle.std.specs.Prelude.{◌-◌, ◌/◌};
+    ghost use Rattle.std.specs.VecDeque.{deque_capacity};
+    ghost use Rattle.fuse_tables.specs.LiveRows.{live, IsKept};
     ghost use Rattle.fuse_tables.specs.TableState.{TableState, table_code};
 
     ghost Value = { TableState V };
 
     ghost coded = { table_code V.code };
 
-    ghost view = { λ t. record { entries = t.rows.items; room = deque_capacity t.rows - deque_len t.rows } };
+    ghost view = { λ t. record { entries = live t.rows.items; room = deque_capacity t.rows / 2 - t.count } };
 
-    ghost invariant = { λ t. T (is_sorted nat_cmp t.rows.items) };
+    ghost invariant = { λ t. IsKept t.rows.items t.count (deque_capacity t.rows) };
 }
 
-/// How many of the rows, from the first on, have a lower key.
-fn place_in<V, A: Allocator>(rows: &VecDeque<(u64, V), A>, key: u64) -> usize
-    requires { T (is_sorted nat_cmp rows.now.items) }
-    ensures place { result ≡ place_of key rows.now.items }
-    ensures bound { result ≤ deque_len rows.now }
+/// Twice the sum, if there is such a number.
+fn twice_with(count: usize, more: usize) -> Option<usize>
+    ensures { MatchOption result (2 ^ 64 ≤ 2 * (count + more)) (λ rows. rows ≡ 2 * (count + more)) }
 {
-    rows.partition_point(|row| row.0 < key)
-}
-
-/// Where the row of a key stands. Most keys that are looked up stand last.
-#[inline(always)]
-fn find_in<V, A: Allocator>(rows: &VecDeque<(u64, V), A>, key: u64) -> Option<usize>
-    requires { T (is_sorted nat_cmp rows.now.items) }
-    ensures { MatchOption result (value_at rows.now.items key ≡ None) (IsRowOf rows.now.items key) }
-{
-    let len = rows.len();
-    if len == 0 {
-        return None;
-    }
-    if rows[len - 1].0 == key {
-        return Some(len - 1);
-    }
-    let place = place_in(rows, key);
-    if place == len {
-        return None;
-    }
-    let row = &rows[place];
-    if row.0 == key { Some(place) } else { None }
-}
-
-/// Puts a row at a place, for which there is room. Most keys rise, so most rows come last.
-#[inline(always)]
-fn put_at<V: Drop, A: Allocator>(rows: &mut VecDeque<(u64, V), A>, place: usize, row: (u64, V))
-    requires place { place ≤ deque_len rows.old }
-    requires room { deque_len rows.old < deque_capacity rows.old }
-    ensures items { rows.new.items ≡ inserted rows.old.items place row }
-    ensures len { deque_len rows.new ≡ deque_len rows.old + 1 }
-    ensures capacity { deque_capacity rows.old ≤ deque_capacity rows.new }
-{
-    if place == rows.len() {
-        return rows.push_back_reserved(row);
-    }
-    let put: Result<(), _> = rows.insert(place, row);
-    put.unwrap();
+    let all = count.checked_add(more)?;
+    all.checked_mul(2)
 }
 
 impl<V: Drop, A: Allocator + Copy> RisingTable<V, A> {
@@ -90,6 +52,7 @@ impl<V: Drop, A: Allocator + Copy> RisingTable<V, A> {
     {
         RisingTable {
             rows: VecDeque::new(alloc),
+            count: 0,
         }
     }
 
@@ -97,7 +60,7 @@ impl<V: Drop, A: Allocator + Copy> RisingTable<V, A> {
     pub fn len(&self) -> usize
         ensures { result ≡ length self.now.entries }
     {
-        self.rows.len()
+        self.count
     }
 
     /// The value at a key.
@@ -105,8 +68,7 @@ impl<V: Drop, A: Allocator + Copy> RisingTable<V, A> {
     pub fn get(&self, key: u64) -> Option<&V>
         ensures { option_copied result ≡ value_at self.now.entries key }
     {
-        let place = find_in(&self.rows, key)?;
-        Some(&self.rows[place].1)
+        value_in(&self.rows, key)
     }
 
     /// Memory holds fewer than 2^63 entries. A call without effect, made where a proof rests on that.
@@ -127,7 +89,10 @@ impl<V: Drop, A: Allocator + Copy> RisingTable<V, A> {
         ensures kept { self.old.room ≤ self.new.room }
         ensures refused { OnErr result (self.old.room < more) }
     {
-        self.rows.reserve(more)
+        let Some(rows) = twice_with(self.count, more) else {
+            return Err(AllocError);
+        };
+        self.rows.reserve(rows.saturating_sub(self.rows.len()))
     }
 
     /// Puts a value at a key that has none, into room that was made.
@@ -138,8 +103,9 @@ impl<V: Drop, A: Allocator + Copy> RisingTable<V, A> {
         ensures entries { self.new.entries ≡ with_value self.old.entries key value }
         ensures room { self.old.room ≤ self.new.room + 1 }
     {
-        let place = place_in(&self.rows, key);
-        put_at(&mut self.rows, place, (key, value));
+        free_row(&mut self.rows);
+        put_row(&mut self.rows, key, value);
+        self.count += 1;
     }
 
     /// Takes out the value at a key. Its room stays.
@@ -150,10 +116,11 @@ impl<V: Drop, A: Allocator + Copy> RisingTable<V, A> {
         ensures sorted { T (is_sorted nat_cmp self.old.entries) }
         ensures room { (if is_some result then self.old.room + 1 else self.old.room) ≤ self.new.room }
     {
-        let Some(place) = find_in(&self.rows, key) else {
+        let Some(value) = take_row(&mut self.rows, key) else {
             return None;
         };
-        Some(take_at(&mut self.rows, place).1)
+        self.count -= 1;
+        Some(value)
     }
 
     /// Takes out all entries. Their room stays.
@@ -162,5 +129,6 @@ impl<V: Drop, A: Allocator + Copy> RisingTable<V, A> {
         ensures room { self.old.room ≤ self.new.room }
     {
         self.rows.clear();
+        self.count = 0;
     }
 }

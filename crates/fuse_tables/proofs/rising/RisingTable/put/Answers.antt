@@ -1,27 +1,19 @@
-use Rattle.std.proofs.Common.{refl, ◌≡◌, sym, subst, ◌∙◌, List, ℕ, None, T}
-use Rattle.std.specs.Ordering.{nat_cmp}
-use Rattle.std.specs.FinMap.{is_sorted}
-use Rattle.std.specs.List.{insert}
-use Rattle.fuse_spec.specs.Values.Maps.{get, put}
-use Rattle.fuse_tables.specs.TableState.{place_of}
-use Rattle.fuse_tables.proofs.Rows.{put_is, sorted_with}
+use Rattle.std.proofs.Common.{◌≡◌, ◌∙◌, ◌+◌, ◌≤◌, ap, sym, length, None, arith, deque_capacity}
+use Rattle.fuse_spec.specs.Values.Maps.{get}
+use Rattle.fuse_tables.specs.LiveRows.{live, IsKept}
+use Rattle.fuse_tables.proofs.Live.{sorted_live, length_more}
 use Rattle.fuse_tables.proofs.rising.RisingTable.put.Goals as goal
-
-put_rows : {V : Type 0} (rows seen : List (ℕ × V)) (key place : ℕ) (v : V) → place ≡ place_of key seen → seen ≡ rows
-    → get rows key ≡ None → insert rows place (key, v) ≡ put rows key v
-put_rows rows seen key place v at same absent = rw (at, same) (put_is rows key v absent)
 
 pub invariant_of-self : goal.invariant_of-self
 invariant_of-self g c =
-    let absent = rw (← c.self.view_is) at c.requires.absent in
-    let items = c.put_at.ensures.items in
-    let rows = items ∙ put_rows c.self.inside.rows.items c.self.inside.rows.items c.args.key c.place_in-place.result c.args.value c.place_in-place.ensures.place refl absent in
-    subst (λ es. T (is_sorted nat_cmp es)) (sym rows)
-    (sorted_with c.self.inside.rows.items c.args.key c.args.value c.self.invariant)
-
-pub returns-clause-entries : goal.returns-clause-entries
-returns-clause-entries g c =
-    let absent = rw (← c.self.view_is) at c.requires.absent in
-    let items = c.put_at.ensures.items in
-    let rows = items ∙ put_rows c.self.inside.rows.items c.self.inside.rows.items c.args.key c.place_in-place.result c.args.value c.place_in-place.ensures.place refl absent in
-    rw (← c.self.view_is) rows
+    let rows = c.self.inside.rows.items in
+    let absent : get (live rows) c.args.key ≡ None = rw (← c.self.view_is) at c.requires.absent in
+    let more = length_more (live rows) c.args.key c.args.value (sorted_live rows c.self.invariant.sorted) absent in
+    let grown = ap length c.put_row.ensures.live
+    ∙ ap (λ es. length (Rattle.fuse_spec.specs.Values.Maps.put es c.args.key c.args.value)) c.free_row.ensures.live in
+    let room = rw (← c.self.view_is) at c.requires.room in
+    record {
+      sorted = c.put_row.ensures.sorted;
+      counted = omega (arith, more, grown, c.self.invariant.counted);
+      half = omega (arith, room, c.put_row.ensures.capacity, c.free_row.ensures.capacity);
+    }

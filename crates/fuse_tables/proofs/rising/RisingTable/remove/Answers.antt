@@ -1,26 +1,39 @@
-use Rattle.std.proofs.Common.{refl, sym, subst, ◌∙◌, T}
+use Rattle.std.proofs.Common.{◌≡◌, ◌∙◌, ◌+◌, ◌≤◌, ap, sym, length, None, Some, T, arith, subst, deque_capacity}
 use Rattle.std.specs.Ordering.{nat_cmp}
 use Rattle.std.specs.FinMap.{is_sorted}
-use Rattle.fuse_tables.proofs.Rows.{absent_is, without_there, sorted_without, read_there}
+use Rattle.fuse_spec.specs.Values.Maps.{get, remove}
+use Rattle.fuse_tables.specs.LiveRows.{live, IsKept}
+use Rattle.fuse_tables.proofs.Rows.{absent_is}
+use Rattle.fuse_tables.proofs.Live.{sorted_live, length_less}
 use Rattle.fuse_tables.proofs.rising.RisingTable.remove.Goals as goal
-
-pub returns-in_default-clause-entries : goal.returns-in_default-clause-entries
-returns-in_default-clause-entries g c =
-    rw (← c.self.view_is) (sym (absent_is c.self.inside.rows.items c.args.key
-    c.in_default.ensures))
 
 pub invariant_of-self : goal.invariant_of-self
 invariant_of-self g c =
-    let rows = c.take_at.ensures.items ∙ without_there c.self.inside.rows.items c.args.key c.in-Some.place c.self.invariant c.in-Some.ensures in
-    subst (λ es. T (is_sorted nat_cmp es)) (sym rows)
-    (sorted_without c.self.inside.rows.items c.args.key c.self.invariant)
+    let rows = c.self.inside.rows.items in
+    let same = c.in_default.ensures.live ∙ absent_is (live rows) c.args.key (sym c.in_default.ensures.value) in
+    let long = ap length same in
+    record {
+      sorted = c.in_default.ensures.sorted;
+      counted = omega (arith, long, c.self.invariant.counted);
+      half = omega (arith, c.self.invariant.half, c.in_default.ensures.capacity);
+    }
 
-pub returns-clause-value : goal.returns-clause-value
-returns-clause-value g c =
-    rw (← c.self.view_is)
-    (read_there c.self.inside.rows.items c.self.inside.rows.items c.args.key c.in-Some.place c.take_at.result c.self.invariant refl c.in-Some.ensures c.take_at.ensures.value)
+pub returns-in_default-clause-sorted : goal.returns-in_default-clause-sorted
+returns-in_default-clause-sorted g c =
+    rw (← c.self.view_is) (sorted_live c.self.inside.rows.items c.self.invariant.sorted)
 
-pub returns-clause-entries : goal.returns-clause-entries
-returns-clause-entries g c =
-    let rows = c.take_at.ensures.items ∙ without_there c.self.inside.rows.items c.args.key c.in-Some.place c.self.invariant c.in-Some.ensures in
-    rw (← c.self.view_is) rows
+pub invariant_of-self-2 : goal.invariant_of-self-2
+invariant_of-self-2 g c =
+    let rows = c.self.inside.rows.items in
+    let there = sym c.in-Some.ensures.value in
+    let less = length_less (live rows) c.args.key c.in-Some.value (sorted_live rows c.self.invariant.sorted) there in
+    let long = ap length c.in-Some.ensures.live in
+    record {
+      sorted = c.in-Some.ensures.sorted;
+      counted = omega (arith, long, less, c.self.invariant.counted);
+      half = omega (arith, c.self.invariant.half, c.in-Some.ensures.capacity);
+    }
+
+pub returns-clause-sorted : goal.returns-clause-sorted
+returns-clause-sorted g c =
+    rw (← c.self.view_is) (sorted_live c.self.inside.rows.items c.self.invariant.sorted)
