@@ -10,6 +10,7 @@ mod marks;
 mod no_memory;
 mod queues;
 mod request_store;
+mod rising_requests;
 pub mod table;
 
 pub use forgets::Forgets;
@@ -19,29 +20,36 @@ pub use map_requests::MapRequests;
 pub use no_memory::NoMemory;
 pub use queues::QueuesOf;
 pub use request_store::RequestStore;
+pub use rising_requests::RisingRequests;
 use std::alloc::Global;
 pub use table::QueueTable;
 
-/// The queues, with their requests in a map from number to request, in order of queuing.
+/// The queues, with their requests in a queue of their own, in rising number.
 ///
 /// What each call costs, for `n` requests pending and in processing:
 ///
 /// | Call | Time |
 /// |---|---|
 /// | `numbers_left`, `request_count`, `request_at`, `first_interrupt`, `forget`, `no_interrupts` | constant |
-/// | `enqueue`, `waiting` | one look-up by hash |
-/// | `interrupt` | two look-ups by hash; a request that is dequeued has those queued after it moved up, at most `n` |
-/// | `answer` | look-ups by hash, one pass over the queued INTERRUPTs; those queued after it move up, at most `n` |
-/// | `again` | one look-up by hash, and one pass over the queued INTERRUPTs |
-/// | `pending(place)`, `read_pending(place)` | a scan from the oldest request to the one at that place, at most `n` |
+/// | `enqueue` | constant |
+/// | `waiting` | a binary search, log `n` steps |
+/// | `pending(place)` | constant, and a binary search |
+/// | `read_pending(place)` | binary searches; of the numbers of the pending ones those on the shorter side of it move up |
+/// | `interrupt` | binary searches; a request that is dequeued has those on its shorter side moved up |
+/// | `answer` | binary searches, one pass over the queued INTERRUPTs; those on its shorter side move up |
+/// | `again` | a binary search, and one pass over the queued INTERRUPTs |
 /// | `read_interrupt` | the queued INTERRUPTs behind the first move up |
 /// | `first_forgets(count)`, `read_forgets(count)` | `count` steps |
 /// | `reserve` | nothing where the room is there, else a copy of what grows |
 /// | `abort` | `n` steps, and one for each forget |
 ///
-/// A place among the pending requests is a promise of the contract, so a request that ends leaves no hole: that is
-/// what moves.
-pub type Queues<W, A = Global> = QueuesOf<W, MapRequests<W, A>>;
+/// A place among the requests is a promise of the contract, so a request that ends leaves no hole: that is what moves.
+/// The oldest and the newest move no other.
+pub type Queues<W, A = Global> = QueuesOf<W, RisingRequests<W, A>>;
+
+/// The queues, with their requests in a map from number to request, in order of queuing. A look-up is by hash, and a
+/// pending request is searched from the oldest on.
+pub type MapQueues<W, A = Global> = QueuesOf<W, MapRequests<W, A>>;
 
 /// The queues, with their requests in a list. A look-up by number goes over the requests.
 pub type ListQueues<W, A = Global> = QueuesOf<W, ListRequests<W, A>>;

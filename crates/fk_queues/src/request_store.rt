@@ -1,5 +1,5 @@
 //! Requests under their numbers: what a representation of the queues offers.
-ghost use Rattle.std.specs.Prelude.{◌≡◌, ℕ, [], ◌∷◌, ◌++◌, ◌+◌, ◌<◌, ◌≤◌, List, Option, None, OnOk, IsOk, filter, length, nat_eq, option_map, slice_get};
+ghost use Rattle.std.specs.Prelude.{◌≡◌, ℕ, [], ◌∷◌, ◌++◌, ◌+◌, ◌<◌, ◌≤◌, All, IfSome, List, Option, OnOk, filter, length, nat_eq, option_map, slice_get, true};
 ghost use Rattle.std.specs.Option.{option_copied};
 ghost use Rattle.std.specs.Map.{lookup, remove_entry};
 ghost use Rattle.fuse_spec.specs.declared.Mark.TheVariants.{Unread};
@@ -59,15 +59,17 @@ pub trait RequestStore<W: Drop> {
     fn request(&self, unique: u64) -> Option<&QueuedRequest<W>>
         ensures { option_copied result ≡ lookup (nat_eq unique) (entries self.now) };
 
-    /// Puts an unread request last, under a number that has none.
+    /// Puts an unread request last, under a number above all others.
     fn push(&mut self, unique: u64, kept: W)
         requires room { 0 < room self.old }
-        requires absent { lookup (nat_eq unique) (entries self.old) ≡ None }
+        requires above { All (λ e. e.0 < unique) (entries self.old) }
         ensures entries { entries self.new ≡ entries self.old ++ (unique, record { mark = Unread; kept = kept }) ∷ [] }
         ensures room { room self.old ≤ room self.new + 1 };
 
-    /// Gives the request under a number this mark.
+    /// Gives the request under a number this mark. None that was read is unread again.
     fn put_mark(&mut self, unique: u64, mark: Mark)
+        requires { is_unread mark ≡ true → IfSome (lookup (nat_eq unique) (entries self.old))
+            (λ request. is_unread request.mark ≡ true) }
         ensures entries { entries self.new ≡ set_mark unique (entries self.old) mark }
         ensures len { length (entries self.new) ≡ length (entries self.old) }
         ensures room { room self.old ≤ room self.new };

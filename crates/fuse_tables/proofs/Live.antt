@@ -10,12 +10,12 @@ use Rattle.fuse_spec.specs.Values.Maps.{get, put, remove}
 use Rattle.fuse_tables.specs.LiveRows.{live, entry_before}
 use Rattle.fuse_tables.proofs.Rows.{both_first, both_second, apart, tied, none_below, kept_above, sorted_with, sorted_without}
 
-both : (a b : Bool) → T a → T b → T (a && b)
+pub both : (a b : Bool) → T a → T b → T (a && b)
 both true b p q = q
 both false b p q = absurd p
 
 -- the order of numbers ties exactly where they are equal
-ties : (q k : ℕ) → eq_by_cmp nat_cmp q k ≡ nat_eq q k
+pub ties : (q k : ℕ) → eq_by_cmp nat_cmp q k ≡ nat_eq q k
 ties q k = elim (nat_cmp q k) as (λ r. nat_cmp q k ≡ r → is_eq r ≡ nat_eq q k) [
   | Less ↦ λ e. let low = ranked q k Less (sym e) in sym (apart q k (omega arith))
   | Equal ↦ λ e. sym (tied q k (ranked q k Equal (sym e)))

@@ -6,8 +6,10 @@ mod list;
 mod live_rows;
 mod queue;
 mod rising;
+mod rows_by_key;
 mod table;
 
 pub use queue::{last, take_at};
 pub use rising::RisingTable;
+pub use rows_by_key::find_row;
 pub use table::Table;

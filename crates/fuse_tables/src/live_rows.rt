@@ -1,6 +1,6 @@
 //! Rows in rising key, of which some are empty.
 
-ghost use Rattle.std.specs.Prelude.{◌≡◌, ◌+◌, ◌<◌, ◌≤◌, MatchOption, None, T, false, length, true};
+ghost use Rattle.std.specs.Prelude.{◌≡◌, ◌+◌, ◌<◌, ◌≤◌, T, length};
 ghost use Rattle.std.specs.Option.{option_copied};
 ghost use Rattle.std.specs.Ordering.{nat_cmp};
 ghost use Rattle.std.specs.FinMap.{is_sorted};
@@ -8,60 +8,14 @@ ghost use Rattle.std.specs.List.{insert as inserted};
 ghost use Rattle.std.specs.VecDeque.{deque_len, deque_capacity};
 ghost use Rattle.fuse_spec.specs.Values.Maps.{get as value_at, put as with_value, remove as without_key};
 ghost use Rattle.fuse_tables.specs.LiveRows.{live};
-ghost use Rattle.fuse_tables.specs.TableState.{place_of, IsRowOf};
 
 use crate::queue::take_at;
+use crate::rows_by_key::{find_row, is_row_of, place_in};
 use std::alloc::Allocator;
 use std::collections::VecDeque;
 
 /// Each row has a key, and a value unless it was taken out.
 pub(crate) type Rows<V, A> = VecDeque<(u64, Option<V>), A>;
-
-/// How many of the rows, from the first on, have a lower key.
-fn place_in<V, A: Allocator>(rows: &VecDeque<(u64, V), A>, key: u64) -> usize
-    requires { T (is_sorted nat_cmp rows.now.items) }
-    ensures place { result ≡ place_of key rows.now.items }
-    ensures bound { result ≤ deque_len rows.now }
-{
-    rows.partition_point(|row| row.0 < key)
-}
-
-/// Whether the row at the place of a key has that key.
-#[inline(always)]
-fn is_row_of<V, A: Allocator>(rows: &VecDeque<(u64, V), A>, place: usize, key: u64) -> bool
-    requires sorted { T (is_sorted nat_cmp rows.now.items) }
-    requires place { place ≡ place_of key rows.now.items }
-    requires bound { place ≤ deque_len rows.now }
-    ensures there { result ≡ true → IsRowOf rows.now.items key place }
-    ensures absent { result ≡ false → value_at rows.now.items key ≡ None }
-{
-    if place == rows.len() {
-        return false;
-    }
-    let row = &rows[place];
-    row.0 == key
-}
-
-/// Where the row of a key stands. Most keys that are looked up stand last.
-#[inline(always)]
-fn find_in<V, A: Allocator>(rows: &VecDeque<(u64, V), A>, key: u64) -> Option<usize>
-    requires { T (is_sorted nat_cmp rows.now.items) }
-    ensures { MatchOption result (value_at rows.now.items key ≡ None) (IsRowOf rows.now.items key) }
-{
-    let len = rows.len();
-    if len == 0 {
-        return None;
-    }
-    if rows[len - 1].0 == key {
-        return Some(len - 1);
-    }
-    let place = place_in(rows, key);
-    if is_row_of(rows, place, key) {
-        Some(place)
-    } else {
-        None
-    }
-}
 
 /// Puts a row at a place, for which there is room. Most keys rise, so most rows come last.
 #[inline(always)]
@@ -84,7 +38,7 @@ pub(crate) fn value_in<V, A: Allocator>(rows: &Rows<V, A>, key: u64) -> Option<&
     requires { T (is_sorted nat_cmp rows.now.items) }
     ensures { option_copied result ≡ value_at (live rows.now.items) key }
 {
-    let Some(place) = find_in(rows, key) else {
+    let Some(place) = find_row(rows, key) else {
         return None;
     };
     let row = &rows[place];
@@ -143,7 +97,7 @@ pub(crate) fn take_row<V: Drop, A: Allocator>(rows: &mut Rows<V, A>, key: u64) -
     ensures sorted { T (is_sorted nat_cmp rows.new.items) }
     ensures capacity { deque_capacity rows.new ≡ deque_capacity rows.old }
 {
-    let Some(place) = find_in(rows, key) else {
+    let Some(place) = find_row(rows, key) else {
         return None;
     };
     if place == 0 || place == rows.len() - 1 {

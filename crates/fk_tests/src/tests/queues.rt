@@ -1,8 +1,8 @@
-//! The kernel's queues over both representations: each call once, and refused growths.
+//! The kernel's queues over each representation: each call once, and refused growths.
 
 use crate::tests::assert_right;
 use fail_at::{FailAt, Outcome, Tried, first_wrong, judged};
-use fk_queues::{Forgets, IntrEffect, ListQueues, NoMemory, QueueTable, Queues};
+use fk_queues::{Forgets, IntrEffect, ListQueues, MapQueues, NoMemory, QueueTable, Queues};
 use std::alloc::{Allocator, Global};
 use std::process::Abort;
 use std::test::Fail;
@@ -196,6 +196,12 @@ impl<A: Allocator + Copy> Tried<Row, A> for Queues<u64, A> {
     }
 }
 
+impl<A: Allocator + Copy> Tried<Row, A> for MapQueues<u64, A> {
+    fn attempt(&mut self, _heap: A, _alloc: Global, row: Row) -> Outcome {
+        tried(self, row)
+    }
+}
+
 impl<A: Allocator + Copy> Tried<Row, A> for ListQueues<u64, A> {
     fn attempt(&mut self, _heap: A, _alloc: Global, row: Row) -> Outcome {
         tried(self, row)
@@ -282,14 +288,15 @@ fn runs<A: Copy, T: QueueTable<u64, Heap = A> + Tried<Row, A> + Drop>(
 }
 
 /// Of each representation.
-fn runs_of_both<A: Allocator + Copy>(
+fn runs_of_each<A: Allocator + Copy>(
     rt: &impl Abort,
     heap: A,
     refusing: &FailAt<Global>,
     alloc: Global,
-) -> (u64, u64) {
+) -> (u64, u64, u64) {
     (
         runs::<A, Queues<u64, A>>(rt, heap, refusing, alloc),
+        runs::<A, MapQueues<u64, A>>(rt, heap, refusing, alloc),
         runs::<A, ListQueues<u64, A>>(rt, heap, refusing, alloc),
     )
 }
@@ -297,7 +304,8 @@ fn runs_of_both<A: Allocator + Copy>(
 #[test]
 fn calls_with_each_growth_refused(rt: HostRuntime) -> Result<(), Fail> {
     let heap = FailAt::new(rt.alloc());
-    let (of_maps, of_lists) = runs_of_both(&rt, &heap, &heap, rt.alloc());
+    let (of_queues, of_maps, of_lists) = runs_of_each(&rt, &heap, &heap, rt.alloc());
+    assert!(rt; 3 < of_queues && of_queues < 60, "queues");
     assert!(rt; 3 < of_maps && of_maps < 60, "maps");
     assert!(rt; 3 < of_lists && of_lists < 60, "lists");
     Ok(())

@@ -1,11 +1,12 @@
 use Rattle.std.proofs.Common.{◌≡◌, ◌+◌, ◌∙◌, ap, length, rules, arith}
 use Rattle.std.proofs.lemmas.List.{length-append}
 use Rattle.fuse_spec.specs.Kernel.Queues.{QueueState}
-use Rattle.fuse_spec.proofs.QueueSoundness.{IsSound-enqueue, lookup-next}
+use Rattle.fuse_spec.proofs.QueueSoundness.{IsSound-enqueue}
+use Rattle.fk_queues.proofs.Rising.{drawn_all_below}
 use Rattle.fk_queues.proofs.queues.QueuesOfQueueTable.enqueue.Goals as goal
 
-pub push-requires-clause-absent : goal.push-requires-clause-absent
-push-requires-clause-absent g c =
+pub push-requires-clause-above : goal.push-requires-clause-above
+push-requires-clause-above g c =
     let q = c.self.inside in
     let s : QueueState _ = record {
       requests = g.S.RequestStore.entries q.requests;
@@ -15,7 +16,7 @@ push-requires-clause-absent g c =
       interrupts_off = q.interrupts.off;
     } in
     let drawn : c.unwrap-unique.result ≡ q.uniques = search rules in
-    rw drawn (lookup-next s c.self.invariant.sound)
+    rw drawn (drawn_all_below s.next s.requests c.self.invariant.sound.requests)
 
 pub invariant_of-self : goal.invariant_of-self
 invariant_of-self g c =

@@ -2,7 +2,7 @@ use Rattle.std.proofs.Common.{rules, of_calls, arith}
 use Rattle.std.specs.Prelude.{nat_lt}
 use Rattle.std.proofs.lemmas.Fn.{always_returns_same}
 use Rattle.fuse_tables.proofs.Rows.{is_partitioned, place_is}
-use Rattle.fuse_tables.proofs.live_rows.place_in.Goals as goal
+use Rattle.fuse_tables.proofs.rows_by_key.place_in.Goals as goal
 
 pub returns-clause-place : goal.returns-clause-place
 returns-clause-place g c =

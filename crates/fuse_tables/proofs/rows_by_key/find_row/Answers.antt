@@ -1,6 +1,6 @@
 use Rattle.std.proofs.Common.{arith}
 use Rattle.fuse_tables.proofs.Rows.{row_at}
-use Rattle.fuse_tables.proofs.live_rows.find_in.Goals as goal
+use Rattle.fuse_tables.proofs.rows_by_key.find_row.Goals as goal
 
 pub returns-then-index-key : goal.returns-then-index-key
 returns-then-index-key g c = row_at c.args.rows.now.items c.args.key _ c.index.result.now c.requires (omega arith)

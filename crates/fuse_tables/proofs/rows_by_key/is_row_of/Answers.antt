@@ -1,7 +1,7 @@
 use Rattle.std.proofs.Common.{◌≢◌, arith, nat_eq, true, false}
 use Rattle.std.proofs.lemmas.Bool.Decides.{nat_tests}
 use Rattle.fuse_tables.proofs.Rows.{row_there, none_past, none_other}
-use Rattle.fuse_tables.proofs.live_rows.is_row_of.Goals as goal
+use Rattle.fuse_tables.proofs.rows_by_key.is_row_of.Goals as goal
 
 pub returns-then-place-len-clause-absent : goal.returns-then-place-len-clause-absent
 returns-then-place-len-clause-absent g c = λ _. none_past c.args.rows.now.items c.args.key c.args.place

@@ -1,0 +1,37 @@
+use Rattle.std.proofs.Common.{◌≡◌, ◌∙◌, rules, refl, sym, ap, subst, T, filter, not, nat_eq, false, true}
+use Rattle.std.specs.Ordering.{nat_cmp}
+use Rattle.std.specs.FinMap.{is_sorted}
+use Rattle.fuse_spec.specs.Kernel.Queues.{is_unread}
+use Rattle.fk_queues.specs.Rising.{Rises, unread_numbers}
+use Rattle.fk_queues.proofs.Rising.{sorted_marked, numbers_read, numbers_flagged, numbers_rise}
+use Rattle.fk_queues.proofs.rising_requests.RisingRequestsRequestStore.put_mark.Goals as goal
+
+pub drop_number-requires : goal.drop_number-requires
+drop_number-requires g c = subst Rises (sym c.self.invariant.numbers)
+    (numbers_rise c.self.inside.requests.items c.self.invariant.sorted)
+
+pub invariant_of-self : goal.invariant_of-self
+invariant_of-self g c =
+    let rows = c.self.inside.requests.items in
+    let marked = c.mark_in.ensures.items in
+    let read : is_unread c.args.mark ≡ false = search rules in
+    record {
+      sorted = subst (λ es. T (is_sorted nat_cmp es)) (sym marked)
+          (sorted_marked c.args.unique c.args.mark rows c.self.invariant.sorted);
+      numbers = c.drop_number.ensures.items ∙ ap (filter (λ n. not (nat_eq c.args.unique n))) c.self.invariant.numbers
+          ∙ sym (numbers_read c.args.unique c.args.mark rows c.self.invariant.sorted read)
+          ∙ ap unread_numbers (sym marked);
+    }
+
+pub invariant_of-self-else-not-is_unread : goal.invariant_of-self-else-not-is_unread
+invariant_of-self-else-not-is_unread g c =
+    let rows = c.self.inside.requests.items in
+    let marked = c.mark_in.ensures.items in
+    let unread : is_unread c.args.mark ≡ true = search rules in
+    let was = rw (← c.self.view_is) at (c.requires unread) in
+    record {
+      sorted = subst (λ es. T (is_sorted nat_cmp es)) (sym marked)
+          (sorted_marked c.args.unique c.args.mark rows c.self.invariant.sorted);
+      numbers = c.self.invariant.numbers ∙ sym (numbers_flagged c.args.unique c.args.mark rows unread was)
+          ∙ ap unread_numbers (sym marked);
+    }

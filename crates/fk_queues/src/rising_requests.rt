@@ -1,0 +1,182 @@
+//! Requests in a queue, in order of queuing, which is that of their numbers.
+ghost use Rattle.std.specs.Prelude.{◌≡◌, ℕ, ◌+◌, ◌<◌, ◌≤◌, All, IfSome, List, Option, OnOk, T, filter, length, nat_eq, not, option_map, slice_get, true};
+ghost use Rattle.std.specs.Option.{option_copied};
+ghost use Rattle.std.specs.Map.{lookup, remove_entry};
+ghost use Rattle.std.specs.Ordering.{nat_cmp};
+ghost use Rattle.std.specs.FinMap.{is_sorted};
+ghost use Rattle.std.specs.VecDeque.{deque_len, deque_capacity};
+ghost use Rattle.fuse_spec.specs.Kernel.Queues.{is_unread};
+ghost use Rattle.fuse_spec.specs.Kernel.QueueCalls.{set_mark};
+ghost use Rattle.fk_queues.specs.Rising.{Rises};
+
+use crate::marks::is_unread;
+use crate::request_store::RequestStore;
+use fuse_spec::{Mark, QueuedRequest};
+use fuse_tables::{find_row, take_at};
+use std::alloc::{AllocError, Allocator, Global};
+use std::collections::VecDeque;
+use std::marker::Model;
+
+/// Each request under its number.
+type Rows<W, A> = VecDeque<(u64, QueuedRequest<W>), A>;
+
+/// Requests in a queue in rising number, and the numbers of the unread ones in another. The oldest and the newest come
+/// and go without the others moving.
+#[derive(Drop)]
+pub struct RisingRequests<W, A: Allocator = Global> {
+    requests: Rows<W, A>,
+    unread: VecDeque<u64, A>,
+}
+
+impl<W, A: Allocator> Model for RisingRequests<W, A> {
+    ghost use Rattle.std.specs.Prelude.{min, ◌-◌};
+    ghost use Rattle.std.specs.Coded.{codes};
+    ghost use Rattle.std.specs.VecDeque.{deque_len, deque_capacity};
+    ghost use Rattle.fuse_spec.specs.contracts.Mark as mark_row;
+    ghost use Rattle.fk_queues.specs.Rising.{RequestsState, AreRising};
+
+    ghost Value = { RequestsState W };
+
+    ghost coded = { Prim.hlevel (codes, W.code, mark_row.the_row.coded) };
+
+    ghost view = { λ s. record {
+      entries = s.requests.items;
+      room = min (deque_capacity s.requests - deque_len s.requests) (deque_capacity s.unread - deque_len s.unread);
+    } };
+
+    ghost invariant = { λ s. AreRising s.requests.items s.unread.items };
+}
+
+impl<W: Drop, A: Allocator + Copy> RequestStore<W> for RisingRequests<W, A> {
+    type Heap = A;
+
+    ghost entries = { λ s. s.entries };
+
+    ghost room = { λ s. s.room };
+
+    fn new(alloc: A) -> Self {
+        RisingRequests {
+            requests: VecDeque::new(alloc),
+            unread: VecDeque::new(alloc),
+        }
+    }
+
+    fn len(&self) -> usize {
+        self.requests.len()
+    }
+
+    fn capacity(&self) -> usize {
+        let spare = self.requests.capacity() - self.requests.len();
+        self.requests.len() + spare.min(self.unread.capacity() - self.unread.len())
+    }
+
+    fn reserve(&mut self, more: usize) -> Result<(), AllocError> {
+        self.requests.reserve(more)?;
+        self.unread.reserve(more)
+    }
+
+    fn request_at(&self, place: usize) -> Option<(u64, &QueuedRequest<W>)> {
+        let (unique, request) = self.requests.get(place)?;
+        Some((*unique, request))
+    }
+
+    fn pending(&self, place: usize) -> Option<(u64, &QueuedRequest<W>)> {
+        let Some(unique) = number_at(&self.unread, place) else {
+            return None;
+        };
+        let Some(request) = request_in(&self.requests, unique) else {
+            return None;
+        };
+        Some((unique, request))
+    }
+
+    fn request(&self, unique: u64) -> Option<&QueuedRequest<W>> {
+        request_in(&self.requests, unique)
+    }
+
+    fn push(&mut self, unique: u64, kept: W) {
+        let request = QueuedRequest {
+            mark: Mark::Unread,
+            kept,
+        };
+        self.requests.push_back_reserved((unique, request));
+        self.unread.push_back_reserved(unique);
+    }
+
+    fn put_mark(&mut self, unique: u64, mark: Mark) {
+        mark_in(&mut self.requests, unique, mark);
+        if !is_unread(mark) {
+            drop_number(&mut self.unread, unique);
+        }
+    }
+
+    fn take(&mut self, unique: u64) -> Option<QueuedRequest<W>> {
+        drop_number(&mut self.unread, unique);
+        take_in(&mut self.requests, unique)
+    }
+
+    fn clear(&mut self) {
+        self.requests.clear();
+        self.unread.clear();
+    }
+}
+
+/// The request under a number.
+fn request_in<W, A: Allocator>(requests: &Rows<W, A>, unique: u64) -> Option<&QueuedRequest<W>>
+    requires { T (is_sorted nat_cmp requests.now.items) }
+    ensures { option_copied result ≡ lookup (nat_eq unique) requests.now.items }
+{
+    let Some(place) = find_row(requests, unique) else {
+        return None;
+    };
+    let row = &requests[place];
+    Some(&row.1)
+}
+
+/// Gives the request under a number this mark.
+fn mark_in<W: Drop, A: Allocator>(requests: &mut Rows<W, A>, unique: u64, mark: Mark)
+    requires { T (is_sorted nat_cmp requests.old.items) }
+    ensures items { requests.new.items ≡ set_mark unique requests.old.items mark }
+    ensures len { deque_len requests.new ≡ deque_len requests.old }
+    ensures capacity { deque_capacity requests.new ≡ deque_capacity requests.old }
+{
+    if let Some(place) = find_row(requests, unique) {
+        requests[place].1.mark = mark;
+    }
+}
+
+/// Takes out the request under a number.
+fn take_in<W: Drop, A: Allocator>(
+    requests: &mut Rows<W, A>,
+    unique: u64,
+) -> Option<QueuedRequest<W>>
+    requires { T (is_sorted nat_cmp requests.old.items) }
+    ensures value { result ≡ lookup (nat_eq unique) requests.old.items }
+    ensures items { requests.new.items ≡ remove_entry (nat_eq unique) requests.old.items }
+    ensures len { deque_len requests.new ≤ deque_len requests.old }
+    ensures capacity { deque_capacity requests.new ≡ deque_capacity requests.old }
+{
+    let Some(place) = find_row(requests, unique) else {
+        return None;
+    };
+    Some(take_at(requests, place).1)
+}
+
+/// The number at a place.
+fn number_at<A: Allocator>(numbers: &VecDeque<u64, A>, place: usize) -> Option<u64>
+    ensures { result ≡ slice_get numbers.now.items place }
+{
+    numbers.get(place).copied()
+}
+
+/// Takes a number out, if it is there.
+fn drop_number<A: Allocator>(numbers: &mut VecDeque<u64, A>, number: u64)
+    requires { Rises numbers.old.items }
+    ensures items { numbers.new.items ≡ filter (λ n. not (nat_eq number n)) numbers.old.items }
+    ensures len { deque_len numbers.new ≤ deque_len numbers.old }
+    ensures capacity { deque_capacity numbers.new ≡ deque_capacity numbers.old }
+{
+    if let Ok(place) = numbers.binary_search(&number) {
+        let _number = take_at(numbers, place);
+    }
+}

@@ -1,0 +1,61 @@
+//! Where a key stands among rows in rising key.
+
+ghost use Rattle.std.specs.Prelude.{◌≡◌, ◌≤◌, MatchOption, None, T, false, true};
+ghost use Rattle.std.specs.Ordering.{nat_cmp};
+ghost use Rattle.std.specs.FinMap.{is_sorted};
+ghost use Rattle.std.specs.VecDeque.{deque_len};
+ghost use Rattle.fuse_spec.specs.Values.Maps.{get as value_at};
+ghost use Rattle.fuse_tables.specs.TableState.{place_of, IsRowOf};
+
+use std::alloc::Allocator;
+use std::collections::VecDeque;
+
+/// How many of the rows, from the first on, have a lower key.
+pub(crate) fn place_in<V, A: Allocator>(rows: &VecDeque<(u64, V), A>, key: u64) -> usize
+    requires { T (is_sorted nat_cmp rows.now.items) }
+    ensures place { result ≡ place_of key rows.now.items }
+    ensures bound { result ≤ deque_len rows.now }
+{
+    rows.partition_point(|row| row.0 < key)
+}
+
+/// Whether the row at the place of a key has that key.
+#[inline(always)]
+pub(crate) fn is_row_of<V, A: Allocator>(
+    rows: &VecDeque<(u64, V), A>,
+    place: usize,
+    key: u64,
+) -> bool
+    requires sorted { T (is_sorted nat_cmp rows.now.items) }
+    requires place { place ≡ place_of key rows.now.items }
+    requires bound { place ≤ deque_len rows.now }
+    ensures there { result ≡ true → IsRowOf rows.now.items key place }
+    ensures absent { result ≡ false → value_at rows.now.items key ≡ None }
+{
+    if place == rows.len() {
+        return false;
+    }
+    let row = &rows[place];
+    row.0 == key
+}
+
+/// Where the row of a key stands. Most keys that are looked up stand last.
+#[inline(always)]
+pub fn find_row<V, A: Allocator>(rows: &VecDeque<(u64, V), A>, key: u64) -> Option<usize>
+    requires { T (is_sorted nat_cmp rows.now.items) }
+    ensures { MatchOption result (value_at rows.now.items key ≡ None) (IsRowOf rows.now.items key) }
+{
+    let len = rows.len();
+    if len == 0 {
+        return None;
+    }
+    if rows[len - 1].0 == key {
+        return Some(len - 1);
+    }
+    let place = place_in(rows, key);
+    if is_row_of(rows, place, key) {
+        Some(place)
+    } else {
+        None
+    }
+}
