@@ -1,5 +1,5 @@
 -- Requests in rising number: what is found, marked and taken, and the numbers of those unread.
-use Rattle.std.proofs.Common.{◌≡◌, ◌≢◌, ℕ, zero, suc, ◌<◌, ◌≤◌, ◌+◌, Bool, true, false, not, cond, ◌&&◌, List, [], ◌∷◌, ◌++◌, length, get_or, filter, Option, Some, None, refl, sym, ap, subst, ◌∙◌, arith, T, nat_eq, inl, inr, Less, Equal, Greater, if◌then◌else◌, IfSome, option_map, count_by}
+use Rattle.std.proofs.Common.{◌≡◌, ◌≢◌, ℕ, zero, suc, ◌<◌, ◌≤◌, Bool, true, false, not, cond, List, [], ◌∷◌, ◌++◌, length, get_or, filter, Option, Some, None, refl, sym, ap, subst, ◌∙◌, arith, T, nat_eq, inl, inr, Less, Equal, Greater, if◌then◌else◌, IfSome, option_map, count_by}
 use Rattle.std.specs.Prelude.{slice_get, nat_lt}
 use Rattle.std.specs.Map.{lookup, remove_entry}
 use Rattle.std.specs.List.{All, remove as removed}

@@ -1,5 +1,5 @@
 //! Requests in a queue, in order of queuing, which is that of their numbers.
-ghost use Rattle.std.specs.Prelude.{◌≡◌, ℕ, ◌+◌, ◌<◌, ◌≤◌, All, IfSome, List, Option, OnOk, T, filter, length, nat_eq, not, option_map, slice_get, true};
+ghost use Rattle.std.specs.Prelude.{◌≡◌, ℕ, ◌+◌, ◌<◌, ◌≤◌, All, IfSome, List, Option, OnOk, T, filter, length, nat_eq, not, option_map, slice_get, slice_index, true};
 ghost use Rattle.std.specs.Option.{option_copied};
 ghost use Rattle.std.specs.Map.{lookup, remove_entry};
 ghost use Rattle.std.specs.Ordering.{nat_cmp};
@@ -169,13 +169,27 @@ fn number_at<A: Allocator>(numbers: &VecDeque<u64, A>, place: usize) -> Option<u
     numbers.get(place).copied()
 }
 
-/// Takes a number out, if it is there.
+/// Whether a number stands first.
+fn is_first<A: Allocator>(numbers: &VecDeque<u64, A>, number: u64) -> bool
+    ensures { result ≡ true → (0 < deque_len numbers.now) × (slice_index numbers.now.items 0 ≡ number) }
+{
+    if numbers.is_empty() {
+        return false;
+    }
+    numbers[0] == number
+}
+
+/// Takes a number out, if it is there. Most that go stand first.
 fn drop_number<A: Allocator>(numbers: &mut VecDeque<u64, A>, number: u64)
     requires { Rises numbers.old.items }
     ensures items { numbers.new.items ≡ filter (λ n. not (nat_eq number n)) numbers.old.items }
     ensures len { deque_len numbers.new ≤ deque_len numbers.old }
     ensures capacity { deque_capacity numbers.new ≡ deque_capacity numbers.old }
 {
+    if is_first(numbers, number) {
+        let _first = take_at(numbers, 0);
+        return;
+    }
     if let Ok(place) = numbers.binary_search(&number) {
         let _number = take_at(numbers, place);
     }

@@ -1,11 +1,10 @@
 -- Rows of which some are empty: what putting, taking and squeezing make of their entries.
-use Rattle.std.proofs.Common.{◌≡◌, ℕ, ◌≤◌, ◌<◌, ◌+◌, Bool, true, false, not, cond, ◌&&◌, List, [], ◌∷◌, length, filter, is_some, Option, Some, None, refl, sym, ap, subst, ◌∙◌, arith, T, nat_eq, Less, Equal, Greater}
-use Rattle.std.specs.Ordering.{nat_cmp, is_lt, is_eq, eq_by_cmp}
+use Rattle.std.proofs.Common.{◌≡◌, ℕ, ◌≤◌, ◌+◌, Bool, true, false, not, cond, ◌&&◌, List, [], ◌∷◌, length, filter, is_some, Option, Some, None, refl, sym, ap, ◌∙◌, arith, T, nat_eq, Less, Equal, Greater}
+use Rattle.std.specs.Ordering.{nat_cmp, is_eq, eq_by_cmp}
 use Rattle.std.specs.FinMap.{is_sorted, nat_cmp-IsAntisymmetric}
 use Rattle.std.specs.FinMap.Entries.{below_all, find-put, find-where_key, same_entries, length-put}
-use Rattle.std.specs.Cmp.{ranked, nat_cmp_is}
+use Rattle.std.specs.Cmp.{ranked}
 use Rattle.std.proofs.lemmas.Cmp.{nat_cmp_total}
-use Rattle.std.proofs.lemmas.Bool.Decides.{eqb_tells}
 use Rattle.fuse_spec.specs.Values.Maps.{get, put, remove}
 use Rattle.fuse_tables.specs.LiveRows.{live, entry_before}
 use Rattle.fuse_tables.proofs.Rows.{both_first, both_second, apart, tied, none_below, kept_above, sorted_with, sorted_without}

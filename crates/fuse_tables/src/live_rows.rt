@@ -17,7 +17,7 @@ use std::collections::VecDeque;
 /// Each row has a key, and a value unless it was taken out.
 pub(crate) type Rows<V, A> = VecDeque<(u64, Option<V>), A>;
 
-/// Puts a row at a place, for which there is room. Most keys rise, so most rows come last.
+/// Puts a row at a place, for which there is room. Most keys rise, so most rows come last, and else first.
 #[inline(always)]
 fn put_at<V: Drop, A: Allocator>(rows: &mut VecDeque<(u64, V), A>, place: usize, row: (u64, V))
     requires place { place ≤ deque_len rows.old }
@@ -27,6 +27,9 @@ fn put_at<V: Drop, A: Allocator>(rows: &mut VecDeque<(u64, V), A>, place: usize,
 {
     if place == rows.len() {
         return rows.push_back_reserved(row);
+    }
+    if place == 0 {
+        return rows.push_front_reserved(row);
     }
     let put: Result<(), _> = rows.insert(place, row);
     put.unwrap();

@@ -20,6 +20,9 @@ pub fn take_at<T: Drop, A: Allocator>(queue: &mut VecDeque<T, A>, place: usize) 
     if place == 0 {
         return queue.pop_front().unwrap();
     }
+    if place == queue.len() - 1 {
+        return queue.pop_back().unwrap();
+    }
     queue.remove(place).unwrap()
 }
 

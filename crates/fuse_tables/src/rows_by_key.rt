@@ -39,7 +39,7 @@ pub(crate) fn is_row_of<V, A: Allocator>(
     row.0 == key
 }
 
-/// Where the row of a key stands. Most keys that are looked up stand last.
+/// Where the row of a key stands. Most keys that are looked up stand last or first.
 #[inline(always)]
 pub fn find_row<V, A: Allocator>(rows: &VecDeque<(u64, V), A>, key: u64) -> Option<usize>
     requires { T (is_sorted nat_cmp rows.now.items) }
@@ -51,6 +51,9 @@ pub fn find_row<V, A: Allocator>(rows: &VecDeque<(u64, V), A>, key: u64) -> Opti
     }
     if rows[len - 1].0 == key {
         return Some(len - 1);
+    }
+    if rows[0].0 == key {
+        return Some(0);
     }
     let place = place_in(rows, key);
     if is_row_of(rows, place, key) {

@@ -1,4 +1,4 @@
-use Rattle.std.proofs.Common.{◌≡◌, ◌∙◌, rules, refl, sym, ap, arith}
+use Rattle.std.proofs.Common.{◌∙◌, rules, arith}
 use Rattle.std.proofs.lemmas.List.Sorted.{searched}
 use Rattle.fk_queues.proofs.Rising.{rises_le, gone_at, gone_none}
 use Rattle.fk_queues.proofs.rising_requests.drop_number.Goals as goal
@@ -18,3 +18,8 @@ returns-in_default-clause-items g c =
     (rises_le numbers c.requires) in
     let none = rw c.in_default.is at missed in
     gone_none c.args.number c.in_default.field-0 numbers none.1 none.2
+
+pub returns-then-is_first-clause-items : goal.returns-then-is_first-clause-items
+returns-then-is_first-clause-items g c =
+    let first = c.is_first.ensures c.if-is_first.true in
+    c.take_at-first.ensures.items ∙ gone_at c.args.number c.args.numbers.now.items 0 c.requires (omega (arith, first.0)) first.1

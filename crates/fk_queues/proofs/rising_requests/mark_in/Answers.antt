@@ -1,4 +1,4 @@
-use Rattle.std.proofs.Common.{◌≡◌, ◌∙◌, rules, refl, sym, ap}
+use Rattle.std.proofs.Common.{◌∙◌, rules, refl, sym}
 use Rattle.fuse_spec.proofs.QueueCounts.{set_mark-absent}
 use Rattle.fuse_tables.proofs.Rows.{read_there, replaced_there}
 use Rattle.fk_queues.proofs.Rising.{lookup_get, marked_put}

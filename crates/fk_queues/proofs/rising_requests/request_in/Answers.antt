@@ -1,4 +1,4 @@
-use Rattle.std.proofs.Common.{◌≡◌, ◌∙◌, rules, refl, sym}
+use Rattle.std.proofs.Common.{◌∙◌, rules, refl, sym}
 use Rattle.fuse_tables.proofs.Rows.{read_there}
 use Rattle.fk_queues.proofs.Rising.{lookup_get}
 use Rattle.fk_queues.proofs.rising_requests.request_in.Goals as goal

@@ -1,4 +1,4 @@
-use Rattle.std.proofs.Common.{◌≡◌, ◌∙◌, rules, refl, sym, ap}
+use Rattle.std.proofs.Common.{◌∙◌, refl, sym}
 use Rattle.fuse_tables.proofs.Rows.{read_there, without_there, absent_is}
 use Rattle.fk_queues.proofs.Rising.{lookup_get, remove_entry_is}
 use Rattle.fk_queues.proofs.rising_requests.take_in.Goals as goal

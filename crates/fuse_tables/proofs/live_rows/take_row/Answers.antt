@@ -1,7 +1,6 @@
-use Rattle.std.proofs.Common.{◌≡◌, ◌∙◌, rules, refl, ap, sym, subst, Some, None, T}
+use Rattle.std.proofs.Common.{◌∙◌, rules, refl, ap, sym, subst, None, T}
 use Rattle.std.specs.Ordering.{nat_cmp}
 use Rattle.std.specs.FinMap.{is_sorted}
-use Rattle.fuse_spec.specs.Values.Maps.{get, remove}
 use Rattle.fuse_tables.specs.LiveRows.{live}
 use Rattle.fuse_tables.proofs.Rows.{absent_is, read_there, without_there, sorted_without, sorted_with, replaced_there}
 use Rattle.fuse_tables.proofs.Live.{held, get_live, live_removed, live_emptied}

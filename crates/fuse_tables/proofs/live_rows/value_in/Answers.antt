@@ -1,5 +1,4 @@
-use Rattle.std.proofs.Common.{◌≡◌, ◌∙◌, rules, refl, ap, sym, Some, Option}
-use Rattle.fuse_spec.specs.Values.Maps.{get}
+use Rattle.std.proofs.Common.{◌∙◌, rules, refl, ap, sym}
 use Rattle.fuse_tables.proofs.Rows.{read_there}
 use Rattle.fuse_tables.proofs.Live.{held, get_live}
 use Rattle.fuse_tables.proofs.live_rows.value_in.Goals as goal

@@ -1,4 +1,4 @@
-use Rattle.std.proofs.Common.{◌≢◌, arith, nat_eq, true, false}
+use Rattle.std.proofs.Common.{arith}
 use Rattle.std.proofs.lemmas.Bool.Decides.{nat_tests}
 use Rattle.fuse_tables.proofs.Rows.{row_there, none_past, none_other}
 use Rattle.fuse_tables.proofs.rows_by_key.is_row_of.Goals as goal

@@ -1,4 +1,4 @@
-use Rattle.std.proofs.Common.{◌≡◌, ◌∙◌, rules, refl, sym, ap, option_map, slice_get, None, Some}
+use Rattle.std.proofs.Common.{◌∙◌, sym, ap, option_map, slice_get}
 use Rattle.fk_queues.proofs.Rising.{request_at_number, none_at, lookup_get}
 use Rattle.fk_queues.proofs.rising_requests.RisingRequestsRequestStore.pending.Goals as goal
 

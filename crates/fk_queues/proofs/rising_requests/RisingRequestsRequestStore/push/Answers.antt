@@ -1,9 +1,9 @@
-use Rattle.std.proofs.Common.{◌≡◌, ◌∙◌, ◌++◌, ◌∷◌, [], rules, refl, sym, ap, subst, T, ℕ, List}
+use Rattle.std.proofs.Common.{◌∙◌, ◌++◌, ◌∷◌, [], refl, sym, ap, subst, T}
 use Rattle.std.specs.Ordering.{nat_cmp}
 use Rattle.std.specs.FinMap.{is_sorted}
 use Rattle.fuse_spec.specs.declared.Mark.TheVariants.{Unread}
 use Rattle.fuse_spec.specs.declared.QueuedRequest.{QueuedRequest}
-use Rattle.fk_queues.specs.Rising.{unread_numbers, RequestsState}
+use Rattle.fk_queues.specs.Rising.{unread_numbers}
 use Rattle.fk_queues.proofs.Rising.{sorted_push, numbers_push}
 use Rattle.fk_queues.proofs.rising_requests.RisingRequestsRequestStore.push.Goals as goal
 

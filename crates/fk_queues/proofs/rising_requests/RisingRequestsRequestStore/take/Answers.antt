@@ -1,4 +1,4 @@
-use Rattle.std.proofs.Common.{◌≡◌, ◌∙◌, rules, refl, sym, ap, subst, T, filter, not, nat_eq}
+use Rattle.std.proofs.Common.{◌∙◌, sym, ap, subst, T, filter, not, nat_eq}
 use Rattle.std.specs.Ordering.{nat_cmp}
 use Rattle.std.specs.FinMap.{is_sorted}
 use Rattle.fuse_tables.proofs.Rows.{sorted_without}

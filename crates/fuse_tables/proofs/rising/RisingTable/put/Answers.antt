@@ -1,6 +1,6 @@
-use Rattle.std.proofs.Common.{◌≡◌, ◌∙◌, ◌+◌, ◌≤◌, ap, sym, length, None, arith, deque_capacity}
+use Rattle.std.proofs.Common.{◌≡◌, ◌∙◌, ap, length, None, arith}
 use Rattle.fuse_spec.specs.Values.Maps.{get}
-use Rattle.fuse_tables.specs.LiveRows.{live, IsKept}
+use Rattle.fuse_tables.specs.LiveRows.{live}
 use Rattle.fuse_tables.proofs.Live.{sorted_live, length_more}
 use Rattle.fuse_tables.proofs.rising.RisingTable.put.Goals as goal
 

@@ -1,8 +1,5 @@
-use Rattle.std.proofs.Common.{◌≡◌, ◌∙◌, ◌+◌, ◌≤◌, ap, sym, length, None, Some, T, arith, subst, deque_capacity}
-use Rattle.std.specs.Ordering.{nat_cmp}
-use Rattle.std.specs.FinMap.{is_sorted}
-use Rattle.fuse_spec.specs.Values.Maps.{get, remove}
-use Rattle.fuse_tables.specs.LiveRows.{live, IsKept}
+use Rattle.std.proofs.Common.{◌∙◌, ap, sym, length, arith}
+use Rattle.fuse_tables.specs.LiveRows.{live}
 use Rattle.fuse_tables.proofs.Rows.{absent_is}
 use Rattle.fuse_tables.proofs.Live.{sorted_live, length_less}
 use Rattle.fuse_tables.proofs.rising.RisingTable.remove.Goals as goal
