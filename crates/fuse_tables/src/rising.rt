@@ -92,7 +92,12 @@ impl<V: Drop, A: Allocator + Copy> RisingTable<V, A> {
         let Some(rows) = twice_with(self.count, more) else {
             return Err(AllocError);
         };
-        self.rows.reserve(rows.saturating_sub(self.rows.len()))
+        if rows <= self.rows.capacity() {
+            return Ok(());
+        }
+        // Half more than is asked for: the queue's own growth is no more than what it is asked.
+        let grown = rows.saturating_add(rows / 2);
+        self.rows.reserve(grown.saturating_sub(self.rows.len()))
     }
 
     /// Puts a value at a key that has none, into room that was made.
