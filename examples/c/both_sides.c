@@ -1,19 +1,14 @@
 /* The proved kernel and the proved server, each a process of its own, played against each other; what they print is
-   compared with a run of both in one process (`fuseworld run`).
-
-   cc -o both_sides both_sides.c && ./both_sides path/to/fuseworld */
+   compared with a run of both in one process. cc -o both_sides both_sides.c && ./both_sides path/to/fuseworld */
 #include <stdarg.h>
 #include <stdio.h>
 #include <stdlib.h>
 #include <string.h>
-#include <sys/wait.h>
 #include <unistd.h>
 
 enum { LINE = 20000 };
 
-struct side {
-    FILE *to, *from;
-};
+struct side { FILE *to, *from; };
 
 static void fail(const char *why, const char *line)
 {
@@ -32,22 +27,19 @@ static const char *text(const char *format, ...)
     return made;
 }
 
-/* Starts the program as one side, or on a script. */
-static struct side start(const char *program, const char *command, const char *file)
+/* Starts the program as one side, or without a command on a script. */
+static struct side start(const char *program, const char *command)
 {
     int to[2], from[2];
     if (pipe(to) || pipe(from))
-        fail("no pipe", command);
+        fail("no pipe", program);
     if (fork() == 0) {
-        dup2(to[0], 0);
-        dup2(from[1], 1);
-        close(to[1]);
-        close(from[0]);
-        execl(program, program, command, file, (char *)0);
+        dup2(to[0], 0), dup2(from[1], 1);
+        close(to[1]), close(from[0]);
+        execl(program, program, command, (char *)0);
         _exit(127);
     }
-    close(to[0]);
-    close(from[1]);
+    close(to[0]), close(from[1]);
     return (struct side){fdopen(to[1], "w"), fdopen(from[0], "r")};
 }
 
@@ -107,25 +99,22 @@ static void trip(struct side *kernel, struct side *server, struct side *run)
 int main(int count, char **words)
 {
     const char *program = count > 1 ? words[1] : "fuseworld";
-    static const char *const calls[] = {"call mkdir /d", "call create /d/f", "call write 2 0 68656c6c6f",
-        "call read 2 0 9", "call list / 0"};
-    char name[] = "/tmp/both_sides.XXXXXX", said[LINE];
-    FILE *script = fdopen(mkstemp(name), "w");
-    fprintf(script, "mount 1000 0\nread p 0\ntake 0\ndo 2\nwrite 0\nsettle 0\n");
+    static const char *const calls[] = {"mkdir /d", "create /d/f", "write 2 0 68656c6c6f", "read 2 0 9", "list / 0"};
+    char said[LINE];
+    struct side kernel = start(program, "kernel"), server = start(program, "server"), run = start(program, 0);
+    fprintf(run.to, "mount 1000 0\nread p 0\ntake 0\ndo 2\nwrite 0\nsettle 0\n");
     for (int i = 0; i < 5; i++)
-        fprintf(script, "%s\nread p 0\ntake 0\ndo %d\nwrite 0\nsettle 0\n", calls[i], 4 + 2 * i);
-    fclose(script);
-    struct side kernel = start(program, "kernel", 0), server = start(program, "server", 0), run = start(program, "run", name);
+        fprintf(run.to, "call %s\nread p 0\ntake 0\ndo %d\nwrite 0\nsettle 0\n", calls[i], 4 + 2 * i);
+    fclose(run.to);
     say(&server, "mount 1000 0", said);
     say(&kernel, "mount", said);
     expect(&run, said);
     trip(&kernel, &server, &run);
     for (int i = 0; i < 5; i++) {
-        say(&kernel, calls[i], said);
+        say(&kernel, text("call %s", calls[i]), said);
         expect(&run, said);
         trip(&kernel, &server, &run);
     }
-    unlink(name);
     printf("both sides did what the run did\n");
     return 0;
 }
