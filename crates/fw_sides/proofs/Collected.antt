@@ -1,7 +1,9 @@
 -- Answers are collected one after another, the lowest first.
-use Rattle.std.proofs.Common.{◌≡◌, ℕ, ◌+◌, ◌≤◌, Bool, true, not, nat_eq, cond, List, [], ◌∷◌, Option, Some, None, length, filter, slice_get, refl, ap, sym, arith, inl, inr}
+use Rattle.std.proofs.Common.{◌≡◌, ℕ, ◌+◌, ◌≤◌, ◌<◌, Bool, true, not, nat_eq, cond, List, [], ◌∷◌, Option, Some, None, length, filter, slice_get, refl, ap, sym, arith, inl, inr}
 use Rattle.std.proofs.lemmas.Bool.Decides.{eqb_tells}
 use Rattle.std.proofs.lemmas.List.Sums.{count_by-le-length, length-filter}
+use Rattle.fuse_spec.specs.Calls.Answers.{Answer}
+use Rattle.fuse_spec.specs.Kernel.Kernel.{Kernel}
 use Rattle.fuse_spec.specs.Values.Maps.{Map, remove}
 
 abbrev key_or : {X : Type 0} → ℕ → Option (ℕ × X) → ℕ
@@ -30,3 +32,12 @@ fewer (e ∷ m) k x is = elim (eqb_tells e.0 k) [
 pub none_first : {X : Type 0} (m : Map X) → None ≡ slice_get m 0 → m ≡ []
 none_first [] is = refl
 none_first {X} (e ∷ m) is = let no : ◌≡◌ {A = Option (ℕ × X)} None (Some e) = is in cc
+
+-- A kernel of which the first answer is collected has fewer.
+pub fewer_left : (old new : Kernel) (k : ℕ) (x : Answer) → Some (k, x) ≡ slice_get old.vfs.answers 0
+    → new ≡ record old { vfs = record old.vfs { answers = remove old.vfs.answers k } }
+    → length new.vfs.answers < length old.vfs.answers
+fewer_left old new k x first taken =
+    let less = fewer old.vfs.answers k x first in
+    let same = ap (λ (kernel : Kernel). length kernel.vfs.answers) taken in
+    omega (arith, less, same)

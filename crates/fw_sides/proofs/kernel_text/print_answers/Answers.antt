@@ -1,17 +1,13 @@
-use Rattle.std.proofs.Common.{◌≡◌, ◌+◌, ◌≤◌, length, ap, subst, ◌∙◌, arith}
+use Rattle.std.proofs.Common.{ap, ◌∙◌}
 use Rattle.fuse_spec.specs.Calls.Answers.{Answer}
-use Rattle.fuse_spec.specs.Kernel.Kernel.{Kernel}
 use Rattle.fuse_spec.specs.Values.Maps.{Map}
 use Rattle.fk_syscalls.specs.Values.{answer_of}
-use Rattle.fw_sides.specs.KernelRuns.{all_collected}
-use Rattle.fw_sides.proofs.Collected.{fewer, none_first}
+use Rattle.fw_sides.proofs.Collected.{fewer_left, none_first}
 use Rattle.fw_sides.proofs.kernel_text.print_answers.Goals as goal
 
 pub loop-call-smaller : goal.loop-call-smaller
-loop-call-smaller g c =
-    let less = fewer c.loop-call.kernel.vfs.answers c.in-Some.call (answer_of c.in-Some.answer) c.in-Some.ensures.answer in
-    let same = ap (λ (k : Kernel). length k.vfs.answers) c.in-Some.ensures.taken in
-    omega (arith, less, same)
+loop-call-smaller g c = fewer_left c.loop-call.kernel c.collect.new.self c.in-Some.call (answer_of c.in-Some.answer)
+    c.in-Some.ensures.answer c.in-Some.ensures.taken
 
 pub returns : goal.returns
 returns g c =
