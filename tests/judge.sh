@@ -16,3 +16,14 @@ judge() {
         failed=$((failed + 1))
     fi
 }
+
+# expect NAME STATUS OUTPUT FAULT ARGUMENTS..: runs the program on the file in.
+expect() {
+    name=$1
+    status=$2
+    printf %s "$3" > "$work/want-out"
+    printf %s "$4" > "$work/want-err"
+    shift 4
+    "$program" "$@" < "$work/in" > "$work/out" 2> "$work/err"
+    judge "$name" $? "$status"
+}

@@ -6,17 +6,6 @@ set -u
 cd "$(dirname "$0")/.." || exit 1
 . tests/judge.sh
 
-# expect NAME STATUS FAULT ARGUMENTS..: runs the program on the file in; nothing is to be printed.
-expect() {
-    name=$1
-    status=$2
-    : > "$work/want-out"
-    printf %s "$3" > "$work/want-err"
-    shift 3
-    "$program" "$@" < "$work/in" > "$work/out" 2> "$work/err"
-    judge "$name" $? "$status"
-}
-
 # is_picture FILE: whether it is an SVG element that XML's rules admit, with a title, a description, and its size.
 is_picture() {
     python3 - "$1" << 'END'
@@ -104,15 +93,15 @@ newline='
 '
 : > "$work/in"
 printf 'mount 1000 0\nread p 0\ntake one\nfoo\n' > "$work/script"
-expect "a mistake on the third line" 1 "line 3: bad number$newline" draw "$work/script"
+expect "a mistake on the third line" 1 "" "line 3: bad number$newline" draw "$work/script"
 printf '# a comment\n\nfoo\n' > "$work/script"
-expect "an unknown event" 1 "line 3: unknown event$newline" draw "$work/script"
+expect "an unknown event" 1 "" "line 3: unknown event$newline" draw "$work/script"
 printf 'call stat' > "$work/script"
-expect "no path" 1 "line 1: wrong words$newline" draw "$work/script"
+expect "no path" 1 "" "line 1: wrong words$newline" draw "$work/script"
 printf 'call write 1 0 6G\n' > "$work/script"
-expect "no hex" 1 "line 1: bad text$newline" draw "$work/script"
-expect "a missing file" 1 "cannot read $work/none$newline" draw "$work/none"
-expect "a directory as file" 1 "cannot read $work$newline" draw "$work"
+expect "no hex" 1 "" "line 1: bad text$newline" draw "$work/script"
+expect "a missing file" 1 "" "cannot read $work/none$newline" draw "$work/none"
+expect "a directory as file" 1 "" "cannot read $work$newline" draw "$work"
 "$program" draw tests/draw/interrupt.script > /dev/full 2> "$work/err"
 code=$?
 : > "$work/out"

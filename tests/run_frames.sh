@@ -7,8 +7,8 @@ set -u
 cd "$(dirname "$0")/.." || exit 1
 . tests/judge.sh
 
-# expect STATUS OUTPUT FAULT ARGUMENTS..: runs the program, whose output and fault are a line each, or nothing.
-expect() {
+# expect_lines STATUS OUTPUT FAULT ARGUMENTS..: runs the program, whose output and fault are a line each, or nothing.
+expect_lines() {
     status=$1
     [ -z "$2" ] || echo "$2" > "$work/want-out"
     [ -n "$2" ] || : > "$work/want-out"
@@ -21,13 +21,13 @@ expect() {
 
 while IFS= read -r words && IFS= read -r wanted; do
     # shellcheck disable=SC2086
-    expect 0 "$wanted" "" ${words#\$ }
+    expect_lines 0 "$wanted" "" ${words#\$ }
 done < tests/frames/words.txt
 
-expect 1 "" "bad hex" frame --words 2a0
-expect 1 "" "bad hex" reply LOOKUP 2A
-expect 2 "" "unknown opcode FLUSH" reply FLUSH 10000000000000000400000000000000
-expect 2 "" "unknown opcode lookup" reply lookup 10000000000000000400000000000000
+expect_lines 1 "" "bad hex" frame --words 2a0
+expect_lines 1 "" "bad hex" reply LOOKUP 2A
+expect_lines 2 "" "unknown opcode FLUSH" reply FLUSH 10000000000000000400000000000000
+expect_lines 2 "" "unknown opcode lookup" reply lookup 10000000000000000400000000000000
 
 # A capture.
 cp tests/frames/made.expected "$work/want-out"
@@ -41,12 +41,12 @@ code=$?
 : > "$work/out"
 : > "$work/want-out"
 judge "decode to a full device" "$code" 5
-expect 0 "requests 0 replies 0 unanswered 0 refused 0 lookups" "" decode
+expect_lines 0 "requests 0 replies 0 unanswered 0 refused 0 lookups" "" decode
 for fault in "bad hex:> 2A" "bad hex:> 00 00" "bad hex:< 000" "wrong words:>00" "wrong words:<" "unknown direction:00" "unknown direction:"; do
     printf '> 00\n%s\n' "${fault#*:}" > "$work/capture"
-    expect 1 "" "line 2: ${fault%%:*}" decode "$work/capture"
+    expect_lines 1 "" "line 2: ${fault%%:*}" decode "$work/capture"
 done
-expect 1 "" "cannot read $work/none" decode "$work/none"
+expect_lines 1 "" "cannot read $work/none" decode "$work/none"
 
 # The vectors.
 "$program" vectors > "$work/vectors" 2> "$work/err"
@@ -62,7 +62,7 @@ code=$?
 judge "vectors to a full device" "$code" 5
 
 # The version.
-expect 0 "fuseworld $(sed -n 's/.*VERSION: &str = "\(.*\)";/\1/p' crates/fuseworld/src/version.rt)" "" --version
+expect_lines 0 "fuseworld $(sed -n 's/.*VERSION: &str = "\(.*\)";/\1/p' crates/fuseworld/src/version.rt)" "" --version
 "$program" --version > /dev/full 2> "$work/err"
 code=$?
 : > "$work/out"

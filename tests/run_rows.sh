@@ -6,17 +6,6 @@ set -u
 cd "$(dirname "$0")/.." || exit 1
 . tests/judge.sh
 
-# expect NAME STATUS OUTPUT FAULT ARGUMENTS..: runs the program on the file in.
-expect() {
-    name=$1
-    status=$2
-    printf %s "$3" > "$work/want-out"
-    printf %s "$4" > "$work/want-err"
-    shift 4
-    "$program" "$@" < "$work/in" > "$work/out" 2> "$work/err"
-    judge "$name" $? "$status"
-}
-
 # expect_full NAME STATUS FAULT ARGUMENTS..: the same with a full device as standard output.
 expect_full() {
     name=$1

@@ -80,6 +80,18 @@ static void print_pairs(const uint8_t *bytes, size_t len, size_t offset)
         printf(" %" PRIu64 ":%" PRIu64, pair.nodeid, pair.nlookup);
 }
 
+static void print_names(const struct fuseworld_request *r, const uint8_t *bytes)
+{
+    if (r->name_length > 0) {
+        printf(" name ");
+        print_name(bytes + r->name_offset, r->name_length);
+    }
+    if (r->newname_length > 0) {
+        printf(" newname ");
+        print_name(bytes + r->newname_offset, r->newname_length);
+    }
+}
+
 static void print_request(const struct fuseworld_request *r, const uint8_t *bytes, size_t len)
 {
     printf("> ");
@@ -107,8 +119,7 @@ static void print_request(const struct fuseworld_request *r, const uint8_t *byte
     case FUSEWORLD_INIT:
         printf(" major %" PRIu32 " minor %" PRIu32 " flags %" PRIu32, r->major, r->minor, r->flags);
         break;
-    case FUSEWORLD_READDIR:
-    case FUSEWORLD_READDIRPLUS:
+    case FUSEWORLD_READDIR: case FUSEWORLD_READDIRPLUS:
         printf(" offset %" PRIu64 " size %" PRIu32, r->offset, r->size);
         break;
     case FUSEWORLD_INTERRUPT:
@@ -118,14 +129,7 @@ static void print_request(const struct fuseworld_request *r, const uint8_t *byte
         print_pairs(bytes, len, r->data_offset);
         break;
     }
-    if (r->name_length > 0) {
-        printf(" name ");
-        print_name(bytes + r->name_offset, r->name_length);
-    }
-    if (r->newname_length > 0) {
-        printf(" newname ");
-        print_name(bytes + r->newname_offset, r->newname_length);
-    }
+    print_names(r, bytes);
     putchar('\n');
 }
 
