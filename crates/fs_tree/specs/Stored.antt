@@ -5,7 +5,7 @@ use Rattle.std.specs.Option.{unwrap_or}
 use Rattle.fuse_spec.specs.Values.Maps.{Map, get}
 use Rattle.fuse_spec.specs.Files.Operations.{Dirent, DirentPlus, files_listed}
 use Rattle.fuse_spec.specs.Files.Trees.{Content, Named, is_at, kind_of, record_length, same_name}
-use Rattle.fuse_spec.specs.Values.Numbers.{counter_end}
+use Rattle.fuse_spec.specs.Values.Numbers.{counter_end, max_names}
 
 -- The record of READDIR for a name of one of these files.
 abbrev pub dirent_in : Map Content → Named → Dirent
@@ -48,7 +48,7 @@ IsRising low (n ∷ names) next = (low ≤ n.serial) × IsRising (n.serial + 1) 
 pub record IsKept (files : Map Content) (names : List Named) (next_birth next_serial : ℕ) : Type 0 where
   pub born : AreBelow next_birth files
   pub rising : IsRising 1 names next_serial
-  pub few : length names ≤ 4096
+  pub few : length names ≤ max_names
   pub births_fit : next_birth ≤ counter_end
   pub serials_fit : next_serial ≤ counter_end
 

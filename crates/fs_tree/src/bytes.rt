@@ -4,7 +4,7 @@ ghost use Rattle.std.specs.Prelude.{◌≡◌, ◌+◌, ◌≤◌, ◌<◌, IfNo
 ghost use Rattle.fuse_spec.specs.Files.Operations.{getattr, opening, read, write, content, attributes};
 ghost use Rattle.fuse_spec.specs.Files.Trees.{attributes_of, overwritten};
 ghost use Rattle.fuse_spec.specs.Files.FileOperations.{refusal, tree_unrefused};
-ghost use Rattle.fuse_spec.specs.Values.Numbers.{counter_end};
+ghost use Rattle.fuse_spec.specs.Values.Numbers.{counter_end, max_file};
 ghost use Rattle.fs_tree.specs.Outcomes.{IsRefused, IsReply, Refuses, is_regular};
 
 use crate::error::TreeError;
@@ -97,7 +97,7 @@ impl<A: Allocator + Copy> Tree<A> {
 
 /// Whether so many bytes from an offset on lie within the largest file.
 fn fits(offset: u64, len: usize) -> bool
-    ensures { (result ≡ true) ↔ (offset + len ≤ 65536) }
+    ensures { (result ≡ true) ↔ (offset + len ≤ max_file) }
 {
     offset <= MAX_FILE && len as u64 <= MAX_FILE - offset
 }
@@ -112,7 +112,7 @@ pub(crate) fn overwrite<A: Allocator>(
     offset: usize,
     bytes: &[u8],
 ) -> Result<(), AllocError>
-    requires fits { offset + length bytes.now ≤ 65536 }
+    requires fits { offset + length bytes.now ≤ max_file }
     requires some { 0 < length bytes.now }
     ensures ok { OnOk result (old.new.items ≡ overwritten old.old.items offset bytes.now) }
     ensures unchanged { OnErr result (old.new.items ≡ old.old.items) }

@@ -3,6 +3,7 @@
 ghost use Rattle.std.specs.Prelude.{◌≡◌, ◌++◌, ◌∷◌, [], not, filter, find, map, nat_eq, nat_lt, length, option_map, ◌≤◌, ◌<◌, ◌+◌, cond, None, Some, IfOk, OnErr, OnOk};
 ghost use Rattle.fuse_spec.specs.Values.Maps.{Map};
 ghost use Rattle.fuse_spec.specs.Files.Trees.{Content, same_name};
+ghost use Rattle.fuse_spec.specs.Values.Numbers.{max_transfer};
 ghost use Rattle.std.specs.Ordering.{nat_cmp};
 ghost use Rattle.std.specs.BTreeMap.{IsOrdered};
 ghost use Rattle.arrayvec.specs.ArrayVec.{array_vec_len};
@@ -158,7 +159,7 @@ impl<A: Allocator + Copy> Entries<A> {
 
     /// The files that the names with a serial over `after` tell, as many names as fit so many bytes with their entries.
     pub(crate) fn files_listed(&self, after: u64, size: usize) -> ArrayVec<u64, MOST_LISTED>
-        requires { size ≤ 4096 }
+        requires { size ≤ max_transfer }
         ensures { (files : Map Content) → result.items ≡ files_led
             (fitting_with 128 size (map (lead_in files) (filter (λ n. nat_lt after n.serial)
             (map (in_directory 0) self.now)))) }

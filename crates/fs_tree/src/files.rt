@@ -2,6 +2,7 @@
 
 ghost use Rattle.std.specs.Prelude.{◌≡◌, ◌+◌, ◌<◌, ◌≤◌, [], Some, filter, not, cond, count_by, length, nat_eq, OnErr, OnOk};
 ghost use Rattle.fuse_spec.specs.Values.Maps.{get, put, remove};
+ghost use Rattle.fuse_spec.specs.Values.Numbers.{max_file};
 ghost use Rattle.fuse_spec.specs.Files.Trees.{kind_of, bytes_of, a_file, overwritten};
 ghost use Rattle.fuse_spec.specs.declared.Kind.TheVariants.{Regular};
 ghost use Rattle.fs_tree.specs.Views.{content_in};
@@ -42,7 +43,7 @@ impl<A: Allocator> Content<A> {
 
     /// Writes bytes into a regular file from an offset on.
     fn write(&mut self, offset: usize, bytes: &[u8]) -> Result<(), AllocError>
-        requires fits { offset + length bytes.now ≤ 65536 }
+        requires fits { offset + length bytes.now ≤ max_file }
         requires some { 0 < length bytes.now }
         requires regular { kind_of (Some (content_in self.old)) ≡ Regular }
         ensures ok { OnOk result (content_in self.new
@@ -135,7 +136,7 @@ impl<A: Allocator + Copy> Files<A> {
 
     /// Writes bytes into a regular file, in place, from an offset on. Where memory is refused nothing changes.
     pub(crate) fn write(&mut self, file: u64, offset: usize, bytes: &[u8]) -> Result<(), AllocError>
-        requires fits { offset + length bytes.now ≤ 65536 }
+        requires fits { offset + length bytes.now ≤ max_file }
         requires some { 0 < length bytes.now }
         requires regular { kind_of (get self.old file) ≡ Regular }
         ensures ok { OnOk result (self.new

@@ -3,6 +3,7 @@
 ghost use Rattle.std.specs.Prelude.{◌≡◌, ◌++◌, ◌∷◌, [], ◌<◌, ◌^◌, not, filter, find, map, length, count_by, nat_eq, option_map, OnOk, OnErr, IfOk, ◌≤◌, ◌&&◌, false, None};
 ghost use Rattle.fuse_spec.specs.Values.Maps.{Map};
 ghost use Rattle.fuse_spec.specs.Files.Trees.{Content, is_at, is_within, same_name};
+ghost use Rattle.fuse_spec.specs.Values.Numbers.{max_transfer};
 ghost use Rattle.fs_tree.specs.Views.{lead_of};
 ghost use Rattle.fs_tree.specs.Stored.{files_led, fitting_with, listed, AreRising, IsRising};
 
@@ -234,7 +235,7 @@ impl<A: Allocator + Copy> Names<A> {
         after: u64,
         size: usize,
     ) -> ArrayVec<u64, MOST_LISTED>
-        requires { size ≤ 4096 }
+        requires { size ≤ max_transfer }
         ensures { (files : Map Content) → result.items ≡ files_led
             (fitting_with 128 size (listed files directory after self.now)) }
     {

@@ -4,7 +4,7 @@ ghost use Rattle.std.specs.Prelude.{◌≡◌, ◌≢◌, ◌+◌, ◌<◌, ◌�
 ghost use Rattle.fuse_spec.specs.Files.Operations.{mkdir, create, unlink, rmdir, link, rename};
 ghost use Rattle.fuse_spec.specs.Files.Trees.{file_at, is_at, with_birth};
 ghost use Rattle.fuse_spec.specs.Files.FileOperations.{refusal, first_refusal, making, tree_unrefused, is_same};
-ghost use Rattle.fuse_spec.specs.Values.Numbers.{counter_end};
+ghost use Rattle.fuse_spec.specs.Values.Numbers.{counter_end, max_names};
 ghost use Rattle.fs_tree.specs.Outcomes.{IsRefused, IsRefusedBy, Refuses, discarded, replacing, without_nameless};
 ghost use Rattle.fs_tree.specs.Views.{content_in};
 
@@ -23,7 +23,7 @@ impl<A: Allocator + Copy> Tree<A> {
     /// 4,096 names (ENOSPC; this project's rule).
     pub fn may_create(&self, directory: u64, name: &[u8]) -> Result<(), TreeError>
         ensures refusal { Refuses (refusal self.now (mkdir directory name.now)) result }
-        ensures room { OnOk result (length self.now.names < 4096) }
+        ensures room { OnOk result (length self.now.names < max_names) }
         ensures free { OnOk result (find (is_at directory name.now) self.now.names ≡ None) }
     {
         if !self.is_directory(directory) {
@@ -38,7 +38,7 @@ impl<A: Allocator + Copy> Tree<A> {
     /// Whether one more name in a directory is refused.
     fn may_add(&self, directory: u64, name: &[u8]) -> Result<(), TreeError>
         ensures refusal { Refuses (first_refusal (making self.now directory name.now)) result }
-        ensures room { OnOk result (length self.now.names < 4096) }
+        ensures room { OnOk result (length self.now.names < max_names) }
         ensures free { OnOk result (find (is_at directory name.now) self.now.names ≡ None) }
     {
         if self.names.file_at(directory, name).is_some() {
@@ -185,7 +185,7 @@ impl<A: Allocator + Copy> Tree<A> {
     /// `NotFound` for a nameless file, `AlreadyExists` (EEXIST), `NoSpace` at 4,096 names (ENOSPC; this project's rule).
     pub fn may_link(&self, file: u64, directory: u64, name: &[u8]) -> Result<(), TreeError>
         ensures refusal { Refuses (refusal self.now (link file directory name.now)) result }
-        ensures room { OnOk result (length self.now.names < 4096) }
+        ensures room { OnOk result (length self.now.names < max_names) }
         ensures free { OnOk result (find (is_at directory name.now) self.now.names ≡ None) }
     {
         if !self.is_directory(directory) {

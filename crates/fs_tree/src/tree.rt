@@ -5,7 +5,7 @@ ghost use Rattle.fuse_spec.specs.Files.Operations.{lookup};
 ghost use Rattle.fuse_spec.specs.Files.Trees.{is_directory, is_nameless, links, file_at};
 ghost use Rattle.fuse_spec.specs.Files.FileOperations.{refusal};
 ghost use Rattle.fuse_spec.specs.Files.TreeShape.{IsShaped};
-ghost use Rattle.fuse_spec.specs.Values.Numbers.{counter_end};
+ghost use Rattle.fuse_spec.specs.Values.Numbers.{counter_end, max_names};
 ghost use Rattle.fs_tree.specs.Outcomes.{IsRefusedBy, Refuses, only_root};
 ghost use Rattle.fs_tree.specs.Stored.{IsRising};
 
@@ -113,7 +113,7 @@ impl<A: Allocator + Copy> Tree<A> {
     /// How many names lead to a file. The root counts as having one.
     pub(crate) fn links(&self, file: u64) -> usize
         ensures links { result ≡ links self.now file }
-        ensures few { result ≤ 4096 }
+        ensures few { result ≤ max_names }
     {
         if file == ROOT {
             1

@@ -1,6 +1,7 @@
 //! Pairs as they stand in a BATCH_FORGET.
 
 ghost use Rattle.std.specs.Prelude.{◌≡◌, ◌≤◌, IfOk, OnOk, length};
+ghost use Rattle.fuse_spec.specs.Values.Numbers.{max_forgets};
 ghost use Rattle.fk_wire.specs.Fields.{InRange, spellings};
 ghost use Rattle.fk_wire.specs.Pairs.{forget_ones};
 
@@ -12,7 +13,7 @@ pub(crate) fn pair_bytes<A: Allocator>(
     alloc: A,
     pairs: &[(u64, u64)],
 ) -> Result<Vec<u8, A>, AllocError>
-    requires { length pairs.now ≤ 64 }
+    requires { length pairs.now ≤ max_forgets }
     ensures items { IfOk result (λ bytes. bytes.items ≡ spellings (forget_ones pairs.now)) }
     ensures fits { OnOk result (InRange (forget_ones pairs.now)) }
 {

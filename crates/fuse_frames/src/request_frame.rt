@@ -3,7 +3,7 @@
 ghost use Rattle.std.specs.Prelude.{◌≡◌, ◌≤◌, IfOk, Some, length};
 ghost use Rattle.fk_wire.specs.Requests.{request_content};
 ghost use Rattle.fuse_spec.specs.Kernel.Messages.{RequestBody as Asked, init, release, forget, batch_forget, interrupt};
-ghost use Rattle.fuse_spec.specs.Values.Numbers.{init_flags};
+ghost use Rattle.fuse_spec.specs.Values.Numbers.{init_flags, max_forgets};
 ghost use Rattle.fuse_spec.specs.World.Worlds.{forget_body};
 ghost use Rattle.fuse_frames.specs.RequestTies.{IsRequestFrame, body_asking, body_in, content_of, asked_opcode};
 
@@ -159,7 +159,7 @@ impl<A: Allocator + Copy> RequestFrame<A> {
         unique: u64,
         pairs: &[(u64, u64)],
     ) -> Result<RequestFrame<A>, AllocError>
-        requires { length pairs.now ≤ 64 }
+        requires { length pairs.now ≤ max_forgets }
         ensures { IfOk result (λ frame. frame ≡ record { unique = unique; body = forget_body pairs.now }) }
     {
         if pairs.len() == 1 {
@@ -191,7 +191,7 @@ impl<A: Allocator + Copy> RequestFrame<A> {
         unique: u64,
         pairs: &[(u64, u64)],
     ) -> Result<RequestFrame<A>, AllocError>
-        requires { length pairs.now ≤ 64 }
+        requires { length pairs.now ≤ max_forgets }
         ensures { IfOk result (λ frame. frame ≡ record { unique = unique; body = batch_forget pairs.now }) }
     {
         let bytes = pair_bytes(alloc, pairs)?;
