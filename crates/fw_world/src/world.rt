@@ -1,11 +1,9 @@
 //! The world.
 
-ghost use Rattle.std.specs.Prelude.{◌≡◌, ◌≤◌, ◌<◌, ◌++◌, ◌∷◌, [], ℕ, List, true, false, OnErr};
+ghost use Rattle.std.specs.Prelude.{◌≡◌, OnErr};
 ghost use Rattle.std.specs.Prelude.{IfOk, IfErr, IfNone, IfSome, length, option_map, slice_get};
-ghost use Rattle.std.specs.VecDeque.{deque_len, deque_capacity};
 ghost use Rattle.fuse_spec.specs.World.Events as event;
-ghost use Rattle.fuse_spec.specs.Kernel.Refusals.{or_no_memory};
-ghost use Rattle.fuse_spec.specs.World.Steps.{Happens, is_past, IsRefused, RefusedWith};
+ghost use Rattle.fuse_spec.specs.World.Steps.{Happens, IsRefused, RefusedWith};
 ghost use Rattle.fuse_spec.specs.World.Worlds.{World as WorldState, first_world};
 ghost use Rattle.fuse_spec.specs.Claim.Counts.{Keeps};
 ghost use Rattle.fuse_spec.specs.Reference.Plain.{Plain, first_plain};
@@ -13,30 +11,28 @@ ghost use Rattle.fuse_spec.specs.Claim.Alike.{Alike};
 ghost use Rattle.fuse_spec.specs.Claim.Runs.{plain_handed_out};
 ghost use Rattle.fuse_spec.specs.declared.Refusal.TheVariants.{NoMemory};
 ghost use Rattle.fuse_theorem.specs.SoundWorlds.{IsSoundWorld};
-ghost use Rattle.fk_syscalls.specs.Values.{call_of, answer_of};
-ghost use Rattle.fs_server.specs.Effects.{AnswersFrame};
-ghost use Rattle.fw_world.specs.declared.world.LastPut.TheVariants.{Request};
-ghost use Rattle.fw_world.specs.Frames.{IsCopyFrame, IsFrameOf, IsLastFrame, IsShown};
+ghost use Rattle.fk_syscalls.specs.Values.{answer_of};
+ghost use Rattle.fw_world.specs.Frames.{IsFrameOf, IsLastFrame, IsShown};
 ghost use Rattle.fw_world.specs.ListedNodes.{AreListed};
 ghost use Rattle.fw_world.specs.Runs.{StepsAs, call_collected};
-ghost use Rattle.fw_world.specs.Values.{counted_nodes, event_of, held_nodes};
-ghost use Rattle.fw_world.specs.Values.{outcome_of, read_of, refusal_for, with_copy};
+ghost use Rattle.fw_world.specs.Values.{counted_nodes, event_of, held_nodes, outcome_of};
 
+mod counters;
+mod kernel_events;
 mod last_sent;
+mod refusals;
+mod server_events;
 
 use crate::event::{Event, Outcome};
 use crate::links::clear_links;
 use crate::tables::{Lists, Maps, Tables};
-use fk_kernel::{Answer, Call, KernelOf, Pick};
-use fk_lookup_count::CountTable;
-use fk_queues::QueueTable;
-use fs_nodes::NodeStore;
-use fs_server::{ServerFault, ServerOf};
+use fk_kernel::{Answer, Call, KernelOf};
+use fs_server::ServerOf;
 use fuse_frames::{RequestFrame, Sent};
 use fuse_spec::limits::MAX_VALIDITY;
-use fuse_spec::{Minor, Purpose, Refusal, ReplyResult, Taken};
-use fuse_tables::{last, take_at};
-use std::alloc::{AllocError, Allocator, Global};
+use fuse_spec::{Minor, Refusal, ReplyResult, Taken};
+use fuse_tables::last;
+use std::alloc::{AllocError, Global};
 use std::collections::VecDeque;
 use std::marker::Model;
 
@@ -289,99 +285,6 @@ impl<T: Tables> WorldOf<T> {
         Ok(Outcome::Mounted)
     }
 
-    fn call(&mut self, call: &Call<'_>) -> Result<Outcome, Refusal>
-        ensures err { OnErr result (self.new ≡ self.old) }
-        ensures refusal { IfErr result (RefusedWith self.old (event.call (call_of call.now))) }
-        ensures happens { IfOk result (λ outcome. Happens self.old (event.call (call_of call.now))
-            (outcome_of outcome) self.new) }
-        ensures shows { IfOk result (IsShown self.new) }
-    {
-        let call = match self.kernel.begin(call) {
-            Ok(call) => call,
-            Err(refusal) => {
-                within(&self.kernel, &self.server);
-                return Err(refusal);
-            }
-        };
-        within(&self.kernel, &self.server);
-        Ok(Outcome::Begun { call })
-    }
-
-    fn read(&mut self, pick: Pick) -> Result<Outcome, Refusal>
-        ensures err { OnErr result (self.new ≡ self.old) }
-        ensures refusal { IfErr result (RefusedWith self.old (read_of pick)) }
-        ensures happens { IfOk result (λ outcome. Happens self.old (read_of pick) (outcome_of outcome) self.new) }
-        ensures shows { IfOk result (IsShown self.new) }
-    {
-        match pick {
-            Pick::Interrupt => self.read_interrupt(),
-            Pick::Forgets(count) => self.read_forgets(count),
-            Pick::Pending(place) => self.read_pending(place),
-        }
-    }
-
-    fn read_interrupt(&mut self) -> Result<Outcome, Refusal>
-        ensures err { OnErr result (self.new ≡ self.old) }
-        ensures refusal { IfErr result (RefusedWith self.old event.read_interrupt) }
-        ensures happens { IfOk result (λ outcome. Happens self.old event.read_interrupt (outcome_of outcome) self.new) }
-        ensures shows { IfOk result (IsShown self.new) }
-    {
-        within(&self.kernel, &self.server);
-        if self.requests.reserve(1).is_err() {
-            return Err(refusal_or_no_memory(self.kernel.read_refusal(Pick::Interrupt)));
-        }
-        let frame = self.kernel.read(Pick::Interrupt)?;
-        within(&self.kernel, &self.server);
-        Ok(put_read(&mut self.requests, &mut self.last_put, frame))
-    }
-
-    fn read_pending(&mut self, place: u64) -> Result<Outcome, Refusal>
-        ensures err { OnErr result (self.new ≡ self.old) }
-        ensures refusal { IfErr result (RefusedWith self.old (event.read_pending place)) }
-        ensures happens { IfOk result (λ outcome. Happens self.old (event.read_pending place)
-            (outcome_of outcome) self.new) }
-        ensures shows { IfOk result (IsShown self.new) }
-    {
-        within(&self.kernel, &self.server);
-        if self.requests.reserve(1).is_err() {
-            return Err(refusal_or_no_memory(self.kernel.read_refusal(Pick::Pending(place))));
-        }
-        let frame = self.kernel.read(Pick::Pending(place))?;
-        within(&self.kernel, &self.server);
-        Ok(put_read(&mut self.requests, &mut self.last_put, frame))
-    }
-
-    fn read_forgets(&mut self, count: u64) -> Result<Outcome, Refusal>
-        ensures err { OnErr result (self.new ≡ self.old) }
-        ensures refusal { IfErr result (RefusedWith self.old (event.read_forgets count)) }
-        ensures happens { IfOk result (λ outcome. Happens self.old (event.read_forgets count)
-            (outcome_of outcome) self.new) }
-        ensures shows { IfOk result (IsShown self.new) }
-    {
-        within(&self.kernel, &self.server);
-        if self.requests.reserve(1).is_err() {
-            return Err(refusal_or_no_memory(self.kernel.read_refusal(Pick::Forgets(count))));
-        }
-        let frame = self.kernel.read(Pick::Forgets(count))?;
-        within(&self.kernel, &self.server);
-        Ok(put_read(&mut self.requests, &mut self.last_put, frame))
-    }
-
-    fn interrupt(&mut self, call: u64, fatal: bool) -> Result<Outcome, Refusal>
-        ensures err { OnErr result (self.new ≡ self.old) }
-        ensures refusal { IfErr result (IsRefused self.old (event.intr call fatal)) }
-        ensures happens { IfOk result (λ outcome. Happens self.old (event.intr call fatal)
-            (outcome_of outcome) self.new) }
-        ensures shows { IfOk result (IsShown self.new) }
-    {
-        let effect = match self.kernel.interrupt(call, fatal) {
-            Ok(effect) => effect,
-            Err(refusal) => return Err(refusal),
-        };
-        within(&self.kernel, &self.server);
-        Ok(Outcome::Interrupted { call, effect })
-    }
-
     fn abort(&mut self) -> Result<Outcome, Refusal>
         ensures err { OnErr result (self.new ≡ self.old) }
         ensures refusal { IfErr result (IsRefused self.old event.abort) }
@@ -394,288 +297,5 @@ impl<T: Tables> WorldOf<T> {
         self.server.connection_lost();
         clear_links(&mut self.requests, &mut self.replies, &mut self.results);
         Ok(Outcome::Aborted)
-    }
-
-    fn tick(&mut self, ms: u64) -> Result<Outcome, Refusal>
-        ensures err { OnErr result (self.new ≡ self.old) }
-        ensures refusal { IfErr result (IsRefused self.old (event.tick ms)) }
-        ensures happens { IfOk result (λ outcome. Happens self.old (event.tick ms) (outcome_of outcome) self.new) }
-        ensures shows { IfOk result (IsShown self.new) }
-    {
-        let clock = match self.kernel.tick(ms) {
-            Ok(clock) => clock,
-            Err(refusal) => return Err(refusal),
-        };
-        Ok(Outcome::Now { clock })
-    }
-
-    fn drop_name(&mut self, directory: u64, name: &[u8]) -> Result<Outcome, Refusal>
-        ensures err { OnErr result (self.new ≡ self.old) }
-        ensures refusal { IfErr result (IsRefused self.old (event.drop_name directory name.now)) }
-        ensures happens { IfOk result (λ outcome. Happens self.old (event.drop_name directory name.now)
-            (outcome_of outcome) self.new) }
-        ensures shows { IfOk result (IsShown self.new) }
-    {
-        if let Err(refusal) = self.kernel.drop_binding(directory, name) {
-            return Err(refusal);
-        }
-        Ok(Outcome::Dropped)
-    }
-
-    fn evict(&mut self, node: u64) -> Result<Outcome, Refusal>
-        ensures err { OnErr result (self.new ≡ self.old) }
-        ensures refusal { IfErr result (IsRefused self.old (event.evict node)) }
-        ensures happens { IfOk result (λ outcome. Happens self.old (event.evict node) (outcome_of outcome) self.new) }
-        ensures shows { IfOk result (IsShown self.new) }
-    {
-        let count = match self.kernel.evict(node) {
-            Ok(count) => count,
-            Err(refusal) => return Err(refusal),
-        };
-        Ok(Outcome::Evicted { node, count })
-    }
-
-    fn take(&mut self, place: u64) -> Result<Outcome, Refusal>
-        ensures err { OnErr result (self.new ≡ self.old) }
-        ensures refusal { IfErr result (RefusedWith self.old (event.take place)) }
-        ensures happens { IfOk result (λ outcome. Happens self.old (event.take place) (outcome_of outcome) self.new) }
-        ensures shows { IfOk result (IsShown self.new) }
-    {
-        let place = place as usize;
-        if place >= self.requests.len() {
-            return Err(Refusal::NoSuch);
-        }
-        let bytes = self.requests[place].bytes();
-        if !reserve_answer(&mut self.replies, &self.server, bytes) {
-            within(&self.kernel, &self.server);
-            return Err(Refusal::NoMemory);
-        }
-        let took = match self.server.take(bytes) {
-            Ok(took) => took,
-            Err(fault) => {
-                within(&self.kernel, &self.server);
-                return Err(refusal_of(fault));
-            }
-        };
-        let _request = take_at(&mut self.requests, place);
-        within(&self.kernel, &self.server);
-        self.last_put = reply_put(&took.sent);
-        append_if_any(&mut self.replies, took.sent);
-        Ok(Outcome::Taken {
-            unique: took.unique,
-            word: took.word,
-        })
-    }
-
-    fn perform(&mut self, unique: u64) -> Result<Outcome, Refusal>
-        ensures err { OnErr result (self.new ≡ self.old) }
-        ensures refusal { IfErr result (RefusedWith self.old (event.perform unique)) }
-        ensures happens { IfOk result (λ outcome. Happens self.old (event.perform unique)
-            (outcome_of outcome) self.new) }
-        ensures shows { IfOk result (IsShown self.new) }
-    {
-        if self.replies.reserve(1).is_err() {
-            within(&self.kernel, &self.server);
-            return Err(refusal_or_no_memory(self.server.perform_refusal(unique)));
-        }
-        let done = match self.server.perform(unique) {
-            Ok(done) => done,
-            Err(refusal) => {
-                within(&self.kernel, &self.server);
-                return Err(refusal);
-            }
-        };
-        within(&self.kernel, &self.server);
-        let errno = done.errno;
-        let Some(first) = done.sent else {
-            return Ok(Outcome::Lost { unique, errno });
-        };
-        let len = put_reply(&mut self.replies, first);
-        self.last_put = LastPut::Reply;
-        Ok(Outcome::Done { unique, errno, len })
-    }
-
-    fn again(&mut self, unique: u64) -> Result<Outcome, Refusal>
-        ensures err { OnErr result (self.new ≡ self.old) }
-        ensures refusal { IfErr result (RefusedWith self.old (event.again unique)) }
-        ensures happens { IfOk result (λ outcome. Happens self.old (event.again unique) (outcome_of outcome) self.new) }
-        ensures shows { IfOk result (IsShown self.new) }
-    {
-        if self.replies.reserve(1).is_err() {
-            within(&self.kernel, &self.server);
-            return Err(refusal_or_no_memory(self.server.again_refusal(unique)));
-        }
-        let copy = match self.server.again(unique) {
-            Ok(copy) => copy,
-            Err(refusal) => {
-                within(&self.kernel, &self.server);
-                return Err(refusal);
-            }
-        };
-        within(&self.kernel, &self.server);
-        let len = put_reply(&mut self.replies, copy);
-        self.last_put = LastPut::Reply;
-        Ok(Outcome::SentAgain { unique, len })
-    }
-
-    fn write(&mut self, place: u64) -> Result<Outcome, Refusal>
-        ensures err { OnErr result (self.new ≡ self.old) }
-        ensures refusal { IfErr result (RefusedWith self.old (event.write place)) }
-        ensures happens { IfOk result (λ outcome. Happens self.old (event.write place) (outcome_of outcome) self.new) }
-        ensures shows { IfOk result (IsShown self.new) }
-    {
-        let place = place as usize;
-        if place >= self.replies.len() {
-            return Err(Refusal::NoSuch);
-        }
-        let copy = &self.replies[place];
-        if self.results.reserve(1).is_err() {
-            within(&self.kernel, &self.server);
-            return Err(refusal_or_no_memory(self.kernel.write_refusal(copy.bytes())));
-        }
-        let number = copy.number();
-        let unique = copy.unique();
-        let written = match self.kernel.write(copy.bytes()) {
-            Ok(written) => written,
-            Err(refusal) => {
-                within(&self.kernel, &self.server);
-                return Err(refusal);
-            }
-        };
-        within(&self.kernel, &self.server);
-        let _copy = take_at(&mut self.replies, place);
-        self.results.push_back_reserved(ReplyResult {
-            number,
-            unique,
-            result: written,
-        });
-        Ok(Outcome::Written {
-            unique,
-            result: written,
-        })
-    }
-
-    fn settle(&mut self, place: u64) -> Result<Outcome, Refusal>
-        ensures err { OnErr result (self.new ≡ self.old) }
-        ensures refusal { IfErr result (IsRefused self.old (event.settle place)) }
-        ensures happens { IfOk result (λ outcome. Happens self.old (event.settle place) (outcome_of outcome) self.new) }
-        ensures shows { IfOk result (IsShown self.new) }
-    {
-        let place = place as usize;
-        if place >= self.results.len() {
-            return Err(Refusal::NoSuch);
-        }
-        let settled = self.results[place];
-        if let Err(refusal) = self.server.settle(settled.number, settled.result) {
-            return Err(refusal);
-        }
-        let _settled = take_at(&mut self.results, place);
-        Ok(Outcome::Settled {
-            unique: settled.unique,
-            result: settled.result,
-        })
-    }
-}
-
-/// Makes room for the answer that a request frame gets at once, as only an INTERRUPT may, and tells whether there is
-/// room.
-fn reserve_answer<S: NodeStore>(
-    replies: &mut VecDeque<Sent<S::Heap>, S::Heap>,
-    server: &ServerOf<S>,
-    bytes: &[u8],
-) -> bool
-    ensures items { replies.new.items ≡ replies.old.items }
-    ensures room { result ≡ true → AnswersFrame server.now bytes.now → deque_len replies.new < deque_capacity replies.new }
-    ensures answers { result ≡ false → AnswersFrame server.now bytes.now }
-{
-    if !server.take_answers(bytes) {
-        return true;
-    }
-    replies.reserve(1).is_ok()
-}
-
-/// Puts the frame of a request that was read onto its link, which has room, and tells what the read came to.
-#[inline(always)]
-fn put_read<A: Allocator>(
-    requests: &mut VecDeque<RequestFrame<A>, A>,
-    last_put: &mut LastPut,
-    frame: RequestFrame<A>,
-) -> Outcome
-    requires { deque_len requests.old < deque_capacity requests.old }
-    ensures items { requests.new.items ≡ requests.old.items ++ frame ∷ [] }
-    ensures last { last_put.new ≡ Request }
-    ensures outcome { outcome_of result ≡ event.is_read frame.unique }
-    ensures shows { (world : WorldState) → world.requests ≡ requests.new.items → IsShown world result }
-{
-    let (unique, opcode) = frame.head();
-    let len = frame.bytes().len();
-    requests.push_back_reserved(frame);
-    *last_put = LastPut::Request;
-    Outcome::Read {
-        unique,
-        opcode,
-        len,
-    }
-}
-
-/// Puts a copy of a reply onto its link, which has room, and tells its length.
-fn put_reply<A: Allocator>(replies: &mut VecDeque<Sent<A>, A>, copy: Sent<A>) -> usize
-    requires { deque_len replies.old < deque_capacity replies.old }
-    ensures items { replies.new.items ≡ replies.old.items ++ copy ∷ [] }
-    ensures len { (bytes : List ℕ) × IsCopyFrame bytes copy × (result ≡ length bytes) }
-{
-    let len = copy.bytes().len();
-    replies.push_back_reserved(copy);
-    len
-}
-
-/// No counter of a world with this kernel and this server is past its end.
-fn within<Q: QueueTable<Purpose> + Drop, C: CountTable<Heap = Q::Heap> + Drop, S: NodeStore>(
-    kernel: &KernelOf<Q, C>,
-    server: &ServerOf<S>,
-)
-    ensures { (world : WorldState) → world.kernel ≡ kernel.now → world.server ≡ server.now → is_past world ≡ false }
-{
-    kernel.within();
-    kernel.counts_within();
-    server.within();
-}
-
-/// The copy of a reply goes onto its link, if there is one.
-fn append_if_any<A: Allocator>(list: &mut VecDeque<Sent<A>, A>, copy: Option<Sent<A>>)
-    requires { IfSome copy (λ copy. deque_len list.old < deque_capacity list.old) }
-    ensures { list.new.items ≡ with_copy list.old.items copy }
-{
-    if let Some(copy) = copy {
-        list.push_back_reserved(copy);
-    }
-}
-
-/// Which frame was put, where this copy of a reply is sent.
-fn reply_put<A: Allocator>(copy: &Option<Sent<A>>) -> LastPut {
-    match copy {
-        Some(_) => LastPut::Reply,
-        None => LastPut::Nothing,
-    }
-}
-
-/// The refusal that kernel or server would give, or else want of memory, which is judged last.
-fn refusal_or_no_memory(judged: Option<Refusal>) -> Refusal
-    ensures { result ≡ or_no_memory judged }
-{
-    judged.unwrap_or(Refusal::NoMemory)
-}
-
-/// A fault of the server as the refusal of the event that met it.
-fn refusal_of(fault: ServerFault) -> Refusal
-    ensures { result ≡ refusal_for fault }
-{
-    match fault {
-        ServerFault::Exhausted => Refusal::Exhausted,
-        ServerFault::Memory => Refusal::NoMemory,
-        ServerFault::Wire
-        | ServerFault::UnknownNode
-        | ServerFault::TooManyForgets
-        | ServerFault::RepeatedUnique => Refusal::NoSuch,
     }
 }

@@ -1,5 +1,5 @@
 use Rattle.fw_world.proofs.Counters.{world_within}
-use Rattle.fw_world.proofs.world.within.Goals as goal
+use Rattle.fw_world.proofs.world.counters.within.Goals as goal
 
 pub returns : goal.returns
 returns g c world same_kernel same_server =

@@ -1,0 +1,25 @@
+//! That no counter is past its end, for the proofs of events.
+
+ghost use Rattle.std.specs.Prelude.{◌≡◌, false};
+ghost use Rattle.fuse_spec.specs.World.Steps.{is_past};
+ghost use Rattle.fuse_spec.specs.World.Worlds.{World as WorldState};
+
+use fk_kernel::KernelOf;
+use fk_lookup_count::CountTable;
+use fk_queues::QueueTable;
+use fs_nodes::NodeStore;
+use fs_server::ServerOf;
+use fuse_spec::Purpose;
+
+/// No counter of a world with this kernel and this server is past its end.
+pub(super) fn within<
+    Q: QueueTable<Purpose> + Drop,
+    C: CountTable<Heap = Q::Heap> + Drop,
+    S: NodeStore,
+>(kernel: &KernelOf<Q, C>, server: &ServerOf<S>)
+    ensures { (world : WorldState) → world.kernel ≡ kernel.now → world.server ≡ server.now → is_past world ≡ false }
+{
+    kernel.within();
+    kernel.counts_within();
+    server.within();
+}
