@@ -6,10 +6,9 @@ ghost use Rattle.std.specs.Option.{option_copied};
 ghost use Rattle.fuse_spec.specs.declared.Opened.{Opened as OpenedFile};
 ghost use Rattle.fuse_spec.specs.Values.Maps.{get, put, remove, values};
 
-use crate::node_uses::{NodeUses, use_less, use_more};
+use crate::node_pins::NodePins;
 use fuse_spec::Opened;
 use fuse_tables::RisingTable;
-use indexmap::IndexMap;
 use std::alloc::{AllocError, Allocator, Global};
 use std::marker::Model;
 
@@ -18,24 +17,24 @@ use std::marker::Model;
 #[derive(Drop)]
 pub struct OpenFiles<A: Allocator = Global> {
     files: RisingTable<Opened, A>,
-    uses: NodeUses<A>,
+    uses: NodePins<A>,
 }
 
 impl<A: Allocator> Model for OpenFiles<A> {
     ghost use Rattle.std.specs.Prelude.{min};
     ghost use Rattle.std.specs.Coded.{codes};
-    ghost use Rattle.indexmap.specs.IndexMap.{spare};
     ghost use Rattle.fuse_spec.specs.declared.Opened.{Opened as OpenedFile};
     ghost use Rattle.fuse_tables.specs.TableState.{TableState};
-    ghost use Rattle.fk_opens.specs.Uses.{AreCounted};
+    ghost use Rattle.fk_opens.specs.Pins.{HavePins};
+    ghost use Rattle.fk_opens.specs.Uses.{uses_of};
 
     ghost Value = { TableState OpenedFile };
 
     ghost coded = { Prim.hlevel (codes) };
 
-    ghost view = { λ t. record { entries = t.files.entries; room = min t.files.room (spare t.uses) } };
+    ghost view = { λ t. record { entries = t.files.entries; room = min t.files.room t.uses.room } };
 
-    ghost invariant = { λ t. AreCounted t.files.entries t.uses.entries };
+    ghost invariant = { λ t. HavePins t.uses.counts (uses_of t.files.entries) };
 }
 
 impl<A: Allocator + Copy> OpenFiles<A> {
@@ -44,7 +43,7 @@ impl<A: Allocator + Copy> OpenFiles<A> {
     {
         OpenFiles {
             files: RisingTable::new(alloc),
-            uses: IndexMap::new(alloc),
+            uses: NodePins::new(alloc),
         }
     }
 
@@ -66,7 +65,7 @@ impl<A: Allocator + Copy> OpenFiles<A> {
     pub fn is_open(&self, node: u64) -> bool
         ensures { result ≡ list_any (λ (opened : OpenedFile). nat_eq opened.nodeid node) (values self.now.entries) }
     {
-        self.uses.contains_key(&node)
+        self.uses.is_pinned(node)
     }
 
     /// Makes room for so many more.
@@ -91,7 +90,7 @@ impl<A: Allocator + Copy> OpenFiles<A> {
         ensures room { self.old.room ≤ self.new.room + 1 }
     {
         self.files.keeps_sound();
-        use_more(&mut self.uses, opened.nodeid);
+        self.uses.pin(opened.nodeid);
         self.files.put(number, opened);
     }
 
@@ -102,7 +101,7 @@ impl<A: Allocator + Copy> OpenFiles<A> {
         ensures room { self.old.room ≤ self.new.room }
     {
         let opened = self.files.remove(number)?;
-        use_less(&mut self.uses, opened.nodeid);
+        self.uses.unpin(opened.nodeid);
         Some(opened)
     }
 

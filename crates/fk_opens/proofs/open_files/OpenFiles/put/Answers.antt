@@ -1,10 +1,10 @@
 use Rattle.fk_opens.proofs.Counted.{few_uses, opened_more}
 use Rattle.fk_opens.proofs.open_files.OpenFiles.put.Goals as goal
 
-pub use_more-requires-clause-small : goal.use_more-requires-clause-small
-use_more-requires-clause-small g c = few_uses c.self.invariant c.args.opened.nodeid c.keeps_sound.ensures.few
+pub pin-requires-clause-small : goal.pin-requires-clause-small
+pin-requires-clause-small g c = few_uses _ c.self.invariant c.args.opened.nodeid c.keeps_sound.ensures.few
 
 pub invariant_of-self : goal.invariant_of-self
 invariant_of-self g c =
     let absent = rw (← c.self.view_is) at c.requires.absent in
-    rw c.put.ensures.entries (opened_more c.self.invariant _ c.args.number c.args.opened absent c.use_more.ensures.more)
+    rw c.put.ensures.entries (opened_more _ c.self.invariant _ c.args.number c.args.opened absent c.pin.ensures.more)
