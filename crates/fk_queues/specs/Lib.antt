@@ -1,3 +1,4 @@
+pub mod Releases
 pub mod Rising
 pub mod Room
 pub mod State

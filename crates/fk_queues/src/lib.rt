@@ -3,6 +3,7 @@
 
 mod forgets;
 mod interrupts;
+mod kernel_queues;
 pub mod laws;
 mod list_requests;
 mod map_requests;
@@ -15,6 +16,7 @@ pub mod table;
 
 pub use forgets::Forgets;
 pub use fuse_spec::IntrEffect;
+pub use kernel_queues::KernelQueues;
 pub use list_requests::ListRequests;
 pub use map_requests::MapRequests;
 pub use no_memory::NoMemory;

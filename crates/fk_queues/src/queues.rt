@@ -165,6 +165,11 @@ impl<W: Drop, S: RequestStore<W>> QueueTable<W> for QueuesOf<W, S> {
         Some((unique, &request.kept))
     }
 
+    fn kept(&self, unique: u64) -> Option<&W> {
+        let request = self.requests.request(unique)?;
+        Some(&request.kept)
+    }
+
     fn waiting(&self, unique: u64) -> Option<&W> {
         let request = self.requests.request(unique)?;
         match request.mark {
@@ -231,5 +236,6 @@ impl<W: Drop, S: RequestStore<W>> QueueTable<W> for QueuesOf<W, S> {
     fn keeps_sound(&self) {
         // A field is touched so that the type's invariant is at hand.
         let _off = self.interrupts.off;
+        let _count = self.requests.len();
     }
 }

@@ -1,5 +1,5 @@
 //! Requests under their numbers: what a representation of the queues offers.
-ghost use Rattle.std.specs.Prelude.{◌≡◌, ℕ, [], ◌∷◌, ◌++◌, ◌+◌, ◌<◌, ◌≤◌, All, IfSome, List, Option, OnOk, filter, length, nat_eq, option_map, slice_get, true};
+ghost use Rattle.std.specs.Prelude.{◌≡◌, ℕ, [], ◌∷◌, ◌++◌, ◌+◌, ◌<◌, ◌≤◌, ◌^◌, All, IfSome, List, Option, OnOk, filter, length, nat_eq, option_map, slice_get, true};
 ghost use Rattle.std.specs.Option.{option_copied};
 ghost use Rattle.std.specs.Map.{lookup, remove_entry};
 ghost use Rattle.fuse_spec.specs.declared.Mark.TheVariants.{Unread};
@@ -30,7 +30,8 @@ pub trait RequestStore<W: Drop> {
 
     /// How many requests there are.
     fn len(&self) -> usize
-        ensures { result ≡ length (entries self.now) };
+        ensures len { result ≡ length (entries self.now) }
+        ensures few { result < 2 ^ 63 };
 
     /// How many requests fit in all with no memory.
     fn capacity(&self) -> usize

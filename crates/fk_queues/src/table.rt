@@ -1,7 +1,7 @@
 //! The contract of the queues, for any representation.
-ghost use Rattle.std.specs.Prelude.{◌≡◌, ℕ, ◌+◌, ◌<◌, ◌≤◌, Option, OnOk, IsOk, option_map, slice_get, length};
+ghost use Rattle.std.specs.Prelude.{◌≡◌, ℕ, ◌+◌, ◌<◌, ◌≤◌, ◌^◌, Option, OnOk, IsOk, option_map, slice_get, length};
 ghost use Rattle.fuse_spec.specs.Kernel.Uniques.{numbers_left_from};
-ghost use Rattle.fuse_spec.specs.Kernel.Queues.{QueueState, empty_queues, IsSound};
+ghost use Rattle.fuse_spec.specs.Kernel.Queues.{QueueState, empty_queues, request_under, IsSound};
 ghost use Rattle.fuse_spec.specs.Kernel.QueueCalls.{after_enqueue, after_forget, pending_at, after_read_pending, after_read_interrupt, first_forgets, after_read_forgets, waiting, after_answer, interrupt_effect, after_interrupt, after_interrupt_reply, after_no_interrupts};
 ghost use Rattle.fuse_spec.specs.Kernel.QueueLaws.{kept_entries};
 ghost use Rattle.fuse_spec.specs.declared.InterruptReply.TheVariants.{Again};
@@ -107,6 +107,11 @@ pub trait QueueTable<W: Drop> {
     fn request_at(&self, place: usize) -> Option<(u64, &W)>
         ensures { option_map (λ p. (p.0, p.1.now)) result ≡ slice_get (kept_entries (state self.now).requests) place };
 
+    /// What is kept of the request under a number, read or not.
+    fn kept(&self, unique: u64) -> Option<&W>
+        ensures { option_map (λ w. w.now) result
+            ≡ option_map (λ r. r.kept) (request_under (state self.now) unique) };
+
     /// What is kept of the request that was read under a number and is unanswered: what `answer` ends.
     fn waiting(&self, unique: u64) -> Option<&W>
         ensures { option_map (λ w. w.now) result ≡ waiting (state self.now) unique };
@@ -139,8 +144,10 @@ pub trait QueueTable<W: Drop> {
     fn abort(&mut self)
         ensures { state self.new ≡ empty_queues };
 
-    /// A call without effect, for a caller's proof: numbers are even, rise by 2 and name one request at most. A number
-    /// stands on the list of INTERRUPTs once at most, and leaves it when its request ends.
+    /// A call without effect, for a caller's proof: numbers are even, rise by 2 and name one request at most, and memory
+    /// bounds how many requests there are. A number stands on the list of INTERRUPTs once at most, and leaves it when
+    /// its request ends.
     fn keeps_sound(&self)
-        ensures { IsSound (state self.now) };
+        ensures sound { IsSound (state self.now) }
+        ensures few { length (state self.now).requests < 2 ^ 63 };
 }
