@@ -1,16 +1,13 @@
 -- Nodes in use, and nodes that are given up.
-use Rattle.std.proofs.Common.{◌≡◌, ◌≢◌, ℕ, zero, suc, ◌+◌, ◌≤◌, Bool, true, false, ◌||◌, List, [], ◌∷◌, Option, Some, None, Bor, refl, sym, ap, ◌∙◌, arith, inl, inr}
-use Rattle.std.specs.Prelude.{drop, option_map, slice_get, ◌&&◌, not, cond, nat_eq}
+use Rattle.std.proofs.Common.{◌≡◌, ◌≢◌, ℕ, ◌+◌, ◌≤◌, Bool, true, false, ◌||◌, [], ◌∷◌, Option, Some, None, Bor, refl, sym, ap, ◌∙◌, arith, inl, inr}
+use Rattle.std.specs.Prelude.{option_map, ◌&&◌, not, cond, nat_eq}
 use Rattle.std.specs.Option.{option_copied}
 use Rattle.std.specs.Prelude.{is_some}
 use Rattle.std.specs.List.{list_any}
 use Rattle.std.proofs.lemmas.Bool.{cases_eq}
 use Rattle.fuse_spec.proofs.Tables.{get_gone_here, get_gone_there}
 use Rattle.fuse_spec.specs.declared.Counted.{Counted}
-use Rattle.fuse_spec.specs.declared.Purpose.{Purpose}
-use Rattle.fuse_spec.specs.declared.QueuedRequest.{QueuedRequest}
 use Rattle.fuse_spec.specs.Values.Maps.{Map, get, remove, values}
-use Rattle.fuse_spec.specs.Kernel.QueueLaws.{kept_entries}
 use Rattle.fk_kernel.specs.Soundness.{AreCounted}
 use Rattle.fk_kernel.proofs.Sound.{length_gone}
 
@@ -49,21 +46,6 @@ any_gone {V} test (e ∷ m) k =
       | true ↦ any_gone test m k
       | false ↦ ap (λ (b : Bool). test e.1 || b) (any_gone test m k)
     ]
-
--- what is kept of the request at a place, and what is behind it
-pub at_place : (es : List (ℕ × QueuedRequest Purpose)) (i : ℕ) (q : ℕ × Purpose)
-    → Some q ≡ slice_get (kept_entries es) i
-    → (e : ℕ × QueuedRequest Purpose) × (e.1.kept ≡ q.1) × (drop i es ≡ e ∷ drop (i + 1) es)
-at_place [] i q is =
-    let no : ◌≡◌ {A = Option (ℕ × Purpose)} (Some q) None = is in
-    cc
-at_place (x ∷ es) zero q is =
-    let same : (x.0, x.1.kept) ≡ q = cc is in
-    (x, ap (λ (p : ℕ × Purpose). p.1) same, refl)
-at_place (x ∷ es) (suc i) q is =
-    let rest = at_place es i q is in
-    let one : suc (i + 1) ≡ suc i + 1 = omega arith in
-    (rest.0, rest.1, rest.2 ∙ ap (λ (n : ℕ). rest.0 ∷ drop n (x ∷ es)) one)
 
 pub copied_is : {X : Type 0} (o : Option (Bor X)) → is_some (option_copied o) ≡ is_some o
 copied_is None = refl

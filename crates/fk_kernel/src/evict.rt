@@ -7,7 +7,6 @@ ghost use Rattle.fuse_spec.specs.declared.Counted.{Counted};
 ghost use Rattle.fk_kernel.specs.Refused.{evict_refusal};
 
 use crate::kernel::KernelOf;
-use crate::open_files::is_releasing;
 use fk_calls::is_node_in_use;
 use fk_lookup_count::CountTable;
 use fk_queues::QueueTable;
@@ -25,7 +24,7 @@ impl<Q: QueueTable<Purpose> + Drop, C: CountTable<Heap = Q::Heap> + Drop> Kernel
         if self.nodes.generation_of(node).is_none() {
             return Some(Refusal::NoSuch);
         }
-        let is_releasing = is_releasing(&self.queues, node);
+        let is_releasing = self.queues.is_releasing(node);
         if is_node_in_use(&self.calls, &self.opens, is_releasing, &self.names, node) {
             return Some(Refusal::Busy);
         }

@@ -14,7 +14,7 @@ use fk_dentry::Bindings;
 use fk_lookup_count::{CountTable, KernelNodes, ListCounts};
 use fk_nodes::CountedNodes;
 use fk_opens::OpenFiles;
-use fk_queues::{ListQueues, QueueTable, Queues};
+use fk_queues::{KernelQueues, ListQueues, QueueTable, Queues};
 use fk_syscalls::CallState;
 use fuse_spec::{Minor, Opened, Phase, Purpose, Refusal};
 use fuse_tables::Table;
@@ -27,7 +27,7 @@ use std::marker::Model;
 pub struct KernelOf<Q: QueueTable<Purpose>, C: CountTable<Heap = Q::Heap>> {
     pub(crate) alloc: Q::Heap,
     pub(crate) phase: Phase,
-    pub(crate) queues: Q,
+    pub(crate) queues: KernelQueues<Q>,
     pub(crate) calls: Table<CallState<Q::Heap>, Q::Heap>,
     pub(crate) answers: Table<StoredAnswer<Q::Heap>, Q::Heap>,
     /// The open files, by the numbers of the calls that opened them.
@@ -70,7 +70,7 @@ impl<Q: QueueTable<Purpose>, C: CountTable<Heap = Q::Heap>> Model for KernelOf<Q
         clock = k.clock;
         root = 1;
       };
-      queues = Q.state k.queues;
+      queues = k.queues.queues;
       nodes = k.nodes;
       closing = k.closing.entries;
       minor = k.minor;
@@ -78,7 +78,7 @@ impl<Q: QueueTable<Purpose>, C: CountTable<Heap = Q::Heap>> Model for KernelOf<Q
     } };
 
     ghost invariant = { λ k. IsSoundKernel k.phase k.calls.entries k.answers.entries k.answers.room k.next_call
-        k.opens.entries k.closing.entries (Q.state k.queues) (Q.room k.queues) k.nodes k.clock };
+        k.opens.entries k.closing.entries k.queues.queues k.queues.room k.nodes k.clock };
 }
 
 impl<Q: QueueTable<Purpose> + Drop, C: CountTable<Heap = Q::Heap> + Drop> KernelOf<Q, C> {
@@ -89,7 +89,7 @@ impl<Q: QueueTable<Purpose> + Drop, C: CountTable<Heap = Q::Heap> + Drop> Kernel
         KernelOf {
             alloc,
             phase: Phase::Down,
-            queues: Q::new(alloc),
+            queues: KernelQueues::new(alloc),
             calls: Table::new(alloc),
             answers: Table::new(alloc),
             opens: OpenFiles::new(alloc),
@@ -161,7 +161,7 @@ impl<Q: QueueTable<Purpose> + Drop, C: CountTable<Heap = Q::Heap> + Drop> Kernel
         if self.is_busy() {
             return Err(Refusal::Busy);
         }
-        let mut queues = Q::new(self.alloc);
+        let mut queues = KernelQueues::new(self.alloc);
         if queues.reserve(1, 0).is_err() {
             return Err(Refusal::NoMemory);
         }

@@ -1,10 +1,9 @@
 //! Open files: how they are closed and let go, and what uses them.
 
-ghost use Rattle.std.specs.Prelude.{◌≡◌, ◌<◌, None, Some, true, false, is_some, length, OnOk, OnErr, IfOk, IfErr, nat_eq};
-ghost use Rattle.std.specs.List.{list_any};
+ghost use Rattle.std.specs.Prelude.{◌≡◌, ◌<◌, None, Some, true, false, is_some, length, OnOk, OnErr, IfOk, IfErr};
 ghost use Rattle.fuse_spec.specs.Calls.Calls as call;
 ghost use Rattle.fuse_spec.specs.declared.Opened.{Opened as OpenedFile};
-ghost use Rattle.fuse_spec.specs.Kernel.Kernel.{is_aborted, is_used, released_if_idle, after_use, call_begun, is_released_by};
+ghost use Rattle.fuse_spec.specs.Kernel.Kernel.{is_aborted, is_used, released_if_idle, after_use, call_begun};
 ghost use Rattle.fuse_spec.specs.Values.Maps.{get};
 ghost use Rattle.fuse_spec.specs.Kernel.QueueCalls.{waiting, without};
 ghost use Rattle.fuse_spec.specs.Kernel.Refusals.{is_ready, or_no_memory};
@@ -25,38 +24,6 @@ use fk_syscalls::Answer;
 use fuse_spec::errno::EBADF;
 use fuse_spec::limits::MAX_CALLS;
 use fuse_spec::{Opened, Purpose, Refusal};
-
-/// Whether an open file is of a node.
-fn is_of(opened: &Opened, node: u64) -> bool
-    ensures { result ≡ nat_eq opened.now.nodeid node }
-{
-    opened.nodeid == node
-}
-
-/// Whether a request is the RELEASE of a file of a node.
-fn releases(purpose: &Purpose, node: u64) -> bool
-    ensures { result ≡ is_released_by node purpose.now }
-{
-    match purpose {
-        Purpose::Release(opened) => is_of(opened, node),
-        Purpose::Init | Purpose::Call(_) => false,
-    }
-}
-
-/// Whether one of the requests is the RELEASE of a file of a node.
-pub(crate) fn is_releasing<Q: QueueTable<Purpose>>(queues: &Q, node: u64) -> bool
-    ensures { result ≡ list_any (λ e. is_released_by node e.1.kept) (Q.state queues.now).requests }
-{
-    for place in 0..queues.request_count() {
-        let Some(request) = queues.request_at(place) else {
-            return false;
-        };
-        if releases(request.1, node) {
-            return true;
-        }
-    }
-    false
-}
 
 impl<Q: QueueTable<Purpose> + Drop, C: CountTable<Heap = Q::Heap> + Drop> KernelOf<Q, C> {
     /// A call of the next number closes an open file: it is answered at once. The RELEASE is queued unless a read or

@@ -13,7 +13,7 @@ invariant_of-self g c =
       sorted = old.sorted;
       files = old.files;
       releases = omega (arith, old.releases, c.answer-kept.ensures.room.requests);
-      nodes = still_counted k.nodes (g.Q.QueueTable.room k.queues).forgets
-          (g.Q.QueueTable.room c.answer-kept.new.self).forgets old.nodes c.answer-kept.ensures.room.forgets;
+      nodes = still_counted k.nodes k.queues.room.forgets
+          c.answer-kept.new.self.room.forgets old.nodes c.answer-kept.ensures.room.forgets;
       clock_low = old.clock_low;
     })

@@ -19,7 +19,7 @@ invariant_of-self-2 g c =
     let live = live_if k.phase ready going in
     let old = c.self.invariant in
     rw (c.put.ensures.entries, c.in-Ok-reserve.ensures.entries, c.in-Ok.ensures.entries)
-    (record { numbers = sound_begun_asking k.calls.entries k.answers.entries k.answers.room k.next_call old.numbers c.args.state c.reserve.new.self.room low room; idle = λ down. absurd (true≢false (sym live ∙ down)); sorted = sorted_put k.calls.entries k.next_call c.args.state old.sorted; nodes = still_counted k.nodes (g.Q.QueueTable.room k.queues).forgets (g.Q.QueueTable.room c.enqueue-unique.new.self).forgets old.nodes (omega (arith, c.reserve_request.ensures.kept.forgets, c.enqueue-unique.ensures.forgets_room)); files = asking_files k.calls.entries k.opens.entries k.closing.entries k.next_call old.files c.args.state; releases = omega (arith, c.in_ok-reserve_request.ensures.room, c.enqueue-unique.ensures.requests_room); clock_low = old.clock_low })
+    (record { numbers = sound_begun_asking k.calls.entries k.answers.entries k.answers.room k.next_call old.numbers c.args.state c.reserve.new.self.room low room; idle = λ down. absurd (true≢false (sym live ∙ down)); sorted = sorted_put k.calls.entries k.next_call c.args.state old.sorted; nodes = still_counted k.nodes k.queues.room.forgets c.enqueue-unique.new.self.room.forgets old.nodes (omega (arith, c.reserve_request.ensures.kept.forgets, c.enqueue-unique.ensures.forgets_room)); files = asking_files k.calls.entries k.opens.entries k.closing.entries k.next_call old.files c.args.state; releases = omega (arith, c.in_ok-reserve_request.ensures.room, c.enqueue-unique.ensures.requests_room); clock_low = old.clock_low })
 
 pub invariant_of-self-in_err-reserve_request : goal.invariant_of-self-in_err-reserve_request
 invariant_of-self-in_err-reserve_request g c =
@@ -40,8 +40,8 @@ invariant_of-self-in_err-reserve_request g c =
       files = old.files;
       releases = omega (arith, old.releases, c.reserve_request.ensures.kept.requests);
       nodes =
-          still_counted k.nodes (g.Q.QueueTable.room k.queues).forgets
-          (g.Q.QueueTable.room c.reserve_request.new.queues).forgets old.nodes c.reserve_request.ensures.kept.forgets;
+          still_counted k.nodes k.queues.room.forgets
+          c.reserve_request.new.queues.room.forgets old.nodes c.reserve_request.ensures.kept.forgets;
       clock_low =
           old.clock_low;
     })

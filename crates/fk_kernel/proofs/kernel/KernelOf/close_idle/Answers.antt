@@ -28,7 +28,7 @@ pub invariant_of-self-2 : goal.invariant_of-self-2
 invariant_of-self-2 g c =
     let k = c.self.inside in
     let old = c.self.invariant in
-    let s = g.Q.QueueTable.state k.queues in
+    let s = k.queues.queues in
     let few : length k.calls.entries < 64 = rw (← c.self.view_is) at c.requires.few in
     let low = rw (← c.self.view_is) at c.requires.number in
     let reserved = c.in-Ok.ensures.room in
@@ -53,8 +53,8 @@ invariant_of-self-2 g c =
         c.in_ok-reserve_request.ensures.room,
         c.enqueue-unique.ensures.requests_room,
       );
-      nodes = still_counted k.nodes (g.Q.QueueTable.room k.queues).forgets
-          (g.Q.QueueTable.room c.enqueue-unique.new.self).forgets old.nodes
+      nodes = still_counted k.nodes k.queues.room.forgets
+          c.enqueue-unique.new.self.room.forgets old.nodes
           (omega (arith, c.reserve_request.ensures.kept.forgets, c.enqueue-unique.ensures.forgets_room));
       clock_low = old.clock_low;
     })

@@ -20,7 +20,7 @@ returns-in_default-clause-refusal g c =
     rw (← c.self.view_is) (old.files.closed_once c.args.handle there) in
     let fresh : get now.vfs.calls now.vfs.next_call ≡ None =
     rw (← c.self.view_is) (old.numbers.calls_below k.next_call (omega arith)) in
-    let high : now.queues.next ≤ 2 ^ 62 = rw (← c.self.view_is) c.keeps_sound.ensures.next.high in
+    let high : now.queues.next ≤ 2 ^ 62 = rw (← c.self.view_is) c.keeps_sound.ensures.sound.next.high in
     let judged = used_unrefused now c.args.handle c.args.opened c.requires.not_aborted c.requires.open none fresh c.requires.ready c.requires.few c.requires.number c.requires.used high in
     sym (ap or_no_memory judged)
 
@@ -36,7 +36,7 @@ returns-in_default-reserve-clause-refusal g c =
     rw (← c.self.view_is) (old.files.closed_once c.args.handle there) in
     let fresh : get now.vfs.calls now.vfs.next_call ≡ None =
     rw (← c.self.view_is) (old.numbers.calls_below k.next_call (omega arith)) in
-    let high : now.queues.next ≤ 2 ^ 62 = rw (← c.self.view_is) c.keeps_sound.ensures.next.high in
+    let high : now.queues.next ≤ 2 ^ 62 = rw (← c.self.view_is) c.keeps_sound.ensures.sound.next.high in
     let judged = used_unrefused now c.args.handle c.args.opened c.requires.not_aborted c.requires.open none fresh c.requires.ready c.requires.few c.requires.number c.requires.used high in
     sym (ap or_no_memory judged)
 
@@ -52,7 +52,7 @@ returns-in_err-reserve_request-clause-refusal g c =
     rw (← c.self.view_is) (old.files.closed_once c.args.handle there) in
     let fresh : get now.vfs.calls now.vfs.next_call ≡ None =
     rw (← c.self.view_is) (old.numbers.calls_below k.next_call (omega arith)) in
-    let high : now.queues.next ≤ 2 ^ 62 = rw (← c.self.view_is) c.keeps_sound.ensures.next.high in
+    let high : now.queues.next ≤ 2 ^ 62 = rw (← c.self.view_is) c.keeps_sound.ensures.sound.next.high in
     let judged = used_unrefused now c.args.handle c.args.opened c.requires.not_aborted c.requires.open none fresh c.requires.ready c.requires.few c.requires.number c.requires.used high in
     let p = err_from_is_err_and c.from_residual.result c.from_residual.ensures.1 in
     rw (p.1, p.2) (c.in_err-reserve_request.ensures.refusal ∙ sym (ap or_no_memory judged))
@@ -61,7 +61,7 @@ pub invariant_of-self-2 : goal.invariant_of-self-2
 invariant_of-self-2 g c =
     let k = c.self.inside in
     let old = c.self.invariant in
-    let s = g.Q.QueueTable.state k.queues in
+    let s = k.queues.queues in
     let few : length k.calls.entries < 64 = rw (← c.self.view_is) at c.requires.few in
     let low = rw (← c.self.view_is) at c.requires.number in
     let reserved = c.in-Ok.ensures.room in
@@ -87,8 +87,8 @@ invariant_of-self-2 g c =
       files = numbered_files k.calls.entries _ _ k.next_call
           (closed_files k.calls.entries k.opens.entries k.closing.entries k.next_call old.files c.args.handle c.args.opened there);
       releases = omega (arith, long, reserved_request);
-      nodes = still_counted k.nodes (g.Q.QueueTable.room k.queues).forgets
-          (g.Q.QueueTable.room c.reserve_request.new.queues).forgets old.nodes c.reserve_request.ensures.kept.forgets;
+      nodes = still_counted k.nodes k.queues.room.forgets
+          c.reserve_request.new.queues.room.forgets old.nodes c.reserve_request.ensures.kept.forgets;
       clock_low = old.clock_low;
     })
 
@@ -104,7 +104,7 @@ returns-clause-judged g c =
     rw (← c.self.view_is) (old.files.closed_once c.args.handle there) in
     let fresh : get now.vfs.calls now.vfs.next_call ≡ None =
     rw (← c.self.view_is) (old.numbers.calls_below k.next_call (omega arith)) in
-    let high : now.queues.next ≤ 2 ^ 62 = rw (← c.self.view_is) c.keeps_sound.ensures.next.high in
+    let high : now.queues.next ≤ 2 ^ 62 = rw (← c.self.view_is) c.keeps_sound.ensures.sound.next.high in
     let judged = used_unrefused now c.args.handle c.args.opened c.requires.not_aborted c.requires.open none fresh c.requires.ready c.requires.few c.requires.number c.requires.used high in
     judged
 

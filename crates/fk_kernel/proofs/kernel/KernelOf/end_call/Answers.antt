@@ -15,14 +15,14 @@ invariant_of-self g c =
       sorted = old.sorted;
       files = old.files;
       releases = omega (arith, old.releases, c.answer-kept.ensures.room.requests);
-      nodes = still_counted k.nodes (g.Q.QueueTable.room k.queues).forgets
-          (g.Q.QueueTable.room c.answer-kept.new.self).forgets old.nodes c.answer-kept.ensures.room.forgets;
+      nodes = still_counted k.nodes k.queues.room.forgets
+          c.answer-kept.new.self.room.forgets old.nodes c.answer-kept.ensures.room.forgets;
       clock_low = old.clock_low;
     })
 
 pub finish_use-requires-clause-within : goal.finish_use-requires-clause-within
 finish_use-requires-clause-within g c = λ handle operation at closed idle.
-    let s = g.Q.QueueTable.state c.self.inside.queues in
+    let s = c.self.inside.queues.queues in
     let waits : is_some (waiting s c.args.unique) ≡ true = rw (← c.self.view_is) at c.requires.waits in
     let within = rw (← c.self.view_is) at c.requires.within in
     rw (c.answer-kept.ensures.state, answered_is s c.args.unique waits) (within handle operation at closed idle)

@@ -14,8 +14,8 @@ invariant_of-self g c =
       files = old.files;
       releases = omega (arith, old.releases, c.forget.ensures.requests_room);
       nodes =
-          evicted_counted c.self.inside.nodes c.args.node (g.Q.QueueTable.room c.self.inside.queues).forgets
-          (g.Q.QueueTable.room c.forget.new.self).forgets old.nodes there c.forget.ensures.forgets_room;
+          evicted_counted c.self.inside.nodes c.args.node c.self.inside.queues.room.forgets
+          c.forget.new.self.room.forgets old.nodes there c.forget.ensures.forgets_room;
       clock_low =
           old.clock_low;
     })

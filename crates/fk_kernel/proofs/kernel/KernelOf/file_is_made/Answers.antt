@@ -18,7 +18,7 @@ bind_entry-requires-clause-names_one g c =
 pub invariant_of-self-2 : goal.invariant_of-self-2
 invariant_of-self-2 g c =
     let k = c.self.inside in
-    let s = g.Q.QueueTable.state k.queues in
+    let s = k.queues.queues in
     let old = c.self.invariant in
     let made = c.requires.creates in
     let here : get k.calls.entries c.args.call ≡ Some (doing (create made.directory made.name)) =
@@ -27,7 +27,7 @@ invariant_of-self-2 g c =
     let there = some_not_none (get k.calls.entries c.args.call) (doing (create made.directory made.name)) here in
     let kept = c.answer-kept.ensures.room.forgets in
     let reserved = c.in_ok-bind_entry.ensures.room in
-    let room : length k.nodes + 1 ≤ (g.Q.QueueTable.room c.answer-kept.new.self).forgets =
+    let room : length k.nodes + 1 ≤ c.answer-kept.new.self.room.forgets =
     omega arith in
     let fits = rw (← c.self.view_is) at c.requires.fits in
     rw (
@@ -45,15 +45,15 @@ invariant_of-self-2 g c =
       sorted = sorted_gone k.calls.entries c.args.call old.sorted;
       files = opened_files k.calls.entries k.opens.entries k.closing.entries k.next_call old.files old.numbers.calls_below c.args.call (record { nodeid = c.args.entry.now.nodeid; fh = c.args.fh }) there;
       releases = omega (arith, old.releases, c.bind_entry.ensures.kept.requests, c.answer-kept.ensures.room.requests);
-      nodes = looked_up_counted k.nodes (g.Q.QueueTable.room k.queues).forgets
-          (g.Q.QueueTable.room c.answer-kept.new.self).forgets old.nodes room c.args.entry.now fits;
+      nodes = looked_up_counted k.nodes k.queues.room.forgets
+          c.answer-kept.new.self.room.forgets old.nodes room c.args.entry.now fits;
       clock_low = old.clock_low;
     })
 
 pub returns-clause-ok : goal.returns-clause-ok
 returns-clause-ok g c =
     let k = c.self.inside in
-    let s = g.Q.QueueTable.state k.queues in
+    let s = k.queues.queues in
     let old = c.self.invariant in
     let made = c.requires.creates in
     let here : get k.calls.entries c.args.call ≡ Some (doing (create made.directory made.name)) =

@@ -13,7 +13,7 @@ use Rattle.fk_kernel.proofs.kernel.KernelOf.file_is_open.Goals as goal
 pub invariant_of-self-2 : goal.invariant_of-self-2
 invariant_of-self-2 g c =
     let k = c.self.inside in
-    let s = g.Q.QueueTable.state k.queues in
+    let s = k.queues.queues in
     let old = c.self.invariant in
     let here : get k.calls.entries c.args.call ≡ Some (doing (opening c.requires.opens.node)) =
     rw (← c.self.view_is) at c.requires.opens.is in
@@ -31,15 +31,15 @@ invariant_of-self-2 g c =
       sorted = sorted_gone k.calls.entries c.args.call old.sorted;
       files = opened_files k.calls.entries k.opens.entries k.closing.entries k.next_call old.files old.numbers.calls_below c.args.call (record { nodeid = c.node_opened-nodeid.result; fh = c.args.fh }) there;
       releases = omega (arith, old.releases, c.answer-kept.ensures.room.requests);
-      nodes = still_counted k.nodes (g.Q.QueueTable.room k.queues).forgets
-          (g.Q.QueueTable.room c.answer-kept.new.self).forgets old.nodes c.answer-kept.ensures.room.forgets;
+      nodes = still_counted k.nodes k.queues.room.forgets
+          c.answer-kept.new.self.room.forgets old.nodes c.answer-kept.ensures.room.forgets;
       clock_low = old.clock_low;
     })
 
 pub returns-clause-ok : goal.returns-clause-ok
 returns-clause-ok g c =
     let k = c.self.inside in
-    let s = g.Q.QueueTable.state k.queues in
+    let s = k.queues.queues in
     let o = c.requires.opens in
     let waits : is_some (waiting s c.args.unique) ≡ true = rw (← c.self.view_is) at (ap is_some c.requires.waits) in
     let node = c.node_opened-nodeid.ensures o.node o.is in

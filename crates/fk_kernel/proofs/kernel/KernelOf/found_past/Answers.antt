@@ -10,7 +10,7 @@ runs_out-requires-clause-none_left g c =
 pub returns-then-numbers_left-ne0-clause-within : goal.returns-then-numbers_left-ne0-clause-within
 returns-then-numbers_left-ne0-clause-within g c = λ stays.
     let now = c.args.self.now in
-    let here : 0 < numbers_left_from (g.Q.QueueTable.state c.self.inside.queues).next =
+    let here : 0 < numbers_left_from c.self.inside.queues.queues.next =
     omega (arith, c.numbers_left.ensures, c.if-numbers_left-ne0.true) in
     let left : 0 < numbers_left_from now.queues.next = rw (← c.self.view_is) here in
     found_within now c.args.unique c.args.call c.requires.even c.requires.waits c.within.ensures left c.args.entry.now c.args.valid_ms c.requires.awaits

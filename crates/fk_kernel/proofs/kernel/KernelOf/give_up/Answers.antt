@@ -19,4 +19,4 @@ invariant_of-self g c =
       c.clear-3.ensures.entries,
       c.clear-5.ensures,
     )
-    (sound_aborted k.phase k.calls.entries k.answers.entries k.answers.room c.answer_all.new.answers.room k.next_call k.opens.entries k.closing.entries (g.Q.QueueTable.state k.queues) (g.Q.QueueTable.room k.queues) (g.Q.QueueTable.room c.abort.new.self) k.nodes k.clock c.self.invariant)
+    (sound_aborted k.phase k.calls.entries k.answers.entries k.answers.room c.answer_all.new.answers.room k.next_call k.opens.entries k.closing.entries k.queues.queues k.queues.room c.abort.new.self.room k.nodes k.clock c.self.invariant)

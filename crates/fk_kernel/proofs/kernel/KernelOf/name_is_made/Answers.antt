@@ -27,8 +27,8 @@ invariant_of-self-2 g c =
       sorted = old.sorted;
       files = old.files;
       releases = omega (arith, old.releases, c.bind_entry.ensures.kept.requests);
-      nodes = looked_up_counted k.nodes (g.Q.QueueTable.room k.queues).forgets
-          (g.Q.QueueTable.room c.bind_entry.new.queues).forgets old.nodes c.in_ok-bind_entry.ensures.room
+      nodes = looked_up_counted k.nodes k.queues.room.forgets
+          c.bind_entry.new.queues.room.forgets old.nodes c.in_ok-bind_entry.ensures.room
           c.args.entry.now fits;
       clock_low = old.clock_low;
     })

@@ -9,4 +9,4 @@ invariant_of-result g c = rw (
   c.new-5.ensures,
   c.new-7.ensures,
   c.new.ensures,
-) (sound_first c.new-3.result.room (g.Q.QueueTable.room c.new.result))
+) (sound_first c.new-3.result.room c.new.result.room)

@@ -31,7 +31,7 @@ invariant_of-self-2 g c =
     let kept = c.answer-kept.ensures.room.forgets in
     let given = c.forget_stale.ensures.forgets in
     let reserved = c.in_ok-reserve_forgets.ensures.room in
-    let room : length k.nodes + length pairs ≤ (g.Q.QueueTable.room c.answer-kept.new.self).forgets =
+    let room : length k.nodes + length pairs ≤ c.answer-kept.new.self.room.forgets =
     omega (arith, c.count_left.ensures.count, length-map (pluses_in c.args.pairs) pair_in) in
     rw c.in-Ok-count_and_bind.ensures.nodes
     (record {
@@ -46,14 +46,14 @@ invariant_of-self-2 g c =
         c.forget_stale.ensures.requests,
         c.answer-kept.ensures.room.requests,
       );
-      nodes = listed_counted k.nodes (g.Q.QueueTable.room c.answer-kept.new.self).forgets pairs below room;
+      nodes = listed_counted k.nodes c.answer-kept.new.self.room.forgets pairs below room;
       clock_low = old.clock_low;
     })
 
 pub returns-clause-ok : goal.returns-clause-ok
 returns-clause-ok g c =
     let k = c.self.inside in
-    let s = g.Q.QueueTable.state k.queues in
+    let s = k.queues.queues in
     let now = c.args.self.now in
     let pairs = pairs_in c.args.pairs in
     let aw = c.requires.awaits in

@@ -5,7 +5,7 @@ use Rattle.fk_kernel.proofs.kernel.KernelOf.read_forgets.Goals as goal
 pub invariant_of-self : goal.invariant_of-self
 invariant_of-self g c =
     let old = c.self.invariant in
-    let queues = g.Q.QueueTable.state c.self.inside.queues in
+    let queues = c.self.inside.queues.queues in
     rw c.read_forgets-read.ensures.state (record {
       numbers = old.numbers;
       idle = old.idle;
@@ -13,7 +13,7 @@ invariant_of-self g c =
       files = old.files;
       releases = omega (arith, old.releases, c.read_forgets-read.ensures.room.requests);
       nodes =
-          still_counted c.self.inside.nodes (g.Q.QueueTable.room c.self.inside.queues).forgets
-          (g.Q.QueueTable.room c.read_forgets-read.new.self).forgets old.nodes c.read_forgets-read.ensures.room.forgets;
+          still_counted c.self.inside.nodes c.self.inside.queues.room.forgets
+          c.read_forgets-read.new.self.room.forgets old.nodes c.read_forgets-read.ensures.room.forgets;
       clock_low = old.clock_low;
     })

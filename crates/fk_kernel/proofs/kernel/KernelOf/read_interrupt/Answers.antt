@@ -5,7 +5,7 @@ use Rattle.fk_kernel.proofs.kernel.KernelOf.read_interrupt.Goals as goal
 
 pub returns-clause-frame : goal.returns-clause-frame
 returns-clause-frame g c =
-    let interrupts = (g.Q.QueueTable.state c.self.inside.queues).interrupts in
+    let interrupts = c.self.inside.queues.queues.interrupts in
     let original = c.in-Some.original in
     record {
       original = original;

@@ -9,8 +9,8 @@ invariant_of-self g c =
       numbers = old.numbers;
       idle = old.idle;
       sorted = old.sorted;
-      nodes = still_counted c.self.inside.nodes (g.Q.QueueTable.room c.self.inside.queues).forgets
-          (g.Q.QueueTable.room c.read_pending-unique.new.self).forgets old.nodes c.read_pending-unique.ensures.room.forgets;
+      nodes = still_counted c.self.inside.nodes c.self.inside.queues.room.forgets
+          c.read_pending-unique.new.self.room.forgets old.nodes c.read_pending-unique.ensures.room.forgets;
       files = old.files;
       releases = omega (arith, old.releases, c.read_pending-unique.ensures.room.requests);
       clock_low = old.clock_low;

@@ -84,8 +84,8 @@ invariant_of-self-2 g c =
       sorted = old.sorted;
       files = released_files k.calls.entries k.opens.entries k.closing.entries k.next_call old.files c.args.handle;
       releases = omega (arith, old.releases, shorter, c.enqueue-unique.ensures.requests_room);
-      nodes = still_counted k.nodes (g.Q.QueueTable.room k.queues).forgets
-          (g.Q.QueueTable.room c.enqueue-unique.new.self).forgets old.nodes c.enqueue-unique.ensures.forgets_room;
+      nodes = still_counted k.nodes k.queues.room.forgets
+          c.enqueue-unique.new.self.room.forgets old.nodes c.enqueue-unique.ensures.forgets_room;
       clock_low = old.clock_low;
     })
 

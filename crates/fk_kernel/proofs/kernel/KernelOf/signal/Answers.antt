@@ -9,17 +9,17 @@ pub invariant_of-self : goal.invariant_of-self
 invariant_of-self g c =
     let k = c.self.inside in
     rw c.interrupt-effect.ensures.state
-    (sound_signalled k.phase k.calls.entries k.answers.entries k.answers.room k.next_call k.opens.entries k.closing.entries (g.Q.QueueTable.state k.queues) (g.Q.QueueTable.room k.queues) (g.Q.QueueTable.room c.interrupt-effect.new.self) k.nodes k.clock c.self.invariant c.interrupt-effect.ensures.room c.args.unique c.args.fatal)
+    (sound_signalled k.phase k.calls.entries k.answers.entries k.answers.room k.next_call k.opens.entries k.closing.entries k.queues.queues k.queues.room c.interrupt-effect.new.self.room k.nodes k.clock c.self.invariant c.interrupt-effect.ensures.room c.args.unique c.args.fatal)
 
 pub invariant_of-self-else-is_interrupted : goal.invariant_of-self-else-is_interrupted
 invariant_of-self-else-is_interrupted g c =
     let k = c.self.inside in
     rw c.interrupt-effect.ensures.state
-    (sound_signalled k.phase k.calls.entries k.answers.entries k.answers.room k.next_call k.opens.entries k.closing.entries (g.Q.QueueTable.state k.queues) (g.Q.QueueTable.room k.queues) (g.Q.QueueTable.room c.interrupt-effect.new.self) k.nodes k.clock c.self.invariant c.interrupt-effect.ensures.room c.args.unique c.args.fatal)
+    (sound_signalled k.phase k.calls.entries k.answers.entries k.answers.room k.next_call k.opens.entries k.closing.entries k.queues.queues k.queues.room c.interrupt-effect.new.self.room k.nodes k.clock c.self.invariant c.interrupt-effect.ensures.room c.args.unique c.args.fatal)
 
 pub finish_use-requires-clause-within : goal.finish_use-requires-clause-within
 finish_use-requires-clause-within g c = λ handle operation at closed idle.
-    let s = g.Q.QueueTable.state c.self.inside.queues in
+    let s = c.self.inside.queues.queues in
     let effect : interrupt_effect s c.args.unique c.args.fatal ≡ Dequeued =
     sym c.interrupt-effect.ensures.effect ∙ c.is_interrupted.ensures.0 c.if-is_interrupted.true in
     let next = ap (λ (e : IntrEffect). (after_effect s c.args.unique e).next) effect in

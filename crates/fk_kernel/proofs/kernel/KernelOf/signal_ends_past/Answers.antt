@@ -6,7 +6,7 @@ use Rattle.fk_kernel.proofs.kernel.KernelOf.signal_ends_past.Goals as goal
 
 pub returns-clause-past : goal.returns-clause-past
 returns-clause-past g c = λ past.
-    let s = g.Q.QueueTable.state c.self.inside.queues in
+    let s = c.self.inside.queues.queues in
     let k = c.args.self.now in
     let there = current_there k c.args.call c.args.unique c.requires.current in
     let none : is_some (waiting k.queues c.args.unique) ≡ false = search rules in

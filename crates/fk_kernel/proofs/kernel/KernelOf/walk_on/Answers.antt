@@ -42,7 +42,7 @@ advance-requires g c =
 pub enqueue-unique-requires-clause-number : goal.enqueue-unique-requires-clause-number
 enqueue-unique-requires-clause-number g c =
     let k = c.self.inside in
-    let s = g.Q.QueueTable.state k.queues in
+    let s = k.queues.queues in
     let stands = c.requires.looks_up in
     let here : get k.calls.entries c.args.call ≡ Some (walking stands.directory stands.word stands.words stands.plan) =
     rw (← c.self.view_is) at stands.is in
@@ -82,7 +82,7 @@ put-requires-clause-absent g c = rw c.remove.ensures.entries (get_gone_here c.se
 pub invariant_of-self-in-Ask : goal.invariant_of-self-in-Ask
 invariant_of-self-in-Ask g c =
     let k = c.self.inside in
-    let s = g.Q.QueueTable.state k.queues in
+    let s = k.queues.queues in
     let stands = c.requires.looks_up in
     let here : get k.calls.entries c.args.call ≡ Some (walking stands.directory stands.word stands.words stands.plan) =
     rw (← c.self.view_is) at stands.is in
@@ -109,11 +109,11 @@ invariant_of-self-in-Ask g c =
     let kept = c.answer-kept.ensures.room.forgets in
     let reserved = c.in_ok-bind_entry.ensures.room in
     let queued = c.enqueue-unique.ensures.forgets_room in
-    let room : length k.nodes + 1 ≤ (g.Q.QueueTable.room c.answer-kept.new.self).forgets =
+    let room : length k.nodes + 1 ≤ c.answer-kept.new.self.room.forgets =
     omega arith in
     let fits = rw (← c.self.view_is) at c.requires.fits in
-    let counted = looked_up_counted k.nodes (g.Q.QueueTable.room k.queues).forgets
-    (g.Q.QueueTable.room c.answer-kept.new.self).forgets old.nodes room c.args.entry.now fits in
+    let counted = looked_up_counted k.nodes k.queues.room.forgets
+    c.answer-kept.new.self.room.forgets old.nodes room c.args.entry.now fits in
     rw (
       c.enqueue-unique.ensures.state,
       c.answer-kept.ensures.state,
@@ -136,15 +136,15 @@ invariant_of-self-in-Ask g c =
         c.answer-kept.ensures.room.requests,
         c.enqueue-unique.ensures.requests_room,
       );
-      nodes = still_counted _ (g.Q.QueueTable.room c.answer-kept.new.self).forgets
-          (g.Q.QueueTable.room c.enqueue-unique.new.self).forgets counted queued;
+      nodes = still_counted _ c.answer-kept.new.self.room.forgets
+          c.enqueue-unique.new.self.room.forgets counted queued;
       clock_low = old.clock_low;
     })
 
 pub invariant_of-self-in-Answer : goal.invariant_of-self-in-Answer
 invariant_of-self-in-Answer g c =
     let k = c.self.inside in
-    let s = g.Q.QueueTable.state k.queues in
+    let s = k.queues.queues in
     let stands = c.requires.looks_up in
     let here : get k.calls.entries c.args.call ≡ Some (walking stands.directory stands.word stands.words stands.plan) =
     rw (← c.self.view_is) at stands.is in
@@ -153,7 +153,7 @@ invariant_of-self-in-Answer g c =
     let there = there_is (get k.calls.entries c.args.call) (ap is_some here) in
     let kept = c.answer-kept.ensures.room.forgets in
     let reserved = c.in_ok-bind_entry.ensures.room in
-    let room : length k.nodes + 1 ≤ (g.Q.QueueTable.room c.answer-kept.new.self).forgets =
+    let room : length k.nodes + 1 ≤ c.answer-kept.new.self.room.forgets =
     omega arith in
     let fits = rw (← c.self.view_is) at c.requires.fits in
     rw (
@@ -176,15 +176,15 @@ invariant_of-self-in-Answer g c =
         c.bind_entry.ensures.kept.requests,
         c.answer-kept.ensures.room.requests,
       );
-      nodes = looked_up_counted k.nodes (g.Q.QueueTable.room k.queues).forgets
-          (g.Q.QueueTable.room c.answer-kept.new.self).forgets old.nodes room c.args.entry.now fits;
+      nodes = looked_up_counted k.nodes k.queues.room.forgets
+          c.answer-kept.new.self.room.forgets old.nodes room c.args.entry.now fits;
       clock_low = old.clock_low;
     })
 
 pub returns-in-Ask-clause-ok : goal.returns-in-Ask-clause-ok
 returns-in-Ask-clause-ok g c =
     let k = c.self.inside in
-    let s = g.Q.QueueTable.state k.queues in
+    let s = k.queues.queues in
     let stands = c.requires.looks_up in
     let here : get k.calls.entries c.args.call ≡ Some (walking stands.directory stands.word stands.words stands.plan) =
     rw (← c.self.view_is) at stands.is in
@@ -232,7 +232,7 @@ returns-in-Ask-clause-ok g c =
 pub returns-in-Answer-clause-ok : goal.returns-in-Answer-clause-ok
 returns-in-Answer-clause-ok g c =
     let k = c.self.inside in
-    let s = g.Q.QueueTable.state k.queues in
+    let s = k.queues.queues in
     let stands = c.requires.looks_up in
     let here : get k.calls.entries c.args.call ≡ Some (walking stands.directory stands.word stands.words stands.plan) =
     rw (← c.self.view_is) at stands.is in

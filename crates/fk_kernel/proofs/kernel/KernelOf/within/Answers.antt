@@ -3,6 +3,6 @@ use Rattle.fk_kernel.proofs.kernel.KernelOf.within.Goals as goal
 
 pub returns : goal.returns
 returns g c =
-    let queues = c.keeps_sound.ensures in
+    let queues = c.keeps_sound.ensures.sound in
     rw (← c.self.view_is) (none_past_end
-    (g.Q.QueueTable.state c.self.inside.queues).next c.self.inside.next_call queues.next.high c.self.invariant.numbers.next)
+    c.self.inside.queues.queues.next c.self.inside.next_call queues.next.high c.self.invariant.numbers.next)

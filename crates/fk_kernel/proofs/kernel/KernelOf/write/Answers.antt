@@ -33,7 +33,7 @@ returns-then-head-eq1-clause-taken g c = λ head.
 
 pub returns-in_default-waiting-clause-taken : goal.returns-in_default-waiting-clause-taken
 returns-in_default-waiting-clause-taken g c = λ head.
-    let queues = g.Q.QueueTable.state c.self.inside.queues in
+    let queues = c.self.inside.queues.queues in
     let unique = head_unique c.args.bytes.now in
     let same = c.in-Ok.ensures.ok.3 in
     let at : waiting queues c.in-Ok.head.unique ≡ None = search rules in
@@ -44,7 +44,7 @@ returns-in_default-waiting-clause-taken g c = λ head.
 
 pub returns-in-Init-clause-taken : goal.returns-in-Init-clause-taken
 returns-in-Init-clause-taken g c = λ head.
-    let queues = g.Q.QueueTable.state c.self.inside.queues in
+    let queues = c.self.inside.queues.queues in
     let unique = head_unique c.args.bytes.now in
     let same = c.in-Ok.ensures.ok.3 in
     let at : waiting queues c.in-Ok.head.unique ≡ Some c.in-Some.purpose.now = search rules in
@@ -58,13 +58,13 @@ returns-in-Init-clause-taken g c = λ head.
 
 pub write_to_release-requires-clause-waits : goal.write_to_release-requires-clause-waits
 write_to_release-requires-clause-waits g c =
-    let queues = g.Q.QueueTable.state c.self.inside.queues in
+    let queues = c.self.inside.queues.queues in
     let at : waiting queues c.in-Ok.head.unique ≡ Some c.in-Some.purpose.now = search rules in
     (c.in-Release.field-0, rw (← c.self.view_is) (at ∙ ap Some c.in-Release.is))
 
 pub returns-in-Release-clause-taken : goal.returns-in-Release-clause-taken
 returns-in-Release-clause-taken g c = λ head.
-    let queues = g.Q.QueueTable.state c.self.inside.queues in
+    let queues = c.self.inside.queues.queues in
     let unique = head_unique c.args.bytes.now in
     let same = c.in-Ok.ensures.ok.3 in
     let at : waiting queues c.in-Ok.head.unique ≡ Some c.in-Some.purpose.now = search rules in
@@ -78,7 +78,7 @@ returns-in-Release-clause-taken g c = λ head.
 
 pub returns-in-Call-clause-refusal : goal.returns-in-Call-clause-refusal
 returns-in-Call-clause-refusal g c = λ head.
-    let queues = g.Q.QueueTable.state c.self.inside.queues in
+    let queues = c.self.inside.queues.queues in
     let unique = head_unique c.args.bytes.now in
     let same = c.in-Ok.ensures.ok.3 in
     let at : waiting queues c.in-Ok.head.unique ≡ Some c.in-Some.purpose.now = search rules in
@@ -90,7 +90,7 @@ returns-in-Call-clause-refusal g c = λ head.
 
 pub returns-in-Call-clause-taken : goal.returns-in-Call-clause-taken
 returns-in-Call-clause-taken g c = λ head.
-    let queues = g.Q.QueueTable.state c.self.inside.queues in
+    let queues = c.self.inside.queues.queues in
     let unique = head_unique c.args.bytes.now in
     let same = c.in-Ok.ensures.ok.3 in
     let at : waiting queues c.in-Ok.head.unique ≡ Some c.in-Some.purpose.now = search rules in
@@ -102,7 +102,7 @@ returns-in-Call-clause-taken g c = λ head.
 
 pub returns-in-Call-clause-memory : goal.returns-in-Call-clause-memory
 returns-in-Call-clause-memory g c =
-    let queues = g.Q.QueueTable.state c.self.inside.queues in
+    let queues = c.self.inside.queues.queues in
     let now = c.args.self.now in
     let unique = head_unique c.args.bytes.now in
     let same = c.in-Ok.ensures.ok.3 in
@@ -117,7 +117,7 @@ returns-in-Call-clause-memory g c =
 
 pub returns-in-Call-clause-of_no_call : goal.returns-in-Call-clause-of_no_call
 returns-in-Call-clause-of_no_call g c = λ head none.
-    let queues = g.Q.QueueTable.state c.self.inside.queues in
+    let queues = c.self.inside.queues.queues in
     let now = c.args.self.now in
     let unique = head_unique c.args.bytes.now in
     let same = c.in-Ok.ensures.ok.3 in

@@ -27,7 +27,7 @@ returns-then-head-eq1-clause-none g c = λ p.
 
 pub returns-in_default-waiting-clause-none : goal.returns-in_default-waiting-clause-none
 returns-in_default-waiting-clause-none g c = λ p.
-    let queues = g.Q.QueueTable.state c.self.inside.queues in
+    let queues = c.self.inside.queues.queues in
     let now = c.args.self.now in
     let unique = head_unique c.args.bytes.now in
     let same = c.in-Ok.ensures.ok.3 in
@@ -39,7 +39,7 @@ returns-in_default-waiting-clause-none g c = λ p.
 
 pub returns-in-Init-clause-none : goal.returns-in-Init-clause-none
 returns-in-Init-clause-none g c = λ p.
-    let queues = g.Q.QueueTable.state c.self.inside.queues in
+    let queues = c.self.inside.queues.queues in
     let now = c.args.self.now in
     let unique = head_unique c.args.bytes.now in
     let same = c.in-Ok.ensures.ok.3 in
@@ -54,7 +54,7 @@ returns-in-Init-clause-none g c = λ p.
 
 pub returns-in-Release-clause-none : goal.returns-in-Release-clause-none
 returns-in-Release-clause-none g c = λ p.
-    let queues = g.Q.QueueTable.state c.self.inside.queues in
+    let queues = c.self.inside.queues.queues in
     let now = c.args.self.now in
     let unique = head_unique c.args.bytes.now in
     let same = c.in-Ok.ensures.ok.3 in
@@ -68,7 +68,7 @@ returns-in-Release-clause-none g c = λ p.
 
 pub returns-then-call_passes_end-clause-refused : goal.returns-then-call_passes_end-clause-refused
 returns-then-call_passes_end-clause-refused g c =
-    let queues = g.Q.QueueTable.state c.self.inside.queues in
+    let queues = c.self.inside.queues.queues in
     let now = c.args.self.now in
     let unique = head_unique c.args.bytes.now in
     let same = c.in-Ok.ensures.ok.3 in
@@ -82,7 +82,7 @@ returns-then-call_passes_end-clause-refused g c =
 
 pub returns-else-call_passes_end-clause-none : goal.returns-else-call_passes_end-clause-none
 returns-else-call_passes_end-clause-none g c = λ p.
-    let queues = g.Q.QueueTable.state c.self.inside.queues in
+    let queues = c.self.inside.queues.queues in
     let now = c.args.self.now in
     let unique = head_unique c.args.bytes.now in
     let same = c.in-Ok.ensures.ok.3 in

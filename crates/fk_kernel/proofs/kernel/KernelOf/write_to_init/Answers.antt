@@ -18,8 +18,8 @@ invariant_of-self g c =
       idle = λ e. absurd (true≢false e);
       sorted = old.sorted;
       nodes = still_counted c.self.inside.nodes
-          (g.Q.QueueTable.room c.self.inside.queues).forgets
-          (g.Q.QueueTable.room c.answer-kept.new.self).forgets old.nodes c.answer-kept.ensures.room.forgets;
+          c.self.inside.queues.room.forgets
+          c.answer-kept.new.self.room.forgets old.nodes c.answer-kept.ensures.room.forgets;
       files =
           old.files;
       releases = omega (arith, old.releases, c.answer-kept.ensures.room.requests);
@@ -37,7 +37,7 @@ returns-in_default-clause-unsaid g c = λ none. rw c.give_up.ensures
 pub returns-then-agrees-clause-said : goal.returns-then-agrees-clause-said
 returns-then-agrees-clause-said g c = λ wire says.
     let k = c.args.self.now in
-    let s = g.Q.QueueTable.state c.self.inside.queues in
+    let s = c.self.inside.queues.queues in
     let waits : is_some (waiting s c.args.head.unique) ≡ true = rw (← c.self.view_is) at (ap is_some c.requires.waits) in
     let agreed : is_agreement (wire_of c.in-Some.said) ≡ true = sym c.agrees.ensures ∙ c.if-agrees.true in
     ap (reply_written k c.args.head.unique) (says_one op.Init c.args.bytes.now wire

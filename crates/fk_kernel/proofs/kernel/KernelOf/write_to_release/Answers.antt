@@ -20,8 +20,8 @@ invariant_of-self g c =
       sorted = old.sorted;
       files = old.files;
       releases = omega (arith, old.releases, c.answer-kept.ensures.room.requests);
-      nodes = still_counted k.nodes (g.Q.QueueTable.room k.queues).forgets
-          (g.Q.QueueTable.room c.answer-kept.new.self).forgets old.nodes c.answer-kept.ensures.room.forgets;
+      nodes = still_counted k.nodes k.queues.room.forgets
+          c.answer-kept.new.self.room.forgets old.nodes c.answer-kept.ensures.room.forgets;
       clock_low = old.clock_low;
     })
 
@@ -36,8 +36,8 @@ invariant_of-self-2 g c =
       sorted = old.sorted;
       files = old.files;
       releases = omega (arith, old.releases, c.answer-kept.ensures.room.requests);
-      nodes = still_counted k.nodes (g.Q.QueueTable.room k.queues).forgets
-          (g.Q.QueueTable.room c.answer-kept.new.self).forgets old.nodes c.answer-kept.ensures.room.forgets;
+      nodes = still_counted k.nodes k.queues.room.forgets
+          c.answer-kept.new.self.room.forgets old.nodes c.answer-kept.ensures.room.forgets;
       clock_low = old.clock_low;
     })
 
@@ -47,7 +47,7 @@ returns-in_default-clause-said g c = λ wire says. absurd
 
 pub returns-in_default-clause-unsaid : goal.returns-in_default-clause-unsaid
 returns-in_default-clause-unsaid g c = λ none.
-    let s = g.Q.QueueTable.state c.self.inside.queues in
+    let s = c.self.inside.queues.queues in
     let opened = c.requires.waits.0 in
     let waits : is_some (waiting s c.args.head.unique) ≡ true = rw (← c.self.view_is) at (ap is_some c.requires.waits.1) in
     release_is c.args.self.now c.args.head.unique opened c.requires.even c.requires.waits.1 wrong_body ∙ rw
@@ -55,7 +55,7 @@ returns-in_default-clause-unsaid g c = λ none.
 
 pub returns-clause-said : goal.returns-clause-said
 returns-clause-said g c = λ wire says.
-    let s = g.Q.QueueTable.state c.self.inside.queues in
+    let s = c.self.inside.queues.queues in
     let opened = c.requires.waits.0 in
     let waits : is_some (waiting s c.args.head.unique) ≡ true = rw (← c.self.view_is) at (ap is_some c.requires.waits.1) in
     release_is c.args.self.now c.args.head.unique opened c.requires.even c.requires.waits.1 wire
