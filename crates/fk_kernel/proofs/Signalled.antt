@@ -1,5 +1,5 @@
 -- Signals to calls: which request serves a call, and that the kernel stays sound.
-use Rattle.std.proofs.Common.{◌≡◌, ◌≢◌, ℕ, zero, suc, Bool, true, false, true≢false, cond, List, [], ◌∷◌, Option, Some, None, drop, ap, sym, ◌∙◌, refl, nat_eq, inl, inr, arith, ◌⊎◌}
+use Rattle.std.proofs.Common.{◌≡◌, ◌≢◌, ℕ, Bool, true, false, true≢false, cond, List, [], ◌∷◌, Option, Some, None, drop, ap, sym, ◌∙◌, refl, nat_eq, inl, inr, arith, ◌⊎◌}
 use Rattle.std.specs.Prelude.{find, is_some, not, option_map, slice_get}
 use Rattle.std.specs.Map.{lookup}
 use Rattle.std.specs.Option.{option_map_or}
@@ -20,7 +20,6 @@ use Rattle.fuse_spec.specs.Values.Maps.{Map, get}
 use Rattle.fuse_spec.specs.Values.Numbers.{eintr}
 use Rattle.fuse_spec.specs.Kernel.Queues.{QueueState, is_unread, request_under}
 use Rattle.fuse_spec.specs.Kernel.QueueCalls.{waiting, interrupt_effect, after_dequeue, after_effect, after_interrupt}
-use Rattle.fuse_spec.specs.Kernel.QueueLaws.{kept_entries}
 use Rattle.fuse_spec.specs.Kernel.Signals.{signal_effect}
 use Rattle.fuse_spec.specs.Calls.Vfs.{CallState, using, answered}
 use Rattle.fk_queues.specs.Room.{Room, KeepsRoom}
@@ -34,7 +33,7 @@ use Rattle.fk_kernel.proofs.Closes.{released_some}
 use Rattle.fk_kernel.proofs.Nodes.{still_counted}
 use Rattle.fk_kernel.proofs.Walking.{asks_past}
 
-abbrev pub Entry : Type 0
+abbrev Entry : Type 0
 Entry = ℕ × QueuedRequest Purpose
 
 -- the oldest of a list
@@ -46,40 +45,9 @@ oldest_is (y ∷ ys) x at =
     let same : y ≡ x = cc at in
     ap (λ (n : ℕ). n ∷ ys) same
 
--- The search for the request of a call, by what stands at a place.
-module _ (call : ℕ) where
-  abbrev pub first_for : List Entry → Option Entry
-  first_for es = find (λ e. is_for call e.1.kept) es
-
-  here : (e : Entry) (es : List Entry) (b : Bool) → is_for call e.1.kept ≡ b
-      → first_for (e ∷ es) ≡ cond b (Some e) (first_for es)
-  here e es b is = ap (λ (c : Bool). cond c (Some e) (first_for es)) is
-
-  pub found_at : (es : List Entry) (place unique : ℕ) (purpose : Purpose)
-      → Some (unique, purpose) ≡ slice_get (kept_entries es) place → is_for call purpose ≡ true
-      → Some unique ≡ option_map (λ e. e.0) (first_for (drop place es))
-  found_at [] place unique purpose at is =
-      let no : ◌≡◌ {A = Option (ℕ × Purpose)} (Some (unique, purpose)) None = at in
-      cc
-  found_at (e ∷ es) zero unique purpose at is =
-      let both : (unique, purpose) ≡ (e.0, e.1.kept) = cc at in
-      let first : unique ≡ e.0 = ap (λ (q : ℕ × Purpose). q.0) both in
-      let second : purpose ≡ e.1.kept = ap (λ (q : ℕ × Purpose). q.1) both in
-      let serves : is_for call e.1.kept ≡ true = ap (is_for call) (sym second) ∙ is in
-      ap Some first ∙ sym (ap (option_map (λ (x : Entry). x.0)) (here e es true serves))
-  found_at (e ∷ es) (suc place) unique purpose at is = found_at es place unique purpose at is
-
-  pub passed_at : (es : List Entry) (place unique : ℕ) (purpose : Purpose)
-      → Some (unique, purpose) ≡ slice_get (kept_entries es) place → is_for call purpose ≡ false
-      → first_for (drop place es) ≡ first_for (drop (suc place) es)
-  passed_at [] place unique purpose at is =
-      let no : ◌≡◌ {A = Option (ℕ × Purpose)} (Some (unique, purpose)) None = at in
-      cc
-  passed_at (e ∷ es) zero unique purpose at is =
-      let both : (unique, purpose) ≡ (e.0, e.1.kept) = cc at in
-      let second : purpose ≡ e.1.kept = ap (λ (q : ℕ × Purpose). q.1) both in
-      here e es false (ap (is_for call) (sym second) ∙ is)
-  passed_at (e ∷ es) (suc place) unique purpose at is = passed_at es place unique purpose at is
+-- the first request that serves a call
+abbrev first_for : ℕ → List Entry → Option Entry
+first_for call es = find (λ e. is_for call e.1.kept) es
 
 -- A signal takes a request out where it is fatal and the request is unread, and not else.
 takes_out : (r : QueuedRequest Purpose) (off : Bool) → is_unread r.mark ≡ true

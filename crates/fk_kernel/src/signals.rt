@@ -1,7 +1,7 @@
 //! How calls are signalled, and INTERRUPTs are read.
 
-ghost use Rattle.std.specs.Prelude.{◌≡◌, ℕ, Some, None, OnOk, OnErr, IfOk, IfErr, true, false, is_some, find, option_map};
-ghost use Rattle.fuse_spec.specs.Kernel.Kernel.{call_signalled, is_for, request_of};
+ghost use Rattle.std.specs.Prelude.{◌≡◌, ℕ, Some, None, OnOk, OnErr, IfOk, IfErr, true, false, is_some};
+ghost use Rattle.fuse_spec.specs.Kernel.Kernel.{call_signalled, request_of};
 ghost use Rattle.fuse_spec.specs.Values.Maps.{get};
 ghost use Rattle.fuse_spec.specs.Kernel.QueueCalls.{after_read_interrupt, interrupt_effect};
 ghost use Rattle.fuse_spec.specs.Calls.Vfs.{CallState as State};
@@ -19,31 +19,6 @@ use fk_unique::interrupt_of;
 use fuse_frames::RequestFrame;
 use fuse_spec::errno::EINTR;
 use fuse_spec::{IntrEffect, Purpose, Refusal};
-
-/// Whether a request serves this call.
-fn serves(purpose: Purpose, call: u64) -> bool
-    ensures { result ≡ is_for call purpose }
-{
-    match purpose {
-        Purpose::Init | Purpose::Release(_) => false,
-        Purpose::Call(served) => served == call,
-    }
-}
-
-/// The number of the request that serves a call, read or not.
-fn request_for<Q: QueueTable<Purpose>>(queues: &Q, call: u64) -> Option<u64>
-    ensures { result ≡ option_map (λ e. e.0) (find (λ e. is_for call e.1.kept) (Q.state queues.now).requests) }
-{
-    for place in 0..queues.request_count() {
-        let Some((unique, purpose)) = queues.request_at(place) else {
-            return None;
-        };
-        if serves(*purpose, call) {
-            return Some(unique);
-        }
-    }
-    None
-}
 
 impl<Q: QueueTable<Purpose> + Drop, C: CountTable<Heap = Q::Heap> + Drop> KernelOf<Q, C> {
     /// Signals an unanswered call, fatally or not (fuse.rst). Where its request is unread and the signal is fatal, the
@@ -67,7 +42,7 @@ impl<Q: QueueTable<Purpose> + Drop, C: CountTable<Heap = Q::Heap> + Drop> Kernel
         if self.calls.get(call).is_none() {
             return Err(Refusal::NoSuch);
         }
-        let Some(unique) = request_for(&self.queues, call) else {
+        let Some(unique) = self.queues.request_for(call) else {
             self.within();
             return Ok(IntrEffect::None);
         };

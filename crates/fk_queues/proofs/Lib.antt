@@ -1,3 +1,4 @@
 pub mod Places
 pub mod Releases
 pub mod Rising
+pub mod Served

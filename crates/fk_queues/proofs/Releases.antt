@@ -1,5 +1,5 @@
 -- What each call on the queues makes of the RELEASEs of a node.
-use Rattle.std.proofs.Common.{◌≡◌, ◌≢◌, ℕ, ◌+◌, ◌<◌, ◌≤◌, ◌^◌, Bool, true, false, cond, ◌||◌, List, [], ◌∷◌, ◌++◌, Option, Some, None, length, refl, ap, sym, subst, ◌∙◌, arith, rules, nat_eq, nat_lt}
+use Rattle.std.proofs.Common.{◌≡◌, ◌≢◌, ℕ, ◌+◌, ◌<◌, ◌≤◌, ◌^◌, Bool, true, false, cond, ◌||◌, List, [], ◌∷◌, ◌++◌, Option, Some, None, length, refl, ap, sym, ◌∙◌, arith, rules, nat_eq, nat_lt}
 use Rattle.std.specs.Prelude.{option_map, slice_get, is_some, if◌then◌else◌}
 use Rattle.std.specs.Option.{option_map_or}
 use Rattle.std.specs.List.{list_any}
@@ -183,30 +183,35 @@ module _ (s : QueueState Purpose) where
       by Queued apart = released_marked u s.requests Interrupted node
       by NoEffect apart = refl
 
-  -- the pins once a signal took out of them what it dequeued
-  pub signalled_pins : (u : ℕ) (fatal : Bool) (old new : List (ℕ × ℕ)) (effect : IntrEffect) (kept : Option Purpose)
-      → HavePins old (releases_of s.requests) → effect ≡ interrupt_effect s u fatal
-      → kept ≡ option_map (λ (r : QueuedRequest Purpose). r.kept) (request_under s u)
-      → ((purpose : Purpose) → effect ≡ Dequeued → kept ≡ Some purpose → (pins now : ℕ → ℕ) → HavePins old pins
-      → ((node : ℕ) → now node + one_release purpose node ≡ pins node) → HavePins new now)
-      → (effect ≢ Dequeued → new ≡ old) → HavePins new (releases_of (after_interrupt s u fatal).requests)
-  signalled_pins u fatal old new effect kept have is there dequeued other = by effect is dequeued other
+  -- what was kept of the request that a signal dequeued
+  pub took_out : (u : ℕ) (fatal : Bool) (effect : IntrEffect) (was taken : Option Purpose) (kept : Purpose)
+      → effect ≡ interrupt_effect s u fatal
+      → was ≡ option_map (λ (r : QueuedRequest Purpose). r.kept) (request_under s u)
+      → (effect ≡ Dequeued → taken ≡ was) → (effect ≢ Dequeued → taken ≡ None) → taken ≡ Some kept
+      → (interrupt_effect s u fatal ≡ Dequeued)
+      × (option_map (λ (r : QueuedRequest Purpose). r.kept) (request_under s u) ≡ Some kept)
+  took_out u fatal effect was taken kept is there same other at = by effect is same other
     where
-      still : (e : IntrEffect) → e ≡ interrupt_effect s u fatal → e ≢ Dequeued → (e ≢ Dequeued → new ≡ old)
-          → HavePins new (releases_of (after_interrupt s u fatal).requests)
-      still e at apart same =
-          subst (λ (m : List (ℕ × ℕ)). HavePins m (releases_of (after_interrupt s u fatal).requests)) (sym (same apart))
-          (same_pins old (releases_of s.requests) _ have
-          (λ node. released_signalled u fatal node (λ d. apart (at ∙ d))))
+      none : taken ≡ None → ⊥
+      none void =
+          let never : ◌≡◌ {A = Option Purpose} (Some kept) None = sym at ∙ void in
+          cc
 
-      by : (e : IntrEffect) → e ≡ interrupt_effect s u fatal
-          → ((purpose : Purpose) → e ≡ Dequeued → kept ≡ Some purpose → (pins now : ℕ → ℕ) → HavePins old pins
-          → ((node : ℕ) → now node + one_release purpose node ≡ pins node) → HavePins new now)
-          → (e ≢ Dequeued → new ≡ old) → HavePins new (releases_of (after_interrupt s u fatal).requests)
-      by Dequeued at gone same =
-          let found = dequeued_there u fatal (sym at) in
-          gone found.0 refl (there ∙ found.1) (releases_of s.requests) _ have
-          (λ node. released_dequeued u fatal found.0 node (sym at) found.1)
-      by IsFlagged at gone same = still IsFlagged at (λ e. cc) same
-      by Queued at gone same = still Queued at (λ e. cc) same
-      by NoEffect at gone same = still NoEffect at (λ e. cc) same
+      by : (e : IntrEffect) → e ≡ interrupt_effect s u fatal → (e ≡ Dequeued → taken ≡ was)
+          → (e ≢ Dequeued → taken ≡ None) → (interrupt_effect s u fatal ≡ Dequeued)
+          × (option_map (λ (r : QueuedRequest Purpose). r.kept) (request_under s u) ≡ Some kept)
+      by Dequeued of is_was is_none = (sym of, sym there ∙ sym (is_was refl) ∙ at)
+      by IsFlagged of is_was is_none = absurd (none (is_none (λ e. cc)))
+      by Queued of is_was is_none = absurd (none (is_none (λ e. cc)))
+      by NoEffect of is_was is_none = absurd (none (is_none (λ e. cc)))
+
+  -- a signal that took none out dequeued none
+  pub took_none : (u : ℕ) (fatal : Bool) (effect : IntrEffect) (was taken : Option Purpose)
+      → effect ≡ interrupt_effect s u fatal
+      → was ≡ option_map (λ (r : QueuedRequest Purpose). r.kept) (request_under s u)
+      → (effect ≡ Dequeued → taken ≡ was) → taken ≡ None → interrupt_effect s u fatal ≢ Dequeued
+  took_none u fatal effect was taken is there same none dequeued =
+      let found = dequeued_there u fatal dequeued in
+      let no : ◌≡◌ {A = Option Purpose} (Some found.0) None =
+      sym found.1 ∙ sym there ∙ sym (same (is ∙ dequeued)) ∙ none in
+      cc

@@ -1,3 +1,4 @@
+pub mod KernelQueues
 pub mod Releases
 pub mod Rising
 pub mod Room

@@ -1,11 +1,13 @@
-//! The kernel's queues, with its unanswered RELEASEs counted by node.
-ghost use Rattle.std.specs.Prelude.{◌≡◌, ◌≢◌, ℕ, ◌+◌, ◌<◌, ◌≤◌, ◌^◌, Option, Some, nat_eq, unwrap_or};
+//! The kernel's queues, with its unanswered RELEASEs counted by node, and the requests of calls beside them.
+ghost use Rattle.std.specs.Prelude.{◌≡◌, ◌≢◌, ℕ, ◌+◌, ◌++◌, ◌<◌, ◌≤◌, ◌^◌, All, None, Option, Some, T, find, nat_eq, option_map, unwrap_or};
+ghost use Rattle.std.specs.FinMap.{is_sorted};
 ghost use Rattle.std.specs.List.{list_any};
 ghost use Rattle.std.specs.Map.{lookup};
+ghost use Rattle.std.specs.Ordering.{nat_cmp};
 ghost use Rattle.fuse_spec.specs.declared.IntrEffect.TheVariants.{Dequeued};
-ghost use Rattle.fuse_spec.specs.declared.Purpose.{Purpose as Kept};
-ghost use Rattle.fuse_spec.specs.Kernel.Kernel.{is_released_by};
+ghost use Rattle.fuse_spec.specs.Kernel.Kernel.{is_for, is_released_by};
 ghost use Rattle.fk_opens.specs.Pins.{HavePins};
+ghost use Rattle.fk_queues.specs.KernelQueues.{served_by, without_served};
 ghost use Rattle.fk_queues.specs.Releases.{one_release};
 
 use crate::forgets::Forgets;
@@ -13,23 +15,26 @@ use crate::no_memory::NoMemory;
 use crate::table::QueueTable;
 use fk_opens::NodePins;
 use fuse_spec::{IntrEffect, Purpose};
+use fuse_tables::Table;
 use std::alloc::Allocator;
 use std::marker::Model;
 
-/// The kernel's queues: the unanswered RELEASEs are counted by node, so that whether one pins a node is a single
-/// look-up.
+/// The kernel's queues. The unanswered RELEASEs are counted by node, so that whether one pins a node is a single look-up.
+/// The requests of calls stand beside them too, so that a call's request is sought among those of calls alone, of which
+/// each unanswered call has one.
 #[derive(Drop)]
 pub struct KernelQueues<Q: QueueTable<Purpose>> {
     queues: Q,
     releases: NodePins<Q::Heap>,
+    /// The call that each request of a call serves, by the request's number.
+    calls: Table<u64, Q::Heap>,
 }
 
 impl<Q: QueueTable<Purpose>> Model for KernelQueues<Q> {
     ghost use Rattle.std.specs.Prelude.{min};
     ghost use Rattle.std.specs.Coded.{codes};
     ghost use Rattle.fuse_spec.specs.declared.Purpose.{Purpose};
-    ghost use Rattle.fk_opens.specs.Pins.{HavePins};
-    ghost use Rattle.fk_queues.specs.Releases.{releases_of};
+    ghost use Rattle.fk_queues.specs.KernelQueues.{AreKnown};
     ghost use Rattle.fk_queues.specs.State.{QueuesState};
 
     ghost Value = { QueuesState Purpose };
@@ -39,12 +44,12 @@ impl<Q: QueueTable<Purpose>> Model for KernelQueues<Q> {
     ghost view = { λ k. record {
       queues = Q.state k.queues;
       room = record {
-        requests = min (Q.room k.queues).requests k.releases.room;
+        requests = min (Q.room k.queues).requests (min k.releases.room k.calls.room);
         forgets = (Q.room k.queues).forgets;
       };
     } };
 
-    ghost invariant = { λ k. HavePins k.releases.counts (releases_of (Q.state k.queues).requests) };
+    ghost invariant = { λ k. AreKnown (Q.state k.queues).requests k.releases.counts k.calls.entries };
 }
 
 impl<Q: QueueTable<Purpose>> KernelQueues<Q> {
@@ -53,6 +58,13 @@ impl<Q: QueueTable<Purpose>> KernelQueues<Q> {
         ensures { result ≡ list_any (λ e. is_released_by node e.1.kept) self.now.queues.requests }
     {
         self.releases.is_pinned(node)
+    }
+
+    /// The number of the request that serves a call, read or not: the oldest, if there are more.
+    pub fn request_for(&self, call: u64) -> Option<u64>
+        ensures { result ≡ option_map (λ e. e.0) (find (λ e. is_for call e.1.kept) self.now.queues.requests) }
+    {
+        request_in(self.calls.rows(), call)
     }
 }
 
@@ -67,12 +79,14 @@ impl<Q: QueueTable<Purpose>> QueueTable<Purpose> for KernelQueues<Q> {
         KernelQueues {
             queues: Q::new(alloc),
             releases: NodePins::new(alloc),
+            calls: Table::new(alloc),
         }
     }
 
     fn reserve(&mut self, requests: usize, forgets: usize) -> Result<(), NoMemory> {
         self.queues.reserve(requests, forgets)?;
         self.releases.reserve(requests)?;
+        self.calls.reserve(requests)?;
         Ok(())
     }
 
@@ -83,7 +97,9 @@ impl<Q: QueueTable<Purpose>> QueueTable<Purpose> for KernelQueues<Q> {
     fn enqueue(&mut self, kept: Purpose) -> u64 {
         self.queues.keeps_sound();
         pin_released(&mut self.releases, kept);
-        self.queues.enqueue(kept)
+        let unique = self.queues.enqueue(kept);
+        put_served(&mut self.calls, unique, kept);
+        unique
     }
 
     fn forget(&mut self, node: u64, count: u64) {
@@ -114,14 +130,6 @@ impl<Q: QueueTable<Purpose>> QueueTable<Purpose> for KernelQueues<Q> {
         self.queues.read_forgets(count)
     }
 
-    fn request_count(&self) -> usize {
-        self.queues.request_count()
-    }
-
-    fn request_at(&self, place: usize) -> Option<(u64, &Purpose)> {
-        self.queues.request_at(place)
-    }
-
     fn kept(&self, unique: u64) -> Option<&Purpose> {
         self.queues.kept(unique)
     }
@@ -133,13 +141,17 @@ impl<Q: QueueTable<Purpose>> QueueTable<Purpose> for KernelQueues<Q> {
     fn answer(&mut self, unique: u64) -> Option<Purpose> {
         let kept = self.queues.answer(unique)?;
         unpin_released(&mut self.releases, kept);
+        drop_served(&mut self.calls, unique, kept);
         Some(kept)
     }
 
     fn interrupt(&mut self, unique: u64, fatal: bool) -> IntrEffect {
         let kept = self.queues.kept(unique).copied();
         let effect = self.queues.interrupt(unique, fatal);
-        unpin_dequeued(&mut self.releases, effect, kept);
+        if let Some(kept) = kept_of_dequeued(effect, kept) {
+            unpin_released(&mut self.releases, kept);
+            drop_served(&mut self.calls, unique, kept);
+        }
         effect
     }
 
@@ -154,6 +166,7 @@ impl<Q: QueueTable<Purpose>> QueueTable<Purpose> for KernelQueues<Q> {
     fn abort(&mut self) {
         self.queues.abort();
         self.releases.clear();
+        self.calls.clear();
     }
 
     fn keeps_sound(&self) {
@@ -187,21 +200,53 @@ fn unpin_released<A: Allocator + Copy>(releases: &mut NodePins<A>, kept: Purpose
     }
 }
 
-/// A request that a signal dequeues, as one of this effect does, pins no node any longer.
-fn unpin_dequeued<A: Allocator + Copy>(
-    releases: &mut NodePins<A>,
-    effect: IntrEffect,
-    kept: Option<Purpose>,
-)
-    ensures dequeued { (purpose : Kept) → effect ≡ Dequeued → kept ≡ Some purpose → (pins now : ℕ → ℕ)
-        → HavePins releases.old.counts pins
-        → ((node : ℕ) → now node + one_release purpose node ≡ pins node) → HavePins releases.new.counts now }
-    ensures other { effect ≢ Dequeued → releases.new.counts ≡ releases.old.counts }
-    ensures room { releases.old.room ≤ releases.new.room }
+/// A request of a call that is queued goes last among those of calls.
+fn put_served<A: Allocator + Copy>(calls: &mut Table<u64, A>, unique: u64, kept: Purpose)
+    requires room { 0 < calls.old.room }
+    requires above { All (λ e. e.0 < unique) calls.old.entries }
+    ensures calls { calls.new.entries ≡ calls.old.entries ++ served_by unique kept }
+    ensures room { calls.old.room ≤ calls.new.room + 1 }
 {
-    if let IntrEffect::Dequeued = effect
-        && let Some(purpose) = kept
-    {
-        unpin_released(releases, purpose);
+    match kept {
+        Purpose::Call(call) => calls.put(unique, call),
+        Purpose::Init | Purpose::Release(_) => {}
     }
+}
+
+/// A request of a call that ends is none of those of calls any longer.
+fn drop_served<A: Allocator + Copy>(calls: &mut Table<u64, A>, unique: u64, kept: Purpose)
+    ensures calls { calls.new.entries ≡ without_served unique kept calls.old.entries }
+    ensures sorted { T (is_sorted nat_cmp calls.old.entries) }
+    ensures room { calls.old.room ≤ calls.new.room }
+{
+    calls.keeps_sound();
+    match kept {
+        Purpose::Call(_) => {
+            let _call = calls.remove(unique);
+        }
+        Purpose::Init | Purpose::Release(_) => {}
+    }
+}
+
+/// What was kept of a request that a signal of this effect dequeued.
+fn kept_of_dequeued(effect: IntrEffect, kept: Option<Purpose>) -> Option<Purpose>
+    ensures dequeued { effect ≡ Dequeued → result ≡ kept }
+    ensures other { effect ≢ Dequeued → result ≡ None }
+{
+    match effect {
+        IntrEffect::Dequeued => kept,
+        IntrEffect::Flagged | IntrEffect::Queued | IntrEffect::None => None,
+    }
+}
+
+/// The number of the first of these requests that serves a call.
+fn request_in(calls: &[(u64, u64)], call: u64) -> Option<u64>
+    ensures { result ≡ option_map (λ e. e.0) (find (λ e. nat_eq e.1 call) calls.now) }
+{
+    for row in calls {
+        if row.1 == call {
+            return Some(row.0);
+        }
+    }
+    None
 }

@@ -44,11 +44,6 @@ impl<W: Drop, A: Allocator + Copy> RequestStore<W> for MapRequests<W, A> {
         self.requests.reserve(more)
     }
 
-    fn request_at(&self, place: usize) -> Option<(u64, &QueuedRequest<W>)> {
-        let (unique, request) = self.requests.get_index(place)?;
-        Some((*unique, request))
-    }
-
     fn pending(&self, place: usize) -> Option<(u64, &QueuedRequest<W>)> {
         let mut left = place;
         for (unique, request) in &self.requests {

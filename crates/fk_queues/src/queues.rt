@@ -156,15 +156,6 @@ impl<W: Drop, S: RequestStore<W>> QueueTable<W> for QueuesOf<W, S> {
         Some((unique, forgets))
     }
 
-    fn request_count(&self) -> usize {
-        self.requests.len()
-    }
-
-    fn request_at(&self, place: usize) -> Option<(u64, &W)> {
-        let (unique, request) = self.requests.request_at(place)?;
-        Some((unique, &request.kept))
-    }
-
     fn kept(&self, unique: u64) -> Option<&W> {
         let request = self.requests.request(unique)?;
         Some(&request.kept)

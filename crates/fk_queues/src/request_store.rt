@@ -47,10 +47,6 @@ pub trait RequestStore<W: Drop> {
         ensures ok { OnOk result (more ≤ room self.new) }
         ensures room { room self.old ≤ room self.new };
 
-    /// The request at a place in order of queuing, counted from 0, and its number.
-    fn request_at(&self, place: usize) -> Option<(u64, &QueuedRequest<W>)>
-        ensures { option_map (λ p. (p.0, p.1.now)) result ≡ slice_get (entries self.now) place };
-
     /// The request at a place among those that were not read, and its number.
     fn pending(&self, place: usize) -> Option<(u64, &QueuedRequest<W>)>
         ensures { option_map (λ p. (p.0, p.1.now)) result

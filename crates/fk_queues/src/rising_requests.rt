@@ -75,11 +75,6 @@ impl<W: Drop, A: Allocator + Copy> RequestStore<W> for RisingRequests<W, A> {
         self.unread.reserve(more)
     }
 
-    fn request_at(&self, place: usize) -> Option<(u64, &QueuedRequest<W>)> {
-        let (unique, request) = self.requests.get(place)?;
-        Some((*unique, request))
-    }
-
     fn pending(&self, place: usize) -> Option<(u64, &QueuedRequest<W>)> {
         let Some(unique) = number_at(&self.unread, place) else {
             return None;

@@ -3,7 +3,6 @@ ghost use Rattle.std.specs.Prelude.{◌≡◌, ℕ, ◌+◌, ◌<◌, ◌≤◌,
 ghost use Rattle.fuse_spec.specs.Kernel.Uniques.{numbers_left_from};
 ghost use Rattle.fuse_spec.specs.Kernel.Queues.{QueueState, empty_queues, request_under, IsSound};
 ghost use Rattle.fuse_spec.specs.Kernel.QueueCalls.{after_enqueue, after_forget, pending_at, after_read_pending, after_read_interrupt, first_forgets, after_read_forgets, waiting, after_answer, interrupt_effect, after_interrupt, after_interrupt_reply, after_no_interrupts};
-ghost use Rattle.fuse_spec.specs.Kernel.QueueLaws.{kept_entries};
 ghost use Rattle.fuse_spec.specs.declared.InterruptReply.TheVariants.{Again};
 ghost use Rattle.fk_queues.specs.Room.{Room, KeepsRoom};
 
@@ -98,14 +97,6 @@ pub trait QueueTable<W: Drop> {
         ensures forgets { result ≡ first_forgets (state self.old) count }
         ensures state { state self.new ≡ after_read_forgets (state self.old) count }
         ensures room { KeepsRoom (room self.old) (room self.new) };
-
-    /// How many requests there are, read or not.
-    fn request_count(&self) -> usize
-        ensures { result ≡ length (state self.now).requests };
-
-    /// The request at a place in order of queuing, read or not, counted from 0, and its number.
-    fn request_at(&self, place: usize) -> Option<(u64, &W)>
-        ensures { option_map (λ p. (p.0, p.1.now)) result ≡ slice_get (kept_entries (state self.now).requests) place };
 
     /// What is kept of the request under a number, read or not.
     fn kept(&self, unique: u64) -> Option<&W>

@@ -21,11 +21,9 @@ enum Row {
     /// The pending request at a place: its number, and what is kept.
     Pending(usize, Option<(u64, u64)>),
     ReadPending(usize, Option<u64>),
-    /// How many requests there are, read or not.
-    RequestCount(usize),
-    /// The request at a place among all: its number, and what is kept.
-    RequestAt(usize, Option<(u64, u64)>),
-    /// What is kept of the request under a number.
+    /// What is kept of the request under a number, read or not.
+    Kept(u64, Option<u64>),
+    /// What is kept of the request that was read under a number.
     Waiting(u64, Option<u64>),
     Answer(u64, Option<u64>),
     /// A signal to the request under a number, fatal or not.
@@ -169,8 +167,7 @@ fn sees<Q: QueueTable<u64>>(queues: &Q, row: Row) -> bool {
     match row {
         Row::NumbersLeft(left) => queues.numbers_left() == left,
         Row::Pending(place, request) => by_value(queues.pending(place)) == request,
-        Row::RequestCount(count) => queues.request_count() == count,
-        Row::RequestAt(place, request) => by_value(queues.request_at(place)) == request,
+        Row::Kept(unique, kept) => queues.kept(unique).copied() == kept,
         Row::Waiting(unique, kept) => queues.waiting(unique).copied() == kept,
         Row::FirstInterrupt(unique) => queues.first_interrupt() == unique,
         _ => false,
@@ -217,9 +214,9 @@ static CALLS: [Row; 56] = [
     Row::ReadPending(1, Some(4)),
     Row::Pending(1, Some((6, 72))),
     Row::ReadPending(2, None),
-    Row::RequestCount(3),
-    Row::RequestAt(1, Some((4, 71))),
-    Row::RequestAt(3, None),
+    Row::Kept(2, Some(70)),
+    Row::Kept(4, Some(71)),
+    Row::Kept(8, None),
     Row::Waiting(4, Some(71)),
     Row::Waiting(2, None),
     Row::Interrupt(4, false, IntrEffect::Queued),
@@ -237,7 +234,7 @@ static CALLS: [Row; 56] = [
     Row::NoInterrupts,
     Row::FirstInterrupt(None),
     Row::Interrupt(2, true, IntrEffect::Dequeued),
-    Row::RequestCount(1),
+    Row::Kept(2, None),
     Row::Reserve(100, 100),
     Row::Forget(9, 3),
     Row::Forget(8, 1),
@@ -263,7 +260,7 @@ static CALLS: [Row; 56] = [
     // as in a new mount
     Row::Pending(0, None),
     Row::Waiting(6, None),
-    Row::RequestCount(0),
+    Row::Kept(6, None),
     Row::NoForgets(1),
     Row::Queue(73, 2),
     Row::Interrupt(2, false, IntrEffect::Flagged),
