@@ -1,5 +1,5 @@
 -- Nodes in use, and nodes that are given up.
-use Rattle.std.proofs.Common.{◌≡◌, ◌≢◌, ℕ, ◌+◌, ◌≤◌, Bool, true, false, ◌||◌, [], ◌∷◌, Option, Some, None, Bor, refl, sym, ap, ◌∙◌, arith, inl, inr}
+use Rattle.std.proofs.Common.{◌≡◌, ◌≢◌, ℕ, ◌+◌, ◌≤◌, Bool, true, false, ◌||◌, [], ◌∷◌, Option, Some, None, Bor, refl, sym, ap, ◌∙◌, arith, inl, inr, true≢false}
 use Rattle.std.specs.Prelude.{option_map, ◌&&◌, not, cond, nat_eq}
 use Rattle.std.specs.Option.{option_copied}
 use Rattle.std.specs.Prelude.{is_some}
@@ -8,6 +8,9 @@ use Rattle.std.proofs.lemmas.Bool.{cases_eq}
 use Rattle.fuse_spec.proofs.Tables.{get_gone_here, get_gone_there}
 use Rattle.fuse_spec.specs.declared.Counted.{Counted}
 use Rattle.fuse_spec.specs.Values.Maps.{Map, get, remove, values}
+use Rattle.fuse_spec.specs.Kernel.Kernel.{Kernel, is_live, is_pinned, is_bound}
+use Rattle.fuse_spec.specs.Kernel.Refusals.{unused_found, refusal_in, accepted}
+use Rattle.fk_kernel.specs.Refused.{evict_refusal}
 use Rattle.fk_kernel.specs.Soundness.{AreCounted}
 use Rattle.fk_kernel.proofs.Sound.{length_gone}
 
@@ -50,3 +53,12 @@ any_gone {V} test (e ∷ m) k =
 pub copied_is : {X : Type 0} (o : Option (Bor X)) → is_some (option_copied o) ≡ is_some o
 copied_is None = refl
 copied_is (Some x) = refl
+
+-- a node that is counted, not in use and not named is given up
+pub unrefused : (k : Kernel) (node : ℕ) → is_live k.phase ≡ true → is_some (get k.nodes node) ≡ true
+    → (is_pinned k node || is_bound k node) ≡ false → None ≡ evict_refusal k node
+unrefused k node live there idle = rw live (by (get k.nodes node) there)
+  where
+    by : (o : Option Counted) → is_some o ≡ true → None ≡ refusal_in (unused_found k node o (λ counted. accepted))
+    by None never = absurd (true≢false (sym never))
+    by (Some counted) some = rw idle refl
