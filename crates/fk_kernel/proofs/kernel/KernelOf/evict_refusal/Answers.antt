@@ -11,5 +11,5 @@ returns g c =
     let live : is_live now.phase ≡ true = search rules in
     let there : is_some (get now.nodes c.args.node) ≡ true = search rules in
     let idle : (is_pinned now c.args.node || is_bound now c.args.node) ≡ false =
-    rw (← c.self.view_is) (rw c.is_releasing.ensures at (sym c.is_node_in_use.ensures ∙ c.if-is_node_in_use.false)) in
+    rw (← c.self.view_is) (rw c.is_releasing-is_releasing.ensures at (sym c.is_node_in_use.ensures ∙ c.if-is_node_in_use.false)) in
     unrefused now c.args.node live there idle
