@@ -1,15 +1,16 @@
 -- Requests in rising number: what is found, marked and taken, and the numbers of those unread.
-use Rattle.std.proofs.Common.{◌≡◌, ◌≢◌, ℕ, zero, suc, ◌<◌, ◌≤◌, Bool, true, false, not, cond, List, [], ◌∷◌, ◌++◌, length, get_or, filter, Option, Some, None, refl, sym, ap, subst, ◌∙◌, arith, T, nat_eq, inl, inr, Less, Equal, Greater, if◌then◌else◌, IfSome, option_map, count_by}
+use Rattle.std.proofs.Common.{◌≡◌, ◌≢◌, ℕ, zero, suc, ◌<◌, ◌≤◌, Bool, true, false, not, cond, List, [], ◌∷◌, ◌++◌, length, get_or, filter, Option, Some, None, refl, sym, ap, subst, ◌∙◌, arith, rules, T, nat_eq, inl, inr, Less, Equal, Greater, if◌then◌else◌, IfSome, option_map, count_by}
 use Rattle.std.specs.Prelude.{slice_get, nat_lt}
 use Rattle.std.specs.Map.{lookup, remove_entry}
 use Rattle.std.specs.List.{All, remove as removed}
 use Rattle.std.specs.Ordering.{nat_cmp, is_lt, is_eq}
 use Rattle.std.specs.FinMap.{is_sorted}
-use Rattle.std.specs.FinMap.Entries.{below_all}
+use Rattle.std.specs.FinMap.Entries.{below_all, by_order}
+use Rattle.std.specs.declared.cmp.Ordering.{Ordering}
 use Rattle.std.specs.Cmp.{ranked}
 use Rattle.std.proofs.lemmas.Bool.{lt-ltb, ltb-true}
 use Rattle.std.proofs.lemmas.Bool.Decides.{eqb_tells, nat_tests}
-use Rattle.std.proofs.lemmas.List.Elements.{All-cons, All-tail}
+use Rattle.std.proofs.lemmas.List.Elements.{All-cons, All-head, All-tail}
 use Rattle.std.proofs.lemmas.Option.{same_Some, slice_get_within, get_or_from_slice_get}
 use Rattle.fuse_spec.specs.declared.Mark.{Mark}
 use Rattle.fuse_spec.specs.declared.QueuedRequest.{QueuedRequest}
@@ -80,6 +81,15 @@ module _ {X : Type 0} where
             (ap (λ (fs : List (ℕ × X)). e ∷ fs) (remove_entry_is es u (both_second _ _ h)))
       ]
 
+  pub removed_fewer : (u : ℕ) (es : List (ℕ × X)) → length (remove_entry (nat_eq u) es) ≤ length es
+  removed_fewer u [] = omega arith
+  removed_fewer u (e ∷ es) =
+      let rest = removed_fewer u es in
+      elim (nat_eq u e.0) as (λ b. length (cond b es (e ∷ remove_entry (nat_eq u) es)) ≤ length (e ∷ es)) [
+        | true ↦ omega arith
+        | false ↦ omega (arith, rest)
+      ]
+
   below_push : (x u : ℕ) (v : X) (es : List (ℕ × X)) → x < u → T (below_all nat_cmp x es)
       → T (below_all nat_cmp x (es ++ (u, v) ∷ []))
   below_push x u v [] lt h = both _ _ (lower_less x u lt) tt
@@ -121,6 +131,89 @@ module _ {X : Type 0} where
       let one : 1 ≤ cond (was_drawn n e.0) 1 0 = omega (arith, bound e.0, counted, ap {B = ℕ} (λ b. cond b 1 0) here) in
       All-cons (λ (x : ℕ × X). x.0 < n) e es (drawn_below n e.0 (was_drawn n e.0) refl one)
       (drawn_all_below n es (λ u. omega (arith, bound u, count_by-cons (λ (x : ℕ × X). nat_eq u x.0) e es)))
+
+-- ---- putting
+
+module _ {X : Type 0} where
+  -- a key above all others has no value, and what is put there comes last
+  pub above_absent : (es : List (ℕ × X)) (key : ℕ) → All (λ e. e.0 < key) es → get es key ≡ None
+  above_absent [] key above = refl
+  above_absent (e ∷ es) key above =
+      by (nat_cmp key e.0) (greater (All-head (λ (x : ℕ × X). x.0 < key) e es above))
+      (above_absent es key (All-tail (λ (x : ℕ × X). x.0 < key) e es above))
+    where
+      greater : e.0 < key → nat_cmp key e.0 ≡ Greater
+      greater lower = grind (arith, lower, rules)
+
+      by : (r : Ordering) → r ≡ Greater → get es key ≡ None → cond (is_eq r) (Some e.1) (get es key) ≡ None
+      by Less q rest = rest
+      by Equal q rest =
+          let no : Equal ≡ Greater = q in
+          cc
+      by Greater q rest = rest
+
+  pub put_last : (es : List (ℕ × X)) (key : ℕ) (v : X) → All (λ e. e.0 < key) es → put es key v ≡ es ++ (key, v) ∷ []
+  put_last [] key v above = refl
+  put_last (e ∷ es) key v above =
+      by (nat_cmp key e.0) (greater (All-head (λ (x : ℕ × X). x.0 < key) e es above))
+      (put_last es key v (All-tail (λ (x : ℕ × X). x.0 < key) e es above))
+    where
+      greater : e.0 < key → nat_cmp key e.0 ≡ Greater
+      greater lower = grind (arith, lower, rules)
+
+      by : (r : Ordering) → r ≡ Greater → put es key v ≡ es ++ (key, v) ∷ []
+          → by_order r ((key, v) ∷ e ∷ es) ((e.0, v) ∷ es) (e ∷ put es key v) ≡ e ∷ (es ++ (key, v) ∷ [])
+      by Less q rest =
+          let no : Less ≡ Greater = q in
+          cc
+      by Equal q rest =
+          let no : Equal ≡ Greater = q in
+          cc
+      by Greater q rest = ap (λ (m : List (ℕ × X)). e ∷ m) rest
+
+  below_lower : (x y : ℕ) (es : List (ℕ × X)) → x < y → T (below_all nat_cmp y es) → T (below_all nat_cmp x es)
+  below_lower x y [] lt h = tt
+  below_lower x y (e ∷ es) lt h =
+      let low = less_lower y e.0 (both_first _ _ h) in
+      both _ _ (lower_less x e.0 (omega (arith, lt, low))) (below_lower x y es lt (both_second _ _ h))
+
+  put_first : (es : List (ℕ × X)) (key : ℕ) (v : X) → T (below_all nat_cmp key es) → put es key v ≡ (key, v) ∷ es
+  put_first [] key v below = refl
+  put_first (e ∷ es) key v below = by (nat_cmp key e.0) (lower (less_lower key e.0 (both_first _ _ below)))
+    where
+      lower : key < e.0 → nat_cmp key e.0 ≡ Less
+      lower low = grind (arith, low, rules)
+
+      by : (r : Ordering) → r ≡ Less
+          → by_order r ((key, v) ∷ e ∷ es) ((e.0, v) ∷ es) (e ∷ put es key v) ≡ (key, v) ∷ e ∷ es
+      by Less q = refl
+      by Equal q =
+          let no : Equal ≡ Less = q in
+          cc
+      by Greater q =
+          let no : Greater ≡ Less = q in
+          cc
+
+  -- what is put where a value was taken out stands in its place
+  pub put_again : (es : List (ℕ × X)) (key : ℕ) (v : X) → T (is_sorted nat_cmp es)
+      → put (remove es key) key v ≡ put es key v
+  put_again [] key v h = refl
+  put_again (e ∷ es) key v h =
+      elim (nat_cmp key e.0) as (λ o. nat_cmp key e.0 ≡ o → put (remove (e ∷ es) key) key v ≡ put (e ∷ es) key v) [
+        | Less ↦ λ q.
+            let low = ranked key e.0 Less (sym q) in
+            ap (λ (m : List (ℕ × X)). put m key v) (kept_above key (e ∷ es) key (omega arith)
+            (both _ _ (lower_less key e.0 low) (below_lower key e.0 es low (both_first _ _ h))))
+        | Equal ↦ λ q.
+            let same = ranked key e.0 Equal (sym q) in
+            rw (tied e.0 key (sym same), kept_above key es e.0 (omega (arith, same)) (both_first _ _ h), q)
+            (put_first es key v (subst (λ n. T (below_all nat_cmp n es)) (sym same) (both_first _ _ h))
+            ∙ ap (λ (n : ℕ). (n, v) ∷ es) same)
+        | Greater ↦ λ q.
+            let high = ranked key e.0 Greater (sym q) in
+            rw (apart e.0 key (omega arith), q) (ap (λ (fs : List (ℕ × X)). e ∷ fs)
+            (put_again es key v (both_second _ _ h)))
+      ] refl
 
 module _ {W : Type 0} where
   -- a request whose mark is that of an unread one is unread

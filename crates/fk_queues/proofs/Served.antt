@@ -2,13 +2,10 @@
 use Rattle.std.proofs.Common.{◌≡◌, ◌≢◌, ℕ, ◌+◌, ◌<◌, Bool, true, false, cond, not, ◌&&◌, List, [], ◌∷◌, ◌++◌, Option, Some, None, T, refl, ap, sym, ◌∙◌, arith, rules, nat_eq, inl, inr, append_assoc, append-nil}
 use Rattle.std.specs.Prelude.{option_map, slice_get, is_some, if◌then◌else◌, find}
 use Rattle.std.specs.FinMap.{is_sorted}
-use Rattle.std.specs.FinMap.Entries.{by_order}
 use Rattle.std.specs.List.{All}
 use Rattle.std.specs.Map.{lookup, remove_entry}
 use Rattle.std.specs.Option.{option_map_or}
-use Rattle.std.specs.Ordering.{nat_cmp, is_eq}
-use Rattle.std.specs.declared.cmp.Ordering.{Ordering}
-use Rattle.std.specs.declared.cmp.Ordering.TheVariants.{Less, Equal, Greater}
+use Rattle.std.specs.Ordering.{nat_cmp}
 use Rattle.std.proofs.lemmas.Bool.Decides.{eqb_tells}
 use Rattle.std.proofs.lemmas.List.Elements.{All-cons, All-head, All-tail}
 use Rattle.fuse_spec.specs.declared.IntrEffect.{IntrEffect}
@@ -21,7 +18,7 @@ use Rattle.fuse_spec.specs.declared.QueuedRequest.{QueuedRequest}
 use Rattle.fuse_spec.specs.Kernel.Kernel.{is_for}
 use Rattle.fuse_spec.specs.Kernel.Queues.{QueueState, is_unread, pending, request_under}
 use Rattle.fuse_spec.specs.Kernel.QueueCalls.{set_mark, after_reading, after_read_pending, waiting, after_answer, interrupt_effect, after_effect, after_interrupt, without}
-use Rattle.fuse_spec.specs.Values.Maps.{get, put, remove}
+use Rattle.fuse_spec.specs.Values.Maps.{remove}
 use Rattle.fuse_tables.proofs.Rows.{absent_is, none_past_first, both_second}
 use Rattle.fk_queues.specs.KernelQueues.{served_by, served_in, without_served}
 
@@ -48,43 +45,6 @@ served_above n (e ∷ es) above =
     by Init first rest = rest
     by (Release opened) first rest = rest
     by (Call call) first rest = All-cons (λ (x : ℕ × ℕ). x.0 < n) (e.0, call) (served_in es) first rest
-
-module _ {X : Type 0} where
-  -- a key above all others has no value, and what is put there comes last
-  pub above_absent : (es : List (ℕ × X)) (key : ℕ) → All (λ e. e.0 < key) es → get es key ≡ None
-  above_absent [] key above = refl
-  above_absent (e ∷ es) key above =
-      by (nat_cmp key e.0) (greater (All-head (λ (x : ℕ × X). x.0 < key) e es above))
-      (above_absent es key (All-tail (λ (x : ℕ × X). x.0 < key) e es above))
-    where
-      greater : e.0 < key → nat_cmp key e.0 ≡ Greater
-      greater lower = grind (arith, lower, rules)
-
-      by : (r : Ordering) → r ≡ Greater → get es key ≡ None → cond (is_eq r) (Some e.1) (get es key) ≡ None
-      by Less q rest = rest
-      by Equal q rest =
-          let no : Equal ≡ Greater = q in
-          cc
-      by Greater q rest = rest
-
-  pub put_last : (es : List (ℕ × X)) (key : ℕ) (v : X) → All (λ e. e.0 < key) es → put es key v ≡ es ++ (key, v) ∷ []
-  put_last [] key v above = refl
-  put_last (e ∷ es) key v above =
-      by (nat_cmp key e.0) (greater (All-head (λ (x : ℕ × X). x.0 < key) e es above))
-      (put_last es key v (All-tail (λ (x : ℕ × X). x.0 < key) e es above))
-    where
-      greater : e.0 < key → nat_cmp key e.0 ≡ Greater
-      greater lower = grind (arith, lower, rules)
-
-      by : (r : Ordering) → r ≡ Greater → put es key v ≡ es ++ (key, v) ∷ []
-          → by_order r ((key, v) ∷ e ∷ es) ((e.0, v) ∷ es) (e ∷ put es key v) ≡ e ∷ (es ++ (key, v) ∷ [])
-      by Less q rest =
-          let no : Less ≡ Greater = q in
-          cc
-      by Equal q rest =
-          let no : Equal ≡ Greater = q in
-          cc
-      by Greater q rest = ap (λ (m : List (ℕ × X)). e ∷ m) rest
 
 -- a request that ends is none of those of calls
 pub served_removed : (u : ℕ) (es : Entries) (r : QueuedRequest Purpose) → T (is_sorted nat_cmp (served_in es))

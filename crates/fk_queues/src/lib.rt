@@ -26,27 +26,28 @@ pub use rising_requests::RisingRequests;
 use std::alloc::Global;
 pub use table::QueueTable;
 
-/// The queues, with their requests in a queue of their own, in rising number.
+/// The queues, with their requests in a table of their own, in rising number.
 ///
 /// What each call costs, for `n` requests pending and in processing:
 ///
 /// | Call | Time |
 /// |---|---|
-/// | `numbers_left`, `request_count`, `request_at`, `first_interrupt`, `forget`, `no_interrupts` | constant |
+/// | `numbers_left`, `first_interrupt`, `forget`, `no_interrupts` | constant |
 /// | `enqueue` | constant |
-/// | `waiting` | a binary search, log `n` steps |
+/// | `kept`, `waiting` | a binary search, log `n` steps |
 /// | `pending(place)` | constant, and a binary search |
 /// | `read_pending(place)` | binary searches; of the numbers of the pending ones those on the shorter side of it move up |
-/// | `interrupt` | binary searches; a request that is dequeued has those on its shorter side moved up |
-/// | `answer` | binary searches, one pass over the queued INTERRUPTs; those on its shorter side move up |
+/// | `interrupt` | binary searches; where a pending request is dequeued, the same numbers move up |
+/// | `answer` | binary searches, and one pass over the queued INTERRUPTs |
 /// | `again` | a binary search, and one pass over the queued INTERRUPTs |
 /// | `read_interrupt` | the queued INTERRUPTs behind the first move up |
 /// | `first_forgets(count)`, `read_forgets(count)` | `count` steps |
 /// | `reserve` | nothing where the room is there, else a copy of what grows |
 /// | `abort` | `n` steps, and one for each forget |
 ///
-/// A place among the requests is a promise of the contract, so a request that ends leaves no hole: that is what moves.
-/// The oldest and the newest move no other.
+/// A place among the pending requests is a promise of the contract, so their numbers leave no hole: that is what moves.
+/// A request that ends between others leaves an empty row, and the empty rows go all at once where no row is left to
+/// fill. The oldest and the newest move no other.
 pub type Queues<W, A = Global> = QueuesOf<W, RisingRequests<W, A>>;
 
 /// The queues, with their requests in a map from number to request, in order of queuing. A look-up is by hash, and a

@@ -31,10 +31,6 @@ impl<W: Drop, A: Allocator + Copy> RequestStore<W> for ListRequests<W, A> {
         self.requests.len()
     }
 
-    fn capacity(&self) -> usize {
-        self.requests.capacity()
-    }
-
     fn reserve(&mut self, more: usize) -> Result<(), AllocError> {
         self.requests.reserve(more)
     }

@@ -36,10 +36,6 @@ impl<W: Drop, A: Allocator + Copy> RequestStore<W> for MapRequests<W, A> {
         self.requests.len()
     }
 
-    fn capacity(&self) -> usize {
-        self.requests.capacity()
-    }
-
     fn reserve(&mut self, more: usize) -> Result<(), AllocError> {
         self.requests.reserve(more)
     }

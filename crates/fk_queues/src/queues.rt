@@ -90,11 +90,11 @@ impl<W: Drop, S: RequestStore<W>> QueueTable<W> for QueuesOf<W, S> {
     }
 
     fn reserve(&mut self, requests: usize, forgets: usize) -> Result<(), NoMemory> {
-        let fitting = self.requests.capacity().min(self.interrupts.capacity());
-        if fitting - self.requests.len() < requests {
-            self.requests.reserve(requests)?;
-            self.interrupts.reserve_in_all(self.requests.capacity())?;
-        }
+        self.requests.reserve(requests)?;
+        let Some(most) = self.requests.len().checked_add(requests) else {
+            return Err(NoMemory);
+        };
+        self.interrupts.reserve_in_all(most)?;
         self.forgets.reserve(forgets)?;
         Ok(())
     }

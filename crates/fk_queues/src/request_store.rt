@@ -1,5 +1,5 @@
 //! Requests under their numbers: what a representation of the queues offers.
-ghost use Rattle.std.specs.Prelude.{◌≡◌, ℕ, [], ◌∷◌, ◌++◌, ◌+◌, ◌<◌, ◌≤◌, ◌^◌, All, IfSome, List, Option, OnOk, filter, length, nat_eq, option_map, slice_get, true};
+ghost use Rattle.std.specs.Prelude.{◌≡◌, ℕ, [], ◌∷◌, ◌++◌, ◌+◌, ◌<◌, ◌≤◌, ◌^◌, All, IfSome, IsOk, List, Option, OnOk, filter, length, nat_eq, option_map, slice_get, true};
 ghost use Rattle.std.specs.Option.{option_copied};
 ghost use Rattle.std.specs.Map.{lookup, remove_entry};
 ghost use Rattle.fuse_spec.specs.declared.Mark.TheVariants.{Unread};
@@ -33,10 +33,6 @@ pub trait RequestStore<W: Drop> {
         ensures len { result ≡ length (entries self.now) }
         ensures few { result < 2 ^ 63 };
 
-    /// How many requests fit in all with no memory.
-    fn capacity(&self) -> usize
-        ensures { result ≡ length (entries self.now) + room self.now };
-
     /// Makes room for so many more requests.
     ///
     /// # Errors
@@ -45,6 +41,7 @@ pub trait RequestStore<W: Drop> {
     fn reserve(&mut self, more: usize) -> Result<(), AllocError>
         ensures entries { entries self.new ≡ entries self.old }
         ensures ok { OnOk result (more ≤ room self.new) }
+        ensures succeeds { more ≤ room self.old → IsOk result }
         ensures room { room self.old ≤ room self.new };
 
     /// The request at a place among those that were not read, and its number.

@@ -1,5 +1,5 @@
-//! Requests in a queue, in order of queuing, which is that of their numbers.
-ghost use Rattle.std.specs.Prelude.{◌≡◌, ℕ, ◌+◌, ◌<◌, ◌≤◌, All, IfSome, List, Option, OnOk, T, filter, length, nat_eq, not, option_map, slice_get, slice_index, true};
+//! Requests in rising number, which is the order of queuing.
+ghost use Rattle.std.specs.Prelude.{◌≡◌, ℕ, ◌+◌, ◌<◌, ◌≤◌, ◌^◌, All, IfSome, List, Option, OnOk, T, filter, length, nat_eq, not, option_map, slice_get, slice_index, true};
 ghost use Rattle.std.specs.Option.{option_copied};
 ghost use Rattle.std.specs.Map.{lookup, remove_entry};
 ghost use Rattle.std.specs.Ordering.{nat_cmp};
@@ -12,19 +12,16 @@ ghost use Rattle.fk_queues.specs.Rising.{Rises};
 use crate::marks::is_unread;
 use crate::request_store::RequestStore;
 use fuse_spec::{Mark, QueuedRequest};
-use fuse_tables::{find_row, take_at};
+use fuse_tables::{RisingTable, take_at};
 use std::alloc::{AllocError, Allocator, Global};
 use std::collections::VecDeque;
 use std::marker::Model;
 
-/// Each request under its number.
-type Rows<W, A> = VecDeque<(u64, QueuedRequest<W>), A>;
-
-/// Requests in a queue in rising number, and the numbers of the unread ones in another. The oldest and the newest come
-/// and go without the others moving.
+/// Requests in a table in rising number, and the numbers of the unread ones in a queue. No request moves as another
+/// comes or goes.
 #[derive(Drop)]
 pub struct RisingRequests<W, A: Allocator = Global> {
-    requests: Rows<W, A>,
+    requests: RisingTable<QueuedRequest<W>, A>,
     unread: VecDeque<u64, A>,
 }
 
@@ -40,11 +37,11 @@ impl<W, A: Allocator> Model for RisingRequests<W, A> {
     ghost coded = { Prim.hlevel (codes, W.code, mark_row.the_row.coded) };
 
     ghost view = { λ s. record {
-      entries = s.requests.items;
-      room = min (deque_capacity s.requests - deque_len s.requests) (deque_capacity s.unread - deque_len s.unread);
+      entries = s.requests.entries;
+      room = min s.requests.room (deque_capacity s.unread - deque_len s.unread);
     } };
 
-    ghost invariant = { λ s. AreRising s.requests.items s.unread.items };
+    ghost invariant = { λ s. AreRising s.requests.entries s.unread.items };
 }
 
 impl<W: Drop, A: Allocator + Copy> RequestStore<W> for RisingRequests<W, A> {
@@ -56,18 +53,14 @@ impl<W: Drop, A: Allocator + Copy> RequestStore<W> for RisingRequests<W, A> {
 
     fn new(alloc: A) -> Self {
         RisingRequests {
-            requests: VecDeque::new(alloc),
+            requests: RisingTable::new(alloc),
             unread: VecDeque::new(alloc),
         }
     }
 
     fn len(&self) -> usize {
+        self.requests.keeps_sound();
         self.requests.len()
-    }
-
-    fn capacity(&self) -> usize {
-        let spare = self.requests.capacity() - self.requests.len();
-        self.requests.len() + spare.min(self.unread.capacity() - self.unread.len())
     }
 
     fn reserve(&mut self, more: usize) -> Result<(), AllocError> {
@@ -79,14 +72,14 @@ impl<W: Drop, A: Allocator + Copy> RequestStore<W> for RisingRequests<W, A> {
         let Some(unique) = number_at(&self.unread, place) else {
             return None;
         };
-        let Some(request) = request_in(&self.requests, unique) else {
+        let Some(request) = self.requests.get(unique) else {
             return None;
         };
         Some((unique, request))
     }
 
     fn request(&self, unique: u64) -> Option<&QueuedRequest<W>> {
-        request_in(&self.requests, unique)
+        self.requests.get(unique)
     }
 
     fn push(&mut self, unique: u64, kept: W) {
@@ -94,7 +87,7 @@ impl<W: Drop, A: Allocator + Copy> RequestStore<W> for RisingRequests<W, A> {
             mark: Mark::Unread,
             kept,
         };
-        self.requests.push_back_reserved((unique, request));
+        self.requests.put(unique, request);
         self.unread.push_back_reserved(unique);
     }
 
@@ -107,7 +100,7 @@ impl<W: Drop, A: Allocator + Copy> RequestStore<W> for RisingRequests<W, A> {
 
     fn take(&mut self, unique: u64) -> Option<QueuedRequest<W>> {
         drop_number(&mut self.unread, unique);
-        take_in(&mut self.requests, unique)
+        self.requests.remove(unique)
     }
 
     fn clear(&mut self) {
@@ -116,45 +109,19 @@ impl<W: Drop, A: Allocator + Copy> RequestStore<W> for RisingRequests<W, A> {
     }
 }
 
-/// The request under a number.
-fn request_in<W, A: Allocator>(requests: &Rows<W, A>, unique: u64) -> Option<&QueuedRequest<W>>
-    requires { T (is_sorted nat_cmp requests.now.items) }
-    ensures { option_copied result ≡ lookup (nat_eq unique) requests.now.items }
-{
-    let Some(place) = find_row(requests, unique) else {
-        return None;
-    };
-    let row = &requests[place];
-    Some(&row.1)
-}
-
 /// Gives the request under a number this mark.
-fn mark_in<W: Drop, A: Allocator>(requests: &mut Rows<W, A>, unique: u64, mark: Mark)
-    requires { T (is_sorted nat_cmp requests.old.items) }
-    ensures items { requests.new.items ≡ set_mark unique requests.old.items mark }
-    ensures len { deque_len requests.new ≡ deque_len requests.old }
-    ensures capacity { deque_capacity requests.new ≡ deque_capacity requests.old }
-{
-    if let Some(place) = find_row(requests, unique) {
-        requests[place].1.mark = mark;
-    }
-}
-
-/// Takes out the request under a number.
-fn take_in<W: Drop, A: Allocator>(
-    requests: &mut Rows<W, A>,
+fn mark_in<W: Drop, A: Allocator + Copy>(
+    requests: &mut RisingTable<QueuedRequest<W>, A>,
     unique: u64,
-) -> Option<QueuedRequest<W>>
-    requires { T (is_sorted nat_cmp requests.old.items) }
-    ensures value { result ≡ lookup (nat_eq unique) requests.old.items }
-    ensures items { requests.new.items ≡ remove_entry (nat_eq unique) requests.old.items }
-    ensures len { deque_len requests.new ≤ deque_len requests.old }
-    ensures capacity { deque_capacity requests.new ≡ deque_capacity requests.old }
+    mark: Mark,
+)
+    ensures entries { requests.new.entries ≡ set_mark unique requests.old.entries mark }
+    ensures room { requests.old.room ≤ requests.new.room }
 {
-    let Some(place) = find_row(requests, unique) else {
-        return None;
-    };
-    Some(take_at(requests, place).1)
+    if let Some(request) = requests.remove(unique) {
+        let QueuedRequest { mark: _, kept } = request;
+        requests.put(unique, QueuedRequest { mark, kept });
+    }
 }
 
 /// The number at a place.

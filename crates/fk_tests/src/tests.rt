@@ -4,6 +4,7 @@ mod counts;
 mod digits;
 mod kernel;
 mod names;
+mod pins;
 mod queues;
 mod uniques;
 mod wire;

@@ -4,18 +4,27 @@ use Rattle.std.specs.FinMap.{is_sorted}
 use Rattle.fuse_spec.specs.declared.Mark.TheVariants.{Unread}
 use Rattle.fuse_spec.specs.declared.QueuedRequest.{QueuedRequest}
 use Rattle.fk_queues.specs.Rising.{unread_numbers}
-use Rattle.fk_queues.proofs.Rising.{sorted_push, numbers_push}
+use Rattle.fk_queues.proofs.Rising.{above_absent, put_last, sorted_push, numbers_push}
 use Rattle.fk_queues.proofs.rising_requests.RisingRequestsRequestStore.push.Goals as goal
 
 pub invariant_of-self : goal.invariant_of-self
 invariant_of-self g c =
-    let rows = c.self.inside.requests.items in
+    let rows = c.self.inside.requests.entries in
     let above = rw (← c.self.view_is) at c.requires.above in
     let request : QueuedRequest _ = record { mark = Unread; kept = c.args.kept } in
-    let pushed = c.push_back_reserved.ensures.items in
+    let pushed = c.put.ensures.entries ∙ put_last rows c.args.unique request above in
     record {
       sorted = subst (λ es. T (is_sorted nat_cmp es)) (sym pushed)
           (sorted_push c.args.unique request rows c.self.invariant.sorted above);
-      numbers = c.push_back_reserved-2.ensures.items ∙ ap (λ ns. ns ++ c.args.unique ∷ []) c.self.invariant.numbers
+      numbers = c.push_back_reserved.ensures.items ∙ ap (λ ns. ns ++ c.args.unique ∷ []) c.self.invariant.numbers
           ∙ sym (numbers_push c.args.unique request rows refl) ∙ ap unread_numbers (sym pushed);
     }
+
+pub put-requires-clause-absent : goal.put-requires-clause-absent
+put-requires-clause-absent g c =
+    above_absent c.self.inside.requests.entries c.args.unique (rw (← c.self.view_is) at c.requires.above)
+
+pub returns-clause-entries : goal.returns-clause-entries
+returns-clause-entries g c =
+    rw (← c.self.view_is) (c.put.ensures.entries
+    ∙ put_last c.self.inside.requests.entries c.args.unique _ (rw (← c.self.view_is) at c.requires.above))

@@ -1,19 +1,20 @@
-use Rattle.std.proofs.Common.{◌≡◌, ◌∙◌, rules, sym, ap, subst, T, filter, not, nat_eq, false, true}
+use Rattle.std.proofs.Common.{◌≡◌, ◌∙◌, rules, sym, ap, subst, T, filter, not, nat_eq, false, true, length}
 use Rattle.std.specs.Ordering.{nat_cmp}
 use Rattle.std.specs.FinMap.{is_sorted}
 use Rattle.fuse_spec.specs.Kernel.Queues.{is_unread}
 use Rattle.fk_queues.specs.Rising.{Rises, unread_numbers}
 use Rattle.fk_queues.proofs.Rising.{sorted_marked, numbers_read, numbers_flagged, numbers_rise}
+use Rattle.fuse_spec.proofs.QueueCounts.{length-set_mark}
 use Rattle.fk_queues.proofs.rising_requests.RisingRequestsRequestStore.put_mark.Goals as goal
 
 pub drop_number-requires : goal.drop_number-requires
 drop_number-requires g c = subst Rises (sym c.self.invariant.numbers)
-    (numbers_rise c.self.inside.requests.items c.self.invariant.sorted)
+    (numbers_rise c.self.inside.requests.entries c.self.invariant.sorted)
 
 pub invariant_of-self : goal.invariant_of-self
 invariant_of-self g c =
-    let rows = c.self.inside.requests.items in
-    let marked = c.mark_in.ensures.items in
+    let rows = c.self.inside.requests.entries in
+    let marked = c.mark_in.ensures.entries in
     let read : is_unread c.args.mark ≡ false = search rules in
     record {
       sorted = subst (λ es. T (is_sorted nat_cmp es)) (sym marked)
@@ -25,8 +26,8 @@ invariant_of-self g c =
 
 pub invariant_of-self-else-not-is_unread : goal.invariant_of-self-else-not-is_unread
 invariant_of-self-else-not-is_unread g c =
-    let rows = c.self.inside.requests.items in
-    let marked = c.mark_in.ensures.items in
+    let rows = c.self.inside.requests.entries in
+    let marked = c.mark_in.ensures.entries in
     let unread : is_unread c.args.mark ≡ true = search rules in
     let was = rw (← c.self.view_is) at (c.requires unread) in
     record {
@@ -35,3 +36,13 @@ invariant_of-self-else-not-is_unread g c =
       numbers = c.self.invariant.numbers ∙ sym (numbers_flagged c.args.unique c.args.mark rows unread was)
           ∙ ap unread_numbers (sym marked);
     }
+
+pub returns-then-not-is_unread-clause-len : goal.returns-then-not-is_unread-clause-len
+returns-then-not-is_unread-clause-len g c =
+    rw (← c.self.view_is) (ap length c.mark_in.ensures.entries
+    ∙ length-set_mark c.args.unique c.self.inside.requests.entries c.args.mark)
+
+pub returns-else-not-is_unread-clause-len : goal.returns-else-not-is_unread-clause-len
+returns-else-not-is_unread-clause-len g c =
+    rw (← c.self.view_is) (ap length c.mark_in.ensures.entries
+    ∙ length-set_mark c.args.unique c.self.inside.requests.entries c.args.mark)

@@ -1,0 +1,72 @@
+//! Pins of nodes: of a table alone, and of the RELEASEs among the kernel's queues.
+
+use fk_opens::NodePins;
+use fk_queues::{IntrEffect, KernelQueues, NoMemory, QueueTable, Queues};
+use fuse_spec::{Opened, Purpose};
+use std::alloc::{AllocError, Allocator};
+use std::test::Fail;
+
+/// Two pins of a node, which go one after the other: whether it is pinned before, between and after.
+fn pins_of_two<A: Allocator + Copy>(pins: &mut NodePins<A>) -> Result<[bool; 4], AllocError> {
+    pins.clear();
+    pins.reserve(2)?;
+    let before = pins.is_pinned(5);
+    pins.pin(5);
+    pins.pin(5);
+    pins.unpin(5);
+    let between = pins.is_pinned(5);
+    let other = pins.is_pinned(6);
+    pins.unpin(5);
+    Ok([before, between, other, pins.is_pinned(5)])
+}
+
+#[test]
+fn a_node_is_pinned_until_its_last_pin_goes(rt: HostRuntime) -> Result<(), Fail> {
+    let mut pins = NodePins::new(rt.alloc());
+    assert!(rt; pins_of_two(&mut pins)? == [false, true, false, false]);
+    Ok(())
+}
+
+/// Makes room and queues a request, as a kernel does.
+fn queue<Q: QueueTable<Purpose>>(queues: &mut Q, kept: Purpose) -> Result<u64, NoMemory> {
+    queues.reserve(1, 0)?;
+    if queues.numbers_left() == 0 {
+        return Err(NoMemory);
+    }
+    Ok(queues.enqueue(kept))
+}
+
+/// The RELEASE of an open file of node 5.
+fn release(fh: u64) -> Purpose {
+    Purpose::Release(Opened { nodeid: 5, fh })
+}
+
+/// A RELEASE, the request of call 7 and another RELEASE are queued, under 2, 4 and 6.
+fn queue_three<Q: QueueTable<Purpose>>(queues: &mut Q) -> Result<[u64; 3], NoMemory> {
+    let first = queue(queues, release(1))?;
+    let call = queue(queues, Purpose::Call(7))?;
+    let second = queue(queues, release(2))?;
+    Ok([first, call, second])
+}
+
+/// Reads the oldest request and ends it: its number.
+fn end_oldest<Q: QueueTable<Purpose>>(queues: &mut Q) -> Option<u64> {
+    let unique = queues.read_pending(0)?;
+    let _kept = queues.answer(unique)?;
+    Some(unique)
+}
+
+#[test]
+fn a_release_pins_its_node_until_it_is_answered(rt: HostRuntime) -> Result<(), Fail> {
+    let mut queues: KernelQueues<Queues<Purpose, _>> = KernelQueues::new(rt.alloc());
+    assert!(rt; queue_three(&mut queues) == Ok([2, 4, 6]));
+    assert!(rt; queues.is_releasing(5) && !queues.is_releasing(7));
+    assert!(rt; queues.request_for(7) == Some(4) && queues.request_for(5).is_none());
+    assert!(rt; end_oldest(&mut queues) == Some(2));
+    assert!(rt; queues.is_releasing(5));
+    assert!(rt; queues.interrupt(4, true) == IntrEffect::Dequeued);
+    assert!(rt; queues.request_for(7).is_none());
+    assert!(rt; end_oldest(&mut queues) == Some(6));
+    assert!(rt; !queues.is_releasing(5));
+    Ok(())
+}
