@@ -145,7 +145,8 @@ def random_order(n):
 
 
 def drawn(n, part):
-    """Held requests that are performed in an order that is drawn, and their kept replies, which are settled so."""
+    """Held requests that are performed in an order that is drawn, their replies, which are written so, and their kept
+    replies, which are settled so."""
     script, numbers = opened(n)
     script.add(*[f"call close {number}" for number in numbers])
     uniques = [script.take_unique() for _ in numbers]
@@ -153,6 +154,9 @@ def drawn(n, part):
     if part == "held":
         script.prepare()
     script.add(*[f"do {uniques[place]}" for place in random_order(n)])
+    if part == "replies":
+        script.prepare()
+        script.add(*["write 0"] * n)
     if part == "kept":
         script.prepare()
         script.add(*[f"again {uniques[place]}" for place in random_order(n)])
@@ -185,6 +189,19 @@ def evict_beside_releases(n):
     script.add(*[f"call close {number}" for number in numbers], *["read p 0"] * n)
     script.unique += 2 * n
     return evicting(script, n)
+
+
+def signals_beside_releases(n, rounds=200):
+    """A call is begun and signalled fatally before its request is read, round after round."""
+    script, numbers = opened(n)
+    script.add(*[f"call close {number}" for number in numbers])
+    script.unique += 2 * n
+    script.calls += n
+    script.prepare()
+    for _ in range(rounds):
+        script.add(f"intr {script.call('stat /')} fatal")
+        script.take_unique()
+    return script
 
 
 def forgets(n):
@@ -402,10 +419,12 @@ def rows(counts):
         ("kept replies: another copy, in a drawn order", lambda n: drawn(n, "kept")),
         ("replies, taken from the front", lambda n: closed(n, front, 4)),
         ("replies, taken from the end", lambda n: closed(n, end, 4)),
+        ("replies, in a drawn order", lambda n: drawn(n, "replies")),
         ("kept replies, settled, the oldest first", lambda n: closed(n, front, 5)),
         ("kept replies, settled, the newest first", lambda n: closed(n, end, 5)),
         ("evict beside so many open files", evict_beside_opens),
         ("evict beside so many RELEASEs", evict_beside_releases),
+        ("signals beside so many RELEASEs", signals_beside_releases),
         ("forgets", forgets),
         ("INTERRUPTs", interrupts),
         ("names in force", names),
