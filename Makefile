@@ -1,11 +1,12 @@
 # `make run` runs a script through the program, proving and building it first.
 # `make try` runs it without any proof, and says so. `make test` is the gate: first whether what the documents name is
 # there, then the proofs, and then the rows, the frames, the man page and completions, and the mount over the built program.
+# `make check`, `make rows`, `make docs` and `make fmt` are for a change in progress (CONTRIBUTING.md).
 # `make mount DIR=path` proves and builds the program and serves a folder by it, until it is unmounted or a signal comes.
 
 SCRIPT ?= tests/rows/stat-of-root.script
 
-.PHONY: run try test build mount vectors lib install uninstall bench wrong-bodies
+.PHONY: run try test build mount vectors lib install uninstall bench wrong-bodies check rows docs fmt
 
 run: build
 	@crates/fuseworld/out/fuseworld run "$(SCRIPT)"
@@ -80,6 +81,21 @@ bench: build
 # Whether each wrong body of tests/wrong_bodies is refused; CRATES names the crates whose bodies are tried, or none for all.
 wrong-bodies:
 	@python3 tests/wrong_bodies.py $(CRATES)
+
+# The developer's loop: one crate proved, the rows whose name has the word ROW (or all), the documents, and the layout of
+# the crate CRATE, or of all crates.
+check:
+	@cd "crates/$(CRATE)" && rt check
+
+rows: build
+	@sh tests/run_rows.sh $(ROW)
+
+docs:
+	@python3 tests/check_docs.py
+	@if [ -x crates/fuseworld/out/fuseworld ]; then python3 tests/run_tutorial.py; else echo "skipped: the tour, as no program is built"; fi
+
+fmt:
+	@for crate in $(or $(CRATE),$(notdir $(wildcard crates/*))); do (cd "crates/$$crate" && rt fmt) || exit 1; done
 
 # The gate's count is the last line again.
 test:

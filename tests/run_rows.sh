@@ -1,6 +1,7 @@
 #!/bin/sh
-# Runs the built program on each script of tests/rows, in memory and over a socket, and compares what it
-# prints, and then the command `frame` and the program's faults. A script whose name ends in -in-hex is run with --hex.
+# run_rows.sh [WORD]: runs the built program on each script of tests/rows, in memory and over a socket, and compares what
+# it prints, and then the command `frame` and the program's faults. With WORD, only the scripts whose name has the word.
+# A script whose name ends in -in-hex is run with --hex.
 # Prints a line for each case that differs, and ends with status 1 where there is one.
 set -u
 cd "$(dirname "$0")/.." || exit 1
@@ -21,7 +22,9 @@ expect_full() {
 
 newline='
 '
-for script in tests/rows/*.script; do
+word=${1:-}
+ls tests/rows/*"$word"*.script > "$work/rows" 2> /dev/null || { echo "no row has the word $word"; exit 1; }
+for script in tests/rows/*"$word"*.script; do
     name=$(basename "$script" .script)
     case $name in
         *-in-hex) "$program" run --hex "$script" > "$work/out" 2> "$work/err" ;;
@@ -34,7 +37,7 @@ for script in tests/rows/*.script; do
 done
 
 # The same over a socket, which is gone afterwards.
-for script in tests/rows/*.script; do
+for script in tests/rows/*"$word"*.script; do
     name=$(basename "$script" .script)
     case $name in *-in-hex) continue ;; esac
     "$program" socket "$script" "$work/sock" > "$work/out" 2> "$work/err"
@@ -45,7 +48,14 @@ for script in tests/rows/*.script; do
     judge "$name over a socket" "$code" 0
 done
 
-# The same rows, and no others, stand in a table of fw_tests: name, script and output are a text each, cut into lines.
+if [ -n "$word" ]; then
+    echo "$passed rows passed, $failed failed"
+    [ "$failed" = 0 ]
+    exit
+fi
+
+# The same rows, and no others, are in a table of fw_tests, without their comments: name, script and output are a text
+# each, cut into lines.
 sed -e ':join' -e '/\\$/{N' -e 's/\\\n *//' -e 'b join' -e '}' crates/fw_tests/src/tests/rows.rt \
     | sed -n -E 's/^ *(name|script|output): "(.*)",$/\1 \2/p' > "$work/table"
 ls tests/rows/*.script | wc -l > "$work/want-out"
@@ -54,7 +64,7 @@ grep -c '^name ' "$work/table" > "$work/out"
 : > "$work/err"
 for script in tests/rows/*.script; do
     name=$(basename "$script" .script)
-    cat "$script" "tests/rows/$name.expected" >> "$work/want-out"
+    grep -v "^#" "$script" | cat - "tests/rows/$name.expected" >> "$work/want-out"
     grep -x -A 2 "name $name" "$work/table" | sed -n -E 's/^(script|output) //p' \
         | while IFS= read -r text; do printf %b "$text"; done >> "$work/out"
 done
