@@ -1,17 +1,18 @@
 #!/usr/bin/env python3
-"""Whether what README.md and docs/ name is there: files, crates, rows, edits, definitions, functions and make's targets.
+"""Whether what the documents name is there: files, crates, rows, edits, definitions, functions and make's targets.
 
 A lone word in backticks has to be a word of a source outside its comments, or in the name of a file, a folder or a crate.
 In the tables whose second column is "Definition", each rule has to lead to a definition, a function and a test.
-Each sample of Rust has to be lines of crates/callers, and the version has to be the program's everywhere. Prints a line for each name that leads nowhere, and ends with
-status 1 where there is one.
+Each sample of Rust has to be lines of crates/callers, and the version has to be the program's everywhere. Each row with
+a line has to begin with a comment that says what it shows. Prints a line for each fault, and ends with status 1 where
+there is one.
 """
 import re
 import sys
 from pathlib import Path
 
 TOP = Path(__file__).resolve().parent.parent
-PAGES = [TOP / "README.md", TOP / "CHANGELOG.md", *sorted((TOP / "docs").glob("*.md"))]
+PAGES = [*(TOP / f"{name}.md" for name in ("README", "CONTRIBUTING", "SECURITY", "CHANGELOG")), *sorted((TOP / "docs").glob("*.md"))]
 CRATES = {folder.name for folder in (TOP / "crates").iterdir() if (folder / "src").is_dir()}
 CODE = {crate: "\n".join(file.read_text() for file in (TOP / "crates" / crate / "src").rglob("*.rt")) for crate in CRATES}
 EDITS = {(file.parts[-2], file.stem) for file in TOP.glob("tests/wrong_bodies/*/*.edit")}
@@ -19,9 +20,8 @@ ROWS = {file.stem for file in TOP.glob("tests/rows/*.script")}
 TARGETS = set(re.findall(r"^([\w-]+):", (TOP / "Makefile").read_text(), re.M))
 # Words with a hyphen that are no rows and no edits, a word of `rt plant`, and how the names of calls that take a minor end.
 WORDS = {"must-fail", "not-run", "proves", "_at"}
-# Pages with names of linux/fuse.h, which stand in comments of the sources, and the page that names functions of earlier code.
+# Pages with names of linux/fuse.h, which are in comments of the sources.
 OF_LINUX = {"PROTOCOL.md", "DIFFERENCES.md"}
-OF_EARLIER_CODE = {"SPEED.md"}
 MODULES = {}
 for file in [*TOP.glob("crates/*/specs/**/*.antt"), *TOP.glob("crates/*/proofs/*.antt"), *TOP.glob("crates/fuse_theorem/proofs/*/[A-Z]*.antt")]:
     MODULES[file.stem] = MODULES.get(file.stem, "") + file.read_text()
@@ -62,7 +62,7 @@ def leads(token, page):
         first, *rest = token.split("::")
         code = [CODE[first]] if first in CRATES else [code for code in CODE.values() if is_item(code, first)]
         return any(all(is_item(text, name) for name in rest) for text in code)
-    if re.fullmatch(r"\w+", token) and page.name not in OF_EARLIER_CODE:
+    if re.fullmatch(r"\w+", token):
         return token in (KNOWN_OF_LINUX if page.name in OF_LINUX else KNOWN) or any(crate.startswith(token) for crate in CRATES)
     return None
 
@@ -94,6 +94,10 @@ def unlike_callers(page):
     samples = re.findall(r"```rust\n(.*?)```", page.read_text(), re.S)
     return [sample for sample in samples if not any("\n".join(flat(sample)) in source for source in sources)]
 
+def uncommented_rows():
+    """The rows with a line whose first line is no comment."""
+    return [script for script in sorted(TOP.glob("tests/rows/*.script")) if not re.match(r"# \S|$", script.read_text())]
+
 def versions():
     """Where the version and the toolchain's identity stand, with what stands there: they have to agree."""
     program = re.search(r'VERSION: &str = "(\S+) \((.*)\)"', (TOP / "crates/fuseworld/src/version.rt").read_text())
@@ -105,6 +109,7 @@ def versions():
 def main():
     wrong = [f"{place}: {there}, and fuseworld --version has {program}" for place, program, there in versions() if program != there]
     wrong += [f"{page.relative_to(TOP)}: no lines of crates/callers: {sample}" for page in PAGES for sample in unlike_callers(page)]
+    wrong += [f"{script.relative_to(TOP)}: no comment at its head" for script in uncommented_rows()]
     for page in PAGES:
         in_rules = False
         for number, line in enumerate(page.read_text().split("\n"), 1):

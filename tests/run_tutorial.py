@@ -1,8 +1,9 @@
 #!/usr/bin/env python3
-"""Runs each block of docs/TUTORIAL.md with the built program, in one folder, and compares what it prints.
+"""Runs the commands of README.md and docs/ with the built program, and compares what they print.
 
-In a block a line that begins with `$ ` is a command, `> ` goes on with it, and what follows is its output. Prints each
-command that differs, and ends with status 1 where there is one.
+In a block that is marked `console` a line that begins with `$ ` is a command, `> ` goes on with it, and what follows is
+its output. The blocks of a page are run in one folder. Prints each command that differs, and ends with status 1 where
+there is one.
 """
 import os
 import re
@@ -13,6 +14,7 @@ from pathlib import Path
 
 TOP = Path(__file__).resolve().parent.parent
 PROGRAM = Path(os.environ.get("FUSEWORLD", TOP / "crates" / "fuseworld" / "out" / "fuseworld"))
+PAGES = [TOP / "README.md", *sorted((TOP / "docs").glob("*.md"))]
 
 
 def commands(block):
@@ -28,21 +30,27 @@ def commands(block):
     return found
 
 
-def main():
-    text = (TOP / "docs" / "TUTORIAL.md").read_text()
+def run_page(page):
+    """How many commands of a page print what they are to print, and how many do not."""
     passed, failed = 0, 0
     with tempfile.TemporaryDirectory() as folder:
         os.symlink(PROGRAM.resolve(), Path(folder) / "fuseworld")
         environment = {"PATH": f"{folder}:{os.environ['PATH']}"}
-        for block in re.findall(r"^```console\n(.*?)^```", text, re.M | re.S):
+        for block in re.findall(r"^```console\n(.*?)^```", page.read_text(), re.M | re.S):
             for command, wanted in commands(block):
                 ran = subprocess.run(["bash", "-c", command], cwd=folder, env=environment, capture_output=True, text=True)
                 if ran.stdout == wanted and not ran.stderr:
                     passed += 1
                 else:
                     failed += 1
-                    print(f"$ {command}\nwanted:\n{wanted}printed:\n{ran.stdout}{ran.stderr}")
-    print(f"{passed} commands of the tour passed, {failed} failed")
+                    print(f"{page.relative_to(TOP)}: $ {command}\nwanted:\n{wanted}printed:\n{ran.stdout}{ran.stderr}")
+    return passed, failed
+
+
+def main():
+    counts = [run_page(page) for page in PAGES]
+    passed, failed = (sum(column) for column in zip(*counts))
+    print(f"{passed} commands of the documents passed, {failed} failed")
     return 1 if failed else 0
 
 
