@@ -1,9 +1,9 @@
 #!/usr/bin/env python3
 """Runs the commands of README.md and docs/ with the built program, and compares what they print.
 
-In a block that is marked `console` a line that begins with `$ ` is a command, `> ` goes on with it, and what follows is
-its output. The blocks of a page are run in one folder. Prints each command that differs, and ends with status 1 where
-there is one.
+In a block that is marked `console` a line that begins with `$ ` is a command, and what follows is its output. Where the
+command has `<<END`, the lines that begin with `> ` go on with it, up to `> END`. The blocks of a page are run in one
+folder. Prints each command that differs, and ends with status 1 where there is one.
 """
 import os
 import re
@@ -23,7 +23,7 @@ def commands(block):
     for line in block.splitlines():
         if line.startswith("$ "):
             found.append([line[2:], ""])
-        elif line.startswith("> "):
+        elif line.startswith("> ") and "<<END" in found[-1][0] and not found[-1][0].endswith("\nEND"):
             found[-1][0] += "\n" + line[2:]
         else:
             found[-1][1] += line + "\n"
