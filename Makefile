@@ -92,7 +92,7 @@ rows: build
 
 docs:
 	@python3 tests/check_docs.py
-	@if [ -x crates/fuseworld/out/fuseworld ]; then python3 tests/run_tutorial.py; else echo "skipped: the tour, as no program is built"; fi
+	@if [ -x crates/fuseworld/out/fuseworld ]; then python3 tests/run_tutorial.py; else echo "skipped: their commands, as no program is built"; fi
 
 fmt:
 	@for crate in $(or $(CRATE),$(notdir $(wildcard crates/*))); do (cd "crates/$$crate" && rt fmt) || exit 1; done
