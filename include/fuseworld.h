@@ -117,7 +117,7 @@ struct fuseworld_reply_head {
 
 /*
  * A request: the fields of its struct of linux/fuse.h that are not free, in one struct for all opcodes. Behind
- * each stands under which opcodes it counts. Under the others it is 0 when read and is not looked at when written.
+ * each are the opcodes under which it counts. Under the others it is 0 when read and is not looked at when written.
  *
  * Under GETATTR and OPEN, `unique` and `nodeid` alone count.
  */
@@ -137,7 +137,7 @@ struct fuseworld_request {
     size_t data_offset;    /* WRITE: the data; BATCH_FORGET: the pairs, for fuseworld_next_pair */
     size_t data_length;    /* WRITE: also the field `size`; BATCH_FORGET: 16 bytes a pair */
     uint32_t opcode;       /* all: enum fuseworld_opcode */
-    uint32_t size;         /* READ, READDIR, READDIRPLUS: how many bytes are wanted at most */
+    uint32_t size;         /* READ, READDIR, READDIRPLUS: how many bytes are asked for at most */
     uint32_t major;        /* INIT */
     uint32_t minor;        /* INIT */
     uint32_t flags;        /* INIT: what the kernel offers, FUSEWORLD_ASYNC_READ .. */
@@ -235,8 +235,8 @@ uint32_t fuseworld_read_reply(uint32_t minor, uint32_t opcode, const uint8_t *by
 /* ---- reading pairs and records, one at a time
  *
  * `bytes` and `len` are the frame, and `*offset` is at first the `data_offset` of its struct. Each call reads what
- * stands there and moves `*offset` behind it. Where the answer is not 0, `*offset` and `*out` stay as they were:
- * END where the bytes are at their end, BODY where no whole record stands, NAME where its name breaks the rules,
+ * is there and moves `*offset` behind it. Where the answer is not 0, `*offset` and `*out` stay as they were:
+ * END where the bytes are at their end, BODY where there is no whole record, NAME where its name breaks the rules,
  * PLACE where `*offset` is greater than `len`. In a frame that was read, there is no answer but 0 and END.
  */
 

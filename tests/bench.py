@@ -18,7 +18,7 @@ import tempfile
 import time
 from concurrent.futures import ThreadPoolExecutor
 
-# As long as a name can stay in force, in milliseconds.
+# As long as a cached name can be valid, in milliseconds.
 LONG = 86_400_000
 
 TOP = os.path.dirname(os.path.dirname(os.path.abspath(__file__)))
@@ -61,7 +61,7 @@ class Script:
         return call
 
     def prepare(self):
-        """What stands so far is not counted."""
+        """What the script has so far is not counted."""
         self.prepared = len(self.lines)
 
 
@@ -230,7 +230,7 @@ def interrupts(n):
 
 
 def names(n):
-    """So many names in force, of files that are missing: each is looked up once, and found missing again."""
+    """So many cached names, of files that are missing: each is looked up once, and found missing again."""
     script = Script(LONG, LONG)
     script.prepare()
     for name in range(n):
@@ -265,7 +265,7 @@ def stat(rounds):
 
 
 def look_ups(n, rounds=1500):
-    """Names that stay in force are looked up in turn, and one is dropped each round."""
+    """Cached names are looked up in turn, and one is dropped each round."""
     script = Script(LONG, LONG)
     for name in range(n):
         script.ask(f"mkdir /d{name}")
@@ -427,11 +427,11 @@ def rows(counts):
         ("signals beside so many RELEASEs", signals_beside_releases),
         ("forgets", forgets),
         ("INTERRUPTs", interrupts),
-        ("names in force", names),
+        ("cached names", names),
         ("nodes", nodes),
     ]
-    told = [(name, made, counts) for name, made in grown]
-    told += [
+    sized = [(name, made, counts) for name, made in grown]
+    sized += [
         ("`stat`, looked up each time", stat, [300, 1000, 3000]),
         ("look-ups, one name dropped each round", look_ups, [16, 512, 4096]),
         ("reads of 4,096 bytes", lambda n: transfers(n, "read 1 0 4096"), SMALL),
@@ -443,7 +443,7 @@ def rows(counts):
         ("the same by READDIRPLUS", lambda n: pages(n, "listplus", 20), [256, 1024, 4095]),
         ("all kinds of lines, drawn", at_random, [1000, 10000, 30000]),
     ]
-    return told
+    return sized
 
 
 # ---- measuring
@@ -488,8 +488,8 @@ class Bench:
             costs.append((whole - alone) / (len(script.lines) - script.prepared))
         grown = math.log(max(costs[-1], 1) / max(costs[0], 1)) / math.log(sizes[-1] / sizes[0])
         sized = ", ".join(f"{size:,}" for size in sizes)
-        told = " | ".join(f"{cost:,.0f}" for cost in costs)
-        return f"| {name} | {sized} | {told} | {grown:.2f} |"
+        printed = " | ".join(f"{cost:,.0f}" for cost in costs)
+        return f"| {name} | {sized} | {printed} | {grown:.2f} |"
 
 
 def main():
@@ -499,22 +499,22 @@ def main():
     wanted.add_argument("--only", default="")
     wanted.add_argument("--keep", help="writes the scripts into this folder, and measures nothing")
     words = wanted.parse_args()
-    told = [row for row in rows([int(n) for n in words.counts.split(",")]) if words.only in row[0]]
+    chosen = [row for row in rows([int(n) for n in words.counts.split(",")]) if words.only in row[0]]
     if words.keep:
-        return keep(told, words.keep)
+        return keep(chosen, words.keep)
     with tempfile.TemporaryDirectory() as folder:
         bench = Bench(os.path.abspath(words.program), folder)
         print(f"| Script | Sizes | {'Instructions' if bench.counts else 'Nanoseconds'} a line | | | Exponent |")
         print("|---|---|---|---|---|---|")
         with ThreadPoolExecutor(len(os.sched_getaffinity(0)) if bench.counts else 1) as pool:
-            for line in pool.map(lambda row: bench.line_of(*row), told):
+            for line in pool.map(lambda row: bench.line_of(*row), chosen):
                 print(line, flush=True)
     return 0
 
 
-def keep(told, folder):
+def keep(chosen, folder):
     os.makedirs(folder, exist_ok=True)
-    for number, (_name, made, sizes) in enumerate(told):
+    for number, (_name, made, sizes) in enumerate(chosen):
         for size in sizes:
             with open(os.path.join(folder, f"{number}-{size}.script"), "w", encoding="ascii") as out:
                 out.write("\n".join(made(size).lines) + "\n")

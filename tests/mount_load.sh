@@ -8,8 +8,8 @@ cd "$(dirname "$0")/.." || exit 1
 . tests/mounted.sh
 failed=0
 
-# told NAME WANTED GOT: says what came of a try.
-told() {
+# check NAME WANTED GOT: says what came of a try.
+check() {
     if [ "$2" = "$3" ]; then
         echo "$1: $3"
     else
@@ -45,15 +45,15 @@ for shell in 0 1 2 3; do
 done
 # shellcheck disable=SC2086
 wait $shells
-told "10,080 files, of which each shell read 210 in each of its directories" "48 209" "$(sort "$work"/shell? | uniq -c | tr -s ' ' | sed 's/^ //')"
-told "files left" 0 "$(find "$mount" -type f | wc -l)"
+check "10,080 files, of which each shell read 210 in each of its directories" "48 209" "$(sort "$work"/shell? | uniq -c | tr -s ' ' | sed 's/^ //')"
+check "files left" 0 "$(find "$mount" -type f | wc -l)"
 echo "seconds: $(($(date +%s) - begun))"
 rmdir "$mount"/*
 
 # One process appends lines, and another reads until it has seen the last.
 (line=0; while [ $line -lt 500 ]; do echo "line $line" >> "$mount/lines"; line=$((line + 1)); done) &
 tail -n +1 -f "$mount/lines" --pid $! 2> /dev/null | tail -n 1 > "$work/last"
-told "the last of 500 lines, as another process read it" "line 499" "$(cat "$work/last")"
+check "the last of 500 lines, as another process read it" "line 499" "$(cat "$work/last")"
 rm "$mount/lines"
 
 file=0
@@ -64,30 +64,30 @@ rm "$mount"/*
 mkdir "$work/tree" "$work/tree/a" "$mount/tar" "$mount/plain"
 for name in 1 2 3 4 5; do echo $name > "$work/tree/$name"; seq 1000 > "$work/tree/a/$name"; done
 tar -C "$work/tree" -cf - . | tar -C "$mount/tar" -xf - 2> "$work/errors"
-told "tar into the mount, which sets times, owners and modes: status" 2 $?
-told "what it says" "Function not implemented" "$(grep -v Exiting "$work/errors" | sed 's/.*: //' | sort -u)"
+check "tar into the mount, which sets times, owners and modes: status" 2 $?
+check "what it says" "Function not implemented" "$(grep -v Exiting "$work/errors" | sed 's/.*: //' | sort -u)"
 tar -C "$work/tree" -cf - . | tar -C "$mount/plain" -x --no-same-permissions --no-same-owner -m -f -
-told "tar into the mount without them: status" 0 $?
-told "files that differ after either" "" "$(diff -r "$work/tree" "$mount/tar"; diff -r "$work/tree" "$mount/plain")"
+check "tar into the mount without them: status" 0 $?
+check "files that differ after either" "" "$(diff -r "$work/tree" "$mount/tar"; diff -r "$work/tree" "$mount/plain")"
 tar -C "$mount/plain" -cf - . | tar -tf - > "$work/names"
-told "names that tar reads out of the mount" 12 "$(wc -l < "$work/names")"
+check "names that tar reads out of the mount" 12 "$(wc -l < "$work/names")"
 cp -r "$work/tree" "$mount/copy"
-told "cp -r: status" 0 $?
+check "cp -r: status" 0 $?
 
 export HOME="$work" GIT_CONFIG_NOSYSTEM=1
 if command -v git > /dev/null; then
     git init -q "$mount/repository" 2> "$work/errors"
-    told "git init in the mount: status" 128 $?
-    told "what it says" "chmod Function not implemented" \
+    check "git init in the mount: status" 128 $?
+    check "what it says" "chmod Function not implemented" \
         "$(head -n 1 "$work/errors" | sed 's/.*\(chmod\) on .*: /\1 /')"
     set -- git --git-dir="$work/git" --work-tree="$mount/plain" -c user.name=a -c user.email=a@b
     "$@" init -q
     "$@" add -A && "$@" commit -qm tree
-    told "git add and commit of a tree in the mount, its repository elsewhere: status" 0 $?
-    told "what it finds changed" "" "$("$@" status --short)"
+    check "git add and commit of a tree in the mount, its repository elsewhere: status" 0 $?
+    check "what it finds changed" "" "$("$@" status --short)"
 fi
 rm -r "$mount"/*
 finish
-told "the launcher's status" 0 $?
-told "the nodes that the server holds once all is removed" server "$(tail -n 1 "$trace")"
+check "the launcher's status" 0 $?
+check "the nodes that the server holds once all is removed" server "$(tail -n 1 "$trace")"
 exit $failed
