@@ -6,7 +6,7 @@ use std::io;
 use std::io::Write;
 
 /// The version, and the identity of the toolchain by which it is proved: what `rt version` prints.
-pub const VERSION: &str = "1.0.0 (rattle-kit-13b logic dac8208d650f15bf)";
+pub const VERSION: &str = "1.0.0 (rattle-kit-13f logic dac8208d650f15bf)";
 
 /// Whether the command line asks for the version.
 pub fn is_version(error: &Error) -> bool {
