@@ -19,17 +19,17 @@ frame_read head old body len four least is =
     ∙ ap (take len) (sym (append_assoc head body post))
     ∙ take_at (head ++ body) post len (sym n)
 
-pub frame_whole : (head old body : List ℕ) (len : ℕ) → length head ≡ 4 → len ≡ stated_len (head ++ old) → 40 ≤ len
-    → length body ≡ len - 4 → IsWhole (head ++ body)
-frame_whole head old body len four is least body_is =
-    let n : len ≡ length (head ++ body) = omega (arith, length-append head body, four, body_is) in record {
-      header = omega (arith, n, least);
-      stated = stated_len-append head body four ∙ sym (stated_len-append head old four) ∙ sym is ∙ n;
+pub frame_whole : (n : ℕ) (head old body : List ℕ) (len : ℕ) → length head ≡ 4 → len ≡ stated_len (head ++ old) → n ≤ len
+    → length body ≡ len - 4 → 4 ≤ len → IsWhole n (head ++ body)
+frame_whole n head old body len four is least body_is most =
+    let all : len ≡ length (head ++ body) = omega (arith, length-append head body, four, body_is, most) in record {
+      header = omega (arith, all, least);
+      stated = stated_len-append head body four ∙ sym (stated_len-append head old four) ∙ sym is ∙ all;
     }
 
 -- less than a length and a body is no frame
-pub part_no_frame : (head old part : List ℕ) (len : ℕ) → length head ≡ 4 → len ≡ stated_len (head ++ old)
-    → length part < len - 4 → IsWhole (head ++ part) → ⊥
-part_no_frame head old part len four is less whole =
+pub part_no_frame : (n : ℕ) (head old part : List ℕ) (len : ℕ) → length head ≡ 4 → len ≡ stated_len (head ++ old)
+    → length part < len - 4 → IsWhole n (head ++ part) → ⊥
+part_no_frame n head old part len four is less whole =
     let e : len ≡ length (head ++ part) = is ∙ stated_len-append head old four ∙ sym (stated_len-append head part four) ∙ whole.stated in
     omega (arith, e, length-append head part, four, less)

@@ -7,7 +7,7 @@ use Rattle.byteorder.specs.Endian.{little_number}
 use Rattle.fuse_spec.specs.declared.WriteResult.{WriteResult}
 use Rattle.fuse_spec.specs.declared.WriteResult.TheVariants.{Accepted, NoEntry, Invalid}
 use Rattle.fuse_device.specs.Transfers.{Transfer, received, sent, unsent, stopped}
-use Rattle.fuse_device.specs.declared.device.DeviceEnd.TheVariants.{Ended, Failed}
+use Rattle.fuse_device.specs.declared.device.DeviceEnd.TheVariants.{Ended, TimedOut, Failed}
 
 -- A call read these bytes of a reader of packets: the frame that was received.
 abbrev pub ReadsPacket : Transfer → List ℕ → Type 0
@@ -20,19 +20,20 @@ ReadsPacket (stopped end) bytes = bytes ≡ []
 abbrev pub stated_len : List ℕ → ℕ
 stated_len bytes = little_number 4 bytes
 
--- the bytes are one whole request frame, by its length: a header of 40 bytes, and what it says follows
-pub record IsWhole (bytes : List ℕ) : Type 0 where
-  pub header : 40 ≤ length bytes
+-- the bytes are one whole frame, by its length: a header of so many bytes, and what it says follows
+pub record IsWhole (least : ℕ) (bytes : List ℕ) : Type 0 where
+  pub header : least ≤ length bytes
   pub stated : stated_len bytes ≡ length bytes
 
--- A call read these bytes of a stream: the frame that was received, which is whole. At the other side's end it read
--- none, and where the device failed no whole frame.
-abbrev pub ReadsStream : Transfer → List ℕ → Type 0
-ReadsStream (received frame) bytes = (bytes ≡ frame) × IsWhole frame
-ReadsStream (sent frame result) bytes = bytes ≡ []
-ReadsStream (unsent frame end) bytes = bytes ≡ []
-ReadsStream (stopped Ended) bytes = bytes ≡ []
-ReadsStream (stopped Failed) bytes = IsWhole bytes → ⊥
+-- A call read these bytes of a stream: the frame that was received, which is whole. At the other side's end, and where
+-- no frame came in time, it read none; and where the device failed no whole frame.
+abbrev pub ReadsStream : (least : ℕ) → Transfer → List ℕ → Type 0
+ReadsStream least (received frame) bytes = (bytes ≡ frame) × IsWhole least frame
+ReadsStream least (sent frame result) bytes = bytes ≡ []
+ReadsStream least (unsent frame end) bytes = bytes ≡ []
+ReadsStream least (stopped Ended) bytes = bytes ≡ []
+ReadsStream least (stopped TimedOut) bytes = bytes ≡ []
+ReadsStream least (stopped Failed) bytes = IsWhole least bytes → ⊥
 
 -- the bytes of a frame that reach a writer, by its result
 abbrev pub accepted_bytes : List ℕ → WriteResult → List ℕ
@@ -95,4 +96,25 @@ module _ {R W : Type 0} (remaining : R → Option (List ℕ)) (contents : W → 
     written = one.written ++ two.written;
     writes = Moves-append Writes h k one.written two.written one.writes two.writes;
     taken = Appends-trans (contents u) (contents v) (contents w) one.written two.written one.taken two.taken;
+  }
+
+module _ {R W : Type 0} (remaining : R → Option (List ℕ)) (contents : W → Option (List ℕ)) where
+  -- The same of a stream that is cut into frames of at least so many bytes, which stays so.
+  pub record IsCutInto (old_least new_least : ℕ) (old_reader new_reader : R) (old_writer new_writer : W)
+      (log : List Transfer) : Type 0 where
+    pub same : new_least ≡ old_least
+    pub streamed : Streamed remaining contents (ReadsStream old_least) old_reader new_reader old_writer new_writer log
+
+  pub nothing_cut : (least : ℕ) (reader : R) (writer : W) → IsCutInto least least reader reader writer writer []
+  nothing_cut least reader writer = record {
+    same = refl;
+    streamed = nothing_streamed remaining contents (ReadsStream least) reader writer;
+  }
+
+  pub cut_in_turn : (l m n : ℕ) (r s t : R) (u v w : W) (h k : List Transfer) → IsCutInto l m r s u v h
+      → IsCutInto m n s t v w k → IsCutInto l n r t u w (h ++ k)
+  cut_in_turn l m n r s t u v w h k one two = record {
+    same = two.same ∙ one.same;
+    streamed = streamed_in_turn remaining contents (ReadsStream l) r s t u v w h k one.streamed
+        (subst (λ (least : ℕ). Streamed remaining contents (ReadsStream least) s t v w k) one.same two.streamed);
   }

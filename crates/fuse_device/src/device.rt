@@ -12,6 +12,9 @@ pub enum DeviceEnd {
     /// The other side ended: it is unmounted, or closed.
     #[error("the other side ended")]
     Ended,
+    /// No frame came in the time for which one is waited.
+    #[error("no frame came in time")]
+    TimedOut,
     #[error("the device failed")]
     Failed,
 }
@@ -24,7 +27,7 @@ pub trait Device {
     ghost logs: { (old new : Self) → List Transfer → Type 0 };
 
     /// Receives one frame into the front of the room, and says how many bytes it has. A call that the system asks to
-    /// try again is tried again here.
+    /// try again is tried again here, but for a device that gives up where no frame comes in time.
     ///
     /// # Errors
     ///

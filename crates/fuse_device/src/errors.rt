@@ -12,7 +12,7 @@ const ENOENT: i32 = 2;
 const EINTR: i32 = 4;
 
 /// EAGAIN, nothing is there yet.
-const EAGAIN: i32 = 11;
+pub(crate) const EAGAIN: i32 = 11;
 
 /// ENODEV of a read: the mount has gone.
 const ENODEV: i32 = 19;

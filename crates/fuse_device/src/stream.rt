@@ -12,32 +12,51 @@ use byteorder::{ByteOrder, LittleEndian};
 use fuse_spec::WriteResult;
 use std::io::{Read, Write};
 
-/// The bytes of a frame's length, and the fewest that it may state: a request's header (`struct fuse_in_header`).
+/// The bytes of a frame's length.
 const LEN_BYTES: usize = 4;
 
-const HEADER: usize = 40;
+/// The fewest bytes of a request's frame (`struct fuse_in_header`), and of a reply's (`struct fuse_out_header`).
+const REQUEST_HEADER: usize = 40;
+
+const REPLY_HEADER: usize = 16;
+
+/// How a stream is cut into frames.
+#[derive(Clone, Copy)]
+struct Cut {
+    /// The fewest bytes that a frame may state.
+    least: usize,
+    /// Whether EAGAIN of a read says that no frame came in time.
+    gives_up: bool,
+    ghost has_length: { 4 ≤ least },
+}
 
 /// Reads behind the front of the room.
-fn read_at<R: Read>(from: &mut R, room: &mut [u8], at: usize) -> Result<usize, DeviceEnd>
+fn read_at<R: Read>(
+    from: &mut R,
+    room: &mut [u8],
+    at: usize,
+    gives_up: bool,
+) -> Result<usize, DeviceEnd>
     requires { at ≤ length room.old }
     ensures count { IfOk result (λ n. (0 < n) × (at + n ≤ length room.new)) }
     ensures bytes { IfOk result (λ n. (bytes : List ℕ) × (take (at + n) room.new ≡ take at room.old ++ bytes)
         × Consumes (R.remaining from.old) (R.remaining from.new) bytes) }
     ensures end { OnErr result (Consumes (R.remaining from.old) (R.remaining from.new) []) }
 {
-    read_some(from, &mut room[at..])
+    read_some(from, &mut room[at..], gives_up)
 }
 
 /// Fills the room. Where the stream comes to its end before its first byte that is given, and else it is a failure.
-fn fill<R: Read>(from: &mut R, room: &mut [u8]) -> Result<(), DeviceEnd>
+fn fill<R: Read>(from: &mut R, room: &mut [u8], gives_up: bool) -> Result<(), DeviceEnd>
     ensures ok { OnOk result (Consumes (R.remaining from.old) (R.remaining from.new) room.new) }
     ensures ended { IsErrOf result DeviceEnd.Ended → Consumes (R.remaining from.old) (R.remaining from.new) [] }
+    ensures timed_out { IsErrOf result DeviceEnd.TimedOut → Consumes (R.remaining from.old) (R.remaining from.new) [] }
     ensures failed { OnErr result ((bytes : List ℕ) × (length bytes < length room.old)
         × Consumes (R.remaining from.old) (R.remaining from.new) bytes) }
 {
     let mut done = 0;
     while done < room.len() {
-        match read_at(from, room, done) {
+        match read_at(from, room, done, gives_up) {
             Ok(count) => done += count,
             Err(end) if done == 0 => return Err(end),
             Err(_) => return Err(DeviceEnd::Failed),
@@ -47,22 +66,22 @@ fn fill<R: Read>(from: &mut R, room: &mut [u8]) -> Result<(), DeviceEnd>
 }
 
 /// Reads one frame into the front of the room, and says how many bytes it has.
-fn read_frame<R: Read>(from: &mut R, room: &mut [u8]) -> Result<usize, DeviceEnd>
+fn read_frame<R: Read>(from: &mut R, room: &mut [u8], cut: Cut) -> Result<usize, DeviceEnd>
     ensures count { IfOk result (λ n. n ≤ length room.new) }
-    ensures frame { IfOk result (λ n. IsWhole (take n room.new)
+    ensures frame { IfOk result (λ n. IsWhole cut.least (take n room.new)
         × Consumes (R.remaining from.old) (R.remaining from.new) (take n room.new)) }
-    ensures end { IfErr result (λ end. (bytes : List ℕ) × ReadsStream (stopped end) bytes
+    ensures end { IfErr result (λ end. (bytes : List ℕ) × ReadsStream cut.least (stopped end) bytes
         × Consumes (R.remaining from.old) (R.remaining from.new) bytes) }
 {
-    if room.len() < HEADER {
+    if room.len() < cut.least {
         return Err(DeviceEnd::Failed);
     }
-    fill(from, &mut room[..LEN_BYTES])?;
+    fill(from, &mut room[..LEN_BYTES], cut.gives_up)?;
     let len = LittleEndian::read_u32(room) as usize;
-    if len < HEADER || room.len() < len {
+    if len < cut.least || room.len() < len {
         return Err(DeviceEnd::Failed);
     }
-    match fill(from, &mut room[LEN_BYTES..len]) {
+    match fill(from, &mut room[LEN_BYTES..len], cut.gives_up) {
         Ok(()) => Ok(len),
         Err(_) => Err(DeviceEnd::Failed),
     }
@@ -103,31 +122,54 @@ fn write_frame<W: Write>(out: &mut W, frame: &[u8]) -> Result<(), DeviceEnd>
 }
 
 /// A device over a reader and a writer of a stream, as a SOCK_STREAM socket: frames follow one another, each of as many
-/// bytes as its first four state. A length under 40 or over the room is a failure, and so is the end in the middle of a
-/// frame; between frames it is the other side's end. A stream refuses no frame.
+/// bytes as its first four state. A length under that of a frame's header or over the room is a failure, and so is the
+/// end in the middle of a frame; between frames it is the other side's end. A stream refuses no frame.
 #[derive(Drop)]
 pub struct StreamDevice<R: Read + Drop, W: Write + Drop> {
     reader: R,
     writer: W,
+    cut: Cut,
 }
 
 impl<R: Read + Drop, W: Write + Drop> StreamDevice<R, W> {
-    /// The device of these.
+    /// The device of these, over which requests are received: a frame has 40 bytes or more.
     pub fn new(reader: R, writer: W) -> Self
-        ensures { (result.reader ≡ reader) × (result.writer ≡ writer) }
+        ensures { (result.reader ≡ reader) × (result.writer ≡ writer) × (result.cut.least ≡ 40) }
     {
-        StreamDevice { reader, writer }
+        StreamDevice {
+            reader,
+            writer,
+            cut: Cut {
+                least: REQUEST_HEADER,
+                gives_up: false,
+            },
+        }
+    }
+
+    /// The device of these, over which replies are received: a frame has 16 bytes or more. It gives up where no frame
+    /// comes in the time for which the reader waits, which it tells by EAGAIN.
+    pub fn of_replies(reader: R, writer: W) -> Self
+        ensures { (result.reader ≡ reader) × (result.writer ≡ writer) × (result.cut.least ≡ 16) }
+    {
+        StreamDevice {
+            reader,
+            writer,
+            cut: Cut {
+                least: REPLY_HEADER,
+                gives_up: true,
+            },
+        }
     }
 }
 
 impl<R: Read + Drop, W: Write + Drop> Device for StreamDevice<R, W> {
-    ghost use Rattle.fuse_device.specs.Streamed.{ReadsStream, Streamed, nothing_streamed, streamed_in_turn};
+    ghost use Rattle.fuse_device.specs.Streamed.{IsCutInto, nothing_cut, cut_in_turn};
 
-    ghost logs = { λ old new log. Streamed R.remaining W.contents ReadsStream old.reader new.reader
+    ghost logs = { λ old new log. IsCutInto R.remaining W.contents old.cut.least new.cut.least old.reader new.reader
         old.writer new.writer log };
 
     fn receive(&mut self, room: &mut [u8]) -> Result<usize, DeviceEnd> {
-        read_frame(&mut self.reader, room)
+        read_frame(&mut self.reader, room, self.cut)
     }
 
     fn send(&mut self, frame: &[u8]) -> Result<WriteResult, DeviceEnd> {
@@ -137,8 +179,8 @@ impl<R: Read + Drop, W: Write + Drop> Device for StreamDevice<R, W> {
         }
     }
 
-    ghost stays = { λ device. nothing_streamed R.remaining W.contents ReadsStream device.reader device.writer };
+    ghost stays = { λ device. nothing_cut R.remaining W.contents device.cut.least device.reader device.writer };
 
-    ghost goes_on = { λ first mid last. streamed_in_turn R.remaining W.contents ReadsStream first.reader mid.reader
-        last.reader first.writer mid.writer last.writer };
+    ghost goes_on = { λ first mid last. cut_in_turn R.remaining W.contents first.cut.least mid.cut.least last.cut.least
+        first.reader mid.reader last.reader first.writer mid.writer last.writer };
 }

@@ -5,7 +5,7 @@ use Rattle.fuse_spec.specs.declared.WriteResult.TheVariants.{Accepted, NoEntry, 
 use Rattle.fk_wire.specs.Opcodes.{name_of}
 use Rattle.fk_wire.specs.Requests.{RequestMessage, opcode_of}
 use Rattle.fuse_device.specs.declared.device.DeviceEnd.{DeviceEnd}
-use Rattle.fuse_device.specs.declared.device.DeviceEnd.TheVariants.{Ended, Failed}
+use Rattle.fuse_device.specs.declared.device.DeviceEnd.TheVariants.{Ended, TimedOut, Failed}
 use Rattle.fw_frames.specs.Words.{request_words}
 
 -- a node, its generation and its lookup count
@@ -27,4 +27,5 @@ result_words (Ok Accepted) = []
 result_words (Ok NoEntry) = codes " refused ENOENT"
 result_words (Ok Invalid) = codes " refused EINVAL"
 result_words (Err Ended) = codes " not sent: ended"
+result_words (Err TimedOut) = codes " not sent: timed out"
 result_words (Err Failed) = codes " not sent: failed"

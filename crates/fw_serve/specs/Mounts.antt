@@ -5,7 +5,7 @@ use Rattle.fuse_spec.specs.Server.Copies.{remounted}
 use Rattle.fuse_spec.specs.World.Worlds.{first_server}
 use Rattle.fuse_device.specs.Transfers.{Transfer}
 use Rattle.fuse_device.specs.declared.device.DeviceEnd.{DeviceEnd}
-use Rattle.fuse_device.specs.declared.device.DeviceEnd.TheVariants.{Ended, Failed}
+use Rattle.fuse_device.specs.declared.device.DeviceEnd.TheVariants.{Ended, TimedOut, Failed}
 use Rattle.fs_serve.specs.Sending.{GoesOver}
 use Rattle.fs_serve.specs.LookupCounts.{IsServed}
 use Rattle.fw_serve.specs.declared.serving.Mount.{Mount}
@@ -17,6 +17,7 @@ first_of mount = remounted first_server mount.validity mount.minor
 -- the exit status at a device's end, or without one
 abbrev pub status_of : Option DeviceEnd → ℕ
 status_of (Some Ended) = 0
+status_of (Some TimedOut) = 4
 status_of (Some Failed) = 4
 status_of None = 4
 

@@ -29,7 +29,7 @@ fn status_at(end: Option<DeviceEnd>) -> u8
 {
     match end {
         Some(DeviceEnd::Ended) => 0,
-        Some(DeviceEnd::Failed) | None => 4,
+        Some(DeviceEnd::TimedOut | DeviceEnd::Failed) | None => 4,
     }
 }
 

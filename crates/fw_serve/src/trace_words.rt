@@ -52,6 +52,7 @@ fn words_of_result(sent: Result<WriteResult, DeviceEnd>) -> &'static str
         Ok(WriteResult::NoEntry) => " refused ENOENT",
         Ok(WriteResult::Invalid) => " refused EINVAL",
         Err(DeviceEnd::Ended) => " not sent: ended",
+        Err(DeviceEnd::TimedOut) => " not sent: timed out",
         Err(DeviceEnd::Failed) => " not sent: failed",
     }
 }
