@@ -1,0 +1,4 @@
+pub mod Drivings
+pub mod Changes
+pub mod Requests
+pub mod Sent

@@ -1,0 +1,9 @@
+use Rattle.std.proofs.Common.{[]}
+use Rattle.fk_drive.specs.Driving.{nothing}
+use Rattle.fk_drive.proofs.writing.release_directory.Goals as goal
+
+pub returns-in_default : goal.returns-in_default
+returns-in_default g c kernel turn = ([], g.met.D.Device.stays c.args.device.now, nothing)
+
+pub returns-in_default-2 : goal.returns-in_default-2
+returns-in_default-2 g c kernel turn = ([], g.met.D.Device.stays c.args.device.now, nothing)

@@ -1,0 +1,54 @@
+//! What is kept of a kernel's connection to a server.
+
+ghost use Rattle.std.specs.Prelude.{◌≡◌};
+
+use fk_drive_frames::{Aside, FIRST_OWN};
+use fuse_spec::Opened;
+use std::alloc::Allocator;
+
+/// A directory that OPENDIR opened, and the number of the READDIR or READDIRPLUS for which it did.
+#[derive(Clone, Copy, Debug, PartialEq, Eq)]
+pub struct Directory {
+    pub unique: u64,
+    pub opened: Opened,
+}
+
+/// What is kept of a connection: the frames that wait for the kernel, in order, and what OPENDIR gave.
+#[derive(Drop)]
+pub struct Connection<A: Allocator + Copy> {
+    pub(crate) alloc: A,
+    pub(crate) waiting: Vec<Vec<u8, A>, A>,
+    pub(crate) next: u64,
+    pub(crate) asks: bool,
+    pub(crate) directories: Vec<Directory, A>,
+    pub(crate) asides: Vec<Aside, A>,
+}
+
+impl<A: Allocator + Copy> Connection<A> {
+    ghost use Rattle.fk_drive.specs.Driving.{first_driven};
+    ghost use Rattle.fk_drive.specs.Driven.{Keeps, driven};
+    ghost use Rattle.fk_drive.specs.Driving.{idle};
+    ghost use Rattle.fuse_spec.specs.World.Worlds.{first_kernel};
+
+    /// A new connection, on which OPENDIR goes before what lists a directory, if it `asks`.
+    pub fn new(alloc: A, asks: bool) -> Self
+        ensures { driven first_kernel result idle ≡ first_driven asks }
+    {
+        Connection {
+            alloc,
+            waiting: Vec::new(alloc),
+            next: FIRST_OWN,
+            asks,
+            directories: Vec::new(alloc),
+            asides: Vec::new(alloc),
+        }
+    }
+
+    /// The frames that were set aside since this was last asked, the oldest first. They are gone then.
+    pub fn take_asides(&mut self) -> Vec<Aside, A>
+        ensures { Keeps self.old self.new }
+    {
+        let empty = Vec::new(self.alloc);
+        std::mem::replace(&mut self.asides, empty)
+    }
+}

@@ -1,0 +1,47 @@
+//! One frame is sent, and one is received.
+
+ghost use Rattle.std.specs.Prelude.{◌≡◌, ◌∷◌, [], List, IfOk, IfErr};
+ghost use Rattle.fuse_device.specs.Transfers.{Transfer, received};
+ghost use Rattle.fk_drive.specs.Driving.{SendsBytes};
+ghost use Rattle.fk_drive.specs.Exchanges.{GoesOver, StopsAt};
+
+use crate::end::DriveEnd;
+use fuse_device::Device;
+use std::alloc::Allocator;
+
+/// The most bytes that one frame may have.
+const ROOM: usize = 131_072;
+
+/// Sends a frame. A server refuses none: what it says of one is lost.
+pub(crate) fn send_bytes<D: Device>(device: &mut D, bytes: &[u8]) -> Result<(), DriveEnd>
+    ensures { GoesOver D.logs device.old device.new (SendsBytes bytes.now) }
+{
+    match device.send(bytes) {
+        Ok(_result) => Ok(()),
+        Err(end) => Err(DriveEnd::Device(end)),
+    }
+}
+
+/// Receives a frame. Its memory is there before it is received.
+///
+/// # Errors
+///
+/// The device came to its end, or memory is wanting: nothing is then received.
+pub(crate) fn receive_frame<A: Allocator + Copy, D: Device>(
+    alloc: A,
+    device: &mut D,
+) -> Result<Vec<u8, A>, DriveEnd>
+    ensures frame { IfOk result (λ frame. D.logs device.old device.new (received frame.items ∷ [])) }
+    ensures end { IfErr result (λ end. GoesOver D.logs device.old device.new (StopsAt end)) }
+{
+    let Ok(mut frame) = vec![in alloc; 0u8; ROOM] else {
+        return Err(DriveEnd::Memory);
+    };
+    match device.receive(&mut frame) {
+        Ok(count) => {
+            frame.truncate(count);
+            Ok(frame)
+        }
+        Err(end) => Err(DriveEnd::Device(end)),
+    }
+}

@@ -1,0 +1,77 @@
+//! Frames are received, and wait for the kernel or are set aside.
+
+ghost use Rattle.std.specs.Prelude.{◌≡◌, ◌++◌, ◌∷◌, [], OnOk};
+ghost use Rattle.fuse_spec.specs.Kernel.Kernel.{Kernel as KernelState};
+ghost use Rattle.fuse_device.specs.Transfers.{received};
+ghost use Rattle.fk_drive.specs.Driven.{Keeps, driven};
+ghost use Rattle.fk_drive.specs.Driving.{DrivesOver, Steps, Turn};
+ghost use Rattle.fk_drive.specs.Rooms.{HasRoom};
+
+use crate::connection::Connection;
+use crate::end::DriveEnd;
+use crate::exchange::receive_frame;
+use fk_drive_frames::{Aside, aside_in};
+use fuse_device::Device;
+use std::alloc::Allocator;
+
+impl<A: Allocator + Copy> Connection<A> {
+    /// Makes room for one frame: for one that waits, for one that is set aside, and for an open directory.
+    pub(crate) fn make_room(&mut self) -> Result<(), DriveEnd>
+        ensures same { Keeps self.old self.new }
+        ensures room { OnOk result (HasRoom self.new) }
+    {
+        let waiting = self.waiting.reserve(1);
+        let asides = self.asides.reserve(1);
+        let directories = self.directories.reserve(1);
+        match (waiting, asides, directories) {
+            (Ok(()), Ok(()), Ok(())) => Ok(()),
+            _ => Err(DriveEnd::Memory),
+        }
+    }
+
+    /// Notes a frame that was set aside.
+    fn note_aside(&mut self, aside: Aside)
+        ensures { self.new ≡ record self.old { asides = self.new.asides } }
+    {
+        let _noted = self.asides.push(aside);
+    }
+
+    /// Has a frame wait for the kernel.
+    fn have_wait(&mut self, frame: Vec<u8, A>)
+        requires { HasRoom self.old }
+        ensures waits { self.new.waiting.items ≡ self.old.waiting.items ++ frame ∷ [] }
+        ensures same { self.new ≡ record self.old { waiting = self.new.waiting } }
+    {
+        let _waits = self.waiting.push(frame);
+    }
+
+    /// A frame waits for the kernel, or is set aside.
+    pub(crate) fn keep(&mut self, frame: Vec<u8, A>)
+        requires { HasRoom self.old }
+        ensures { (kernel : KernelState) (turn : Turn) → Steps (driven kernel self.old turn) (received frame.items ∷ [])
+            (driven kernel self.new turn) }
+    {
+        match aside_in(self.next, frame.as_slice()) {
+            Some(aside) => self.note_aside(aside),
+            None => self.have_wait(frame),
+        }
+    }
+}
+
+/// Receives one frame, which waits for the kernel or is set aside.
+///
+/// # Errors
+///
+/// The device came to its end, or memory is wanting: nothing is then received.
+pub(crate) fn receive_next<A: Allocator + Copy, D: Device>(
+    connection: &mut Connection<A>,
+    device: &mut D,
+) -> Result<(), DriveEnd>
+    ensures { (kernel : KernelState) (turn : Turn) → DrivesOver D.logs device.old device.new
+        (driven kernel connection.old turn) (driven kernel connection.new turn) }
+{
+    connection.make_room()?;
+    let frame = receive_frame(connection.alloc, device)?;
+    connection.keep(frame);
+    Ok(())
+}

@@ -1,0 +1,157 @@
+//! What the kernel's read gives is sent.
+
+ghost use Rattle.std.specs.Prelude.{◌≡◌, ◌≤◌, ◌<◌, ◌^◌, ℕ, List, true, OnErr, OnOk, length};
+ghost use Rattle.fuse_spec.specs.Kernel.Messages.{Request};
+ghost use Rattle.fuse_spec.specs.declared.WriteResult.{WriteResult};
+ghost use Rattle.fk_wire.specs.Replies.{IsErrorNumber, WrittenReply, empty_reply};
+ghost use Rattle.fk_drive.specs.KernelSteps.{TakesReply};
+ghost use Rattle.fk_wire.specs.Requests.{RequestMessage, Spells};
+ghost use Rattle.fuse_frames.specs.RequestTies.{SaysRequest};
+ghost use Rattle.fk_drive_frames.specs.Filling.{IsListing};
+ghost use Rattle.fk_drive_frames.specs.OwnRequests.{Lists};
+ghost use Rattle.fk_drive.specs.Driven.{driven};
+ghost use Rattle.fk_drive.specs.Driving.{DrivesOver, Turn, idle, picked};
+ghost use Rattle.fk_drive.specs.Exchanges.{GoesOver};
+ghost use Rattle.fk_drive.specs.Sending.{IsDone, IsSent, SendsListing, SendsSame};
+
+use crate::connection::Connection;
+use crate::end::{DriveEnd, NotSent};
+use crate::exchange::send_bytes;
+use crate::opening::{Awaited, Listing, is_opened_first, open_directory};
+use fk_drive_frames::{Choices, OpendirSaid, fill, fill_handle, node_listed};
+use fk_kernel::{Kernel, Pick};
+use fk_wire::{MAX_FRAME, frame_of_error, spelled_is_decoded, written_is_spelled};
+use fuse_device::Device;
+use fuse_frames::RequestFrame;
+use std::alloc::Allocator;
+
+/// Sends a request, with what servers want in its free fields.
+fn send_same<D: Device>(device: &mut D, frame: &[u8], choices: Choices) -> Result<(), DriveEnd>
+    requires { length frame.now ≤ 4176 }
+    ensures { GoesOver D.logs device.old device.new (SendsSame frame.now) }
+{
+    let mut room = [0u8; MAX_FRAME];
+    let filled = &mut room[..frame.len()];
+    filled.copy_from_slice(frame);
+    fill(filled, choices);
+    send_bytes(device, filled)
+}
+
+/// Sends a request that lists an open directory, with its fh.
+fn send_listing<D: Device>(device: &mut D, frame: &[u8], fh: u64) -> Result<(), DriveEnd>
+    requires short { length frame.now ≤ 4176 }
+    requires lists { (m : RequestMessage) × Spells frame.now m × IsListing m.content }
+    ensures { GoesOver D.logs device.old device.new (SendsListing frame.now fh) }
+{
+    let mut room = [0u8; MAX_FRAME];
+    let filled = &mut room[..frame.len()];
+    filled.copy_from_slice(frame);
+    fill_handle(filled, fh);
+    send_bytes(device, filled)
+}
+
+/// Sends a request that lists a node, under its number, once its directory is open. Where that fails the kernel takes the
+/// error as its reply.
+fn send_opened<A: Allocator + Copy, D: Device>(
+    kernel: &mut Kernel<A>,
+    connection: &mut Connection<A>,
+    device: &mut D,
+    frame: &[u8],
+    choices: Choices,
+    listing: Listing,
+) -> Result<(), DriveEnd>
+    requires short { length frame.now ≤ 4176 }
+    requires lists { (m : RequestMessage) × Spells frame.now m × IsListing m.content }
+    requires asks { connection.old.asks ≡ true }
+    requires numbers { connection.old.next < 2 ^ 63 }
+    ensures { (request : Request) → SaysRequest frame.now request → request.unique ≡ listing.unique
+        → Lists request.body listing.node → (turn : Turn) × IsDone result turn
+        × DrivesOver D.logs device.old device.new (driven kernel.old connection.old (picked request))
+        (driven kernel.new connection.new turn) }
+{
+    let said = match open_directory(connection, device, listing) {
+        Awaited::Said(said) => said,
+        Awaited::NotYet => return Err(DriveEnd::Memory),
+        Awaited::Ended(end) => return Err(end),
+    };
+    match said {
+        OpendirSaid::Handle(fh) => send_listing(device, frame, fh),
+        OpendirSaid::NotKnown => send_same(device, frame, choices),
+        OpendirSaid::Failed(error) => answer(kernel, listing.unique, error),
+    }
+}
+
+/// The kernel takes an error as the reply to a request.
+fn answer<A: Allocator + Copy>(
+    kernel: &mut Kernel<A>,
+    unique: u64,
+    error: i32,
+) -> Result<(), DriveEnd>
+    requires { IsErrorNumber error }
+    ensures ok { OnOk result ((bytes : List ℕ) × (written : WriteResult)
+        × WrittenReply (record { unique = unique; error = error; content = empty_reply }) bytes
+        × TakesReply kernel.old bytes written kernel.new) }
+    ensures err { OnErr result (kernel.new ≡ kernel.old) }
+{
+    match kernel.write(&frame_of_error(unique, error)) {
+        Ok(_result) => Ok(()),
+        Err(refusal) => Err(DriveEnd::Refused(refusal)),
+    }
+}
+
+/// Sends a request that was read, under its number.
+fn send_read<A: Allocator + Copy, D: Device>(
+    kernel: &mut Kernel<A>,
+    connection: &mut Connection<A>,
+    device: &mut D,
+    frame: &[u8],
+    choices: Choices,
+    unique: u64,
+) -> Result<(), DriveEnd>
+    requires short { length frame.now ≤ 4176 }
+    ensures { (request : Request) → SaysRequest frame.now request → request.unique ≡ unique
+        → (turn : Turn) × IsDone result turn
+        × DrivesOver D.logs device.old device.new (driven kernel.old connection.old (picked request))
+        (driven kernel.new connection.new turn) }
+{
+    spelled_is_decoded();
+    let listed = node_listed(frame);
+    match listed {
+        Some(node) if is_opened_first(connection) => send_opened(
+            kernel,
+            connection,
+            device,
+            frame,
+            choices,
+            Listing { unique, node },
+        ),
+        _ => send_same(device, frame, choices),
+    }
+}
+
+/// Reads a request from the kernel, and sends it in a frame that spells it.
+///
+/// # Errors
+///
+/// The kernel refused to be read, and then nothing changed; or the run came to its end.
+pub fn send_next<A: Allocator + Copy, D: Device>(
+    kernel: &mut Kernel<A>,
+    connection: &mut Connection<A>,
+    device: &mut D,
+    pick: Pick,
+    choices: Choices,
+) -> Result<RequestFrame<A>, NotSent>
+    ensures { (turn : Turn) × IsSent result turn × DrivesOver D.logs device.old device.new
+        (driven kernel.old connection.old idle) (driven kernel.new connection.new turn) }
+{
+    written_is_spelled();
+    let frame = match kernel.read(pick) {
+        Ok(frame) => frame,
+        Err(refusal) => return Err(NotSent::Refused(refusal)),
+    };
+    let (unique, _opcode) = frame.head();
+    match send_read(kernel, connection, device, frame.bytes(), choices, unique) {
+        Ok(()) => Ok(frame),
+        Err(end) => Err(NotSent::Ended(end)),
+    }
+}

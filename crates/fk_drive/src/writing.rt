@@ -1,0 +1,167 @@
+//! What was received is written to the kernel.
+
+ghost use Rattle.std.specs.Prelude.{◌≡◌, ◌<◌, ◌^◌, [], ℕ, List, IfOk, IfSome, OnErr, OnOk, length, vec_len};
+ghost use Rattle.fuse_spec.specs.Kernel.Kernel.{Kernel as KernelState};
+ghost use Rattle.fk_drive_frames.specs.Agreements.{IsHandedOn};
+ghost use Rattle.fk_drive.specs.Driven.{driven};
+ghost use Rattle.fk_drive.specs.Driving.{DrivesOver, Steps, Turn};
+ghost use Rattle.fk_drive.specs.KernelSteps.{TakesReply};
+
+use crate::connection::{Connection, Directory};
+use crate::end::DriveEnd;
+use crate::exchange::send_bytes;
+use crate::receiving::receive_next;
+use fk_drive_frames::{END_OF_OWN, is_older_agreement, raised_of, releasedir};
+use fk_kernel::Kernel;
+use fk_wire::ReplyHead;
+use fuse_device::Device;
+use fuse_spec::{Refusal, WriteResult};
+use std::alloc::Allocator;
+
+/// A frame that was written to the kernel.
+#[derive(Drop)]
+pub struct Written<A: Allocator> {
+    /// The frame, as it was received.
+    pub frame: Vec<u8, A>,
+    /// Whether it agreed on 7.23 to 7.30, and was handed on as 7.31.
+    pub is_raised: bool,
+    /// What the kernel said.
+    pub result: WriteResult,
+    /// Whether the run came to its end behind it, as RELEASEDIR was to be sent.
+    pub end: Option<DriveEnd>,
+}
+
+/// Writes a frame to the kernel: an older agreement as one on 7.31, and any other as it is.
+fn hand_on<A: Allocator + Copy>(
+    kernel: &mut Kernel<A>,
+    frame: &[u8],
+) -> Result<WriteResult, Refusal>
+    ensures ok { IfOk result (λ written. (handed : List ℕ) × IsHandedOn frame.now handed
+        × TakesReply kernel.old handed written kernel.new) }
+    ensures err { OnErr result (kernel.new ≡ kernel.old) }
+{
+    if is_older_agreement(frame) {
+        return kernel.write(&raised_of(frame));
+    }
+    kernel.write(frame)
+}
+
+/// Receives frames until one waits for the kernel.
+fn receive_one<A: Allocator + Copy, D: Device>(
+    connection: &mut Connection<A>,
+    device: &mut D,
+) -> Result<(), DriveEnd>
+    ensures drives { (kernel : KernelState) (turn : Turn) → DrivesOver D.logs device.old device.new
+        (driven kernel connection.old turn) (driven kernel connection.new turn) }
+    ensures waits { OnOk result (0 < vec_len connection.new.waiting) }
+{
+    for _frame in 0..u64::MAX {
+        if connection.waiting.len() != 0 {
+            return Ok(());
+        }
+        receive_next(connection, device)?;
+    }
+    Err(DriveEnd::Memory)
+}
+
+/// Sends RELEASEDIR of the open directory at a place.
+fn release_at<A: Allocator + Copy, D: Device>(
+    connection: &mut Connection<A>,
+    device: &mut D,
+    place: usize,
+) -> Result<(), DriveEnd>
+    requires place { place < vec_len connection.old.directories }
+    requires numbers { connection.old.next < 2 ^ 63 }
+    ensures { (kernel : KernelState) (turn : Turn) → DrivesOver D.logs device.old device.new
+        (driven kernel connection.old turn) (driven kernel connection.new turn) }
+{
+    let directory = connection.directories.remove(place);
+    let own = connection.next;
+    connection.next += 2;
+    send_bytes(device, &releasedir(own, directory.opened))
+}
+
+/// Where the directory stands that was opened for the request under a number.
+fn place_of(directories: &[Directory], unique: u64) -> Option<usize>
+    ensures { IfSome result (λ place. place < length directories.now) }
+{
+    directories
+        .iter()
+        .position(|directory| directory.unique == unique)
+}
+
+/// Sends RELEASEDIR of the directory that was opened for the request under a number, if one was.
+fn release_directory<A: Allocator + Copy, D: Device>(
+    connection: &mut Connection<A>,
+    device: &mut D,
+    unique: u64,
+) -> Result<(), DriveEnd>
+    ensures { (kernel : KernelState) (turn : Turn) → DrivesOver D.logs device.old device.new
+        (driven kernel connection.old turn) (driven kernel connection.new turn) }
+{
+    match place_of(&connection.directories, unique) {
+        Some(place) if connection.next < END_OF_OWN => release_at(connection, device, place),
+        _ => Ok(()),
+    }
+}
+
+/// Writes the first frame that waits to the kernel.
+fn write_first<A: Allocator + Copy>(
+    kernel: &mut Kernel<A>,
+    connection: &mut Connection<A>,
+) -> Result<Written<A>, Refusal>
+    requires { 0 < vec_len connection.old.waiting }
+    ensures ok { OnOk result ((turn : Turn) → Steps (driven kernel.old connection.old turn) []
+        (driven kernel.new connection.new turn)) }
+    ensures err { OnErr result ((kernel.new ≡ kernel.old) × (connection.new ≡ connection.old)) }
+{
+    let is_raised = is_older_agreement(&connection.waiting[0]);
+    let result = hand_on(kernel, &connection.waiting[0])?;
+    let frame = connection.waiting.remove(0);
+    Ok(Written {
+        frame,
+        is_raised,
+        result,
+        end: None,
+    })
+}
+
+/// Sends RELEASEDIR behind a frame that was written, where that is the reply to what listed an open directory.
+fn release_after<A: Allocator + Copy, D: Device>(
+    connection: &mut Connection<A>,
+    device: &mut D,
+    written: &mut Written<A>,
+)
+    ensures { (kernel : KernelState) (turn : Turn) → DrivesOver D.logs device.old device.new
+        (driven kernel connection.old turn) (driven kernel connection.new turn) }
+{
+    if let Ok(head) = ReplyHead::read(&written.frame) {
+        if let Err(end) = release_directory(connection, device, head.unique) {
+            written.end = Some(end);
+        }
+    }
+}
+
+/// Writes the next frame to the kernel, which waits already or is received now, and sends RELEASEDIR where it is the
+/// reply to what listed an open directory. `Err` of the inner result is the kernel's refusal: the frame still waits.
+///
+/// # Errors
+///
+/// The run came to its end before there was one.
+pub fn write_next<A: Allocator + Copy, D: Device>(
+    kernel: &mut Kernel<A>,
+    connection: &mut Connection<A>,
+    device: &mut D,
+) -> Result<Result<Written<A>, Refusal>, DriveEnd>
+    ensures { (turn : Turn) → DrivesOver D.logs device.old device.new (driven kernel.old connection.old turn)
+        (driven kernel.new connection.new turn) }
+{
+    receive_one(connection, device)?;
+    match write_first(kernel, connection) {
+        Ok(mut written) => {
+            release_after(connection, device, &mut written);
+            Ok(Ok(written))
+        }
+        Err(refusal) => Ok(Err(refusal)),
+    }
+}

@@ -1,0 +1,4 @@
+pub mod OneField
+pub mod Filled
+pub mod Puts
+pub mod Heads

@@ -1,0 +1,4 @@
+pub mod Agreements
+pub mod Asides
+pub mod Filling
+pub mod OwnRequests

@@ -1,0 +1,58 @@
+//! Which requests list a directory, and what a reply to OPENDIR says.
+
+ghost use Rattle.std.specs.Prelude.{◌≡◌, IfSome};
+ghost use Rattle.fk_wire.specs.Requests.{RequestMessage, Spells};
+ghost use Rattle.fk_drive_frames.specs.Filling.{IsListing};
+ghost use Rattle.fk_drive_frames.specs.OwnRequests.{IsErrorSaid, SaysOfOpendir};
+
+use fk_wire::{Opcode, ReplyBody, ReplyHead, RequestBody, read_reply_body, read_request};
+
+/// ENOSYS and EIO, as error replies have them.
+const ENOSYS: i32 = -38;
+
+const EIO: i32 = -5;
+
+/// What a reply to OPENDIR says.
+#[derive(Clone, Copy, Debug, PartialEq, Eq)]
+pub enum OpendirSaid {
+    /// The directory is open, under this fh.
+    Handle(u64),
+    /// OPENDIR is not known: ENOSYS.
+    NotKnown,
+    /// Another error, as error replies have it.
+    Failed(i32),
+}
+
+/// The node that a request frame lists, with READDIR or READDIRPLUS.
+pub fn node_listed(frame: &[u8]) -> Option<u64>
+    ensures { IfSome result (λ node. (m : RequestMessage) × Spells frame.now m × (m.nodeid ≡ node)
+        × IsListing m.content) }
+{
+    match read_request(frame) {
+        Ok(request) => match request.body {
+            RequestBody::Readdir { .. } | RequestBody::Readdirplus { .. } => Some(request.nodeid),
+            _ => None,
+        },
+        Err(_) => None,
+    }
+}
+
+/// What the reply to the OPENDIR under a number says, if a frame is that. A frame that is no reply to OPENDIR counts as
+/// EIO.
+pub fn said_in(unique: u64, frame: &[u8]) -> Option<OpendirSaid>
+    ensures said { IfSome result (SaysOfOpendir frame.now unique) }
+    ensures number { IfSome result IsErrorSaid }
+{
+    let Ok(head) = ReplyHead::read(frame) else {
+        return None;
+    };
+    if head.unique != unique {
+        return None;
+    }
+    match read_reply_body(head, Opcode::Open, frame) {
+        Ok(ReplyBody::Open { fh }) => Some(OpendirSaid::Handle(fh)),
+        Ok(_) if head.error == ENOSYS => Some(OpendirSaid::NotKnown),
+        Ok(_) => Some(OpendirSaid::Failed(head.error)),
+        Err(_) => Some(OpendirSaid::Failed(EIO)),
+    }
+}
