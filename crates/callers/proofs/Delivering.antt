@@ -13,7 +13,7 @@ use Rattle.fs_server.specs.Steps.{CanPerform}
 use Rattle.fs_server.specs.declared.server.Taken.{Taken}
 use Rattle.callers.specs.declared.virtual_machine.Served.{Served}
 use Rattle.callers.specs.declared.virtual_machine.Served.TheVariants.{Replied, NoReply, NoRoom, Waits, Refused}
-use Rattle.callers.specs.Serving.{Holds, IsDelivered, IsServed, Sends, Serves, after_taking, at_once, nothing, performed}
+use Rattle.callers.specs.Serving.{Holds, IsDelivered, IsFrameServed, Sends, ServesOne, after_taking, at_once, nothing, performed}
 
 -- What an Option has, where it has something.
 or : {A : Type 0} → A → Option A → A
@@ -26,8 +26,8 @@ is_same a b same = ap (or a) same
 
 -- What is sent of a frame and handed over serves it.
 delivered : (old sent new : Server) (frame : List ℕ) (capacity : ℕ) (before after : List ℕ) (copy : Sent)
-    → Serves old frame (Some copy) sent → (came : Served) → IsDelivered sent copy capacity before came new after
-    → IsServed old frame capacity before came new after
+    → ServesOne old frame (Some copy) sent → (came : Served) → IsDelivered sent copy capacity before came new after
+    → IsFrameServed old frame capacity before came new after
 delivered old sent new frame capacity before after copy serves Replied is = (copy, sent, serves, is)
 delivered old sent new frame capacity before after copy serves NoRoom is = (copy, sent, serves, is)
 delivered old sent new frame capacity before after copy serves NoReply never = absurd never
@@ -51,7 +51,7 @@ no_copy number unique (Some wire) same = absurd (true≢false (sym (ap is_some s
 
 module _ {A : Type 0} (old taken : Server) (frame : List ℕ) (took : Taken A) (takes : TakesFrame old frame took taken)
   where
-    serves_at_once : (copy : Sent) → took.sent ≡ Some copy → Serves old frame (Some copy) taken
+    serves_at_once : (copy : Sent) → took.sent ≡ Some copy → ServesOne old frame (Some copy) taken
     serves_at_once copy there = record {
       request = takes.request;
       says = takes.says;
@@ -62,12 +62,12 @@ module _ {A : Type 0} (old taken : Server) (frame : List ℕ) (took : Taken A) (
 
     pub served_at_once : (new : Server) (capacity : ℕ) (before after : List ℕ) (copy : Sent) (came : Served)
         → took.sent ≡ Some copy → IsDelivered taken copy capacity before came new after
-        → IsServed old frame capacity before came new after
+        → IsFrameServed old frame capacity before came new after
     served_at_once new capacity before after copy came there is =
         delivered old taken new frame capacity before after copy (serves_at_once copy there) came is
 
     -- Nothing is sent of what is neither held nor answered.
-    pub serves_nothing : took.sent ≡ None → took.word ≢ Held → Serves old frame None taken
+    pub serves_nothing : took.sent ≡ None → took.word ≢ Held → ServesOne old frame None taken
     serves_nothing none other = record {
       request = takes.request;
       says = takes.says;
@@ -79,7 +79,7 @@ module _ {A : Type 0} (old taken : Server) (frame : List ℕ) (took : Taken A) (
 
     -- What is held is performed.
     pub serves_later : (new : Server) (errno : ℕ) (sent : Option Sent) → took.word ≡ Held
-        → PerformsHeld taken took.unique errno sent new → Serves old frame sent new
+        → PerformsHeld taken took.unique errno sent new → ServesOne old frame sent new
     serves_later new errno sent held performs = record {
       request = takes.request;
       says = takes.says;
@@ -91,10 +91,10 @@ module _ {A : Type 0} (old taken : Server) (frame : List ℕ) (took : Taken A) (
     pub served_later : (did new : Server) (capacity : ℕ) (before after : List ℕ) (errno : ℕ) (sent : Option Sent)
         (copy : Sent) (came : Served) → took.word ≡ Held → PerformsHeld taken took.unique errno sent did
         → sent ≡ Some copy → IsDelivered did copy capacity before came new after
-        → IsServed old frame capacity before came new after
+        → IsFrameServed old frame capacity before came new after
     served_later did new capacity before after errno sent copy came held performs there is =
         delivered old did new frame capacity before after copy
-        (subst (λ (s : Option Sent). Serves old frame s did) there (serves_later did errno sent held performs)) came is
+        (subst (λ (s : Option Sent). ServesOne old frame s did) there (serves_later did errno sent held performs)) came is
 
     -- What is held and cannot be performed waits.
     pub waits : (new : Server) (refusal : Refusal) → took.word ≡ Held → new ≡ taken

@@ -2,7 +2,7 @@
 use Rattle.std.specs.Prelude.{◌≡◌, ℕ, ℤ, pos, negsuc, List, ◌++◌, None}
 use Rattle.fk_wire.specs.declared.entry.Attr.{Attr}
 use Rattle.fk_wire.specs.Requests.{RequestContent, RequestMessage, Spells, getattr, init, opcode_of}
-use Rattle.fk_wire.specs.Opcodes.{kind_of}
+use Rattle.fk_wire.specs.Opcodes.{reply_kind_of}
 use Rattle.fk_wire.specs.Replies.{ReplyContent, ReplyMessage, SpellsReply, attr_reply, empty_reply, init_reply}
 
 -- the attributes of the directory: inode 1, mode 040755, one name
@@ -26,8 +26,8 @@ reply_to request = record {
 
 -- A frame spells a request, and what stands behind the old bytes answers it: a frame that spells the reply to it; or
 -- nothing, to a request that has no reply.
-pub data Answers (frame old new : List ℕ) : Type 0 where
+pub data AnswersRequest (frame old new : List ℕ) : Type 0 where
   replied : (request : RequestMessage) → Spells frame request → (bytes : List ℕ)
-      → SpellsReply (opcode_of request.content) bytes (reply_to request) → new ≡ old ++ bytes → Answers frame old new
-  unreplied : (request : RequestMessage) → Spells frame request → kind_of (opcode_of request.content) ≡ None
-      → new ≡ old → Answers frame old new
+      → SpellsReply (opcode_of request.content) bytes (reply_to request) → new ≡ old ++ bytes → AnswersRequest frame old new
+  unreplied : (request : RequestMessage) → Spells frame request → reply_kind_of (opcode_of request.content) ≡ None
+      → new ≡ old → AnswersRequest frame old new

@@ -16,13 +16,13 @@ abbrev pub first_read : Kernel → Kernel
 first_read k = record k { queues = after_read_pending k.queues 0 }
 
 -- A step of the kernel and then a read are refused: either the step is, which changes nothing, or the read after it.
-abbrev pub IsRefused : Kernel → Kernel → Option Refusal → Refusal → Kernel → Type 0
-IsRefused old stepped judged refusal new =
+abbrev pub IsAskRefused : Kernel → Kernel → Option Refusal → Refusal → Kernel → Type 0
+IsAskRefused old stepped judged refusal new =
     ((new ≡ old) × (refusal ≡ or_no_memory judged))
     ⊎ ((new ≡ stepped) × (refusal ≡ or_no_memory (read_refusal stepped 0)))
 
 -- Bytes are written as a reply. What has no head, and what nothing awaits, changes nothing.
-pub record IsWritten (old : Kernel) (bytes : List ℕ) (result : WriteResult) (new : Kernel) : Type 0 where
+pub record WritesReply (old : Kernel) (bytes : List ℕ) (result : WriteResult) (new : Kernel) : Type 0 where
   pub headless : (HasReplyHead bytes → ⊥) → (result ≡ Invalid) × (new ≡ old)
   pub unawaited : HasReplyHead bytes → awaited old (head_unique bytes) ≡ nothing
       → (result ≡ NoEntry) × (new ≡ old)
@@ -38,6 +38,6 @@ once_collected k (Some answer) = record k { vfs = record k.vfs { answers = remov
 pub record IsReplied (old : Kernel) (bytes : List ℕ) (answer : Option (ℕ × Answer)) (new : Kernel) : Type 0 where
   pub result : WriteResult
   pub replied : Kernel
-  pub written : IsWritten old bytes result replied
+  pub written : WritesReply old bytes result replied
   pub first : answer ≡ slice_get replied.vfs.answers 0
   pub after : new ≡ once_collected replied answer

@@ -14,7 +14,7 @@ use Rattle.fuse_spec.specs.declared.WriteResult.{WriteResult}
 use Rattle.fuse_spec.specs.declared.WriteResult.TheVariants.{Accepted, Invalid}
 use Rattle.fuse_frames.specs.ReplyTies.{SaysReply}
 use Rattle.fuse_frames.specs.RequestTies.{SaysRequest}
-use Rattle.fs_server.specs.Effects.{CanTake, PerformsHeld, RefusesFrame, RefusesHeld, WantsMemory}
+use Rattle.fs_server.specs.Effects.{CanTake, PerformsHeld, RefusesFrame, RefusesHeld, TakingNeedsMemory}
 use Rattle.fs_server.specs.Steps.{CanPerform}
 use Rattle.fs_server.specs.declared.server.ServerFault.TheVariants.{Memory}
 use Rattle.callers.specs.declared.virtual_machine.Served.{Served as Came}
@@ -40,7 +40,7 @@ pub data Sends (old : Server) (request : Request) : Option Sent → Server → T
       → PerformsHeld (after_taking old request) request.unique errno copy new → Sends old request copy new
 
 -- A frame spells a request, and this is sent of it.
-pub record Serves (old : Server) (frame : List ℕ) (copy : Option Sent) (new : Server) : Type 0 where
+pub record ServesOne (old : Server) (frame : List ℕ) (copy : Option Sent) (new : Server) : Type 0 where
   pub request : Request
   pub says : SaysRequest frame request
   pub sends : Sends old request copy new
@@ -79,10 +79,10 @@ IsDelivered old copy capacity before came new after = ⊥
 
 -- What became of a frame: a copy of a reply is handed over or has no room, none is sent, none can be sent now, or the
 -- frame is refused.
-abbrev pub IsServed : Server → List ℕ → (capacity : ℕ) → List ℕ → Came → Server → List ℕ → Type 0
-IsServed old frame capacity before NoReply new after = (after ≡ before) × Serves old frame None new
-IsServed old frame capacity before (Waits unique) new after = (after ≡ before) × Holds old frame unique new
-IsServed old frame capacity before (Refused fault) new after = (after ≡ before) × (new ≡ old)
-    × RefusesFrame old frame fault × (fault ≡ Memory → CanTake old frame × WantsMemory old frame)
-IsServed old frame capacity before came new after = (copy : Sent) × (sent : Server) × Serves old frame (Some copy) sent
+abbrev pub IsFrameServed : Server → List ℕ → (capacity : ℕ) → List ℕ → Came → Server → List ℕ → Type 0
+IsFrameServed old frame capacity before NoReply new after = (after ≡ before) × ServesOne old frame None new
+IsFrameServed old frame capacity before (Waits unique) new after = (after ≡ before) × Holds old frame unique new
+IsFrameServed old frame capacity before (Refused fault) new after = (after ≡ before) × (new ≡ old)
+    × RefusesFrame old frame fault × (fault ≡ Memory → CanTake old frame × TakingNeedsMemory old frame)
+IsFrameServed old frame capacity before came new after = (copy : Sent) × (sent : Server) × ServesOne old frame (Some copy) sent
     × IsDelivered sent copy capacity before came new after

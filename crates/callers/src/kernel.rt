@@ -9,7 +9,7 @@ ghost use Rattle.fk_syscalls.specs.Values.{answer_of, call_of};
 ghost use Rattle.fk_kernel.specs.AwaitedReplies.{HasReplyHead, awaited, head_unique, nothing};
 ghost use Rattle.fk_kernel.specs.Refused.{IsPendingRequest, WritePasses, WriteRefused};
 ghost use Rattle.fk_kernel.specs.Refused.{begin_refusal, mount_refusal};
-ghost use Rattle.callers.specs.Asking.{IsRefused, IsReplied, first_read};
+ghost use Rattle.callers.specs.Asking.{IsAskRefused, IsReplied, first_read};
 
 use fk_kernel::{Answer, Call, Kernel, Pick};
 use fuse_frames::RequestFrame;
@@ -23,7 +23,7 @@ pub fn mount<A: Allocator + Copy>(kernel: &mut Kernel<A>) -> Result<RequestFrame
     ensures mounted { OnOk result (kernel.new ≡ first_read (kernel_mounted kernel.old)) }
     ensures judged { OnOk result (mount_refusal kernel.old ≡ None) }
     ensures refused { IfErr result (λ refusal.
-        IsRefused kernel.old (kernel_mounted kernel.old) (mount_refusal kernel.old) refusal kernel.new) }
+        IsAskRefused kernel.old (kernel_mounted kernel.old) (mount_refusal kernel.old) refusal kernel.new) }
 {
     kernel.mount()?;
     kernel.read(Pick::Pending(0))
@@ -37,7 +37,7 @@ pub fn ask<A: Allocator + Copy>(
     ensures request { IfOk result (λ frame. IsPendingRequest (call_put kernel.old (call_of call.now)) 0 frame) }
     ensures begun { OnOk result (kernel.new ≡ first_read (call_put kernel.old (call_of call.now))) }
     ensures judged { OnOk result (begin_refusal kernel.old (call_of call.now) ≡ None) }
-    ensures refused { IfErr result (λ refusal. IsRefused kernel.old (call_put kernel.old (call_of call.now))
+    ensures refused { IfErr result (λ refusal. IsAskRefused kernel.old (call_put kernel.old (call_of call.now))
         (begin_refusal kernel.old (call_of call.now)) refusal kernel.new) }
 {
     kernel.begin(call)?;

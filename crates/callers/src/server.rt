@@ -1,10 +1,10 @@
 //! A FUSE server whose files are one empty directory: it reads request frames and writes replies.
 
 ghost use Rattle.std.specs.Prelude.{◌≡◌, true, OnOk, OnErr, IsTrue, is_some};
-ghost use Rattle.fk_wire.specs.Opcodes.{kind_of, knows, served};
+ghost use Rattle.fk_wire.specs.Opcodes.{reply_kind_of, minor_knows, latest_minor};
 ghost use Rattle.fk_wire.specs.Requests.{opcode_of, request_content, request_message};
 ghost use Rattle.fk_wire.specs.Replies.{GoesWith, reply_message};
-ghost use Rattle.callers.specs.Answered.{Answers, reply_to};
+ghost use Rattle.callers.specs.Answered.{AnswersRequest, reply_to};
 
 use fk_wire::{
     Attr, InitFlags, Reply, ReplyBody, Request, RequestBody, WireFault, read_request, write_reply,
@@ -16,7 +16,7 @@ const ENOSYS: i32 = 38;
 /// Appends the reply to a request frame, which may be any bytes. A FORGET and a BATCH_FORGET have none.
 pub fn answer<A: Allocator>(frame: &[u8], out: &mut Vec<u8, A>) -> Result<(), WireFault>
     // What is appended is a frame that spells the reply to the request, under its number.
-    ensures answered { OnOk result (Answers frame.now out.old.items out.new.items) }
+    ensures answered { OnOk result (AnswersRequest frame.now out.old.items out.new.items) }
     ensures refused { OnErr result (out.new.items ≡ out.old.items) }
 {
     let request = read_request(frame)?;
@@ -30,7 +30,7 @@ pub fn answer<A: Allocator>(frame: &[u8], out: &mut Vec<u8, A>) -> Result<(), Wi
 
 /// Whether a request has a reply.
 fn has_reply(body: &RequestBody<'_>) -> bool
-    ensures { result ≡ is_some (kind_of (opcode_of (request_content body.now))) }
+    ensures { result ≡ is_some (reply_kind_of (opcode_of (request_content body.now))) }
 {
     !matches!(
         body,
@@ -40,10 +40,10 @@ fn has_reply(body: &RequestBody<'_>) -> bool
 
 /// The reply to a request: an agreement on 7.31, the attributes of the root, and for all else that it is not served.
 fn reply_to(request: &Request<'_>) -> Reply<'static>
-    requires known { IsTrue (knows served (opcode_of (request_content request.now.body))) }
-    requires replies { is_some (kind_of (opcode_of (request_content request.now.body))) ≡ true }
+    requires known { IsTrue (minor_knows latest_minor (opcode_of (request_content request.now.body))) }
+    requires replies { is_some (reply_kind_of (opcode_of (request_content request.now.body))) ≡ true }
     ensures reply { reply_message result ≡ reply_to (request_message request.now) }
-    ensures goes { GoesWith served (opcode_of (request_content request.now.body)) (reply_message result) }
+    ensures goes { GoesWith latest_minor (opcode_of (request_content request.now.body)) (reply_message result) }
 {
     let unique = request.unique;
     match request.body {

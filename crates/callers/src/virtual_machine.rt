@@ -2,7 +2,7 @@
 //! handed over.
 
 ghost use Rattle.std.specs.Prelude.{vec_capacity};
-ghost use Rattle.callers.specs.Serving.{IsDelivered, IsServed};
+ghost use Rattle.callers.specs.Serving.{IsDelivered, IsFrameServed};
 
 use fs_server::{Server, ServerFault};
 use fuse_frames::Sent;
@@ -30,7 +30,7 @@ pub fn serve<A: Allocator + Copy>(
     frame: &[u8],
     buffer: &mut Vec<u8, A>,
 ) -> Served
-    ensures { IsServed server.old frame.now (vec_capacity buffer.old) buffer.old.items result server.new
+    ensures { IsFrameServed server.old frame.now (vec_capacity buffer.old) buffer.old.items result server.new
         buffer.new.items }
 {
     let taken = match server.take(frame) {

@@ -4,7 +4,7 @@ ghost use Rattle.std.specs.Prelude.{◌≡◌, ◌||◌, nat_eq};
 ghost use Rattle.std.specs.List.{list_any};
 ghost use Rattle.fuse_spec.specs.Kernel.Kernel.{nodes_of_state};
 ghost use Rattle.fuse_spec.specs.Values.Maps.{values};
-ghost use Rattle.fk_dentry.specs.NamesInForce.{names_the_node};
+ghost use Rattle.fk_dentry.specs.CachedNames.{names_the_node};
 ghost use Rattle.fk_calls.specs.Pins.{pins};
 
 use fk_dentry::Bindings;

@@ -11,9 +11,9 @@ use Rattle.std.proofs.lemmas.List.Sums.{sum_by-cons}
 use Rattle.fuse_spec.specs.declared.Binding.{Binding}
 use Rattle.fuse_spec.specs.Kernel.Kernel.{leads_to}
 use Rattle.fuse_spec.specs.Values.Maps.{Place, NameMap, place_cmp, get_name, put_name, remove_name}
-use Rattle.fk_dentry.specs.Named.{times, named, named_in, uses}
-use Rattle.fk_dentry.specs.NamesInForce.{names_the_node}
-use Rattle.fk_dentry.specs.Rows.{names_in, bound_in}
+use Rattle.fk_dentry.specs.Named.{times, named, nodes_of_name, uses}
+use Rattle.fk_dentry.specs.CachedNames.{names_the_node}
+use Rattle.fk_dentry.specs.Rows.{bound_names, bound_in}
 use Rattle.fk_dentry.proofs.PlaceOrder.{place_total, place_same, apart_places}
 use Rattle.fk_dentry.proofs.NamedIds.{times_cons}
 use Rattle.fk_dentry.proofs.SortedEntries.{both, both_first, both_second, tied_all, none_below}
@@ -21,12 +21,12 @@ use Rattle.fk_dentry.proofs.SortedEntries.{both, both_first, both_second, tied_a
 abbrev pub Slots : Type 0
 Slots = NameMap (Option Binding)
 
-below-names : (x : Place) (slots : Slots) → T (below_all place_cmp x slots) → T (below_all place_cmp x (names_in slots))
+below-names : (x : Place) (slots : Slots) → T (below_all place_cmp x slots) → T (below_all place_cmp x (bound_names slots))
 below-names x [] h = tt
 below-names x ((place, None) ∷ slots) h = below-names x slots (both_second _ _ h)
 below-names x ((place, Some binding) ∷ slots) h = both _ _ (both_first _ _ h) (below-names x slots (both_second _ _ h))
 
-pub sorted_names : (slots : Slots) → T (is_sorted place_cmp slots) → T (is_sorted place_cmp (names_in slots))
+pub sorted_names : (slots : Slots) → T (is_sorted place_cmp slots) → T (is_sorted place_cmp (bound_names slots))
 sorted_names [] h = tt
 sorted_names ((place, None) ∷ slots) h = sorted_names slots (both_second _ _ h)
 sorted_names ((place, Some binding) ∷ slots) h =
@@ -38,26 +38,26 @@ equal Equal e = refl
 equal Greater e = absurd (subst T (sym e) tt)
 
 pub get-names : (slots : Slots) → T (is_sorted place_cmp slots) → (q : Place)
-    → get_name (names_in slots) q ≡ bound_in (get_name slots q)
+    → get_name (bound_names slots) q ≡ bound_in (get_name slots q)
 get-names [] h q = refl
 get-names ((place, None) ∷ slots) h q =
     elim (eq_by_cmp place_cmp q place) as (λ t. eq_by_cmp place_cmp q place ≡ t
-    → get_name (names_in slots) q ≡ bound_in (cond t (Some None) (get_name slots q))) [
+    → get_name (bound_names slots) q ≡ bound_in (cond t (Some None) (get_name slots q))) [
       | true ↦ λ t. get-names slots (both_second _ _ h) q ∙ ap bound_in
           (none_below place_cmp place_total q slots (tied_all place_cmp place_total q place slots (equal _ t)
           (both_first _ _ h)))
       | false ↦ λ t. get-names slots (both_second _ _ h) q
     ] refl
 get-names ((place, Some binding) ∷ slots) h q =
-    elim (eq_by_cmp place_cmp q place) as (λ t. cond t (Some binding) (get_name (names_in slots) q)
+    elim (eq_by_cmp place_cmp q place) as (λ t. cond t (Some binding) (get_name (bound_names slots) q)
     ≡ bound_in (cond t (Some (Some binding)) (get_name slots q))) [
       | true ↦ refl
       | false ↦ get-names slots (both_second _ _ h) q
     ]
 
 alike : (slots : Slots) (names : NameMap Binding) → T (is_sorted place_cmp slots) → T (is_sorted place_cmp names)
-    → ((q : Place) → bound_in (get_name slots q) ≡ get_name names q) → names_in slots ≡ names
-alike slots names h g is = same_entries place_cmp place_total place_same (names_in slots) names
+    → ((q : Place) → bound_in (get_name slots q) ≡ get_name names q) → bound_names slots ≡ names
+alike slots names h g is = same_entries place_cmp place_total place_same (bound_names slots) names
     (sorted_names slots h) g (λ q. get-names slots h q ∙ is q)
 
 pub sorted-put : (slots : Slots) (place : Place) (slot : Option Binding) → T (is_sorted place_cmp slots)
@@ -70,12 +70,12 @@ sorted-remove slots place h = is_sorted-where_key place_cmp (λ other. not (eq_b
 
 -- a name is bound
 pub names-put : (slots : Slots) (place : Place) (binding : Binding) → T (is_sorted place_cmp slots)
-    → names_in (put_name slots place (Some binding)) ≡ put_name (names_in slots) place binding
+    → bound_names (put_name slots place (Some binding)) ≡ put_name (bound_names slots) place binding
 names-put slots place binding h = alike _ _ (sorted-put slots place (Some binding) h)
-    (is_sorted-put place_cmp place_total place binding (names_in slots) (sorted_names slots h)) (λ q.
+    (is_sorted-put place_cmp place_total place binding (bound_names slots) (sorted_names slots h)) (λ q.
     ap bound_in (find-put place_cmp place_total q place (Some binding) slots) ∙ by (eq_by_cmp place_cmp q place) q ∙ ap
     (cond (eq_by_cmp place_cmp q place) (Some binding)) (sym (get-names slots h q))
-    ∙ sym (find-put place_cmp place_total q place binding (names_in slots)))
+    ∙ sym (find-put place_cmp place_total q place binding (bound_names slots)))
   where
     by : (b : Bool) (q : Place) → bound_in (cond b (Some (Some binding)) (get_name slots q))
         ≡ cond b (Some binding) (bound_in (get_name slots q))
@@ -84,7 +84,7 @@ names-put slots place binding h = alike _ _ (sorted-put slots place (Some bindin
 
 -- a name gets room
 pub names-room : (slots : Slots) (place : Place) → T (is_sorted place_cmp slots) → get_name slots place ≡ None
-    → names_in (put_name slots place None) ≡ names_in slots
+    → bound_names (put_name slots place None) ≡ bound_names slots
 names-room slots place h none = alike _ _ (sorted-put slots place None h) (sorted_names slots h) (λ q.
     ap bound_in (find-put place_cmp place_total q place None slots) ∙ at q (eq_by_cmp place_cmp q place) refl ∙ sym
     (get-names slots h q))
@@ -96,19 +96,19 @@ names-room slots place h none = alike _ _ (sorted-put slots place None h) (sorte
 
 -- a name is removed
 pub names-remove : (slots : Slots) (place : Place)
-    → names_in (remove_name slots place) ≡ remove_name (names_in slots) place
+    → bound_names (remove_name slots place) ≡ remove_name (bound_names slots) place
 names-remove [] place = refl
 names-remove ((key, None) ∷ slots) place =
-    elim (eq_by_cmp place_cmp place key) as (λ b. names_in
+    elim (eq_by_cmp place_cmp place key) as (λ b. bound_names
     (cond (not b) ((key, None) ∷ remove_name slots place) (remove_name slots place))
-    ≡ remove_name (names_in slots) place) [
+    ≡ remove_name (bound_names slots) place) [
       | true ↦ names-remove slots place
       | false ↦ names-remove slots place
     ]
 names-remove ((key, Some binding) ∷ slots) place =
-    elim (eq_by_cmp place_cmp place key) as (λ b. names_in
+    elim (eq_by_cmp place_cmp place key) as (λ b. bound_names
     (cond (not b) ((key, Some binding) ∷ remove_name slots place) (remove_name slots place))
-    ≡ cond (not b) ((key, binding) ∷ remove_name (names_in slots) place) (remove_name (names_in slots) place)) [
+    ≡ cond (not b) ((key, binding) ∷ remove_name (bound_names slots) place) (remove_name (bound_names slots) place)) [
       | true ↦ names-remove slots place
       | false ↦ ap (λ names. (key, binding) ∷ names) (names-remove slots place)
     ]
@@ -173,13 +173,13 @@ named_or id directory None = first_or id directory []
 named_or id directory (Some target) = first_or id directory (target ∷ []) ∙ ap (λ b. nat_eq directory id || b)
     (first_or id target [] ∙ or_false (nat_eq target id))
 
-pub named_is : (id : ℕ) (slots : Slots) → nat_lt 0 (uses id slots) ≡ names_the_node id (names_in slots)
+pub named_is : (id : ℕ) (slots : Slots) → nat_lt 0 (uses id slots) ≡ names_the_node id (bound_names slots)
 named_is id [] = refl
 named_is id ((place, None) ∷ slots) =
     let zero_add : 0 + uses id slots ≡ uses id slots = omega arith in
-    ap (nat_lt 0) (sum_by-cons (λ slot. times id (named_in slot)) (place, None) slots ∙ zero_add) ∙ named_is id slots
+    ap (nat_lt 0) (sum_by-cons (λ slot. times id (nodes_of_name slot)) (place, None) slots ∙ zero_add) ∙ named_is id slots
 named_is id ((place, Some binding) ∷ slots) =
-    ap (nat_lt 0) (sum_by-cons (λ slot. times id (named_in slot)) (place, Some binding) slots) ∙ more_or
+    ap (nat_lt 0) (sum_by-cons (λ slot. times id (nodes_of_name slot)) (place, Some binding) slots) ∙ more_or
     (times id (named place.0 binding.target)) (uses id slots)
     ∙ ap (λ b. b || nat_lt 0 (uses id slots)) (named_or id place.0 binding.target) ∙ ap
     (λ b. (nat_eq place.0 id || leads_to id binding.target) || b) (named_is id slots)

@@ -6,7 +6,7 @@ use Rattle.std.specs.List.{IsDistinct, AllByRecursion}
 use Rattle.std.proofs.lemmas.Bool.{eqb-true}
 use Rattle.std.proofs.lemmas.Option.{same_Some, none-some}
 use Rattle.indexmap.specs.IndexMap.{insert_entry}
-use Rattle.fk_dentry.specs.Counts.{weight, count_in, total_in}
+use Rattle.fk_dentry.specs.Counts.{weight, mentions_of, total_in}
 
 abbrev Entries : Type 0
 Entries = List (ℕ × ℕ)
@@ -70,16 +70,16 @@ value_most (e ∷ es) id n is =
       | false ↦ λ f. (let rest = value_most es id n f in omega arith)
     ] is
 
-pub weight-none : (es : Entries) (id : ℕ) → lookup (nat_eq id) es ≡ None → count_in es id ≡ 0
+pub weight-none : (es : Entries) (id : ℕ) → lookup (nat_eq id) es ≡ None → mentions_of es id ≡ 0
 weight-none [] id none = refl
 weight-none (e ∷ es) id none =
     elim (nat_eq id e.0) as (λ b. cond b (Some e.1) (lookup (nat_eq id) es) ≡ None
-    → cond b e.1 0 + count_in es id ≡ 0) [
+    → cond b e.1 0 + mentions_of es id ≡ 0) [
       | true ↦ λ f. absurd (none-some e.1 (sym f))
       | false ↦ λ f. (let rest = weight-none es id f in omega arith)
     ] none
 
-weight-apart : (es : Entries) (id : ℕ) → AllByRecursion (λ y. nat_eq id y ≡ false) (keys_of es) → count_in es id ≡ 0
+weight-apart : (es : Entries) (id : ℕ) → AllByRecursion (λ y. nat_eq id y ≡ false) (keys_of es) → mentions_of es id ≡ 0
 weight-apart [] id apart = refl
 weight-apart (e ∷ es) id apart =
     let rest = weight-apart es id apart.1 in
@@ -88,12 +88,12 @@ weight-apart (e ∷ es) id apart =
 
 -- a node that has an entry has its count
 pub weight-some : (es : Entries) (id n : ℕ) → IsDistinct nat_eq (keys_of es) → lookup (nat_eq id) es ≡ Some n
-    → count_in es id ≡ n
+    → mentions_of es id ≡ n
 unfolding IsDistinct
 weight-some [] id n distinct is = absurd (none-some n is)
 weight-some (e ∷ es) id n distinct is =
     elim (nat_eq id e.0) as (λ b. nat_eq id e.0 ≡ b → cond b (Some e.1) (lookup (nat_eq id) es) ≡ Some n
-    → cond b e.1 0 + count_in es id ≡ n) [
+    → cond b e.1 0 + mentions_of es id ≡ n) [
       | true ↦ λ t f.
           let rest = weight-apart es id (subst (λ x. AllByRecursion (λ y. nat_eq x y ≡ false) (keys_of es))
           (sym (eqb-true id e.0 t)) distinct.0) in

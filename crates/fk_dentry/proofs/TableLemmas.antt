@@ -11,9 +11,9 @@ use Rattle.std.proofs.lemmas.Bool.{cases_lt}
 use Rattle.std.proofs.lemmas.Option.{same_Some, slice_get_past, get_or_from_slice_get, none-some}
 use Rattle.fuse_spec.specs.declared.Binding.{Binding}
 use Rattle.fuse_spec.specs.Values.Maps.{Place, place_cmp, get_name, put_name, remove_name}
-use Rattle.fk_dentry.specs.Named.{times, named, named_by, named_in, uses, mentions}
+use Rattle.fk_dentry.specs.Named.{times, named, named_by, nodes_of_name, uses, mentions}
 use Rattle.fk_dentry.proofs.Places.{place_among, IsEntryOf}
-use Rattle.fk_dentry.specs.Rows.{bound_in, IsTable}
+use Rattle.fk_dentry.specs.Rows.{bound_in, IsNameTable}
 use Rattle.fk_dentry.proofs.PlaceOrder.{place_total, place_same, tied}
 use Rattle.fk_dentry.proofs.SortedEntries.{found, found_is, put_is, set_is, removed_is, absent_is}
 use Rattle.fk_dentry.proofs.BoundNames.{Slots, sorted-put, sorted-remove}
@@ -32,8 +32,8 @@ named_most directory (Some binding) = by binding.target
     by (Some id) = omega arith
 
 mentions_cons : (slot : Place × Option Binding) (slots : Slots)
-    → mentions (slot ∷ slots) ≡ length (named_in slot) + mentions slots
-mentions_cons slot slots = sum_by-cons (λ s. length (named_in s)) slot slots
+    → mentions (slot ∷ slots) ≡ length (nodes_of_name slot) + mentions slots
+mentions_cons slot slots = sum_by-cons (λ s. length (nodes_of_name s)) slot slots
 
 mentions_most : (slots : Slots) → mentions slots ≤ length slots + length slots
 mentions_most [] = omega arith
@@ -45,7 +45,7 @@ mentions_most (slot ∷ slots) =
 
 -- besides what a slot names there is room for two ids
 mentions_room : (slots : Slots) (i : ℕ) (d : Place × Option Binding) → i < length slots
-    → mentions slots + 2 ≤ length (named_in (get_or slots i d)) + (length slots + length slots)
+    → mentions slots + 2 ≤ length (nodes_of_name (get_or slots i d)) + (length slots + length slots)
 mentions_room [] i d lt = absurd (omega arith)
 mentions_room (slot ∷ slots) zero d lt =
     let rest = mentions_most slots in
@@ -68,8 +68,8 @@ module _ {slots : Slots} {key : Place} {place : ℕ} (r : EntryOf slots key plac
   abbrev pub held : List ℕ
   held = named_by key.0 r.entry.1
 
-  pub held_is : named_in (get_or slots place r.entry) ≡ held
-  held_is = ap named_in entry_is ∙ ap (λ (p : Place). named_by p.0 r.entry.1) (sym key_is)
+  pub held_is : nodes_of_name (get_or slots place r.entry) ≡ held
+  held_is = ap nodes_of_name entry_is ∙ ap (λ (p : Place). named_by p.0 r.entry.1) (sym key_is)
 
   pub get_is : T (is_sorted place_cmp slots) → get_name slots key ≡ Some r.entry.1
   get_is h =
@@ -87,10 +87,10 @@ module _ {slots : Slots} {key : Place} {place : ℕ} (r : EntryOf slots key plac
 
   -- ---- through a write and a removal
 
-  module _ {count : ℕ → ℕ} {total capacity : ℕ} (t : IsTable slots count total capacity) where
+  module _ {count : ℕ → ℕ} {total capacity : ℕ} (t : IsNameTable slots count total capacity) where
     pub held_among : (q : ℕ) → times q held ≤ count q
     held_among q =
-        let less = sum_by-remove (λ s. times q (named_in s)) slots place r.entry r.bound in
+        let less = sum_by-remove (λ s. times q (nodes_of_name s)) slots place r.entry r.bound in
         let here = ap (times q) held_is in
         let all = t.named q in
         omega arith
@@ -106,22 +106,22 @@ module _ {slots : Slots} {key : Place} {place : ℕ} (r : EntryOf slots key plac
     pub table-put : (binding : Binding) (after : ℕ → ℕ) (total_after most : ℕ)
         → ((q : ℕ) → after q + times q held ≡ count q + times q (named key.0 binding.target))
         → total_after + length held ≡ total + length (named key.0 binding.target) → capacity ≤ most
-        → IsTable (put_name slots key (Some binding)) after total_after most
+        → IsNameTable (put_name slots key (Some binding)) after total_after most
     table-put binding after total_after most swapped as_many fits = record {
       sorted = sorted-put slots key (Some binding) t.sorted;
       named = λ q.
-          let new : times q (named_in (r.entry.0, Some binding)) ≡ times q (named key.0 binding.target) =
+          let new : times q (nodes_of_name (r.entry.0, Some binding)) ≡ times q (named key.0 binding.target) =
           ap (λ (p : Place). times q (named p.0 binding.target)) (sym key_is) in
-          let set_at = sum_by-set (λ s. times q (named_in s)) slots place (r.entry.0, Some binding) r.entry r.bound in
+          let set_at = sum_by-set (λ s. times q (nodes_of_name s)) slots place (r.entry.0, Some binding) r.entry r.bound in
           let here = ap (times q) held_is in
           let was = t.named q in
           let now = swapped q in
           let is = ap (uses q) (put_there (Some binding)) in
           omega arith;
       many =
-          let new : length (named_in (r.entry.0, Some binding)) ≡ length (named key.0 binding.target) =
+          let new : length (nodes_of_name (r.entry.0, Some binding)) ≡ length (named key.0 binding.target) =
           ap (λ (p : Place). length (named p.0 binding.target)) (sym key_is) in
-          let set_at = sum_by-set (λ s. length (named_in s)) slots place (r.entry.0, Some binding) r.entry r.bound in
+          let set_at = sum_by-set (λ s. length (nodes_of_name s)) slots place (r.entry.0, Some binding) r.entry r.bound in
           let here = ap length held_is in
           let was = t.many in
           let is = ap mentions (put_there (Some binding)) in
@@ -135,18 +135,18 @@ module _ {slots : Slots} {key : Place} {place : ℕ} (r : EntryOf slots key plac
 
     module _ (left : ℕ → ℕ) (total_left most : ℕ) (gone : (q : ℕ) → left q + times q held ≡ count q)
         (fewer : total_left + length held ≡ total) (fits : capacity ≤ most) where
-      pub table-remove : IsTable (remove_name slots key) left total_left most
+      pub table-remove : IsNameTable (remove_name slots key) left total_left most
       table-remove = record {
         sorted = sorted-remove slots key t.sorted;
         named = λ q.
-            let less = sum_by-remove (λ s. times q (named_in s)) slots place r.entry r.bound in
+            let less = sum_by-remove (λ s. times q (nodes_of_name s)) slots place r.entry r.bound in
             let here = ap (times q) held_is in
             let was = t.named q in
             let out = gone q in
             let is = ap (uses q) (remove_there t.sorted) in
             omega arith;
         many =
-            let less = sum_by-remove (λ s. length (named_in s)) slots place r.entry r.bound in
+            let less = sum_by-remove (λ s. length (nodes_of_name s)) slots place r.entry r.bound in
             let here = ap length held_is in
             let was = t.many in
             let is = ap mentions (remove_there t.sorted) in
@@ -190,7 +190,7 @@ module _ (slots : Slots) (key : Place) (slot : Option Binding) (h : T (is_sorted
 -- ---- through a write and a removal under a name
 
 module _ {slots : Slots} {count : ℕ → ℕ} {total capacity : ℕ} (key : Place) where
-  module _ (slot : Option Binding) (t : IsTable slots count total capacity) (is : get_name slots key ≡ Some slot) where
+  module _ (slot : Option Binding) (t : IsNameTable slots count total capacity) (is : get_name slots key ≡ Some slot) where
     r : EntryOf slots key (its_place slots key slot t.sorted is)
     r = (entry_there slots key slot t.sorted is).0
 
@@ -207,7 +207,7 @@ module _ {slots : Slots} {count : ℕ → ℕ} {total capacity : ℕ} (key : Pla
     slot-with : (binding : Binding) (after : ℕ → ℕ) (total_after most : ℕ)
         → ((q : ℕ) → after q + times q (named_by key.0 slot) ≡ count q + times q (named key.0 binding.target))
         → total_after + length (named_by key.0 slot) ≡ total + length (named key.0 binding.target) → capacity ≤ most
-        → IsTable (put_name slots key (Some binding)) after total_after most
+        → IsNameTable (put_name slots key (Some binding)) after total_after most
     slot-with binding after total_after most swapped as_many fits =
         table-put r t binding after total_after most
         (subst (λ (b : Option Binding). (q : ℕ) → after q + times q (named_by key.0 b)
@@ -216,7 +216,7 @@ module _ {slots : Slots} {count : ℕ → ℕ} {total capacity : ℕ} (key : Pla
         ≡ total + length (named key.0 binding.target)) (sym slot_is) as_many)
         fits
 
-  module _ (t : IsTable slots count total capacity) where
+  module _ (t : IsNameTable slots count total capacity) where
     pub bound_among : (q : ℕ) → times q (named_by key.0 (bound_in (get_name slots key))) ≤ count q
     bound_among q = by (get_name slots key) refl
       where
@@ -239,28 +239,28 @@ module _ {slots : Slots} {count : ℕ → ℕ} {total capacity : ℕ} (key : Pla
           ≡ count q + times q (named key.0 binding.target))
           → total_after + length (named_by key.0 (bound_in (get_name slots key)))
           ≡ total + length (named key.0 binding.target) → capacity ≤ most
-          → IsTable (put_name slots key (Some binding)) after total_after most
+          → IsNameTable (put_name slots key (Some binding)) after total_after most
       table-with binding after total_after most swapped as_many fits = by (get_name slots key) refl swapped as_many
         where
           by : (o : Option (Option Binding)) → get_name slots key ≡ o
               → ((q : ℕ) → after q + times q (named_by key.0 (bound_in o))
               ≡ count q + times q (named key.0 binding.target))
               → total_after + length (named_by key.0 (bound_in o)) ≡ total + length (named key.0 binding.target)
-              → IsTable (put_name slots key (Some binding)) after total_after most
+              → IsNameTable (put_name slots key (Some binding)) after total_after most
           by None e swapped as_many = absurd (subst T (sym there ∙ ap is_some e) tt)
           by (Some slot) e swapped as_many = slot-with slot t e binding after total_after most swapped as_many fits
 
     pub table-without : (left : ℕ → ℕ) (total_left most : ℕ)
         → ((q : ℕ) → left q + times q (named_by key.0 (bound_in (get_name slots key))) ≡ count q)
         → total_left + length (named_by key.0 (bound_in (get_name slots key))) ≡ total → capacity ≤ most
-        → IsTable (remove_name slots key) left total_left most
+        → IsNameTable (remove_name slots key) left total_left most
     table-without left total_left most gone fewer fits = by (get_name slots key) refl gone fewer
       where
         by : (o : Option (Option Binding)) → get_name slots key ≡ o
             → ((q : ℕ) → left q + times q (named_by key.0 (bound_in o)) ≡ count q)
             → total_left + length (named_by key.0 (bound_in o)) ≡ total
-            → IsTable (remove_name slots key) left total_left most
-        by None e gone fewer = subst (λ s. IsTable s left total_left most)
+            → IsNameTable (remove_name slots key) left total_left most
+        by None e gone fewer = subst (λ s. IsNameTable s left total_left most)
             (sym (absent_is place_cmp place_total key slots e)) (record {
               sorted = t.sorted;
               named = λ q. (let was = t.named q in let is = gone q in omega arith);
@@ -285,17 +285,17 @@ place_bound key (slot ∷ slots) =
     (slot ∷ slots)) [ true ↦ omega arith | false ↦ omega arith ]
 
 pub table-room : {slots : Slots} {count : ℕ → ℕ} {total capacity : ℕ} (key : Place) (most : ℕ)
-    → IsTable slots count total capacity → get_name slots key ≡ None → length slots + 1 + (length slots + 1) ≤ most
-    → IsTable (put_name slots key None) count total most
+    → IsNameTable slots count total capacity → get_name slots key ≡ None → length slots + 1 + (length slots + 1) ≤ most
+    → IsNameTable (put_name slots key None) count total most
 table-room {slots = slots} key most t none fits = record {
   sorted = sorted-put slots key None t.sorted;
   named = λ q.
-      let more = sum_by-insert (λ s. times q (named_in s)) slots (place_among place_cmp key slots) (key, None) in
+      let more = sum_by-insert (λ s. times q (nodes_of_name s)) slots (place_among place_cmp key slots) (key, None) in
       let was = t.named q in
       let is = ap (uses q) (put_is place_cmp place_total key None slots none) in
       omega arith;
   many =
-      let more = sum_by-insert (λ s. length (named_in s)) slots (place_among place_cmp key slots) (key, None) in
+      let more = sum_by-insert (λ s. length (nodes_of_name s)) slots (place_among place_cmp key slots) (key, None) in
       let was = t.many in
       let is = ap mentions (put_is place_cmp place_total key None slots none) in
       omega arith;

@@ -7,8 +7,8 @@ weight test [] = 0
 weight test (e ∷ es) = cond (test e.0) e.1 0 + weight test es
 
 -- the count of the node, or 0
-abbrev pub count_in : List (ℕ × ℕ) → ℕ → ℕ
-count_in es id = weight (nat_eq id) es
+abbrev pub mentions_of : List (ℕ × ℕ) → ℕ → ℕ
+mentions_of es id = weight (nat_eq id) es
 
 -- the sum of all counts
 abbrev pub total_in : List (ℕ × ℕ) → ℕ

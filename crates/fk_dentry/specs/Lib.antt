@@ -2,4 +2,4 @@ pub mod Rows
 pub mod Keys
 pub mod Named
 pub mod Counts
-pub mod NamesInForce
+pub mod CachedNames

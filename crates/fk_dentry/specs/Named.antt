@@ -15,13 +15,13 @@ abbrev pub named_by : ℕ → Option Binding → List ℕ
 named_by directory None = []
 named_by directory (Some binding) = named directory binding.target
 
-abbrev pub named_in : Place × Option Binding → List ℕ
-named_in slot = named_by slot.0.0 slot.1
+abbrev pub nodes_of_name : Place × Option Binding → List ℕ
+nodes_of_name slot = named_by slot.0.0 slot.1
 
 -- how often bindings name the node
 abbrev pub uses : ℕ → NameMap (Option Binding) → ℕ
-uses id slots = sum_by (λ slot. times id (named_in slot)) slots
+uses id slots = sum_by (λ slot. times id (nodes_of_name slot)) slots
 
 -- how many nodes the bindings name, one that several name so often
 abbrev pub mentions : NameMap (Option Binding) → ℕ
-mentions slots = sum_by (λ slot. length (named_in slot)) slots
+mentions slots = sum_by (λ slot. length (nodes_of_name slot)) slots

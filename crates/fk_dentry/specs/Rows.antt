@@ -14,10 +14,10 @@ module _ {A : Type 0} where
   slots_of (e ∷ es) = put_name (slots_of es) (place_of_key e.0) e.1
 
 -- the names that are bound
-abbrev pub names_in : NameMap (Option Binding) → NameMap Binding
-names_in [] = []
-names_in ((place, None) ∷ slots) = names_in slots
-names_in ((place, Some binding) ∷ slots) = (place, binding) ∷ names_in slots
+abbrev pub bound_names : NameMap (Option Binding) → NameMap Binding
+bound_names [] = []
+bound_names ((place, None) ∷ slots) = bound_names slots
+bound_names ((place, Some binding) ∷ slots) = (place, binding) ∷ bound_names slots
 
 -- the binding in a slot, if there is one
 abbrev pub bound_in : Option (Option Binding) → Option Binding
@@ -25,7 +25,7 @@ bound_in None = None
 bound_in (Some binding) = binding
 
 -- The names rise, each node is counted as often as bindings name it, and there is room for two mentions a name.
-pub record IsTable (slots : NameMap (Option Binding)) (count : ℕ → ℕ) (total capacity : ℕ) : Type 0 where
+pub record IsNameTable (slots : NameMap (Option Binding)) (count : ℕ → ℕ) (total capacity : ℕ) : Type 0 where
   pub sorted : T (is_sorted place_cmp slots)
   pub named : (id : ℕ) → count id ≡ uses id slots
   pub many : total ≡ mentions slots

@@ -2,7 +2,7 @@
 ghost use Rattle.std.specs.Prelude.{◌≡◌, ◌≢◌, ℕ, [], OnOk, IsOk, is_some, vec_len};
 ghost use Rattle.fuse_spec.specs.Values.Maps.{Place, get_name, put_name, remove_name};
 ghost use Rattle.fuse_spec.specs.Calls.Vfs.{valid_at};
-ghost use Rattle.fk_dentry.specs.NamesInForce.{HasRoom, found_of, names_the_node};
+ghost use Rattle.fk_dentry.specs.CachedNames.{HasRoom, found_by, names_the_node};
 
 use crate::found::Found;
 use crate::key::NameKey;
@@ -40,18 +40,18 @@ pub struct Bindings<A: Allocator = Global> {
 }
 
 impl<A: Allocator> Model for Bindings<A> {
-    ghost use Rattle.fk_dentry.specs.Counts.{count_in, total_in};
+    ghost use Rattle.fk_dentry.specs.Counts.{mentions_of, total_in};
     ghost use Rattle.std.specs.Coded.{codes};
-    ghost use Rattle.fk_dentry.specs.NamesInForce.{NamesInForce, names_code};
-    ghost use Rattle.fk_dentry.specs.Rows.{slots_of, names_in, IsTable};
+    ghost use Rattle.fk_dentry.specs.CachedNames.{NamesInForce, names_code};
+    ghost use Rattle.fk_dentry.specs.Rows.{slots_of, bound_names, IsNameTable};
 
     ghost Value = { NamesInForce };
 
     ghost coded = { names_code };
 
-    ghost view = { λ b. record { names = names_in (slots_of b.rows.entries); slots = slots_of b.rows.entries } };
+    ghost view = { λ b. record { names = bound_names (slots_of b.rows.entries); slots = slots_of b.rows.entries } };
 
-    ghost invariant = { λ b. IsTable (slots_of b.rows.entries) (count_in b.nodes.counts.entries)
+    ghost invariant = { λ b. IsNameTable (slots_of b.rows.entries) (mentions_of b.nodes.counts.entries)
         (total_in b.nodes.counts.entries) b.nodes.most };
 }
 
@@ -68,7 +68,7 @@ impl<A: Allocator + Copy> Bindings<A> {
 
     /// What a name leads to at a time in milliseconds: only before its end.
     pub fn find(&self, directory: u64, name: &[u8], now: u64) -> Found
-        ensures { result ≡ found_of (valid_at now (get_name self.now.names (directory, name.now))) }
+        ensures { result ≡ found_by (valid_at now (get_name self.now.names (directory, name.now))) }
     {
         match self.bound(directory, name) {
             Some(binding) if now < binding.until => match binding.target {

@@ -1,7 +1,7 @@
 //! How many bindings name each node.
 ghost use Rattle.std.specs.Prelude.{◌≡◌, ℕ, ◌+◌, ◌^◌, ◌<◌, ◌≤◌, Bool, [], cond, length, nat_eq, nat_lt, OnOk, IsTrue};
 ghost use Rattle.indexmap.specs.IndexMap.{spare};
-ghost use Rattle.fk_dentry.specs.Counts.{weight, count_in, total_in};
+ghost use Rattle.fk_dentry.specs.Counts.{weight, mentions_of, total_in};
 ghost use Rattle.fk_dentry.specs.Named.{times, named, named_by};
 
 use fuse_spec::Binding;
@@ -59,7 +59,7 @@ impl<A: Allocator + Copy> NodeCounts<A> {
 
     /// Whether a binding names the node.
     pub fn contains(&self, id: u64) -> bool
-        ensures { result ≡ nat_lt 0 (count_in self.now.counts.entries id) }
+        ensures { result ≡ nat_lt 0 (mentions_of self.now.counts.entries id) }
     {
         match self.counts.get_index_of(&id) {
             Some(place) => self.counts[place] > 0,
@@ -69,8 +69,8 @@ impl<A: Allocator + Copy> NodeCounts<A> {
 
     fn add(&mut self, id: u64)
         requires { total_in self.old.counts.entries < self.old.most }
-        ensures count { (q : ℕ) → count_in self.new.counts.entries q
-            ≡ count_in self.old.counts.entries q + cond (nat_eq q id) 1 0 }
+        ensures count { (q : ℕ) → mentions_of self.new.counts.entries q
+            ≡ mentions_of self.old.counts.entries q + cond (nat_eq q id) 1 0 }
         ensures total { total_in self.new.counts.entries ≡ total_in self.old.counts.entries + 1 }
         ensures most { self.new.most ≡ self.old.most }
     {
@@ -94,9 +94,9 @@ impl<A: Allocator + Copy> NodeCounts<A> {
     }
 
     fn remove(&mut self, id: u64)
-        requires { 0 < count_in self.old.counts.entries id }
-        ensures count { (q : ℕ) → count_in self.new.counts.entries q + cond (nat_eq q id) 1 0
-            ≡ count_in self.old.counts.entries q }
+        requires { 0 < mentions_of self.old.counts.entries id }
+        ensures count { (q : ℕ) → mentions_of self.new.counts.entries q + cond (nat_eq q id) 1 0
+            ≡ mentions_of self.old.counts.entries q }
         ensures total { total_in self.new.counts.entries + 1 ≡ total_in self.old.counts.entries }
         ensures most { self.new.most ≡ self.old.most }
     {
@@ -107,10 +107,10 @@ impl<A: Allocator + Copy> NodeCounts<A> {
 
     /// A binding replaces another, if there was one.
     pub fn replace(&mut self, directory: u64, old: Option<Binding>, target: Option<u64>)
-        requires named { (q : ℕ) → times q (named_by directory old) ≤ count_in self.old.counts.entries q }
+        requires named { (q : ℕ) → times q (named_by directory old) ≤ mentions_of self.old.counts.entries q }
         requires room { total_in self.old.counts.entries + 2 ≤ self.old.most + length (named_by directory old) }
-        ensures count { (q : ℕ) → count_in self.new.counts.entries q + times q (named_by directory old)
-            ≡ count_in self.old.counts.entries q + times q (named directory target) }
+        ensures count { (q : ℕ) → mentions_of self.new.counts.entries q + times q (named_by directory old)
+            ≡ mentions_of self.old.counts.entries q + times q (named directory target) }
         ensures total { total_in self.new.counts.entries + length (named_by directory old)
             ≡ total_in self.old.counts.entries + length (named directory target) }
         ensures most { self.new.most ≡ self.old.most }
@@ -125,8 +125,8 @@ impl<A: Allocator + Copy> NodeCounts<A> {
     /// A binding is new.
     fn enter(&mut self, directory: u64, target: Option<u64>)
         requires { total_in self.old.counts.entries + 2 ≤ self.old.most }
-        ensures count { (q : ℕ) → count_in self.new.counts.entries q
-            ≡ count_in self.old.counts.entries q + times q (named directory target) }
+        ensures count { (q : ℕ) → mentions_of self.new.counts.entries q
+            ≡ mentions_of self.old.counts.entries q + times q (named directory target) }
         ensures total { total_in self.new.counts.entries
             ≡ total_in self.old.counts.entries + length (named directory target) }
         ensures most { self.new.most ≡ self.old.most }
@@ -140,9 +140,9 @@ impl<A: Allocator + Copy> NodeCounts<A> {
 
     /// A binding is gone, if there was one.
     pub fn leave(&mut self, directory: u64, binding: Option<Binding>)
-        requires { (q : ℕ) → times q (named_by directory binding) ≤ count_in self.old.counts.entries q }
-        ensures count { (q : ℕ) → count_in self.new.counts.entries q + times q (named_by directory binding)
-            ≡ count_in self.old.counts.entries q }
+        requires { (q : ℕ) → times q (named_by directory binding) ≤ mentions_of self.old.counts.entries q }
+        ensures count { (q : ℕ) → mentions_of self.new.counts.entries q + times q (named_by directory binding)
+            ≡ mentions_of self.old.counts.entries q }
         ensures total { total_in self.new.counts.entries + length (named_by directory binding)
             ≡ total_in self.old.counts.entries }
         ensures most { self.new.most ≡ self.old.most }

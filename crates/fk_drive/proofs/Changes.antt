@@ -10,8 +10,8 @@ use Rattle.fk_drive_frames.specs.Agreements.{IsHandedOn}
 use Rattle.fk_drive_frames.specs.Asides.{IsAside}
 use Rattle.fk_drive_frames.specs.OwnRequests.{GivesHandle, IsReleasedir}
 use Rattle.fk_drive.specs.Driven.{driven}
-use Rattle.fk_drive.specs.Driving.{Driven, SendsBytes, Steps, Turn, is_given, opened, opening, releases, sets_aside, waits, writes}
-use Rattle.fk_drive.specs.KernelSteps.{TakesReply}
+use Rattle.fk_drive.specs.Driving.{Driven, SendsFrame, DriveStep, Turn, is_given, opened, opening, releases, sets_aside, waits, writes}
+use Rattle.fk_drive.specs.KernelSteps.{IsReplyTaken}
 use Rattle.fk_drive.specs.declared.connection.Connection.{Connection}
 use Rattle.fk_drive.specs.declared.connection.Directory.{Directory}
 
@@ -36,14 +36,14 @@ module _ {A : Type 0} (kernel : Kernel) (old new : Connection A) where
   noted same turn = ap (λ (c : Connection A). driven kernel c turn) same
 
   pub step_aside : new ≡ record old { asides = new.asides } → (turn : Turn) (frame : List ℕ) → IsAside old.next frame
-      → Steps (driven kernel old turn) (received frame ∷ []) (driven kernel new turn)
+      → DriveStep (driven kernel old turn) (received frame ∷ []) (driven kernel new turn)
   step_aside same turn frame is =
-      subst (λ (s : Driven). Steps (driven kernel old turn) (received frame ∷ []) s) (sym (noted same turn))
+      subst (λ (s : Driven). DriveStep (driven kernel old turn) (received frame ∷ []) s) (sym (noted same turn))
       (sets_aside frame is)
 
   pub step_waits : (frame : Vec ℕ A) → new.waiting.items ≡ old.waiting.items ++ frame ∷ []
       → new ≡ record old { waiting = new.waiting } → (turn : Turn) → (IsAside old.next frame.items → ⊥)
-      → Steps (driven kernel old turn) (received frame.items ∷ []) (driven kernel new turn)
+      → DriveStep (driven kernel old turn) (received frame.items ∷ []) (driven kernel new turn)
   step_waits frame items same turn is =
       let to : driven kernel new turn ≡ state kernel (map bytes old.waiting.items ++ frame.items ∷ []) old.next old.asks
       (map pair old.directories.items) turn =
@@ -51,12 +51,12 @@ module _ {A : Type 0} (kernel : Kernel) (old new : Connection A) where
       ∙ ap (λ (w : List (Vec ℕ A)). state kernel (map bytes w) old.next old.asks (map pair old.directories.items) turn) items
       ∙ ap (λ (w : List (List ℕ)). state kernel w old.next old.asks (map pair old.directories.items) turn)
       (map-append bytes old.waiting.items (frame ∷ [])) in
-      subst (λ (s : Driven). Steps (driven kernel old turn) (received frame.items ∷ []) s) (sym to) (waits frame.items is)
+      subst (λ (s : Driven). DriveStep (driven kernel old turn) (received frame.items ∷ []) s) (sym to) (waits frame.items is)
 
   pub step_given : (request : Request) (own node fh unique : ℕ) → request.unique ≡ unique
       → new.directories.items ≡ old.directories.items ++ (record { unique = unique; opened = record { nodeid = node; fh = fh } }) ∷ []
       → new ≡ record old { directories = new.directories } → (frame : List ℕ) → GivesHandle frame own fh
-      → Steps (driven kernel old (opening request own node)) (received frame ∷ []) (driven kernel new (opened request fh))
+      → DriveStep (driven kernel old (opening request own node)) (received frame ∷ []) (driven kernel new (opened request fh))
   step_given request own node fh unique under items same frame gives =
       let place : Opened = record { nodeid = node; fh = fh } in
       let turn = opened request fh in
@@ -68,7 +68,7 @@ module _ {A : Type 0} (kernel : Kernel) (old new : Connection A) where
       (map-append pair old.directories.items ((record { unique = unique; opened = place }) ∷ []))
       ∙ ap (λ (u : ℕ). state kernel (map bytes old.waiting.items) old.next old.asks
       (map pair old.directories.items ++ (u, place) ∷ []) turn) (sym under) in
-      subst (λ (s : Driven). Steps (driven kernel old (opening request own node)) (received frame ∷ []) s) (sym to)
+      subst (λ (s : Driven). DriveStep (driven kernel old (opening request own node)) (received frame ∷ []) s) (sym to)
       (is_given request own node refl frame fh gives)
 
 -- the first of a list with some, and what is left
@@ -81,12 +81,12 @@ pub step_writes : {A : Type 0} (kernel after : Kernel) (old new : Connection A) 
     → 0 < length old.waiting.items → first ≡ get_or old.waiting.items 0 first
     → new.waiting.items ≡ take 0 old.waiting.items ++ drop 1 old.waiting.items
     → new ≡ record old { waiting = new.waiting } → (turn : Turn) (handed : List ℕ) → IsHandedOn first.items handed
-    → (result : WriteResult) → TakesReply kernel handed result after
-    → Steps (driven kernel old turn) [] (driven after new turn)
+    → (result : WriteResult) → IsReplyTaken kernel handed result after
+    → DriveStep (driven kernel old turn) [] (driven after new turn)
 step_writes {A} kernel after old new first some is rest same turn handed on result takes =
     let split : map bytes old.waiting.items ≡ first.items ∷ map bytes new.waiting.items =
     ap (map bytes) (first_of old.waiting.items new.waiting.items first some is rest) in
-    subst (λ (s : Driven). Steps (driven kernel old turn) [] s)
+    subst (λ (s : Driven). DriveStep (driven kernel old turn) [] s)
     (sym (ap (λ (c : Connection A). driven after c turn) same))
     (writes first.items (map bytes new.waiting.items) split handed on result after takes)
 
@@ -103,8 +103,8 @@ parts_at {X} (a ∷ xs) (suc i) x within is =
 pub step_releases : {A : Type 0} (kernel : Kernel) (old : Connection A) (directories : List Directory) (i : ℕ) (d : Directory)
     → i < length old.directories.items → d ≡ get_or old.directories.items i d
     → directories ≡ take i old.directories.items ++ drop (i + 1) old.directories.items
-    → (turn : Turn) (frame : List ℕ) → IsReleasedir frame old.next d.opened → (log : List Transfer) → SendsBytes frame log
-    → Steps (driven kernel old turn) log (state kernel (map bytes old.waiting.items) (old.next + 2) old.asks
+    → (turn : Turn) (frame : List ℕ) → IsReleasedir frame old.next d.opened → (log : List Transfer) → SendsFrame frame log
+    → DriveStep (driven kernel old turn) log (state kernel (map bytes old.waiting.items) (old.next + 2) old.asks
     (map pair directories) turn)
 step_releases kernel old directories i d within is left turn frame about log sends =
     let before = take i old.directories.items in
@@ -113,6 +113,6 @@ step_releases kernel old directories i d within is left turn frame about log sen
     ap (map pair) (parts_at old.directories.items i d within is) ∙ map-append pair before (d ∷ after) in
     let rest : map pair directories ≡ map pair before ++ map pair after =
     ap (map pair) left ∙ map-append pair before after in
-    subst (λ (ds : List (ℕ × Opened)). Steps (driven kernel old turn) log
+    subst (λ (ds : List (ℕ × Opened)). DriveStep (driven kernel old turn) log
     (state kernel (map bytes old.waiting.items) (old.next + 2) old.asks ds turn)) (sym rest)
     (releases (map pair before) (map pair after) d.unique d.opened split frame about log sends)

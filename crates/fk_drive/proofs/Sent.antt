@@ -8,7 +8,7 @@ use Rattle.fk_wire.specs.Replies.{WrittenReply, empty_reply}
 use Rattle.fuse_device.specs.Transfers.{Transfer}
 use Rattle.fk_drive.specs.Driven.{driven}
 use Rattle.fk_drive.specs.Driving.{Driven, DrivesOver, Turn, answers, idle, unopened}
-use Rattle.fk_drive.specs.KernelSteps.{TakesReply}
+use Rattle.fk_drive.specs.KernelSteps.{IsReplyTaken}
 use Rattle.fk_drive.specs.Sending.{IsDone}
 use Rattle.fk_drive.specs.declared.connection.Connection.{Connection}
 use Rattle.fk_drive.specs.declared.end.DriveEnd.{DriveEnd}
@@ -26,7 +26,7 @@ pub answered : {D A T : Type 0} (logs : D → D → List Transfer → Type 0)
     → DrivesOver logs d e first (driven old connection (unopened request error))
     → OnOk r ((bytes : List ℕ) × (written : WriteResult)
     × WrittenReply (record { unique = unique; error = error; content = empty_reply }) bytes
-    × TakesReply old bytes written new) → OnErr r (new ≡ old)
+    × IsReplyTaken old bytes written new) → OnErr r (new ≡ old)
     → (turn : Turn) × IsDone r turn × DrivesOver logs d e first (driven new connection turn)
 answered logs goes_on stays d e first old new connection request unique under error (Ok _) at (bytes, written, is, takes) _ =
     let reply = subst (λ (u : ℕ). WrittenReply (record { unique = u; error = error; content = empty_reply }) bytes)

@@ -15,8 +15,8 @@ use Rattle.fuse_device.specs.Transfers.{Transfer, received, sent, unsent, stoppe
 use Rattle.fuse_device.specs.declared.device.DeviceEnd.{DeviceEnd}
 use Rattle.fk_drive_frames.specs.Agreements.{IsHandedOn}
 use Rattle.fk_drive_frames.specs.Asides.{IsAside}
-use Rattle.fk_drive.specs.KernelSteps.{ActsAlone, TakesReply}
-use Rattle.fk_drive_frames.specs.OwnRequests.{GivesError, GivesHandle, GivesNothing, IsOpendir, IsReleasedir, Lists, first_own, input_output, not_known}
+use Rattle.fk_drive.specs.KernelSteps.{ActsAlone, IsReplyTaken}
+use Rattle.fk_drive_frames.specs.OwnRequests.{GivesError, GivesHandle, GivesNothing, IsOpendir, IsReleasedir, ListsNode, first_own, eio_error, not_known}
 
 -- What becomes of a request that the kernel's read gave, until it is sent.
 pub data Turn : Type 0 where
@@ -56,74 +56,74 @@ first_driven asks = record {
 }
 
 -- These bytes are sent, with some result, or the device comes to its end at it.
-pub data SendsBytes (bytes : List ℕ) : List Transfer → Type 0 where
-  with_result : (result : WriteResult) → SendsBytes bytes (sent bytes result ∷ [])
-  at_end : (end : DeviceEnd) → SendsBytes bytes (unsent bytes end ∷ [])
+pub data SendsFrame (bytes : List ℕ) : List Transfer → Type 0 where
+  with_result : (result : WriteResult) → SendsFrame bytes (sent bytes result ∷ [])
+  at_end : (end : DeviceEnd) → SendsFrame bytes (unsent bytes end ∷ [])
 
 -- One step, and what goes over the device at it.
-pub data Steps (old : Driven) : List Transfer → Driven → Type 0 where
+pub data DriveStep (old : Driven) : List Transfer → Driven → Type 0 where
   -- The kernel does something without its server.
-  alone : (new : Kernel) → ActsAlone old.kernel new → Steps old [] (record old { kernel = new })
+  alone : (new : Kernel) → ActsAlone old.kernel new → DriveStep old [] (record old { kernel = new })
   -- A request is read from the kernel.
   reads : old.turn ≡ idle → (pick : Pick) → pick_refusal old.kernel pick ≡ None → (request : Request)
-      → IsPicked old.kernel pick request → Steps old [] (record old {
+      → IsPicked old.kernel pick request → DriveStep old [] (record old {
         kernel = record old.kernel { queues = after_pick old.kernel.queues pick };
         turn = picked request;
       })
   -- It is sent, in a frame that spells it.
   sends : (request : Request) → old.turn ≡ picked request → (frame : List ℕ) → SaysRequest frame request
-      → (log : List Transfer) → SendsBytes frame log → Steps old log (record old { turn = idle })
+      → (log : List Transfer) → SendsFrame frame log → DriveStep old log (record old { turn = idle })
   -- Before one that lists a directory, OPENDIR is sent under a number that the kernel never draws.
-  opens : (request : Request) → old.turn ≡ picked request → old.asks ≡ true → (node : ℕ) → Lists request.body node
-      → (frame : List ℕ) → IsOpendir frame old.next node → (log : List Transfer) → SendsBytes frame log
-      → Steps old log (record old { next = old.next + 2; turn = opening request old.next node })
+  opens : (request : Request) → old.turn ≡ picked request → old.asks ≡ true → (node : ℕ) → ListsNode request.body node
+      → (frame : List ℕ) → IsOpendir frame old.next node → (log : List Transfer) → SendsFrame frame log
+      → DriveStep old log (record old { next = old.next + 2; turn = opening request old.next node })
   -- OPENDIR is answered: with an fh; with ENOSYS, and is not asked again; with another error; or with what is no reply to
   -- it, which counts as EIO (this project's rule).
   is_given : (request : Request) (unique node : ℕ) → old.turn ≡ opening request unique node → (frame : List ℕ) (fh : ℕ)
-      → GivesHandle frame unique fh → Steps old (received frame ∷ []) (record old {
+      → GivesHandle frame unique fh → DriveStep old (received frame ∷ []) (record old {
         directories = old.directories ++ (request.unique, record { nodeid = node; fh = fh }) ∷ [];
         turn = opened request fh;
       })
   is_not_known : (request : Request) (unique node : ℕ) → old.turn ≡ opening request unique node → (frame : List ℕ)
       → GivesError frame unique not_known
-      → Steps old (received frame ∷ []) (record old { asks = false; turn = picked request })
+      → DriveStep old (received frame ∷ []) (record old { asks = false; turn = picked request })
   is_refused : (request : Request) (unique node : ℕ) → old.turn ≡ opening request unique node → (frame : List ℕ)
       → (error : ℤ) → error ≢ not_known → GivesError frame unique error
-      → Steps old (received frame ∷ []) (record old { turn = unopened request error })
+      → DriveStep old (received frame ∷ []) (record old { turn = unopened request error })
   is_garbled : (request : Request) (unique node : ℕ) → old.turn ≡ opening request unique node → (frame : List ℕ)
       → HasReplyHead frame → head_unique frame ≡ unique → GivesNothing frame
-      → Steps old (received frame ∷ []) (record old { turn = unopened request input_output })
+      → DriveStep old (received frame ∷ []) (record old { turn = unopened request eio_error })
   -- What lists an open directory is sent with its fh.
   sends_opened : (request : Request) (fh : ℕ) → old.turn ≡ opened request fh → (frame : List ℕ)
-      → SaysRequest frame request → number_at 40 8 frame ≡ fh → (log : List Transfer) → SendsBytes frame log
-      → Steps old log (record old { turn = idle })
+      → SaysRequest frame request → number_at 40 8 frame ≡ fh → (log : List Transfer) → SendsFrame frame log
+      → DriveStep old log (record old { turn = idle })
   -- What lists one that could not be opened is not sent: the kernel takes that error as its reply.
   answers : (request : Request) (error : ℤ) → old.turn ≡ unopened request error → (bytes : List ℕ)
       → WrittenReply (record { unique = request.unique; error = error; content = empty_reply }) bytes
-      → (result : WriteResult) (new : Kernel) → TakesReply old.kernel bytes result new
-      → Steps old [] (record old { kernel = new; turn = idle })
+      → (result : WriteResult) (new : Kernel) → IsReplyTaken old.kernel bytes result new
+      → DriveStep old [] (record old { kernel = new; turn = idle })
   -- A frame is received that is for the kernel: it waits behind those that came before it.
   waits : (frame : List ℕ) → (IsAside old.next frame → ⊥)
-      → Steps old (received frame ∷ []) (record old { waiting = old.waiting ++ frame ∷ [] })
+      → DriveStep old (received frame ∷ []) (record old { waiting = old.waiting ++ frame ∷ [] })
   -- One is received that is not for the kernel, and is set aside.
-  sets_aside : (frame : List ℕ) → IsAside old.next frame → Steps old (received frame ∷ []) old
+  sets_aside : (frame : List ℕ) → IsAside old.next frame → DriveStep old (received frame ∷ []) old
   -- The first frame that waits is written to the kernel.
   writes : (frame : List ℕ) (rest : List (List ℕ)) → old.waiting ≡ frame ∷ rest → (handed : List ℕ)
-      → IsHandedOn frame handed → (result : WriteResult) (new : Kernel) → TakesReply old.kernel handed result new
-      → Steps old [] (record old { kernel = new; waiting = rest })
+      → IsHandedOn frame handed → (result : WriteResult) (new : Kernel) → IsReplyTaken old.kernel handed result new
+      → DriveStep old [] (record old { kernel = new; waiting = rest })
   -- RELEASEDIR of an open directory is sent.
   releases : (before after : List (ℕ × Opened)) (unique : ℕ) (directory : Opened)
       → old.directories ≡ before ++ (unique, directory) ∷ after → (frame : List ℕ)
-      → IsReleasedir frame old.next directory → (log : List Transfer) → SendsBytes frame log
-      → Steps old log (record old { next = old.next + 2; directories = before ++ after })
+      → IsReleasedir frame old.next directory → (log : List Transfer) → SendsFrame frame log
+      → DriveStep old log (record old { next = old.next + 2; directories = before ++ after })
   -- The device comes to its end as a frame is to be received.
-  ends : (end : DeviceEnd) → Steps old (stopped end ∷ []) old
+  ends : (end : DeviceEnd) → DriveStep old (stopped end ∷ []) old
 
 -- All that went over a device is so driven, one step after another.
 pub data Drives (old : Driven) : List Transfer → Driven → Type 0 where
   nothing : Drives old [] old
   next : (before : List Transfer) (mid : Driven) → Drives old before mid → (log : List Transfer) (new : Driven)
-      → Steps mid log new → Drives old (before ++ log) new
+      → DriveStep mid log new → Drives old (before ++ log) new
 
 -- What went over a device from one of its states to another is so driven.
 abbrev pub DrivesOver : {D : Type 0} → (D → D → List Transfer → Type 0) → D → D → Driven → Driven → Type 0

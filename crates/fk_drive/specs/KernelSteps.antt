@@ -13,7 +13,7 @@ use Rattle.fk_kernel.specs.AwaitedReplies.{HasReplyHead, IsReplyWritten, awaited
 use Rattle.fk_kernel.specs.Refused.{IsSignalled, abort_refusal, begin_refusal, drop_refusal, evict_refusal, mount_refusal, signal_refusal, tick_refusal}
 
 -- Bytes are written as a reply. What has no reply's head, and what nothing awaits, changes nothing.
-pub record TakesReply (old : Kernel) (bytes : List ℕ) (result : WriteResult) (new : Kernel) : Type 0 where
+pub record IsReplyTaken (old : Kernel) (bytes : List ℕ) (result : WriteResult) (new : Kernel) : Type 0 where
   pub headless : (HasReplyHead bytes → ⊥) → (result ≡ Invalid) × (new ≡ old)
   pub unawaited : HasReplyHead bytes → awaited old (head_unique bytes) ≡ nothing → (result ≡ NoEntry) × (new ≡ old)
   pub taken : HasReplyHead bytes

@@ -21,7 +21,7 @@ turn_where request unique node NotYet = opening request unique node
 turn_where request unique node (Ended end) = opening request unique node
 
 -- What was said is no error, or one as error replies have it.
-abbrev pub IsNumbered : Awaited → Type 0
-IsNumbered (Said said) = IsErrorSaid said
-IsNumbered NotYet = Unit {0}
-IsNumbered (Ended end) = Unit {0}
+abbrev pub HasErrorNumber : Awaited → Type 0
+HasErrorNumber (Said said) = IsErrorSaid said
+HasErrorNumber NotYet = Unit {0}
+HasErrorNumber (Ended end) = Unit {0}

@@ -2,7 +2,7 @@
 use Rattle.std.specs.Prelude.{◌<◌, vec_capacity, vec_len}
 use Rattle.fk_drive.specs.declared.connection.Connection.{Connection}
 
-pub record HasRoom {A : Type 0} (connection : Connection A) : Type 0 where
+pub record HasRoomForFrame {A : Type 0} (connection : Connection A) : Type 0 where
   pub waiting : vec_len connection.waiting < vec_capacity connection.waiting
   pub asides : vec_len connection.asides < vec_capacity connection.asides
   pub directories : vec_len connection.directories < vec_capacity connection.directories

@@ -4,7 +4,7 @@ use Rattle.fuse_spec.specs.Kernel.Messages.{Request}
 use Rattle.fk_wire.specs.Fields.{number_at}
 use Rattle.fuse_frames.specs.RequestTies.{SaysRequest}
 use Rattle.fuse_device.specs.Transfers.{Transfer}
-use Rattle.fk_drive.specs.Driving.{SendsBytes, Turn, idle}
+use Rattle.fk_drive.specs.Driving.{SendsFrame, Turn, idle}
 use Rattle.fk_drive.specs.declared.end.DriveEnd.{DriveEnd}
 use Rattle.fk_drive.specs.declared.end.NotSent.{NotSent}
 use Rattle.fk_drive.specs.declared.end.NotSent.TheVariants.{Refused, Ended}
@@ -13,14 +13,14 @@ use Rattle.fk_drive.specs.declared.end.NotSent.TheVariants.{Refused, Ended}
 pub record SendsSame (bytes : List ℕ) (log : List Transfer) : Type 0 where
   pub frame : List ℕ
   pub same : (request : Request) → SaysRequest bytes request → SaysRequest frame request
-  pub sends : SendsBytes frame log
+  pub sends : SendsFrame frame log
 
 -- One is sent that says it with this fh.
 pub record SendsListing (bytes : List ℕ) (fh : ℕ) (log : List Transfer) : Type 0 where
   pub frame : List ℕ
   pub same : (request : Request) → SaysRequest bytes request → SaysRequest frame request
   pub handle : number_at 40 8 frame ≡ fh
-  pub sends : SendsBytes frame log
+  pub sends : SendsFrame frame log
 
 -- Once a request is sent there is none to be sent. Where the run came to its end it may still be there.
 abbrev pub IsDone : {T : Type 0} → Result T DriveEnd → Turn → Type 0
@@ -28,7 +28,7 @@ IsDone (Ok _) turn = turn ≡ idle
 IsDone (Err end) turn = Unit {0}
 
 -- Where the kernel refused to be read there is none either.
-abbrev pub IsSent : {T : Type 0} → Result T NotSent → Turn → Type 0
-IsSent (Ok _) turn = turn ≡ idle
-IsSent (Err (Refused refusal)) turn = turn ≡ idle
-IsSent (Err (Ended end)) turn = Unit {0}
+abbrev pub IsRequestSent : {T : Type 0} → Result T NotSent → Turn → Type 0
+IsRequestSent (Ok _) turn = turn ≡ idle
+IsRequestSent (Err (Refused refusal)) turn = turn ≡ idle
+IsRequestSent (Err (Ended end)) turn = Unit {0}

@@ -4,11 +4,11 @@ ghost use Rattle.std.specs.Prelude.{◌≡◌, ◌<◌, ◌^◌, ◌++◌, ◌�
 ghost use Rattle.fuse_spec.specs.Kernel.Kernel.{Kernel as KernelState};
 ghost use Rattle.fuse_spec.specs.Kernel.Messages.{Request};
 ghost use Rattle.fuse_device.specs.Transfers.{received};
-ghost use Rattle.fk_drive_frames.specs.OwnRequests.{Lists, SaysOfOpendir};
+ghost use Rattle.fk_drive_frames.specs.OwnRequests.{ListsNode, SaysOfOpendir};
 ghost use Rattle.fk_drive.specs.Driven.{driven};
-ghost use Rattle.fk_drive.specs.Driving.{DrivesOver, Steps, Turn, opening, picked};
-ghost use Rattle.fk_drive.specs.Openings.{IsNumbered, turn_of, turn_where};
-ghost use Rattle.fk_drive.specs.Rooms.{HasRoom};
+ghost use Rattle.fk_drive.specs.Driving.{DrivesOver, DriveStep, Turn, opening, picked};
+ghost use Rattle.fk_drive.specs.Openings.{HasErrorNumber, turn_of, turn_where};
+ghost use Rattle.fk_drive.specs.Rooms.{HasRoomForFrame};
 
 use crate::connection::{Connection, Directory};
 use crate::end::DriveEnd;
@@ -46,7 +46,7 @@ pub(crate) fn is_opened_first<A: Allocator + Copy>(connection: &Connection<A>) -
 impl<A: Allocator + Copy> Connection<A> {
     /// Puts an open directory behind the others.
     fn put_directory(&mut self, directory: Directory)
-        requires { HasRoom self.old }
+        requires { HasRoomForFrame self.old }
         ensures put { self.new.directories.items ≡ self.old.directories.items ++ directory ∷ [] }
         ensures same { self.new ≡ record self.old { directories = self.new.directories } }
     {
@@ -55,10 +55,10 @@ impl<A: Allocator + Copy> Connection<A> {
 
     /// Takes what the reply to OPENDIR said.
     fn take_said(&mut self, listing: Listing, said: OpendirSaid)
-        requires { HasRoom self.old }
+        requires { HasRoomForFrame self.old }
         ensures { (kernel : KernelState) (request : Request) (own : ℕ) (frame : List ℕ)
             → request.unique ≡ listing.unique → SaysOfOpendir frame own said
-            → Steps (driven kernel self.old (opening request own listing.node)) (received frame ∷ [])
+            → DriveStep (driven kernel self.old (opening request own listing.node)) (received frame ∷ [])
             (driven kernel self.new (turn_of request said)) }
     {
         match said {
@@ -87,7 +87,7 @@ fn receive_said<A: Allocator + Copy, D: Device>(
         → DrivesOver D.logs device.old device.new
         (driven kernel connection.old (opening request own listing.node))
         (driven kernel connection.new (turn_where request own listing.node result)) }
-    ensures number { IsNumbered result }
+    ensures number { HasErrorNumber result }
 {
     if let Err(end) = connection.make_room() {
         return Awaited::Ended(end);
@@ -119,7 +119,7 @@ fn await_opendir<A: Allocator + Copy, D: Device>(
         → DrivesOver D.logs device.old device.new
         (driven kernel connection.old (opening request own listing.node))
         (driven kernel connection.new (turn_where request own listing.node result)) }
-    ensures number { IsNumbered result }
+    ensures number { HasErrorNumber result }
 {
     for _frame in 0..u64::MAX {
         match receive_said(connection, device, own, listing) {
@@ -140,10 +140,10 @@ pub(crate) fn open_directory<A: Allocator + Copy, D: Device>(
     requires asks { connection.old.asks ≡ true }
     requires numbers { connection.old.next < 2 ^ 63 }
     ensures drives { (kernel : KernelState) (request : Request) → request.unique ≡ listing.unique
-        → Lists request.body listing.node → DrivesOver D.logs device.old device.new
+        → ListsNode request.body listing.node → DrivesOver D.logs device.old device.new
         (driven kernel connection.old (picked request))
         (driven kernel connection.new (turn_where request connection.old.next listing.node result)) }
-    ensures number { IsNumbered result }
+    ensures number { HasErrorNumber result }
 {
     let own = connection.next;
     connection.next += 2;

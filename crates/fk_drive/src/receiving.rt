@@ -4,8 +4,8 @@ ghost use Rattle.std.specs.Prelude.{◌≡◌, ◌++◌, ◌∷◌, [], OnOk};
 ghost use Rattle.fuse_spec.specs.Kernel.Kernel.{Kernel as KernelState};
 ghost use Rattle.fuse_device.specs.Transfers.{received};
 ghost use Rattle.fk_drive.specs.Driven.{Keeps, driven};
-ghost use Rattle.fk_drive.specs.Driving.{DrivesOver, Steps, Turn};
-ghost use Rattle.fk_drive.specs.Rooms.{HasRoom};
+ghost use Rattle.fk_drive.specs.Driving.{DrivesOver, DriveStep, Turn};
+ghost use Rattle.fk_drive.specs.Rooms.{HasRoomForFrame};
 
 use crate::connection::Connection;
 use crate::end::DriveEnd;
@@ -18,7 +18,7 @@ impl<A: Allocator + Copy> Connection<A> {
     /// Makes room for one frame: for one that waits, for one that is set aside, and for an open directory.
     pub(crate) fn make_room(&mut self) -> Result<(), DriveEnd>
         ensures same { Keeps self.old self.new }
-        ensures room { OnOk result (HasRoom self.new) }
+        ensures room { OnOk result (HasRoomForFrame self.new) }
     {
         let waiting = self.waiting.reserve(1);
         let asides = self.asides.reserve(1);
@@ -38,7 +38,7 @@ impl<A: Allocator + Copy> Connection<A> {
 
     /// Has a frame wait for the kernel.
     fn have_wait(&mut self, frame: Vec<u8, A>)
-        requires { HasRoom self.old }
+        requires { HasRoomForFrame self.old }
         ensures waits { self.new.waiting.items ≡ self.old.waiting.items ++ frame ∷ [] }
         ensures same { self.new ≡ record self.old { waiting = self.new.waiting } }
     {
@@ -47,8 +47,8 @@ impl<A: Allocator + Copy> Connection<A> {
 
     /// A frame waits for the kernel, or is set aside.
     pub(crate) fn keep(&mut self, frame: Vec<u8, A>)
-        requires { HasRoom self.old }
-        ensures { (kernel : KernelState) (turn : Turn) → Steps (driven kernel self.old turn) (received frame.items ∷ [])
+        requires { HasRoomForFrame self.old }
+        ensures { (kernel : KernelState) (turn : Turn) → DriveStep (driven kernel self.old turn) (received frame.items ∷ [])
             (driven kernel self.new turn) }
     {
         match aside_in(self.next, frame.as_slice()) {

@@ -4,15 +4,15 @@ ghost use Rattle.std.specs.Prelude.{◌≡◌, ◌≤◌, ◌<◌, ◌^◌, ℕ,
 ghost use Rattle.fuse_spec.specs.Kernel.Messages.{Request};
 ghost use Rattle.fuse_spec.specs.declared.WriteResult.{WriteResult};
 ghost use Rattle.fk_wire.specs.Replies.{IsErrorNumber, WrittenReply, empty_reply};
-ghost use Rattle.fk_drive.specs.KernelSteps.{TakesReply};
+ghost use Rattle.fk_drive.specs.KernelSteps.{IsReplyTaken};
 ghost use Rattle.fk_wire.specs.Requests.{RequestMessage, Spells};
 ghost use Rattle.fuse_frames.specs.RequestTies.{SaysRequest};
 ghost use Rattle.fk_drive_frames.specs.Filling.{IsListing};
-ghost use Rattle.fk_drive_frames.specs.OwnRequests.{Lists};
+ghost use Rattle.fk_drive_frames.specs.OwnRequests.{ListsNode};
 ghost use Rattle.fk_drive.specs.Driven.{driven};
 ghost use Rattle.fk_drive.specs.Driving.{DrivesOver, Turn, idle, picked};
-ghost use Rattle.fk_drive.specs.Exchanges.{GoesOver};
-ghost use Rattle.fk_drive.specs.Sending.{IsDone, IsSent, SendsListing, SendsSame};
+ghost use Rattle.fk_drive.specs.Exchanges.{WentOver};
+ghost use Rattle.fk_drive.specs.Sending.{IsDone, IsRequestSent, SendsListing, SendsSame};
 
 use crate::connection::Connection;
 use crate::end::{DriveEnd, NotSent};
@@ -28,7 +28,7 @@ use std::alloc::Allocator;
 /// Sends a request, with what servers want in its free fields.
 fn send_same<D: Device>(device: &mut D, frame: &[u8], choices: Choices) -> Result<(), DriveEnd>
     requires { length frame.now ≤ 4176 }
-    ensures { GoesOver D.logs device.old device.new (SendsSame frame.now) }
+    ensures { WentOver D.logs device.old device.new (SendsSame frame.now) }
 {
     let mut room = [0u8; MAX_FRAME];
     let filled = &mut room[..frame.len()];
@@ -41,7 +41,7 @@ fn send_same<D: Device>(device: &mut D, frame: &[u8], choices: Choices) -> Resul
 fn send_listing<D: Device>(device: &mut D, frame: &[u8], fh: u64) -> Result<(), DriveEnd>
     requires short { length frame.now ≤ 4176 }
     requires lists { (m : RequestMessage) × Spells frame.now m × IsListing m.content }
-    ensures { GoesOver D.logs device.old device.new (SendsListing frame.now fh) }
+    ensures { WentOver D.logs device.old device.new (SendsListing frame.now fh) }
 {
     let mut room = [0u8; MAX_FRAME];
     let filled = &mut room[..frame.len()];
@@ -65,7 +65,7 @@ fn send_opened<A: Allocator + Copy, D: Device>(
     requires asks { connection.old.asks ≡ true }
     requires numbers { connection.old.next < 2 ^ 63 }
     ensures { (request : Request) → SaysRequest frame.now request → request.unique ≡ listing.unique
-        → Lists request.body listing.node → (turn : Turn) × IsDone result turn
+        → ListsNode request.body listing.node → (turn : Turn) × IsDone result turn
         × DrivesOver D.logs device.old device.new (driven kernel.old connection.old (picked request))
         (driven kernel.new connection.new turn) }
 {
@@ -90,7 +90,7 @@ fn answer<A: Allocator + Copy>(
     requires { IsErrorNumber error }
     ensures ok { OnOk result ((bytes : List ℕ) × (written : WriteResult)
         × WrittenReply (record { unique = unique; error = error; content = empty_reply }) bytes
-        × TakesReply kernel.old bytes written kernel.new) }
+        × IsReplyTaken kernel.old bytes written kernel.new) }
     ensures err { OnErr result (kernel.new ≡ kernel.old) }
 {
     match kernel.write(&frame_of_error(unique, error)) {
@@ -141,7 +141,7 @@ pub fn send_next<A: Allocator + Copy, D: Device>(
     pick: Pick,
     choices: Choices,
 ) -> Result<RequestFrame<A>, NotSent>
-    ensures { (turn : Turn) × IsSent result turn × DrivesOver D.logs device.old device.new
+    ensures { (turn : Turn) × IsRequestSent result turn × DrivesOver D.logs device.old device.new
         (driven kernel.old connection.old idle) (driven kernel.new connection.new turn) }
 {
     written_is_spelled();

@@ -4,8 +4,8 @@ ghost use Rattle.std.specs.Prelude.{◌≡◌, ◌<◌, ◌^◌, [], ℕ, List, 
 ghost use Rattle.fuse_spec.specs.Kernel.Kernel.{Kernel as KernelState};
 ghost use Rattle.fk_drive_frames.specs.Agreements.{IsHandedOn};
 ghost use Rattle.fk_drive.specs.Driven.{driven};
-ghost use Rattle.fk_drive.specs.Driving.{DrivesOver, Steps, Turn};
-ghost use Rattle.fk_drive.specs.KernelSteps.{TakesReply};
+ghost use Rattle.fk_drive.specs.Driving.{DrivesOver, DriveStep, Turn};
+ghost use Rattle.fk_drive.specs.KernelSteps.{IsReplyTaken};
 
 use crate::connection::{Connection, Directory};
 use crate::end::DriveEnd;
@@ -37,7 +37,7 @@ fn hand_on<A: Allocator + Copy>(
     frame: &[u8],
 ) -> Result<WriteResult, Refusal>
     ensures ok { IfOk result (λ written. (handed : List ℕ) × IsHandedOn frame.now handed
-        × TakesReply kernel.old handed written kernel.new) }
+        × IsReplyTaken kernel.old handed written kernel.new) }
     ensures err { OnErr result (kernel.new ≡ kernel.old) }
 {
     if is_older_agreement(frame) {
@@ -111,7 +111,7 @@ fn write_first<A: Allocator + Copy>(
     connection: &mut Connection<A>,
 ) -> Result<Written<A>, Refusal>
     requires { 0 < vec_len connection.old.waiting }
-    ensures ok { OnOk result ((turn : Turn) → Steps (driven kernel.old connection.old turn) []
+    ensures ok { OnOk result ((turn : Turn) → DriveStep (driven kernel.old connection.old turn) []
         (driven kernel.new connection.new turn)) }
     ensures err { OnErr result ((kernel.new ≡ kernel.old) × (connection.new ≡ connection.old)) }
 {

@@ -2,7 +2,7 @@
 use Rattle.std.proofs.Common.{◌≡◌, ℕ, ◌≤◌, List, [], ◌∷◌, ◌++◌, length, refl, sym, subst, ◌∙◌, arith}
 use Rattle.std.specs.Int.RustNames.{bit_and}
 use Rattle.fk_wire.specs.Fields.{ReadsAs, bits, free32, free64, named, number_at, u32, u64}
-use Rattle.fk_wire.specs.Opcodes.{served}
+use Rattle.fk_wire.specs.Opcodes.{latest_minor}
 use Rattle.fk_wire.specs.Requests.{RequestContent, RequestMessage, Spells, SpellsAt, create, decoded, header, init, known_flags, opening, readdir, readdirplus, request_fields}
 use Rattle.fuse_spec.specs.Kernel.Messages.{Request}
 use Rattle.fuse_frames.specs.RequestTies.{SaysRequest}
@@ -103,7 +103,7 @@ says_still : Decodes → (old new : List ℕ) (IsKind : RequestContent → Type 
     → Spells new m) → (m : RequestMessage) × Spells old m × IsKind m.content
     → (request : Request) → SaysRequest old request → SaysRequest new request
 says_still decodes old new IsKind still (m, spells, is) request says =
-    let same : m ≡ says.message = sym (decodes served old m spells) ∙ decodes served old says.message says.spells in
+    let same : m ≡ says.message = sym (decodes latest_minor old m spells) ∙ decodes latest_minor old says.message says.spells in
     record {
       message = says.message;
       spells = still says.message (subst (λ (n : RequestMessage). IsKind n.content) same is) says.spells;

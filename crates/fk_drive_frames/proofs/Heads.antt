@@ -3,11 +3,11 @@ use Rattle.std.proofs.Common.{List, ℕ, arith}
 use Rattle.fk_wire.specs.declared.fault.WireFault.{WireFault}
 use Rattle.fk_wire.specs.declared.fault.WireFault.TheVariants as faults
 use Rattle.fk_wire.specs.declared.opcode.Opcode.TheVariants as op
-use Rattle.fk_wire.specs.Opcodes.{served}
+use Rattle.fk_wire.specs.Opcodes.{latest_minor}
 use Rattle.fk_wire.specs.ReplyFaults.{IsReplyHeadFault, ReplyFaultIsAt}
 use Rattle.fuse_frames.specs.DecodedReplies.{HasReplyHead}
 
-pub no_head : (bytes : List ℕ) (f : WireFault) → ReplyFaultIsAt served op.Open bytes f → IsReplyHeadFault f
+pub no_head : (bytes : List ℕ) (f : WireFault) → ReplyFaultIsAt latest_minor op.Open bytes f → IsReplyHeadFault f
     → HasReplyHead bytes → ⊥
 no_head bytes faults.Short short is ((long, stated), error) = omega (arith, short, long)
 no_head bytes faults.Length (long, other) is ((_, stated), error) = other stated

@@ -16,9 +16,9 @@ abbrev pub first_own : ℕ
 first_own = 2 ^ 62
 
 -- A request lists this node: READDIR and READDIRPLUS.
-pub data Lists : RequestBody → ℕ → Type 0 where
-  readdir : (node after size : ℕ) → Lists (asks (operation.readdir node after size)) node
-  readdirplus : (node after size : ℕ) → Lists (asks (operation.readdirplus node after size)) node
+pub data ListsNode : RequestBody → ℕ → Type 0 where
+  readdir : (node after size : ℕ) → ListsNode (asks (operation.readdir node after size)) node
+  readdirplus : (node after size : ℕ) → ListsNode (asks (operation.readdirplus node after size)) node
 
 -- OPENDIR (opcode 27), a struct fuse_open_in: flags, O_DIRECTORY; unused.
 abbrev pub opendir_fields : (unique node : ℕ) → List Field
@@ -54,8 +54,8 @@ GivesNothing bytes = (reply : ReplyMessage) → SpellsReply op.Open bytes reply 
 abbrev pub not_known : ℤ
 not_known = negsuc 37
 
-abbrev pub input_output : ℤ
-input_output = negsuc 4
+abbrev pub eio_error : ℤ
+eio_error = negsuc 4
 
 -- What it says is no error, or one as error replies have it.
 abbrev pub IsErrorSaid : OpendirSaid → Type 0
@@ -69,4 +69,4 @@ abbrev pub SaysOfOpendir : List ℕ → ℕ → OpendirSaid → Type 0
 SaysOfOpendir bytes unique (said.Handle fh) = GivesHandle bytes unique fh
 SaysOfOpendir bytes unique said.NotKnown = GivesError bytes unique not_known
 SaysOfOpendir bytes unique (said.Failed error) = ((error ≢ not_known) × GivesError bytes unique error)
-    ⊎ (HasReplyHead bytes × (head_unique bytes ≡ unique) × GivesNothing bytes × (error ≡ input_output))
+    ⊎ (HasReplyHead bytes × (head_unique bytes ≡ unique) × GivesNothing bytes × (error ≡ eio_error))

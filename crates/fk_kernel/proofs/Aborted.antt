@@ -13,7 +13,7 @@ use Rattle.fuse_spec.specs.declared.Purpose.{Purpose}
 use Rattle.fk_queues.specs.Room.{Room}
 use Rattle.fk_kernel.specs.Soundness.{IsSoundKernel}
 use Rattle.fk_calls.proofs.Answered.{untold}
-use Rattle.fk_kernel.proofs.Files.{no_files}
+use Rattle.fk_kernel.proofs.OpenFilesKept.{no_files}
 use Rattle.fk_kernel.proofs.Nodes.{none_counted}
 
 -- An aborted kernel is sound.

@@ -3,7 +3,7 @@ use Rattle.std.proofs.Common.{◌≡◌, ℕ, ◌+◌, ◌<◌, ◌≤◌, ◌^�
 use Rattle.std.specs.Prelude.{◌||◌, nat_lt, nat_le, not, IfErr, OnOk}
 use Rattle.std.proofs.lemmas.Bool.Decides.{nat_tests}
 use Rattle.fuse_spec.specs.Kernel.Kernel.{Kernel, is_aborted, advanced, closing_of, closed_by, call_begun}
-use Rattle.fuse_spec.specs.Kernel.Refusals.{is_ready, unless, refusal_in, accepted, is_past_end, or_no_memory}
+use Rattle.fuse_spec.specs.Kernel.Refusals.{is_ready, unless, refusal_in, accepted, is_kernel_past_end, or_no_memory}
 use Rattle.fuse_spec.specs.Kernel.Uniques.{numbers_left_from}
 use Rattle.fuse_spec.specs.Calls.Vfs.{CallState, Advance, numbered, begun, asking, answered, no_more}
 use Rattle.fuse_spec.specs.Calls.Answers.{Answer}
@@ -62,7 +62,7 @@ module _ (k : Kernel) (made : Call) (begun_is : IsBegun k made) where
       (nat_eq (numbers_left_from k.queues.next) 0) Exhausted NoMemory
   asks_refusal state ready few low asks =
       let full : nat_le 64 (length k.vfs.calls) ≡ false = grind (arith, nat_tests, few) in
-      let past = ap is_past_end begun_is ∙ ap (λ (a : Advance Opened). is_past_end
+      let past = ap is_kernel_past_end begun_is ∙ ap (λ (a : Advance Opened). is_kernel_past_end
       (advanced k k.vfs.next_call a)) asks ∙ past_end k.queues.next k.vfs.next_call low in
       by_tests _ _ _ _ ready full past
 
@@ -72,7 +72,7 @@ module _ (k : Kernel) (made : Call) (begun_is : IsBegun k made) where
       → begun_refusal k (call_of made) ≡ None
   answered_unrefused a ready few low high ends =
       let full : nat_le 64 (length k.vfs.calls) ≡ false = grind (arith, nat_tests, few) in
-      let past = ap is_past_end begun_is ∙ ap (λ (b : Advance Opened). is_past_end
+      let past = ap is_kernel_past_end begun_is ∙ ap (λ (b : Advance Opened). is_kernel_past_end
       (advanced k k.vfs.next_call b)) ends ∙ none_past_end k.queues.next (k.vfs.next_call + 1) high (omega arith) in
       unrefused _ _ _ ready full past
 

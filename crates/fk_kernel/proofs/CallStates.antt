@@ -16,7 +16,7 @@ use Rattle.fk_syscalls.specs.States.{StandsAt, used_by}
 use Rattle.fk_syscalls.specs.Values.{call_of, ClosesNone}
 use Rattle.fk_syscalls.specs.declared.call.Call.{Call}
 use Rattle.fk_syscalls.specs.declared.call.Call.TheVariants.{Stat, List as Lists, ListPlus, Open, Mkdir, Create, Unlink, Rmdir, Rename, Link, Read, Write, Close}
-use Rattle.fk_kernel.specs.Entries.{MakesName, Makes, mkdirs, links, Creates, Opens, ListsPlus}
+use Rattle.fk_kernel.specs.Entries.{MakesName, Makes, mkdirs, links, Creates, IsOpening, ListsPlus}
 
 pub asked_is : (operation : Operation ℕ Opened) (state : CallState Opened) → StandsAt operation state
     → asked state ≡ operation
@@ -63,7 +63,7 @@ creates_from (create d n) state g valid fh s goes = record { directory = d; name
 creates_from operation state g valid fh s goes = absurd (true≢false (sym goes))
 
 pub opens_from : (operation : Operation ℕ Opened) (state : CallState Opened) (fh : ℕ) → StandsAt operation state
-    → goes_with operation (reply.opened fh) ≡ true → Opens (Some state)
+    → goes_with operation (reply.opened fh) ≡ true → IsOpening (Some state)
 opens_from (opening x) state fh s goes = record { node = x; is = ap Some s }
 opens_from operation state fh s goes = absurd (true≢false (sym goes))
 

@@ -16,7 +16,7 @@ use Rattle.fuse_spec.specs.Values.Maps.{Map, get, put, remove, values}
 use Rattle.fuse_spec.specs.Kernel.QueueCalls.{after_enqueue}
 use Rattle.fuse_spec.specs.Calls.Vfs.{Vfs, answered, numbered}
 use Rattle.fuse_spec.proofs.Tables.{cmp_same, get_put_here}
-use Rattle.fuse_spec.specs.Kernel.Refusals.{is_ready, is_past_end, or_no_memory}
+use Rattle.fuse_spec.specs.Kernel.Refusals.{is_ready, is_kernel_past_end, or_no_memory}
 use Rattle.fuse_spec.specs.Kernel.Uniques.{numbers_left_from}
 use Rattle.fuse_spec.specs.declared.Refusal.TheVariants.{NoMemory, Exhausted}
 use Rattle.std.proofs.lemmas.Bool.Decides.{nat_tests}
@@ -96,12 +96,12 @@ module _ (k : Kernel) (handle : ℕ) (file : Opened) (going : is_aborted k.phase
 
     pub idle_refusal : is_used k handle ≡ false → or_no_memory (begun_refusal k (call.close handle))
         ≡ cond (nat_eq (numbers_left_from k.queues.next) 0) Exhausted NoMemory
-    idle_refusal idle = by_tests _ _ _ _ ready full (ap is_past_end
+    idle_refusal idle = by_tests _ _ _ _ ready full (ap is_kernel_past_end
         (closes_idle idle) ∙ past_end k.queues.next k.vfs.next_call low)
 
     pub used_unrefused : is_used k handle ≡ true → k.queues.next ≤ 2 ^ 62 → begun_refusal k (call.close handle) ≡ None
     used_unrefused used high = unrefused _ _ _ ready full
-        (ap is_past_end (closes_in_use used) ∙ none_past_end k.queues.next (k.vfs.next_call + 1) high (omega arith))
+        (ap is_kernel_past_end (closes_in_use used) ∙ none_past_end k.queues.next (k.vfs.next_call + 1) high (omega arith))
 
 -- a closed file that is used waits, and one that is not is let go
 module _ (k : Kernel) (handle : ℕ) where

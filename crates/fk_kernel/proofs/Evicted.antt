@@ -11,12 +11,12 @@ use Rattle.fuse_spec.specs.Values.Maps.{Map, get, remove, values}
 use Rattle.fuse_spec.specs.Kernel.Kernel.{Kernel, is_live, is_pinned, is_bound}
 use Rattle.fuse_spec.specs.Kernel.Refusals.{unused_found, refusal_in, accepted}
 use Rattle.fk_kernel.specs.Refused.{evict_refusal}
-use Rattle.fk_kernel.specs.Soundness.{AreCounted}
+use Rattle.fk_kernel.specs.Soundness.{CanForgetAll}
 use Rattle.fk_kernel.proofs.Sound.{length_gone}
 
 -- One node fewer is counted, and there is room for one forget fewer.
-pub evicted_counted : (nodes : Map Counted) (node forgets more : ℕ) → AreCounted nodes forgets → get nodes node ≢ None
-    → forgets ≤ more + 1 → AreCounted (remove nodes node) more
+pub evicted_counted : (nodes : Map Counted) (node forgets more : ℕ) → CanForgetAll nodes forgets → get nodes node ≢ None
+    → forgets ≤ more + 1 → CanForgetAll (remove nodes node) more
 evicted_counted nodes node forgets more old there room =
     let fewer = length_gone nodes node there in
     record {

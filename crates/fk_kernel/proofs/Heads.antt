@@ -7,12 +7,12 @@ use Rattle.fk_wire.specs.Replies.{IsErrorNumber}
 use Rattle.fk_wire.specs.declared.fault.WireFault.{WireFault}
 use Rattle.fk_wire.specs.declared.fault.WireFault.TheVariants as faults
 use Rattle.fk_wire.specs.declared.opcode.Opcode.TheVariants as op
-use Rattle.fk_wire.specs.Opcodes.{served}
+use Rattle.fk_wire.specs.Opcodes.{latest_minor}
 use Rattle.fk_wire.specs.ReplyFaults.{HasReplyLength, ReplyFaultIsAt, IsReplyHeadFault}
 use Rattle.fk_kernel.specs.AwaitedReplies.{HasReplyHead}
 use Rattle.fuse_frames.proofs.Sayings.{same_error}
 
-pub no_head : (bytes : List ℕ) (f : WireFault) → ReplyFaultIsAt served op.Getattr bytes f → IsReplyHeadFault f
+pub no_head : (bytes : List ℕ) (f : WireFault) → ReplyFaultIsAt latest_minor op.Getattr bytes f → IsReplyHeadFault f
     → HasReplyHead bytes → ⊥
 no_head bytes faults.Short is head has = omega (arith, is, has.0.0)
 no_head bytes faults.Length is head has = is.1 has.0.1

@@ -18,20 +18,20 @@ use Rattle.fk_lookup_count.proofs.NumberMaps.{sorted-filter}
 use Rattle.fk_kernel.proofs.Sound.{length_put}
 use Rattle.fuse_spec.specs.Values.Numbers.{counter_end}
 use Rattle.fuse_spec.specs.Files.Operations.{DirentPlus}
-use Rattle.fk_nodes.specs.LookedUp.{looked_up_from, AreBelow}
+use Rattle.fk_nodes.specs.LookedUp.{looked_up_from, HaveCountsInRange}
 use Rattle.fk_nodes.proofs.Outs.{one_below, long_from}
-use Rattle.fk_kernel.specs.Soundness.{AreCounted}
+use Rattle.fk_kernel.specs.Soundness.{CanForgetAll}
 
 -- The counts stay within what room there is.
-pub still_counted : (nodes : Map Counted) (forgets more : ℕ) → AreCounted nodes forgets → forgets ≤ more
-    → AreCounted nodes more
+pub still_counted : (nodes : Map Counted) (forgets more : ℕ) → CanForgetAll nodes forgets → forgets ≤ more
+    → CanForgetAll nodes more
 still_counted nodes forgets more counted room = record {
   below = counted.below;
   room = omega (arith, counted.room, room);
 }
 
 -- No node is counted yet.
-pub none_counted : (forgets : ℕ) → AreCounted [] forgets
+pub none_counted : (forgets : ℕ) → CanForgetAll [] forgets
 none_counted forgets = record {
   below = record {
     below = λ id node at.
@@ -42,17 +42,17 @@ none_counted forgets = record {
 }
 
 -- One lookup more is counted.
-pub looked_up_counted : (nodes : Map Counted) (forgets more : ℕ) → AreCounted nodes forgets → length nodes + 1 ≤ more
+pub looked_up_counted : (nodes : Map Counted) (forgets more : ℕ) → CanForgetAll nodes forgets → length nodes + 1 ≤ more
     → (g : NodeEntry) → (counted_more g (get nodes g.nodeid)).count < counter_end
-    → AreCounted (looked_up nodes (g ∷ [])) more
+    → CanForgetAll (looked_up nodes (g ∷ [])) more
 looked_up_counted nodes forgets more counted room g fits =
     let long = length_put nodes g.nodeid (counted_more g (get nodes g.nodeid)) in
     record { below = one_below nodes g counted.below fits; room = omega (arith, long, room) }
 
 -- The names of a list are counted.
 pub listed_counted : (nodes : Map Counted) (more : ℕ) (pairs : List (DirentPlus NodeEntry))
-    → AreBelow (looked_up_from nodes pairs) → length nodes + length pairs ≤ more
-    → AreCounted (looked_up_from nodes pairs) more
+    → HaveCountsInRange (looked_up_from nodes pairs) → length nodes + length pairs ≤ more
+    → CanForgetAll (looked_up_from nodes pairs) more
 listed_counted nodes more pairs below room =
     let long = long_from pairs nodes in
     record { below = below; room = omega (arith, long, room) }

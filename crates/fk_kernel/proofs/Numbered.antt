@@ -3,7 +3,7 @@ use Rattle.std.proofs.Common.{◌≡◌, ℕ, ◌+◌, ◌<◌, ◌≤◌, ◌^�
 use Rattle.std.specs.Prelude.{◌||◌, nat_lt, nat_le, not}
 use Rattle.std.proofs.lemmas.Bool.Decides.{nat_tests}
 use Rattle.fuse_spec.specs.Calls.Begins.{Beginning, faulty, sets_out, uses, closes, beginning}
-use Rattle.fuse_spec.specs.Calls.Calls.{Call, spoken}
+use Rattle.fuse_spec.specs.Calls.Calls.{Call, for_minor}
 use Rattle.fuse_spec.specs.Kernel.Kernel.{Kernel, is_aborted, asking_for, advanced, released, closing_of, closed_by, call_begun}
 use Rattle.fuse_spec.specs.Values.Maps.{get, put}
 use Rattle.fuse_spec.specs.Files.Operations.{Operation}
@@ -60,7 +60,7 @@ by_tests ready full past r f p = rw (r, f, p) refl
 pub exhausted_refused : (k : Kernel) (made : Made) → is_ready k.phase ≡ true → length k.vfs.calls < 64
     → 2 ^ 62 ≤ k.vfs.next_call → Exhausted ≡ or_no_memory (begin_refusal k (call_of made))
 exhausted_refused k made ready few last =
-    let after = call_begun k (spoken k.lists_files (call_of made)) in
+    let after = call_begun k (for_minor k.lists_files (call_of made)) in
     let full : nat_le 64 (length k.vfs.calls) ≡ false = grind (arith, nat_tests, few) in
     by_tests _ _ _ ready full (past after.queues.next after.vfs.next_call k.vfs.next_call
-    (call_numbers k (spoken k.lists_files (call_of made))) last)
+    (call_numbers k (for_minor k.lists_files (call_of made))) last)

@@ -24,24 +24,24 @@ use Rattle.fuse_spec.specs.declared.InterruptReply.{InterruptReply}
 use Rattle.fuse_spec.specs.declared.InterruptReplyEffect.{InterruptReplyEffect}
 use Rattle.fuse_spec.specs.declared.InterruptReplyEffect.TheVariants.{QueuedAgain, TurnedOff, None as NoReplyEffect}
 use Rattle.fuse_spec.specs.declared.Mark.{Mark}
-use Rattle.fuse_spec.specs.Kernel.Refusals.{is_past, is_counted_out}
+use Rattle.fuse_spec.specs.Kernel.Refusals.{is_kernel_past, is_counted_out}
 use Rattle.fk_kernel.specs.Refused.{PassesEnd, WritePasses}
-use Rattle.fk_kernel.specs.AwaitedReplies.{Says, IsNoReply, Means, said, unsaid, wrong_body_to, IsJudged, Awaited, nothing, reply_to, awaited, awaited_by_interrupt}
+use Rattle.fk_kernel.specs.AwaitedReplies.{Says, IsNoReply, ReadsReply, said, unsaid, wrong_body_to, IsJudged, Awaited, nothing, reply_to, awaited, awaited_by_interrupt}
 use Rattle.fk_nodes.proofs.Outs.{or_none, or_first}
 use Rattle.fk_kernel.proofs.Phases.{none_past_end, within_ends}
 use Rattle.fk_kernel.proofs.Replied.{init_is, by_agreement, release_is}
 use Rattle.fuse_frames.proofs.Sayings.{says_one}
-use Rattle.fk_kernel.proofs.Taken.{opcode_in, written_odd, awaited_odd}
+use Rattle.fk_kernel.proofs.RepliesTaken.{opcode_in, written_odd, awaited_odd}
 
 abbrev IsPast : Kernel → ℕ → WireReply → Bool
-IsPast k unique wire = is_past (reply_written k unique wire).1
+IsPast k unique wire = is_kernel_past (reply_written k unique wire).1
 
 -- What was said goes past the end: so does all that the bytes mean.
 pub passes : (k : Kernel) (unique : ℕ) (bytes : List ℕ) (o : Opcode) → IsJudged o → (wire : WireReply)
-    → Says o bytes wire → is_past (reply_written k unique wire).1 ≡ true → PassesEnd k unique bytes (reply_to o)
+    → Says o bytes wire → is_kernel_past (reply_written k unique wire).1 ≡ true → PassesEnd k unique bytes (reply_to o)
 passes k unique bytes o judged wire says past = record { opcode = o; judged = judged; awaits = refl; past = each }
   where
-    each : (other : WireReply) → Means o bytes other → IsPast k unique other ≡ true
+    each : (other : WireReply) → ReadsReply o bytes other → IsPast k unique other ≡ true
     each other (said w s) = subst (λ (x : WireReply). IsPast k unique x ≡ true) (says_one o bytes wire w says s) past
     each other (unsaid none) = absurd (none wire says)
 
@@ -52,14 +52,14 @@ module _ (k : Kernel) (unique : ℕ) (bytes : List ℕ) where
 
   -- nor where what they say does not,
   pub said_passes : (o : Opcode) (wire : WireReply) → Says o bytes wire
-      → is_past (reply_written k unique wire).1 ≡ false → PassesEnd k unique bytes (reply_to o) → ⊥
+      → is_kernel_past (reply_written k unique wire).1 ≡ false → PassesEnd k unique bytes (reply_to o) → ⊥
   said_passes o wire says within p =
       let s = subst (λ (x : Opcode). Says x bytes wire) (ap opcode_in p.awaits) says in
       true≢false (sym (p.past wire (said wire s)) ∙ within)
 
   -- nor where nothing that they may mean does.
   pub none_passes : (o : Opcode) → ((wire : WireReply) → Says o bytes wire
-      → is_past (reply_written k unique wire).1 ≡ false) → is_past (reply_written k unique (wrong_body_to o)).1 ≡ false
+      → is_kernel_past (reply_written k unique wire).1 ≡ false) → is_kernel_past (reply_written k unique (wrong_body_to o)).1 ≡ false
       → PassesEnd k unique bytes (reply_to o) → ⊥
   none_passes o each wrong p = true≢false (sym (p.past (wrong_body_to p.opcode) (unsaid none)) ∙ subst
       (λ (x : Opcode). IsPast k unique (wrong_body_to x) ≡ false) same wrong)
@@ -72,10 +72,10 @@ module _ (k : Kernel) (unique : ℕ) (bytes : List ℕ) where
           let s = subst (λ (x : Opcode). Says x bytes wire) (sym same) says in
           true≢false (sym (p.past wire (said wire says)) ∙ each wire s)
 
-  module _ (same : is_past k ≡ false) where
+  module _ (same : is_kernel_past k ≡ false) where
     -- A reply to an INTERRUPT draws no number,
     marked_within : (original : ℕ) (reply : InterruptReply) (o : Option Mark)
-        → is_past (record k {
+        → is_kernel_past (record k {
           queues = option_map_or (λ m. after_reply_effect k.queues original
               (reply_effect reply m (list_any
               (nat_eq original) k.queues.interrupts) k.queues.interrupts_off)) o k.queues;
@@ -84,12 +84,12 @@ module _ (k : Kernel) (unique : ℕ) (bytes : List ℕ) where
     marked_within original reply (Some m) = by (reply_effect reply m
         (list_any (nat_eq original) k.queues.interrupts) k.queues.interrupts_off)
       where
-        by : (x : InterruptReplyEffect) → is_past (record k { queues = after_reply_effect k.queues original x }) ≡ false
+        by : (x : InterruptReplyEffect) → is_kernel_past (record k { queues = after_reply_effect k.queues original x }) ≡ false
         by QueuedAgain = same
         by TurnedOff = same
         by NoReplyEffect = same
 
-    interrupt_within : (original : ℕ) (wire : WireReply) → is_past (interrupt_replied k original wire).1 ≡ false
+    interrupt_within : (original : ℕ) (wire : WireReply) → is_kernel_past (interrupt_replied k original wire).1 ≡ false
     interrupt_within original (reply.failed errno) =
         marked_within original (interrupt_reply_of errno) (mark_under k.queues original)
     interrupt_within original wire = same
@@ -102,7 +102,7 @@ module _ (k : Kernel) (unique : ℕ) (bytes : List ℕ) where
           (within (wrong_body_to op.Interrupt))
         where
           within : (wire : WireReply) → IsPast k unique wire ≡ false
-          within wire = ap (λ (r : WriteResult × Kernel). is_past r.1)
+          within wire = ap (λ (r : WriteResult × Kernel). is_kernel_past r.1)
               (written_odd k unique odd wire purpose waits) ∙ interrupt_within (unique - 1) wire
 
       pub odd_passes : PassesEnd k unique bytes (awaited k unique) → ⊥
@@ -114,13 +114,13 @@ module _ (k : Kernel) (unique : ℕ) (bytes : List ℕ) where
       pub init_passes : waiting k.queues unique ≡ Some Init → PassesEnd k unique bytes (reply_to op.Init) → ⊥
       init_passes waits = none_passes op.Init (λ wire says. within wire) (within (wrong_body_to op.Init))
         where
-          by : (wire : WireReply) (b : Bool) → is_past (by_agreement k unique even waits wire b) ≡ false
+          by : (wire : WireReply) (b : Bool) → is_kernel_past (by_agreement k unique even waits wire b) ≡ false
           by wire true = same
           by wire false = or_none _ false (none_past_end 2 k.vfs.next_call (lit≤ tt)
               (within_ends k.queues.next k.vfs.next_call (or_first _ (is_counted_out k.nodes) same)).1) refl
 
           within : (wire : WireReply) → IsPast k unique wire ≡ false
-          within wire = ap (λ (r : WriteResult × Kernel). is_past r.1) (init_is k unique even waits wire) ∙ by wire
+          within wire = ap (λ (r : WriteResult × Kernel). is_kernel_past r.1) (init_is k unique even waits wire) ∙ by wire
               (is_agreement wire)
 
       pub release_passes : (opened : Opened) → waiting k.queues unique ≡ Some (Release opened)
@@ -129,7 +129,7 @@ module _ (k : Kernel) (unique : ℕ) (bytes : List ℕ) where
           (within (wrong_body_to op.Release))
         where
           within : (wire : WireReply) → IsPast k unique wire ≡ false
-          within wire = ap (λ (r : WriteResult × Kernel). is_past r.1)
+          within wire = ap (λ (r : WriteResult × Kernel). is_kernel_past r.1)
               (release_is k unique opened even waits wire) ∙ same
 
 -- A wrong body goes with no operation of a call.

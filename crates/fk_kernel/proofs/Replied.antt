@@ -15,14 +15,14 @@ use Rattle.fuse_spec.specs.Files.Operations as reply
 use Rattle.fuse_spec.specs.Files.Operations.{Operation, lookup, getattr, mkdir, create, unlink, rmdir, rename, link, opening, readdir, readdirplus, read, write, Dirent, DirentPlus}
 use Rattle.fuse_spec.specs.Calls.Paths.{Name}
 use Rattle.fuse_spec.specs.Kernel.QueueCalls.{waiting, without, after_forget}
-use Rattle.fuse_spec.specs.Kernel.Replies.{Use, usable, useless, stale, first_use, use_of, looked_up, judged, reply_received, goes_with, kernel_reply, reply_written, request_reply_written, replied_to_call, replied, interrupt_reply_written, write_result_of, is_empty_reply, is_init_reply, is_agreement, made_ready}
+use Rattle.fuse_spec.specs.Kernel.Replies.{Use, usable, unusable, stale, first_use, use_of, looked_up, judged, reply_received, goes_with, kernel_reply, reply_written, request_reply_written, replied_to_call, replied, interrupt_reply_written, write_result_of, is_empty_reply, is_init_reply, is_agreement, made_ready}
 use Rattle.fuse_spec.specs.Calls.Vfs.{Vfs, Advance, CallState, walking, doing, using, asked, answered, bound, opened_by, walks_on, no_more}
 use Rattle.fuse_spec.specs.Calls.Walks.{WalkPlan}
 use Rattle.fk_syscalls.specs.States.{StandsAt}
 use Rattle.fk_calls.specs.Names.{names_left}
 use Rattle.fk_kernel.specs.Entries.{Awaits, EndsPast, MakesName, mkdirs, links}
 use Rattle.fk_kernel.specs.AwaitedReplies.{IsJudged}
-use Rattle.fuse_spec.specs.Kernel.Refusals.{is_past, is_past_end, is_counted_out}
+use Rattle.fuse_spec.specs.Kernel.Refusals.{is_kernel_past, is_kernel_past_end, is_counted_out}
 use Rattle.fk_kernel.proofs.Closes.{released_some}
 use Rattle.fk_kernel.proofs.Walking.{asks_past}
 use Rattle.fuse_spec.specs.declared.WriteResult.{WriteResult}
@@ -224,7 +224,7 @@ module _ (k : Kernel) (unique call : ℕ) (even : nat_eq (unique % 2) 1 ≡ fals
 
   -- an entry that can't be used
   module _ (g : Entry) (valid : ℕ) (aw : Awaits (get k.vfs.calls call) (reply.found g valid)) where
-    pub found_useless : use_of k.nodes g ≡ useless → reply_written k unique (reply.found g valid)
+    pub found_useless : use_of k.nodes g ≡ unusable → reply_written k unique (reply.found g valid)
         ≡ (Accepted, ended k unique k.vfs call (answer.failed 5))
     found_useless is =
         goes_is (reply.found g valid) aw ∙ ap (λ (u : Use). (Accepted, judged_so aw.state (reply.found g valid) u)) is
@@ -277,7 +277,7 @@ module _ (k : Kernel) (unique call : ℕ) (even : nat_eq (unique % 2) 1 ≡ fals
 
   module _ (directory : ℕ) (name : Name) (at : get k.vfs.calls call ≡ Some (doing (create directory name))) (g : Entry)
       (valid fh : ℕ) where
-    pub create_useless : use_of k.nodes g ≡ useless → reply_written k unique (reply.created g valid fh)
+    pub create_useless : use_of k.nodes g ≡ unusable → reply_written k unique (reply.created g valid fh)
         ≡ (Accepted, ended k unique k.vfs call (answer.failed 5))
     create_useless is = stands (doing (create directory name)) at (reply.created g valid fh) ∙ ap
         (λ (u : Use). (Accepted, judged_so (doing (create directory name)) (reply.created g valid fh) u)) is
@@ -451,21 +451,21 @@ module _ (k : Kernel) (unique call : ℕ) (even : nat_eq (unique % 2) 1 ≡ fals
   abbrev over : answer.Answer → Kernel
   over a = ended k unique k.vfs call a
 
-  let_go : (a : answer.Answer) → is_past_end (after_use (over a) (using p.handle p.operation)) ≡ true
+  let_go : (a : answer.Answer) → is_kernel_past_end (after_use (over a) (using p.handle p.operation)) ≡ true
   let_go a = closed_some (get k.closing p.handle) refl p.closed
     where
       closed_some : (o : Option Opened) → get k.closing p.handle ≡ o → is_some o ≡ true
-          → is_past_end (released_if_idle (over a) p.handle) ≡ true
+          → is_kernel_past_end (released_if_idle (over a) p.handle) ≡ true
       closed_some None at is = absurd (true≢false (sym is))
-      closed_some (Some file) at is = ap is_past_end (released_some (over a) p.handle file at p.idle) ∙ asks_past
+      closed_some (Some file) at is = ap is_kernel_past_end (released_some (over a) p.handle file at p.idle) ∙ asks_past
           (over a) call (Some p.operation) refl p.none_left
 
-  ends_past_end : (wire : WireReply) → is_past_end (reply_written k unique wire).1 ≡ true
+  ends_past_end : (wire : WireReply) → is_kernel_past_end (reply_written k unique wire).1 ≡ true
   ends_past_end wire = by (goes_with p.operation wire) refl
     where
-      by : (b : Bool) → goes_with p.operation wire ≡ b → is_past_end (reply_written k unique wire).1 ≡ true
+      by : (b : Bool) → goes_with p.operation wire ≡ b → is_kernel_past_end (reply_written k unique wire).1 ≡ true
       by true goes =
-          ap (λ (r : WriteResult × Kernel). is_past_end r.1)
+          ap (λ (r : WriteResult × Kernel). is_kernel_past_end r.1)
           (plain_is k unique call even waits wire (uses_plain p.operation p.handle s wire goes)
           (record {
             operation = p.operation;
@@ -475,8 +475,8 @@ module _ (k : Kernel) (unique call : ℕ) (even : nat_eq (unique % 2) 1 ≡ fals
             goes = goes;
           }))
           ∙ let_go (answer_by wire)
-      by false goes = ap (λ (r : WriteResult × Kernel). is_past_end r.1)
+      by false goes = ap (λ (r : WriteResult × Kernel). is_kernel_past_end r.1)
           (wrong_is k unique call even waits (using p.handle p.operation) p.is wire goes) ∙ let_go (answer.failed 5)
 
-  pub ends_over : (wire : WireReply) → is_past (reply_written k unique wire).1 ≡ true
+  pub ends_over : (wire : WireReply) → is_kernel_past (reply_written k unique wire).1 ≡ true
   ends_over wire = ap (λ (b : Bool). b || is_counted_out (reply_written k unique wire).1.nodes) (ends_past_end wire)

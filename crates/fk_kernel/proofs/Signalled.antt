@@ -26,7 +26,7 @@ use Rattle.fk_queues.specs.Room.{Room, KeepsRoom}
 use Rattle.fk_kernel.specs.Entries.{EndsPast}
 use Rattle.std.specs.Prelude.{Result}
 use Rattle.fuse_spec.specs.declared.Refusal.{Refusal}
-use Rattle.fuse_spec.specs.Kernel.Refusals.{unless, found, refusal_in, accepted, is_past_end}
+use Rattle.fuse_spec.specs.Kernel.Refusals.{unless, found, refusal_in, accepted, is_kernel_past_end}
 use Rattle.fk_kernel.specs.Refused.{within_counters, signal_refusal, IsSignalled}
 use Rattle.fk_kernel.specs.Soundness.{IsSoundKernel}
 use Rattle.fk_kernel.proofs.Closes.{released_some}
@@ -136,20 +136,20 @@ module _ (k : Kernel) (call unique : ℕ) (fatal : Bool) (current : request_of k
   abbrev over : Kernel
   over = record k { vfs = answered k.vfs call (failed eintr); queues = after_dequeue k.queues unique }
 
-  let_go : is_past_end (after_use over (using p.handle p.operation)) ≡ true
+  let_go : is_kernel_past_end (after_use over (using p.handle p.operation)) ≡ true
   let_go = closed_some (get k.closing p.handle) refl p.closed
     where
       closed_some : (o : Option Opened) → get k.closing p.handle ≡ o → is_some o ≡ true
-          → is_past_end (released_if_idle over p.handle) ≡ true
+          → is_kernel_past_end (released_if_idle over p.handle) ≡ true
       closed_some None at is = absurd (true≢false (sym is))
-      closed_some (Some file) at is = ap is_past_end (released_some over p.handle file at p.idle) ∙ asks_past over call
+      closed_some (Some file) at is = ap is_kernel_past_end (released_some over p.handle file at p.idle) ∙ asks_past over call
           (Some p.operation) refl p.none_left
 
-  past : is_past_end (call_signalled k call (using p.handle p.operation) fatal).1 ≡ true
+  past : is_kernel_past_end (call_signalled k call (using p.handle p.operation) fatal).1 ≡ true
   past =
-      ap (λ (r : IntrEffect × Kernel). is_past_end r.1)
+      ap (λ (r : IntrEffect × Kernel). is_kernel_past_end r.1)
       (requested k call (using p.handle p.operation) fatal unique current)
-      ∙ ap (λ (e : IntrEffect). is_past_end (after_signal (record k { queues = after_effect k.queues unique e }) call
+      ∙ ap (λ (e : IntrEffect). is_kernel_past_end (after_signal (record k { queues = after_effect k.queues unique e }) call
       (using p.handle p.operation) e)) effect ∙ let_go
 
   pub exhausted : is_live k.phase ≡ true → signal_refusal k call fatal ≡ Some Exhausted

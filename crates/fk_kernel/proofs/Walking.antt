@@ -9,7 +9,7 @@ use Rattle.fuse_spec.specs.Kernel.Uniques.{numbers_left_from}
 use Rattle.fuse_spec.specs.Calls.Paths.{Name}
 use Rattle.fuse_spec.specs.Calls.Vfs.{Vfs, look, after_walk, walks_on}
 use Rattle.fuse_spec.specs.Calls.Walks.{WalkPlan, Walked, looks_up, finds_none, asks, walk}
-use Rattle.fuse_spec.specs.Kernel.Refusals.{is_past_end}
+use Rattle.fuse_spec.specs.Kernel.Refusals.{is_kernel_past_end}
 use Rattle.fk_kernel.proofs.Phases.{none_past_end}
 
 ends : (unique call : ℕ) → (2 ^ 62 - unique) / 2 ≡ 0 → (nat_lt (2 ^ 62) (unique + 2) || nat_lt (2 ^ 62) call) ≡ true
@@ -17,14 +17,14 @@ ends unique call none = grind (arith, nat_tests)
 
 -- one more request is past the end where no number is left
 pub asks_past : (k : Kernel) (call : ℕ) (operation : Option (Operation ℕ Opened)) → is_some operation ≡ true
-    → numbers_left_from k.queues.next ≡ 0 → is_past_end (asking_for k call operation) ≡ true
+    → numbers_left_from k.queues.next ≡ 0 → is_kernel_past_end (asking_for k call operation) ≡ true
 asks_past k call None some none = absurd (true≢false (sym some))
 asks_past k call (Some operation) some none = ends k.queues.next k.vfs.next_call none
 
 -- and is not where one is left
 pub asks_within : (k : Kernel) (call : ℕ) (operation : Option (Operation ℕ Opened)) → k.queues.next ≤ 2 ^ 62
     → k.vfs.next_call ≤ 2 ^ 62 → (is_some operation ≡ true → 0 < numbers_left_from k.queues.next)
-    → is_past_end (asking_for k call operation) ≡ false
+    → is_kernel_past_end (asking_for k call operation) ≡ false
 asks_within k call None low few left = none_past_end k.queues.next k.vfs.next_call low few
 asks_within k call (Some operation) low few left =
     let more : 0 < numbers_left_from k.queues.next = left refl in

@@ -51,9 +51,9 @@ wrong_body_to op.Init = reply.done
 wrong_body_to o = wrong_body
 
 -- The bytes say this, or they say nothing, which is taken as a body that is no reply to the request.
-pub data Means (o : Opcode) (bytes : List ℕ) : WireReply → Type 0 where
-  said : (wire : WireReply) → Says o bytes wire → Means o bytes wire
-  unsaid : IsNoReply o bytes → Means o bytes (wrong_body_to o)
+pub data ReadsReply (o : Opcode) (bytes : List ℕ) : WireReply → Type 0 where
+  said : (wire : WireReply) → Says o bytes wire → ReadsReply o bytes wire
+  unsaid : IsNoReply o bytes → ReadsReply o bytes (wrong_body_to o)
 
 -- The kinds of request whose replies are judged: all that the kernel sends and that await a reply.
 abbrev pub IsJudged : Opcode → Type 0

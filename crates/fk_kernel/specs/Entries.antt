@@ -8,7 +8,7 @@ use Rattle.fuse_spec.specs.Kernel.Messages.{WireReply}
 use Rattle.fuse_spec.specs.Files.Operations.{Operation, lookup, mkdir, create, link, opening, readdirplus, files_in_reply}
 use Rattle.fuse_spec.specs.Files.Operations as reply
 use Rattle.fuse_spec.specs.Calls.Paths.{Name}
-use Rattle.fuse_spec.specs.Kernel.Replies.{Use, usable, useless, stale, goes_with, looked_up, reply_judged, use_of_reply}
+use Rattle.fuse_spec.specs.Kernel.Replies.{Use, usable, unusable, stale, goes_with, looked_up, reply_judged, use_of_reply}
 use Rattle.fuse_spec.specs.declared.Counted.{Counted}
 use Rattle.fuse_spec.specs.declared.Entry.{Entry}
 use Rattle.fuse_spec.specs.Kernel.Uniques.{numbers_left_from}
@@ -25,7 +25,7 @@ pub record Awaits (standing : Option (CallState Opened)) (wire : WireReply) : Ty
   pub goes : goes_with operation wire ≡ true
 
 -- The call looks up a word.
-pub record LooksUp (standing : Option (CallState Opened)) : Type 0 where
+pub record StandsAtLookup (standing : Option (CallState Opened)) : Type 0 where
   pub directory : ℕ
   pub word : Name
   pub words : List Name
@@ -50,7 +50,7 @@ pub record Creates (standing : Option (CallState Opened)) : Type 0 where
   pub is : standing ≡ Some (doing (create directory name))
 
 -- The call opens a file.
-pub record Opens (standing : Option (CallState Opened)) : Type 0 where
+pub record IsOpening (standing : Option (CallState Opened)) : Type 0 where
   pub node : ℕ
   pub is : standing ≡ Some (doing (opening node))
 
@@ -80,9 +80,9 @@ pub record ListsPlus (standing : Option (CallState Opened)) : Type 0 where
 -- The counts after the entries of a reply that are judged so.
 abbrev pub looked_up_by_all : Map Counted → List Entry → Use → Map Counted
 looked_up_by_all nodes entries usable = looked_up nodes entries
-looked_up_by_all nodes entries useless = nodes
+looked_up_by_all nodes entries unusable = nodes
 looked_up_by_all nodes entries (stale node) = nodes
 
 -- The counts after a reply that goes with what a call asked.
-abbrev pub nodes_heard : Map Counted → WireReply → Map Counted
-nodes_heard nodes wire = looked_up_by_all nodes (files_in_reply (reply_judged nodes wire)) (use_of_reply nodes wire)
+abbrev pub nodes_after_reply : Map Counted → WireReply → Map Counted
+nodes_after_reply nodes wire = looked_up_by_all nodes (files_in_reply (reply_judged nodes wire)) (use_of_reply nodes wire)

@@ -1,13 +1,13 @@
 -- Which refusal each call of the kernel gets: that of the definitions, then that of a counter which would pass its end.
 -- Want of memory comes last. And what each comes to where it has none.
 use Rattle.std.specs.Prelude.{◌≡◌, ℕ, List, Bool, true, Option, Some, Result, ◌∷◌}
-use Rattle.fuse_spec.specs.Calls.Calls.{Call, spoken}
+use Rattle.fuse_spec.specs.Calls.Calls.{Call, for_minor}
 use Rattle.fuse_spec.specs.Kernel.Kernel.{Kernel, body_of, call_begun, call_signalled, forgets_read}
-use Rattle.fuse_spec.specs.Kernel.Refusals.{unless, refusal_in, accepted, is_past_end, is_past, when_live, to_mount, to_call, to_pass, to_read_interrupt, to_read_forgets, to_read_pending, to_signal, to_drop, to_evict}
+use Rattle.fuse_spec.specs.Kernel.Refusals.{unless, refusal_in, accepted, is_kernel_past_end, is_kernel_past, when_live, to_mount, to_call, to_pass, to_read_interrupt, to_read_forgets, to_read_pending, to_signal, to_drop, to_evict}
 use Rattle.fk_wire.specs.declared.opcode.Opcode.{Opcode}
 use Rattle.fuse_spec.specs.Kernel.Messages.{Request, WireReply, interrupt, Forget}
 use Rattle.fuse_spec.specs.Kernel.Replies.{reply_written}
-use Rattle.fk_kernel.specs.AwaitedReplies.{Awaited, reply_to, awaited, HasReplyHead, head_unique, IsJudged, Means}
+use Rattle.fk_kernel.specs.AwaitedReplies.{Awaited, reply_to, awaited, HasReplyHead, head_unique, IsJudged, ReadsReply}
 use Rattle.fuse_spec.specs.Kernel.QueueCalls.{pending_at, after_read_forgets}
 use Rattle.fuse_spec.specs.declared.Purpose.{Purpose}
 use Rattle.fuse_spec.specs.declared.Refusal.{Refusal}
@@ -22,7 +22,7 @@ use Rattle.fuse_spec.specs.World.Worlds.{forget_body}
 
 -- nothing more refuses it but a counter that would have given a number past its end
 abbrev pub within_counters : Kernel → Result (Unit {0}) Refusal
-within_counters after = unless (is_past_end after) Exhausted accepted
+within_counters after = unless (is_kernel_past_end after) Exhausted accepted
 
 abbrev pub mount_refusal : Kernel → Option Refusal
 mount_refusal k = refusal_in (to_mount k accepted)
@@ -32,7 +32,7 @@ abbrev pub begun_refusal : Kernel → Call → Option Refusal
 begun_refusal k call = refusal_in (to_call k (within_counters (call_begun k call)))
 
 abbrev pub begin_refusal : Kernel → Call → Option Refusal
-begin_refusal k call = begun_refusal k (spoken k.lists_files call)
+begin_refusal k call = begun_refusal k (for_minor k.lists_files call)
 
 -- of a read of the pending request at a place
 abbrev pub read_refusal : Kernel → ℕ → Option Refusal
@@ -79,7 +79,7 @@ pub record PassesEnd (k : Kernel) (unique : ℕ) (bytes : List ℕ) (awaiting : 
   pub opcode : Opcode
   pub judged : IsJudged opcode
   pub awaits : awaiting ≡ reply_to opcode
-  pub past : (wire : WireReply) → Means opcode bytes wire → is_past (reply_written k unique wire).1 ≡ true
+  pub past : (wire : WireReply) → ReadsReply opcode bytes wire → is_kernel_past (reply_written k unique wire).1 ≡ true
 
 -- Why bytes under a unique are refused, by what awaits a reply under it. Want of memory comes last.
 pub data IsWriteRefusal (k : Kernel) (unique : ℕ) (bytes : List ℕ) (awaiting : Awaited) : Refusal → Type 0 where

@@ -11,7 +11,7 @@ use Rattle.fuse_spec.specs.declared.Opened.{Opened}
 use Rattle.fuse_spec.specs.declared.Phase.{Phase}
 use Rattle.fuse_spec.specs.Kernel.Kernel.{is_live}
 use Rattle.fuse_spec.specs.declared.Purpose.{Purpose}
-use Rattle.fk_nodes.specs.LookedUp.{AreBelow}
+use Rattle.fk_nodes.specs.LookedUp.{HaveCountsInRange}
 use Rattle.fk_queues.specs.Room.{Room}
 
 -- No call of the next number or a later one is there, none is both unanswered and answered, and there is room to answer
@@ -33,8 +33,8 @@ pub record AreFiles {V : Type 0} (calls : Map V) (opens closing : Map Opened) (c
   pub closed_once : (n : ℕ) → get opens n ≢ None → get closing n ≡ None
 
 -- No node's count has come to the end of counters, and there is room to queue a forget of each counted node.
-pub record AreCounted (nodes : Map Counted) (forgets : ℕ) : Type 0 where
-  pub below : AreBelow nodes
+pub record CanForgetAll (nodes : Map Counted) (forgets : ℕ) : Type 0 where
+  pub below : HaveCountsInRange nodes
   pub room : length nodes ≤ forgets
 
 -- All that is true of the kernel.
@@ -48,5 +48,5 @@ pub record IsSoundKernel {W : Type 0} (phase : Phase) (calls : Map (CallState Op
   pub files : AreFiles calls opens closing coming
   -- there is room to queue the RELEASE of each closed file
   pub releases : length closing ≤ space.requests
-  pub nodes : AreCounted known space.forgets
+  pub nodes : CanForgetAll known space.forgets
   pub clock_low : clock < clock_end

@@ -45,7 +45,7 @@ impl<Q: QueueTable<Purpose> + Drop, C: CountTable<Heap = Q::Heap> + Drop> Kernel
         if self.next_call >= COUNTER_END {
             return Err(Refusal::Exhausted);
         }
-        let put = call.spoken(self.lists_files);
+        let put = call.for_minor(self.lists_files);
         self.begin_next(&put)
     }
 
@@ -60,21 +60,21 @@ impl<Q: QueueTable<Purpose> + Drop, C: CountTable<Heap = Q::Heap> + Drop> Kernel
         ensures number { IfOk result (λ n. n ≡ self.old.vfs.next_call) }
         ensures begun { OnOk result (self.new ≡ call_begun self.old (call_of call.now)) }
     {
-        self.queues.keeps_sound();
+        self.queues.lemma_sound();
         if self.is_aborted() {
             return self.begin_answered(Answer::Failed { errno: ENOTCONN });
         }
         if let Call::Close { handle } = call {
             return self.begin_close(*handle);
         }
-        match self.set_out(call)? {
+        match self.start_walk(call)? {
             Next::Answer { errno } => self.begin_answered(Answer::Failed { errno }),
             Next::Ask(state) => self.begin_asking(state),
         }
     }
 
     /// Where a call comes to along the names in force.
-    fn set_out(&self, call: &Call<'_>) -> Result<Next<Q::Heap>, Refusal>
+    fn start_walk(&self, call: &Call<'_>) -> Result<Next<Q::Heap>, Refusal>
         requires not_aborted { is_aborted self.now.phase ≡ false }
         requires closes_none { ClosesNone call.now }
         ensures begun { IfOk result (λ next. begun (is_aborted self.now.phase) self.now.vfs (call_of call.now)

@@ -11,11 +11,11 @@ ghost use Rattle.fuse_spec.specs.Files.Operations.{entry_place, opening};
 ghost use Rattle.fuse_spec.specs.Calls.Paths.{Name};
 ghost use Rattle.fuse_spec.specs.Kernel.Replies.{usable, use_of, counted_more, looked_up, reply_written};
 ghost use Rattle.fuse_spec.specs.declared.Opened.{Opened as OpenedFile};
-ghost use Rattle.fuse_spec.specs.Kernel.Refusals.{is_past_end, is_counted_out};
+ghost use Rattle.fuse_spec.specs.Kernel.Refusals.{is_kernel_past_end, is_counted_out};
 ghost use Rattle.fuse_spec.specs.Kernel.QueueCalls.{after_forget, waiting, without};
 ghost use Rattle.std.specs.Option.{ForSome};
 ghost use Rattle.fuse_spec.specs.Values.Maps.{Place, put_name};
-ghost use Rattle.fk_kernel.specs.Entries.{Awaits, LooksUp, Makes, Creates, Opens, nodes_heard};
+ghost use Rattle.fk_kernel.specs.Entries.{Awaits, StandsAtLookup, Makes, Creates, IsOpening, nodes_after_reply};
 ghost use Rattle.fk_nodes.specs.Uses.{use_meant};
 ghost use Rattle.fk_queues.specs.Room.{KeepsRoom};
 
@@ -84,7 +84,7 @@ fn bind_entry<Q: QueueTable<Purpose>, C: CountTable>(
 
 /// Whether a call that stands so looks up a word.
 pub(crate) fn looks_up<A: Allocator + Copy>(state: &CallState<A>) -> bool
-    ensures looks { result ≡ true → LooksUp (Some state.now) }
+    ensures looks { result ≡ true → StandsAtLookup (Some state.now) }
     ensures other { result ≡ false → (directory : ℕ) (word : Name) (words : List Name) (plan : WalkPlan ℕ)
         → Some state.now ≢ Some (walking directory word words plan) }
 {
@@ -104,8 +104,8 @@ impl<Q: QueueTable<Purpose> + Drop, C: CountTable<Heap = Q::Heap> + Drop> Kernel
         requires waits { waiting self.old.queues unique ≡ Some (Purpose.Call call) }
         requires awaits { Awaits (get self.old.vfs.calls call) (reply.found entry.now valid_ms) }
         requires day { valid_ms ≤ max_validity }
-        requires within { is_past_end (reply_written self.old unique (reply.found entry.now valid_ms)).1 ≡ false }
-        requires counts { is_counted_out (nodes_heard self.old.nodes (reply.found entry.now valid_ms)) ≡ false }
+        requires within { is_kernel_past_end (reply_written self.old unique (reply.found entry.now valid_ms)).1 ≡ false }
+        requires counts { is_counted_out (nodes_after_reply self.old.nodes (reply.found entry.now valid_ms)) ≡ false }
         ensures err { OnErr result (self.new ≡ self.old) }
         ensures refusal { IfErr result (λ refusal. refusal ≡ Refusal.NoMemory) }
         ensures ok { OnOk result (reply_written self.old unique (reply.found entry.now valid_ms)
@@ -140,7 +140,7 @@ impl<Q: QueueTable<Purpose> + Drop, C: CountTable<Heap = Q::Heap> + Drop> Kernel
         requires waits { waiting self.old.queues unique ≡ Some (Purpose.Call call) }
         requires creates { Creates (get self.old.vfs.calls call) }
         requires day { valid_ms ≤ max_validity }
-        requires counts { is_counted_out (nodes_heard self.old.nodes (reply.created entry.now valid_ms fh)) ≡ false }
+        requires counts { is_counted_out (nodes_after_reply self.old.nodes (reply.created entry.now valid_ms fh)) ≡ false }
         ensures err { OnErr result (self.new ≡ self.old) }
         ensures refusal { IfErr result (λ refusal. refusal ≡ Refusal.NoMemory) }
         ensures ok { OnOk result (reply_written self.old unique (reply.created entry.now valid_ms fh)
@@ -158,7 +158,7 @@ impl<Q: QueueTable<Purpose> + Drop, C: CountTable<Heap = Q::Heap> + Drop> Kernel
 
     /// Whether a call looks up a word.
     pub(crate) fn looks_up(&self, call: u64) -> bool
-        ensures looks { result ≡ true → LooksUp (get self.now.vfs.calls call) }
+        ensures looks { result ≡ true → StandsAtLookup (get self.now.vfs.calls call) }
         ensures other { result ≡ false → (directory : ℕ) (word : Name) (words : List Name) (plan : WalkPlan ℕ)
             → get self.now.vfs.calls call ≢ Some (walking directory word words plan) }
     {
@@ -213,11 +213,11 @@ impl<Q: QueueTable<Purpose> + Drop, C: CountTable<Heap = Q::Heap> + Drop> Kernel
     ) -> Result<(), Refusal>
         requires even { nat_eq (unique % 2) 1 ≡ false }
         requires waits { waiting self.old.queues unique ≡ Some (Purpose.Call call) }
-        requires looks_up { LooksUp (get self.old.vfs.calls call) }
+        requires looks_up { StandsAtLookup (get self.old.vfs.calls call) }
         requires usable { use_of self.old.nodes entry.now ≡ usable }
         requires fits { (counted_more entry.now (get self.old.nodes entry.now.nodeid)).count < counter_end }
         requires day { valid_ms ≤ max_validity }
-        requires within { is_past_end (reply_written self.old unique (reply.found entry.now valid_ms)).1 ≡ false }
+        requires within { is_kernel_past_end (reply_written self.old unique (reply.found entry.now valid_ms)).1 ≡ false }
         ensures err { OnErr result (self.new ≡ self.old) }
         ensures refusal { IfErr result (λ refusal. refusal ≡ Refusal.NoMemory) }
         ensures ok { OnOk result (reply_written self.old unique (reply.found entry.now valid_ms)
@@ -310,7 +310,7 @@ impl<Q: QueueTable<Purpose> + Drop, C: CountTable<Heap = Q::Heap> + Drop> Kernel
     pub(crate) fn file_is_open(&mut self, unique: u64, call: u64, fh: u64) -> Result<(), Refusal>
         requires even { nat_eq (unique % 2) 1 ≡ false }
         requires waits { waiting self.old.queues unique ≡ Some (Purpose.Call call) }
-        requires opens { Opens (get self.old.vfs.calls call) }
+        requires opens { IsOpening (get self.old.vfs.calls call) }
         ensures err { OnErr result (self.new ≡ self.old) }
         ensures refusal { IfErr result (λ refusal. refusal ≡ Refusal.NoMemory) }
         ensures ok { OnOk result (reply_written self.old unique (reply.opened fh) ≡ (WriteResult.Accepted, self.new)) }
@@ -328,7 +328,7 @@ impl<Q: QueueTable<Purpose> + Drop, C: CountTable<Heap = Q::Heap> + Drop> Kernel
 
     /// The node of the file that a call opens.
     fn node_opened(&self, call: u64) -> u64
-        requires opens { Opens (get self.now.vfs.calls call) }
+        requires opens { IsOpening (get self.now.vfs.calls call) }
         ensures { (node : ℕ) → get self.now.vfs.calls call ≡ Some (doing (opening node)) → result ≡ node }
     {
         let Some(waiting) = self.calls.get(call) else {
@@ -350,7 +350,7 @@ impl<Q: QueueTable<Purpose> + Drop, C: CountTable<Heap = Q::Heap> + Drop> Kernel
     ) -> Result<(), Refusal>
         requires even { nat_eq (unique % 2) 1 ≡ false }
         requires waits { waiting self.old.queues unique ≡ Some (Purpose.Call call) }
-        requires looks_up { LooksUp (get self.old.vfs.calls call) }
+        requires looks_up { StandsAtLookup (get self.old.vfs.calls call) }
         requires day { valid_ms ≤ max_validity }
         ensures err { OnErr result (self.new ≡ self.old) }
         ensures refusal { IfErr result (λ refusal. refusal ≡ Refusal.NoMemory) }

@@ -2,8 +2,8 @@
 
 ghost use Rattle.std.specs.Prelude.{◌≡◌, ◌<◌, ◌+◌, [], None, Ok, OnOk, OnErr, IfOk, IfErr, T, false, map};
 ghost use Rattle.fuse_spec.specs.Kernel.Kernel.{is_live, is_aborted, kernel_mounted};
-ghost use Rattle.fuse_spec.specs.Kernel.Refusals.{is_ready, is_busy, is_counted_out, is_past_end, or_no_memory};
-ghost use Rattle.fk_nodes.specs.LookedUp.{AreBelow};
+ghost use Rattle.fuse_spec.specs.Kernel.Refusals.{is_ready, is_busy, is_counted_out, is_kernel_past_end, or_no_memory};
+ghost use Rattle.fk_nodes.specs.LookedUp.{HaveCountsInRange};
 ghost use Rattle.std.specs.FinMap.{is_sorted};
 ghost use Rattle.std.specs.Ordering.{nat_cmp};
 ghost use Rattle.fuse_spec.specs.World.Worlds.{first_kernel};
@@ -104,20 +104,20 @@ impl<Q: QueueTable<Purpose> + Drop, C: CountTable<Heap = Q::Heap> + Drop> Kernel
     }
 
     /// No counter is past its end. A call without effect, made where a proof rests on that.
-    pub fn within(&self)
-        ensures { is_past_end self.now ≡ false }
+    pub fn lemma_in_range(&self)
+        ensures { is_kernel_past_end self.now ≡ false }
     {
-        self.queues.keeps_sound();
+        self.queues.lemma_sound();
     }
 
     /// No node's count has come to the end of counters, and nodes stand in rising id. A call without effect, made where
     /// a proof rests on that.
-    pub fn counts_within(&self)
+    pub fn lemma_counts_in_range(&self)
         ensures sorted { T (is_sorted nat_cmp self.now.nodes) }
-        ensures below { AreBelow self.now.nodes }
+        ensures below { HaveCountsInRange self.now.nodes }
         ensures none_out { is_counted_out self.now.nodes ≡ false }
     {
-        self.nodes.are_sorted();
+        self.nodes.lemma_sorted();
     }
 
     pub(crate) fn is_live(&self) -> bool
@@ -146,7 +146,7 @@ impl<Q: QueueTable<Purpose> + Drop, C: CountTable<Heap = Q::Heap> + Drop> Kernel
     }
 
     /// Mounts anew: everything of the old mount is given up, without forgets, and INIT is queued. Until it is answered
-    /// no more is spoken than 7.15 has (this project's rule).
+    /// no more is for_minor than 7.15 has (this project's rule).
     ///
     /// # Errors
     ///

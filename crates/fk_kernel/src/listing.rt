@@ -7,9 +7,9 @@ ghost use Rattle.fuse_spec.specs.Files.Operations.{readdirplus};
 ghost use Rattle.fuse_spec.specs.Kernel.QueueCalls.{waiting};
 ghost use Rattle.fuse_spec.specs.Kernel.Replies.{reply_written};
 ghost use Rattle.fuse_spec.specs.Calls.Vfs.{doing};
-ghost use Rattle.fk_kernel.specs.Entries.{Awaits, nodes_heard};
+ghost use Rattle.fk_kernel.specs.Entries.{Awaits, nodes_after_reply};
 ghost use Rattle.fuse_spec.specs.Kernel.Refusals.{is_counted_out};
-ghost use Rattle.fk_nodes.specs.ListedFiles.{pairs_in};
+ghost use Rattle.fk_nodes.specs.ListedFiles.{pairs_left_in};
 
 use crate::kernel::KernelOf;
 use crate::queue_room::reserve_forgets;
@@ -32,11 +32,11 @@ impl<Q: QueueTable<Purpose> + Drop, C: CountTable<Heap = Q::Heap> + Drop> Kernel
     ) -> Result<(), Refusal>
         requires even { nat_eq (unique % 2) 1 ≡ false }
         requires waits { waiting self.old.queues unique ≡ Some (Purpose.Call call) }
-        requires awaits { Awaits (get self.old.vfs.calls call) (reply.listed_plus (pairs_in pairs)) }
-        requires counts { is_counted_out (nodes_heard self.old.nodes (reply.listed_plus (pairs_in pairs))) ≡ false }
+        requires awaits { Awaits (get self.old.vfs.calls call) (reply.listed_plus (pairs_left_in pairs)) }
+        requires counts { is_counted_out (nodes_after_reply self.old.nodes (reply.listed_plus (pairs_left_in pairs))) ≡ false }
         ensures err { OnErr result (self.new ≡ self.old) }
         ensures refusal { IfErr result (λ refusal. refusal ≡ Refusal.NoMemory) }
-        ensures ok { OnOk result (reply_written self.old unique (reply.listed_plus (pairs_in pairs.entry))
+        ensures ok { OnOk result (reply_written self.old unique (reply.listed_plus (pairs_left_in pairs.entry))
             ≡ (WriteResult.Accepted, self.new)) }
     {
         let directory = self.directory_listed(call);

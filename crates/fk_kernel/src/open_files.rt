@@ -40,7 +40,7 @@ impl<Q: QueueTable<Purpose> + Drop, C: CountTable<Heap = Q::Heap> + Drop> Kernel
         ensures number { IfOk result (λ n. n ≡ self.old.vfs.next_call) }
         ensures begun { OnOk result (self.new ≡ call_begun self.old (call.close handle)) }
     {
-        self.queues.keeps_sound();
+        self.queues.lemma_sound();
         let Some(opened) = self.opens.get(handle) else {
             return self.begin_answered(Answer::Failed { errno: EBADF });
         };
@@ -97,7 +97,7 @@ impl<Q: QueueTable<Purpose> + Drop, C: CountTable<Heap = Q::Heap> + Drop> Kernel
         ensures number { IfOk result (λ n. n ≡ self.old.vfs.next_call) }
         ensures begun { OnOk result (self.new ≡ call_begun self.old (call.close handle)) }
     {
-        self.queues.keeps_sound();
+        self.queues.lemma_sound();
         let Ok(()) = self.answers.reserve(MAX_CALLS) else {
             return Err(Refusal::NoMemory);
         };
@@ -172,7 +172,7 @@ impl<Q: QueueTable<Purpose> + Drop, C: CountTable<Heap = Q::Heap> + Drop> Kernel
 
     /// Whether the end of a call would let a closed file go, for whose RELEASE no number is left.
     #[inline(always)]
-    pub(crate) fn ends_past(&self, call: u64) -> bool
+    pub(crate) fn unique_overflows(&self, call: u64) -> bool
         ensures past { result ≡ true → EndsPast self.now call }
         ensures within { result ≡ false → EndsWithin self.now call }
     {

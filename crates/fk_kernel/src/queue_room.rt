@@ -24,7 +24,7 @@ pub(crate) fn reserve_request<Q: QueueTable<Purpose>>(
     ensures room { OnOk result (length closing.now.entries + 1 ≤ (Q.room queues.new).requests) }
     ensures refusal { IfErr result (λ refusal. refusal ≡ Refusal.NoMemory) }
 {
-    closing.keeps_sound();
+    closing.lemma_sound();
     match queues.reserve(closing.len() + 1, 0) {
         Ok(()) => Ok(()),
         Err(_) => Err(Refusal::NoMemory),

@@ -10,11 +10,11 @@ ghost use Rattle.fuse_spec.specs.Kernel.QueueCalls.{waiting};
 ghost use Rattle.fuse_spec.specs.Kernel.Uniques.{numbers_left_from};
 ghost use Rattle.fuse_spec.specs.Calls.Vfs.{asked};
 ghost use Rattle.fuse_spec.specs.Kernel.Replies.{usable, first_use, use_of, reply_written};
-ghost use Rattle.fk_kernel.specs.Entries.{Awaits, EndsWithin, LooksUp, looked_up_by_all, nodes_heard};
-ghost use Rattle.fuse_spec.specs.Kernel.Refusals.{is_counted_out, is_past, is_past_end};
+ghost use Rattle.fk_kernel.specs.Entries.{Awaits, EndsWithin, StandsAtLookup, looked_up_by_all, nodes_after_reply};
+ghost use Rattle.fuse_spec.specs.Kernel.Refusals.{is_counted_out, is_kernel_past, is_kernel_past_end};
 ghost use Rattle.fk_kernel.specs.CallReplies.{IsCallReply, SaysNone};
 ghost use Rattle.fk_kernel.specs.Refused.{PassesEnd, WritePasses};
-ghost use Rattle.fuse_frames.specs.ReplySaid.{wire_of, LastsADay};
+ghost use Rattle.fuse_frames.specs.ReplySaid.{lent_wire_of, LastsADay};
 ghost use Rattle.fk_kernel.specs.AwaitedReplies.{awaited_by_call};
 
 use crate::entries::looks_up;
@@ -34,8 +34,8 @@ impl<Q: QueueTable<Purpose> + Drop, C: CountTable<Heap = Q::Heap> + Drop> Kernel
         ensures refused { IfSome result (λ refusal. (refusal ≡ Refusal.Exhausted) × WritePasses self.now bytes.now) }
         ensures none { IfNone result (WritePasses self.now bytes.now → ⊥) }
     {
-        self.within();
-        self.counts_within();
+        self.lemma_in_range();
+        self.lemma_counts_in_range();
         let Ok(head) = ReplyHead::read(bytes) else {
             return None;
         };
@@ -102,10 +102,10 @@ impl<Q: QueueTable<Purpose> + Drop, C: CountTable<Heap = Q::Heap> + Drop> Kernel
             (IsCallReply self.now head.unique call (asked state.now) bytes.now)) }
         ensures none { IfOk result (λ said. IfNone said (SaysNone (asked state.now) bytes.now)) }
     {
-        self.within();
-        self.counts_within();
+        self.lemma_in_range();
+        self.lemma_counts_in_range();
         let said = said_to_call(&state.asks(), head, bytes);
-        if self.ends_past(call) {
+        if self.unique_overflows(call) {
             return Err(Refusal::Exhausted);
         }
         match said {
@@ -132,13 +132,13 @@ impl<Q: QueueTable<Purpose> + Drop, C: CountTable<Heap = Q::Heap> + Drop> Kernel
         requires even { nat_eq (unique % 2) 1 ≡ false }
         requires waits { waiting self.now.queues unique ≡ Some (Purpose.Call call) }
         requires unanswered { get self.now.vfs.calls call ≡ Some state.now }
-        requires awaits { Awaits (get self.now.vfs.calls call) (wire_of said.now) }
+        requires awaits { Awaits (get self.now.vfs.calls call) (lent_wire_of said.now) }
         requires day { LastsADay said.now }
         requires ends { EndsWithin self.now call }
-        ensures past { result ≡ true → is_past (reply_written self.now unique (wire_of said.now)).1 ≡ true }
-        ensures stays { result ≡ false → is_past (reply_written self.now unique (wire_of said.now)).1 ≡ false }
-        ensures within { result ≡ false → is_past_end (reply_written self.now unique (wire_of said.now)).1 ≡ false }
-        ensures counts { result ≡ false → is_counted_out (nodes_heard self.now.nodes (wire_of said.now)) ≡ false }
+        ensures past { result ≡ true → is_kernel_past (reply_written self.now unique (lent_wire_of said.now)).1 ≡ true }
+        ensures stays { result ≡ false → is_kernel_past (reply_written self.now unique (lent_wire_of said.now)).1 ≡ false }
+        ensures within { result ≡ false → is_kernel_past_end (reply_written self.now unique (lent_wire_of said.now)).1 ≡ false }
+        ensures counts { result ≡ false → is_counted_out (nodes_after_reply self.now.nodes (lent_wire_of said.now)) ≡ false }
     {
         if self.counts_past(said) {
             return true;
@@ -148,9 +148,9 @@ impl<Q: QueueTable<Purpose> + Drop, C: CountTable<Heap = Q::Heap> + Drop> Kernel
 
     /// Whether what is said to a call would bring a node's count to the end of counters.
     fn counts_past(&self, said: &ReplySaid<'_>) -> bool
-        ensures { result ≡ is_counted_out (nodes_heard self.now.nodes (wire_of said.now)) }
+        ensures { result ≡ is_counted_out (nodes_after_reply self.now.nodes (lent_wire_of said.now)) }
     {
-        self.counts_within();
+        self.lemma_counts_in_range();
         match said {
             Reply::Found { file, .. } => self.entry_past(file),
             Reply::Created { file, .. } => self.entry_past(file),
@@ -165,9 +165,9 @@ impl<Q: QueueTable<Purpose> + Drop, C: CountTable<Heap = Q::Heap> + Drop> Kernel
         ensures { result ≡ is_counted_out (looked_up_by_all self.now.nodes (entry.now ∷ [])
             (first_use (use_of self.now.nodes entry.now) usable)) }
     {
-        self.counts_within();
+        self.lemma_counts_in_range();
         // Counts are far from their end as a rule: then no node is looked up.
-        if !self.nodes.counts_out(entry) {
+        if !self.nodes.count_overflows(entry) {
             return false;
         }
         matches!(self.use_of(entry), EntryUse::Usable)
@@ -184,13 +184,13 @@ impl<Q: QueueTable<Purpose> + Drop, C: CountTable<Heap = Q::Heap> + Drop> Kernel
         requires even { nat_eq (unique % 2) 1 ≡ false }
         requires waits { waiting self.now.queues unique ≡ Some (Purpose.Call call) }
         requires unanswered { get self.now.vfs.calls call ≡ Some state.now }
-        requires awaits { Awaits (get self.now.vfs.calls call) (wire_of said.now) }
+        requires awaits { Awaits (get self.now.vfs.calls call) (lent_wire_of said.now) }
         requires day { LastsADay said.now }
         requires ends { EndsWithin self.now call }
-        ensures past { result ≡ true → is_past_end (reply_written self.now unique (wire_of said.now)).1 ≡ true }
-        ensures within { result ≡ false → is_past_end (reply_written self.now unique (wire_of said.now)).1 ≡ false }
+        ensures past { result ≡ true → is_kernel_past_end (reply_written self.now unique (lent_wire_of said.now)).1 ≡ true }
+        ensures within { result ≡ false → is_kernel_past_end (reply_written self.now unique (lent_wire_of said.now)).1 ≡ false }
     {
-        self.within();
+        self.lemma_in_range();
         match said {
             Reply::Found { file, valid_ms } => {
                 self.found_past(unique, call, state, file, *valid_ms)
@@ -213,12 +213,12 @@ impl<Q: QueueTable<Purpose> + Drop, C: CountTable<Heap = Q::Heap> + Drop> Kernel
         requires unanswered { get self.now.vfs.calls call ≡ Some state.now }
         requires awaits { Awaits (get self.now.vfs.calls call) (reply.found entry.now valid_ms) }
         requires day { valid_ms ≤ max_validity }
-        ensures past { result ≡ true → is_past_end (reply_written self.now unique (reply.found entry.now valid_ms)).1
+        ensures past { result ≡ true → is_kernel_past_end (reply_written self.now unique (reply.found entry.now valid_ms)).1
             ≡ true }
-        ensures within { result ≡ false → is_past_end (reply_written self.now unique
+        ensures within { result ≡ false → is_kernel_past_end (reply_written self.now unique
             (reply.found entry.now valid_ms)).1 ≡ false }
     {
-        self.within();
+        self.lemma_in_range();
         if self.queues.numbers_left() != 0 {
             return false;
         }
@@ -248,15 +248,15 @@ impl<Q: QueueTable<Purpose> + Drop, C: CountTable<Heap = Q::Heap> + Drop> Kernel
         requires waits { waiting self.now.queues unique ≡ Some (Purpose.Call call) }
         requires unanswered { get self.now.vfs.calls call ≡ Some state.now }
         requires none_left { numbers_left_from self.now.queues.next ≡ 0 }
-        requires looks_up { LooksUp (Some state.now) }
+        requires looks_up { StandsAtLookup (Some state.now) }
         requires usable { use_of self.now.nodes entry.now ≡ usable }
         requires day { valid_ms ≤ max_validity }
-        ensures past { result ≡ true → is_past_end (reply_written self.now unique (reply.found entry.now valid_ms)).1
+        ensures past { result ≡ true → is_kernel_past_end (reply_written self.now unique (reply.found entry.now valid_ms)).1
             ≡ true }
-        ensures within { result ≡ false → is_past_end (reply_written self.now unique
+        ensures within { result ≡ false → is_kernel_past_end (reply_written self.now unique
             (reply.found entry.now valid_ms)).1 ≡ false }
     {
-        self.within();
+        self.lemma_in_range();
         let Operation::Lookup { directory, name } = state.asks() else {
             return false;
         };

@@ -43,14 +43,14 @@ impl<Q: QueueTable<Purpose> + Drop, C: CountTable<Heap = Q::Heap> + Drop> Kernel
             return Err(Refusal::NoSuch);
         }
         let Some(unique) = self.queues.request_for(call) else {
-            self.within();
+            self.lemma_in_range();
             return Ok(IntrEffect::None);
         };
         if self.signal_ends_past(unique, call, fatal) {
             return Err(Refusal::Exhausted);
         }
         let effect = self.signal(unique, call, fatal);
-        self.within();
+        self.lemma_in_range();
         Ok(effect)
     }
 
@@ -68,7 +68,7 @@ impl<Q: QueueTable<Purpose> + Drop, C: CountTable<Heap = Q::Heap> + Drop> Kernel
         if self.queues.waiting(unique).is_some() {
             return false;
         }
-        self.ends_past(call)
+        self.unique_overflows(call)
     }
 
     /// Signals the request of a call that is unanswered.

@@ -13,7 +13,7 @@ use fk_lookup_count::CountTable;
 use fk_queues::QueueTable;
 use fk_unique::original_of;
 use fk_wire::{Opcode, ReplyHead};
-use fuse_frames::{Reply, agrees, files_agreed, minor_agreed, said_to};
+use fuse_frames::{Reply, agrees, decode_reply, files_agreed, minor_agreed};
 use fuse_spec::errno::{EAGAIN, ENOSYS};
 use fuse_spec::{Phase, Purpose, Refusal, WriteResult};
 
@@ -67,7 +67,7 @@ impl<Q: QueueTable<Purpose> + Drop, C: CountTable<Heap = Q::Heap> + Drop> Kernel
         if self.queues.waiting(original).is_none() {
             return WriteResult::NoEntry;
         }
-        let Some(said) = said_to(Opcode::Interrupt, head, bytes) else {
+        let Some(said) = decode_reply(Opcode::Interrupt, head, bytes) else {
             return WriteResult::Invalid;
         };
         if let Reply::Failed { errno } = said {
@@ -102,7 +102,7 @@ impl<Q: QueueTable<Purpose> + Drop, C: CountTable<Heap = Q::Heap> + Drop> Kernel
         ensures unsaid { IsNoReply Opcode.Init bytes.now
             → reply_written self.old head.unique (wrong_body_to Opcode.Init) ≡ (result, self.new) }
     {
-        let Some(said) = said_to(Opcode::Init, head, bytes) else {
+        let Some(said) = decode_reply(Opcode::Init, head, bytes) else {
             self.give_up();
             return WriteResult::Invalid;
         };

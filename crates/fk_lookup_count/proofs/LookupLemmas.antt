@@ -6,7 +6,7 @@ use Rattle.std.proofs.lemmas.Bool.{cases_eq}
 use Rattle.std.proofs.lemmas.Option.{none-some}
 use Rattle.fuse_spec.specs.Values.Maps.{get}
 use Rattle.fuse_spec.specs.declared.Counted.{Counted}
-use Rattle.fk_lookup_count.specs.CountedNodes.{IsUnlike, looked_up}
+use Rattle.fk_lookup_count.specs.CountedNodes.{IsUnlike, counted_once_more}
 use Rattle.fk_lookup_count.specs.Slots.{nodes_in, slot_counted_more, written, slot_looked_up}
 use Rattle.fk_lookup_count.proofs.SlotLemmas.{Slots, no_node, node_is, nodes-insert, room-insert}
 
@@ -43,24 +43,24 @@ module _ (s : Slots) (id generation : ℕ) where
 
     -- room for a node
     pub new_there : slot.count ≡ 0 → nodes_in (slot_looked_up s id generation (slot_of s id))
-        ≡ looked_up (nodes_in s) id generation (get (nodes_in s) id)
+        ≡ counted_once_more (nodes_in s) id generation (get (nodes_in s) id)
     new_there none =
         let more : slot_counted_more generation slot ≡ Some (record { generation = generation; count = 1 }) =
         grind (arith, none, rules) in
         ap (λ o. nodes_in (slot_looked_up s id generation o)) is ∙ ap (λ o. nodes_in (written s id o)) more
         ∙ nodes-insert s id (record { generation = generation; count = 1 }) (omega arith)
-        ∙ sym (ap (looked_up (nodes_in s) id generation) (no_node s id slot is none))
+        ∙ sym (ap (counted_once_more (nodes_in s) id generation) (no_node s id slot is none))
 
     -- a node of the same generation
     pub again_there : 0 < slot.count → slot.generation ≡ generation
         → nodes_in (slot_looked_up s id generation (slot_of s id))
-        ≡ looked_up (nodes_in s) id generation (get (nodes_in s) id)
+        ≡ counted_once_more (nodes_in s) id generation (get (nodes_in s) id)
     again_there some same =
         let more : slot_counted_more generation slot ≡ Some (record slot { count = slot.count + 1 }) =
         grind (arith, some, same, rules) in
         ap (λ o. nodes_in (slot_looked_up s id generation o)) is ∙ ap (λ o. nodes_in (written s id o)) more
         ∙ nodes-insert s id (record slot { count = slot.count + 1 }) (omega arith)
-        ∙ sym (ap (looked_up (nodes_in s) id generation) (node_is s id slot is some))
+        ∙ sym (ap (counted_once_more (nodes_in s) id generation) (node_is s id slot is some))
 
     pub is_unlike : 0 < slot.count → slot.generation ≢ generation
         → (true ≡ true → IsUnlike (get (nodes_in s) id) generation)

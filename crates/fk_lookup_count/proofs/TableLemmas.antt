@@ -12,7 +12,7 @@ use Rattle.std.specs.FinMap.Entries.{below_all}
 use Rattle.std.proofs.lemmas.Bool.{cases_eq}
 use Rattle.std.proofs.lemmas.Option.{none-some, same_Some}
 use Rattle.fuse_spec.specs.declared.Counted.{Counted}
-use Rattle.fk_lookup_count.specs.Table.{at_place, place_under, standing, rows_of, IsTable}
+use Rattle.fk_lookup_count.specs.Table.{count_at_place, place_under, standing, rows_of, IsCountTable}
 use Rattle.fk_lookup_count.proofs.NumberMaps.{ties, both, map_of, get-map_of, same_as}
 
 find-rows : (slots : List (Option Counted)) (places : List (ℕ × ℕ)) (q : ℕ)
@@ -36,10 +36,10 @@ stands : (slot : Option Counted) → IsSome slot → slot ≡ Some (unwrap_or sl
 stands None some = absurd (subst T (sym some) tt)
 stands (Some slot) some = refl
 
-pub slot_at : {slots : List (Option Counted)} {places : List (ℕ × ℕ)} (id place : ℕ) → IsTable slots places
-    → place_under places id ≡ Some place → at_place slots place ≡ get (table_of slots places) id
+pub slot_at : {slots : List (Option Counted)} {places : List (ℕ × ℕ)} (id place : ℕ) → IsCountTable slots places
+    → place_under places id ≡ Some place → count_at_place slots place ≡ get (table_of slots places) id
 slot_at {slots = slots} {places = places} id place table is =
-    stands (at_place slots place) (table.leads id place is) ∙ ap (option_map (standing slots)) (sym is) ∙ sym
+    stands (count_at_place slots place) (table.leads id place is) ∙ ap (option_map (standing slots)) (sym is) ∙ sym
     (get-table slots places id)
 
 pub no_slot_at : (slots : List (Option Counted)) (places : List (ℕ × ℕ)) (id : ℕ) → place_under places id ≡ None
@@ -66,14 +66,14 @@ unfolding IsStrictlySortedBy
 sorted_rows slots [] h = tt
 sorted_rows slots (e ∷ es) h = both _ _ (below-rows slots e.0 es h.0) (sorted_rows slots es h.1)
 
-same_standing : (new old : List (Option Counted)) (place : ℕ) → at_place new place ≡ at_place old place
+same_standing : (new old : List (Option Counted)) (place : ℕ) → count_at_place new place ≡ count_at_place old place
     → standing new place ≡ standing old place
 same_standing new old place is = ap (λ slot. unwrap_or slot (record { generation = 0; count = 0 })) is
 
 -- one place is written
 pub table-write : {old : List (Option Counted)} {places : List (ℕ × ℕ)} (new : List (Option Counted)) (id place : ℕ)
-    (slot : Counted) → IsTable old places → place_under places id ≡ Some place
-    → at_place new place ≡ Some slot → ((other : ℕ) → other ≢ place → at_place new other ≡ at_place old other)
+    (slot : Counted) → IsCountTable old places → place_under places id ≡ Some place
+    → count_at_place new place ≡ Some slot → ((other : ℕ) → other ≢ place → count_at_place new other ≡ count_at_place old other)
     → table_of new places ≡ insert (table_of old places) id slot
 table-write {old = old} {places = places} new id place slot table is changed others =
     same_as _ _ (λ q. find-rows new places q ∙ at q ∙ sym (get-insert nat_cmp_total (table_of old places) id slot q))
@@ -113,23 +113,23 @@ placed_there new old id q place placed ne = (let no : nat_eq id q ≡ false = gr
     placed q ∙ ap (λ b. cond b place (place_under old q)) (ties id q ∙ no))
 
 module _ {old : List (Option Counted)} {places : List (ℕ × ℕ)} (new : List (Option Counted)) (more : List (ℕ × ℕ))
-    (id place : ℕ) (slot : Counted) (table : IsTable old places)
-    (free : at_place old place ≡ None) (placed : Placed more places id (Some place))
-    (changed : at_place new place ≡ Some slot)
-    (others : (other : ℕ) → other ≢ place → at_place new other ≡ at_place old other) where
+    (id place : ℕ) (slot : Counted) (table : IsCountTable old places)
+    (free : count_at_place old place ≡ None) (placed : Placed more places id (Some place))
+    (changed : count_at_place new place ≡ Some slot)
+    (others : (other : ℕ) → other ≢ place → count_at_place new other ≡ count_at_place old other) where
   -- no other id has that place
   elsewhere : (q p : ℕ) → place_under places q ≡ Some p → p ≢ place
-  elsewhere q p is e = absurd (no (ap is_some (sym (ap (at_place old) e ∙ free)) ∙ table.leads q p is))
+  elsewhere q p is e = absurd (no (ap is_some (sym (ap (count_at_place old) e ∙ free)) ∙ table.leads q p is))
     where
       no : false ≡ true → ⊥
       no e = cc
 
-  pub kept-add : IsTable new more
+  pub kept-add : IsCountTable new more
   kept-add = record { leads = leads; apart = apart }
     where
-      leads : (q p : ℕ) → place_under more q ≡ Some p → IsSome (at_place new p)
+      leads : (q p : ℕ) → place_under more q ≡ Some p → IsSome (count_at_place new p)
       leads q p is = elim (cases_eq q id) [
-        | inl e ↦ ap is_some (ap (at_place new) (sym (same_Some place p
+        | inl e ↦ ap is_some (ap (count_at_place new) (sym (same_Some place p
             (sym (ap (place_under more) e ∙ placed_here more places id (Some place) placed) ∙ is))) ∙ changed)
         | inr ne ↦
             let was = sym (placed_there more places id q (Some place) placed ne) ∙ is in
@@ -180,16 +180,16 @@ module _ {old : List (Option Counted)} {places : List (ℕ × ℕ)} (new : List 
 
 -- an id lost its place
 module _ {old : List (Option Counted)} {places : List (ℕ × ℕ)} (new : List (Option Counted)) (fewer : List (ℕ × ℕ))
-    (id place : ℕ) (table : IsTable old places)
+    (id place : ℕ) (table : IsCountTable old places)
     (was : place_under places id ≡ Some place) (placed : Placed fewer places id None)
-    (others : (other : ℕ) → other ≢ place → at_place new other ≡ at_place old other) where
+    (others : (other : ℕ) → other ≢ place → count_at_place new other ≡ count_at_place old other) where
   left : (q p : ℕ) → place_under fewer q ≡ Some p → place_under places q ≡ Some p
   left q p is = elim (cases_eq q id) [
     | inl e ↦ absurd (none-some p (sym (ap (place_under fewer) e ∙ placed_here fewer places id None placed) ∙ is))
     | inr ne ↦ sym (placed_there fewer places id q None placed ne) ∙ is
   ]
 
-  still : (q p : ℕ) → place_under fewer q ≡ Some p → at_place new p ≡ at_place old p
+  still : (q p : ℕ) → place_under fewer q ≡ Some p → count_at_place new p ≡ count_at_place old p
   still q p is = others p (λ e. gone q (table.apart q id place (left q p is ∙ ap Some e) was) is)
     where
       gone : (q : ℕ) → q ≡ id → place_under fewer q ≡ Some p → ⊥

@@ -10,9 +10,9 @@ IsUnlike None generation = ⊥
 IsUnlike (Some node) generation = node.generation ≢ generation
 
 -- One more lookup of a node, the first or another.
-abbrev pub looked_up : Map Counted → ℕ → ℕ → Option Counted → Map Counted
-looked_up nodes id generation None = put nodes id (record { generation = generation; count = 1 })
-looked_up nodes id generation (Some node) = put nodes id (record node { count = node.count + 1 })
+abbrev pub counted_once_more : Map Counted → ℕ → ℕ → Option Counted → Map Counted
+counted_once_more nodes id generation None = put nodes id (record { generation = generation; count = 1 })
+counted_once_more nodes id generation (Some node) = put nodes id (record node { count = node.count + 1 })
 
 -- The forget of a node's whole count, unless it is not counted.
 abbrev pub forget_of : ℕ → Option Counted → Option Forget
@@ -20,5 +20,5 @@ forget_of id None = None
 forget_of id (Some node) = Some (record { nodeid = id; nlookup = node.count })
 
 -- Id, generation and lookup count of each node.
-abbrev pub listed : Map Counted → List (ℕ × ℕ × ℕ)
-listed nodes = map (λ e. (e.0, e.1.generation, e.1.count)) nodes
+abbrev pub listed_counts : Map Counted → List (ℕ × ℕ × ℕ)
+listed_counts nodes = map (λ e. (e.0, e.1.generation, e.1.count)) nodes

@@ -5,7 +5,7 @@ ghost use Rattle.std.specs.Ordering.{nat_cmp};
 ghost use Rattle.std.specs.Option.{ForSome};
 ghost use Rattle.fuse_spec.specs.Values.Maps.{Map, get, remove};
 ghost use Rattle.fuse_spec.specs.declared.Counted.{Counted};
-ghost use Rattle.fk_lookup_count.specs.CountedNodes.{IsUnlike, looked_up, forget_of, listed};
+ghost use Rattle.fk_lookup_count.specs.CountedNodes.{IsUnlike, counted_once_more, forget_of, listed_counts};
 
 use crate::forget::Forget;
 use crate::unlike::Unlike;
@@ -50,7 +50,7 @@ pub trait CountTable {
         requires room { has_room self.old id }
         requires fits { ForSome (get (counted self.old) id) (λ node. node.count + 1 < 2 ^ 64) }
         ensures unlike { IsErr result ↔ IsUnlike (get (counted self.old) id) generation }
-        ensures ok { OnOk result (counted self.new ≡ looked_up (counted self.old) id generation
+        ensures ok { OnOk result (counted self.new ≡ counted_once_more (counted self.old) id generation
             (get (counted self.old) id)) }
         ensures err { OnErr result (counted self.new ≡ counted self.old) }
         ensures kept { (other : ℕ) → has_room self.old other → has_room self.new other };
@@ -69,7 +69,7 @@ pub trait CountTable {
         requires fits { ForSome (get (counted self.old) id) (λ node. node.count + 1 < 2 ^ 64) }
         ensures unlike { IfOk result (λ given. IsErr given ↔ IsUnlike (get (counted self.old) id) generation) }
         ensures new { IfOk result (λ given. IfOk given (λ is_new. is_new ≡ is_none (get (counted self.old) id))) }
-        ensures ok { IfOk result (λ given. OnOk given (counted self.new ≡ looked_up (counted self.old) id generation
+        ensures ok { IfOk result (λ given. OnOk given (counted self.new ≡ counted_once_more (counted self.old) id generation
             (get (counted self.old) id))) }
         ensures err { IfOk result (λ given. OnErr given (counted self.new ≡ counted self.old)) }
         ensures memory { OnErr result (counted self.new ≡ counted self.old) }
@@ -89,7 +89,7 @@ pub trait CountTable {
 
     /// Nodes stand in rising id, and memory holds fewer than 2^63. A call without effect, made where a proof rests on
     /// that.
-    fn keeps_sound(&self)
+    fn lemma_sound(&self)
         ensures sorted { T (is_sorted nat_cmp (counted self.now)) }
         ensures few { length (counted self.now) < 2 ^ 63 };
 
@@ -103,5 +103,5 @@ pub trait CountTable {
     ///
     /// Memory was wanting for the list.
     fn nodes(&self, alloc: Self::Heap) -> Result<Vec<(u64, u64, u64), Self::Heap>, AllocError>
-        ensures { IfOk result (λ nodes. nodes.items ≡ listed (counted self.now)) };
+        ensures { IfOk result (λ nodes. nodes.items ≡ listed_counts (counted self.now)) };
 }

@@ -115,7 +115,7 @@ impl<S: Slots> CountTable for CountsOf<S> {
         })
     }
 
-    fn keeps_sound(&self) {
+    fn lemma_sound(&self) {
         let _slots = self.slots.len();
     }
 

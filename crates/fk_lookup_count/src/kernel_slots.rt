@@ -25,7 +25,7 @@ impl<A: Allocator> Model for KernelSlots<A> {
     ghost use Rattle.std.specs.FinMap.{FinMap, from_entries, code as map_code};
     ghost use Rattle.fuse_spec.specs.declared.Counted.{Counted};
     ghost use Rattle.fuse_spec.specs.contracts.Counted as counted_row;
-    ghost use Rattle.fk_lookup_count.specs.Table.{rows_of, IsTable};
+    ghost use Rattle.fk_lookup_count.specs.Table.{rows_of, IsCountTable};
 
     ghost Value = { FinMap nat_cmp Counted };
 
@@ -33,7 +33,7 @@ impl<A: Allocator> Model for KernelSlots<A> {
 
     ghost view = { λ t. from_entries (rows_of t.nodes.slots t.places.entries) };
 
-    ghost invariant = { λ t. IsTable t.nodes.slots t.places.entries };
+    ghost invariant = { λ t. IsCountTable t.nodes.slots t.places.entries };
 }
 
 impl<A: Allocator + Copy> Slots for KernelSlots<A> {

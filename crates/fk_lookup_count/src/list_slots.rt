@@ -38,7 +38,7 @@ impl<A: Allocator + Copy> Slots for ListSlots<A> {
     }
 
     fn len(&self) -> usize {
-        self.slots.keeps_sound();
+        self.slots.lemma_sound();
         self.slots.len()
     }
 
@@ -69,7 +69,7 @@ impl<A: Allocator + Copy> Slots for ListSlots<A> {
     }
 
     fn nodes(&self, alloc: A) -> Result<Vec<(u64, u64, u64), A>, AllocError> {
-        self.slots.keeps_sound();
+        self.slots.lemma_sound();
         let mut nodes = Vec::new(alloc);
         for row in self.slots.rows() {
             if row.1.count > 0 {

@@ -4,7 +4,7 @@ ghost use Rattle.std.specs.Option.{ForSome};
 ghost use Rattle.std.specs.Ordering.{nat_cmp};
 ghost use Rattle.std.specs.FinMap.{FinMap, get, insert, remove, empty, entries};
 ghost use Rattle.fuse_spec.specs.declared.Counted.{Counted};
-ghost use Rattle.fk_lookup_count.specs.CountedNodes.{listed};
+ghost use Rattle.fk_lookup_count.specs.CountedNodes.{listed_counts};
 ghost use Rattle.fk_lookup_count.specs.Slots.{nodes_in, slot_counted_more, slot_looked_up};
 
 use fuse_spec::Counted;
@@ -67,7 +67,7 @@ pub trait Slots {
     ///
     /// Memory was wanting for the list.
     fn nodes(&self, alloc: Self::Heap) -> Result<Vec<(u64, u64, u64), Self::Heap>, AllocError>
-        ensures { IfOk result (λ nodes. nodes.items ≡ listed (nodes_in (slots self.now))) };
+        ensures { IfOk result (λ nodes. nodes.items ≡ listed_counts (nodes_in (slots self.now))) };
 }
 
 /// A slot with one lookup more under a generation, unless it holds a node of another.

@@ -9,9 +9,9 @@ use Rattle.fuse_spec.specs.declared.Entry.{Entry}
 use Rattle.fuse_spec.specs.Values.Maps.{Map, get, put}
 use Rattle.fuse_spec.specs.Values.Numbers.{counter_end}
 use Rattle.fuse_spec.specs.Files.Operations.{DirentPlus, listed_by}
-use Rattle.fuse_spec.specs.Kernel.Replies.{Use, usable, useless, stale, use_counted, use_of, counted_more}
+use Rattle.fuse_spec.specs.Kernel.Replies.{Use, usable, unusable, stale, use_counted, use_of, counted_more}
 use Rattle.fuse_spec.proofs.Tables.{get_put_here, get_put_there}
-use Rattle.fk_nodes.specs.LookedUp.{looked_up_by_use, looked_up_listed, looked_up_from, is_of_node, times_listed, LeavesBelow, AreBelow, SomeOut}
+use Rattle.fk_nodes.specs.LookedUp.{looked_up_by_use, looked_up_listed, looked_up_from, is_of_node, times_listed, LeavesBelow, HaveCountsInRange, SomeOut}
 
 itself : (n : ℕ) → nat_eq n n ≡ true
 itself n = elim (eqb_tells n n) [ inl h ↦ h.0 | inr h ↦ absurd (h.1 refl) ]
@@ -25,7 +25,7 @@ other m n ne = elim (eqb_tells m n) [ inl h ↦ absurd (ne h.1) | inr h ↦ h.0 
 other_node : (nodes : Map Counted) (g : Entry) (u : Use) (id : ℕ) → id ≢ g.nodeid
     → get (looked_up_by_use nodes g u) id ≡ get nodes id
 other_node nodes g usable id ne = get_put_there nodes g.nodeid (counted_more g (get nodes g.nodeid)) id ne
-other_node nodes g useless id ne = refl
+other_node nodes g unusable id ne = refl
 other_node nodes g (stale node) id ne = refl
 
 -- the count of a node that is counted
@@ -47,7 +47,7 @@ module _ (nodes : Map Counted) (id : ℕ) (c : Counted) (file : nat_lt id 2 ≡ 
   use_here g same =
       let there : get nodes g.nodeid ≡ Some c = subst (λ (n : ℕ). get nodes n ≡ Some c) (sym same) at in
       let high : nat_lt g.nodeid 2 ≡ false = subst (λ (n : ℕ). nat_lt n 2 ≡ false) (sym same) file in
-      ap (λ (b : Bool). cond b useless (use_counted g (get nodes g.nodeid))) high ∙ ap (use_counted g) there
+      ap (λ (b : Bool). cond b unusable (use_counted g (get nodes g.nodeid))) high ∙ ap (use_counted g) there
 
   swapped : (m n : ℕ) → nat_eq m n ≡ nat_eq n m
   swapped m n = elim (cases_eq m n) [
@@ -99,7 +99,7 @@ low_by : (nodes : Map Counted) (g : Entry) (id : ℕ) → nat_lt id 2 ≡ true
     → get (looked_up_listed nodes (Some g)) id ≡ get nodes id
 low_by nodes g id low = elim (cases_eq id g.nodeid) [
   | inl same ↦
-      let useless_is : use_of nodes g ≡ useless = ap (λ (b : Bool). cond b useless
+      let useless_is : use_of nodes g ≡ unusable = ap (λ (b : Bool). cond b unusable
       (use_counted g (get nodes g.nodeid))) (subst (λ (n : ℕ). nat_lt n 2 ≡ true) same low) in
       ap (λ (u : Use). get (looked_up_by_use nodes g u) id) useless_is
   | inr ne ↦ other_node nodes g (use_of nodes g) id ne
@@ -145,7 +145,7 @@ fresh_by nodes g usable id none = elim (cases_eq id g.nodeid) [
       subst IsFresh (sym found) (fresh_more g (get nodes g.nodeid) there)
   | inr ne ↦ subst IsFresh (sym (get_put_there nodes g.nodeid (counted_more g (get nodes g.nodeid)) id ne ∙ none)) tt
 ]
-fresh_by nodes g useless id none = subst IsFresh (sym none) tt
+fresh_by nodes g unusable id none = subst IsFresh (sym none) tt
 fresh_by nodes g (stale node) id none = subst IsFresh (sym none) tt
 
 fresh_told : (nodes : Map Counted) (o : Option Entry) (id : ℕ) → get nodes id ≡ None
@@ -215,7 +215,7 @@ module _ (nodes : Map Counted) (pairs : List (DirentPlus Entry)) (id : ℕ) (c :
           (All-head (λ (x : DirentPlus Entry). LeavesBelow nodes pairs (listed_by x)) pair rest leaves))
       by false is behind = behind
 
-  counted_below : AreBelow nodes → All (λ (pair : DirentPlus Entry). LeavesBelow nodes pairs (listed_by pair)) pairs
+  counted_below : HaveCountsInRange nodes → All (λ (pair : DirentPlus Entry). LeavesBelow nodes pairs (listed_by pair)) pairs
       → c.count + times < counter_end
   counted_below old leaves = elim (some_leaves pairs leaves) [
     | inl none ↦
@@ -229,9 +229,9 @@ module _ (nodes : Map Counted) (pairs : List (DirentPlus Entry)) (id : ℕ) (c :
       plus_none n = omega arith
 
 -- Where each does, no count comes to the end.
-pub stay_below : (nodes : Map Counted) (pairs : List (DirentPlus Entry)) → AreBelow nodes → length pairs < counter_end
+pub stay_below : (nodes : Map Counted) (pairs : List (DirentPlus Entry)) → HaveCountsInRange nodes → length pairs < counter_end
     → All (λ (pair : DirentPlus Entry). LeavesBelow nodes pairs (listed_by pair)) pairs
-    → AreBelow (looked_up_from nodes pairs)
+    → HaveCountsInRange (looked_up_from nodes pairs)
 stay_below nodes pairs old few leaves = record { below = λ id d at. by (nat_lt id 2) id d refl at }
   where
     known : (id : ℕ) (d : Counted) → nat_lt id 2 ≡ false → get (looked_up_from nodes pairs) id ≡ Some d
@@ -262,8 +262,8 @@ one_out nodes pairs id c file at out = record {
 }
 
 -- Counts never fall.
-pub below_before : (nodes : Map Counted) (pairs : List (DirentPlus Entry)) → AreBelow (looked_up_from nodes pairs)
-    → AreBelow nodes
+pub below_before : (nodes : Map Counted) (pairs : List (DirentPlus Entry)) → HaveCountsInRange (looked_up_from nodes pairs)
+    → HaveCountsInRange nodes
 below_before nodes pairs after = record { below = λ id c at. by (nat_lt id 2) id c refl at }
   where
     by : (b : Bool) (id : ℕ) (c : Counted) → nat_lt id 2 ≡ b → get nodes id ≡ Some c → c.count < counter_end

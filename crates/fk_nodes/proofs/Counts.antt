@@ -9,9 +9,9 @@ use Rattle.fuse_spec.specs.declared.Counted.{Counted}
 use Rattle.fuse_spec.specs.declared.Entry.{Entry}
 use Rattle.fuse_spec.specs.Values.Maps.{Map, get, put, remove}
 use Rattle.fuse_spec.specs.Kernel.Replies as replies
-use Rattle.fuse_spec.specs.Kernel.Replies.{Use, usable, useless, stale, use_counted}
+use Rattle.fuse_spec.specs.Kernel.Replies.{Use, usable, unusable, stale, use_counted}
 use Rattle.fk_lookup_count.specs.declared.forget.Forget.{Forget}
-use Rattle.fk_lookup_count.specs.CountedNodes.{looked_up, forget_of}
+use Rattle.fk_lookup_count.specs.CountedNodes.{counted_once_more, forget_of}
 use Rattle.fk_nodes.specs.LookedUp.{looked_up_by_use}
 use Rattle.fk_nodes.proofs.Lengths.{gone_absent, length_left}
 
@@ -45,12 +45,12 @@ not_fewer m id is = sym (ap length (gone_absent m id (was_not (get m id) is)))
     was_not (Some node) is = absurd (cc)
 
 module _ (m : Map Counted) (g : Entry) where
-  looked_up_by : (o : Option Counted) → looked_up m g.nodeid g.generation o ≡ put m g.nodeid (replies.counted_more g o)
+  looked_up_by : (o : Option Counted) → counted_once_more m g.nodeid g.generation o ≡ put m g.nodeid (replies.counted_more g o)
   looked_up_by None = refl
   looked_up_by (Some node) = refl
 
   -- one lookup more is counted, of a node that may be new
-  pub looked_up_is : looked_up m g.nodeid g.generation (get m g.nodeid) ≡ replies.looked_up m (g ∷ [])
+  pub looked_up_is : counted_once_more m g.nodeid g.generation (get m g.nodeid) ≡ replies.looked_up m (g ∷ [])
   looked_up_is = looked_up_by (get m g.nodeid)
 
   length_looked_up : T (is_sorted nat_cmp m) → length (replies.looked_up m (g ∷ []))
@@ -90,5 +90,5 @@ module _ (m : Map Counted) (g : Entry) where
   pub as_many_by : (u : Use) → T (is_sorted nat_cmp m) → is_none (get m g.nodeid) ≡ false
       → length m ≡ length (looked_up_by_use m g u)
   as_many_by usable sorted known = as_many sorted known
-  as_many_by useless sorted known = refl
+  as_many_by unusable sorted known = refl
   as_many_by (stale node) sorted known = refl

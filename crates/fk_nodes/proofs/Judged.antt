@@ -8,7 +8,7 @@ use Rattle.fuse_spec.specs.declared.Entry.{Entry}
 use Rattle.fuse_spec.specs.Values.Maps.{Map, get, put}
 use Rattle.fuse_spec.specs.Files.Operations.{DirentPlus, listed_by, first_listed, files_listed, pair_with}
 use Rattle.fuse_spec.specs.Calls.Paths.{is_dots}
-use Rattle.fuse_spec.specs.Kernel.Replies.{Use, usable, useless, stale, use_counted, use_of, use_of_listed, counted_more, looked_up, pair_judged, looked_up_by, pairs_judged, stale_in, stale_among}
+use Rattle.fuse_spec.specs.Kernel.Replies.{Use, usable, unusable, stale, use_counted, use_of, use_of_listed, counted_more, looked_up, pair_judged, looked_up_by, pairs_judged, stale_in, stale_among}
 use Rattle.fuse_spec.proofs.Tables.{get_put_here, get_put_there}
 use Rattle.fk_nodes.specs.LookedUp.{looked_up_by_use, looked_up_listed, looked_up_from, judged_in, stale_by}
 
@@ -16,7 +16,7 @@ use Rattle.fk_nodes.specs.LookedUp.{looked_up_by_use, looked_up_listed, looked_u
 
 abbrev kept_by : Use → Option Entry → Option Entry
 kept_by usable o = o
-kept_by useless o = None
+kept_by unusable o = None
 kept_by (stale node) o = None
 
 tells_none : (b : Bool) → ◌≡◌ {A = Option Entry} (cond b None None) None
@@ -25,13 +25,13 @@ tells_none false = refl
 
 told_judged : (pair : DirentPlus Entry) (u : Use) → listed_by (pair_judged pair u) ≡ kept_by u (listed_by pair)
 told_judged pair usable = refl
-told_judged pair useless = tells_none (is_dots pair.dirent.name)
+told_judged pair unusable = tells_none (is_dots pair.dirent.name)
 told_judged pair (stale node) = tells_none (is_dots pair.dirent.name)
 
 looked_up_kept : (nodes : Map Counted) (g : Entry) (u : Use)
     → looked_up nodes (first_listed (kept_by u (Some g)) []) ≡ looked_up_by_use nodes g u
 looked_up_kept nodes g usable = refl
-looked_up_kept nodes g useless = refl
+looked_up_kept nodes g unusable = refl
 looked_up_kept nodes g (stale node) = refl
 
 kept_is : (nodes : Map Counted) (o : Option Entry)
@@ -82,7 +82,7 @@ stays_by nodes g usable id generation at = elim (cases_eq id g.nodeid) [
   | inr ne ↦ ap (option_map (λ (c : Counted). c.generation))
       (get_put_there nodes g.nodeid (counted_more g (get nodes g.nodeid)) id ne) ∙ at
 ]
-stays_by nodes g useless id generation at = at
+stays_by nodes g unusable id generation at = at
 stays_by nodes g (stale node) id generation at = at
 
 stays_told : (nodes : Map Counted) (o : Option Entry) (id generation : ℕ) → generation_in nodes id ≡ Some generation
@@ -128,9 +128,9 @@ alike_by nodes later g (Some c) at more =
 
 alike_low : (b : Bool) (nodes later : Map Counted) (g : Entry)
     → ((generation : ℕ) → generation_in (looked_up_by_use nodes g
-    (cond b useless (use_counted g (get nodes g.nodeid)))) g.nodeid ≡ Some generation
+    (cond b unusable (use_counted g (get nodes g.nodeid)))) g.nodeid ≡ Some generation
     → generation_in later g.nodeid ≡ Some generation)
-    → cond b useless (use_counted g (get nodes g.nodeid)) ≡ cond b useless (use_counted g (get later g.nodeid))
+    → cond b unusable (use_counted g (get nodes g.nodeid)) ≡ cond b unusable (use_counted g (get later g.nodeid))
 alike_low true nodes later g more = refl
 alike_low false nodes later g more = alike_by nodes later g (get nodes g.nodeid) refl more
 
@@ -165,7 +165,7 @@ stale_settled nodes (pair ∷ pairs) =
 -- The names are listed as they were told.
 dirent_kept : (pair : DirentPlus Entry) (u : Use) → (pair_judged pair u).dirent ≡ pair.dirent
 dirent_kept pair usable = refl
-dirent_kept pair useless = refl
+dirent_kept pair unusable = refl
 dirent_kept pair (stale node) = refl
 
 pub dirents_kept : (nodes : Map Counted) (pairs : List (DirentPlus Entry))

@@ -8,9 +8,9 @@ use Rattle.fuse_spec.specs.Values.Maps.{Map, get, put, remove}
 use Rattle.fuse_spec.specs.Values.Numbers.{counter_end}
 use Rattle.fuse_spec.specs.Files.Operations.{DirentPlus, listed_by}
 use Rattle.fuse_spec.specs.Kernel.Replies as replies
-use Rattle.fuse_spec.specs.Kernel.Replies.{Use, usable, useless, stale, use_of, counted_more}
+use Rattle.fuse_spec.specs.Kernel.Replies.{Use, usable, unusable, stale, use_of, counted_more}
 use Rattle.fuse_spec.proofs.Tables.{get_put_here, get_put_there, get_gone_here, get_gone_there}
-use Rattle.fk_nodes.specs.LookedUp.{looked_up_by_use, looked_up_listed, looked_up_from, AreBelow, AreAtMost}
+use Rattle.fk_nodes.specs.LookedUp.{looked_up_by_use, looked_up_listed, looked_up_from, HaveCountsInRange, AreAtMost}
 
 -- an entry counted once more, while this is no lower than its count then
 module _ (nodes : Map Counted) (g : Entry) (most more : ℕ) (old : AreAtMost most nodes) (rises : most ≤ more)
@@ -39,7 +39,7 @@ module _ (nodes : Map Counted) (g : Entry) (most more : ℕ) (old : AreAtMost mo
 
   one_more_by : (u : Use) → AreAtMost more (looked_up_by_use nodes g u)
   one_more_by usable = one_more
-  one_more_by useless = kept
+  one_more_by unusable = kept
   one_more_by (stale node) = kept
 
 more_by : (g : Entry) (most : ℕ) (o : Option Counted) → ((c : Counted) → o ≡ Some c → c.count ≤ most)
@@ -82,13 +82,13 @@ all_told (pair ∷ pairs) nodes most old =
 
 -- far from the end of counters
 pub all_below : (pairs : List (DirentPlus Entry)) (nodes : Map Counted) (most more : ℕ) → AreAtMost most nodes
-    → more ≡ min (most + length pairs) (2 ^ 64 - 1) → more < counter_end → AreBelow (looked_up_from nodes pairs)
+    → more ≡ min (most + length pairs) (2 ^ 64 - 1) → more < counter_end → HaveCountsInRange (looked_up_from nodes pairs)
 all_below pairs nodes most more old is low =
     let all = all_told pairs nodes most old in
     record { below = λ id c at. let within = all.within id c at in omega (arith, within, is, low) }
 
 pub all_saturated : (pairs : List (DirentPlus Entry)) (nodes : Map Counted) (most more : ℕ) → AreAtMost most nodes
-    → AreBelow (looked_up_from nodes pairs) → more ≡ min (most + length pairs) (2 ^ 64 - 1)
+    → HaveCountsInRange (looked_up_from nodes pairs) → more ≡ min (most + length pairs) (2 ^ 64 - 1)
     → AreAtMost more (looked_up_from nodes pairs)
 all_saturated pairs nodes most more old below is =
     let all = all_told pairs nodes most old in

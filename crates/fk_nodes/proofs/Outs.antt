@@ -12,12 +12,12 @@ use Rattle.fuse_spec.specs.declared.Entry.{Entry}
 use Rattle.fuse_spec.specs.Values.Maps.{Map, get, put}
 use Rattle.fuse_spec.specs.Values.Numbers.{counter_end}
 use Rattle.fuse_spec.specs.Files.Operations.{DirentPlus, listed_by}
-use Rattle.fuse_spec.specs.Kernel.Replies.{Use, usable, useless, stale, use_of, counted_more}
+use Rattle.fuse_spec.specs.Kernel.Replies.{Use, usable, unusable, stale, use_of, counted_more}
 use Rattle.fuse_spec.proofs.Tables.{cmp_same, tie_no, get_put_here, get_put_there}
 use Rattle.fk_dentry.proofs.SortedEntries.{both_first, both_second, none_below}
 use Rattle.fk_nodes.proofs.Lengths.{length_put}
 use Rattle.fuse_spec.specs.Kernel.Refusals.{is_counted_out}
-use Rattle.fk_nodes.specs.LookedUp.{looked_up_by_use, looked_up_listed, looked_up_from, AreBelow}
+use Rattle.fk_nodes.specs.LookedUp.{looked_up_by_use, looked_up_listed, looked_up_from, HaveCountsInRange}
 
 is_le : (m n : ℕ) → m ≤ n → nat_le m n ≡ true
 is_le m n le = grind (arith, nat_tests)
@@ -68,11 +68,11 @@ below_at (e ∷ m) none id c at = by (is_eq (nat_cmp id e.0)) at
         (is_less counter_end e.1.count (or_first (nat_le counter_end e.1.count) (is_counted_out m) none))
     by false there rest = rest there
 
-pub out_below : (m : Map Counted) → is_counted_out m ≡ false → AreBelow m
+pub out_below : (m : Map Counted) → is_counted_out m ≡ false → HaveCountsInRange m
 out_below m none = record { below = below_at m none }
 
 -- where each is below, none has
-pub none_out : (m : Map Counted) → T (is_sorted nat_cmp m) → AreBelow m → is_counted_out m ≡ false
+pub none_out : (m : Map Counted) → T (is_sorted nat_cmp m) → HaveCountsInRange m → is_counted_out m ≡ false
 none_out [] sorted all = refl
 none_out (e ∷ m) sorted all =
     let here : get (e ∷ m) e.0 ≡ Some e.1 = ap (λ r. cond (is_eq r) (Some e.1) (get m e.0)) (cmp_same e.0) in
@@ -89,8 +89,8 @@ none_out (e ∷ m) sorted all =
     ]
 
 -- one lookup more
-pub one_below : (m : Map Counted) (g : Entry) → AreBelow m → (counted_more g (get m g.nodeid)).count < counter_end
-    → AreBelow (put m g.nodeid (counted_more g (get m g.nodeid)))
+pub one_below : (m : Map Counted) (g : Entry) → HaveCountsInRange m → (counted_more g (get m g.nodeid)).count < counter_end
+    → HaveCountsInRange (put m g.nodeid (counted_more g (get m g.nodeid)))
 one_below m g old fits = record {
   below = λ id c at. elim (cases_eq id g.nodeid) [
     | inl same ↦
@@ -108,7 +108,7 @@ one_below m g old fits = record {
 sorted_by : (m : Map Counted) (g : Entry) (u : Use) → T (is_sorted nat_cmp m)
     → T (is_sorted nat_cmp (looked_up_by_use m g u))
 sorted_by m g usable sorted = is_sorted-put nat_cmp nat_cmp_total g.nodeid (counted_more g (get m g.nodeid)) m sorted
-sorted_by m g useless sorted = sorted
+sorted_by m g unusable sorted = sorted
 sorted_by m g (stale node) sorted = sorted
 
 sorted_told : (m : Map Counted) (o : Option Entry) → T (is_sorted nat_cmp m) → T (is_sorted nat_cmp (looked_up_listed m o))
@@ -124,7 +124,7 @@ sorted_from (pair ∷ pairs) m sorted = sorted_from pairs (looked_up_listed m (l
 -- how many nodes there are then
 long_by : (m : Map Counted) (g : Entry) (u : Use) → length (looked_up_by_use m g u) ≤ length m + 1
 long_by m g usable = length_put m g.nodeid (counted_more g (get m g.nodeid))
-long_by m g useless = omega arith
+long_by m g unusable = omega arith
 long_by m g (stale node) = omega arith
 
 long_told : (m : Map Counted) (o : Option Entry) → length (looked_up_listed m o) ≤ length m + 1

@@ -5,8 +5,8 @@ use Rattle.fuse_spec.specs.Values.Maps.{Place}
 use Rattle.fuse_spec.specs.Files.Operations.{DirentPlus, listed_by}
 use Rattle.fuse_spec.specs.Kernel.Queues.{QueueState}
 use Rattle.fuse_spec.specs.declared.Purpose.{Purpose}
-use Rattle.fuse_spec.specs.Kernel.Replies.{Use, usable, useless, stale, stale_in, each_forgotten}
-use Rattle.fk_dentry.specs.NamesInForce.{NamesInForce, HasRoom}
+use Rattle.fuse_spec.specs.Kernel.Replies.{Use, usable, unusable, stale, stale_in, each_forgotten}
+use Rattle.fk_dentry.specs.CachedNames.{NamesInForce, HasRoom}
 use Rattle.fk_nodes.specs.ListedFiles.{HasNameRoom, HaveNameRoom}
 
 -- Those of the names behind which the others are left have room.
@@ -60,5 +60,5 @@ all_behind names directory all left behind none =
 pub forgotten_then : (q : QueueState Purpose) (u : Use) (rest : List ℕ)
     → each_forgotten q (stale_in u ++ rest) ≡ each_forgotten (each_forgotten q (stale_in u)) rest
 forgotten_then q usable rest = refl
-forgotten_then q useless rest = refl
+forgotten_then q unusable rest = refl
 forgotten_then q (stale node) rest = refl

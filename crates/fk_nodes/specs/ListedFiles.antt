@@ -7,14 +7,14 @@ use Rattle.fuse_spec.specs.Values.Maps.{NameMap, Map}
 use Rattle.fuse_spec.specs.declared.Counted.{Counted}
 use Rattle.fuse_spec.specs.Calls.CallReplies.{names_listed}
 use Rattle.fuse_spec.specs.Files.Operations.{DirentPlus, listed_by, pair_with}
-use Rattle.fk_dentry.specs.NamesInForce.{NamesInForce, HasRoom}
+use Rattle.fk_dentry.specs.CachedNames.{NamesInForce, HasRoom}
 use Rattle.fk_nodes.specs.LookedUp.{judged_in}
 use Rattle.fk_wire.specs.declared.records_plus.RecordsPlus.{RecordsPlus}
 use Rattle.fk_wire.specs.Records.{pluses_in}
 
 -- The names that are left in an iterator.
-abbrev pub pairs_in : RecordsPlus → List (DirentPlus Entry)
-pairs_in records = map pair_in (pluses_in records)
+abbrev pub pairs_left_in : RecordsPlus → List (DirentPlus Entry)
+pairs_left_in records = map pair_in (pluses_in records)
 
 -- A name that tells a file has room.
 abbrev pub HasNameRoom : NamesInForce → (directory : ℕ) → DirentPlus Entry → Option Entry → Type 0

@@ -5,12 +5,12 @@ use Rattle.fuse_spec.specs.declared.Entry.{Entry}
 use Rattle.fuse_spec.specs.Values.Maps.{Map, get, put}
 use Rattle.fuse_spec.specs.Values.Numbers.{counter_end}
 use Rattle.fuse_spec.specs.Files.Operations.{DirentPlus, listed_by}
-use Rattle.fuse_spec.specs.Kernel.Replies.{Use, usable, useless, stale, use_of, use_of_listed, pair_judged, counted_more, stale_in}
+use Rattle.fuse_spec.specs.Kernel.Replies.{Use, usable, unusable, stale, use_of, use_of_listed, pair_judged, counted_more, stale_in}
 
 -- The counts after an entry that is judged so.
 abbrev pub looked_up_by_use : Map Counted → Entry → Use → Map Counted
 looked_up_by_use nodes g usable = put nodes g.nodeid (counted_more g (get nodes g.nodeid))
-looked_up_by_use nodes g useless = nodes
+looked_up_by_use nodes g unusable = nodes
 looked_up_by_use nodes g (stale node) = nodes
 
 -- The counts after a name that tells this file, or none.
@@ -44,7 +44,7 @@ times_listed id generation (pair ∷ pairs) = cond (is_of_node id generation (li
     (suc (times_listed id generation pairs)) (times_listed id generation pairs)
 
 -- No node's count has come to the end of counters.
-pub record AreBelow (nodes : Map Counted) : Type 0 where
+pub record HaveCountsInRange (nodes : Map Counted) : Type 0 where
   pub below : (id : ℕ) (counted : Counted) → get nodes id ≡ Some counted → counted.count < counter_end
 
 -- No node's count is higher than this.

@@ -10,8 +10,8 @@ ghost use Rattle.std.specs.Ordering.{nat_cmp};
 ghost use Rattle.fk_wire.specs.Records.{direntplus_content};
 ghost use Rattle.fuse_frames.specs.ReplyTies.{pair_in};
 ghost use Rattle.fuse_spec.specs.Files.Operations.{listed_by};
-ghost use Rattle.fk_nodes.specs.LookedUp.{looked_up_from, LeavesBelow, AreBelow, SomeOut};
-ghost use Rattle.fk_nodes.specs.ListedFiles.{pairs_in};
+ghost use Rattle.fk_nodes.specs.LookedUp.{looked_up_from, LeavesBelow, HaveCountsInRange, SomeOut};
+ghost use Rattle.fk_nodes.specs.ListedFiles.{pairs_left_in};
 ghost use Rattle.fk_nodes.specs.Uses.{use_meant};
 
 use crate::entry_use::EntryUse;
@@ -67,7 +67,7 @@ impl<C: CountTable> CountedNodes<C> {
         ensures count { result ≡ length self.now }
         ensures few { result < 2 ^ 63 }
     {
-        self.table.keeps_sound();
+        self.table.lemma_sound();
         self.len
     }
 
@@ -82,10 +82,10 @@ impl<C: CountTable> CountedNodes<C> {
     }
 
     /// Nodes stand in rising id. A call without effect, made where a proof rests on that.
-    pub fn are_sorted(&self)
+    pub fn lemma_sorted(&self)
         ensures { T (is_sorted nat_cmp self.now) }
     {
-        self.table.keeps_sound();
+        self.table.lemma_sound();
     }
 
     /// Whether an entry can be used.
@@ -102,7 +102,7 @@ impl<C: CountTable> CountedNodes<C> {
     }
 
     /// Whether one lookup more brings the count of the entry's node to the end of counters.
-    pub fn counts_out(&self, entry: &Entry) -> bool
+    pub fn count_overflows(&self, entry: &Entry) -> bool
         ensures { result ≡ nat_le counter_end (counted_more entry.now (get self.now entry.now.nodeid)).count }
     {
         // Counts are far from their end as a rule: then none is looked up.
@@ -128,7 +128,7 @@ impl<C: CountTable> CountedNodes<C> {
         ensures err { OnErr result (self.new ≡ self.old) }
         ensures counted { OnErr result (get self.old entry.now.nodeid ≡ None) }
     {
-        self.table.keeps_sound();
+        self.table.lemma_sound();
         match self
             .table
             .reserve_and_learn(entry.nodeid, entry.generation)?
@@ -156,9 +156,9 @@ impl<C: CountTable> CountedNodes<C> {
     /// Whether the names of a list that tell the node that this one tells, under the same generation, bring its count
     /// to the end of counters, where it is counted under that generation.
     fn brings_out(&self, pair: &DirentPlus<'_>, pairs: RecordsPlus<'_>) -> bool
-        requires { AreBelow self.now }
-        ensures out { result ≡ true → SomeOut (looked_up_from self.now (pairs_in pairs.entry)) }
-        ensures within { result ≡ false → LeavesBelow self.now (pairs_in pairs.entry)
+        requires { HaveCountsInRange self.now }
+        ensures out { result ≡ true → SomeOut (looked_up_from self.now (pairs_left_in pairs.entry)) }
+        ensures within { result ≡ false → LeavesBelow self.now (pairs_left_in pairs.entry)
             (listed_by (pair_in (direntplus_content pair.now))) }
     {
         let Some(entry) = entry_of(pair) else {
@@ -180,9 +180,9 @@ impl<C: CountTable> CountedNodes<C> {
     /// Whether a node's count comes to the end of counters once the names of a list are counted, each judged by the
     /// counts that those before it left. Takes no memory.
     pub fn listed_count_out(&self, pairs: RecordsPlus<'_>) -> bool
-        requires { AreBelow self.now }
-        ensures out { result ≡ true → SomeOut (looked_up_from self.now (pairs_in pairs.entry)) }
-        ensures within { result ≡ false → AreBelow (looked_up_from self.now (pairs_in pairs.entry)) }
+        requires { HaveCountsInRange self.now }
+        ensures out { result ≡ true → SomeOut (looked_up_from self.now (pairs_left_in pairs.entry)) }
+        ensures within { result ≡ false → HaveCountsInRange (looked_up_from self.now (pairs_left_in pairs.entry)) }
     {
         let names = pairs.count_left() as u64;
         // Counts are far from their end as a rule: then none is looked up.
@@ -203,8 +203,8 @@ impl<C: CountTable> CountedNodes<C> {
     ///
     /// Memory was wanting. Nothing changed.
     pub fn count_listed(&mut self, pairs: RecordsPlus<'_>) -> Result<(), AllocError>
-        requires { AreBelow (looked_up_from self.old (pairs_in pairs)) }
-        ensures ok { OnOk result (self.new ≡ looked_up_from self.old (pairs_in pairs.entry)) }
+        requires { HaveCountsInRange (looked_up_from self.old (pairs_left_in pairs)) }
+        ensures ok { OnOk result (self.new ≡ looked_up_from self.old (pairs_left_in pairs.entry)) }
         ensures err { OnErr result (self.new ≡ self.old) }
     {
         reserve_nodes(&mut self.table, pairs)?;
@@ -219,7 +219,7 @@ impl<C: CountTable> CountedNodes<C> {
         ensures count { result ≡ option_map (λ counted. counted.count) (get self.old id) }
         ensures nodes { self.new ≡ remove self.old id }
     {
-        self.table.keeps_sound();
+        self.table.lemma_sound();
         let forget = self.table.evict(id)?;
         self.len -= 1;
         Some(forget.nlookup)

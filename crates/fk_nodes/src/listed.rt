@@ -9,9 +9,9 @@ ghost use Rattle.fuse_spec.specs.Values.Numbers.{max_validity};
 ghost use Rattle.fuse_spec.specs.Files.Operations.{listed_by, pair_with};
 ghost use Rattle.fuse_spec.specs.Kernel.Replies.{each_forgotten, stale_in, use_of_listed};
 ghost use Rattle.fuse_spec.specs.declared.Entry.{Entry as NodeEntry};
-ghost use Rattle.fk_dentry.specs.NamesInForce.{HasRoom};
-ghost use Rattle.fk_nodes.specs.LookedUp.{judged_in, looked_up_from, stale_by, AreBelow};
-ghost use Rattle.fk_nodes.specs.ListedFiles.{pairs_in, HasNameRoom, HaveNameRoom, names_judged};
+ghost use Rattle.fk_dentry.specs.CachedNames.{HasRoom};
+ghost use Rattle.fk_nodes.specs.LookedUp.{judged_in, looked_up_from, stale_by, HaveCountsInRange};
+ghost use Rattle.fk_nodes.specs.ListedFiles.{pairs_left_in, HasNameRoom, HaveNameRoom, names_judged};
 
 use crate::counted_nodes::CountedNodes;
 use crate::entry_use::EntryUse;
@@ -51,7 +51,7 @@ fn reserve_listed<A: Allocator + Copy>(
     pairs: RecordsPlus<'_>,
 ) -> Result<(), AllocError>
     ensures names { names.new.names ≡ names.old.names }
-    ensures room { OnOk result (HaveNameRoom names.new directory (pairs_in pairs.entry)) }
+    ensures room { OnOk result (HaveNameRoom names.new directory (pairs_left_in pairs.entry)) }
 {
     for pair in pairs {
         reserve_name(names, directory, &pair)?;
@@ -97,9 +97,9 @@ fn bind_listed<A: Allocator + Copy, C: CountTable>(
     clock: u64,
     pairs: RecordsPlus<'_>,
 )
-    requires room { HaveNameRoom names.old directory (pairs_in pairs) }
+    requires room { HaveNameRoom names.old directory (pairs_left_in pairs) }
     requires clock { clock + max_validity < 2 ^ 64 }
-    ensures { names.new.names ≡ names_judged clock directory nodes.now names.old.names (pairs_in pairs.entry) }
+    ensures { names.new.names ≡ names_judged clock directory nodes.now names.old.names (pairs_left_in pairs.entry) }
 {
     for pair in pairs {
         bind_name(names, nodes, directory, clock, &pair);
@@ -135,11 +135,11 @@ pub fn forget_stale<Q: QueueTable<Purpose>, C: CountTable>(
     nodes: &CountedNodes<C>,
     pairs: RecordsPlus<'_>,
 )
-    requires { length (pairs_in pairs) ≤ (Q.room queues.old).forgets }
+    requires { length (pairs_left_in pairs) ≤ (Q.room queues.old).forgets }
     ensures state { Q.state queues.new ≡ each_forgotten (Q.state queues.old)
-        (stale_by nodes.now (pairs_in pairs.entry)) }
+        (stale_by nodes.now (pairs_left_in pairs.entry)) }
     ensures requests { (Q.room queues.old).requests ≤ (Q.room queues.new).requests }
-    ensures forgets { (Q.room queues.old).forgets ≤ (Q.room queues.new).forgets + length (pairs_in pairs.entry) }
+    ensures forgets { (Q.room queues.old).forgets ≤ (Q.room queues.new).forgets + length (pairs_left_in pairs.entry) }
 {
     for pair in pairs {
         forget_one(queues, nodes, &pair);
@@ -160,12 +160,12 @@ pub fn count_and_bind<A: Allocator + Copy, C: CountTable>(
     pairs: RecordsPlus<'_>,
 ) -> Result<(), AllocError>
     requires clock { clock + max_validity < 2 ^ 64 }
-    requires below { AreBelow (looked_up_from nodes.old (pairs_in pairs)) }
+    requires below { HaveCountsInRange (looked_up_from nodes.old (pairs_left_in pairs)) }
     ensures err_names { OnErr result (names.new.names ≡ names.old.names) }
     ensures err_nodes { OnErr result (nodes.new ≡ nodes.old) }
-    ensures nodes { OnOk result (nodes.new ≡ looked_up_from nodes.old (pairs_in pairs.entry)) }
+    ensures nodes { OnOk result (nodes.new ≡ looked_up_from nodes.old (pairs_left_in pairs.entry)) }
     ensures names { OnOk result (names.new.names ≡ names_judged clock directory
-        (looked_up_from nodes.old (pairs_in pairs.entry)) names.old.names (pairs_in pairs.entry)) }
+        (looked_up_from nodes.old (pairs_left_in pairs.entry)) names.old.names (pairs_left_in pairs.entry)) }
 {
     reserve_listed(names, directory, pairs)?;
     nodes.count_listed(pairs)?;

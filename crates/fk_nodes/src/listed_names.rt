@@ -1,10 +1,10 @@
 //! Copies of the names that a directory's list has.
 
 ghost use Rattle.std.specs.Prelude.{◌≡◌, map, IfOk};
-ghost use Rattle.fk_syscalls.specs.Values.{dirent_of};
+ghost use Rattle.fk_syscalls.specs.Values.{listed_dirent};
 ghost use Rattle.fk_wire.specs.Records.{dirent_content, records_in};
-ghost use Rattle.fuse_frames.specs.ReplyTies.{dirent_in};
-ghost use Rattle.fk_nodes.specs.ListedFiles.{pairs_in};
+ghost use Rattle.fuse_frames.specs.ReplyTies.{dirent_read};
+ghost use Rattle.fk_nodes.specs.ListedFiles.{pairs_left_in};
 
 use fk_syscalls::ListedName;
 use fk_wire::{Dirent, Records, RecordsPlus};
@@ -16,7 +16,7 @@ fn name_of_dirent<A: Allocator + Copy>(
     alloc: A,
     dirent: &Dirent<'_>,
 ) -> Result<ListedName<A>, AllocError>
-    ensures { IfOk result (λ name. dirent_of name ≡ dirent_in (dirent_content dirent.now)) }
+    ensures { IfOk result (λ name. listed_dirent name ≡ dirent_read (dirent_content dirent.now)) }
 {
     let name = dirent.name.to_vec(alloc)?;
     Ok(ListedName {
@@ -36,7 +36,7 @@ pub fn names_of_dirents<A: Allocator + Copy>(
     alloc: A,
     records: Records<'_>,
 ) -> Result<Vec<ListedName<A>, A>, AllocError>
-    ensures { IfOk result (λ names. map dirent_of names.items ≡ map dirent_in (records_in records.entry)) }
+    ensures { IfOk result (λ names. map listed_dirent names.items ≡ map dirent_read (records_in records.entry)) }
 {
     let mut names = Vec::new(alloc);
     for record in records {
@@ -54,7 +54,7 @@ pub fn names_of_direntpluses<A: Allocator + Copy>(
     alloc: A,
     pairs: RecordsPlus<'_>,
 ) -> Result<Vec<ListedName<A>, A>, AllocError>
-    ensures { IfOk result (λ names. map dirent_of names.items ≡ map (λ pair. pair.dirent) (pairs_in pairs.entry)) }
+    ensures { IfOk result (λ names. map listed_dirent names.items ≡ map (λ pair. pair.dirent) (pairs_left_in pairs.entry)) }
 {
     let mut names = Vec::new(alloc);
     for pair in pairs {

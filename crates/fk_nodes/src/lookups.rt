@@ -7,10 +7,10 @@ ghost use Rattle.fuse_frames.specs.ReplyTies.{pair_in};
 ghost use Rattle.fuse_spec.specs.Values.Maps.{get};
 ghost use Rattle.fuse_spec.specs.Files.Operations.{listed_by};
 ghost use Rattle.fuse_spec.specs.Kernel.Replies.{use_counted};
-ghost use Rattle.fk_nodes.specs.LookedUp.{looked_up_by_use, looked_up_listed, looked_up_from, AreBelow};
+ghost use Rattle.fk_nodes.specs.LookedUp.{looked_up_by_use, looked_up_listed, looked_up_from, HaveCountsInRange};
 ghost use Rattle.fk_nodes.specs.LookedUp.{is_of_node, times_listed};
 ghost use Rattle.fk_nodes.specs.Rooms.{HasNodeRoom, HaveNodeRoom};
-ghost use Rattle.fk_nodes.specs.ListedFiles.{pairs_in};
+ghost use Rattle.fk_nodes.specs.ListedFiles.{pairs_left_in};
 
 use crate::listed_entry::entry_of;
 use fk_lookup_count::CountTable;
@@ -37,7 +37,7 @@ pub(crate) fn reserve_nodes<C: CountTable>(
     pairs: RecordsPlus<'_>,
 ) -> Result<(), AllocError>
     ensures counted { C.counted table.new ≡ C.counted table.old }
-    ensures room { OnOk result (HaveNodeRoom (C.has_room table.new) (pairs_in pairs.entry)) }
+    ensures room { OnOk result (HaveNodeRoom (C.has_room table.new) (pairs_left_in pairs.entry)) }
 {
     for pair in pairs {
         reserve_node(table, &pair)?;
@@ -68,7 +68,7 @@ fn count_one<C: CountTable>(table: &mut C, entry: &Entry) -> bool
 /// and gives how many are then.
 fn count_pair<C: CountTable>(table: &mut C, len: usize, pair: &DirentPlus<'_>) -> usize
     requires room { HasNodeRoom (C.has_room table.old) (listed_by (pair_in (direntplus_content pair.now))) }
-    requires below { AreBelow (C.counted table.old) }
+    requires below { HaveCountsInRange (C.counted table.old) }
     requires len { len ≡ length (C.counted table.old) }
     ensures counted { C.counted table.new ≡ looked_up_listed (C.counted table.old)
         (listed_by (pair_in (direntplus_content pair.now))) }
@@ -81,7 +81,7 @@ fn count_pair<C: CountTable>(table: &mut C, len: usize, pair: &DirentPlus<'_>) -
     if entry.nodeid < 2 {
         return len;
     }
-    table.keeps_sound();
+    table.lemma_sound();
     if count_one(table, &entry) {
         return len + 1;
     }
@@ -91,10 +91,10 @@ fn count_pair<C: CountTable>(table: &mut C, len: usize, pair: &DirentPlus<'_>) -
 /// Counts the nodes that names of a list tell, each judged by the counts that those before it left. Is given how many
 /// nodes are counted, and gives how many are then. Takes no memory.
 pub(crate) fn count_all<C: CountTable>(table: &mut C, len: usize, pairs: RecordsPlus<'_>) -> usize
-    requires room { HaveNodeRoom (C.has_room table.old) (pairs_in pairs) }
-    requires below { AreBelow (looked_up_from (C.counted table.old) (pairs_in pairs)) }
+    requires room { HaveNodeRoom (C.has_room table.old) (pairs_left_in pairs) }
+    requires below { HaveCountsInRange (looked_up_from (C.counted table.old) (pairs_left_in pairs)) }
     requires len { len ≡ length (C.counted table.old) }
-    ensures counted { C.counted table.new ≡ looked_up_from (C.counted table.old) (pairs_in pairs.entry) }
+    ensures counted { C.counted table.new ≡ looked_up_from (C.counted table.old) (pairs_left_in pairs.entry) }
     ensures len { result ≡ length (C.counted table.new) }
 {
     let mut len = len;
@@ -116,7 +116,7 @@ fn is_pair_of(pair: &DirentPlus<'_>, id: u64, generation: u64) -> bool
 
 /// Whether more than so many names of a list tell a node under a generation.
 pub(crate) fn lists_more_than(pairs: RecordsPlus<'_>, id: u64, generation: u64, limit: u64) -> bool
-    ensures { result ≡ nat_lt limit (times_listed id generation (pairs_in pairs.entry)) }
+    ensures { result ≡ nat_lt limit (times_listed id generation (pairs_left_in pairs.entry)) }
 {
     let mut left = limit;
     for pair in pairs {

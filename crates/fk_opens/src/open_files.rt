@@ -89,7 +89,7 @@ impl<A: Allocator + Copy> OpenFiles<A> {
         ensures entries { self.new.entries ≡ put self.old.entries number opened }
         ensures room { self.old.room ≤ self.new.room + 1 }
     {
-        self.files.keeps_sound();
+        self.files.lemma_sound();
         self.uses.pin(opened.nodeid);
         self.files.put(number, opened);
     }

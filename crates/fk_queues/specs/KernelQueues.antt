@@ -25,6 +25,6 @@ without_served unique (purpose.Release opened) calls = calls
 without_served unique (purpose.Call call) calls = remove calls unique
 
 -- Each node has as many pins as RELEASEs, and the requests of calls are these.
-pub record AreKnown (requests : List (ℕ × QueuedRequest Purpose)) (releases calls : List (ℕ × ℕ)) : Type 0 where
+pub record AreRequestsKnown (requests : List (ℕ × QueuedRequest Purpose)) (releases calls : List (ℕ × ℕ)) : Type 0 where
   pub pinned : HavePins releases (releases_of requests)
   pub served : calls ≡ served_in requests

@@ -9,6 +9,6 @@ pub record QueuesState (W : Type 0) : Type 0 where
   pub room : Room
 
 -- what is true of the queues between two calls: each request's INTERRUPT fits with no memory
-pub record IsKept {W : Type 0} (s : QueueState W) (interrupts_fit : ℕ) : Type 0 where
+pub record AreQueuesKept {W : Type 0} (s : QueueState W) (interrupts_fit : ℕ) : Type 0 where
   pub sound : IsSound s
   pub fits : length s.requests ≤ interrupts_fit

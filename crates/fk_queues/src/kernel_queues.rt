@@ -34,7 +34,7 @@ impl<Q: QueueTable<Purpose>> Model for KernelQueues<Q> {
     ghost use Rattle.std.specs.Prelude.{min};
     ghost use Rattle.std.specs.Coded.{codes};
     ghost use Rattle.fuse_spec.specs.declared.Purpose.{Purpose};
-    ghost use Rattle.fk_queues.specs.KernelQueues.{AreKnown};
+    ghost use Rattle.fk_queues.specs.KernelQueues.{AreRequestsKnown};
     ghost use Rattle.fk_queues.specs.State.{QueuesState};
 
     ghost Value = { QueuesState Purpose };
@@ -49,7 +49,7 @@ impl<Q: QueueTable<Purpose>> Model for KernelQueues<Q> {
       };
     } };
 
-    ghost invariant = { λ k. AreKnown (Q.state k.queues).requests k.releases.counts k.calls.entries };
+    ghost invariant = { λ k. AreRequestsKnown (Q.state k.queues).requests k.releases.counts k.calls.entries };
 }
 
 impl<Q: QueueTable<Purpose>> KernelQueues<Q> {
@@ -95,7 +95,7 @@ impl<Q: QueueTable<Purpose>> QueueTable<Purpose> for KernelQueues<Q> {
     }
 
     fn enqueue(&mut self, kept: Purpose) -> u64 {
-        self.queues.keeps_sound();
+        self.queues.lemma_sound();
         pin_released(&mut self.releases, kept);
         let unique = self.queues.enqueue(kept);
         put_served(&mut self.calls, unique, kept);
@@ -169,8 +169,8 @@ impl<Q: QueueTable<Purpose>> QueueTable<Purpose> for KernelQueues<Q> {
         self.calls.clear();
     }
 
-    fn keeps_sound(&self) {
-        self.queues.keeps_sound();
+    fn lemma_sound(&self) {
+        self.queues.lemma_sound();
     }
 }
 
@@ -219,7 +219,7 @@ fn drop_served<A: Allocator + Copy>(calls: &mut Table<u64, A>, unique: u64, kept
     ensures sorted { T (is_sorted nat_cmp calls.old.entries) }
     ensures room { calls.old.room ≤ calls.new.room }
 {
-    calls.keeps_sound();
+    calls.lemma_sound();
     match kept {
         Purpose::Call(_) => {
             let _call = calls.remove(unique);

@@ -31,7 +31,7 @@ impl<W: Drop, S: RequestStore<W>> Model for QueuesOf<W, S> {
     ghost use Rattle.std.specs.Coded.{codes};
     ghost use Rattle.std.specs.VecDeque.{deque_capacity, deque_len};
     ghost use Rattle.fuse_spec.specs.contracts.Mark as mark_row;
-    ghost use Rattle.fk_queues.specs.State.{QueuesState, IsKept};
+    ghost use Rattle.fk_queues.specs.State.{QueuesState, AreQueuesKept};
 
     ghost Value = { QueuesState W };
 
@@ -51,7 +51,7 @@ impl<W: Drop, S: RequestStore<W>> Model for QueuesOf<W, S> {
       };
     } };
 
-    ghost invariant = { λ q. IsKept
+    ghost invariant = { λ q. AreQueuesKept
         (record {
           requests = S.entries q.requests;
           interrupts = q.interrupts.numbers.items;
@@ -224,7 +224,7 @@ impl<W: Drop, S: RequestStore<W>> QueueTable<W> for QueuesOf<W, S> {
         self.uniques = Uniques::new();
     }
 
-    fn keeps_sound(&self) {
+    fn lemma_sound(&self) {
         // A field is touched so that the type's invariant is at hand.
         let _off = self.interrupts.off;
         let _count = self.requests.len();

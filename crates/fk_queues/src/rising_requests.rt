@@ -59,7 +59,7 @@ impl<W: Drop, A: Allocator + Copy> RequestStore<W> for RisingRequests<W, A> {
     }
 
     fn len(&self) -> usize {
-        self.requests.keeps_sound();
+        self.requests.lemma_sound();
         self.requests.len()
     }
 

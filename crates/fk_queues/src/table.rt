@@ -138,7 +138,7 @@ pub trait QueueTable<W: Drop> {
     /// A call without effect, for a caller's proof: numbers are even, rise by 2 and name one request at most, and memory
     /// bounds how many requests there are. A number stands on the list of INTERRUPTs once at most, and leaves it when
     /// its request ends.
-    fn keeps_sound(&self)
+    fn lemma_sound(&self)
         ensures sound { IsSound (state self.now) }
         ensures few { length (state self.now).requests < 2 ^ 63 };
 }

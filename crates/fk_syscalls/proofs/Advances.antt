@@ -24,12 +24,12 @@ use Rattle.fk_syscalls.specs.Words.{words_from, behind_first}
 use Rattle.fk_syscalls.specs.Plans.{IsLast, IsSoundPlan, NamesEnd, names_end, plan_of}
 use Rattle.fk_syscalls.specs.declared.plan.Plan.{Plan}
 use Rattle.fk_syscalls.specs.declared.plan.Plan.TheVariants.{Last, Rename, Link}
-use Rattle.fk_syscalls.specs.States.{IsSoundAim, walking_at, state_of, HasNames, Asks}
+use Rattle.fk_syscalls.specs.States.{IsSoundAim, walking_at, state_of, HasCachedNames, BeginsAsking}
 use Rattle.fk_syscalls.specs.declared.state.Aim.{Aim}
 use Rattle.fk_syscalls.specs.declared.state.Aim.TheVariants.{Walks, Reads, Writes}
 use Rattle.std.proofs.lemmas.Bool.Decides.{nat_tests}
 
-module _ (c : Vfs Opened) (names : NameMap Binding) (clock : ℕ) (has : HasNames c names clock) (call : ℕ) where
+module _ (c : Vfs Opened) (names : NameMap Binding) (clock : ℕ) (has : HasCachedNames c names clock) (call : ℕ) where
   module _ (words : List Name) (plan : WalkPlan ℕ) where
     abbrev after : WalkStop ℕ → Advance Opened
     after stop = after_walk c call (after_stop (look c) c.root plan stop)
@@ -162,14 +162,14 @@ on_err (Err e) then x = then x
 
 -- Beginnings that leave a call alike.
 module _ {A : Type 0} (names : NameMap Binding) (clock : ℕ) (one other : Beginning ℕ Opened)
-    (same : (c : Vfs Opened) (call : ℕ) → HasNames c names clock
+    (same : (c : Vfs Opened) (call : ℕ) → HasCachedNames c names clock
     → after_beginning c call one ≡ after_beginning c call other) where
   pub begun_so : (r : Result (Next A) AllocError) → IfOk r (IsBegun names clock other)
       → IfOk r (IsBegun names clock one)
   begun_so (Ok next) begun = λ c call has. same c call has ∙ begun c call has
   begun_so (Err e) begun = tt
 
-  pub asks_so : (r : Result (Next A) AllocError) → OnErr r (Asks names clock other) → OnErr r (Asks names clock one)
+  pub asks_so : (r : Result (Next A) AllocError) → OnErr r (BeginsAsking names clock other) → OnErr r (BeginsAsking names clock one)
   asks_so (Ok next) asks = tt
   asks_so (Err e) asks = λ c call has. ((asks c call has).0, same c call has ∙ (asks c call has).1)
 
@@ -177,11 +177,11 @@ module _ {A : Type 0} (names : NameMap Binding) (clock : ℕ) (one other : Begin
 module _ {A : Type 0} (names : NameMap Binding) (clock : ℕ) (opens : Map Opened) (made : Call)
     (begins : Beginning ℕ Opened) where
   abbrev AsksFirst : Result (Next A) AllocError → Type 0
-  AsksFirst r = OnErr r ((c : Vfs Opened) → HasNames c names clock → c.opens ≡ opens
+  AsksFirst r = OnErr r ((c : Vfs Opened) → HasCachedNames c names clock → c.opens ≡ opens
       → (state : CallState Opened) × (begun false c made ≡ asking (numbered c) c.next_call state))
 
   pub first_asks : ((c : Vfs Opened) → beginning c.opens made ≡ begins) → (r : Result (Next A) AllocError)
-      → OnErr r (Asks names clock begins) → AsksFirst r
+      → OnErr r (BeginsAsking names clock begins) → AsksFirst r
   first_asks same (Ok next) asks = tt
   first_asks same (Err e) asks = λ c has is.
       let first = asks (numbered c) c.next_call (record { names = has.names; clock = has.clock; root = has.root }) in

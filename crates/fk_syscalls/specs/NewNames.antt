@@ -4,8 +4,8 @@ use Rattle.fuse_spec.specs.declared.Binding.{Binding}
 use Rattle.fuse_spec.specs.Values.Maps.{Place, NameMap, put_name}
 use Rattle.fk_syscalls.specs.declared.new_name.NewName.{NewName}
 
-abbrev pub place_of : NewName → Place
-place_of new = (new.directory, new.name.now)
+abbrev pub new_place_of : NewName → Place
+new_place_of new = (new.directory, new.name.now)
 
-abbrev pub with_name : NameMap Binding → NewName → NameMap Binding
-with_name names new = put_name names (place_of new) (record { target = Some new.node; until = new.until })
+abbrev pub with_new_name : NameMap Binding → NewName → NameMap Binding
+with_new_name names new = put_name names (new_place_of new) (record { target = Some new.node; until = new.until })

@@ -2,7 +2,7 @@
 use Rattle.std.specs.Prelude.{◌≡◌, ℕ, Bool, true, false, List, [], Option, All, is_none}
 use Rattle.std.specs.List.{list_any}
 use Rattle.fuse_spec.specs.Calls.Walks.{FinalOperation, WalkPlan, last, rename, link}
-use Rattle.fuse_spec.specs.Files.Operations.{files_in, names_in, operation_of}
+use Rattle.fuse_spec.specs.Files.Operations.{files_in, operation_names, operation_of}
 use Rattle.fuse_spec.specs.declared.operation.NoOpenFile.{NoOpenFile}
 use Rattle.fuse_spec.specs.declared.operation.Operation.{Operation}
 use Rattle.fuse_spec.specs.declared.operation.Operation.TheVariants.{Lookup}
@@ -21,7 +21,7 @@ names_end final = list_any is_none (files_in (λ o. []) final)
 -- The operation at the end of a call's walks: it is of the file to which the last walk leads, its names are words, and
 -- it looks up no name.
 pub record IsSoundFinal {S : Type 0} (bytes_of : S → List ℕ) (final : Operation S (Option ℕ) NoOpenFile) : Type 0 where
-  pub words : All IsWord (names_in (operation_of bytes_of final))
+  pub words : All IsWord (operation_names (operation_of bytes_of final))
   pub looks_up_none : is_lookup final ≡ false
   pub ends : names_end (operation_of bytes_of final) ≡ true
 

@@ -80,12 +80,12 @@ used_by (doing operation) = None
 used_by (using handle operation) = Some handle
 
 -- These are the names in force and the time, and the root is node 1.
-pub record HasNames (c : Vfs Opened) (in_force : NameMap Binding) (time : ℕ) : Type 0 where
+pub record HasCachedNames (c : Vfs Opened) (in_force : NameMap Binding) (time : ℕ) : Type 0 where
   pub names : c.names ≡ in_force
   pub clock : c.clock ≡ time
   pub root : c.root ≡ 1
 
 -- A call that begins so asks an operation.
-abbrev pub Asks : NameMap Binding → ℕ → Beginning ℕ Opened → Type 0
-Asks names clock begins = (c : Vfs Opened) (call : ℕ) → HasNames c names clock
+abbrev pub BeginsAsking : NameMap Binding → ℕ → Beginning ℕ Opened → Type 0
+BeginsAsking names clock begins = (c : Vfs Opened) (call : ℕ) → HasCachedNames c names clock
     → (state : CallState Opened) × (after_beginning c call begins ≡ asking c call state)

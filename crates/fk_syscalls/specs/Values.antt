@@ -14,7 +14,7 @@ use Rattle.fuse_spec.specs.Files.Operations.{Asked}
 use Rattle.fuse_spec.specs.declared.Binding.{Binding}
 use Rattle.fuse_spec.specs.declared.Opened.{Opened}
 use Rattle.fk_syscalls.specs.Words.{IsWord}
-use Rattle.fk_syscalls.specs.States.{HasNames}
+use Rattle.fk_syscalls.specs.States.{HasCachedNames}
 use Rattle.fk_syscalls.specs.declared.beginning.Change.{Change}
 use Rattle.fk_syscalls.specs.declared.beginning.Change.TheVariants as change
 use Rattle.fk_syscalls.specs.declared.call.Answer.{Answer}
@@ -54,21 +54,21 @@ ClosesNone (Close handle) = ⊥
 ClosesNone other = Unit {0}
 
 -- The name that is listed.
-abbrev pub dirent_of : {A : Type 0} → ListedName A → op.Dirent
-dirent_of listed = record { ino = listed.ino; offset = listed.offset; kind = listed.kind; name = listed.name.items }
+abbrev pub listed_dirent : {A : Type 0} → ListedName A → op.Dirent
+listed_dirent listed = record { ino = listed.ino; offset = listed.offset; kind = listed.kind; name = listed.name.items }
 
 -- The answer that is meant.
 abbrev pub answer_of : {A : Type 0} → Answer A → answer.Answer
 answer_of Done = answer.done
 answer_of (Attributes attributes) = answer.attributes attributes
-answer_of (Listing names) = answer.listing (map dirent_of names.items)
+answer_of (Listing names) = answer.listing (map listed_dirent names.items)
 answer_of (Content bytes) = answer.content bytes.items
 answer_of (Written size) = answer.written size
 answer_of (Failed errno) = answer.failed errno
 
 -- The names that are asked for or given, if there are some, are words of a path without a fault.
 abbrev pub AsksWord : Asked (Bor (List ℕ)) → Type 0
-AsksWord asked = All IsWord (op.names_in (op.operation_of (λ s. s.now) asked))
+AsksWord asked = All IsWord (op.operation_names (op.operation_of (λ s. s.now) asked))
 
 -- Where a step leaves a call.
 abbrev pub comes_to : {A : Type 0} → Vfs Opened → ℕ → Next A → Advance Opened
@@ -77,5 +77,5 @@ comes_to c call (step.Answer errno) = no_more (answered c call (failed errno))
 
 -- Where its beginning leaves a call.
 abbrev pub IsBegun : {A : Type 0} → NameMap Binding → ℕ → Beginning ℕ Opened → Next A → Type 0
-IsBegun names clock begins next = (c : Vfs Opened) (call : ℕ) → HasNames c names clock
+IsBegun names clock begins next = (c : Vfs Opened) (call : ℕ) → HasCachedNames c names clock
     → after_beginning c call begins ≡ comes_to c call next

@@ -11,7 +11,7 @@ ghost use Rattle.fuse_spec.specs.declared.Opened.{Opened};
 ghost use Rattle.fk_syscalls.specs.Words.{words_from, AreWords, IsWord};
 ghost use Rattle.fuse_spec.specs.Values.Numbers.{max_transfer};
 ghost use Rattle.fk_syscalls.specs.Plans.{plan_of, IsSoundFinal, IsSoundPlan};
-ghost use Rattle.fk_syscalls.specs.States.{HasNames, Asks};
+ghost use Rattle.fk_syscalls.specs.States.{HasCachedNames, BeginsAsking};
 ghost use Rattle.fk_syscalls.specs.Values.{call_of, changes, comes_to, ClosesNone, IsBegun};
 
 use crate::call::Call;
@@ -43,9 +43,9 @@ pub fn begin<A: Allocator + Copy>(
     call: &Call<'_>,
 ) -> Result<Next<A>, AllocError>
     requires { ClosesNone call.now }
-    ensures begun { IfOk result (λ next. (c : Vfs Opened) → HasNames c names.now.names clock
+    ensures begun { IfOk result (λ next. (c : Vfs Opened) → HasCachedNames c names.now.names clock
         → c.opens ≡ opens.now.entries → begun false c (call_of call.now) ≡ comes_to (numbered c) c.next_call next) }
-    ensures wanting { OnErr result ((c : Vfs Opened) → HasNames c names.now.names clock → c.opens ≡ opens.now.entries
+    ensures wanting { OnErr result ((c : Vfs Opened) → HasCachedNames c names.now.names clock → c.opens ≡ opens.now.entries
         → (state : State Opened) × (begun false c (call_of call.now) ≡ asking (numbered c) c.next_call state)) }
 {
     match call {
@@ -143,11 +143,11 @@ fn begin_whole<A: Allocator + Copy>(
     requires { IsSoundFinal (λ s. s.now) operation }
     ensures begun { IfOk result (IsBegun names.now.names clock
         (whole_path path.now (λ words. sets_out words (last (operation_of (λ s. s.now) operation.entry))))) }
-    ensures wanting { OnErr result (Asks names.now.names clock
+    ensures wanting { OnErr result (BeginsAsking names.now.names clock
         (whole_path path.now (λ words. sets_out words (last (operation_of (λ s. s.now) operation.entry))))) }
 {
     match first_word(path) {
-        Ok(at) => set_out(alloc, names, clock, path, at, Plan::Last(operation)),
+        Ok(at) => start_walk(alloc, names, clock, path, at, Plan::Last(operation)),
         Err(errno) => Ok(Next::Answer { errno }),
     }
 }
@@ -162,14 +162,14 @@ fn begin_change<A: Allocator + Copy>(
 ) -> Result<Next<A>, AllocError>
     ensures begun { IfOk result (IsBegun names.now.names clock
         (parent_path path.now (λ words name. sets_out words (last (changes change name))))) }
-    ensures wanting { OnErr result (Asks names.now.names clock
+    ensures wanting { OnErr result (BeginsAsking names.now.names clock
         (parent_path path.now (λ words name. sets_out words (last (changes change name))))) }
 {
     match parent_of(path) {
         Ok(parent) => {
             let name = parent.name;
             let plan = Plan::Last(change.of_name(name));
-            set_out(alloc, names, clock, parent.words, parent.at, plan)
+            start_walk(alloc, names, clock, parent.words, parent.at, plan)
         }
         Err(errno) => Ok(Next::Answer { errno }),
     }
@@ -185,7 +185,7 @@ fn begin_rename<A: Allocator + Copy>(
 ) -> Result<Next<A>, AllocError>
     ensures begun { IfOk result (IsBegun names.now.names clock
         (parent_path old.now (λ words from. parent_path new.now (λ more to. sets_out words (rename from more to))))) }
-    ensures wanting { OnErr result (Asks names.now.names clock
+    ensures wanting { OnErr result (BeginsAsking names.now.names clock
         (parent_path old.now (λ words from. parent_path new.now (λ more to. sets_out words (rename from more to))))) }
 {
     let from = match parent_of(old) {
@@ -202,7 +202,7 @@ fn begin_rename<A: Allocator + Copy>(
         at: to.at,
         new: to.name,
     };
-    set_out(alloc, names, clock, from.words, from.at, plan)
+    start_walk(alloc, names, clock, from.words, from.at, plan)
 }
 
 /// A call that gives a file one more name.
@@ -215,7 +215,7 @@ fn begin_link<A: Allocator + Copy>(
 ) -> Result<Next<A>, AllocError>
     ensures begun { IfOk result (IsBegun names.now.names clock
         (whole_path old.now (λ words. parent_path new.now (λ more name. sets_out words (link more name))))) }
-    ensures wanting { OnErr result (Asks names.now.names clock
+    ensures wanting { OnErr result (BeginsAsking names.now.names clock
         (whole_path old.now (λ words. parent_path new.now (λ more name. sets_out words (link more name))))) }
 {
     let at = match first_word(old) {
@@ -231,11 +231,11 @@ fn begin_link<A: Allocator + Copy>(
         at: to.at,
         name: to.name,
     };
-    set_out(alloc, names, clock, old, at, plan)
+    start_walk(alloc, names, clock, old, at, plan)
 }
 
 /// A call walks from the root along the words from a place on.
-fn set_out<A: Allocator + Copy>(
+fn start_walk<A: Allocator + Copy>(
     alloc: A,
     names: &Bindings<A>,
     clock: u64,
@@ -247,7 +247,7 @@ fn set_out<A: Allocator + Copy>(
     requires plan { IsSoundPlan (λ s. s.now) plan }
     ensures begun { IfOk result (IsBegun names.now.names clock
         (sets_out (words_from words.now at) (plan_of (λ s. s.now) plan.entry))) }
-    ensures wanting { OnErr result (Asks names.now.names clock
+    ensures wanting { OnErr result (BeginsAsking names.now.names clock
         (sets_out (words_from words.now at) (plan_of (λ s. s.now) plan.entry))) }
 {
     let Some(stop) = walk(names, clock, ROOT, words, at) else {
@@ -300,7 +300,7 @@ fn set_out_again<A: Allocator + Copy>(
     requires sound { IsSoundFinal (λ s. s.now) operation }
     ensures begun { IfOk result (IsBegun names.now.names clock
         (sets_out (words_from words.now at) (last (operation_of (λ s. s.now) operation.entry)))) }
-    ensures wanting { OnErr result (Asks names.now.names clock
+    ensures wanting { OnErr result (BeginsAsking names.now.names clock
         (sets_out (words_from words.now at) (last (operation_of (λ s. s.now) operation.entry)))) }
 {
     match walk(names, clock, ROOT, words, at) {

@@ -1,7 +1,7 @@
 //! System calls, what they ask and what they are answered.
 
 ghost use Rattle.std.specs.Prelude.{◌≡◌};
-ghost use Rattle.fuse_spec.specs.Calls.Calls.{spoken};
+ghost use Rattle.fuse_spec.specs.Calls.Calls.{for_minor};
 ghost use Rattle.fk_syscalls.specs.Values.{call_of};
 
 use fuse_spec::{Attributes, Kind};
@@ -75,8 +75,8 @@ pub enum Call<'a> {
 impl<'a> Call<'a> {
     /// The call as it is put: where files may not be listed with their names, the names are listed alone (linux/fuse.h,
     /// FUSE_READDIRPLUS).
-    pub fn spoken(self, lists_files: bool) -> Call<'a>
-        ensures { call_of result ≡ spoken lists_files (call_of self.entry) }
+    pub fn for_minor(self, lists_files: bool) -> Call<'a>
+        ensures { call_of result ≡ for_minor lists_files (call_of self.entry) }
     {
         match self {
             Call::ListPlus { path, after } if !lists_files => Call::List { path, after },

@@ -7,9 +7,9 @@ ghost use Rattle.fuse_spec.specs.Calls.Vfs.{valid_at};
 ghost use Rattle.std.specs.Cmp.Lexicographic.{slice_cmp};
 ghost use Rattle.std.specs.Ordering.{nat_cmp, eq_by_cmp};
 ghost use Rattle.fuse_spec.specs.Values.Maps.{place_cmp};
-ghost use Rattle.fk_dentry.specs.NamesInForce.{found_of};
+ghost use Rattle.fk_dentry.specs.CachedNames.{found_by};
 ghost use Rattle.fk_syscalls.specs.Walks.{known, stop_at};
-ghost use Rattle.fk_syscalls.specs.NewNames.{place_of, with_name};
+ghost use Rattle.fk_syscalls.specs.NewNames.{new_place_of, with_new_name};
 
 use crate::walk::Stop;
 use crate::words::word_at;
@@ -34,7 +34,7 @@ fn compare_names<'a>(name: &'a [u8], other: &'a [u8]) -> Ordering
 
 impl NewName<'_> {
     fn compare(&self, directory: u64, name: &[u8]) -> Ordering
-        ensures { result ≡ place_cmp (directory, name.now) (place_of self.now) }
+        ensures { result ≡ place_cmp (directory, name.now) (new_place_of self.now) }
     {
         match directory.cmp(&self.directory) {
             Ordering::Equal => compare_names(name, self.name),
@@ -43,7 +43,7 @@ impl NewName<'_> {
     }
 
     fn is_of(&self, directory: u64, name: &[u8]) -> bool
-        ensures { result ≡ eq_by_cmp place_cmp (directory, name.now) (place_of self.now) }
+        ensures { result ≡ eq_by_cmp place_cmp (directory, name.now) (new_place_of self.now) }
     {
         match self.compare(directory, name) {
             Ordering::Equal => true,
@@ -59,7 +59,7 @@ impl NewName<'_> {
         directory: u64,
         name: &[u8],
     ) -> Found
-        ensures { result ≡ found_of (known (with_name names.now.names self.now) clock directory name.now) }
+        ensures { result ≡ found_by (known (with_new_name names.now.names self.now) clock directory name.now) }
     {
         if self.is_of(directory, name) {
             return self.at(clock);
@@ -69,7 +69,7 @@ impl NewName<'_> {
 
     /// What it would lead to at a time.
     fn at(&self, clock: u64) -> Found
-        ensures { result ≡ found_of (valid_at clock (Some
+        ensures { result ≡ found_by (valid_at clock (Some
             (record { target = Some self.now.node; until = self.now.until }))) }
     {
         if clock < self.until {
@@ -90,8 +90,8 @@ pub(crate) fn walk_past<A: Allocator + Copy>(
     at: Option<usize>,
 ) -> Option<Stop>
     requires { AreWords words.now at }
-    ensures stop { MatchOption result (go (known (with_name names.now.names new.now) clock) from
-        (words_from words.now at) ≡ missing) (λ stop. go (known (with_name names.now.names new.now) clock) from
+    ensures stop { MatchOption result (go (known (with_new_name names.now.names new.now) clock) from
+        (words_from words.now at) ≡ missing) (λ stop. go (known (with_new_name names.now.names new.now) clock) from
         (words_from words.now at) ≡ stop_at stop.node (words_from words.now stop.at)) }
 {
     let mut stop = Stop { node: from, at };

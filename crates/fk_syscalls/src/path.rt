@@ -1,7 +1,7 @@
 //! Paths: words between single slashes, behind a leading slash (this project's rule).
 
 ghost use Rattle.std.specs.Prelude.{◌≡◌, ◌≤◌, ℕ, List, Some, Ok, Err, length, IfOk, MatchResult};
-ghost use Rattle.fuse_spec.specs.Calls.Paths.{word_fault, first_fault, words_of, parent_and_last};
+ghost use Rattle.fuse_spec.specs.Calls.Paths.{word_fault, first_fault, path_words_of, parent_and_last};
 ghost use Rattle.fk_syscalls.specs.Words.{words_from, IsWord, AreWords};
 ghost use Rattle.fuse_spec.specs.Calls.Begins.{Beginning, faulty, parent_path};
 ghost use Rattle.fuse_spec.specs.Calls.Paths.{Name};
@@ -50,8 +50,8 @@ fn words_fault(words: &[u8], first: usize) -> Option<u32>
 /// Where the words of a path begin, if it has some; or the path's first fault, as an error number. `/` alone is the
 /// root and has no words.
 pub(crate) fn first_word(path: &[u8]) -> Result<Option<usize>, u32>
-    ensures words { MatchResult result (λ at. words_of path.now ≡ Ok (words_from path.now at))
-        (λ errno. words_of path.now ≡ Err errno) }
+    ensures words { MatchResult result (λ at. path_words_of path.now ≡ Ok (words_from path.now at))
+        (λ errno. path_words_of path.now ≡ Err errno) }
     ensures left { IfOk result (λ at. AreWords path.now at) }
 {
     match path {

@@ -9,8 +9,8 @@ ghost use Rattle.fuse_spec.specs.Calls.Vfs.{Vfs, walking, using, asked, walks_on
 ghost use Rattle.fuse_spec.specs.Calls.Walks.{WalkPlan, last, go, arrived};
 ghost use Rattle.fk_syscalls.specs.Words.{words_from, AreWords};
 ghost use Rattle.fk_syscalls.specs.Plans.{plan_of, IsSoundFinal, IsSoundPlan};
-ghost use Rattle.fk_syscalls.specs.States.{walking_at, IsSoundLentCall, IsWalking, StandsAt, used_by, HasNames};
-ghost use Rattle.fk_syscalls.specs.NewNames.{with_name};
+ghost use Rattle.fk_syscalls.specs.States.{walking_at, IsSoundLentCall, IsWalking, StandsAt, used_by, HasCachedNames};
+ghost use Rattle.fk_syscalls.specs.NewNames.{with_new_name};
 ghost use Rattle.fk_syscalls.specs.Walks.{known};
 ghost use Rattle.fk_syscalls.specs.Values.{AsksWord, comes_to};
 ghost use Rattle.fuse_spec.specs.Files.Operations.{operation_of};
@@ -92,7 +92,7 @@ fn second_walk<A: Allocator + Copy>(
 ) -> Next<A>
     requires words { AreWords words.items at }
     requires sound { IsSoundFinal (λ s. s.items) operation }
-    ensures { (c : Vfs Opened) (call : ℕ) → HasNames c names.now.names clock
+    ensures { (c : Vfs Opened) (call : ℕ) → HasCachedNames c names.now.names clock
         → walks_on c call c.root (words_from words.items at) (last (operation_of (λ s. s.items) operation))
         ≡ comes_to c call result }
 {
@@ -108,7 +108,7 @@ fn second_walk<A: Allocator + Copy>(
 }
 
 /// The first walk has come to a node: the call asks its operation there, or sets out on its second walk.
-fn arrived_at<A: Allocator + Copy>(
+fn walk_finished<A: Allocator + Copy>(
     names: &Bindings<A>,
     clock: u64,
     node: u64,
@@ -116,7 +116,7 @@ fn arrived_at<A: Allocator + Copy>(
     plan: Plan<Vec<u8, A>>,
 ) -> Next<A>
     requires { IsSoundPlan (λ s. s.items) plan }
-    ensures { (c : Vfs Opened) (call from : ℕ) (walked : List Name) → HasNames c names.now.names clock
+    ensures { (c : Vfs Opened) (call from : ℕ) (walked : List Name) → HasCachedNames c names.now.names clock
         → go (known names.now.names clock) from walked ≡ arrived node
         → walks_on c call from walked (plan_of (λ s. s.items) plan) ≡ comes_to c call result }
 {
@@ -239,7 +239,7 @@ impl<A: Allocator + Copy> CallState<A> {
     pub fn advance(self, names: &Bindings<A>, clock: u64, node: u64) -> Next<A>
         requires { IsWalking self }
         ensures { (c : Vfs Opened) (call directory : ℕ) (word : Name) (words : List Name) (plan : WalkPlan ℕ)
-            → HasNames c names.now.names clock → self ≡ walking directory word words plan
+            → HasCachedNames c names.now.names clock → self ≡ walking directory word words plan
             → walks_on c call node words plan ≡ comes_to c call result }
     {
         let CallState {
@@ -264,14 +264,14 @@ impl<A: Allocator + Copy> CallState<A> {
                 aim: Aim::Walks(plan),
             });
         }
-        arrived_at(names, clock, stop.node, words, plan)
+        walk_finished(names, clock, stop.node, words, plan)
     }
 
     /// Whether it would ask anew, were the word that it asked for bound so and found.
     pub fn would_ask(&self, names: &Bindings<A>, clock: u64, new: &NewName<'_>) -> bool
         requires { IsWalking self.now }
         ensures { (c : Vfs Opened) (call directory : ℕ) (word : Name) (words : List Name) (plan : WalkPlan ℕ)
-            → HasNames c (with_name names.now.names new.now) clock → self.now ≡ walking directory word words plan
+            → HasCachedNames c (with_new_name names.now.names new.now) clock → self.now ≡ walking directory word words plan
             → is_some (walks_on c call new.now.node words plan).operation ≡ result }
     {
         let Aim::Walks(plan) = &self.aim else {

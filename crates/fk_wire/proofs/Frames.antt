@@ -2,14 +2,14 @@
 use Rattle.std.proofs.Common.{◌≡◌, ℕ, Bool, true, false, ◌+◌, ◌*◌, ◌^◌, ◌≤◌, ◌<◌, List, [], ◌∷◌, ◌++◌, length, refl, sym, ap, subst, ◌∙◌, arith, append_assoc}
 use Rattle.std.proofs.lemmas.List.{take_at, drop_at, length-append, append-nil}
 use Rattle.byteorder.specs.Numbers.{little_number-reads_back, length-bytes_low_first}
-use Rattle.fk_wire.specs.Fields.{Field, u64, free32, holds, free, bits, named, raw, number_at, bytes_at, bytes_of, ReadsAs, InRange, AreNamed, spelling, spellings, size, sizes}
+use Rattle.fk_wire.specs.Fields.{Field, u64, free32, holds, free, bits, named, raw, number_at, bytes_at, bytes_of, ReadsAs, InRange, HaveNames, spelling, spellings, size, sizes}
 use Rattle.fk_wire.specs.Pairs.{forget_ones}
 use Rattle.fk_wire.specs.Entries.{missing, found}
 use Rattle.fk_wire.proofs.RecordLists.{dirents_are_named, direntpluses_are_named}
 use Rattle.fk_wire.specs.Replies.{ReplyContent, empty_reply, entry_reply, attr_reply, open_reply, bytes_reply, write_reply, init_reply, create_reply, records_reply, plus_reply, ReplyMessage, reply_body, reply_fields, init_end, states_15, knows_kind, kind_of_content, HasReplyNames, IsErrorNumber, IsAlone, IsReplyContent, GoesWith, SpellsReplyAt, WrittenReplyAt}
 use Rattle.fk_wire.specs.declared.opcode.Opcode.{Opcode}
 use Rattle.fk_wire.specs.declared.opcode.Minor.{Minor}
-use Rattle.fk_wire.specs.Opcodes.{code_of, knows, has_node}
+use Rattle.fk_wire.specs.Opcodes.{code_of, minor_knows, has_node}
 use Rattle.std.specs.Prelude.{IsTrue}
 use Rattle.std.specs.Int.{w32, cast_unsigned}
 use Rattle.fk_wire.specs.Requests.{RequestMessage, SpellsAt, WrittenAt, opcode_of, nodeid_field, IsNodeOf, request_body, header, request_fields, max_frame}
@@ -58,7 +58,7 @@ next front bs count fs rest len h =
     subst (λ (p : ℕ). ReadsAs p fs (front ++ (bs ++ rest))) place
     (subst (λ (x : List ℕ). ReadsAs (length (front ++ bs)) fs x) (append_assoc front bs rest) h)
 
-pub reads_back : (fs : List Field) (front : List ℕ) → InRange fs → AreNamed fs
+pub reads_back : (fs : List Field) (front : List ℕ) → InRange fs → HaveNames fs
     → ReadsAs (length front) fs (front ++ spellings fs)
 reads_back [] front r n = ap length (append-nil front)
 reads_back (holds width value ∷ fs) front r n = (
@@ -106,8 +106,8 @@ nodeid_fits : (about : Bool) (node : ℕ) (after : List Field) → node < 2 ^ 64
 nodeid_fits true node after fits rest = (fits, rest)
 nodeid_fits false node after fits rest = rest
 
-nodeid_is_no_name : (about : Bool) (node : ℕ) (after : List Field) → AreNamed after
-    → AreNamed (nodeid_field about node ∷ after)
+nodeid_is_no_name : (about : Bool) (node : ℕ) (after : List Field) → HaveNames after
+    → HaveNames (nodeid_field about node ∷ after)
 nodeid_is_no_name true node after names = names
 nodeid_is_no_name false node after names = names
 
@@ -118,9 +118,9 @@ nodeid_size false node = refl
 -- what a header and a body come to is the frame
 pub frame : (minor : Minor) (m : RequestMessage) (old new : List ℕ) (len : ℕ)
     → 40 + sizes (request_body m.content) ≡ len → len ≤ max_frame → m.unique < 2 ^ 64 → m.nodeid < 2 ^ 64
-    → code_of (opcode_of m.content) < 2 ^ 32 → IsTrue (knows minor (opcode_of m.content))
+    → code_of (opcode_of m.content) < 2 ^ 32 → IsTrue (minor_knows minor (opcode_of m.content))
     → IsNodeOf (has_node (opcode_of m.content)) m.nodeid
-    → InRange (request_body m.content) → AreNamed (request_body m.content)
+    → InRange (request_body m.content) → HaveNames (request_body m.content)
     → new ≡ (old ++ spellings (header len (code_of (opcode_of m.content)) m.unique (u64 m.nodeid)))
     ++ spellings (request_body m.content)
     → (bytes : List ℕ) × WrittenAt minor m bytes × (new ≡ old ++ bytes)
@@ -159,17 +159,17 @@ pub sizes_of_forgets : (ps : List (ℕ × ℕ)) → sizes (forget_ones ps) ≡ 1
 sizes_of_forgets [] = refl
 sizes_of_forgets (p ∷ ps) = omega (arith, sizes_of_forgets ps)
 
-pub forgets_are_named : (ps : List (ℕ × ℕ)) → AreNamed (forget_ones ps)
+pub forgets_are_named : (ps : List (ℕ × ℕ)) → HaveNames (forget_ones ps)
 forgets_are_named [] = tt
 forgets_are_named (p ∷ ps) = forgets_are_named ps
 
 -- ---- replies
 
-init_end_is_named : (old : Bool) → AreNamed (init_end old)
+init_end_is_named : (old : Bool) → HaveNames (init_end old)
 init_end_is_named true = tt
 init_end_is_named false = tt
 
-no_names : (s : ReplyContent) → AreNamed (reply_body s)
+no_names : (s : ReplyContent) → HaveNames (reply_body s)
 no_names empty_reply = tt
 no_names (entry_reply (missing valid nsec)) = tt
 no_names (entry_reply (found nodeid generation valid nsec a)) = tt

@@ -11,7 +11,7 @@ use Rattle.fk_wire.specs.declared.opcode.Minor.{Minor}
 use Rattle.fk_wire.specs.declared.reply.ReplyKind.{ReplyKind}
 use Rattle.fk_wire.specs.declared.reply.ReplyKind.TheVariants as kind
 use Rattle.fk_wire.specs.Fields.{number_at, ReadsAs}
-use Rattle.fk_wire.specs.Opcodes.{knows, kind_of, served}
+use Rattle.fk_wire.specs.Opcodes.{minor_knows, reply_kind_of, latest_minor}
 use Rattle.fk_wire.specs.RecordEnds.{record_end, end_from, count_from}
 use Rattle.fk_wire.specs.Replies.{ReplyContent, empty_reply, entry_reply, attr_reply, open_reply, bytes_reply, write_reply, init_reply, create_reply, records_reply, plus_reply, ReplyMessage, reply_kind, kind_of_content, states_15, init_end, open_fields, reply_body, IsReplyContent, HasReplyNames, IsErrorNumber, SpellsReply, SpellsReplyAt}
 use Rattle.fk_wire.specs.ReplyFaults.{FillsReply, HasNamesOf, ReplyBodyFaultIs, ReplyFaultIsAt}
@@ -188,7 +188,7 @@ record_count_is kind.Records bytes n h = counted_from (length bytes) false n 16 
 record_count_is kind.RecordsPlus bytes n h = counted_from (length bytes) true n 16 bytes h
     (omega (arith, h, ends_beyond true n 16 bytes))
 
--- a kind of replies that a minor version knows
+-- a kind of replies that a minor version minor_knows
 known_kind : (known : Bool) (kind : Option ReplyKind) (k : ReplyKind) → (if known then kind else None) ≡ Some k
     → kind ≡ Some k
 known_kind true kind k e = e
@@ -197,7 +197,7 @@ known_kind false kind k e = absurd cc
 decoded_kind_is : (minor : Minor) (o : Opcode) (bytes : List ℕ) (t : ReplyMessage) → SpellsReplyAt minor o bytes t
     → decoded_kind o bytes ≡ kind_of_content t.content
 decoded_kind_is minor o bytes t h =
-    let kind : kind_of o ≡ Some h.2.0 = known_kind (knows minor o) (kind_of o) h.2.0 h.2.1 in
+    let kind : reply_kind_of o ≡ Some h.2.0 = known_kind (minor_knows minor o) (reply_kind_of o) h.2.0 h.2.1 in
     rw kind (sym (same_kind minor o bytes t h.2.0 h h.2.1))
 
 -- what a frame spells at any minor version is what it decodes to
@@ -217,10 +217,10 @@ decoded_reply_is_at minor o bytes t h =
     ap (cast_signed w32) h.5.1.0 ∙ to_z-of_z w32 t.error (error_fits t.error h.1) in
     same_message (decoded_reply o bytes) t h.5.1.1.0 error content
 
--- and so at the minor version that is served
+-- and so at the minor version that is latest_minor
 pub decoded_reply_is : (o : Opcode) (bytes : List ℕ) (t : ReplyMessage) → SpellsReply o bytes t
     → decoded_reply o bytes ≡ t
-decoded_reply_is o bytes t h = decoded_reply_is_at served o bytes t h
+decoded_reply_is o bytes t h = decoded_reply_is_at latest_minor o bytes t h
 
 -- ---- faults
 

@@ -11,7 +11,7 @@ use Rattle.fk_wire.proofs.PairLists.{one_list, list_ends}
 use Rattle.fk_wire.specs.Requests.{RequestContent, lookup, forget, getattr, mkdir, unlink, rmdir, rename, link, opening, read, write, release, init, readdir, readdirplus, create, interrupt, batch_forget, RequestMessage, opcode_of, nodeid_field, IsNodeOf, request_body, max_frame, Spells, SpellsAt, request_message}
 use Rattle.fk_wire.specs.declared.opcode.Minor.{Minor}
 use Rattle.fk_wire.specs.Requests.{name_from, first_from, request_content_at, decoded}
-use Rattle.fk_wire.specs.Opcodes.{code_of, knows, served, has_node, shape_of, opcode_from}
+use Rattle.fk_wire.specs.Opcodes.{code_of, minor_knows, latest_minor, has_node, shape_of, opcode_from}
 use Rattle.fk_wire.specs.Faults.{NodeReads, Fills, HasNames, BodyFaultIs, FaultIsAt}
 use Rattle.fk_fields.proofs.Names.{name_is, first_is}
 
@@ -136,9 +136,9 @@ decoded_is_at minor bytes m h =
     (has_node (opcode_of m.content)) m.nodeid bytes (node_at minor bytes m h) in
     same_message (decoded bytes) m h.3.1.1.0 nodeid content
 
--- and so at the minor version that is served
+-- and so at the minor version that is latest_minor
 pub decoded_is : (bytes : List ℕ) (m : RequestMessage) → Spells bytes m → decoded bytes ≡ m
-decoded_is bytes m h = decoded_is_at served bytes m h
+decoded_is bytes m h = decoded_is_at latest_minor bytes m h
 
 -- fields that are read do not begin past the end
 pub within : (place : ℕ) (fs : List Field) (bytes : List ℕ) → ReadsAs place fs bytes → place ≤ length bytes
@@ -173,7 +173,7 @@ read_only minor bytes (Ok v) ok err m h = one_request minor bytes (request_messa
 read_only minor bytes (Err f) ok err m h = absurd (no_fault minor bytes m f h err)
 
 pub body_fault : (minor : Minor) (bytes : List ℕ) (o : Opcode) (f : WireFault) → 40 ≤ length bytes
-    → number_at 0 4 bytes ≡ length bytes → IsTrue (knows minor o) → code_of o ≡ number_at 4 4 bytes
+    → number_at 0 4 bytes ≡ length bytes → IsTrue (minor_knows minor o) → code_of o ≡ number_at 4 4 bytes
     → length bytes ≤ max_frame → BodyFaultIs (shape_of o) bytes f → FaultIsAt minor bytes f
 body_fault minor bytes o faults.Body long len known code small x = ((long, len), o, (known, code), λ h. x h.1)
 body_fault minor bytes o faults.Name long len known code small x = ((long, len), o, (known, code), small, x.0, x.1)

@@ -5,7 +5,7 @@ use Rattle.std.specs.Prelude.{◌↔◌}
 use Rattle.std.proofs.lemmas.List.{length-take-le, length-drop}
 use Rattle.fk_wire.specs.declared.records.Records.{Records}
 use Rattle.fk_wire.specs.declared.records_plus.RecordsPlus.{RecordsPlus}
-use Rattle.fk_wire.specs.Fields.{Field, IsRecordName, number_at, bytes_at, bytes_of, ReadsAs, AreNamed, sizes}
+use Rattle.fk_wire.specs.Fields.{Field, IsRecordName, number_at, bytes_at, bytes_of, ReadsAs, HaveNames, sizes}
 use Rattle.fk_wire.specs.RecordEnds.{padding, padded, name_length, name_at, record_place, record_end, end_from, NamesFrom, TimesFrom}
 use Rattle.fk_wire.specs.Entries.{EntryContent, missing, found, entry_fields, entry_at}
 use Rattle.fk_wire.specs.Dirents.{DirentContent, DirentPlusContent, dirent_fields, dirents, dirent_at, dirents_from, direntpluses, direntpluses_from, HaveRecordNames, HavePlusNames, HaveEntries}
@@ -260,7 +260,7 @@ sizes_of_dirents (suc count) place bytes e =
 pub records_left : (r : Records) → r.place + sizes (dirents (records_in r)) ≡ length r.bytes.now
 records_left r = sizes_of_dirents r.left r.place r.bytes.now r.ends
 
-pub dirents_are_named : (ds : List DirentContent) → AreNamed (dirents ds)
+pub dirents_are_named : (ds : List DirentContent) → HaveNames (dirents ds)
 dirents_are_named [] = tt
 dirents_are_named (d ∷ ds) = dirents_are_named ds
 
@@ -329,11 +329,11 @@ pairs_end_after (suc count) place bytes =
 pub pluses_long : (r : RecordsPlus) → 152 * r.left ≤ length r.bytes.now
 pluses_long r = omega (arith, pairs_end_after r.left r.place r.bytes.now, r.ends)
 
-entry_is_named : (e : EntryContent) (after : List Field) → AreNamed after → AreNamed (entry_fields e after)
+entry_is_named : (e : EntryContent) (after : List Field) → HaveNames after → HaveNames (entry_fields e after)
 entry_is_named (missing valid nsec) after h = h
 entry_is_named (found nodeid generation valid nsec a) after h = h
 
-pub direntpluses_are_named : (ps : List DirentPlusContent) → AreNamed (direntpluses ps)
+pub direntpluses_are_named : (ps : List DirentPlusContent) → HaveNames (direntpluses ps)
 direntpluses_are_named [] = tt
 direntpluses_are_named (p ∷ ps) = entry_is_named p.entry_out (dirent_fields p.dirent (direntpluses ps))
     (direntpluses_are_named ps)

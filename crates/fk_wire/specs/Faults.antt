@@ -5,8 +5,8 @@ use Rattle.fk_wire.specs.declared.fault.WireFault.TheVariants as faults
 use Rattle.fk_wire.specs.declared.opcode.Opcode.{Opcode}
 use Rattle.fk_wire.specs.declared.opcode.Minor.{Minor}
 use Rattle.fk_wire.specs.Opcodes.{Shape, exactly, name_after, names_after, sized, counted}
-use Rattle.fk_wire.specs.Opcodes.{code_of, knows, served, has_node, shape_of}
-use Rattle.fk_wire.specs.Fields.{number_at, named, ReadsAs, AreNamed, sizes}
+use Rattle.fk_wire.specs.Opcodes.{code_of, minor_knows, latest_minor, has_node, shape_of}
+use Rattle.fk_wire.specs.Fields.{number_at, named, ReadsAs, HaveNames, sizes}
 use Rattle.fk_wire.specs.Requests.{max_frame, opcode_of, IsNodeOf, RequestMessage, request_body}
 
 -- The frame has what its shape has, whatever its names are.
@@ -33,9 +33,9 @@ BodyFaultIs shape bytes _ = ⊥
 abbrev pub HasLength : List ℕ → Type 0
 HasLength bytes = (40 ≤ length bytes) × (number_at 0 4 bytes ≡ length bytes)
 
--- A frame has this opcode, and the minor version knows it.
+-- A frame has this opcode, and the minor version minor_knows it.
 abbrev pub HasOpcode : Minor → List ℕ → Opcode → Type 0
-HasOpcode minor bytes o = IsTrue (knows minor o) × (code_of o ≡ number_at 4 4 bytes)
+HasOpcode minor bytes o = IsTrue (minor_knows minor o) × (code_of o ≡ number_at 4 4 bytes)
 
 abbrev pub FaultIsAt : Minor → List ℕ → WireFault → Type 0
 FaultIsAt minor bytes faults.Short = length bytes < 40
@@ -53,20 +53,20 @@ FitsFrame m = IsNodeOf (has_node (opcode_of m.content)) m.nodeid × (40 + sizes 
 
 -- The first fault of a request that is to be written. Memory runs out only for one that has a spelling.
 abbrev pub RefusalIsAt : Minor → RequestMessage → WireFault → Type 0
-RefusalIsAt minor m faults.Opcode = IsTrue (knows minor (opcode_of m.content)) → ⊥
-RefusalIsAt minor m faults.Body = IsTrue (knows minor (opcode_of m.content)) × (FitsFrame m → ⊥)
-RefusalIsAt minor m faults.Name = IsTrue (knows minor (opcode_of m.content)) × FitsFrame m
-    × (AreNamed (request_body m.content) → ⊥)
-RefusalIsAt minor m faults.Memory = IsTrue (knows minor (opcode_of m.content)) × FitsFrame m
-    × AreNamed (request_body m.content)
+RefusalIsAt minor m faults.Opcode = IsTrue (minor_knows minor (opcode_of m.content)) → ⊥
+RefusalIsAt minor m faults.Body = IsTrue (minor_knows minor (opcode_of m.content)) × (FitsFrame m → ⊥)
+RefusalIsAt minor m faults.Name = IsTrue (minor_knows minor (opcode_of m.content)) × FitsFrame m
+    × (HaveNames (request_body m.content) → ⊥)
+RefusalIsAt minor m faults.Memory = IsTrue (minor_knows minor (opcode_of m.content)) × FitsFrame m
+    × HaveNames (request_body m.content)
 RefusalIsAt minor m _ = ⊥
 
--- The same, at the minor version that is served.
+-- The same, at the minor version that is latest_minor.
 abbrev pub FaultIs : List ℕ → WireFault → Type 0
-FaultIs = FaultIsAt served
+FaultIs = FaultIsAt latest_minor
 
 abbrev pub RefusalIs : RequestMessage → WireFault → Type 0
-RefusalIs = RefusalIsAt served
+RefusalIs = RefusalIsAt latest_minor
 
 -- what the header says of the node
 abbrev pub NodeReads : Bool → List ℕ → ℕ → Type 0

@@ -1,4 +1,4 @@
--- The opcodes: a row of what is fixed for each, and which of them a minor version knows.
+-- The opcodes: a row of what is fixed for each, and which of them a minor version minor_knows.
 use Rattle.std.specs.Prelude.{ℕ, Bool, true, false, ◌==◌, List, [], ◌∷◌, codes, if◌then◌else◌, Option, Some, None}
 use Rattle.fk_wire.specs.declared.opcode.Opcode.{Opcode}
 use Rattle.fk_wire.specs.declared.opcode.Opcode.TheVariants as op
@@ -50,25 +50,25 @@ abbrev about_none : Bool
 about_none = false
 
 -- The table: number, name, whether 7.15 has it, whether it is about a node, its request's frame, its reply's body.
-abbrev pub row_of : Opcode → OpcodeRow
-row_of op.Lookup = row 1 (codes "LOOKUP") of_15 about_node (name_after 40) (Some kind.Entry)
-row_of op.Forget = row 2 (codes "FORGET") of_15 about_node (exactly 48) None
-row_of op.Getattr = row 3 (codes "GETATTR") of_15 about_node (exactly 56) (Some kind.Attr)
-row_of op.Mkdir = row 9 (codes "MKDIR") of_15 about_node (name_after 48) (Some kind.Entry)
-row_of op.Unlink = row 10 (codes "UNLINK") of_15 about_node (name_after 40) (Some kind.Empty)
-row_of op.Rmdir = row 11 (codes "RMDIR") of_15 about_node (name_after 40) (Some kind.Empty)
-row_of op.Rename = row 12 (codes "RENAME") of_15 about_node (names_after 48) (Some kind.Empty)
-row_of op.Link = row 13 (codes "LINK") of_15 about_node (name_after 48) (Some kind.Entry)
-row_of op.Open = row 14 (codes "OPEN") of_15 about_node (exactly 48) (Some kind.Open)
-row_of op.Read = row 15 (codes "READ") of_15 about_node (exactly 80) (Some kind.Bytes)
-row_of op.Write = row 16 (codes "WRITE") of_15 about_node sized (Some kind.Write)
-row_of op.Release = row 18 (codes "RELEASE") of_15 about_node (exactly 64) (Some kind.Empty)
-row_of op.Init = row 26 (codes "INIT") of_15 about_none (exactly 56) (Some kind.Init)
-row_of op.Readdir = row 28 (codes "READDIR") of_15 about_node (exactly 80) (Some kind.Records)
-row_of op.Create = row 35 (codes "CREATE") of_15 about_node (name_after 56) (Some kind.Create)
-row_of op.Interrupt = row 36 (codes "INTERRUPT") of_15 about_none (exactly 48) (Some kind.Empty)
-row_of op.BatchForget = row 42 (codes "BATCH_FORGET") later about_none counted None
-row_of op.Readdirplus = row 44 (codes "READDIRPLUS") later about_node (exactly 80) (Some kind.RecordsPlus)
+abbrev pub opcode_row : Opcode → OpcodeRow
+opcode_row op.Lookup = row 1 (codes "LOOKUP") of_15 about_node (name_after 40) (Some kind.Entry)
+opcode_row op.Forget = row 2 (codes "FORGET") of_15 about_node (exactly 48) None
+opcode_row op.Getattr = row 3 (codes "GETATTR") of_15 about_node (exactly 56) (Some kind.Attr)
+opcode_row op.Mkdir = row 9 (codes "MKDIR") of_15 about_node (name_after 48) (Some kind.Entry)
+opcode_row op.Unlink = row 10 (codes "UNLINK") of_15 about_node (name_after 40) (Some kind.Empty)
+opcode_row op.Rmdir = row 11 (codes "RMDIR") of_15 about_node (name_after 40) (Some kind.Empty)
+opcode_row op.Rename = row 12 (codes "RENAME") of_15 about_node (names_after 48) (Some kind.Empty)
+opcode_row op.Link = row 13 (codes "LINK") of_15 about_node (name_after 48) (Some kind.Entry)
+opcode_row op.Open = row 14 (codes "OPEN") of_15 about_node (exactly 48) (Some kind.Open)
+opcode_row op.Read = row 15 (codes "READ") of_15 about_node (exactly 80) (Some kind.Bytes)
+opcode_row op.Write = row 16 (codes "WRITE") of_15 about_node sized (Some kind.Write)
+opcode_row op.Release = row 18 (codes "RELEASE") of_15 about_node (exactly 64) (Some kind.Empty)
+opcode_row op.Init = row 26 (codes "INIT") of_15 about_none (exactly 56) (Some kind.Init)
+opcode_row op.Readdir = row 28 (codes "READDIR") of_15 about_node (exactly 80) (Some kind.Records)
+opcode_row op.Create = row 35 (codes "CREATE") of_15 about_node (name_after 56) (Some kind.Create)
+opcode_row op.Interrupt = row 36 (codes "INTERRUPT") of_15 about_none (exactly 48) (Some kind.Empty)
+opcode_row op.BatchForget = row 42 (codes "BATCH_FORGET") later about_none counted None
+opcode_row op.Readdirplus = row 44 (codes "READDIRPLUS") later about_node (exactly 80) (Some kind.RecordsPlus)
 
 -- all of them
 abbrev pub opcodes : List Opcode
@@ -78,27 +78,27 @@ opcodes = op.Lookup ∷ op.Forget ∷ op.Getattr ∷ op.Mkdir ∷ op.Unlink ∷ 
 
 -- the number of an opcode
 abbrev pub code_of : Opcode → ℕ
-code_of o = (row_of o).code
+code_of o = (opcode_row o).code
 
 -- the name of an opcode
 abbrev pub name_of : Opcode → List ℕ
-name_of o = (row_of o).name
+name_of o = (opcode_row o).name
 
 -- whether an opcode came after 7.15
 abbrev pub is_later : Opcode → Bool
-is_later o = (row_of o).is_later
+is_later o = (opcode_row o).is_later
 
 -- whether a request of this opcode is about a node
 abbrev pub has_node : Opcode → Bool
-has_node o = (row_of o).has_node
+has_node o = (opcode_row o).has_node
 
 -- the shape of its frame
 abbrev pub shape_of : Opcode → Shape
-shape_of o = (row_of o).shape
+shape_of o = (opcode_row o).shape
 
 -- the kind of body in the replies to an opcode; the two forgets have none
-abbrev pub kind_of : Opcode → Option ReplyKind
-kind_of o = (row_of o).reply
+abbrev pub reply_kind_of : Opcode → Option ReplyKind
+reply_kind_of o = (opcode_row o).reply
 
 -- the first of some opcodes that has this number
 abbrev pub first_with : ℕ → List Opcode → Opcode
@@ -109,11 +109,11 @@ first_with code (o ∷ os) = if code == code_of o then o else first_with code os
 abbrev pub opcode_from : ℕ → Opcode
 opcode_from code = first_with code opcodes
 
--- whether a minor version knows an opcode
-abbrev pub knows : Minor → Opcode → Bool
-knows minors.M31 o = true
-knows minors.M15 o = if is_later o then false else true
+-- whether a minor version minor_knows an opcode
+abbrev pub minor_knows : Minor → Opcode → Bool
+minor_knows minors.M31 o = true
+minor_knows minors.M15 o = if is_later o then false else true
 
 -- the minor version of the calls that take none
-abbrev pub served : Minor
-served = minors.M31
+abbrev pub latest_minor : Minor
+latest_minor = minors.M31

@@ -14,8 +14,8 @@ use Rattle.fk_wire.specs.declared.reply.ReplyBody.TheVariants as view
 use Rattle.fk_wire.specs.declared.reply.Reply.{Reply}
 use Rattle.fk_wire.specs.declared.reply.ReplyHead.{ReplyHead}
 use Rattle.fk_wire.specs.Fields.{Field, raw, free, u32, u64, free32, free64, bits, number_at, bytes_at}
-use Rattle.fk_wire.specs.Fields.{ReadsAs, InRange, AreNamed, spellings}
-use Rattle.fk_wire.specs.Opcodes.{knows, kind_of, served}
+use Rattle.fk_wire.specs.Fields.{ReadsAs, InRange, HaveNames, spellings}
+use Rattle.fk_wire.specs.Opcodes.{minor_knows, reply_kind_of, latest_minor}
 use Rattle.fk_wire.specs.Entries.{EntryContent, IsEntry, entry_content, entry_fields, attr_fields, attr_at, entry_at}
 use Rattle.fk_wire.specs.RecordEnds.{count_from}
 use Rattle.fk_wire.specs.Dirents.{DirentContent, DirentPlusContent, dirents, direntpluses}
@@ -65,7 +65,7 @@ headed head body = record { unique = head.unique; error = head.error; content = 
 
 -- the kind of body in the replies to an opcode at a minor version, which may not know the opcode
 abbrev pub reply_kind : Minor → Opcode → Option ReplyKind
-reply_kind minor o = if knows minor o then kind_of o else None
+reply_kind minor o = if minor_knows minor o then reply_kind_of o else None
 
 -- the kind of a body
 abbrev pub kind_of_content : ReplyContent → ReplyKind
@@ -80,7 +80,7 @@ kind_of_content (create_reply e fh) = kind.Create
 kind_of_content (records_reply ds) = kind.Records
 kind_of_content (plus_reply ps) = kind.RecordsPlus
 
--- whether a minor version knows an opcode whose replies have such a body
+-- whether a minor version minor_knows an opcode whose replies have such a body
 abbrev pub knows_kind : Minor → ReplyKind → Bool
 knows_kind minors.M31 k = true
 knows_kind minors.M15 kind.RecordsPlus = false
@@ -186,19 +186,19 @@ IsAlone t = cast_unsigned w32 t.error ≢ 0 → kind_of_content t.content ≡ ki
 abbrev pub WrittenReplyAt : Minor → ReplyMessage → List ℕ → Type 0
 WrittenReplyAt minor t bytes = (length bytes ≤ max_frame) × IsErrorNumber t.error
     × IsTrue (knows_kind minor (kind_of_content t.content)) × IsAlone t × IsReplyContent t.content
-    × HasReplyNames t.content × InRange (reply_fields (length bytes) t) × AreNamed (reply_fields (length bytes) t)
+    × HasReplyNames t.content × InRange (reply_fields (length bytes) t) × HaveNames (reply_fields (length bytes) t)
     × (bytes ≡ spellings (reply_fields (length bytes) t))
 
--- The same, at the minor version that is served.
+-- The same, at the minor version that is latest_minor.
 abbrev pub SpellsReply : Opcode → List ℕ → ReplyMessage → Type 0
-SpellsReply = SpellsReplyAt served
+SpellsReply = SpellsReplyAt latest_minor
 
 abbrev pub WrittenReply : ReplyMessage → List ℕ → Type 0
-WrittenReply = WrittenReplyAt served
+WrittenReply = WrittenReplyAt latest_minor
 
 -- the kind of body in a frame that replies to this opcode
 abbrev pub decoded_kind : Opcode → List ℕ → ReplyKind
-decoded_kind o bytes = if number_at 4 4 bytes == 0 then unwrap_or (kind_of o) kind.Empty else kind.Empty
+decoded_kind o bytes = if number_at 4 4 bytes == 0 then unwrap_or (reply_kind_of o) kind.Empty else kind.Empty
 
 -- the reply to a request of this opcode that a frame spells
 unfoldable pub decoded_reply : Opcode → List ℕ → ReplyMessage

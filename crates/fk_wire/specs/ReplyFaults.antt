@@ -8,7 +8,7 @@ use Rattle.fk_wire.specs.declared.opcode.Minor.{Minor}
 use Rattle.fk_wire.specs.declared.reply.ReplyHead.{ReplyHead}
 use Rattle.fk_wire.specs.declared.reply.ReplyKind.{ReplyKind}
 use Rattle.fk_wire.specs.declared.reply.ReplyKind.TheVariants as kind
-use Rattle.fk_wire.specs.Opcodes.{served}
+use Rattle.fk_wire.specs.Opcodes.{latest_minor}
 use Rattle.fk_wire.specs.Fields.{ReadsAs, number_at, sizes}
 use Rattle.fk_wire.specs.Requests.{max_frame}
 use Rattle.fk_wire.specs.Dirents.{DirentContent, DirentPlusContent, dirents, direntpluses, HaveEntries}
@@ -88,12 +88,12 @@ ReplyRefusalIsAt minor t faults.Memory = IsErrorNumber t.error × IsTrue (knows_
     × FitsReply t × HasReplyNames t.content
 ReplyRefusalIsAt minor t _ = ⊥
 
--- The same, at the minor version that is served.
+-- The same, at the minor version that is latest_minor.
 abbrev pub ReplyFaultIs : Opcode → List ℕ → WireFault → Type 0
-ReplyFaultIs = ReplyFaultIsAt served
+ReplyFaultIs = ReplyFaultIsAt latest_minor
 
 abbrev pub ReplyRefusalIs : ReplyMessage → WireFault → Type 0
-ReplyRefusalIs = ReplyRefusalIsAt served
+ReplyRefusalIs = ReplyRefusalIsAt latest_minor
 
 -- the faults that a header alone shows
 abbrev pub IsReplyHeadFault : WireFault → Type 0

@@ -9,10 +9,10 @@ use Rattle.fk_wire.specs.declared.request.RequestBody.{RequestBody}
 use Rattle.fk_wire.specs.declared.request.RequestBody.TheVariants as view
 use Rattle.fk_wire.specs.declared.request.Request.{Request}
 use Rattle.fk_wire.specs.declared.opcode.Minor.{Minor}
-use Rattle.fk_wire.specs.Opcodes.{code_of, knows, served, has_node, opcode_from}
+use Rattle.fk_wire.specs.Opcodes.{code_of, minor_knows, latest_minor, has_node, opcode_from}
 use Rattle.fk_wire.specs.Pairs.{pairs_in, pairs_from, forget_ones}
 use Rattle.fk_wire.specs.Fields.{Field, named, raw, u32, u64, free32, free64, bits, number_at, bytes_at}
-use Rattle.fk_wire.specs.Fields.{ReadsAs, InRange, AreNamed, spellings}
+use Rattle.fk_wire.specs.Fields.{ReadsAs, InRange, HaveNames, spellings}
 
 -- ASYNC_READ, DO_READDIRPLUS and PARALLEL_DIROPS
 abbrev pub known_flags : ℕ
@@ -195,21 +195,21 @@ max_frame = 4176
 
 -- The bytes are a frame that spells the request, at a minor version.
 abbrev pub SpellsAt : Minor → List ℕ → RequestMessage → Type 0
-SpellsAt minor bytes m = (length bytes ≤ max_frame) × IsTrue (knows minor (opcode_of m.content))
+SpellsAt minor bytes m = (length bytes ≤ max_frame) × IsTrue (minor_knows minor (opcode_of m.content))
     × IsNodeOf (has_node (opcode_of m.content)) m.nodeid × ReadsAs 0 (request_fields (length bytes) m) bytes
 
 -- The bytes are the one frame in which the request is written, at a minor version.
 abbrev pub WrittenAt : Minor → RequestMessage → List ℕ → Type 0
-WrittenAt minor m bytes = (length bytes ≤ max_frame) × IsTrue (knows minor (opcode_of m.content))
+WrittenAt minor m bytes = (length bytes ≤ max_frame) × IsTrue (minor_knows minor (opcode_of m.content))
     × IsNodeOf (has_node (opcode_of m.content)) m.nodeid × InRange (request_fields (length bytes) m)
-    × AreNamed (request_fields (length bytes) m) × (bytes ≡ spellings (request_fields (length bytes) m))
+    × HaveNames (request_fields (length bytes) m) × (bytes ≡ spellings (request_fields (length bytes) m))
 
--- The same, at the minor version that is served.
+-- The same, at the minor version that is latest_minor.
 abbrev pub Spells : List ℕ → RequestMessage → Type 0
-Spells = SpellsAt served
+Spells = SpellsAt latest_minor
 
 abbrev pub Written : RequestMessage → List ℕ → Type 0
-Written = WrittenAt served
+Written = WrittenAt latest_minor
 
 -- the request that a frame spells, if it spells one
 unfoldable pub decoded : List ℕ → RequestMessage

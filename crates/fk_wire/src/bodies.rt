@@ -3,7 +3,7 @@
 ghost use Rattle.std.specs.Prelude.{◌≡◌, ◌≢◌, ◌≤◌, ◌<◌, ◌+◌, ◌*◌, ◌^◌, ◌++◌, ◌↔◌, IfOk, IfErr, IsTrue, ℕ};
 ghost use Rattle.std.specs.Prelude.{if◌then◌else◌, length, vec_len, vec_capacity};
 ghost use Rattle.std.specs.Int.RustNames.{bit_and};
-ghost use Rattle.fk_wire.specs.Fields.{InRange, AreNamed, sizes, spellings};
+ghost use Rattle.fk_wire.specs.Fields.{InRange, HaveNames, sizes, spellings};
 ghost use Rattle.fk_wire.specs.Pairs.{pairs_in, forget_ones};
 ghost use Rattle.fk_wire.specs.Requests.{IsBodyOf, request_content, request_body, range, known_flags};
 ghost use Rattle.fk_wire.specs.Requests.{getattr, mkdir, rename, release, init, create, batch_forget};
@@ -217,7 +217,7 @@ pub(crate) fn body_size(body: &RequestBody<'_>) -> usize
 /// Whether each name is one.
 #[tactic(auto, using(crate::proofs::Frames::forgets_are_named))]
 pub(crate) fn has_names(body: &RequestBody<'_>) -> bool
-    ensures { IsTrue result ↔ AreNamed (request_body (request_content body.now)) }
+    ensures { IsTrue result ↔ HaveNames (request_body (request_content body.now)) }
 {
     match body {
         RequestBody::Lookup { name }

@@ -1,8 +1,8 @@
 //! The opcodes, and what is fixed for each.
 
 ghost use Rattle.std.specs.Prelude.{◌≡◌, ◌≢◌, ◌↔◌, ℕ, true, false, IsTrue, MatchOption};
-ghost use Rattle.fk_wire.specs.Opcodes.{code_of, has_node, is_later, kind_of, knows};
-ghost use Rattle.fk_wire.specs.Opcodes.{name_after, name_of, served, shape_of};
+ghost use Rattle.fk_wire.specs.Opcodes.{code_of, has_node, is_later, reply_kind_of, minor_knows};
+ghost use Rattle.fk_wire.specs.Opcodes.{name_after, name_of, latest_minor, shape_of};
 ghost use Rattle.fk_wire.specs.Replies.{reply_kind};
 ghost use Rattle.fk_wire.specs.Requests.{IsNodeOf};
 ghost use Rattle.fk_wire.specs.declared.opcode.Opcode.{Opcode};
@@ -45,7 +45,7 @@ pub enum Minor {
 
 /// The minor version that the calls speak which take none.
 pub(crate) fn served_minor() -> Minor
-    ensures { result ≡ served }
+    ensures { result ≡ latest_minor }
 {
     Minor::M31
 }
@@ -59,7 +59,7 @@ fn came_later(opcode: Opcode) -> bool
 
 /// Whether the minor version knows an opcode.
 pub(crate) fn is_known(minor: Minor, opcode: Opcode) -> bool
-    ensures { IsTrue result ↔ IsTrue (knows minor opcode) }
+    ensures { IsTrue result ↔ IsTrue (minor_knows minor opcode) }
 {
     match minor {
         Minor::M31 => true,
@@ -96,16 +96,16 @@ pub fn opcode_of_code(code: u32) -> Option<Opcode>
 
 /// Whether a number is that of an opcode which the minor version knows.
 pub fn is_served_opcode_at(minor: Minor, code: u32) -> bool
-    ensures yes { result ≡ true → (o : Opcode) × IsTrue (knows minor o) × (code_of o ≡ code) }
-    ensures no { result ≡ false → (o : Opcode) → IsTrue (knows minor o) → code_of o ≢ code }
+    ensures yes { result ≡ true → (o : Opcode) × IsTrue (minor_knows minor o) × (code_of o ≡ code) }
+    ensures no { result ≡ false → (o : Opcode) → IsTrue (minor_knows minor o) → code_of o ≢ code }
 {
     opcode_at(minor, code).is_some()
 }
 
 /// The opcode of a number, if the minor version knows it.
 pub(crate) fn opcode_at(minor: Minor, code: u32) -> Option<Opcode>
-    ensures { MatchOption result ((o : Opcode) → IsTrue (knows minor o) → code_of o ≢ code)
-        (λ o. IsTrue (knows minor o) × (code_of o ≡ code)) }
+    ensures { MatchOption result ((o : Opcode) → IsTrue (minor_knows minor o) → code_of o ≢ code)
+        (λ o. IsTrue (minor_knows minor o) × (code_of o ≡ code)) }
 {
     let Some(opcode) = opcode_of_code(code) else {
         return None;
@@ -175,7 +175,7 @@ pub(crate) fn name_place(opcode: Opcode) -> Option<usize>
 
 /// The kind of body in the replies to an opcode.
 fn kind_of_reply(opcode: Opcode) -> Option<ReplyKind>
-    ensures { result ≡ kind_of opcode }
+    ensures { result ≡ reply_kind_of opcode }
 {
     match opcode {
         Opcode::Lookup | Opcode::Mkdir | Opcode::Link => Some(ReplyKind::Entry),

@@ -10,9 +10,9 @@ use Rattle.fuse_spec.specs.Server.Nodes.{NodeTable, HeldNode, file_of, file_in, 
 use Rattle.fuse_spec.specs.Values.Numbers.{eisdir, max_transfer}
 use Rattle.fuse_spec.specs.Files.Operations.{Reply, content, create, created, found, lookup, mkdir, opening, read}
 use Rattle.fuse_spec.specs.declared.Validity.{Validity}
-use Rattle.fuse_spec.specs.Files.Trees.{Tree, Named, a_directory, a_file, bytes_of, file_at, is_at, is_directory, with_birth}
-use Rattle.fuse_spec.specs.Files.TreeShape.{IsShaped, Stands}
-use Rattle.fuse_spec.specs.Files.FileOperations.{looked_up, refusal, reply_unrefused}
+use Rattle.fuse_spec.specs.Files.Trees.{Tree, Named, a_directory, a_file, file_bytes, file_at, is_at, is_directory, with_birth}
+use Rattle.fuse_spec.specs.Files.TreeShape.{IsShaped, IsInTree}
+use Rattle.fuse_spec.specs.Files.FileOperations.{lookup_reply, refusal, reply_unrefused}
 use Rattle.fs_tree.proofs.Counting.{found_there}
 use Rattle.fs_files.specs.declared.replies.Outcome.TheVariants.{Found, Created, Opened, Said}
 use Rattle.fuse_frames.specs.declared.reply.Reply.TheVariants as said
@@ -21,7 +21,7 @@ use Rattle.fs_files.specs.Performing.{Operates}
 use Rattle.fs_files.proofs.StaysKnown.{put_regular, put_there, regular_file}
 use Rattle.fs_tree.specs.Outcomes.{is_regular}
 
-found_file : (tree : Tree) → IsShaped tree → (o : Option Named) → ((n : Named) → o ≡ Some n → Stands tree n)
+found_file : (tree : Tree) → IsShaped tree → (o : Option Named) → ((n : Named) → o ≡ Some n → IsInTree tree n)
     → (file : ℕ) → option_map (λ n. n.file) o ≡ Some file → file < tree.next_birth
 found_file tree shaped None stands file is = absurd (none-some file is)
 found_file tree shaped (Some n) stands file is =
@@ -37,11 +37,11 @@ pub is_born : (tree : Tree) → IsShaped tree → (d : ℕ) (name : List ℕ) (f
     → file < tree.next_birth
 is_born tree shaped d name file at =
     found_file tree shaped (find (is_at d name) tree.names)
-    (λ n there. All-contains (Stands tree) tree.names n shaped.names
+    (λ n there. All-contains (IsInTree tree) tree.names n shaped.names
     (found_there (is_at d name) tree.names n there)) file at
 
 -- and is there
-found_there_so : (tree : Tree) → (o : Option Named) → ((n : Named) → o ≡ Some n → Stands tree n) → (file : ℕ)
+found_there_so : (tree : Tree) → (o : Option Named) → ((n : Named) → o ≡ Some n → IsInTree tree n) → (file : ℕ)
     → option_map (λ n. n.file) o ≡ Some file → IsThere tree file
 found_there_so tree None stands file is = absurd (none-some file is)
 found_there_so tree (Some n) stands file is = subst (λ (x : ℕ). IsThere tree x) (same_Some n.file file is)
@@ -51,14 +51,14 @@ is_there : (tree : Tree) → IsShaped tree → (d : ℕ) (name : List ℕ) (file
     → IsThere tree file
 is_there tree shaped d name file at =
     found_there_so tree (find (is_at d name) tree.names)
-    (λ n there. All-contains (Stands tree) tree.names n shaped.names
+    (λ n there. All-contains (IsInTree tree) tree.names n shaped.names
     (found_there (is_at d name) tree.names n there)) file at
 
 pub looks_up : {A : Type 0} (valid : Validity) (tree : Tree) → IsShaped tree → tree.next_birth ≤ 2 ^ 62
     → (d : ℕ) (name : List ℕ) (file : ℕ) → file_at tree d name ≡ Some file
     → Operates {A = A} valid tree (lookup d name) (Found file) tree
 looks_up valid tree shaped births d name file at = record {
-  says = sym (ap (looked_up valid) at);
+  says = sym (ap (lookup_reply valid) at);
   tree_is = refl;
   repliable = (
     let low = is_born tree shaped d name file at in
@@ -94,9 +94,9 @@ reads_bytes valid tree file offset size bytes read_now same is = record {
   where
     few : length bytes.items ≤ max_transfer
     few =
-        let all : bytes.items ≡ take (min size max_transfer) (drop offset (bytes_of (get tree.files file))) =
+        let all : bytes.items ≡ take (min size max_transfer) (drop offset (file_bytes (get tree.files file))) =
         same ∙ sym (ap bytes_in is) in
-        let most = length-take (min size max_transfer) (drop offset (bytes_of (get tree.files file))) in
+        let most = length-take (min size max_transfer) (drop offset (file_bytes (get tree.files file))) in
         let len = ap length all in
         omega (arith, most, len)
 

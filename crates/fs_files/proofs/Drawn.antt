@@ -11,12 +11,12 @@ use Rattle.fs_files.specs.Performing.{said, said_by, tree_said, tree_by, handles
 use Rattle.fuse_spec.specs.declared.Validity.{Validity}
 use Rattle.fuse_spec.specs.Files.Trees.{Tree}
 use Rattle.fuse_spec.specs.Files.FileOperations.{FileOperation, refusal, reply_by, reply_or, reply_unrefused, tree_after, tree_or, tree_unrefused}
-use Rattle.fs_tree.specs.Outcomes.{Refuses}
+use Rattle.fs_tree.specs.Outcomes.{RefusesWith}
 use Rattle.fs_tree.specs.declared.error.TreeError.{TreeError}
 use Rattle.fs_files.specs.Plans.{DrawsNumbers}
 use Rattle.fs_files.specs.declared.plan.Plan.{Plan}
 
-pub not_refused : {T : Type 0} (first : Option ℕ) (r : Result T TreeError) → Refuses first r → is_err r ≡ false
+pub not_refused : {T : Type 0} (first : Option ℕ) (r : Result T TreeError) → RefusesWith first r → is_err r ≡ false
     → first ≡ None
 not_refused first (Ok x) refuses none = refuses
 not_refused first (Err error) refuses none = absurd (true≢false none)

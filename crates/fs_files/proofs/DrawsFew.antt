@@ -11,14 +11,14 @@ use Rattle.fuse_spec.specs.declared.Validity.{Validity}
 use Rattle.fuse_spec.specs.Files.Operations.{DirentPlus, Reply, failed, done, files_in_reply, files_listed, opens_in_reply, listed_by}
 use Rattle.fuse_spec.specs.Files.Operations.{lookup, getattr, mkdir, create, unlink, rmdir, rename, link, opening, readdir, readdirplus, read, write}
 use Rattle.fuse_spec.specs.Files.Trees.{Tree, file_at, fitting_pairs, pair_length, pairs_after}
-use Rattle.fuse_spec.specs.Files.FileOperations.{FileOperation, is_same, looked_up, refusal, renamed, reply_by, reply_or, reply_unrefused, tree_after, tree_or, tree_unrefused}
+use Rattle.fuse_spec.specs.Files.FileOperations.{FileOperation, is_same, lookup_reply, refusal, renamed, reply_by, reply_or, reply_unrefused, tree_after, tree_or, tree_unrefused}
 use Rattle.fuse_spec.specs.Kernel.Messages.{RequestBody, init, asks, release, forget, batch_forget, interrupt}
-use Rattle.fuse_spec.specs.Server.Nodes.{HeldNode, NodeTable, counts_out, file_of, is_open}
+use Rattle.fuse_spec.specs.Server.Nodes.{HeldNode, NodeTable, count_overflows, file_of, is_open}
 use Rattle.fuse_spec.specs.Server.Performs.{file_operation_of, is_open_for, is_still_held}
 use Rattle.fuse_spec.specs.Server.Server.{Server, HeldRequest}
 use Rattle.fs_nodes.proofs.Maps.{there_any}
-use Rattle.fs_files.specs.Bounds.{AreCounted}
-use Rattle.fs_files.specs.Giving.{generations_after, has_node, new_among}
+use Rattle.fs_files.specs.Bounds.{HaveCountsUpTo}
+use Rattle.fs_files.specs.Giving.{generations_after, has_node_already, new_among}
 use Rattle.fs_files.specs.Performing.{said, said_by, tree_said, tree_by}
 use Rattle.fs_files.proofs.FilesListed.{first_few}
 
@@ -70,7 +70,7 @@ pairs_few room (p ∷ ps) = by (nat_le (pair_length p) room) refl (pairs_few (ro
 
 -- ---- operations
 
-looked_up_few : (v : Validity) (tree : Tree) (o : Option ℕ) → DrawsFew tree tree (looked_up v o)
+looked_up_few : (v : Validity) (tree : Tree) (o : Option ℕ) → DrawsFew tree tree (lookup_reply v o)
 looked_up_few v tree None = none_drawn _ _ _ refl refl refl refl
 looked_up_few v tree (Some file) = record {
   births = omega arith;
@@ -186,14 +186,14 @@ new_few known (file ∷ files) = by (known file || list_any (nat_eq file) files)
     by false rest = omega (arith, rest)
 
 pub generations_few : (t : NodeTable) (files : List ℕ) → generations_after t files ≤ t.next_generation + length files
-generations_few t files = let few = new_few (has_node t) files in omega (arith, few)
+generations_few t files = let few = new_few (has_node_already t) files in omega (arith, few)
 
 -- counts that are so far from their end come to it by none of these files
-pub counts_within : (t : NodeTable) (most : ℕ) (files : List ℕ) → T (is_sorted nat_cmp t.rows) → AreCounted most t
-    → most + length files < 2 ^ 62 → counts_out t files ≡ false
-counts_within t most files sorted counted low = by (counts_out t files) refl
+pub lemma_counts_in_range : (t : NodeTable) (most : ℕ) (files : List ℕ) → T (is_sorted nat_cmp t.rows) → HaveCountsUpTo most t
+    → most + length files < 2 ^ 62 → count_overflows t files ≡ false
+lemma_counts_in_range t most files sorted counted low = by (count_overflows t files) refl
   where
-    by : (b : Bool) → counts_out t files ≡ b → b ≡ false
+    by : (b : Bool) → count_overflows t files ≡ b → b ≡ false
     by false e = refl
     by true e =
         let has = there_any t.rows (λ (row : HeldNode). nat_le counter_end

@@ -10,7 +10,7 @@ use Rattle.fuse_spec.specs.Files.Operations.{first_listed}
 use Rattle.fs_nodes.specs.Rows.{IsOf}
 use Rattle.fs_nodes.specs.Sound.{IsSoundNodeTable}
 use Rattle.fs_nodes.proofs.Maps.{first_there, sorted_later, there_later}
-use Rattle.fs_files.specs.Bounds.{AreCounted}
+use Rattle.fs_files.specs.Bounds.{HaveCountsUpTo}
 use Rattle.fs_files.specs.Giving.{GivenEach, generations_after, node_in}
 use Rattle.fs_files.proofs.Bounds.{given_each}
 use Rattle.fs_files.proofs.Giving.{generation_left, generations_given, given_file, holds_sorted, node_of_is, stays}
@@ -49,12 +49,12 @@ module _ (t new : NodeTable) where
       (λ (n : NodeTable). generations_after n files) one.2 ∙ generations_given t file one.0 files
       (holds_sorted t sound) one.1
 
-  pub one_counted : (file_named : Option ℕ) (most : ℕ) → GivenEach t (first_listed file_named []) new → AreCounted most t
-      → AreCounted (most + 1) new
-  one_counted None most one low = subst (λ (n : NodeTable). AreCounted (most + 1) n) (sym one)
+  pub one_counted : (file_named : Option ℕ) (most : ℕ) → GivenEach t (first_listed file_named []) new → HaveCountsUpTo most t
+      → HaveCountsUpTo (most + 1) new
+  one_counted None most one low = subst (λ (n : NodeTable). HaveCountsUpTo (most + 1) n) (sym one)
       (λ id row is. let le = low id row is in omega (arith, le))
   one_counted (Some file) most one low =
-      subst (λ (n : NodeTable). AreCounted (most + 1) n) (sym one.2)
+      subst (λ (n : NodeTable). HaveCountsUpTo (most + 1) n) (sym one.2)
       (given_each (λ row. row.count ≤ most) (λ row. row.count ≤ most + 1) t file one.0 (λ row le. omega (arith, le))
       (λ row le. omega (arith, le)) (omega arith) low)
 

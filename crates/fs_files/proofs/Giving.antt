@@ -10,7 +10,7 @@ use Rattle.std.proofs.lemmas.List.{length-map}
 use Rattle.std.proofs.lemmas.Option.{same_Some}
 use Rattle.std.proofs.lemmas.Grind.{common_steps}
 use Rattle.fuse_spec.specs.Values.Maps.{Map, get, values}
-use Rattle.fuse_spec.specs.Server.Nodes.{HeldNode, NodeTable, MayName, IsUnheld, file_of, generation_after, given, given_row, counts_out}
+use Rattle.fuse_spec.specs.Server.Nodes.{HeldNode, NodeTable, MayName, IsUnheld, file_of, generation_after, given, given_row, count_overflows}
 use Rattle.fuse_spec.specs.declared.Entry.{Entry}
 use Rattle.fuse_spec.specs.Values.Numbers.{counter_end}
 use Rattle.fuse_spec.proofs.Tables.{get_put_here, get_put_there}
@@ -20,7 +20,7 @@ use Rattle.fs_nodes.specs.Sound.{IsSoundNodeTable}
 use Rattle.fs_nodes.proofs.Maps.{HasValue, any_is, any_there, first_there, sorted_later, there_any, there_later, sorted_put, turned}
 use Rattle.fs_tree.proofs.Shaping.{same_number}
 use Rattle.fs_files.specs.Bounds.{AreHeldBelow}
-use Rattle.fs_files.specs.Giving.{AreCountable, IsCountable, files_of, generations_after, has_node, new_among, node_in}
+use Rattle.fs_files.specs.Giving.{AreCountable, IsCountable, files_of, generations_after, has_node_already, new_among, node_in}
 
 pub is_true : (b : Bool) → b ≡ true → T b
 is_true true e = tt
@@ -109,8 +109,8 @@ or_none false = refl
 
 -- which files have nodes then
 pub given_has : (t : NodeTable) (file id : ℕ) → T (is_sorted nat_cmp t.rows) → MayName t file id → (x : ℕ)
-    → has_node (given t file id) x ≡ (has_node t x || nat_eq x file)
-given_has t file id sorted may x = sym (any_is (has_node t x || nat_eq x file) (given t file id).rows test
+    → has_node_already (given t file id) x ≡ (has_node_already t x || nat_eq x file)
+given_has t file id sorted may x = sym (any_is (has_node_already t x || nat_eq x file) (given t file id).rows test
     (sorted_put t.rows id (given_row t file (get t.rows id)) sorted) there back)
   where
     test : HeldNode → Bool
@@ -119,8 +119,8 @@ given_has t file id sorted may x = sym (any_is (has_node t x || nat_eq x file) (
     of_file : (given_row t file (get t.rows id)).file ≡ file
     of_file = given_file t file id may
 
-    there : (has_node t x || nat_eq x file) ≡ true → HasValue (given t file id).rows test
-    there any = elim (either (has_node t x) (nat_eq x file) any) [
+    there : (has_node_already t x || nat_eq x file) ≡ true → HasValue (given t file id).rows test
+    there any = elim (either (has_node_already t x) (nat_eq x file) any) [
       | inl had ↦
           let has = there_any t.rows test sorted had in
           let still = stays t file id has.key has.value has.there in
@@ -133,15 +133,15 @@ given_has t file id sorted may x = sym (any_is (has_node t x || nat_eq x file) (
       }
     ]
 
-    back : HasValue (given t file id).rows test → (has_node t x || nat_eq x file) ≡ true
+    back : HasValue (given t file id).rows test → (has_node_already t x || nat_eq x file) ≡ true
     back has = elim (cases_eq has.key id) [
       | inl e ↦
           let is = same_Some (given_row t file (get t.rows id)) has.value
           (sym (get_put_here t.rows id (given_row t file (get t.rows id))) ∙ ap (get (given t file id).rows)
           (sym e) ∙ has.there) in
-          or_right (has_node t x) (nat_eq x file) (turned x file ∙ ap (λ n. nat_eq n x)
+          or_right (has_node_already t x) (nat_eq x file) (turned x file ∙ ap (λ n. nat_eq n x)
           (sym of_file ∙ ap (λ (r : HeldNode). r.file) is) ∙ has.passes)
-      | inr ne ↦ or_left (has_node t x) (nat_eq x file)
+      | inr ne ↦ or_left (has_node_already t x) (nat_eq x file)
           (any_there t.rows test has.key has.value (sym (get_put_there t.rows id
           (given_row t file (get t.rows id)) has.key ne) ∙ has.there) has.passes)
     ]
@@ -150,16 +150,16 @@ pub sorted_given : (t : NodeTable) (file id : ℕ) → T (is_sorted nat_cmp t.ro
     → T (is_sorted nat_cmp (given t file id).rows)
 sorted_given t file id sorted = sorted_put t.rows id (given_row t file (get t.rows id)) sorted
 
-pub unheld_not : (t : NodeTable) (file : ℕ) → T (is_sorted nat_cmp t.rows) → IsUnheld t file → has_node t file ≡ false
-unheld_not t file sorted unheld = by (has_node t file) refl
+pub unheld_not : (t : NodeTable) (file : ℕ) → T (is_sorted nat_cmp t.rows) → IsUnheld t file → has_node_already t file ≡ false
+unheld_not t file sorted unheld = by (has_node_already t file) refl
   where
-    by : (b : Bool) → has_node t file ≡ b → b ≡ false
+    by : (b : Bool) → has_node_already t file ≡ b → b ≡ false
     by false e = refl
     by true e = let has = there_any t.rows (λ (row : HeldNode). nat_eq row.file file) sorted e in
         absurd (unheld has.key has.value has.there (same_number has.value.file file has.passes))
 
 pub held_has : (t : NodeTable) (file id : ℕ) (row : HeldNode) → get t.rows id ≡ Some row → row.file ≡ file
-    → has_node t file ≡ true
+    → has_node_already t file ≡ true
 held_has t file id row there same = any_there t.rows (λ (r : HeldNode). nat_eq r.file file) id row there
     (ap (λ n. nat_eq n file) same ∙ is_itself file)
   where
@@ -175,30 +175,30 @@ generations_given t file id files sorted may = by (get t.rows id) refl may
         → generations_after (given t file id) files ≡ generations_after t (file ∷ files)
     by None e m =
         let unknown = unheld_not t file sorted m.1 in
-        let once = new_once (has_node t) (has_node (given t file id)) file
+        let once = new_once (has_node_already t) (has_node_already (given t file id)) file
         (given_has t file id sorted may) unknown files in
         let next : (given t file id).next_generation ≡ t.next_generation + 1 = ap (generation_after t) e in
         rw (next, unknown) (sums (list_any (nat_eq file) files) once)
       where
-        sums : (b : Bool) → new_among (has_node t) files ≡ cond b 1 0 + new_among (has_node (given t file id)) files
-            → t.next_generation + 1 + new_among (has_node (given t file id)) files
-            ≡ t.next_generation + (cond b 0 1 + new_among (has_node t) files)
+        sums : (b : Bool) → new_among (has_node_already t) files ≡ cond b 1 0 + new_among (has_node_already (given t file id)) files
+            → t.next_generation + 1 + new_among (has_node_already (given t file id)) files
+            ≡ t.next_generation + (cond b 0 1 + new_among (has_node_already t) files)
         sums true once = omega (arith, once)
         sums false once = omega (arith, once)
     by (Some row) e m =
         let known = held_has t file id row e m in
         let next : (given t file id).next_generation ≡ t.next_generation = ap (generation_after t) e in
-        let same = same_new (has_node t) (has_node (given t file id))
+        let same = same_new (has_node_already t) (has_node_already (given t file id))
         (λ x. given_has t file id sorted may x ∙ still x known) files in
         rw (next, known, same) (omega arith)
       where
-        still : (x : ℕ) → has_node t file ≡ true → (has_node t x || nat_eq x file) ≡ has_node t x
+        still : (x : ℕ) → has_node_already t file ≡ true → (has_node_already t x || nat_eq x file) ≡ has_node_already t x
         still x known = by_same (nat_eq x file) refl
           where
-            by_same : (b : Bool) → nat_eq x file ≡ b → (has_node t x || b) ≡ has_node t x
-            by_same true same = or_right (has_node t x) true refl ∙ sym
-                (ap (has_node t) (same_number x file same) ∙ known)
-            by_same false same = or_none (has_node t x)
+            by_same : (b : Bool) → nat_eq x file ≡ b → (has_node_already t x || b) ≡ has_node_already t x
+            by_same true same = or_right (has_node_already t x) true refl ∙ sym
+                (ap (has_node_already t) (same_number x file same) ∙ known)
+            by_same false same = or_none (has_node_already t x)
 
 -- the last one among equal files is new
 new_later : (known : ℕ → Bool) (file : ℕ) → known file ≡ false → (xs : List ℕ) → list_any (nat_eq file) xs ≡ true
@@ -229,7 +229,7 @@ pub generation_left : (t : NodeTable) (file : ℕ) (files : List ℕ) → T (is_
     → generations_after t (file ∷ files) ≤ 2 ^ 62 → IsUnheld t file → t.next_generation < 2 ^ 62
 generation_left t file files sorted enough unheld =
     let unknown = unheld_not t file sorted unheld in
-    let some = first_new (has_node t) file files unknown in
+    let some = first_new (has_node_already t) file files unknown in
     omega (arith, enough, some)
 
 -- ---- counts
@@ -240,7 +240,7 @@ module _ (t : NodeTable) (files : List ℕ) where
 
   -- a node that reaches the end of counters
   pub out_at : (id : ℕ) (row : HeldNode) (file : ℕ) → get t.rows id ≡ Some row → row.file ≡ file
-      → 2 ^ 62 ≤ row.count + count_by (nat_eq file) files → counts_out t files ≡ true
+      → 2 ^ 62 ≤ row.count + count_by (nat_eq file) files → count_overflows t files ≡ true
   out_at id row file there same most =
       any_there t.rows (λ (r : HeldNode). nat_le counter_end (r.count + count_by (nat_eq r.file) files)) id row there
       (ap (λ n. nat_le counter_end (row.count + count_by (nat_eq n) files)) same ∙ reached
@@ -263,10 +263,10 @@ module _ (t : NodeTable) (files : List ℕ) where
       by true same more rest = subst (IsCountable t files) (sym (same_number file x same)) each.0
       by false same more rest = rest (rw same at more)
 
-  pub none_out : T (is_sorted nat_cmp t.rows) → AreHeldBelow t → AreCountable t files files → counts_out t files ≡ false
-  none_out sorted below each = by (counts_out t files) refl
+  pub none_out : T (is_sorted nat_cmp t.rows) → AreHeldBelow t → AreCountable t files files → count_overflows t files ≡ false
+  none_out sorted below each = by (count_overflows t files) refl
     where
-      by : (b : Bool) → counts_out t files ≡ b → b ≡ false
+      by : (b : Bool) → count_overflows t files ≡ b → b ≡ false
       by false e = refl
       by true e =
           let has = there_any t.rows (λ (r : HeldNode). nat_le counter_end
@@ -291,7 +291,7 @@ module _ (t : NodeTable) (files : List ℕ) where
     row_at (Some row) e is = (row, e, is)
 
     -- the node's lookups come to the end of counters
-    pub counted_out_at : nat_le (2 ^ 62 - count) more ≡ true → counts_out t files ≡ true
+    pub counted_out_at : nat_le (2 ^ 62 - count) more ≡ true → count_overflows t files ≡ true
     counted_out_at most =
         let row = row_at (get t.rows id) refl of_file in
         let counted : count ≡ row.0.count = is_count ∙ ap count_in row.1 in

@@ -6,14 +6,14 @@ use Rattle.std.proofs.lemmas.Grind.{common_steps}
 use Rattle.std.proofs.lemmas.List.Sums.{count_by-le-length}
 use Rattle.fuse_spec.specs.Values.Maps.{get}
 use Rattle.fuse_spec.specs.Values.Numbers.{counter_end}
-use Rattle.fuse_spec.specs.Server.Nodes.{HeldNode, NodeTable, IsUnheld, MayChoose, MayName, all_given, counts_out, given, given_row}
+use Rattle.fuse_spec.specs.Server.Nodes.{HeldNode, NodeTable, IsUnheld, MayChoose, MayName, all_given, count_overflows, given, given_row}
 use Rattle.fuse_spec.specs.Files.Operations.{Dirent, files_in_reply, files_listed, first_listed}
 use Rattle.fuse_spec.specs.Calls.Paths.{is_dots}
 use Rattle.fuse_spec.specs.Files.Trees.{Tree}
 use Rattle.fuse_spec.proofs.QueueCounts.{count_by-cons}
 use Rattle.fs_nodes.proofs.Maps.{any_there}
 use Rattle.fs_files.specs.Bounds.{AreHeldBelow}
-use Rattle.fs_files.specs.Listed.{names_in, pair_listed}
+use Rattle.fs_files.specs.Listed.{dirents_in_bytes, pair_listed}
 use Rattle.fs_files.specs.Replies.{IsRepliable, outcome_reply}
 use Rattle.fs_files.specs.declared.replies.Outcome.{Outcome}
 use Rattle.fs_files.specs.declared.replies.Outcome.TheVariants.{Found, Created, Opened, ListedPlus, Said}
@@ -28,7 +28,7 @@ Fits files row = row.count + count_by (nat_eq row.file) files < 2 ^ 62
 abbrev pub IsWithin : NodeTable → List ℕ → Type 0
 IsWithin t files = (id : ℕ) (row : HeldNode) → get t.rows id ≡ Some row → Fits files row
 
-pub within_first : (t : NodeTable) (files : List ℕ) → counts_out t files ≡ false → IsWithin t files
+pub within_first : (t : NodeTable) (files : List ℕ) → count_overflows t files ≡ false → IsWithin t files
 within_first t files none id row there = by (nat_le counter_end (row.count + count_by (nat_eq row.file) files)) refl
   where
     by : (b : Bool) → nat_le counter_end (row.count + count_by (nat_eq row.file) files) ≡ b → Fits files row
@@ -98,7 +98,7 @@ few_given tree ms (Found file) repliable = omega arith
 few_given tree ms (Created file) repliable = omega arith
 few_given tree ms (Opened file) repliable = omega arith
 few_given tree ms (ListedPlus records) repliable = let most = repliable.1 in let few =
-    few_files ms (names_in records.items) in omega (arith, most, few)
+    few_files ms (dirents_in_bytes records.items) in omega (arith, most, few)
 few_given tree ms (Said (said.Found entry valid)) repliable = absurd repliable.0
 few_given tree ms (Said (said.Missing valid)) repliable = omega arith
 few_given tree ms (Said (said.Created entry valid fh)) repliable = absurd repliable.0

@@ -9,7 +9,7 @@ use Rattle.std.proofs.lemmas.List.Sums.{sum_by-cons}
 use Rattle.fk_wire.specs.RecordEnds.{padding}
 use Rattle.fuse_spec.specs.Files.Operations.{Reply, listed}
 use Rattle.fuse_spec.specs.Files.Operations.{Dirent as SpecDirent}
-use Rattle.fuse_spec.specs.Files.Trees.{Named, Tree, fitting, names_in, record_length, records_after}
+use Rattle.fuse_spec.specs.Files.Trees.{Named, Tree, fitting, directory_names, record_length, records_after}
 use Rattle.fuse_spec.specs.Files.Trees.{record_of as spec_record_of}
 use Rattle.fk_wire.specs.Dirents.{DirentContent, dirents, dirents_from, HaveRecordNames}
 use Rattle.fk_wire.specs.Fields.{InRange, ReadsAs, sizes, spellings}
@@ -18,12 +18,12 @@ use Rattle.fk_wire.specs.declared.records.Records.{Records}
 use Rattle.fk_wire.proofs.Frames.{reads_back}
 use Rattle.fk_wire.proofs.OneReply.{counted_from, ends_beyond}
 use Rattle.fk_wire.proofs.RecordLists.{dirents_are_named, one_dirent_list, sizes_of_dirents}
-use Rattle.fuse_frames.specs.ReplyTies.{dirent_in, dirent_of as dirent_written, kind_of_type, type_of}
+use Rattle.fuse_frames.specs.ReplyTies.{dirent_read, dirent_written as dirent_written, kind_of_type, type_of}
 use Rattle.fuse_spec.specs.declared.Kind.{Kind}
 use Rattle.fuse_spec.specs.declared.Kind.TheVariants.{Directory, Regular, Other}
 use Rattle.fs_tree.specs.declared.listing.Record.{Record}
-use Rattle.fs_tree.specs.Views.{dirent_of}
-use Rattle.fs_files.specs.Listing.{record_of}
+use Rattle.fs_tree.specs.Views.{viewed_dirent}
+use Rattle.fs_files.specs.Listing.{written_record_of}
 use Rattle.fs_files.specs.Listed.{AreRecordBytes, dirents_in}
 
 pub records_read : (ds : List DirentContent) (bytes : List ℕ) → InRange (dirents ds) → bytes ≡ spellings (dirents ds)
@@ -49,7 +49,7 @@ size_is ds bytes h =
     omega (arith, all, same)
 
 abbrev AreTyped : List DirentContent → Type 0
-AreTyped ds = map dirent_written (map dirent_in ds) ≡ ds
+AreTyped ds = map dirent_written (map dirent_read ds) ≡ ds
 
 are_records : (ds : List DirentContent) (bytes : List ℕ) → AreTyped ds → HaveRecordNames ds → InRange (dirents ds)
     → bytes ≡ spellings (dirents ds) → AreRecordBytes bytes
@@ -63,33 +63,33 @@ kind_back Directory = refl
 kind_back Regular = refl
 kind_back Other = refl
 
-pub records_back : (rs : List Record) → map dirent_in (map record_of rs) ≡ map dirent_of rs
+pub records_back : (rs : List Record) → map dirent_read (map written_record_of rs) ≡ map viewed_dirent rs
 records_back [] = refl
 records_back (r ∷ rs) = λ i. record {
-  ino = (dirent_of r).ino;
-  offset = (dirent_of r).offset;
+  ino = (viewed_dirent r).ino;
+  offset = (viewed_dirent r).offset;
   kind = kind_back r.kind i;
-  name = (dirent_of r).name;
+  name = (viewed_dirent r).name;
 } ∷ records_back rs i
 
-types_back : (rs : List Record) → AreTyped (map record_of rs)
+types_back : (rs : List Record) → AreTyped (map written_record_of rs)
 types_back [] = refl
 types_back (r ∷ rs) = λ i. record {
-  ino = (record_of r).ino;
-  off = (record_of r).off;
+  ino = (written_record_of r).ino;
+  off = (written_record_of r).off;
   kind = type_of (kind_back r.kind i);
-  name = (record_of r).name;
+  name = (written_record_of r).name;
 } ∷ types_back rs i
 
-pub names_are_records : (rs : List Record) (bytes : List ℕ) → HaveRecordNames (map record_of rs)
-    → InRange (dirents (map record_of rs)) → bytes ≡ spellings (dirents (map record_of rs)) → AreRecordBytes bytes
-names_are_records rs bytes named fits is = are_records (map record_of rs) bytes (types_back rs) named fits is
+pub names_are_records : (rs : List Record) (bytes : List ℕ) → HaveRecordNames (map written_record_of rs)
+    → InRange (dirents (map written_record_of rs)) → bytes ≡ spellings (dirents (map written_record_of rs)) → AreRecordBytes bytes
+names_are_records rs bytes named fits is = are_records (map written_record_of rs) bytes (types_back rs) named fits is
 
 -- the records of these names, as they were written
-pub listed_are : (rs : List Record) (bytes : List ℕ) → InRange (dirents (map record_of rs))
-    → bytes ≡ spellings (dirents (map record_of rs)) → map dirent_in (dirents_in bytes) ≡ map dirent_of rs
-listed_are rs bytes fits is = ap (λ (xs : List DirentContent). map dirent_in xs)
-    (dirents_are (map record_of rs) bytes (records_read (map record_of rs) bytes fits is)) ∙ records_back rs
+pub listed_are : (rs : List Record) (bytes : List ℕ) → InRange (dirents (map written_record_of rs))
+    → bytes ≡ spellings (dirents (map written_record_of rs)) → map dirent_read (dirents_in bytes) ≡ map viewed_dirent rs
+listed_are rs bytes fits is = ap (λ (xs : List DirentContent). map dirent_read xs)
+    (dirents_are (map written_record_of rs) bytes (records_read (map written_record_of rs) bytes fits is)) ∙ records_back rs
 
 -- ---- what is read over the bytes of records
 
@@ -113,14 +113,14 @@ pad_is n = omega arith
 
 -- as long as their names say
 pub records_end : (ds : List DirentContent) (place : ℕ) (bytes : List ℕ) → ReadsAs place (dirents ds) bytes
-    → length bytes ≡ place + sum_by record_length (map dirent_in ds)
+    → length bytes ≡ place + sum_by record_length (map dirent_read ds)
 records_end [] place bytes reads = omega (arith, reads)
 records_end (d ∷ ds) place bytes reads =
     let rest = records_end ds (place + 8 + 8 + 4 + 4 + length d.name + padding (length d.name)) bytes reads.1.1.1.1.1 in
     let pad = pad_is (length d.name) in
-    let sum : sum_by record_length (map dirent_in (d ∷ ds))
-    ≡ (31 + length d.name) / 8 * 8 + sum_by record_length (map dirent_in ds) =
-    sum_by-cons record_length (dirent_in d) (map dirent_in ds) in
+    let sum : sum_by record_length (map dirent_read (d ∷ ds))
+    ≡ (31 + length d.name) / 8 * 8 + sum_by record_length (map dirent_read ds) =
+    sum_by-cons record_length (dirent_read d) (map dirent_read ds) in
     omega (arith, rest, pad, sum)
 
 -- records that fit some room are no longer than it
@@ -141,11 +141,11 @@ fitting_fits room (r ∷ rs) = by (nat_le (record_length r) room) refl (fitting_
 
 -- the bytes of a listing that fits some room
 pub few_bytes : (rs : List Record) (bytes : List ℕ) (room : ℕ) (all : List SpecDirent)
-    → InRange (dirents (map record_of rs)) → bytes ≡ spellings (dirents (map record_of rs))
-    → fitting room all ≡ map dirent_of rs → length bytes ≤ room
+    → InRange (dirents (map written_record_of rs)) → bytes ≡ spellings (dirents (map written_record_of rs))
+    → fitting room all ≡ map viewed_dirent rs → length bytes ≤ room
 few_bytes rs bytes room all fits is some =
-    let end = records_end (map record_of rs) 0 bytes (records_read (map record_of rs) bytes fits is) in
-    let same : sum_by record_length (map dirent_in (map record_of rs)) ≡ sum_by record_length (fitting room all) =
+    let end = records_end (map written_record_of rs) 0 bytes (records_read (map written_record_of rs) bytes fits is) in
+    let same : sum_by record_length (map dirent_read (map written_record_of rs)) ≡ sum_by record_length (fitting room all) =
     ap (λ (ds : List SpecDirent). sum_by record_length ds) (records_back rs ∙ sym some) in
     let most = fitting_fits room all in
     omega (arith, end, same, most)
@@ -182,22 +182,22 @@ low_fitting room (d ∷ ds) low = by (nat_le (record_length d) room)
     by true rest = All-cons IsLow d (fitting (room - record_length d) ds) (All-head IsLow d ds low) rest
     by false rest = All-nil IsLow
 
-low_files : (rs : List Record) → All IsLow (map dirent_of rs) → All (λ (r : Record). r.file < 2 ^ 62) rs
+low_files : (rs : List Record) → All IsLow (map viewed_dirent rs) → All (λ (r : Record). r.file < 2 ^ 62) rs
 low_files [] low = All-nil (λ (r : Record). r.file < 2 ^ 62)
 low_files (r ∷ rs) low =
-    let first : r.file + 1 ≤ 2 ^ 62 = All-head IsLow (dirent_of r) (map dirent_of rs) low in
+    let first : r.file + 1 ≤ 2 ^ 62 = All-head IsLow (viewed_dirent r) (map viewed_dirent rs) low in
     All-cons (λ (q : Record). q.file < 2 ^ 62) r rs (omega (arith, first))
-    (low_files rs (All-tail IsLow (dirent_of r) (map dirent_of rs) low))
+    (low_files rs (All-tail IsLow (viewed_dirent r) (map viewed_dirent rs) low))
 
 -- the files of the names in a directory are below the end of births
 pub low_records : (tree : Tree) → IsShaped tree → tree.next_birth ≤ 2 ^ 62
     → (directory after room : ℕ) (rs : List Record) → fitting room (records_after tree directory after)
-    ≡ map dirent_of rs → All (λ (r : Record). r.file < 2 ^ 62) rs
+    ≡ map viewed_dirent rs → All (λ (r : Record). r.file < 2 ^ 62) rs
 low_records tree shaped births directory after room rs some =
     let named : All (λ (n : Named). IsLow (spec_record_of tree n)) tree.names = λ i d lt. let low =
     low_born tree shaped births _ (shaped.names i d lt).file in omega (arith, low) in
-    let here = All-filter (λ n. nat_lt after n.serial) (λ n. IsLow (spec_record_of tree n)) (names_in tree directory)
+    let here = All-filter (λ n. nat_lt after n.serial) (λ n. IsLow (spec_record_of tree n)) (directory_names tree directory)
     (All-filter (λ n. nat_eq n.directory directory) (λ n. IsLow (spec_record_of tree n)) tree.names named) in
     low_files rs (subst (λ (ds : List SpecDirent). All IsLow ds) some
     (low_fitting room (records_after tree directory after)
-    (All-map IsLow (spec_record_of tree) (filter (λ n. nat_lt after n.serial) (names_in tree directory)) here)))
+    (All-map IsLow (spec_record_of tree) (filter (λ n. nat_lt after n.serial) (directory_names tree directory)) here)))

@@ -8,10 +8,10 @@ use Rattle.fuse_spec.specs.Files.Trees.{Tree, fitting, fitting_pairs, pairs_afte
 use Rattle.fuse_spec.specs.Files.TreeShape.{IsShaped}
 use Rattle.fk_wire.specs.Dirents.{HaveRecordNames, dirents}
 use Rattle.fk_wire.specs.Fields.{InRange, spellings}
-use Rattle.fs_tree.specs.Views.{dirent_of, pair_of}
+use Rattle.fs_tree.specs.Views.{viewed_dirent, viewed_pair}
 use Rattle.fs_tree.specs.declared.listing.Record.{Record}
-use Rattle.fs_files.specs.Listing.{Lists, listing, record_of}
-use Rattle.fs_files.specs.Listed.{names_in}
+use Rattle.fs_files.specs.Listing.{Lists, listing, written_record_of}
+use Rattle.fs_files.specs.Listed.{dirents_in_bytes}
 use Rattle.fs_files.specs.Performing.{Operates}
 use Rattle.fs_files.specs.Replies.{IsListable}
 use Rattle.fs_files.specs.declared.replies.Outcome.TheVariants.{ListedPlus, Said}
@@ -35,18 +35,18 @@ module _ (tree : Tree) (directory after size : ℕ) where
     low_names false rs is = low_records tree shaped births directory after room rs
         (listed_same _ _ (is some_validity))
 
-    module _ {A : Type 0} (rs : List Record) (bytes : Vec ℕ A) (named : HaveRecordNames (map record_of rs))
-        (fits : InRange (dirents (map record_of rs))) (is : bytes.items ≡ spellings (dirents (map record_of rs)))
+    module _ {A : Type 0} (rs : List Record) (bytes : Vec ℕ A) (named : HaveRecordNames (map written_record_of rs))
+        (fits : InRange (dirents (map written_record_of rs))) (is : bytes.items ≡ spellings (dirents (map written_record_of rs)))
         (v : Validity) where
       -- what a READDIRPLUS comes to
       pub lists_files : (with_files : Bool) → with_files ≡ true → Lists with_files tree directory after size rs
           → Operates {A = A} v tree (listing with_files directory after size) (ListedPlus bytes) tree
       lists_files true e says =
-          let same : fitting_pairs room (pairs_after v.found_ms tree directory after) ≡ map (pair_of v.found_ms) rs =
+          let same : fitting_pairs room (pairs_after v.found_ms tree directory after) ≡ map (viewed_pair v.found_ms) rs =
           pairs_same _ _ (says v) in
           let most = few_pairs v.found_ms rs bytes.items room (pairs_after v.found_ms tree directory after) fits is
           same in
-          let few : 128 * length (names_in bytes.items) + length bytes.items ≤ max_transfer = omega (arith, most) in
+          let few : 128 * length (dirents_in_bytes bytes.items) + length bytes.items ≤ max_transfer = omega (arith, most) in
           record {
             says = ap listed_plus (pairs_are v.found_ms rs bytes.items fits is ∙ sym same);
             tree_is = refl;
@@ -64,7 +64,7 @@ module _ (tree : Tree) (directory after size : ℕ) where
       pub lists_names : (with_files : Bool) → with_files ≡ false → Lists with_files tree directory after size rs
           → Operates {A = A} v tree (listing with_files directory after size) (Said (said.Listed bytes)) tree
       lists_names false e says =
-          let same : fitting room (records_after tree directory after) ≡ map dirent_of rs =
+          let same : fitting room (records_after tree directory after) ≡ map viewed_dirent rs =
           listed_same _ _ (says v) in
           let most = few_bytes rs bytes.items room (records_after tree directory after) fits is same in
           let few : length bytes.items ≤ max_transfer = omega (arith, most) in

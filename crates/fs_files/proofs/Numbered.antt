@@ -7,7 +7,7 @@ use Rattle.fuse_spec.specs.declared.Entry.{Entry}
 use Rattle.fs_files.specs.Numbering.{GivesEntry, GivesNumbers}
 use Rattle.fs_files.specs.Values.{FilesState}
 use Rattle.fuse_frames.specs.declared.reply.Reply.TheVariants as said
-use Rattle.fs_files.specs.Replies.{NamesNothing, SentReply, outcome_reply}
+use Rattle.fs_files.specs.Replies.{NamesNoFile, SentReply, outcome_reply}
 use Rattle.fs_files.specs.declared.replies.Outcome.TheVariants.{Said}
 
 pub gives_found : {A : Type 0} (one two : FilesState) (file ms : ℕ) (entry : Entry)
@@ -50,7 +50,7 @@ gives_opened one two file fh fh_is tree nodes handles = record {
 }
 
 -- nothing is given for a reply that names nothing
-pub gives_said : {A : Type 0} (one : FilesState) (ms : ℕ) (reply : SentReply A) → NamesNothing reply
+pub gives_said : {A : Type 0} (one : FilesState) (ms : ℕ) (reply : SentReply A) → NamesNoFile reply
     → GivesNumbers {A = A} one (outcome_reply ms (Said reply)) reply one
 gives_said one ms (said.Found entry valid) nothing = absurd nothing
 gives_said one ms (said.Missing valid) nothing = record {

@@ -8,9 +8,9 @@ use Rattle.fuse_spec.specs.Server.Performs.{entry_for}
 use Rattle.fuse_spec.specs.Files.Trees.{Tree}
 use Rattle.fuse_spec.specs.declared.Entry.{Entry}
 use Rattle.fs_nodes.specs.Sound.{IsSoundNodeTable}
-use Rattle.fuse_frames.specs.ReplyTies.{dirent_in, entry_told, pairs_told}
+use Rattle.fuse_frames.specs.ReplyTies.{dirent_read, entry_told, pairs_told}
 use Rattle.fs_files.specs.Giving.{GivenEach, node_in}
-use Rattle.fs_files.specs.Listed.{dirents_in, listed_pairs, names_in, pair_listed}
+use Rattle.fs_files.specs.Listed.{dirents_in, listed_pairs, dirents_in_bytes, pair_listed}
 use Rattle.fs_files.specs.Numbering.{GivesNumbers, entries_named, entry_named}
 use Rattle.fs_files.specs.Values.{FilesState}
 use Rattle.fs_files.specs.declared.listed_names.ListedNames.{ListedNames}
@@ -42,12 +42,12 @@ same_files ms (d ∷ ds) = ap (λ (files : List ℕ). first_listed (cond (is_dot
     (same_files ms ds)
 
 pub gives_listed : {A : Type 0} (one two : FilesState) (ms : ℕ) (bytes : List ℕ) (listing : ListedNames A)
-    → GivenEach one.nodes (files_listed (map (pair_listed 0) (names_in bytes))) two.nodes → IsSoundNodeTable two.nodes
-    → listing.entries.items ≡ map (entry_named two.tree two.nodes) (names_in bytes) → listing.records.items ≡ bytes
+    → GivenEach one.nodes (files_listed (map (pair_listed 0) (dirents_in_bytes bytes))) two.nodes → IsSoundNodeTable two.nodes
+    → listing.entries.items ≡ map (entry_named two.tree two.nodes) (dirents_in_bytes bytes) → listing.records.items ≡ bytes
     → listing.found_ms ≡ ms → two.tree ≡ one.tree → two.handles ≡ one.handles
-    → GivesNumbers {A = A} one (operation.listed_plus (map (pair_listed ms) (names_in bytes))) (ListedPlus listing) two
+    → GivesNumbers {A = A} one (operation.listed_plus (map (pair_listed ms) (dirents_in_bytes bytes))) (ListedPlus listing) two
 gives_listed one two ms bytes listing given sound entries records valid tree handles =
-    let names = names_in bytes in
+    let names = dirents_in_bytes bytes in
     let files = files_listed (map (pair_listed ms) names) in
     let each : GivenEach one.nodes files two.nodes =
     subst (λ (fs : List ℕ). GivenEach one.nodes fs two.nodes) (sym (same_files ms names)) given in
@@ -58,7 +58,7 @@ gives_listed one two ms bytes listing given sound entries records valid tree han
       nodes_is = all_each two.nodes sound one.nodes files each;
       handles_is = handles;
       wire_is =
-          (λ i. operation.listed_plus (pairs_told (valid i) (entries i) (names_in (records i))))
+          (λ i. operation.listed_plus (pairs_told (valid i) (entries i) (dirents_in_bytes (records i))))
           ∙ ap (λ pairs. operation.listed_plus pairs) (pairs_are two.tree two.nodes sound ms names)
           ∙ ap (λ (t : Tree). operation.listed_plus (map (pair_with (entry_for (node_in two.nodes.rows) two.nodes t))
           (map (pair_listed ms) names))) tree;
@@ -71,17 +71,17 @@ mapped_length f [] = refl
 mapped_length f (x ∷ xs) = let rest = mapped_length f xs in omega (arith, rest)
 
 module _ (tree : Tree) (nodes : NodeTable) (bytes view : List ℕ) (same : view ≡ bytes) (entries : List Entry)
-    (is_entries : entries ≡ map (entry_named tree nodes) (names_in view)) where
-  pub one_each : length entries ≡ length (names_in bytes)
+    (is_entries : entries ≡ map (entry_named tree nodes) (dirents_in_bytes view)) where
+  pub one_each : length entries ≡ length (dirents_in_bytes bytes)
   one_each = ap (λ (es : List Entry). length es) is_entries ∙ mapped_length (entry_named tree nodes)
-      (names_in view) ∙ ap (λ (b : List ℕ). length (names_in b)) same
+      (dirents_in_bytes view) ∙ ap (λ (b : List ℕ). length (dirents_in_bytes b)) same
 
   pub one_a_record : length entries ≡ length (dirents_in bytes)
-  one_a_record = one_each ∙ mapped_length dirent_in (dirents_in bytes)
+  one_a_record = one_each ∙ mapped_length dirent_read (dirents_in bytes)
 
   pub file_entries_so : IsSoundNodeTable nodes → (ms : ℕ) (file_entries : List Entry)
-      → file_entries ≡ files_listed (entries_named tree nodes (names_in view))
+      → file_entries ≡ files_listed (entries_named tree nodes (dirents_in_bytes view))
       → file_entries ≡ files_listed (listed_pairs ms entries bytes)
   file_entries_so sound ms file_entries are_files =
-      are_files ∙ sym (file_entries_are tree nodes sound ms (names_in view)) ∙
-      (λ i. files_listed (pairs_told ms (sym is_entries i) (names_in (same i))))
+      are_files ∙ sym (file_entries_are tree nodes sound ms (dirents_in_bytes view)) ∙
+      (λ i. files_listed (pairs_told ms (sym is_entries i) (dirents_in_bytes (same i))))

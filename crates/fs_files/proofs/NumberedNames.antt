@@ -6,8 +6,8 @@ use Rattle.fuse_spec.specs.Server.Nodes.{NodeTable}
 use Rattle.fuse_spec.specs.Files.Operations.{Dirent, files_listed, first_listed}
 use Rattle.fuse_spec.specs.Calls.Paths.{is_dots}
 use Rattle.fuse_spec.specs.Files.Trees.{Tree}
-use Rattle.fs_files.specs.Bounds.{AreCounted, AreHeldBelow}
-use Rattle.fs_files.specs.Giving.{GivenEach, generations_after, has_node}
+use Rattle.fs_files.specs.Bounds.{HaveCountsUpTo, AreHeldBelow}
+use Rattle.fs_files.specs.Giving.{GivenEach, generations_after, has_node_already}
 use Rattle.fs_files.specs.Listed.{pair_listed}
 use Rattle.fs_files.specs.Replies.{IsListable}
 use Rattle.fs_files.proofs.Giving.{first_new}
@@ -25,7 +25,7 @@ pub record StillToGive (tree : Tree) (old : NodeTable) (all : List ℕ) (t : Nod
   pub few : length ds ≤ 32
   pub roomy : length ds ≤ room
   pub generations : generations_after t (files_listed (map (pair_listed 0) ds)) ≤ 2 ^ 62
-  pub counted : AreCounted (2 ^ 63 - length ds) t
+  pub counted : HaveCountsUpTo (2 ^ 63 - length ds) t
 
 pub first_to_give : (tree : Tree) (t : NodeTable) (room : ℕ) (ds : List Dirent) → All (IsListable tree) ds
     → length ds ≤ 32 → length ds ≤ room
@@ -63,7 +63,7 @@ module _ (tree : Tree) (old : NodeTable) (all : List ℕ) (t : NodeTable) (room 
   pub next_listable : IsListable tree d
   next_listable = All-head (IsListable tree) d ds still.listable
 
-  pub next_counted : AreCounted (2 ^ 63) t
+  pub next_counted : HaveCountsUpTo (2 ^ 63) t
   next_counted id row is = let low = still.counted id row is in omega (arith, low)
 
   pub next_room : 0 < room
@@ -74,11 +74,11 @@ fewer_first : (t : NodeTable) (file_named : Option ℕ) (files : List ℕ)
     → generations_after t (first_listed file_named files) ≤ 2 ^ 62
     → generations_after t (first_listed file_named []) ≤ 2 ^ 62
 fewer_first t None files enough = omega (arith, enough)
-fewer_first t (Some file) files enough = by (has_node t file) refl
+fewer_first t (Some file) files enough = by (has_node_already t file) refl
   where
-    by : (b : Bool) → has_node t file ≡ b → generations_after t (file ∷ []) ≤ 2 ^ 62
+    by : (b : Bool) → has_node_already t file ≡ b → generations_after t (file ∷ []) ≤ 2 ^ 62
     by true e = rw e (omega (arith, enough))
-    by false e = let some = first_new (has_node t) file files e in rw e (omega (arith, enough, some))
+    by false e = let some = first_new (has_node_already t) file files e in rw e (omega (arith, enough, some))
 
 pub next_generations : (tree : Tree) (old : NodeTable) (all : List ℕ) (t : NodeTable) (room : ℕ) (d : Dirent)
     (ds : List Dirent) → StillToGive tree old all t room (d ∷ ds)

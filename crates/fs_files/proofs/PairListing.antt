@@ -6,17 +6,17 @@ use Rattle.std.proofs.lemmas.List.Elements.{All-cons, All-filter, All-head, All-
 use Rattle.std.proofs.lemmas.List.Sums.{sum_by-cons}
 use Rattle.fuse_spec.specs.Files.TreeShape.{IsShaped}
 use Rattle.fuse_spec.specs.Files.Operations.{Dirent, DirentPlus, Reply, listed_plus}
-use Rattle.fuse_spec.specs.Files.Trees.{Named, Tree, fitting_pairs, names_in, pair_length, pairs_after, record_length}
+use Rattle.fuse_spec.specs.Files.Trees.{Named, Tree, fitting_pairs, directory_names, pair_length, pairs_after, record_length}
 use Rattle.fuse_spec.specs.Files.Trees.{pair_of as spec_pair_of}
 use Rattle.fk_wire.specs.Dirents.{dirents}
 use Rattle.fk_wire.specs.Fields.{InRange, spellings}
-use Rattle.fuse_frames.specs.ReplyTies.{dirent_in}
+use Rattle.fuse_frames.specs.ReplyTies.{dirent_read}
 use Rattle.fs_tree.specs.declared.listing.Record.{Record}
-use Rattle.fs_tree.specs.Views.{dirent_of, pair_of}
+use Rattle.fs_tree.specs.Views.{viewed_dirent, viewed_pair}
 use Rattle.fs_files.specs.Bounds.{IsThere}
-use Rattle.fs_files.specs.Listing.{record_of}
+use Rattle.fs_files.specs.Listing.{written_record_of}
 use Rattle.fs_files.specs.Listed.{pair_listed}
-use Rattle.fs_files.specs.Listed.{names_in as listed_in}
+use Rattle.fs_files.specs.Listed.{dirents_in_bytes as listed_in}
 use Rattle.fs_files.specs.Replies.{IsListable}
 use Rattle.fs_files.proofs.Listing.{listed_are, low_born, records_back, records_end, records_read}
 
@@ -60,53 +60,53 @@ listed_fitting tree room (p ∷ ps) low = by (nat_le (pair_length p) room)
         (All-head (IsListed tree) p ps low) rest
     by false rest = All-nil (IsListed tree)
 
-listable_names : (tree : Tree) (valid : ℕ) (rs : List Record) → All (IsListed tree) (map (pair_of valid) rs)
-    → All (IsListable tree) (map dirent_of rs)
+listable_names : (tree : Tree) (valid : ℕ) (rs : List Record) → All (IsListed tree) (map (viewed_pair valid) rs)
+    → All (IsListable tree) (map viewed_dirent rs)
 listable_names tree valid [] low = All-nil (IsListable tree)
 listable_names tree valid (r ∷ rs) low =
-    All-cons (IsListable tree) (dirent_of r) (map dirent_of rs)
-    (All-head (IsListed tree) (pair_of valid r) (map (pair_of valid) rs) low)
-    (listable_names tree valid rs (All-tail (IsListed tree) (pair_of valid r) (map (pair_of valid) rs) low))
+    All-cons (IsListable tree) (viewed_dirent r) (map viewed_dirent rs)
+    (All-head (IsListed tree) (viewed_pair valid r) (map (viewed_pair valid) rs) low)
+    (listable_names tree valid rs (All-tail (IsListed tree) (viewed_pair valid r) (map (viewed_pair valid) rs) low))
 
 -- the names of the pairs that fit some room are of files of the tree
 pub listable_records : (tree : Tree) → IsShaped tree → tree.next_birth ≤ 2 ^ 62
     → (valid directory after room : ℕ) (rs : List Record)
-    → fitting_pairs room (pairs_after valid tree directory after) ≡ map (pair_of valid) rs
-    → All (IsListable tree) (map dirent_of rs)
+    → fitting_pairs room (pairs_after valid tree directory after) ≡ map (viewed_pair valid) rs
+    → All (IsListable tree) (map viewed_dirent rs)
 listable_records tree shaped births valid directory after room rs some =
     let named : All (λ (n : Named). IsListed tree (spec_pair_of valid tree n)) tree.names =
     λ i d lt. listable_file tree shaped births _ (shaped.names i d lt).file in
     let here = All-filter (λ n. nat_lt after n.serial) (λ n. IsListed tree (spec_pair_of valid tree n))
-    (names_in tree directory) (All-filter (λ n. nat_eq n.directory directory)
+    (directory_names tree directory) (All-filter (λ n. nat_eq n.directory directory)
     (λ n. IsListed tree (spec_pair_of valid tree n)) tree.names named) in
     listable_names tree valid rs (subst (λ (ps : List (DirentPlus ℕ)). All (IsListed tree) ps) some
     (listed_fitting tree room (pairs_after valid tree directory after)
     (All-map (IsListed tree) (spec_pair_of valid tree)
-    (filter (λ n. nat_lt after n.serial) (names_in tree directory)) here)))
+    (filter (λ n. nat_lt after n.serial) (directory_names tree directory)) here)))
 
 -- their files are below the end of births
-pub low_listed : (tree : Tree) (rs : List Record) → All (IsListable tree) (map dirent_of rs)
+pub low_listed : (tree : Tree) (rs : List Record) → All (IsListable tree) (map viewed_dirent rs)
     → All (λ (r : Record). r.file < 2 ^ 62) rs
 low_listed tree [] low = All-nil (λ (r : Record). r.file < 2 ^ 62)
 low_listed tree (r ∷ rs) low =
-    let first : r.file + 1 - 1 < 2 ^ 62 = (All-head (IsListable tree) (dirent_of r) (map dirent_of rs) low).1 in
+    let first : r.file + 1 - 1 < 2 ^ 62 = (All-head (IsListable tree) (viewed_dirent r) (map viewed_dirent rs) low).1 in
     All-cons (λ (q : Record). q.file < 2 ^ 62) r rs (omega (arith, first))
-    (low_listed tree rs (All-tail (IsListable tree) (dirent_of r) (map dirent_of rs) low))
+    (low_listed tree rs (All-tail (IsListable tree) (viewed_dirent r) (map viewed_dirent rs) low))
 
 -- ---- what is said of them
 
-pairs_back : (valid : ℕ) (rs : List Record) → map (pair_listed valid) (map dirent_of rs) ≡ map (pair_of valid) rs
+pairs_back : (valid : ℕ) (rs : List Record) → map (pair_listed valid) (map viewed_dirent rs) ≡ map (viewed_pair valid) rs
 pairs_back valid [] = refl
 pairs_back valid (r ∷ rs) = λ i. record {
   file = Some (less_one r.file i);
   valid = valid;
-  dirent = dirent_of r;
+  dirent = viewed_dirent r;
 } ∷ pairs_back valid rs i
 
 -- the pairs of these names, as their records were written
-pub pairs_are : (valid : ℕ) (rs : List Record) (bytes : List ℕ) → InRange (dirents (map record_of rs))
-    → bytes ≡ spellings (dirents (map record_of rs))
-    → map (pair_listed valid) (listed_in bytes) ≡ map (pair_of valid) rs
+pub pairs_are : (valid : ℕ) (rs : List Record) (bytes : List ℕ) → InRange (dirents (map written_record_of rs))
+    → bytes ≡ spellings (dirents (map written_record_of rs))
+    → map (pair_listed valid) (listed_in bytes) ≡ map (viewed_pair valid) rs
 pairs_are valid rs bytes fits is = ap (λ (ds : List Dirent). map (pair_listed valid) ds)
     (listed_are rs bytes fits is) ∙ pairs_back valid rs
 
@@ -127,32 +127,32 @@ pairs_fit room (p ∷ ps) = by (nat_le (pair_length p) room) refl (pairs_fit (ro
         let le = leb-true (pair_length p) room e in
         omega (arith, rest, sum, le)
 
-pairs_sum : (valid : ℕ) (rs : List Record) → sum_by (pair_length {F = ℕ}) (map (pair_of valid) rs)
-    ≡ 128 * length (map dirent_of rs) + sum_by record_length (map dirent_of rs)
+pairs_sum : (valid : ℕ) (rs : List Record) → sum_by (pair_length {F = ℕ}) (map (viewed_pair valid) rs)
+    ≡ 128 * length (map viewed_dirent rs) + sum_by record_length (map viewed_dirent rs)
 pairs_sum valid [] = refl
 pairs_sum valid (r ∷ rs) =
     let rest = pairs_sum valid rs in
-    let pairs : sum_by (pair_length {F = ℕ}) (map (pair_of valid) (r ∷ rs))
-    ≡ 128 + record_length (dirent_of r) + sum_by (pair_length {F = ℕ}) (map (pair_of valid) rs) =
-    sum_by-cons (pair_length {F = ℕ}) (pair_of valid r) (map (pair_of valid) rs) in
-    let records : sum_by record_length (map dirent_of (r ∷ rs))
-    ≡ record_length (dirent_of r) + sum_by record_length (map dirent_of rs) =
-    sum_by-cons record_length (dirent_of r) (map dirent_of rs) in
+    let pairs : sum_by (pair_length {F = ℕ}) (map (viewed_pair valid) (r ∷ rs))
+    ≡ 128 + record_length (viewed_dirent r) + sum_by (pair_length {F = ℕ}) (map (viewed_pair valid) rs) =
+    sum_by-cons (pair_length {F = ℕ}) (viewed_pair valid r) (map (viewed_pair valid) rs) in
+    let records : sum_by record_length (map viewed_dirent (r ∷ rs))
+    ≡ record_length (viewed_dirent r) + sum_by record_length (map viewed_dirent rs) =
+    sum_by-cons record_length (viewed_dirent r) (map viewed_dirent rs) in
     omega (arith, rest, pairs, records)
 
 -- the bytes of a listing of pairs that fits some room, with their entries
 pub few_pairs : (valid : ℕ) (rs : List Record) (bytes : List ℕ) (room : ℕ) (all : List (DirentPlus ℕ))
-    → InRange (dirents (map record_of rs)) → bytes ≡ spellings (dirents (map record_of rs))
-    → fitting_pairs room all ≡ map (pair_of valid) rs
+    → InRange (dirents (map written_record_of rs)) → bytes ≡ spellings (dirents (map written_record_of rs))
+    → fitting_pairs room all ≡ map (viewed_pair valid) rs
     → 128 * length (listed_in bytes) + length bytes ≤ room
 few_pairs valid rs bytes room all fits is some =
-    let end = records_end (map record_of rs) 0 bytes (records_read (map record_of rs) bytes fits is) in
-    let back : sum_by record_length (map dirent_in (map record_of rs)) ≡ sum_by record_length (map dirent_of rs) =
+    let end = records_end (map written_record_of rs) 0 bytes (records_read (map written_record_of rs) bytes fits is) in
+    let back : sum_by record_length (map dirent_read (map written_record_of rs)) ≡ sum_by record_length (map viewed_dirent rs) =
     ap (λ (ds : List Dirent). sum_by record_length ds) (records_back rs) in
-    let names : length (listed_in bytes) ≡ length (map dirent_of rs) =
+    let names : length (listed_in bytes) ≡ length (map viewed_dirent rs) =
     ap (λ (ds : List Dirent). length ds) (listed_are rs bytes fits is) in
     let pairs : sum_by (pair_length {F = ℕ}) (fitting_pairs room all)
-    ≡ sum_by (pair_length {F = ℕ}) (map (pair_of valid) rs) =
+    ≡ sum_by (pair_length {F = ℕ}) (map (viewed_pair valid) rs) =
     ap (λ (ps : List (DirentPlus ℕ)). sum_by (pair_length {F = ℕ}) ps) some in
     let sum = pairs_sum valid rs in
     let most = pairs_fit room all in

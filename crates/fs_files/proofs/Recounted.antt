@@ -7,7 +7,7 @@ use Rattle.fuse_spec.specs.declared.Entry.{Entry}
 use Rattle.fuse_spec.proofs.Tables.{get_put_here, get_put_there}
 use Rattle.fs_nodes.specs.Sound.{IsSoundNodeTable}
 use Rattle.fs_tree.proofs.Shaping.{other_number}
-use Rattle.fs_files.specs.Bounds.{AreCounted, AreHeldBelow}
+use Rattle.fs_files.specs.Bounds.{HaveCountsUpTo, AreHeldBelow}
 use Rattle.fs_files.specs.Giving.{files_of}
 use Rattle.fs_files.proofs.Bounds.{each_put}
 use Rattle.fs_files.proofs.HeldBelow.{Fits, IsWithin, fits_later, fits_once}
@@ -65,5 +65,5 @@ within_more t sound g gs old = subst (IsWithin (row_more t g.nodeid)) (sym (file
 pub within_below : (t : NodeTable) (files : List ℕ) → IsWithin t files → AreHeldBelow t
 within_below t files within id row there = let low = within id row there in omega (arith, low)
 
-pub within_counted : (t : NodeTable) (files : List ℕ) → IsWithin t files → AreCounted (2 ^ 63) t
+pub within_counted : (t : NodeTable) (files : List ℕ) → IsWithin t files → HaveCountsUpTo (2 ^ 63) t
 within_counted t files within id row there = let low = within id row there in omega (arith, low)

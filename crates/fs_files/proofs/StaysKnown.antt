@@ -14,7 +14,7 @@ use Rattle.fuse_spec.specs.Server.Server.{is_file_held}
 use Rattle.fuse_spec.specs.declared.Opened.{Opened}
 use Rattle.fuse_spec.specs.Files.FileOperations.{FileOperation, is_same, renamed, tree_unrefused}
 use Rattle.fuse_spec.specs.Files.Operations as operation
-use Rattle.fuse_spec.specs.Files.Trees.{Content, Tree, a_directory, a_file, bytes_of, file_at, is_directory, is_kind_directory, is_nameless, kind_of, overwritten, with_birth}
+use Rattle.fuse_spec.specs.Files.Trees.{Content, Tree, a_directory, a_file, file_bytes, file_at, is_directory, is_kind_directory, is_nameless, kind_of, overwritten, with_birth}
 use Rattle.fuse_spec.specs.Files.TreeShape.{IsShaped, WritesRegular}
 use Rattle.fuse_spec.proofs.Tables.{get_gone_there, get_put_here, get_put_there}
 use Rattle.fs_tree.specs.Outcomes.{is_kind_regular, discarded, is_regular}
@@ -225,7 +225,7 @@ module _ (tree : Tree) (shaped : IsShaped tree) where
   keeps_files (operation.read file offset size) regular = same_files tree tree refl
   keeps_files (operation.write file offset []) regular = same_files tree tree refl
   keeps_files (operation.write file offset (b ∷ bytes)) regular =
-      keeps_written file (overwritten (bytes_of (get tree.files file)) offset (b ∷ bytes)) regular
+      keeps_written file (overwritten (file_bytes (get tree.files file)) offset (b ∷ bytes)) regular
 
   -- whether or not memory was wanting
   pub keeps_result : {A E : Type 0} (v : Validity) (o : FileOperation) → WritesRegular tree o

@@ -9,8 +9,8 @@ use Rattle.fuse_spec.specs.Values.Numbers.{counter_end}
 use Rattle.fs_tree.specs.Outcomes.{is_regular}
 
 -- no node has more lookups than this
-abbrev pub AreCounted : ℕ → NodeTable → Type 0
-AreCounted most nodes = (id : ℕ) (row : HeldNode) → get nodes.rows id ≡ Some row → row.count ≤ most
+abbrev pub HaveCountsUpTo : ℕ → NodeTable → Type 0
+HaveCountsUpTo most nodes = (id : ℕ) (row : HeldNode) → get nodes.rows id ≡ Some row → row.count ≤ most
 
 -- every node has fewer lookups than the end of counters
 abbrev pub AreHeldBelow : NodeTable → Type 0

@@ -7,8 +7,8 @@ use Rattle.fuse_spec.specs.Values.Numbers.{counter_end}
 use Rattle.fuse_spec.specs.declared.Entry.{Entry}
 
 -- whether a file has a node
-abbrev pub has_node : NodeTable → ℕ → Bool
-has_node t file = list_any (λ (row : HeldNode). nat_eq row.file file) (values t.rows)
+abbrev pub has_node_already : NodeTable → ℕ → Bool
+has_node_already t file = list_any (λ (row : HeldNode). nat_eq row.file file) (values t.rows)
 
 -- how many of these files are neither known nor the same as a later one
 abbrev pub new_among : (ℕ → Bool) → List ℕ → ℕ
@@ -17,7 +17,7 @@ new_among known (file ∷ files) = cond (known file || list_any (nat_eq file) fi
 
 -- how many generations are given once these files have nodes
 abbrev pub generations_after : NodeTable → List ℕ → ℕ
-generations_after t files = t.next_generation + new_among (has_node t) files
+generations_after t files = t.next_generation + new_among (has_node_already t) files
 
 -- These files, one after another, each got a lookup more under some id that it may have.
 abbrev pub GivenEach : NodeTable → List ℕ → NodeTable → Type 0

@@ -6,7 +6,7 @@ use Rattle.fk_wire.specs.RecordEnds.{count_from}
 use Rattle.fk_wire.specs.Dirents.{DirentContent, dirents_from}
 use Rattle.fk_wire.specs.Records.{AreRecords, records_in}
 use Rattle.fk_wire.specs.declared.records.Records.{Records}
-use Rattle.fuse_frames.specs.ReplyTies.{dirent_in, dirent_of, pairs_told}
+use Rattle.fuse_frames.specs.ReplyTies.{dirent_read, dirent_written, pairs_told}
 
 -- the records that these bytes are, if they are any
 abbrev pub dirents_in : List ℕ → List DirentContent
@@ -15,20 +15,20 @@ dirents_in bytes = dirents_from (count_from (length bytes) false 0 bytes) 0 byte
 -- These bytes are records, whose types are those of kinds.
 abbrev pub AreRecordBytes : List ℕ → Type 0
 AreRecordBytes bytes = AreRecords 0 bytes (dirents_in bytes)
-    × (map dirent_of (map dirent_in (dirents_in bytes)) ≡ dirents_in bytes)
+    × (map dirent_written (map dirent_read (dirents_in bytes)) ≡ dirents_in bytes)
 
 -- a name with the file of its inode number, valid for so many milliseconds
 abbrev pub pair_listed : (valid : ℕ) → Dirent → DirentPlus ℕ
 pair_listed valid d = record { file = Some (d.ino - 1); valid = valid; dirent = d }
 
 -- the names that these bytes list
-abbrev pub names_in : List ℕ → List Dirent
-names_in bytes = map dirent_in (dirents_in bytes)
+abbrev pub dirents_in_bytes : List ℕ → List Dirent
+dirents_in_bytes bytes = map dirent_read (dirents_in bytes)
 
 -- the names that these bytes list, each with the file of an entry
 abbrev pub listed_pairs : (valid : ℕ) → List Entry → List ℕ → List (DirentPlus Entry)
-listed_pairs valid entries bytes = pairs_told valid entries (names_in bytes)
+listed_pairs valid entries bytes = pairs_told valid entries (dirents_in_bytes bytes)
 
 -- the names of the records that are left
 abbrev pub listed_in : Records → List Dirent
-listed_in records = map dirent_in (records_in records)
+listed_in records = map dirent_read (records_in records)

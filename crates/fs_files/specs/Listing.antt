@@ -6,11 +6,11 @@ use Rattle.fuse_spec.specs.Files.Operations.{listed, listed_plus, readdir, readd
 use Rattle.fuse_spec.specs.Files.Trees.{Tree}
 use Rattle.fk_wire.specs.Dirents.{DirentContent}
 use Rattle.fuse_frames.specs.ReplyTies.{type_of}
-use Rattle.fs_tree.specs.Views.{dirent_of, pair_of}
+use Rattle.fs_tree.specs.Views.{viewed_dirent, viewed_pair}
 use Rattle.fs_tree.specs.declared.listing.Record.{Record}
 
-abbrev pub record_of : Record → DirentContent
-record_of r = record { ino = r.file + 1; off = r.serial; kind = type_of r.kind; name = r.name.now }
+abbrev pub written_record_of : Record → DirentContent
+written_record_of r = record { ino = r.file + 1; off = r.serial; kind = type_of r.kind; name = r.name.now }
 
 -- the operation that lists names of a directory, with their files or without
 abbrev pub listing : (with_files : Bool) (directory after size : ℕ) → FileOperation
@@ -20,6 +20,6 @@ listing false directory after size = readdir directory after size
 -- It lists the names of these records.
 abbrev pub Lists : (with_files : Bool) → Tree → (directory after size : ℕ) → List Record → Type 0
 Lists true tree directory after size records = (v : Validity)
-    → reply_unrefused v tree (readdirplus directory after size) ≡ listed_plus (map (pair_of v.found_ms) records)
+    → reply_unrefused v tree (readdirplus directory after size) ≡ listed_plus (map (viewed_pair v.found_ms) records)
 Lists false tree directory after size records = (v : Validity)
-    → reply_unrefused v tree (readdir directory after size) ≡ listed (map dirent_of records)
+    → reply_unrefused v tree (readdir directory after size) ≡ listed (map viewed_dirent records)

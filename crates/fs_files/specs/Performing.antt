@@ -14,7 +14,7 @@ use Rattle.fuse_spec.specs.Server.Performs.{PerformResult, flags_known, minor_nu
 use Rattle.fs_tree.specs.Outcomes.{unlinked_by}
 use Rattle.fs_files.specs.declared.replies.Outcome.{Outcome}
 use Rattle.fs_files.specs.Replies.{IsRepliable, outcome_len, outcome_reply}
-use Rattle.fs_files.specs.Values.{room_of, room_for}
+use Rattle.fs_files.specs.Values.{reply_room_of, reply_room_for}
 
 -- What a request is answered whose nodes are still held, with files named by their births.
 abbrev pub said_by : Server → RequestBody → Reply ℕ ℕ
@@ -84,11 +84,11 @@ pub record Operates {A : Type 0} (valid : Validity) (tree : Tree) (operation : F
   pub says : outcome_reply valid.found_ms outcome ≡ reply_unrefused valid tree operation
   pub tree_is : new ≡ tree_unrefused tree operation
   pub repliable : IsRepliable new outcome
-  pub short : outcome_len outcome ≤ room_of operation
+  pub short : outcome_len outcome ≤ reply_room_of operation
 
 -- A request comes to this on the tree, if its nodes are still held.
 pub record ComesTo {A : Type 0} (s : Server) (body : RequestBody) (outcome : Outcome A) (new : Tree) : Type 0 where
   pub says : outcome_reply s.validity.found_ms outcome ≡ said_by s body
   pub tree_is : new ≡ tree_by s body
   pub repliable : IsRepliable new outcome
-  pub short : outcome_len outcome ≤ room_for body
+  pub short : outcome_len outcome ≤ reply_room_for body

@@ -2,7 +2,7 @@
 use Rattle.std.specs.Prelude.{◌≡◌, ◌<◌, ◌≤◌, ◌+◌, ◌⊎◌, ℕ, Bool, true, false, length}
 use Rattle.fuse_spec.specs.Files.Operations.{Reply, files_in_reply, opens_in_reply}
 use Rattle.fuse_spec.specs.Files.Trees.{Tree}
-use Rattle.fuse_spec.specs.Server.Nodes.{NodeTable, HandleTable, counts_out}
+use Rattle.fuse_spec.specs.Server.Nodes.{NodeTable, HandleTable, count_overflows}
 use Rattle.fuse_spec.specs.Values.Numbers.{counter_end}
 use Rattle.fs_files.specs.Giving.{generations_after}
 use Rattle.fs_files.specs.declared.plan.Plan.{Plan}
@@ -21,7 +21,7 @@ pub record HasNumbers (new : Tree) (nodes : NodeTable) (handles : HandleTable) (
   pub births : new.next_birth ≤ counter_end
   pub serials : new.next_serial ≤ counter_end
   pub generations : lost ≡ false → generations_after nodes (files_in_reply reply) ≤ counter_end
-  pub counts : lost ≡ false → counts_out nodes (files_in_reply reply) ≡ false
+  pub counts : lost ≡ false → count_overflows nodes (files_in_reply reply) ≡ false
   pub numbers : lost ≡ false → handles.next_fh + length (opens_in_reply reply) ≤ counter_end
 
 -- A counter from which it draws is at its end, or a node's lookups come to it.
@@ -30,5 +30,5 @@ abbrev pub LacksNumber : (new : Tree) (nodes : NodeTable) (handles : HandleTable
 LacksNumber new nodes handles lost reply =
     (counter_end < new.next_birth) ⊎ ((counter_end < new.next_serial) ⊎ ((lost ≡ false)
     × ((counter_end < generations_after nodes (files_in_reply reply))
-    ⊎ ((counts_out nodes (files_in_reply reply) ≡ true)
+    ⊎ ((count_overflows nodes (files_in_reply reply) ≡ true)
     ⊎ (counter_end < handles.next_fh + length (opens_in_reply reply))))))

@@ -11,7 +11,7 @@ use Rattle.fs_files.specs.Bounds.{IsThere}
 use Rattle.fuse_frames.specs.Replies.{reply_of}
 use Rattle.fuse_frames.specs.declared.reply.Reply.{Reply as Said}
 use Rattle.fuse_frames.specs.declared.reply.Reply.TheVariants as said
-use Rattle.fs_files.specs.Listed.{AreRecordBytes, listed_pairs, names_in, pair_listed}
+use Rattle.fs_files.specs.Listed.{AreRecordBytes, listed_pairs, dirents_in_bytes, pair_listed}
 use Rattle.fs_files.specs.declared.listed_names.ListedNames.{ListedNames}
 use Rattle.fs_files.specs.declared.spare.ReplySpare.{ReplySpare}
 use Rattle.fs_files.specs.declared.replies.Outcome.{Outcome}
@@ -37,7 +37,7 @@ module _ {A : Type 0} where
 
   -- what is sent
   abbrev pub sent_wire : SentReply A → WireReply
-  sent_wire reply = reply_of (λ (entry : Entry). entry) (λ (records : Vec ℕ A). names_in records.items)
+  sent_wire reply = reply_of (λ (entry : Entry). entry) (λ (records : Vec ℕ A). dirents_in_bytes records.items)
       (λ (names : ListedNames A). listed_pairs names.found_ms names.entries.items names.records.items)
       (λ (bytes : Vec ℕ A). bytes.items) reply
 
@@ -69,12 +69,12 @@ module _ {A : Type 0} where
   IsSendable reply = Unit {0}
 
   -- A reply that names no file and no open number.
-  abbrev pub NamesNothing : SentReply A → Type 0
-  NamesNothing (said.Found entry valid) = ⊥
-  NamesNothing (said.Created entry valid fh) = ⊥
-  NamesNothing (said.Opened fh) = ⊥
-  NamesNothing (said.ListedPlus names) = ⊥
-  NamesNothing reply = Unit {0}
+  abbrev pub NamesNoFile : SentReply A → Type 0
+  NamesNoFile (said.Found entry valid) = ⊥
+  NamesNoFile (said.Created entry valid fh) = ⊥
+  NamesNoFile (said.Opened fh) = ⊥
+  NamesNoFile (said.ListedPlus names) = ⊥
+  NamesNoFile reply = Unit {0}
 
   -- what an outcome says, with files named by their births; a reply that is said as it is names none
   abbrev pub outcome_reply : (found_ms : ℕ) → Outcome A → Reply ℕ ℕ
@@ -82,7 +82,7 @@ module _ {A : Type 0} where
   outcome_reply found_ms (outcome.Created file) = operation.created file found_ms file
   outcome_reply found_ms (outcome.Opened file) = operation.opened file
   outcome_reply found_ms (outcome.ListedPlus records) =
-      operation.listed_plus (map (pair_listed found_ms) (names_in records.items))
+      operation.listed_plus (map (pair_listed found_ms) (dirents_in_bytes records.items))
   outcome_reply found_ms (outcome.Said reply) = reply_with (λ (entry : Entry). entry.nodeid) (λ (fh : ℕ). fh)
       (sent_wire reply)
 
@@ -91,13 +91,13 @@ module _ {A : Type 0} where
   outcome_errno o = 0
 
   abbrev pub outcome_len : Outcome A → ℕ
-  outcome_len (outcome.ListedPlus records) = 128 * length (names_in records.items) + length records.items
+  outcome_len (outcome.ListedPlus records) = 128 * length (dirents_in_bytes records.items) + length records.items
   outcome_len (outcome.Said reply) = sent_len reply
   outcome_len o = 0
 
   -- how many names an outcome lists together with their files
   abbrev pub outcome_names : Outcome A → ℕ
-  outcome_names (outcome.ListedPlus records) = length (names_in records.items)
+  outcome_names (outcome.ListedPlus records) = length (dirents_in_bytes records.items)
   outcome_names (outcome.Said reply) = sent_names reply
   outcome_names o = 0
 
@@ -108,6 +108,6 @@ module _ {A : Type 0} where
   IsRepliable tree (outcome.Created file) = (file < counter_end) × IsThere tree file × IsTrue (is_regular tree file)
   IsRepliable tree (outcome.Opened file) = IsTrue (is_regular tree file)
   IsRepliable tree (outcome.ListedPlus records) = AreRecordBytes records.items
-      × (128 * length (names_in records.items) + length records.items ≤ max_transfer)
-      × All (IsListable tree) (names_in records.items)
-  IsRepliable tree (outcome.Said reply) = NamesNothing reply × IsSendable reply
+      × (128 * length (dirents_in_bytes records.items) + length records.items ≤ max_transfer)
+      × All (IsListable tree) (dirents_in_bytes records.items)
+  IsRepliable tree (outcome.Said reply) = NamesNoFile reply × IsSendable reply

@@ -34,7 +34,7 @@ abbrev pub no_handles : HandleTable
 no_handles = record { handles = []; next_fh = 1 }
 
 -- the held nodes, and how many more can be given with no memory
-pub record NodesState : Type 0 where
+pub record HeldNodes : Type 0 where
   pub table : NodeTable
   pub room : ℕ
 
@@ -74,42 +74,42 @@ abbrev pub server_at : Minor → FilesState → Validity → Server
 server_at minor files validity = record (server_of files validity) { minor = minor }
 
 -- the nodes that a request names, with their generations
-abbrev pub named_in : Named → List (ℕ × ℕ)
-named_in Nothing = []
-named_in (One node) = (node.nodeid, node.generation) ∷ []
-named_in (Two node other) = (node.nodeid, node.generation) ∷ (other.nodeid, other.generation) ∷ []
+abbrev pub nodes_named : Named → List (ℕ × ℕ)
+nodes_named Nothing = []
+nodes_named (One node) = (node.nodeid, node.generation) ∷ []
+nodes_named (Two node other) = (node.nodeid, node.generation) ∷ (other.nodeid, other.generation) ∷ []
 
 module _ {A : Type 0} where
   -- the operation that a held request asks
-  abbrev pub operation_of : HeldOperation A → Operation ℕ Opened
-  operation_of o = operation.operation_of (λ (v : Vec ℕ A). v.items) o
+  abbrev pub held_operation_of : HeldOperation A → Operation ℕ Opened
+  held_operation_of o = operation.operation_of (λ (v : Vec ℕ A). v.items) o
 
   -- what a held request asks
   abbrev pub asked_of : HeldBody A → RequestBody
   asked_of (Init flags) = init (bit_and flags.0 known_flags)
-  asked_of (Asks operation) = asks (operation_of operation)
+  asked_of (Asks operation) = asks (held_operation_of operation)
   asked_of (Release opened) = release opened
 
   -- the same operation on files
   abbrev pub on_files : NodeTable → HeldOperation A → FileOperation
-  on_files nodes o = file_operation_of nodes (operation_of o)
+  on_files nodes o = file_operation_of nodes (held_operation_of o)
 
 -- how long the reply to an operation is at most that has no fixed length
-abbrev pub room_of : {F O : Type 0} → Operation F O → ℕ
-room_of (operation.readdir d after size) = max_transfer
-room_of (operation.readdirplus d after size) = max_transfer
-room_of (operation.read o offset size) = max_transfer
-room_of o = 0
+abbrev pub reply_room_of : {F O : Type 0} → Operation F O → ℕ
+reply_room_of (operation.readdir d after size) = max_transfer
+reply_room_of (operation.readdirplus d after size) = max_transfer
+reply_room_of (operation.read o offset size) = max_transfer
+reply_room_of o = 0
 
-abbrev pub room_for : RequestBody → ℕ
-room_for (asks o) = room_of o
-room_for body = 0
+abbrev pub reply_room_for : RequestBody → ℕ
+reply_room_for (asks o) = reply_room_of o
+reply_room_for body = 0
 
 -- how many names the reply to an operation lists at most together with their files, each with an entry of 128 bytes
-abbrev pub names_of : {F O : Type 0} → Operation F O → ℕ
-names_of (operation.readdirplus d after size) = 32
-names_of o = 0
+abbrev pub most_names_of : {F O : Type 0} → Operation F O → ℕ
+most_names_of (operation.readdirplus d after size) = 32
+most_names_of o = 0
 
 abbrev pub names_for : RequestBody → ℕ
-names_for (asks o) = names_of o
+names_for (asks o) = most_names_of o
 names_for body = 0

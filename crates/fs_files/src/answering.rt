@@ -8,7 +8,7 @@ ghost use Rattle.fuse_spec.specs.Server.Performs.{is_open_for, is_still_held};
 ghost use Rattle.fuse_spec.specs.declared.Validity.{Validity as ValidityValue};
 ghost use Rattle.fs_files.specs.Performing.{ComesTo, handles_by, handles_said, said, said_by, tree_said, tree_by};
 ghost use Rattle.fs_files.specs.Replies.{IsRepliable, outcome_len, outcome_reply};
-ghost use Rattle.fs_files.specs.Values.{operation_of, room_for, server_at, server_of, named_in};
+ghost use Rattle.fs_files.specs.Values.{held_operation_of, reply_room_for, server_at, server_of, nodes_named};
 
 use crate::files::Files;
 use crate::held::{HeldBody, HeldOperation, HeldRequest, Named};
@@ -42,7 +42,7 @@ impl<S: NodeStore> Files<S> {
         ensures says { IfOk result (λ outcome. outcome_reply validity.found_ms outcome
             ≡ said (server_at minor self.old validity) held.now) }
         ensures repliable { IfOk result (λ outcome. IsRepliable self.new.tree outcome) }
-        ensures short { IfOk result (λ outcome. outcome_len outcome ≤ room_for held.now.body) }
+        ensures short { IfOk result (λ outcome. outcome_len outcome ≤ reply_room_for held.now.body) }
         ensures tree { OnOk result (self.new.tree ≡ tree_said (server_at minor self.old validity) held.now) }
         ensures handles { OnOk result (self.new.handles ≡ handles_said (server_at minor self.old validity) held.now) }
         ensures nodes { self.new.nodes ≡ self.old.nodes }
@@ -72,13 +72,13 @@ impl<S: NodeStore> Files<S> {
         validity: Validity,
     ) -> Result<Outcome<S::Heap>, AllocError>
         requires births { (tree_by (server_of self.old validity)
-            (asks (operation_of operation.now))).next_birth ≤ counter_end }
+            (asks (held_operation_of operation.now))).next_birth ≤ counter_end }
         requires serials { (tree_by (server_of self.old validity)
-            (asks (operation_of operation.now))).next_serial ≤ counter_end }
+            (asks (held_operation_of operation.now))).next_serial ≤ counter_end }
         requires day { validity.missing_ms ≤ max_validity }
         ensures err { OnErr result (self.new ≡ self.old) }
         ensures ok { IfOk result (λ outcome. ComesTo (server_of self.old validity)
-            (asks (operation_of operation.now)) outcome self.new.tree) }
+            (asks (held_operation_of operation.now)) outcome self.new.tree) }
         ensures handles { self.new.handles ≡ self.old.handles }
         ensures nodes { self.new.nodes ≡ self.old.nodes }
         ensures node_room { self.new.node_room ≡ self.old.node_room }
@@ -90,7 +90,7 @@ impl<S: NodeStore> Files<S> {
         if let Err(error) = may_do(&self.tree, &self.known.nodes, operation) {
             return Ok(failure(error.errno() as u32));
         }
-        self.tree.keeps_shape();
+        self.tree.lemma_shaped();
         let alloc = self.alloc;
         operate(
             &mut self.tree,
@@ -103,7 +103,7 @@ impl<S: NodeStore> Files<S> {
 
     /// Whether the open number that a READ or WRITE names is one of its node's file.
     pub(crate) fn is_open_for(&self, operation: &HeldOperation<S::Heap>) -> bool
-        ensures { (v : ValidityValue) → result ≡ is_open_for (server_of self.now v) (operation_of operation.now) }
+        ensures { (v : ValidityValue) → result ≡ is_open_for (server_of self.now v) (held_operation_of operation.now) }
     {
         match operation {
             Operation::Read { opened, .. } | Operation::Write { opened, .. } => {
@@ -146,7 +146,7 @@ impl<S: NodeStore> Files<S> {
 /// Whether each of these nodes is still held under its generation.
 #[inline(always)]
 pub(crate) fn are_held<S: NodeStore>(nodes: &Nodes<S>, named: Named) -> bool
-    ensures { result ≡ is_still_held nodes.now.table (named_in named) }
+    ensures { result ≡ is_still_held nodes.now.table (nodes_named named) }
 {
     match named {
         Named::Nothing => true,

@@ -7,10 +7,10 @@ ghost use Rattle.fuse_spec.specs.Server.Nodes.{handle_back, handle_more, is_held
 ghost use Rattle.fuse_spec.specs.Server.Copies.{row_back};
 ghost use Rattle.fuse_spec.specs.Server.Server.{count_in, is_file_held};
 ghost use Rattle.fuse_spec.specs.Values.Numbers.{counter_end};
-ghost use Rattle.fs_nodes.specs.Rows.{listed};
+ghost use Rattle.fs_nodes.specs.Rows.{listed_nodes};
 ghost use Rattle.fs_nodes.specs.Sound.{IsSoundNodeTable};
 ghost use Rattle.fs_tree.specs.Outcomes.{only_root, without_unheld};
-ghost use Rattle.fs_files.specs.Bounds.{AreCounted, AreNamed, AreNamedBut, AreUsed};
+ghost use Rattle.fs_files.specs.Bounds.{HaveCountsUpTo, AreNamed, AreNamedBut, AreUsed};
 ghost use Rattle.fs_files.specs.Values.{no_nodes, no_handles, server_of};
 
 use crate::known::KnownFiles;
@@ -86,7 +86,7 @@ impl<S: NodeStore> Files<S> {
     }
 
     /// No counter has given a number past its end, 2^62.
-    pub fn within(&self)
+    pub fn lemma_in_range(&self)
         ensures births { nat_lt counter_end self.now.tree.next_birth ≡ false }
         ensures serials { nat_lt counter_end self.now.tree.next_serial ≡ false }
         ensures generations { nat_lt counter_end self.now.nodes.next_generation ≡ false }
@@ -100,10 +100,10 @@ impl<S: NodeStore> Files<S> {
 
     /// Nodeids rise from 2, no two have one file, each has a lookup, and its generation was given before the coming
     /// one.
-    pub fn keeps_sound(&self)
+    pub fn lemma_sound(&self)
         ensures { IsSoundNodeTable self.now.nodes }
     {
-        self.known.nodes.keeps_sound();
+        self.known.nodes.lemma_sound();
     }
 
     /// The nodes that are held.
@@ -150,7 +150,7 @@ impl<S: NodeStore> Files<S> {
 
     /// Counts one lookup more of a node, if it is held.
     pub fn count_again(&mut self, id: u64)
-        requires { AreCounted (2 ^ 63) self.old.nodes }
+        requires { HaveCountsUpTo (2 ^ 63) self.old.nodes }
         ensures tree { self.new.tree ≡ self.old.tree }
         ensures nodes { self.new.nodes ≡ row_more self.old.nodes id }
         ensures handles { self.new.handles ≡ self.old.handles }

@@ -1,7 +1,7 @@
 //! Requests that are held until they are performed.
 
 ghost use Rattle.std.specs.Prelude.{◌≡◌, true, false};
-ghost use Rattle.fs_files.specs.Values.{asked_of, named_in, names_for, room_for};
+ghost use Rattle.fs_files.specs.Values.{asked_of, nodes_named, names_for, reply_room_for};
 
 use fk_wire::InitFlags;
 use fuse_spec::{Opened, Operation};
@@ -54,19 +54,19 @@ pub struct HeldRequest<A: Allocator> {
 impl<A: Allocator> Model for HeldRequest<A> {
     ghost use Rattle.std.specs.Coded.{codes};
     ghost use Rattle.fuse_spec.specs.Server.Server.{HeldRequest as Held};
-    ghost use Rattle.fs_files.specs.Values.{asked_of, named_in};
+    ghost use Rattle.fs_files.specs.Values.{asked_of, nodes_named};
 
     ghost Value = { Held };
 
     ghost coded = { Prim.hlevel (codes) };
 
-    ghost view = { λ h. record { body = asked_of h.body; generations = named_in h.named; marked = h.is_marked } };
+    ghost view = { λ h. record { body = asked_of h.body; generations = nodes_named h.named; marked = h.is_marked } };
 }
 
 impl<A: Allocator> HeldRequest<A> {
     /// A request that no INTERRUPT has marked.
     pub fn new(body: HeldBody<A>, named: Named) -> Self
-        ensures { result ≡ record { body = asked_of body; generations = named_in named; marked = false } }
+        ensures { result ≡ record { body = asked_of body; generations = nodes_named named; marked = false } }
     {
         HeldRequest {
             body,
@@ -89,7 +89,7 @@ impl<A: Allocator> HeldRequest<A> {
     }
 
     pub(crate) fn named(&self) -> Named
-        ensures { named_in result ≡ self.now.generations }
+        ensures { nodes_named result ≡ self.now.generations }
     {
         self.named
     }
@@ -102,7 +102,7 @@ impl<A: Allocator> HeldRequest<A> {
 
     /// How long the body of a reply is at most that has no fixed length.
     pub fn reply_len(&self) -> usize
-        ensures { result ≡ room_for self.now.body }
+        ensures { result ≡ reply_room_for self.now.body }
     {
         match &self.body {
             HeldBody::Asks {

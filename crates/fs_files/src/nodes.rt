@@ -3,14 +3,14 @@
 ghost use Rattle.std.specs.Prelude.{◌≡◌, ◌+◌, ◌^◌, ◌<◌, ◌≤◌, ◌||◌, ℕ, List, [], true, false, not, Some, OnOk, IfOk, count_by, is_some, length, nat_eq, option_map};
 ghost use Rattle.std.specs.List.{list_any};
 ghost use Rattle.fuse_spec.specs.Values.Maps.{get, values};
-ghost use Rattle.fuse_spec.specs.Server.Nodes.{HeldNode, counts_out, row_of, file_of, is_held, given, row_more, taken_back, MayName, IsUnheld};
+ghost use Rattle.fuse_spec.specs.Server.Nodes.{HeldNode, count_overflows, row_of, file_of, is_held, given, row_more, taken_back, MayName, IsUnheld};
 ghost use Rattle.fuse_spec.specs.Server.Server.{count_in, generation_in, is_known};
 ghost use Rattle.fuse_spec.specs.Server.Copies.{row_back};
 ghost use Rattle.fuse_spec.specs.Values.Numbers.{counter_end};
-ghost use Rattle.fs_nodes.specs.Rows.{listed};
+ghost use Rattle.fs_nodes.specs.Rows.{listed_nodes};
 ghost use Rattle.fs_nodes.specs.Sound.{IsSoundNodeTable};
-ghost use Rattle.fs_files.specs.Bounds.{AreCounted, AreHeldBelow};
-ghost use Rattle.fs_files.specs.Giving.{IsCountable, files_of, generations_after, has_node, new_among, node_in};
+ghost use Rattle.fs_files.specs.Bounds.{HaveCountsUpTo, AreHeldBelow};
+ghost use Rattle.fs_files.specs.Giving.{IsCountable, files_of, generations_after, has_node_already, new_among, node_in};
 ghost use Rattle.fs_files.specs.Values.{no_nodes};
 
 use crate::held::{MOST_NAMES, NamedNode};
@@ -37,16 +37,16 @@ pub struct Nodes<S: NodeStore> {
 
 impl<S: NodeStore> Model for Nodes<S> {
     ghost use Rattle.std.specs.Coded.{codes};
-    ghost use Rattle.fs_files.specs.Bounds.{AreCounted};
-    ghost use Rattle.fs_files.specs.Values.{NodesState};
+    ghost use Rattle.fs_files.specs.Bounds.{HaveCountsUpTo};
+    ghost use Rattle.fs_files.specs.Values.{HeldNodes};
 
-    ghost Value = { NodesState };
+    ghost Value = { HeldNodes };
 
     ghost coded = { Prim.hlevel (codes) };
 
     ghost view = { λ n. record { table = S.table n.store; room = S.room n.store } };
 
-    ghost invariant = { λ n. AreCounted n.most_lookups (S.table n.store) };
+    ghost invariant = { λ n. HaveCountsUpTo n.most_lookups (S.table n.store) };
 }
 
 impl<S: NodeStore> Nodes<S> {
@@ -144,7 +144,7 @@ impl<S: NodeStore> Nodes<S> {
         ensures none { result ≡ false → IsUnheld self.now.table file }
         ensures some { result ≡ true → IsUnheld self.now.table file → ⊥ }
     {
-        self.store.keeps_sound();
+        self.store.lemma_sound();
         self.store.has(file)
     }
 
@@ -152,21 +152,21 @@ impl<S: NodeStore> Nodes<S> {
     pub fn node_of(&self, file: u64) -> u64
         ensures { result ≡ node_in self.now.table.rows file }
     {
-        self.store.keeps_sound();
+        self.store.lemma_sound();
         self.store.id_of(file).unwrap_or(ROOT)
     }
 
     /// Nodeids rise from 2, no two have one file, each has a lookup, and its generation was given before the coming
     /// one.
-    pub fn keeps_sound(&self)
+    pub fn lemma_sound(&self)
         ensures { IsSoundNodeTable self.now.table }
     {
-        self.store.keeps_sound();
+        self.store.lemma_sound();
     }
 
     /// How many nodes are new once these files have nodes.
     pub fn new_among(&self, files: &[u64]) -> usize
-        ensures new { result ≡ new_among (has_node self.now.table) files.now }
+        ensures new { result ≡ new_among (has_node_already self.now.table) files.now }
         ensures few { result ≤ length files.now }
     {
         let mut count = 0;
@@ -183,7 +183,7 @@ impl<S: NodeStore> Nodes<S> {
 
     /// Whether a file has no node and is none of the others.
     fn is_new(&self, file: u64, others: &[u64]) -> bool
-        ensures { result ≡ not (has_node self.now.table file || list_any (nat_eq file) others.now) }
+        ensures { result ≡ not (has_node_already self.now.table file || list_any (nat_eq file) others.now) }
     {
         !self.has(file) && !others.contains(&file)
     }
@@ -192,20 +192,20 @@ impl<S: NodeStore> Nodes<S> {
     /// them, and each node's lookups are so far from their end. No node is looked at.
     pub(crate) fn can_give_any(&self) -> bool
         ensures { result ≡ true → (files : List ℕ) → length files ≤ 32
-            → (generations_after self.now.table files ≤ counter_end) × (counts_out self.now.table files ≡ false) }
+            → (generations_after self.now.table files ≤ counter_end) × (count_overflows self.now.table files ≡ false) }
     {
-        self.store.keeps_sound();
+        self.store.lemma_sound();
         MOST_NAMES as u64 <= self.store.generations_left()
             && self.most_lookups < COUNTER_END - MOST_NAMES as u64
     }
 
     /// Whether some node's lookups come to the end of counters once each of these files is given its node once more.
     /// Only the nodes of these files are looked at.
-    pub fn counts_out(&self, files: &[u64]) -> bool
+    pub fn count_overflows(&self, files: &[u64]) -> bool
         requires { AreHeldBelow self.now.table }
-        ensures { result ≡ counts_out self.now.table files.now }
+        ensures { result ≡ count_overflows self.now.table files.now }
     {
-        self.store.keeps_sound();
+        self.store.lemma_sound();
         let mut left = files;
         for _ in 0..files.len() {
             let Some((file, rest)) = left.split_first() else {
@@ -223,9 +223,9 @@ impl<S: NodeStore> Nodes<S> {
     /// Only the nodes of these entries are looked at.
     pub fn counts_out_again(&self, entries: &[Entry]) -> bool
         requires { AreHeldBelow self.now.table }
-        ensures { result ≡ counts_out self.now.table (files_of self.now.table entries.now) }
+        ensures { result ≡ count_overflows self.now.table (files_of self.now.table entries.now) }
     {
-        self.store.keeps_sound();
+        self.store.lemma_sound();
         let mut left = entries;
         for _ in 0..entries.len() {
             let Some((entry, rest)) = left.split_first() else {
@@ -244,11 +244,11 @@ impl<S: NodeStore> Nodes<S> {
     fn is_counted_out(&self, file: u64, more: usize) -> bool
         requires { AreHeldBelow self.now.table }
         ensures out { result ≡ true → (files : List ℕ) → more ≡ count_by (nat_eq file) files
-            → counts_out self.now.table files ≡ true }
+            → count_overflows self.now.table files ≡ true }
         ensures within { result ≡ false → (files : List ℕ) → more ≡ count_by (nat_eq file) files
             → IsCountable self.now.table files file }
     {
-        self.store.keeps_sound();
+        self.store.lemma_sound();
         match self.store.id_of(file) {
             Some(id) => more as u64 >= COUNTER_END - self.store.count_of(id),
             None => false,
@@ -276,17 +276,17 @@ impl<S: NodeStore> Nodes<S> {
         ensures generation { result.1 ≡ generation_in (row_of self.new.table result.0) }
         ensures table { self.new.table ≡ given self.old.table file result.0 }
     {
-        self.store.keeps_sound();
+        self.store.lemma_sound();
         self.most_lookups = self.most_lookups.saturating_add(1);
         self.store.give(file)
     }
 
     /// Counts one lookup more of a node, if it is held. The root has no count.
     pub fn count_again(&mut self, id: u64)
-        requires { AreCounted (2 ^ 63) self.old.table }
+        requires { HaveCountsUpTo (2 ^ 63) self.old.table }
         ensures { self.new.table ≡ row_more self.old.table id }
     {
-        self.store.keeps_sound();
+        self.store.lemma_sound();
         let Some(file) = self.store.file_of(id) else {
             return;
         };
@@ -306,7 +306,7 @@ impl<S: NodeStore> Nodes<S> {
     pub fn give_back(&mut self, entry: &Entry)
         ensures { self.new.table ≡ row_back self.old.table entry.now }
     {
-        self.store.keeps_sound();
+        self.store.lemma_sound();
         let node = NamedNode {
             nodeid: entry.nodeid,
             generation: entry.generation,
@@ -330,7 +330,7 @@ impl<S: NodeStore> Nodes<S> {
     ///
     /// Memory was wanting.
     pub fn nodes(&self, alloc: S::Heap) -> Result<Vec<(u64, u64, u64), S::Heap>, AllocError>
-        ensures { IfOk result (λ nodes. nodes.items ≡ listed self.now.table.rows) }
+        ensures { IfOk result (λ nodes. nodes.items ≡ listed_nodes self.now.table.rows) }
     {
         self.store.nodes(alloc)
     }

@@ -8,9 +8,9 @@ ghost use Rattle.fuse_spec.specs.Calls.Paths.{is_dots};
 ghost use Rattle.fuse_spec.specs.Server.Performs.{entry_for};
 ghost use Rattle.fs_nodes.specs.Sound.{IsSoundNodeTable};
 ghost use Rattle.fs_tree.specs.Outcomes.{is_regular};
-ghost use Rattle.fs_files.specs.Bounds.{AreCounted, AreHeldBelow, IsThere};
+ghost use Rattle.fs_files.specs.Bounds.{HaveCountsUpTo, AreHeldBelow, IsThere};
 ghost use Rattle.fs_files.specs.Giving.{GivenEach, generations_after, node_in};
-ghost use Rattle.fs_files.specs.Listed.{AreRecordBytes, listed_in, listed_pairs, names_in, pair_listed};
+ghost use Rattle.fs_files.specs.Listed.{AreRecordBytes, listed_in, listed_pairs, dirents_in_bytes, pair_listed};
 ghost use Rattle.fs_files.specs.Replies.{HasSpare, IsListable, IsSendable, IsRepliable, outcome_len, outcome_names, outcome_reply, sent_len, sent_names};
 ghost use Rattle.fs_files.specs.Numbering.{GivesEntry, GivesNumbers, entries_named, entry_named};
 
@@ -49,7 +49,7 @@ impl<S: NodeStore> Files<S> {
         ensures len { sent_len result ≡ outcome_len outcome }
         ensures names { sent_names result ≡ outcome_names outcome }
     {
-        self.keeps_sound();
+        self.lemma_sound();
         match outcome {
             Outcome::Found { file } => Reply::Found {
                 file: self.give(file),
@@ -81,18 +81,18 @@ impl<S: NodeStore> Files<S> {
         spare: ReplySpare<S::Heap>,
     ) -> ListedNames<S::Heap>
         requires listable { AreRecordBytes records.items
-            × (128 * length (names_in records.items) + length records.items ≤ max_transfer)
-            × All (IsListable self.old.tree) (names_in records.items) }
-        requires room { length (names_in records.items) ≤ self.old.node_room }
-        requires spare { HasSpare spare 0 (length (names_in records.items)) }
+            × (128 * length (dirents_in_bytes records.items) + length records.items ≤ max_transfer)
+            × All (IsListable self.old.tree) (dirents_in_bytes records.items) }
+        requires room { length (dirents_in_bytes records.items) ≤ self.old.node_room }
+        requires spare { HasSpare spare 0 (length (dirents_in_bytes records.items)) }
         requires generations { generations_after self.old.nodes
-            (files_listed (map (pair_listed 0) (names_in records.items))) ≤ counter_end }
+            (files_listed (map (pair_listed 0) (dirents_in_bytes records.items))) ≤ counter_end }
         requires counted { AreHeldBelow self.old.nodes }
         requires day { found_ms ≤ max_validity }
         ensures given { GivenEach self.old.nodes (files_listed
-            (map (pair_listed 0) (names_in records.items))) self.new.nodes }
+            (map (pair_listed 0) (dirents_in_bytes records.items))) self.new.nodes }
         ensures entries { result.entries.items ≡ map (entry_named self.new.tree self.new.nodes)
-            (names_in records.items) }
+            (dirents_in_bytes records.items) }
         ensures records { result.records.items ≡ records.items }
         ensures valid { result.found_ms ≡ found_ms }
         ensures tree { self.new.tree ≡ self.old.tree }
@@ -114,20 +114,20 @@ impl<S: NodeStore> Files<S> {
     /// Counts a lookup of each file that these records list.
     fn give_listed(&mut self, records: &[u8])
         requires records { AreRecordBytes records.now }
-        requires listable { All (IsListable self.old.tree) (names_in records.now) }
-        requires few { length (names_in records.now) ≤ 32 }
-        requires room { length (names_in records.now) ≤ self.old.node_room }
+        requires listable { All (IsListable self.old.tree) (dirents_in_bytes records.now) }
+        requires few { length (dirents_in_bytes records.now) ≤ 32 }
+        requires room { length (dirents_in_bytes records.now) ≤ self.old.node_room }
         requires generations { generations_after self.old.nodes
-            (files_listed (map (pair_listed 0) (names_in records.now))) ≤ counter_end }
+            (files_listed (map (pair_listed 0) (dirents_in_bytes records.now))) ≤ counter_end }
         requires counted { AreHeldBelow self.old.nodes }
         ensures given { GivenEach self.old.nodes (files_listed
-            (map (pair_listed 0) (names_in records.now))) self.new.nodes }
+            (map (pair_listed 0) (dirents_in_bytes records.now))) self.new.nodes }
         ensures tree { self.new.tree ≡ self.old.tree }
         ensures handles { self.new.handles ≡ self.old.handles }
         ensures sound { IsSoundNodeTable self.new.nodes }
     {
         self.give_records(Records::over(records).unwrap());
-        self.keeps_sound();
+        self.lemma_sound();
     }
 
     /// Counts a lookup of each file that these records list.
@@ -155,7 +155,7 @@ impl<S: NodeStore> Files<S> {
         requires room { 0 < self.old.node_room }
         requires generations { generations_after self.old.nodes
             (first_listed (cond (is_dots name.now) None (Some file)) []) ≤ counter_end }
-        requires counted { AreCounted (2 ^ 63) self.old.nodes }
+        requires counted { HaveCountsUpTo (2 ^ 63) self.old.nodes }
         ensures given { GivenEach self.old.nodes (first_listed
             (cond (is_dots name.now) None (Some file)) []) self.new.nodes }
         ensures tree { self.new.tree ≡ self.old.tree }
@@ -164,7 +164,7 @@ impl<S: NodeStore> Files<S> {
         ensures generations { (files : List ℕ) → generations_after self.new.nodes files
             ≡ generations_after self.old.nodes (first_listed (cond (is_dots name.now) None (Some file)) files) }
     {
-        self.keeps_sound();
+        self.lemma_sound();
         if !is_dots(name) {
             self.give(file);
         }
@@ -178,14 +178,14 @@ impl<S: NodeStore> Files<S> {
         file_entries: &mut Vec<Entry, S::Heap>,
     )
         requires records { AreRecordBytes records.now }
-        requires listable { All (IsListable self.now.tree) (names_in records.now) }
+        requires listable { All (IsListable self.now.tree) (dirents_in_bytes records.now) }
         requires none { entries.old.items ≡ [] }
         requires no_file_entries { file_entries.old.items ≡ [] }
-        requires room { length (names_in records.now) ≤ vec_capacity entries.old }
-        requires file_room { length (names_in records.now) ≤ vec_capacity file_entries.old }
-        ensures entries { entries.new.items ≡ map (entry_named self.now.tree self.now.nodes) (names_in records.now) }
+        requires room { length (dirents_in_bytes records.now) ≤ vec_capacity entries.old }
+        requires file_room { length (dirents_in_bytes records.now) ≤ vec_capacity file_entries.old }
+        ensures entries { entries.new.items ≡ map (entry_named self.now.tree self.now.nodes) (dirents_in_bytes records.now) }
         ensures file_entries { file_entries.new.items ≡ files_listed
-            (entries_named self.now.tree self.now.nodes (names_in records.now)) }
+            (entries_named self.now.tree self.now.nodes (dirents_in_bytes records.now)) }
     {
         'records: for record in Records::over(records).unwrap() {
             let entry = self.entry_of(record.ino - 1);
@@ -215,7 +215,7 @@ impl<S: NodeStore> Files<S> {
         requires there { IsThere self.old.tree file }
         requires room { 0 < self.old.node_room }
         requires generation { IsUnheld self.old.nodes file → self.old.nodes.next_generation < counter_end }
-        requires counted { AreCounted (2 ^ 63) self.old.nodes }
+        requires counted { HaveCountsUpTo (2 ^ 63) self.old.nodes }
         ensures gives { GivesEntry self.old.tree self.old.nodes file self.new.nodes result }
         ensures node { result.nodeid ≢ 0 }
         ensures tree { self.new.tree ≡ self.old.tree }

@@ -2,7 +2,7 @@
 
 ghost use Rattle.std.specs.Prelude.{◌≡◌, ◌≤◌, ◌<◌, ◌+◌, ◌⊎◌, ℕ, List, true, false, length, nat_le};
 ghost use Rattle.fuse_spec.specs.Kernel.Messages.{asks};
-ghost use Rattle.fuse_spec.specs.Server.Nodes.{counts_out};
+ghost use Rattle.fuse_spec.specs.Server.Nodes.{count_overflows};
 ghost use Rattle.fuse_spec.specs.Values.Numbers.{counter_end};
 ghost use Rattle.fuse_spec.specs.declared.Minor.{Minor as MinorValue};
 ghost use Rattle.fuse_spec.specs.declared.Validity.{Validity as ValidityValue};
@@ -10,7 +10,7 @@ ghost use Rattle.fs_files.specs.Bounds.{AreHeldBelow};
 ghost use Rattle.fs_files.specs.Giving.{generations_after};
 ghost use Rattle.fs_files.specs.Performing.{said, said_by, tree_by, tree_said};
 ghost use Rattle.fs_files.specs.Plans.{DrawsNumbers, HasNumbers, LacksNumber};
-ghost use Rattle.fs_files.specs.Values.{operation_of, server_at};
+ghost use Rattle.fs_files.specs.Values.{held_operation_of, server_at};
 
 use crate::answering::are_held;
 use crate::files::Files;
@@ -57,7 +57,7 @@ impl<S: NodeStore> Files<S> {
         ensures serials { result ≡ true → self.now.tree.next_serial < counter_end }
         ensures numbers { result ≡ true → self.now.handles.next_fh < counter_end }
         ensures nodes { result ≡ true → (files : List ℕ) → length files ≤ 32
-            → (generations_after self.now.nodes files ≤ counter_end) × (counts_out self.now.nodes files ≡ false) }
+            → (generations_after self.now.nodes files ≤ counter_end) × (count_overflows self.now.nodes files ≡ false) }
     {
         self.tree.births_left() > 0
             && self.tree.serials_left() > 0
@@ -83,8 +83,8 @@ impl<S: NodeStore> Files<S> {
     /// What an operation draws: nothing under an open number that is none of its node's file.
     fn plan_asked(&self, operation: &HeldOperation<S::Heap>) -> Plan
         ensures { (v : ValidityValue) (m : MinorValue) → DrawsNumbers self.now.tree
-            (tree_by (server_at m self.now v) (asks (operation_of operation.now)))
-            (said_by (server_at m self.now v) (asks (operation_of operation.now))) result }
+            (tree_by (server_at m self.now v) (asks (held_operation_of operation.now)))
+            (said_by (server_at m self.now v) (asks (held_operation_of operation.now))) result }
     {
         if !self.is_open_for(operation) {
             return no_numbers();
@@ -97,12 +97,12 @@ impl<S: NodeStore> Files<S> {
     fn can_give_nodes(&self, files: &[u64]) -> bool
         requires { AreHeldBelow self.now.nodes }
         ensures can { result ≡ true → (generations_after self.now.nodes files.now ≤ counter_end)
-            × (counts_out self.now.nodes files.now ≡ false) }
+            × (count_overflows self.now.nodes files.now ≡ false) }
         ensures cannot { result ≡ false → (counter_end < generations_after self.now.nodes files.now)
-            ⊎ (counts_out self.now.nodes files.now ≡ true) }
+            ⊎ (count_overflows self.now.nodes files.now ≡ true) }
     {
         let nodes = &self.known.nodes;
-        nodes.new_among(files) as u64 <= nodes.generations_left() && !nodes.counts_out(files)
+        nodes.new_among(files) as u64 <= nodes.generations_left() && !nodes.count_overflows(files)
     }
 
     /// Whether so many open numbers are left.

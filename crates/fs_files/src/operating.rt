@@ -41,7 +41,7 @@ pub(crate) fn operate<A: Allocator + Copy, S: NodeStore>(
         (on_files nodes.now.table operation.now) outcome tree.new) }
     ensures err { OnErr result (tree.new ≡ tree.old) }
 {
-    tree.keeps_shape();
+    tree.lemma_shaped();
     let file = nodes.file_of(operation.header_node());
     match operation {
         Operation::Lookup { name, .. } => Ok(look_up(tree, file, name, validity)),
@@ -79,7 +79,7 @@ fn look_up<A: Allocator + Copy>(
     requires day { validity.missing_ms ≤ max_validity }
     ensures { Operates validity tree.now (lookup directory name.now) result tree.now }
 {
-    tree.keeps_shape();
+    tree.lemma_shaped();
     let _births = tree.births_left();
     match tree.file_at(directory, name) {
         Some(file) => Outcome::Found { file },
@@ -221,7 +221,7 @@ fn list<A: Allocator + Copy>(
     ensures { IfOk result (λ outcome. (v : ValidityValue)
         → Operates v tree.now (listing with_files directory after size) outcome tree.now) }
 {
-    tree.keeps_shape();
+    tree.lemma_shaped();
     let _births = tree.births_left();
     let Ok(records) = records_listed(tree, directory, after, size, with_files) else {
         return Err(AllocError);

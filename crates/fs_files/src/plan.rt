@@ -5,7 +5,7 @@ ghost use Rattle.fuse_spec.specs.declared.Validity.{Validity as ValidityValue};
 ghost use Rattle.fuse_spec.specs.Files.FileOperations.{refusal, reply_by, reply_unrefused, tree_after, tree_unrefused};
 ghost use Rattle.fuse_spec.specs.Files.Operations.{lookup, rename};
 ghost use Rattle.fuse_spec.specs.Files.Trees.{file_at};
-ghost use Rattle.fs_tree.specs.Outcomes.{Refuses};
+ghost use Rattle.fs_tree.specs.Outcomes.{RefusesWith};
 ghost use Rattle.fs_files.specs.Plans.{DrawsNumbers};
 ghost use Rattle.fs_files.specs.Values.{on_files};
 
@@ -55,7 +55,7 @@ pub(crate) fn may_do<A: Allocator + Copy, S: NodeStore>(
     nodes: &Nodes<S>,
     operation: &HeldOperation<A>,
 ) -> Result<(), TreeError>
-    ensures { Refuses (refusal tree.now (on_files nodes.now.table operation.now)) result }
+    ensures { RefusesWith (refusal tree.now (on_files nodes.now.table operation.now)) result }
 {
     let file = nodes.file_of(operation.header_node());
     match operation {
@@ -87,7 +87,7 @@ fn may_rename<A: Allocator + Copy>(
     new_directory: u64,
     new: &[u8],
 ) -> Result<(), TreeError>
-    ensures { Refuses (refusal tree.now (rename directory old.now new_directory new.now)) result }
+    ensures { RefusesWith (refusal tree.now (rename directory old.now new_directory new.now)) result }
 {
     match tree.may_rename(directory, old, new_directory, new) {
         Ok(_) => Ok(()),

@@ -6,7 +6,7 @@ ghost use Rattle.fk_wire.specs.Dirents.{dirents, HaveRecordNames};
 ghost use Rattle.fk_wire.specs.Fields.{InRange, spellings};
 ghost use Rattle.fk_wire.specs.Records.{dirent_content};
 ghost use Rattle.fs_tree.specs.declared.listing.Record.{Record as RecordValue};
-ghost use Rattle.fs_files.specs.Listing.{record_of};
+ghost use Rattle.fs_files.specs.Listing.{written_record_of};
 ghost use Rattle.fuse_frames.specs.ReplyTies.{type_of};
 
 use fk_wire::{Dirent, put_record};
@@ -19,9 +19,9 @@ pub(crate) fn record_bytes<A: Allocator>(
     records: &[Record<'_>],
 ) -> Result<Vec<u8, A>, AllocError>
     requires { All (λ (r : RecordValue). r.file < counter_end) records.now }
-    ensures items { IfOk result (λ bytes. bytes.items ≡ spellings (dirents (map record_of records.now))) }
-    ensures fits { OnOk result (InRange (dirents (map record_of records.now))) }
-    ensures named { OnOk result (HaveRecordNames (map record_of records.now)) }
+    ensures items { IfOk result (λ bytes. bytes.items ≡ spellings (dirents (map written_record_of records.now))) }
+    ensures fits { OnOk result (InRange (dirents (map written_record_of records.now))) }
+    ensures named { OnOk result (HaveRecordNames (map written_record_of records.now)) }
 {
     let mut bytes = Vec::new(alloc);
     for record in records {

@@ -7,9 +7,9 @@ ghost use Rattle.fuse_spec.specs.Values.Numbers.{max_transfer};
 ghost use Rattle.fuse_spec.specs.Files.Operations as reply;
 ghost use Rattle.fuse_spec.specs.Files.Operations.{errno_of, files_in_reply};
 ghost use Rattle.fuse_spec.specs.Server.Performs.{init_reply};
-ghost use Rattle.fuse_frames.specs.ReplyTies.{dirent_in};
+ghost use Rattle.fuse_frames.specs.ReplyTies.{dirent_read};
 ghost use Rattle.fs_files.specs.Listed.{AreRecordBytes, dirents_in};
-ghost use Rattle.fs_files.specs.Replies.{opened_in, sent_len, sent_names, sent_wire, HasSpare, NamesNothing, IsSendable};
+ghost use Rattle.fs_files.specs.Replies.{opened_in, sent_len, sent_names, sent_wire, HasSpare, NamesNoFile, IsSendable};
 
 use crate::listed_names::ListedNames;
 use crate::spare::ReplySpare;
@@ -169,12 +169,12 @@ pub fn framed<A: Allocator>(reply: &SentReply<A>, room: ReplyRoom<A>, unique: u6
     }
 }
 
-/// What is agreed on at INIT: the minor that is spoken, and those of the offered flags that it knows.
+/// What is agreed on at INIT: the minor that is for_minor, and those of the offered flags that it knows.
 #[tactic(auto, using(fuse_frames::proofs::Agreements::known_again, fuse_frames::proofs::Agreements::read_alone))]
 pub(crate) fn agreement<A: Allocator>(minor: Minor, offered: InitFlags) -> SentReply<A>
     ensures wire { sent_wire result ≡ init_reply minor (bit_and offered.0 known_flags) }
     ensures sendable { IsSendable result }
-    ensures names { NamesNothing result }
+    ensures names { NamesNoFile result }
 {
     match minor {
         Minor::M15 => Reply::Agreed {
@@ -206,7 +206,7 @@ fn listed<A: Allocator>(records: &[u8], room: ReplyRoom<A>, unique: u64) -> Repl
     requires some { AreRecordBytes records.now }
     requires most { length records.now ≤ max_transfer }
     requires room { 16 + length records.now ≤ room }
-    ensures { result ≡ record { unique = unique; wire = reply.listed (map dirent_in (dirents_in records.now)) } }
+    ensures { result ≡ record { unique = unique; wire = reply.listed (map dirent_read (dirents_in records.now)) } }
 {
     room.listed(unique, Records::over(records).unwrap())
 }

@@ -27,7 +27,7 @@ impl<S: NodeStore> Files<S> {
             → AreNamedBut result (tree_said (server_at m self.now v) held.now) self.now.nodes
             (handles_said (server_at m self.now v) held.now) }
     {
-        self.tree.keeps_shape();
+        self.tree.lemma_shaped();
         self.unlinked_or_released_by(held.body())
     }
 

@@ -6,25 +6,25 @@ use Rattle.fuse_spec.specs.Values.Numbers.{counter_end}
 use Rattle.fs_handles.specs.declared.open_file.OpenFile.{OpenFile}
 
 -- 1 for an open number of this file
-abbrev pub one_of : ℕ → OpenFile → ℕ
-one_of file kept = cond (nat_eq kept.file file) 1 0
+abbrev pub handle_use_of : ℕ → OpenFile → ℕ
+handle_use_of file kept = cond (nat_eq kept.file file) 1 0
 
 -- how many of the open numbers are of this file
 abbrev pub numbers_of : ℕ → List (ℕ × OpenFile) → ℕ
-numbers_of file opens = sum_by (one_of file) (values_of opens)
+numbers_of file opens = sum_by (handle_use_of file) (values_of opens)
 
 -- a number, or nothing in place of 0
-abbrev pub positive : ℕ → Option ℕ
-positive n = cond (nat_lt 0 n) (Some n) None
+abbrev pub uses_or_none : ℕ → Option ℕ
+uses_or_none n = cond (nat_lt 0 n) (Some n) None
 
 -- a number less one, and nothing for the last
-abbrev pub one_less : Option ℕ → Option ℕ
-one_less None = None
-one_less (Some n) = positive (n - 1)
+abbrev pub uses_less : Option ℕ → Option ℕ
+uses_less None = None
+uses_less (Some n) = uses_or_none (n - 1)
 
 -- Each file has its number of open numbers, and no number from `next` on is in use.
-pub record IsCounted (opens : List (ℕ × OpenFile)) (uses : List (ℕ × ℕ)) (next : ℕ) : Type 0 where
-  pub counted : (file : ℕ) → lookup (nat_eq file) uses ≡ positive (numbers_of file opens)
+pub record AreUsesCounted (opens : List (ℕ × OpenFile)) (uses : List (ℕ × ℕ)) (next : ℕ) : Type 0 where
+  pub counted : (file : ℕ) → lookup (nat_eq file) uses ≡ uses_or_none (numbers_of file opens)
   pub fresh : (fh : ℕ) → next ≤ fh → lookup (nat_eq fh) opens ≡ None
   pub distinct : IsDistinct nat_eq (keys_of opens)
   pub few : length opens < next

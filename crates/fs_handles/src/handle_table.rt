@@ -7,7 +7,7 @@ ghost use Rattle.indexmap.specs.IndexMap.{spare};
 ghost use Rattle.fuse_spec.specs.Values.Maps.{get, values};
 ghost use Rattle.fuse_spec.specs.Server.Nodes.{OpenNumber, handle_opened, handle_more, handle_back};
 ghost use Rattle.fuse_spec.specs.Values.Numbers.{counter_end};
-ghost use Rattle.fs_handles.specs.Uses.{one_less};
+ghost use Rattle.fs_handles.specs.Uses.{uses_less};
 
 use crate::open_file::OpenFile;
 use fuse_spec::limits::COUNTER_END;
@@ -37,7 +37,7 @@ impl<A: Allocator> Model for HandleTable<A> {
     ghost use Rattle.std.specs.Coded.{codes};
     ghost use Rattle.indexmap.specs.IndexMap.{spare};
     ghost use Rattle.fs_handles.specs.OpenNumbers.{TableWithRoom, table_of};
-    ghost use Rattle.fs_handles.specs.Uses.{IsCounted};
+    ghost use Rattle.fs_handles.specs.Uses.{AreUsesCounted};
 
     ghost Value = { TableWithRoom };
 
@@ -45,7 +45,7 @@ impl<A: Allocator> Model for HandleTable<A> {
 
     ghost view = { λ t. record { table = table_of t.opens.entries t.next; room = min (spare t.opens) (spare t.uses) } };
 
-    ghost invariant = { λ t. IsCounted t.opens.entries t.uses.entries t.next };
+    ghost invariant = { λ t. AreUsesCounted t.opens.entries t.uses.entries t.next };
 }
 
 impl<A: Allocator + Copy> HandleTable<A> {
@@ -167,7 +167,7 @@ fn put<V: Drop, A: Allocator + Copy>(entries: &mut IndexMap<u64, V, Builder, A>,
 /// Takes one open number of a file out of the count.
 fn use_less<A: Allocator + Copy>(uses: &mut IndexMap<u64, u64, Builder, A>, file: u64)
     ensures less { (other : ℕ) → map.get nat_eq uses.new other
-        ≡ (if nat_eq file other then one_less (map.get nat_eq uses.old file) else map.get nat_eq uses.old other) }
+        ≡ (if nat_eq file other then uses_less (map.get nat_eq uses.old file) else map.get nat_eq uses.old other) }
     ensures room { spare uses.old ≤ spare uses.new }
 {
     match uses.get_mut(&file) {

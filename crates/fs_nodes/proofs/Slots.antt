@@ -14,8 +14,8 @@ use Rattle.fuse_spec.specs.Values.Maps.{get, put, remove, values}
 use Rattle.fuse_spec.specs.Server.Nodes.{HeldNode}
 use Rattle.fuse_spec.proofs.Tables.{cmp_same, tie_no}
 use Rattle.fs_nodes.specs.declared.stored_node.StoredNode.{StoredNode}
-use Rattle.fs_nodes.specs.Rows.{node_of, IsOf, IsOfNone, listed}
-use Rattle.fs_nodes.specs.Slots.{rows_from, at_place, file_at, place_under, room_of, AreSmall}
+use Rattle.fs_nodes.specs.Rows.{node_of, IsOf, IsOfNone, listed_nodes}
+use Rattle.fs_nodes.specs.Slots.{rows_from, at_place, slot_file, slot_of, room_of, AreSmall}
 use Rattle.fs_nodes.specs.Inverse.{AreInverse}
 use Rattle.fs_nodes.proofs.Maps.{HasValue, any_is, is_put, is_remove}
 
@@ -123,25 +123,25 @@ rows-take_out new old place changed others =
 -- the file of what stands at a place, where one place was written
 pub file_at-changed : (new old : List (Option StoredNode)) (place : ℕ) (slot : Option StoredNode)
     → at_place new place ≡ slot → ((other : ℕ) → other ≢ place → at_place new other ≡ at_place old other)
-    → (q : ℕ) → file_at new q ≡ cond (nat_eq place q) (option_map (λ (kept : StoredNode). kept.file) slot)
-    (file_at old q)
+    → (q : ℕ) → slot_file new q ≡ cond (nat_eq place q) (option_map (λ (kept : StoredNode). kept.file) slot)
+    (slot_file old q)
 file_at-changed new old place slot changed others q = elim (cases_eq place q) [
-  | inl e ↦ ap (file_at new) (sym e) ∙ ap (option_map (λ (kept : StoredNode). kept.file)) changed ∙ here e
+  | inl e ↦ ap (slot_file new) (sym e) ∙ ap (option_map (λ (kept : StoredNode). kept.file)) changed ∙ here e
   | inr ne ↦ ap (option_map (λ (kept : StoredNode). kept.file)) (others q (λ e. ne (sym e))) ∙ there ne
 ]
   where
     here : place ≡ q → option_map (λ (kept : StoredNode). kept.file) slot
-        ≡ cond (nat_eq place q) (option_map (λ (kept : StoredNode). kept.file) slot) (file_at old q)
-    here e = ap (λ b. cond b (option_map (λ (kept : StoredNode). kept.file) slot) (file_at old q))
+        ≡ cond (nat_eq place q) (option_map (λ (kept : StoredNode). kept.file) slot) (slot_file old q)
+    here e = ap (λ b. cond b (option_map (λ (kept : StoredNode). kept.file) slot) (slot_file old q))
         (sym (eq-eqb place q e))
 
-    there : place ≢ q → file_at old q ≡ cond (nat_eq place q) (option_map (λ (kept : StoredNode). kept.file) slot)
-        (file_at old q)
-    there ne = ap (λ b. cond b (option_map (λ (kept : StoredNode). kept.file) slot) (file_at old q))
+    there : place ≢ q → slot_file old q ≡ cond (nat_eq place q) (option_map (λ (kept : StoredNode). kept.file) slot)
+        (slot_file old q)
+    there ne = ap (λ b. cond b (option_map (λ (kept : StoredNode). kept.file) slot) (slot_file old q))
         (sym (let no : nat_eq place q ≡ false = grind (arith, ne, rules) in no))
 
 -- a node of the file stands at the place
-pub kept_at : (slots : List (Option StoredNode)) (place file : ℕ) → file_at slots place ≡ Some file
+pub kept_at : (slots : List (Option StoredNode)) (place file : ℕ) → slot_file slots place ≡ Some file
     → (kept : StoredNode) × (at_place slots place ≡ Some kept) × (kept.file ≡ file)
 kept_at slots place file is = by (at_place slots place) is
   where
@@ -151,13 +151,13 @@ kept_at slots place file is = by (at_place slots place) is
     by (Some kept) e = (kept, refl, same_Some kept.file file e)
 
 -- what stands under a nodeid is of a file exactly where it is at its place
-pub is_of : (slots : List (Option StoredNode)) (place file : ℕ) → file_at slots place ≡ Some file
+pub is_of : (slots : List (Option StoredNode)) (place file : ℕ) → slot_file slots place ≡ Some file
     → IsOf (get (rows_from 2 slots) (place + 2)) file
 is_of slots place file is = (let l = kept_at slots place file is in
     subst (λ o. IsOf o file) (sym (get_at slots place ∙ ap (option_map node_of) l.1)) l.2)
 
 pub of_is : (slots : List (Option StoredNode)) (place file : ℕ) → IsOf (get (rows_from 2 slots) (place + 2)) file
-    → file_at slots place ≡ Some file
+    → slot_file slots place ≡ Some file
 of_is slots place file is = by (at_place slots place) (subst (λ o. IsOf o file) (get_at slots place) is)
   where
     by : (o : Option StoredNode) → IsOf (option_map node_of o) file
@@ -167,7 +167,7 @@ of_is slots place file is = by (at_place slots place) (subst (λ o. IsOf o file)
 
 -- a node under a nodeid is that of some place
 pub place_of_row : (slots : List (Option StoredNode)) (id : ℕ) (row : HeldNode) → get (rows_from 2 slots) id ≡ Some row
-    → file_at slots (id - 2) ≡ Some row.file
+    → slot_file slots (id - 2) ≡ Some row.file
 place_of_row slots id row is = by (nat_le 2 id) refl
   where
     seen : (o : Option StoredNode) → option_map node_of o ≡ Some row
@@ -175,11 +175,11 @@ place_of_row slots id row is = by (nat_le 2 id) refl
     seen None e = absurd (none-some row e)
     seen (Some kept) e = ap (λ (r : HeldNode). Some r.file) (same_Some (node_of kept) row e)
 
-    by : (b : Bool) → nat_le 2 id ≡ b → file_at slots (id - 2) ≡ Some row.file
+    by : (b : Bool) → nat_le 2 id ≡ b → slot_file slots (id - 2) ≡ Some row.file
     by true le = seen (at_place slots (id - 2)) (sym (get_high slots id (grind (arith, le, rules))) ∙ is)
     by false lt = absurd (none-some row (sym (get_low slots id (grind (arith, lt, rules))) ∙ is))
 
-module _ (slots : List (Option StoredNode)) {places : ℕ → Option ℕ} (are : AreInverse (file_at slots) places)
+module _ (slots : List (Option StoredNode)) {places : ℕ → Option ℕ} (are : AreInverse (slot_file slots) places)
     (file : ℕ) where
   pub of_none : places file ≡ None → IsOfNone (rows_from 2 slots) file
   of_none none id row is same = none-some (id - 2)
@@ -219,10 +219,10 @@ module _ (slots : List (Option StoredNode)) {places : ℕ → Option ℕ} (are :
           (place_of_row slots has.key has.value has.there ∙ ap Some (eqb-true has.value.file file has.passes)))
 
 -- nodeids and places
-pub place-low : (id : ℕ) → place_under id ≡ None → id < 2
+pub place-low : (id : ℕ) → slot_of id ≡ None → id < 2
 place-low id is = grind (arith, is, rules)
 
-pub place-high : (id place : ℕ) → place_under id ≡ Some place → id ≡ place + 2
+pub place-high : (id place : ℕ) → slot_of id ≡ Some place → id ≡ place + 2
 place-high id place is = grind (arith, is, rules)
 
 -- what room says
@@ -265,28 +265,28 @@ listed_places [] = []
 listed_places (e ∷ es) = (e.0 + 2, e.1.generation, e.1.count) ∷ listed_places es
 
 pub listed-rows_from : (k : ℕ) (slots : List (Option StoredNode))
-    → listed_places (entries_from k slots) ≡ listed (rows_from (k + 2) slots)
+    → listed_places (entries_from k slots) ≡ listed_nodes (rows_from (k + 2) slots)
 listed-rows_from k [] = refl
-listed-rows_from k (None ∷ rest) = listed-rows_from (k + 1) rest ∙ ap (λ j. listed (rows_from j rest)) (omega arith)
+listed-rows_from k (None ∷ rest) = listed-rows_from (k + 1) rest ∙ ap (λ j. listed_nodes (rows_from j rest)) (omega arith)
 listed-rows_from k (Some kept ∷ rest) = ap (λ es. (k + 2, kept.generation, kept.count) ∷ es)
-    (listed-rows_from (k + 1) rest ∙ ap (λ j. listed (rows_from j rest)) (omega arith))
+    (listed-rows_from (k + 1) rest ∙ ap (λ j. listed_nodes (rows_from j rest)) (omega arith))
 
 -- a write of a node of the same file
 pub file_at-kept : (new old : List (Option StoredNode)) (place : ℕ) (kept : StoredNode)
-    → file_at old place ≡ Some kept.file → at_place new place ≡ Some kept
-    → ((other : ℕ) → other ≢ place → at_place new other ≡ at_place old other) → (q : ℕ) → file_at new q ≡ file_at old q
+    → slot_file old place ≡ Some kept.file → at_place new place ≡ Some kept
+    → ((other : ℕ) → other ≢ place → at_place new other ≡ at_place old other) → (q : ℕ) → slot_file new q ≡ slot_file old q
 file_at-kept new old place kept was changed others q = elim (cases_eq q place) [
-  | inl e ↦ ap (file_at new) e ∙ ap (option_map (λ (k : StoredNode). k.file)) changed ∙ sym was ∙ ap (file_at old)
+  | inl e ↦ ap (slot_file new) e ∙ ap (option_map (λ (k : StoredNode). k.file)) changed ∙ sym was ∙ ap (slot_file old)
       (sym e)
   | inr ne ↦ ap (option_map (λ (k : StoredNode). k.file)) (others q ne)
 ]
 
-pub kept_is_some : (slots : List (Option StoredNode)) (place file : ℕ) → file_at slots place ≡ Some file
+pub kept_is_some : (slots : List (Option StoredNode)) (place file : ℕ) → slot_file slots place ≡ Some file
     → IsSome (at_place slots place)
 kept_is_some slots place file is = (let l = kept_at slots place file is in ap is_some l.1)
 
 pub file_there : (slots : List (Option StoredNode)) (place : ℕ) → IsSome (at_place slots place)
-    → (file : ℕ) × (file_at slots place ≡ Some file)
+    → (file : ℕ) × (slot_file slots place ≡ Some file)
 file_there slots place some = by (at_place slots place) some
   where
     by : (o : Option StoredNode) → IsSome o → (file : ℕ) × (option_map (λ (k : StoredNode). k.file) o ≡ Some file)

@@ -15,7 +15,7 @@ use Rattle.fuse_spec.specs.Server.Nodes.{HeldNode}
 use Rattle.fuse_spec.proofs.QueueCounts.{count_by-push}
 use Rattle.fs_nodes.specs.declared.stored_node.StoredNode.{StoredNode}
 use Rattle.fs_nodes.specs.Rows.{node_of, IsOf, IsOfNone}
-use Rattle.fs_nodes.specs.Slots.{rows_from, at_place, file_at}
+use Rattle.fs_nodes.specs.Slots.{rows_from, at_place, slot_file}
 use Rattle.fs_nodes.specs.Vacant.{AreVacant, is_kept_of}
 use Rattle.fs_nodes.proofs.Maps.{HasValue, any_is}
 use Rattle.fs_nodes.proofs.Slots.{sorted_rows_from, get_at, kept_at, kept_is_some, of_is, place_of_row, rows-write, rows-take_out}
@@ -234,7 +234,7 @@ is_kept file None is = absurd (none-some file is)
 is_kept file (Some kept) is = eq-eqb kept.file file (same_Some kept.file file is)
 
 pub found_at : (slots : List (Option StoredNode)) (file place : ℕ) → position (is_kept_of file) slots ≡ Some place
-    → file_at slots place ≡ Some file
+    → slot_file slots place ≡ Some file
 found_at slots file place is = kept_is file (at_place slots place)
     ((position-Some (is_kept_of file) slots place None is).1)
 
@@ -251,7 +251,7 @@ none_passes slots file none place lt = (let past_all =
     by false h = grind (arith, nat_tests, h)
 
 not_found : (slots : List (Option StoredNode)) (file : ℕ) → position (is_kept_of file) slots ≡ None → (place : ℕ)
-    → file_at slots place ≡ Some file → ⊥
+    → slot_file slots place ≡ Some file → ⊥
 not_found slots file none place is =
     let kept = kept_at slots place file is in
     true≢false (sym (is_kept file (at_place slots place) is) ∙ none_passes slots file none place

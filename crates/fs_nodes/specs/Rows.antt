@@ -38,5 +38,5 @@ HasCount None n = ⊥
 HasCount (Some row) n = n ≤ row.count
 
 -- each nodeid with its generation and its count
-abbrev pub listed : Map HeldNode → List (ℕ × ℕ × ℕ)
-listed rows = map (λ e. (e.0, e.1.generation, e.1.count)) rows
+abbrev pub listed_nodes : Map HeldNode → List (ℕ × ℕ × ℕ)
+listed_nodes rows = map (λ e. (e.0, e.1.generation, e.1.count)) rows

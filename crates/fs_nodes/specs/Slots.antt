@@ -16,12 +16,12 @@ abbrev pub at_place : List (Option StoredNode) → ℕ → Option StoredNode
 at_place slots place = slice_index_or slots place None
 
 -- the file of what stands there
-abbrev pub file_at : List (Option StoredNode) → ℕ → Option ℕ
-file_at slots place = option_map (λ (kept : StoredNode). kept.file) (at_place slots place)
+abbrev pub slot_file : List (Option StoredNode) → ℕ → Option ℕ
+slot_file slots place = option_map (λ (kept : StoredNode). kept.file) (at_place slots place)
 
 -- the place of a nodeid
-abbrev pub place_under : ℕ → Option ℕ
-place_under id = cond (nat_lt id 2) None (Some (id - 2))
+abbrev pub slot_of : ℕ → Option ℕ
+slot_of id = cond (nat_lt id 2) None (Some (id - 2))
 
 -- The room of a slab and a map. A slab past 2^62 places, which no memory holds, has none: its nodeids might not fit.
 abbrev pub room_of : ℕ → ℕ → ℕ → ℕ

@@ -16,6 +16,6 @@ pub record IsSoundNodeTable (t : NodeTable) : Type 0 where
   pub given_before : (id : ℕ) (row : HeldNode) → get t.rows id ≡ Some row → row.generation < t.next_generation
 
 -- Those nodes, whose generations stay within their range.
-pub record IsKept (t : NodeTable) : Type 0 where
+pub record AreNodesKept (t : NodeTable) : Type 0 where
   pub limit : t.next_generation ≤ counter_end
   pub sound : IsSoundNodeTable t

@@ -1,6 +1,6 @@
 //! Nodes in a plain list, in which a file is searched from the front.
 ghost use Rattle.std.specs.Prelude.{◌≡◌, ℕ, ◌+◌, ◌-◌, ◌<◌, ◌≤◌, ◌^◌, length, min, position, slice_set, vec_len, vec_capacity, count_by, is_some, IfOk};
-ghost use Rattle.fs_nodes.specs.Rows.{listed};
+ghost use Rattle.fs_nodes.specs.Rows.{listed_nodes};
 ghost use Rattle.fs_nodes.specs.Slots.{rows_from, at_place};
 ghost use Rattle.fs_nodes.specs.Vacant.{AreVacant, is_kept_of};
 
@@ -136,7 +136,7 @@ fn list_slots<A: Allocator + Copy>(
     slots: &[Option<StoredNode>],
 ) -> Result<Vec<(u64, u64, u64), A>, AllocError>
     requires { length slots.now < 2 ^ 63 }
-    ensures { IfOk result (λ list. list.items ≡ listed (rows_from 2 slots.now)) }
+    ensures { IfOk result (λ list. list.items ≡ listed_nodes (rows_from 2 slots.now)) }
 {
     let mut list = Vec::with_capacity(alloc, slots.len())?;
     for place in 0..slots.len() {

@@ -3,7 +3,7 @@ ghost use Rattle.std.specs.Prelude.{◌≡◌, ℕ, [], None, ◌+◌, ◌<◌, 
 ghost use Rattle.std.specs.List.{list_any};
 ghost use Rattle.fuse_spec.specs.Values.Maps.{Map, get, put, remove, values};
 ghost use Rattle.fuse_spec.specs.Server.Nodes.{HeldNode};
-ghost use Rattle.fs_nodes.specs.Rows.{node_of, IsOf, IsOfNone, listed};
+ghost use Rattle.fs_nodes.specs.Rows.{node_of, IsOf, IsOfNone, listed_nodes};
 
 use crate::stored_node::StoredNode;
 use std::alloc::{AllocError, Allocator};
@@ -78,5 +78,5 @@ pub trait NodeRows {
     ///
     /// Memory was wanting.
     fn nodes(&self, alloc: Self::Heap) -> Result<Vec<(u64, u64, u64), Self::Heap>, AllocError>
-        ensures { IfOk result (λ nodes. nodes.items ≡ listed (rows self.now)) };
+        ensures { IfOk result (λ nodes. nodes.items ≡ listed_nodes (rows self.now)) };
 }

@@ -5,7 +5,7 @@ ghost use Rattle.fuse_spec.specs.Values.Maps.{get, values};
 ghost use Rattle.fuse_spec.specs.Server.Nodes.{HeldNode, NodeTable, MayName, IsUnheld, given, taken_back, is_row_of};
 ghost use Rattle.fuse_spec.specs.Server.Server.{count_in};
 ghost use Rattle.fuse_spec.specs.Values.Numbers.{counter_end};
-ghost use Rattle.fs_nodes.specs.Rows.{generation_given, room_for, HasCount, listed, IsOf};
+ghost use Rattle.fs_nodes.specs.Rows.{generation_given, room_for, HasCount, listed_nodes, IsOf};
 ghost use Rattle.fs_nodes.specs.Sound.{IsSoundNodeTable};
 
 use crate::too_many::TooMany;
@@ -106,10 +106,10 @@ pub trait NodeStore {
     ///
     /// Memory was wanting.
     fn nodes(&self, alloc: Self::Heap) -> Result<Vec<(u64, u64, u64), Self::Heap>, AllocError>
-        ensures { IfOk result (λ nodes. nodes.items ≡ listed (table self.now).rows) };
+        ensures { IfOk result (λ nodes. nodes.items ≡ listed_nodes (table self.now).rows) };
 
     /// Nodeids rise from 2, no two have one file, each has a lookup, and its generation was given before the coming
     /// one.
-    fn keeps_sound(&self)
+    fn lemma_sound(&self)
         ensures { IsSoundNodeTable (table self.now) };
 }

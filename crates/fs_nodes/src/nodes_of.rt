@@ -18,7 +18,7 @@ pub struct NodesOf<R: NodeRows> {
 impl<R: NodeRows> Model for NodesOf<R> {
     ghost use Rattle.std.specs.Coded.{codes};
     ghost use Rattle.fs_nodes.specs.Rows.{NodesState};
-    ghost use Rattle.fs_nodes.specs.Sound.{IsKept};
+    ghost use Rattle.fs_nodes.specs.Sound.{AreNodesKept};
 
     ghost Value = { NodesState };
 
@@ -29,7 +29,7 @@ impl<R: NodeRows> Model for NodesOf<R> {
       room = R.room t.rows;
     } };
 
-    ghost invariant = { λ t. IsKept (record { rows = R.rows t.rows; next_generation = t.next }) };
+    ghost invariant = { λ t. AreNodesKept (record { rows = R.rows t.rows; next_generation = t.next }) };
 }
 
 impl<R: NodeRows> NodeStore for NodesOf<R> {
@@ -135,7 +135,7 @@ impl<R: NodeRows> NodeStore for NodesOf<R> {
         self.rows.nodes(alloc)
     }
 
-    fn keeps_sound(&self) {
+    fn lemma_sound(&self) {
         // A field is touched so that the type's invariant is at hand.
         let _next = self.next;
     }

@@ -3,11 +3,11 @@ ghost use Rattle.std.specs.Prelude.{◌≡◌, ◌≢◌, ℕ, ◌+◌, ◌-◌,
 ghost use Rattle.slab.specs.Slab as slots;
 ghost use Rattle.slab.specs.Slab.{HasRoomFor, Updates, slab_len, entries};
 ghost use Rattle.std.specs.Map.{lookup};
-ghost use Rattle.fs_nodes.specs.Rows.{listed};
+ghost use Rattle.fs_nodes.specs.Rows.{listed_nodes};
 ghost use Rattle.fs_nodes.specs.Inverse.{AreInverse};
 ghost use Rattle.indexmap.specs.IndexMap as map;
 ghost use Rattle.indexmap.specs.IndexMap.{spare};
-ghost use Rattle.fs_nodes.specs.Slots.{rows_from, file_at, room_of, AreSmall};
+ghost use Rattle.fs_nodes.specs.Slots.{rows_from, slot_file, room_of, AreSmall};
 
 use crate::node_rows::NodeRows;
 use crate::places::{FIRST, place_of_node};
@@ -27,7 +27,7 @@ const MOST: usize = 0x4000_0000_0000_0000;
 pub struct SlabRows<A: Allocator = Global> {
     nodes: Slab<StoredNode, A>,
     places: IndexMap<u64, usize, Builder, A>,
-    ghost inverse: { AreInverse (file_at nodes.slots) (λ file. lookup (nat_eq file) places.entries) },
+    ghost inverse: { AreInverse (slot_file nodes.slots) (λ file. lookup (nat_eq file) places.entries) },
     ghost small: { (file place : ℕ) → lookup (nat_eq file) places.entries ≡ Some place → place < 2 ^ 62 },
 }
 
@@ -106,7 +106,7 @@ fn list_nodes<A: Allocator + Copy>(
     nodes: &Slab<StoredNode, A>,
 ) -> Result<Vec<(u64, u64, u64), A>, AllocError>
     requires { AreSmall (entries nodes.now) }
-    ensures { IfOk result (λ list. list.items ≡ listed (rows_from 2 nodes.now.slots)) }
+    ensures { IfOk result (λ list. list.items ≡ listed_nodes (rows_from 2 nodes.now.slots)) }
 {
     let mut list = Vec::with_capacity(alloc, nodes.len())?;
     for (place, node) in nodes.iter() {

@@ -15,7 +15,7 @@ pub record IsBetween (minor : Minor) (s : Server) : Type 0 where
   pub kept : s.kept ≡ []
   pub copies : s.copies ≡ []
   pub live : s.aborted ≡ false
-  pub spoken : s.minor ≡ minor
+  pub for_minor : s.minor ≡ minor
 
 pub fresh_between : (s : Server) → IsFresh s → IsBetween s.minor s
 fresh_between s (fresh validity minor) = record {
@@ -29,5 +29,5 @@ fresh_between s (fresh validity minor) = record {
   kept = refl;
   copies = refl;
   live = refl;
-  spoken = refl;
+  for_minor = refl;
 }

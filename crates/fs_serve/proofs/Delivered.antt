@@ -7,7 +7,7 @@ use Rattle.fuse_spec.specs.Values.Maps.{Map, get, put, remove}
 use Rattle.fuse_spec.specs.Files.Operations.{files_in_reply}
 use Rattle.fuse_spec.specs.Server.Server.{Server, Copy, count_in}
 use Rattle.fuse_spec.specs.Server.Copies.{settled, after_result, kept_after, rows_back}
-use Rattle.fuse_spec.specs.Claim.Counts.{names_in}
+use Rattle.fuse_spec.specs.Claim.Counts.{times_named}
 use Rattle.fuse_spec.specs.World.Worlds.{Sent}
 use Rattle.fuse_spec.proofs.Tables.{get_put_here}
 use Rattle.fuse_theorem.specs.Lookups.{EntriesHeld}
@@ -51,9 +51,9 @@ pub record SendsOne (minor : Minor) (counts : ℕ → ℕ) (copy : Sent) (s : Se
   pub kept : kept_after s.kept (record { unique = copy.unique; wire = copy.wire; first = first })
       (get s.kept copy.unique) ≡ []
   pub live : s.aborted ≡ false
-  pub spoken : s.minor ≡ minor
+  pub for_minor : s.minor ≡ minor
   pub entries : EntriesHeld s.nodes copy.wire
-  pub counted : (id : ℕ) → lookup_count s id ≡ counts id + names_in id copy.wire
+  pub counted : (id : ℕ) → lookup_count s id ≡ counts id + times_named id copy.wire
 
 module _ (minor : Minor) (counts : ℕ → ℕ) (copy : Sent) (s : Server) (sends : SendsOne minor counts copy s) where
   abbrev known : Copy
@@ -88,7 +88,7 @@ module _ (minor : Minor) (counts : ℕ → ℕ) (copy : Sent) (s : Server) (send
     kept = by_kept result;
     copies = by_copies result;
     live = by_live result;
-    spoken = by_spoken result;
+    for_minor = by_spoken result;
   }
     where
       by_held : (r : WriteResult) → (after_result without_it copy.wire r).held ≡ []
@@ -112,9 +112,9 @@ module _ (minor : Minor) (counts : ℕ → ℕ) (copy : Sent) (s : Server) (send
       by_live Invalid = sends.live
 
       by_spoken : (r : WriteResult) → (after_result without_it copy.wire r).minor ≡ minor
-      by_spoken Accepted = sends.spoken
-      by_spoken NoEntry = sends.spoken
-      by_spoken Invalid = sends.spoken
+      by_spoken Accepted = sends.for_minor
+      by_spoken NoEntry = sends.for_minor
+      by_spoken Invalid = sends.for_minor
 
   -- a refused copy's lookups are given back
   back : (id : ℕ) → count_in (get (rows_back s.nodes (files_in_reply copy.wire)).rows id) ≡ counts id
@@ -128,7 +128,7 @@ module _ (minor : Minor) (counts : ℕ → ℕ) (copy : Sent) (s : Server) (send
     by_result : (result : WriteResult)
         → Delivered minor counts (sent bytes result ∷ []) (after_result without_it copy.wire result)
     by_result Accepted = record {
-      more = λ id. names_in id copy.wire;
+      more = λ id. times_named id copy.wire;
       tells = told opcode copy.unique copy.wire bytes frame;
       balance = sends.counted;
       between = λ none. between Accepted;
@@ -157,7 +157,7 @@ module _ (minor : Minor) (counts : ℕ → ℕ) (copy : Sent) (s : Server) (send
 
     by_end : (end : DeviceEnd) → Delivered minor counts (unsent bytes end ∷ []) s
     by_end end = record {
-      more = λ id. names_in id copy.wire;
+      more = λ id. times_named id copy.wire;
       tells = cut_off opcode copy.unique copy.wire bytes frame end;
       balance = sends.counted;
       between = λ none. let no : ◌≡◌ {A = Option DeviceEnd} (Some end) None = none in cc;

@@ -11,7 +11,7 @@ use Rattle.fuse_spec.specs.Values.Maps.{Map, get}
 use Rattle.fuse_spec.specs.Values.Numbers.{counter_end}
 use Rattle.fuse_spec.specs.Kernel.Messages.{Forget, RequestBody}
 use Rattle.fuse_spec.specs.Server.Nodes.{HeldNode, NodeTable, taken_back}
-use Rattle.fuse_spec.specs.Server.Refusals.{is_past_end}
+use Rattle.fuse_spec.specs.Server.Refusals.{is_server_past_end}
 use Rattle.fuse_spec.specs.Server.Server.{Server, RequestFault, unknown_opcode, unknown_node, too_many_forgets, repeated_unique, HeldRequest, Kept, all_taken_back, count_in, fault_of, forgets_of, forgetting, forgotten, is_forgettable, is_known, knows, nodes_of_body}
 use Rattle.fuse_theorem.specs.ServerTables.{NodesSound}
 use Rattle.fuse_theorem.proofs.Calls.Finding.{other_is}
@@ -129,7 +129,7 @@ pub same_generation : (fs : List Forget) (t : NodeTable) → (all_taken_back t f
 same_generation [] t = refl
 same_generation (f ∷ fs) t = same_generation fs (taken_back t f.0 f.1)
 
-pub within_still : (s : Server) (fs : List Forget) → is_past_end s ≡ false → is_past_end (forgetting s fs) ≡ false
+pub within_still : (s : Server) (fs : List Forget) → is_server_past_end s ≡ false → is_server_past_end (forgetting s fs) ≡ false
 within_still s fs low =
     ap (λ (n : ℕ). nat_lt counter_end s.tree.next_birth || nat_lt counter_end s.tree.next_serial
     || nat_lt counter_end n || nat_lt counter_end s.handles.next_fh

@@ -5,7 +5,7 @@ use Rattle.fuse_spec.specs.Values.Maps.{Map, get, put, remove}
 use Rattle.fuse_spec.specs.Server.Server.{Server, Kept, Copy}
 use Rattle.fuse_spec.specs.Server.Copies.{kept_after}
 use Rattle.fuse_spec.specs.Server.Performs.{PerformResult, performed, served}
-use Rattle.fuse_spec.specs.Claim.Counts.{names_in}
+use Rattle.fuse_spec.specs.Claim.Counts.{times_named}
 use Rattle.fuse_spec.specs.World.Worlds.{Sent}
 use Rattle.fuse_spec.proofs.Tables.{get_put_here}
 use Rattle.fuse_theorem.specs.ServerTables.{ServerSound}
@@ -27,7 +27,7 @@ pub record HoldsOne (minor : Minor) (counts : ℕ → ℕ) (unique : ℕ) (s : S
   pub kept : s.kept ≡ []
   pub copies : s.copies ≡ []
   pub live : s.aborted ≡ false
-  pub spoken : s.minor ≡ minor
+  pub for_minor : s.minor ≡ minor
   pub counted : (id : ℕ) → lookup_count s id ≡ counts id
 
 module _ (minor : Minor) (counts : ℕ → ℕ) (unique : ℕ) (s : Server) (holds : HoldsOne minor counts unique s) where
@@ -92,10 +92,10 @@ module _ (minor : Minor) (counts : ℕ → ℕ) (unique : ℕ) (s : Server) (hol
       kept = not_kept (record { wire = all.wire; first = s.next_copy })
           (record { unique = unique; wire = all.wire; first = s.next_copy }) refl refl all.server.kept kept_is;
       live = rest.aborted ∙ holds.live;
-      spoken = rest.minor ∙ holds.spoken;
+      for_minor = rest.minor ∙ holds.for_minor;
       entries = counted.held;
       counted = λ id. counted.counts holds.live id
-          ∙ ap (λ (n : ℕ). n + names_in id all.wire) (holds.counted id);
+          ∙ ap (λ (n : ℕ). n + times_named id all.wire) (holds.counted id);
     }
 
     -- there is a copy, and it is this
@@ -130,6 +130,6 @@ module _ (minor : Minor) (counts : ℕ → ℕ) (unique : ℕ) (s : Server) (hol
           kept = holds.kept;
           copies = holds.copies;
           live = holds.live;
-          spoken = holds.spoken;
+          for_minor = holds.for_minor;
         };
       }

@@ -8,7 +8,7 @@ use Rattle.fuse_spec.specs.declared.Taken.TheVariants.{Held, Forgot, Again}
 use Rattle.fuse_spec.specs.Values.Maps.{Map, get, put, remove}
 use Rattle.fuse_spec.specs.Files.Operations.{failed}
 use Rattle.fuse_spec.specs.Kernel.Messages.{Forget, Request, RequestBody, init, asks, release, forget, batch_forget, interrupt, WireReply}
-use Rattle.fuse_spec.specs.Server.Refusals.{is_past_end}
+use Rattle.fuse_spec.specs.Server.Refusals.{is_server_past_end}
 use Rattle.fuse_spec.specs.Server.Server.{Server, HeldRequest, Kept, Copy, RequestFault, unknown_opcode, unknown_node, too_many_forgets, repeated_unique, fault_of, forgets_of, forgetting, forgotten, holding, knows, nodes_of_body, sending}
 use Rattle.fuse_spec.specs.Server.Copies.{kept_after}
 use Rattle.fuse_spec.specs.Server.Taking.{TakeResult, interrupting, taking}
@@ -16,16 +16,16 @@ use Rattle.fuse_spec.specs.World.Worlds.{Sent}
 use Rattle.fuse_theorem.specs.ServerTables.{ServerSound}
 use Rattle.fuse_theorem.proofs.Lookups.RowCounts.{all_taken_count}
 use Rattle.fuse_theorem.proofs.Nodes.ServerSound.{taking_sound}
-use Rattle.fs_server.specs.Effects.{RefusesFrame, WantsMemory, as_fault, copy_of, fault_or, past_or_memory, refused_for, takes_memory}
+use Rattle.fs_server.specs.Effects.{RefusesFrame, TakingNeedsMemory, as_fault, copy_of, fault_or, past_or_memory, refused_for, word_takes_memory}
 use Rattle.fs_server.specs.declared.server.ServerFault.{ServerFault}
 use Rattle.fs_server.specs.declared.server.ServerFault.TheVariants.{Memory}
 use Rattle.fuse_frames.specs.RequestTies.{SaysRequest}
 use Rattle.fuse_device.specs.Transfers.{Transfer, stopped, ended_in}
 use Rattle.fuse_device.specs.declared.device.DeviceEnd.{DeviceEnd}
 use Rattle.fs_serve.specs.LongBatches.{first_pairs, part_of}
-use Rattle.fs_serve.specs.LookupCounts.{Follows, FollowsFrame, FollowsPairs, GivesBack, IsFresh, MayForget, Tells, lookup_count, batch, end, error, forgets, frame, more_pairs, no_pairs, none, nothing, nothing_sent}
+use Rattle.fs_serve.specs.LookupCounts.{Follows, FollowsFrame, FollowsPairs, FrameGivesBack, IsFresh, MayForget, Tells, lookup_count, batch, end, error, forgets, frame, more_pairs, no_pairs, none, nothing, nothing_sent}
 use Rattle.fs_serve.specs.Sending.{Delivers, SendsFault, replied, unreplied}
-use Rattle.fs_serve.specs.Serving.{Serves, ServesFrame, ServesHeld, ServesNext, ServesPairs, Takes, done_at_once, replied_at_once, performed, untaken, uninterrupted, refused, one, out_of_memory}
+use Rattle.fs_serve.specs.Serving.{Serves, ServesFrame, ServesHeld, ServesNext, ServesPairs, TakesRequest, done_at_once, replied_at_once, performed, untaken, uninterrupted, refused, one, out_of_memory}
 use Rattle.fs_serve.specs.Serving as serving
 use Rattle.fs_serve.proofs.BetweenFrames.{IsBetween, fresh_between}
 use Rattle.fs_serve.proofs.Delivered.{Delivered, SendsOne, alone_gone, delivered, some_same}
@@ -63,7 +63,7 @@ module _ (minor : Minor) (old : Server) (is : IsBetween minor old) (bytes : List
 
   -- ---- a request is taken
 
-  module _ (request : Request) (taken : Server) (takes : Takes old bytes request taken) where
+  module _ (request : Request) (taken : Server) (takes : TakesRequest old bytes request taken) where
     abbrev unique : ℕ
     unique = request.unique
 
@@ -74,8 +74,8 @@ module _ (minor : Minor) (old : Server) (is : IsBetween minor old) (bytes : List
     may = may_forget old old_sound.nodes unique request.body
         (no_fault (fault_of old (record { unique = unique; body = request.body })) takes.faultless)
 
-    back : GivesBack minor counts bytes (λ id. forgotten id gives)
-    back = forgets request takes.says (subst (λ (m : Minor). knows m request.body ≡ true) is.spoken may.0) may.1
+    back : FrameGivesBack minor counts bytes (λ id. forgotten id gives)
+    back = forgets request takes.says (subst (λ (m : Minor). knows m request.body ≡ true) is.for_minor may.0) may.1
 
     taken_sound : ServerSound taken
     taken_sound = subst ServerSound (sym takes.after) (taking_sound old old_sound unique request.body)
@@ -128,7 +128,7 @@ module _ (minor : Minor) (old : Server) (is : IsBetween minor old) (bytes : List
         kept = ap (λ (s : Server). s.kept) after ∙ is.kept;
         copies = ap (λ (s : Server). s.copies) after ∙ is.copies;
         live = ap (λ (s : Server). s.aborted) after ∙ is.live;
-        spoken = ap (λ (s : Server). s.minor) after ∙ is.spoken;
+        for_minor = ap (λ (s : Server). s.minor) after ∙ is.for_minor;
       };
     }
 
@@ -174,7 +174,7 @@ module _ (minor : Minor) (old : Server) (is : IsBetween minor old) (bytes : List
           kept = ap (λ (m : Map Kept). kept_after m
               (record { unique = unique; wire = failed 11; first = old.next_copy }) (get m unique)) is.kept;
           live = is.live;
-          spoken = is.spoken;
+          for_minor = is.for_minor;
           entries = All-nil (λ (g : Entry). (2 ≤ g.nodeid) × _);
           counted = λ id. omega arith;
         })
@@ -212,7 +212,7 @@ module _ (minor : Minor) (old : Server) (is : IsBetween minor old) (bytes : List
       kept = is.kept;
       copies = is.copies;
       live = is.live;
-      spoken = is.spoken;
+      for_minor = is.for_minor;
       counted = λ id. refl;
     })
 
@@ -236,7 +236,7 @@ module _ (minor : Minor) (old : Server) (is : IsBetween minor old) (bytes : List
 
   -- ---- a request isn't taken
 
-  unchanged : GivesBack minor counts bytes (λ id. 0) → (log : List Transfer) → Tells log (λ id. 0)
+  unchanged : FrameGivesBack minor counts bytes (λ id. 0) → (log : List Transfer) → Tells log (λ id. 0)
       → Follow minor counts bytes log old
   unchanged back log tells = record {
     counts = record {
@@ -250,10 +250,10 @@ module _ (minor : Minor) (old : Server) (is : IsBetween minor old) (bytes : List
   }
 
   -- forgets take no memory
-  wanted : WantsMemory old bytes → GivesBack minor counts bytes (λ id. 0)
+  wanted : TakingNeedsMemory old bytes → FrameGivesBack minor counts bytes (λ id. 0)
   wanted wants = none (λ request says known may_be. by request.unique request.body (wants request says))
     where
-      by : (u : ℕ) (body : RequestBody) → takes_memory (taking old u body).word ≡ true → forgets_of body ≡ []
+      by : (u : ℕ) (body : RequestBody) → word_takes_memory (taking old u body).word ≡ true → forgets_of body ≡ []
       by u (init flags) takes = refl
       by u (asks operation) takes = refl
       by u (release o) takes = refl
@@ -262,8 +262,8 @@ module _ (minor : Minor) (old : Server) (is : IsBetween minor old) (bytes : List
       by u (interrupt original) takes = refl
 
   -- forgets that may be taken are refused for nothing
-  faulty : (fault : ServerFault) → RefusesFrame old bytes fault → (fault ≡ Memory → ⊥) → is_past_end old ≡ false
-      → GivesBack minor counts bytes (λ id. 0)
+  faulty : (fault : ServerFault) → RefusesFrame old bytes fault → (fault ≡ Memory → ⊥) → is_server_past_end old ≡ false
+      → FrameGivesBack minor counts bytes (λ id. 0)
   faulty fault refuses not_memory low = none (λ request says known may_be. by request says known may_be request.body refl)
     where
       taken_back : (request : Request) → SaysRequest bytes request → (body : RequestBody) → request.body ≡ body
@@ -271,11 +271,11 @@ module _ (minor : Minor) (old : Server) (is : IsBetween minor old) (bytes : List
           → (taking old request.unique body).server ≡ forgetting old (forgets_of body) → ⊥
       taken_back request says body same no_nodes known may_be after =
           let faultless_here = faultless old old_sound.nodes request.unique body is.held is.kept no_nodes
-          (subst (λ (m : Minor). knows m body ≡ true) (sym is.spoken) known) may_be in
-          let low_still = ap is_past_end after ∙ within_still old (forgets_of body) low in
+          (subst (λ (m : Minor). knows m body ≡ true) (sym is.for_minor) known) may_be in
+          let low_still = ap is_server_past_end after ∙ within_still old (forgets_of body) low in
           let memory : refused_for old (record { unique = request.unique; body = body }) ≡ Memory =
           ap (λ (f : Option RequestFault). fault_or (as_fault f)
-          (past_or_memory (is_past_end (taking old request.unique body).server))) faultless_here ∙ ap past_or_memory low_still in
+          (past_or_memory (is_server_past_end (taking old request.unique body).server))) faultless_here ∙ ap past_or_memory low_still in
           not_memory (refuses.of_request request says
           ∙ ap (λ (b : RequestBody). refused_for old (record { unique = request.unique; body = b })) same ∙ memory)
 

@@ -8,7 +8,7 @@ use Rattle.fuse_device.specs.Transfers.{Transfer}
 use Rattle.fs_serve.specs.LookupCounts.{IsFresh}
 use Rattle.fs_serve.specs.NodePairs.{GivesPairsOnce, HoldsPair}
 use Rattle.fs_serve.specs.Sending.{Delivers, IsSettled, settled, unsettled}
-use Rattle.fs_serve.specs.Serving.{Serves, ServesFrame, ServesHeld, ServesNext, ServesPairs, Takes, batch, done_at_once, dropped, more_pairs, next, no_pairs, none, nothing, one, performed, refused, replied, replied_at_once, uninterrupted, unreplied, untaken}
+use Rattle.fs_serve.specs.Serving.{Serves, ServesFrame, ServesHeld, ServesNext, ServesPairs, TakesRequest, batch, done_at_once, dropped, more_pairs, next, no_pairs, none, nothing, one, performed, refused, replied, replied_at_once, uninterrupted, unreplied, untaken}
 use Rattle.fs_serve.proofs.BetweenFrames.{IsBetween, fresh_between}
 use Rattle.fs_serve.proofs.Delivered.{some_same}
 use Rattle.fs_serve.proofs.NodesLater.{GenerationsGiven, Later, SameNode, WasHeld, later_still, same_later, served_later, settled_later, taking_later}
@@ -41,7 +41,7 @@ held_later old unique log new (unreplied errno new' performs) =
 held_later old unique log new (dropped refusal refuses log' sends) = same_later old.nodes
 
 module _ (old : Server) (frame : List ℕ) where
-  takes_later : (request : _) (taken : Server) → Takes old frame request taken → FromTo old taken
+  takes_later : (request : _) (taken : Server) → TakesRequest old frame request taken → FromTo old taken
   takes_later request taken takes =
       subst (FromTo old) (sym takes.after) (taking_later old request.unique request.body)
 

@@ -11,7 +11,7 @@ use Rattle.fuse_device.specs.Transfers.{Transfer, received, sent, unsent, stoppe
 use Rattle.fuse_device.specs.declared.device.DeviceEnd.{DeviceEnd}
 use Rattle.fs_serve.specs.Sending.{Delivers, GoesOver}
 use Rattle.fs_serve.specs.LongBatches.{part_of}
-use Rattle.fs_serve.specs.Serving.{Takes, ServesFrame, ServesHeld, ServesNext, ServesPairs, ServesBatch, Serves, done_at_once, replied_at_once, performed, next, more_pairs}
+use Rattle.fs_serve.specs.Serving.{TakesRequest, ServesFrame, ServesHeld, ServesNext, ServesPairs, ServesBatch, Serves, done_at_once, replied_at_once, performed, next, more_pairs}
 
 reply_none : (number unique : ℕ) (reply : Option WireReply) → None ≡ copy_of number unique reply → reply ≡ None
 reply_none number unique None same = refl
@@ -20,7 +20,7 @@ reply_none number unique (Some wire) same =
     cc
 
 module _ {A : Type 0} (old taken : Server) (frame : List ℕ) (word : Taken A) (t : TakesFrame old frame word taken) where
-  takes : Takes old frame t.request taken
+  takes : TakesRequest old frame t.request taken
   takes = record { says = t.says; faultless = t.faultless; after = t.after }
 
   pub serves_at_once : (copy : Sent) → word.sent ≡ Some copy → (log : List Transfer) (new : Server)

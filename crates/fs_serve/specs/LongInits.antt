@@ -12,10 +12,10 @@ pub record IsLongInit (bytes : List ℕ) : Type 0 where
   pub long : 56 < length bytes
 
 -- Its first 56 bytes, with 56 as their len. (this project's rule)
-abbrev pub first_of : List ℕ → List ℕ
-first_of bytes = 56 ∷ 0 ∷ 0 ∷ 0 ∷ take 52 (drop 4 bytes)
+abbrev pub first_init_of : List ℕ → List ℕ
+first_init_of bytes = 56 ∷ 0 ∷ 0 ∷ 0 ∷ take 52 (drop 4 bytes)
 
 -- How a received frame is read that is no long BATCH_FORGET: a longer INIT by its first 56 bytes, and any other as it is.
 abbrev pub IsReadAs : (bytes read : List ℕ) → Type 0
-IsReadAs bytes read = (IsLongInit bytes × (read ≡ first_of bytes))
+IsReadAs bytes read = (IsLongInit bytes × (read ≡ first_init_of bytes))
     ⊎ ((IsLongInit bytes → ⊥) × (IsLongBatch bytes → ⊥) × (read ≡ bytes))

@@ -8,7 +8,7 @@ use Rattle.fuse_spec.specs.Values.Maps.{get}
 use Rattle.fuse_spec.specs.Kernel.Messages.{Forget, Request, WireReply}
 use Rattle.fuse_spec.specs.Server.Server.{Server, count_in, forgets_of, forgotten, knows}
 use Rattle.fuse_spec.specs.Server.Copies.{remounted}
-use Rattle.fuse_spec.specs.Claim.Counts.{names_in}
+use Rattle.fuse_spec.specs.Claim.Counts.{times_named}
 use Rattle.fuse_spec.specs.World.Worlds.{first_server}
 use Rattle.fk_wire.specs.declared.opcode.Opcode.{Opcode}
 use Rattle.fk_wire.specs.Replies.{WrittenReply, empty_reply}
@@ -38,13 +38,13 @@ pub record MayForget (counts : ℕ → ℕ) (fs : List Forget) : Type 0 where
 
 -- How many lookups of each node a frame gives back: those of its forgets, where the minor knows them and they may be
 -- taken, and else none.
-pub data GivesBack (minor : Minor) (counts : ℕ → ℕ) (frame : List ℕ) : (ℕ → ℕ) → Type 0 where
+pub data FrameGivesBack (minor : Minor) (counts : ℕ → ℕ) (frame : List ℕ) : (ℕ → ℕ) → Type 0 where
   forgets : (request : Request) → SaysRequest frame request → knows minor request.body ≡ true
       → MayForget counts (forgets_of request.body)
-      → GivesBack minor counts frame (λ id. forgotten id (forgets_of request.body))
+      → FrameGivesBack minor counts frame (λ id. forgotten id (forgets_of request.body))
   none : ((request : Request) → SaysRequest frame request → knows minor request.body ≡ true
       → MayForget counts (forgets_of request.body) → forgets_of request.body ≡ [])
-      → GivesBack minor counts frame (λ id. 0)
+      → FrameGivesBack minor counts frame (λ id. 0)
 
 -- How many lookups of each node are told by what is sent after a frame: as many as entries of an accepted reply name it.
 -- A refused reply tells none, and an error none. One at which the device came to its end is counted as accepted, since
@@ -53,11 +53,11 @@ pub data Tells : List Transfer → (ℕ → ℕ) → Type 0 where
   nothing_sent : Tells [] (λ id. 0)
   told : (opcode : Opcode) (unique : ℕ) (wire : WireReply) (bytes : List ℕ)
       → IsReplyFrame opcode bytes (record { unique = unique; wire = wire })
-      → Tells (sent bytes Accepted ∷ []) (λ id. names_in id wire)
+      → Tells (sent bytes Accepted ∷ []) (λ id. times_named id wire)
   refused : (bytes : List ℕ) (result : WriteResult) → result ≢ Accepted → Tells (sent bytes result ∷ []) (λ id. 0)
   cut_off : (opcode : Opcode) (unique : ℕ) (wire : WireReply) (bytes : List ℕ)
       → IsReplyFrame opcode bytes (record { unique = unique; wire = wire }) → (end : DeviceEnd)
-      → Tells (unsent bytes end ∷ []) (λ id. names_in id wire)
+      → Tells (unsent bytes end ∷ []) (λ id. times_named id wire)
   error : (unique : ℕ) (code : ℤ) (bytes : List ℕ)
       → WrittenReply (record { unique = unique; error = code; content = empty_reply }) bytes
       → (log : List Transfer) → SendsBytes bytes log → Tells log (λ id. 0)
@@ -65,7 +65,7 @@ pub data Tells : List Transfer → (ℕ → ℕ) → Type 0 where
 -- After a frame each count has risen by what was told and fallen by what was given back.
 pub record FollowsFrame (minor : Minor) (old : ℕ → ℕ) (frame : List ℕ) (log : List Transfer) (new : ℕ → ℕ) : Type 0 where
   pub back : ℕ → ℕ
-  pub gives_back : GivesBack minor old frame back
+  pub gives_back : FrameGivesBack minor old frame back
   pub more : ℕ → ℕ
   pub tells : Tells log more
   pub balance : (id : ℕ) → new id + back id ≡ old id + more id

@@ -4,14 +4,14 @@ use Rattle.fuse_spec.specs.Kernel.Messages.{Request}
 use Rattle.fk_wire.specs.Requests.{RequestContent, interrupt}
 use Rattle.fuse_spec.specs.Values.Maps.{remove}
 use Rattle.fuse_spec.specs.Server.Server.{Server}
-use Rattle.fuse_spec.specs.Server.Refusals.{is_past_end}
+use Rattle.fuse_spec.specs.Server.Refusals.{is_server_past_end}
 use Rattle.fuse_spec.specs.Server.Taking.{taking}
 use Rattle.fuse_spec.specs.World.Worlds.{Sent}
 use Rattle.fuse_spec.specs.declared.Taken.TheVariants.{Held}
 use Rattle.fuse_spec.specs.declared.Refusal.{Refusal}
 use Rattle.fuse_spec.specs.declared.Refusal.TheVariants.{NoMemory}
 use Rattle.fuse_frames.specs.RequestTies.{SaysRequest}
-use Rattle.fs_server.specs.Effects.{CanTake, PerformsHeld, RefusesFrame, RefusesHeld, WantsMemory, copy_of, request_fault}
+use Rattle.fs_server.specs.Effects.{CanTake, PerformsHeld, RefusesFrame, RefusesHeld, TakingNeedsMemory, copy_of, request_fault}
 use Rattle.fs_server.specs.declared.server.ServerFault.{ServerFault}
 use Rattle.fs_server.specs.declared.server.ServerFault.TheVariants.{Memory}
 use Rattle.fuse_device.specs.Transfers.{Transfer, received, stopped, ended_in}
@@ -33,7 +33,7 @@ error_for NoMemory = out_of_memory
 error_for refusal = input_output
 
 -- A frame spells this request, which has no fault, and is taken.
-pub record Takes (old : Server) (frame : List ℕ) (request : Request) (new : Server) : Type 0 where
+pub record TakesRequest (old : Server) (frame : List ℕ) (request : Request) (new : Server) : Type 0 where
   pub says : SaysRequest frame request
   pub faultless : request_fault old request.unique (Some request.body) ≡ None
   pub after : new ≡ (taking old request.unique request.body).server
@@ -56,25 +56,25 @@ pub data ServesHeld (old : Server) (unique : ℕ) : List Transfer → Server →
 -- One frame is served.
 pub data ServesFrame (old : Server) (frame : List ℕ) : List Transfer → Server → Type 0 where
   -- Forgets are done as they are taken, and an INTERRUPT whose request is held, or whose reply is kept: nothing is sent.
-  done_at_once : (request : Request) (new : Server) → Takes old frame request new
+  done_at_once : (request : Request) (new : Server) → TakesRequest old frame request new
       → (taking old request.unique request.body).reply ≡ None
       → ((taking old request.unique request.body).word ≡ Held → ⊥) → ServesFrame old frame [] new
   -- An INTERRUPT of a request that is not known is answered at once.
-  replied_at_once : (request : Request) (taken : Server) → Takes old frame request taken → (copy : Sent)
+  replied_at_once : (request : Request) (taken : Server) → TakesRequest old frame request taken → (copy : Sent)
       → Some copy ≡ copy_of old.next_copy request.unique (taking old request.unique request.body).reply
       → (log : List Transfer) (new : Server) → Delivers copy taken log new → ServesFrame old frame log new
   -- Any other request is held, and performed.
-  performed : (request : Request) (taken : Server) → Takes old frame request taken
+  performed : (request : Request) (taken : Server) → TakesRequest old frame request taken
       → (taking old request.unique request.body).word ≡ Held → (log : List Transfer) (new : Server)
       → ServesHeld taken request.unique log new → ServesFrame old frame log new
   -- Memory is wanting to take one that takes memory: nothing changes. The reply is an error, and to an INTERRUPT there
   -- is none.
-  untaken : (can : CanTake old frame) → WantsMemory old frame → is_interrupt can.says.message.content ≡ false
+  untaken : (can : CanTake old frame) → TakingNeedsMemory old frame → is_interrupt can.says.message.content ≡ false
       → (log : List Transfer) → SendsError can.request.unique out_of_memory log → ServesFrame old frame log old
-  uninterrupted : (can : CanTake old frame) → WantsMemory old frame → is_interrupt can.says.message.content ≡ true
+  uninterrupted : (can : CanTake old frame) → TakingNeedsMemory old frame → is_interrupt can.says.message.content ≡ true
       → ServesFrame old frame [] old
   -- A faulty frame, or one for which a number is wanting, changes nothing.
-  refused : (fault : ServerFault) → RefusesFrame old frame fault → fault ≢ Memory → is_past_end old ≡ false
+  refused : (fault : ServerFault) → RefusesFrame old frame fault → fault ≢ Memory → is_server_past_end old ≡ false
       → (log : List Transfer) → SendsFault old.minor frame fault log → ServesFrame old frame log old
 
 -- The pairs of a long BATCH_FORGET are served up to some place, the first 64 of those that are left in each frame.

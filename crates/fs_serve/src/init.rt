@@ -1,7 +1,7 @@
 //! INIT of later kernels.
 
 ghost use Rattle.std.specs.Prelude.{◌≡◌, ◌↔◌, ◌<◌, IsTrue, length};
-ghost use Rattle.fs_serve.specs.LongInits.{IsLongInit, first_of};
+ghost use Rattle.fs_serve.specs.LongInits.{IsLongInit, first_init_of};
 
 use fk_wire::read_request_head;
 
@@ -23,7 +23,7 @@ pub fn is_long_init(frame: &[u8]) -> bool
 /// The INIT of 7.31 with which a longer one begins: its first 56 bytes, with 56 as their length (this project's rule).
 pub fn init_in(frame: &[u8]) -> [u8; 56]
     requires { 56 < length frame.now }
-    ensures { result ≡ first_of frame.now }
+    ensures { result ≡ first_init_of frame.now }
 {
     let mut init = [0; INIT_LEN];
     init[0] = INIT_LEN as u8;

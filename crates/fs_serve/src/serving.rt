@@ -1,7 +1,7 @@
 //! Frames are received and served, one after another.
 
 ghost use Rattle.std.specs.Prelude.{◌≡◌, OnErr, IfOk};
-ghost use Rattle.fs_server.specs.Effects.{CanTake, RefusesFrame, WantsMemory};
+ghost use Rattle.fs_server.specs.Effects.{CanTake, RefusesFrame, TakingNeedsMemory};
 ghost use Rattle.fs_server.specs.declared.server.ServerFault.TheVariants.{Memory as MemoryFault};
 ghost use Rattle.fs_serve.specs.LookupCounts.{IsServed};
 ghost use Rattle.fs_serve.specs.Sending.{Delivers, GoesOver, SendsError, end_of};
@@ -142,14 +142,14 @@ fn refuse<A: Allocator + Copy, D: Device>(
 ) -> Result<(), DeviceEnd>
     requires refused { RefusesFrame server.now frame.now fault }
     requires can { fault ≡ MemoryFault → CanTake server.now frame.now }
-    requires wants { fault ≡ MemoryFault → WantsMemory server.now frame.now }
+    requires wants { fault ≡ MemoryFault → TakingNeedsMemory server.now frame.now }
     ensures { GoesOver D.logs device.old device.new (end_of result)
         (λ log. ServesFrame server.now frame.now log server.now) }
 {
     match fault {
         ServerFault::Memory => send_untaken(server, device, frame),
         _ => {
-            server.within();
+            server.lemma_in_range();
             send_fault(server, device, frame, fault)
         }
     }
@@ -162,7 +162,7 @@ fn send_untaken<A: Allocator + Copy, D: Device>(
     frame: &[u8],
 ) -> Result<(), DeviceEnd>
     requires can { CanTake server.now frame.now }
-    requires wants { WantsMemory server.now frame.now }
+    requires wants { TakingNeedsMemory server.now frame.now }
     ensures { GoesOver D.logs device.old device.new (end_of result)
         (λ log. ServesFrame server.now frame.now log server.now) }
 {

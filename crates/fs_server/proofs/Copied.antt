@@ -12,7 +12,7 @@ use Rattle.fuse_spec.specs.declared.WriteResult.{WriteResult}
 use Rattle.fuse_spec.specs.declared.WriteResult.TheVariants.{Accepted, NoEntry, Invalid}
 use Rattle.fuse_spec.specs.Kernel.Messages.{WireReply}
 use Rattle.fuse_spec.specs.Files.Operations.{files_in_reply, opens_in_reply}
-use Rattle.fuse_spec.specs.Server.Nodes.{NodeTable, counts_out, is_held}
+use Rattle.fuse_spec.specs.Server.Nodes.{NodeTable, count_overflows, is_held}
 use Rattle.fuse_spec.specs.Server.Server.{Server, HeldRequest, Kept, Copy}
 use Rattle.fuse_spec.specs.Server.Copies.{files_named, is_current, rows_counted, handles_counted, sent_again, given_back, kept_after, after_result}
 use Rattle.fuse_spec.specs.World.Worlds.{Sent}
@@ -25,8 +25,8 @@ use Rattle.fs_server.proofs.Served.{past, whole}
 
 -- whether counts come to their end, as it is asked of the nodes and of the entries
 pub counts_in : {nodes table : NodeTable} {entries gs : List Entry} {out : Bool} → table ≡ nodes → entries ≡ gs
-    → out ≡ counts_out table (files_of table entries) → out ≡ counts_out nodes (files_of nodes gs)
-counts_in same these is = is ∙ (λ i. counts_out (same i) (files_of (same i) (these i)))
+    → out ≡ count_overflows table (files_of table entries) → out ≡ count_overflows nodes (files_of nodes gs)
+counts_in same these is = is ∙ (λ i. count_overflows (same i) (files_of (same i) (these i)))
 
 module _ (files : FilesState) (held : Map HeldRequest) (kept : Map Kept) (copies : Map Copy) (next : ℕ) (v : Validity)
     (m : Minor) (a : Bool) where
@@ -46,25 +46,25 @@ module _ (files : FilesState) (held : Map HeldRequest) (kept : Map Kept) (copies
     names_gone e = not_current s unique k there (current_of false e)
 
     -- the lookups of the nodes that it names come to their end, or they don't
-    counts_are : (b : Bool) → b ≡ counts_out files.nodes (files_of files.nodes (files_in_reply wire))
-        → counts_out s.nodes (files_named s k.wire) ≡ b
-    counts_are b e = ap (λ (w : WireReply). counts_out s.nodes (files_named s w)) is ∙ sym e
+    counts_are : (b : Bool) → b ≡ count_overflows files.nodes (files_of files.nodes (files_in_reply wire))
+        → count_overflows s.nodes (files_named s k.wire) ≡ b
+    counts_are b e = ap (λ (w : WireReply). count_overflows s.nodes (files_named s w)) is ∙ sym e
 
-    pub counted_out : true ≡ names_held wire → true ≡ counts_out files.nodes
+    pub counted_out : true ≡ names_held wire → true ≡ count_overflows files.nodes
         (files_of files.nodes (files_in_reply wire)) → RefusesAgain s unique Exhausted
     counted_out e out = copied_too_often s unique k there (current_of true e) (counts_are true out)
 
-    pub counts_so : CanSendAgain s unique → counts_out files.nodes (files_of files.nodes (files_in_reply wire)) ≡ false
+    pub counts_so : CanSendAgain s unique → count_overflows files.nodes (files_of files.nodes (files_in_reply wire)) ≡ false
     counts_so can =
-        sym (ap (λ (w : WireReply). counts_out s.nodes (files_named s w)) is) ∙ ap
-        (λ (x : Kept). counts_out s.nodes (files_named s x.wire))
+        sym (ap (λ (w : WireReply). count_overflows s.nodes (files_named s w)) is) ∙ ap
+        (λ (x : Kept). count_overflows s.nodes (files_named s x.wire))
         (same_Some k can.kept (sym there ∙ can.there)) ∙ can.counts
 
     pub without_number : true ≡ names_held wire → 2 ^ 62 ≤ next → RefusesAgain s unique Exhausted
     without_number e le = no_number k there (current_of true e)
         (past (sent_again s unique k) (inr (inr (inr (inr (omega (arith, le)))))))
 
-    pub can_send : true ≡ names_held wire → false ≡ counts_out files.nodes (files_of files.nodes (files_in_reply wire))
+    pub can_send : true ≡ names_held wire → false ≡ count_overflows files.nodes (files_of files.nodes (files_in_reply wire))
         → next < 2 ^ 62 → CanSendAgain s unique
     can_send e few low = record {
       kept = k;
@@ -85,7 +85,7 @@ module _ (files : FilesState) (held : Map HeldRequest) (kept : Map Kept) (copies
       there = there;
       current = subst (λ (x : Kept). is_current s x.wire ≡ true)
           (same_Some can.kept k (sym can.there ∙ there)) can.current;
-      counts = subst (λ (x : Kept). counts_out s.nodes (files_named s x.wire) ≡ false)
+      counts = subst (λ (x : Kept). count_overflows s.nodes (files_named s x.wire) ≡ false)
           (same_Some can.kept k (sym can.there ∙ there)) can.counts;
       copy_is = copy_is ∙ (λ i. record { number = next; unique = unique; wire = sym is i });
       after =

@@ -16,10 +16,10 @@ use Rattle.fuse_frames.specs.RequestTies.{SaysRequest, body_in}
 use Rattle.fs_server.specs.declared.server.ServerFault.{ServerFault}
 use Rattle.fs_server.specs.declared.server.ServerFault.TheVariants.{Wire, UnknownNode, TooManyForgets, RepeatedUnique}
 use Rattle.fs_server.specs.declared.server.Taken.{Taken}
-use Rattle.fuse_spec.specs.Server.Refusals.{is_past_end}
+use Rattle.fuse_spec.specs.Server.Refusals.{is_server_past_end}
 use Rattle.fs_server.specs.Effects.{TakesFrame, RefusesFrame, request_fault, as_fault, copy_of, fault_or, past_or_memory, refused_for}
 use Rattle.fs_server.specs.Interrupts.{Interrupts}
-use Rattle.fs_server.specs.Taking.{body_of, forgets_in, forgets_too_many, gives_too_many, is_forgetting, is_held, is_spoken, knows, are_names_known, waits}
+use Rattle.fs_server.specs.Taking.{request_body_of, forgets_in, forgets_too_many, gives_too_many, is_forgetting, holds_request, is_spoken, knows_nodes, are_names_known, waits}
 use Rattle.fs_server.proofs.Forgets.{forgotten_here}
 use Rattle.std.proofs.lemmas.Option.{same_Some}
 
@@ -35,7 +35,7 @@ module _ (s : Server) (bytes : List ℕ) (m : RequestMessage) (spells : Spells b
   refuses_as fault e = record {
     of_request = λ request says.
         sym (ap (λ (o : Option ServerFault). fault_or o (past_or_memory
-        (is_past_end (taking s request.unique request.body).server)))
+        (is_server_past_end (taking s request.unique request.body).server)))
         (sym (λ i. request_fault s (says.unique i) (says.says i)) ∙ sym
         (ap (fault_in s) (only says.message says.spells)) ∙ e));
     of_none = λ none. by none (body_in m.nodeid m.content) refl;
@@ -49,7 +49,7 @@ module _ (s : Server) (bytes : List ℕ) (m : RequestMessage) (spells : Spells b
 
   -- It is refused for want of a number or of memory, where it asks this and has no fault.
   pub refuses_for : (body : RequestBody) (fault : ServerFault) → body_in m.nodeid m.content ≡ Some body
-      → fault_in s m ≡ None → fault ≡ past_or_memory (is_past_end (taking s m.unique body).server)
+      → fault_in s m ≡ None → fault ≡ past_or_memory (is_server_past_end (taking s m.unique body).server)
       → RefusesFrame s bytes fault
   refuses_for body fault is none e = record {
     of_request = λ request says. e ∙ same request says;
@@ -58,7 +58,7 @@ module _ (s : Server) (bytes : List ℕ) (m : RequestMessage) (spells : Spells b
   }
     where
       same : (request : Request) → SaysRequest bytes request
-          → past_or_memory (is_past_end (taking s m.unique body).server) ≡ refused_for s request
+          → past_or_memory (is_server_past_end (taking s m.unique body).server) ≡ refused_for s request
       same request says =
           let one = only says.message says.spells in
           let unique : m.unique ≡ request.unique = ap (λ (n : RequestMessage). n.unique) one ∙ says.unique in
@@ -67,14 +67,14 @@ module _ (s : Server) (bytes : List ℕ) (m : RequestMessage) (spells : Spells b
           let body_is : body ≡ request.body = same_Some body request.body asked in
           let no_fault : request_fault s request.unique (Some request.body) ≡ None =
           sym (λ i. request_fault s (unique i) (asked i)) ∙ ap (request_fault s m.unique) (sym is) ∙ none in
-          (λ i. past_or_memory (is_past_end (taking s (unique i) (body_is i)).server)) ∙ sym
+          (λ i. past_or_memory (is_server_past_end (taking s (unique i) (body_is i)).server)) ∙ sym
           (ap (λ (o : Option ServerFault). fault_or o (past_or_memory
-          (is_past_end (taking s request.unique request.body).server))) no_fault)
+          (is_server_past_end (taking s request.unique request.body).server))) no_fault)
 
 -- ---- the fault of a request
 
 -- every request asks something
-pub asked_so : (nodeid : ℕ) (content : RequestContent) → body_in nodeid content ≡ Some (body_of nodeid content)
+pub asked_so : (nodeid : ℕ) (content : RequestContent) → body_in nodeid content ≡ Some (request_body_of nodeid content)
 asked_so nodeid (wire.init major minor flags) = refl
 asked_so nodeid (wire.lookup name) = refl
 asked_so nodeid wire.getattr = refl
@@ -106,11 +106,11 @@ judged true false false = refl
 judged false b c = refl
 
 -- a minor that doesn't know what is asked refuses it before all else
-abbrev where_spoken : (spoken : Bool) → Option ServerFault → Option ServerFault
-where_spoken spoken other = cond spoken other (Some Wire)
+abbrev where_spoken : (for_minor : Bool) → Option ServerFault → Option ServerFault
+where_spoken for_minor other = cond for_minor other (Some Wire)
 
-spoken_so : (spoken : Bool) (o : Option RequestFault) (other : Option ServerFault) → as_fault o ≡ other
-    → as_fault (cond spoken o (Some unknown_opcode)) ≡ where_spoken spoken other
+spoken_so : (for_minor : Bool) (o : Option RequestFault) (other : Option ServerFault) → as_fault o ≡ other
+    → as_fault (cond for_minor o (Some unknown_opcode)) ≡ where_spoken for_minor other
 spoken_so true o other e = e
 spoken_so false o other e = refl
 
@@ -130,9 +130,9 @@ module _ (s : Server) (unique : ℕ) where
   abbrev repeated : Bool
   repeated = is_some (get s.held unique) || is_some (get s.kept unique)
 
-  -- its fault, where the minor knows what is asked, and its fault
+  -- its fault, where the minor knows_nodes what is asked, and its fault
   abbrev fault_by : ℕ → RequestContent → Option ServerFault
-  fault_by nodeid content = first_fault (knows s.nodes nodeid content)
+  fault_by nodeid content = first_fault (knows_nodes s.nodes nodeid content)
       (forgets_too_many s.nodes nodeid content) repeated
 
   abbrev whole_fault : ℕ → RequestContent → Option ServerFault
@@ -141,14 +141,14 @@ module _ (s : Server) (unique : ℕ) where
   abbrev in_turn : (a b : Bool) → Option RequestFault
   in_turn a b = cond a (cond b (Some too_many_forgets) (cond repeated (Some repeated_unique) None)) (Some unknown_node)
 
-  judged_at : (spoken a b : Bool) (other : Option ServerFault) → first_fault a b repeated ≡ other
-      → as_fault (cond spoken (in_turn a b) (Some unknown_opcode)) ≡ where_spoken spoken other
-  judged_at spoken a b other same = spoken_so spoken (in_turn a b) other (judged a b repeated ∙ same)
+  judged_at : (for_minor a b : Bool) (other : Option ServerFault) → first_fault a b repeated ≡ other
+      → as_fault (cond for_minor (in_turn a b) (Some unknown_opcode)) ≡ where_spoken for_minor other
+  judged_at for_minor a b other same = spoken_so for_minor (in_turn a b) other (judged a b repeated ∙ same)
 
   -- of one that gives no lookups back
-  of_names : (spoken k : Bool) → as_fault (cond spoken (in_turn (k && true) false) (Some unknown_opcode))
-      ≡ where_spoken spoken (first_fault k false repeated)
-  of_names spoken k = judged_at spoken (k && true) false (first_fault k false repeated)
+  of_names : (for_minor k : Bool) → as_fault (cond for_minor (in_turn (k && true) false) (Some unknown_opcode))
+      ≡ where_spoken for_minor (first_fault k false repeated)
+  of_names for_minor k = judged_at for_minor (k && true) false (first_fault k false repeated)
       (ap (λ (b : Bool). first_fault b false repeated) (and_true k))
 
   of_body : (body : RequestBody) → request_fault s unique (Some body)
@@ -175,27 +175,27 @@ module _ (s : Server) (unique : ℕ) where
 
   pub fault_is : (nodeid : ℕ) (content : RequestContent) → request_fault s unique (body_in nodeid content)
       ≡ whole_fault nodeid content
-  fault_is nodeid content = ap (request_fault s unique) (asked_so nodeid content) ∙ of_body (body_of nodeid content)
+  fault_is nodeid content = ap (request_fault s unique) (asked_so nodeid content) ∙ of_body (request_body_of nodeid content)
 
   module _ (nodeid : ℕ) (content : RequestContent) where
     pub unspoken : is_spoken s.minor nodeid content ≡ false
         → Some Wire ≡ request_fault s unique (body_in nodeid content)
     unspoken u = sym (fault_is nodeid content ∙ ap (λ (b : Bool). where_spoken b (fault_by nodeid content)) u)
 
-    module _ (spoken : is_spoken s.minor nodeid content ≡ true) where
+    module _ (for_minor : is_spoken s.minor nodeid content ≡ true) where
       faulty : fault_by nodeid content ≡ request_fault s unique (body_in nodeid content)
-      faulty = sym (fault_is nodeid content ∙ ap (λ (b : Bool). where_spoken b (fault_by nodeid content)) spoken)
+      faulty = sym (fault_is nodeid content ∙ ap (λ (b : Bool). where_spoken b (fault_by nodeid content)) for_minor)
 
-      pub unknown : knows s.nodes nodeid content ≡ false
+      pub unknown : knows_nodes s.nodes nodeid content ≡ false
           → Some UnknownNode ≡ request_fault s unique (body_in nodeid content)
       unknown k = sym (ap (λ (b : Bool). first_fault b (forgets_too_many s.nodes nodeid content) repeated) k) ∙ faulty
 
-      pub too_many : knows s.nodes nodeid content ≡ true → forgets_too_many s.nodes nodeid content ≡ true
+      pub too_many : knows_nodes s.nodes nodeid content ≡ true → forgets_too_many s.nodes nodeid content ≡ true
           → Some TooManyForgets ≡ request_fault s unique (body_in nodeid content)
       too_many k m = sym (ap (λ (b : Bool). first_fault b (forgets_too_many s.nodes nodeid content) repeated) k ∙ ap
           (λ (b : Bool). first_fault true b repeated) m) ∙ faulty
 
-      pub judged_so : knows s.nodes nodeid content ≡ true → forgets_too_many s.nodes nodeid content ≡ false
+      pub judged_so : knows_nodes s.nodes nodeid content ≡ true → forgets_too_many s.nodes nodeid content ≡ false
           → (r : Bool) → repeated ≡ r → cond r (Some RepeatedUnique) None
           ≡ request_fault s unique (body_in nodeid content)
       judged_so k m r e =
@@ -241,13 +241,13 @@ module _ (s : Server) (bytes : List ℕ) (unique nodeid : ℕ) where
 
   module _ {A : Type 0} (taken : Taken A) (new : Server) where
     -- what is held
-    pub holds : (content : RequestContent) → is_held nodeid content ≡ true
+    pub holds : (content : RequestContent) → holds_request nodeid content ≡ true
         → taken ≡ record { unique = unique; word = Held; sent = None }
-        → new ≡ holding s unique (body_of nodeid content) → Spells bytes (message content)
+        → new ≡ holding s unique (request_body_of nodeid content) → Spells bytes (message content)
         → fault_in s (message content) ≡ None → TakesFrame s bytes taken new
     holds content is e server =
-        let held = taken_so (body_of nodeid content) is in
-        so content (body_of nodeid content) taken new (asked_so nodeid content) (sym (ap (λ (t : Taken A). t.unique) e))
+        let held = taken_so (request_body_of nodeid content) is in
+        so content (request_body_of nodeid content) taken new (asked_so nodeid content) (sym (ap (λ (t : Taken A). t.unique) e))
         (ap (λ (t : TakeResult). t.word) held ∙ sym (ap (λ (t : Taken A). t.word) e))
         (server ∙ sym (ap (λ (t : TakeResult). t.server) held))
         (ap (λ (t : Taken A). t.sent) e ∙ sym (ap (λ (t : TakeResult). copy_of s.next_copy unique t.reply) held))

@@ -15,10 +15,10 @@ use Rattle.fk_wire.specs.Requests.{RequestContent, RequestMessage, Spells, opcod
 use Rattle.fuse_frames.specs.RequestTies.{body_in}
 use Rattle.fs_server.specs.declared.server.ServerFault.{ServerFault}
 use Rattle.fs_server.specs.declared.server.ServerFault.TheVariants.{Memory}
-use Rattle.fuse_spec.specs.Server.Refusals.{is_past_end}
+use Rattle.fuse_spec.specs.Server.Refusals.{is_server_past_end}
 use Rattle.fs_server.specs.Effects.{AnswersFrame, CanTake, RefusesFrame, fault_or, past_or_memory}
-use Rattle.fs_server.specs.Taking.{IsTakeable, answers, body_of, is_answered_now}
-use Rattle.fs_server.proofs.Becoming.{asked_body, can_take}
+use Rattle.fs_server.specs.Taking.{IsTakeable, answers, request_body_of, is_answered_now}
+use Rattle.fs_server.proofs.TakingEffects.{asked_body, can_take}
 
 module _ (s : Server) (unique : ℕ) where
   abbrev reply_to : RequestBody → Option WireReply
@@ -59,7 +59,7 @@ module _ (s : Server) (bytes : List ℕ) (m : RequestMessage) (right : IsTakeabl
     (λ t. record {
       can = can_take s bytes m right;
       reply = failed eagain;
-      replies = answered s m.unique (body_of m.nodeid m.content) (sym e);
+      replies = answered s m.unique (request_body_of m.nodeid m.content) (sym e);
     }),
     (λ a. refl),
   )
@@ -69,13 +69,13 @@ module _ (s : Server) (bytes : List ℕ) (m : RequestMessage) (right : IsTakeabl
         let says = a.can.says in
         let one = right.only says.message says.spells in
         let unique : m.unique ≡ a.can.request.unique = ap (λ (n : RequestMessage). n.unique) one ∙ says.unique in
-        let asked : Some (body_of m.nodeid m.content) ≡ Some a.can.request.body = sym (asked_body s bytes m right) ∙ ap
+        let asked : Some (request_body_of m.nodeid m.content) ≡ Some a.can.request.body = sym (asked_body s bytes m right) ∙ ap
         (λ (n : RequestMessage). body_in n.nodeid n.content) one ∙ says.says in
-        let body_is : body_of m.nodeid m.content ≡ a.can.request.body = same_Some
-        (body_of m.nodeid m.content) a.can.request.body asked in
-        let same : (taking s m.unique (body_of m.nodeid m.content)).reply
+        let body_is : request_body_of m.nodeid m.content ≡ a.can.request.body = same_Some
+        (request_body_of m.nodeid m.content) a.can.request.body asked in
+        let same : (taking s m.unique (request_body_of m.nodeid m.content)).reply
         ≡ (taking s a.can.request.unique a.can.request.body).reply = λ i. (taking s (unique i) (body_is i)).reply in
-        absurd (none-some a.reply (sym (silent s m.unique (body_of m.nodeid m.content) (sym e)) ∙ same ∙ a.replies))),
+        absurd (none-some a.reply (sym (silent s m.unique (request_body_of m.nodeid m.content) (sym e)) ∙ same ∙ a.replies))),
   )
 
 -- a frame that is refused isn't answered
@@ -86,7 +86,7 @@ refused_is_silent s bytes fault refuses other a =
     other
     (refuses.of_request can.request can.says
     ∙ ap (λ (o : Option ServerFault). fault_or o (past_or_memory
-    (is_past_end (taking s can.request.unique can.request.body).server))) can.faultless
+    (is_server_past_end (taking s can.request.unique can.request.body).server))) can.faultless
     ∙ ap past_or_memory can.within)
 
 -- what no fault is found in can be taken

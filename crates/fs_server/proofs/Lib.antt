@@ -9,8 +9,8 @@ pub mod GivenBack
 pub mod Stays
 pub mod Outcomes
 pub mod Faulty
-pub mod Becoming
-pub mod Wanting
+pub mod TakingEffects
+pub mod MemoryRefusals
 pub mod Performable
 pub mod Judged
 pub mod DiscardsUnheld

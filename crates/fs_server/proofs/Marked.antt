@@ -14,7 +14,7 @@ use Rattle.fuse_spec.specs.Server.Taking.{TakeResult, interrupting, taking}
 use Rattle.fuse_spec.specs.declared.Taken.TheVariants.{Marked, Ignored, Again}
 use Rattle.fuse_spec.proofs.Tables.{get_put_here, get_put_there, get_gone_there}
 use Rattle.fs_server.specs.declared.server.Taken.{Taken}
-use Rattle.fuse_spec.specs.Server.Refusals.{is_past_end}
+use Rattle.fuse_spec.specs.Server.Refusals.{is_server_past_end}
 use Rattle.fs_server.specs.Effects.{copy_of}
 use Rattle.fs_server.specs.Interrupts.{Interrupts, AsksAgain}
 
@@ -114,7 +114,7 @@ or_false false false false false e p q r x y = y
 -- no counter is past its end
 pub within : (s : Server) → nat_lt (2 ^ 62) s.tree.next_birth ≡ false → nat_lt (2 ^ 62) s.tree.next_serial ≡ false
     → nat_lt (2 ^ 62) s.nodes.next_generation ≡ false → nat_lt (2 ^ 62) s.handles.next_fh ≡ false → s.next_copy ≤ 2 ^ 62
-    → is_past_end s ≡ false
+    → is_server_past_end s ≡ false
 within s births serials generations numbers copies =
     or_false (nat_lt counter_end s.tree.next_birth) (nat_lt counter_end s.tree.next_serial)
     (nat_lt counter_end s.nodes.next_generation) (nat_lt counter_end s.handles.next_fh)

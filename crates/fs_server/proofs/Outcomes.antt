@@ -2,7 +2,7 @@
 use Rattle.std.proofs.Common.{◌≡◌, ◌≤◌, ℕ, Bool, true, false, cond, Option, Some, None, length, refl, ap, ◌∙◌, sym, arith, inl, inr}
 use Rattle.std.specs.Prelude.{◌⊎◌}
 use Rattle.std.proofs.lemmas.List.{length-map}
-use Rattle.fuse_spec.specs.Files.FileOperations.{looked_up, refusal, reply_or, reply_unrefused}
+use Rattle.fuse_spec.specs.Files.FileOperations.{lookup_reply, refusal, reply_or, reply_unrefused}
 use Rattle.fuse_spec.specs.Kernel.Messages.{RequestBody, init, asks, release, forget, batch_forget, interrupt}
 use Rattle.fuse_spec.specs.Server.Nodes.{file_of, is_open}
 use Rattle.fuse_spec.specs.Values.Numbers.{ebadf, eintr, eio}
@@ -12,10 +12,10 @@ use Rattle.fuse_spec.specs.Server.Performs.{file_operation_of, is_open_for, is_s
 use Rattle.fuse_spec.specs.Server.Server.{Server, HeldRequest}
 use Rattle.fuse_spec.specs.Files.Trees.{Tree, file_at}
 use Rattle.fuse_spec.specs.declared.Opened.{Opened}
-use Rattle.fs_files.specs.Listed.{names_in, pair_listed}
+use Rattle.fs_files.specs.Listed.{dirents_in_bytes, pair_listed}
 use Rattle.fs_files.specs.Performing.{said, said_by}
 use Rattle.fs_files.specs.Replies.{HasSpare, IsRepliable, outcome_errno, outcome_names, outcome_reply}
-use Rattle.fs_files.specs.Values.{names_for, names_of}
+use Rattle.fs_files.specs.Values.{names_for, most_names_of}
 use Rattle.fs_files.specs.declared.replies.Outcome.{Outcome}
 use Rattle.fs_files.specs.declared.replies.Outcome.TheVariants as outcome
 use Rattle.fuse_frames.specs.declared.reply.Reply.TheVariants as said
@@ -50,7 +50,7 @@ names_are : {A : Type 0} (ms : ℕ) (tree : Tree) (o : Outcome A) → IsRepliabl
 names_are ms tree (outcome.Found file) repliable = refl
 names_are ms tree (outcome.Created file) repliable = refl
 names_are ms tree (outcome.Opened file) repliable = refl
-names_are ms tree (outcome.ListedPlus records) repliable = sym (length-map (names_in records.items) (pair_listed ms))
+names_are ms tree (outcome.ListedPlus records) repliable = sym (length-map (dirents_in_bytes records.items) (pair_listed ms))
 names_are ms tree (outcome.Said (said.Found entry valid)) repliable = absurd repliable.0
 names_are ms tree (outcome.Said (said.Missing valid)) repliable = refl
 names_are ms tree (outcome.Said (said.Created entry valid fh)) repliable = absurd repliable.0
@@ -89,16 +89,16 @@ module _ (s : Server) where
   refused true (Some errno) reply none = refl
   refused false r reply none = refl
 
-  found_none : (o : Option ℕ) → names_listed (looked_up s.validity o) ≡ 0
+  found_none : (o : Option ℕ) → names_listed (lookup_reply s.validity o) ≡ 0
   found_none None = refl
   found_none (Some file) = refl
 
   said_none : (o : Operation ℕ Opened) → names_listed (reply_unrefused s.validity s.tree (file_operation_of s.nodes o))
-      ≡ 0 → (names_of o ≡ 32) ⊎ (names_listed (said_by s (asks o)) ≡ 0)
+      ≡ 0 → (most_names_of o ≡ 32) ⊎ (names_listed (said_by s (asks o)) ≡ 0)
   said_none o none = inr (refused (is_open_for s o) (refusal s.tree (file_operation_of s.nodes o))
       (reply_unrefused s.validity s.tree (file_operation_of s.nodes o)) none)
 
-  asked_names : (o : Operation ℕ Opened) → (names_of o ≡ 32) ⊎ (names_listed (said_by s (asks o)) ≡ 0)
+  asked_names : (o : Operation ℕ Opened) → (most_names_of o ≡ 32) ⊎ (names_listed (said_by s (asks o)) ≡ 0)
   asked_names (operation.lookup d name) = said_none (operation.lookup d name)
       (found_none (file_at s.tree (file_of s.nodes d) name))
   asked_names (operation.getattr x) = said_none (operation.getattr x) refl

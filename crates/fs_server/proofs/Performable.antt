@@ -17,7 +17,7 @@ use Rattle.fs_files.specs.Plans.{HasNumbers}
 use Rattle.fs_files.specs.Values.{FilesState}
 use Rattle.fs_server.specs.Values.{server_with}
 use Rattle.fs_server.specs.Steps.{CanPerform}
-use Rattle.fuse_spec.specs.Server.Refusals.{is_past_end}
+use Rattle.fuse_spec.specs.Server.Refusals.{is_server_past_end}
 use Rattle.fs_server.proofs.Served.{all_generations, bare, ends_live, files_listed, end_live, end_lost, lost_is, numbers_of, all_numbers, numbers_said}
 
 none_past : (a b c d e : Bool) → a ≡ false → b ≡ false → c ≡ false → d ≡ false → e ≡ false
@@ -43,7 +43,7 @@ second_or false b e = e
 low : (n : ℕ) → nat_lt counter_end n ≡ false → n ≤ 2 ^ 62
 low n e = ltb-false counter_end n e
 
-each_within : (s : Server) → is_past_end s ≡ false → EachWithin s
+each_within : (s : Server) → is_server_past_end s ≡ false → EachWithin s
 each_within s e =
     let a = nat_lt counter_end s.tree.next_birth in
     let b = nat_lt counter_end s.tree.next_serial in
@@ -64,7 +64,7 @@ each_within s e =
 within : (n : ℕ) → n ≤ 2 ^ 62 → nat_lt counter_end n ≡ false
 within n le = le-ltb counter_end n (omega (arith, le))
 
-all_within : (s : Server) → EachWithin s → is_past_end s ≡ false
+all_within : (s : Server) → EachWithin s → is_server_past_end s ≡ false
 all_within s each =
     none_past (nat_lt counter_end s.tree.next_birth) (nat_lt counter_end s.tree.next_serial)
     (nat_lt counter_end s.nodes.next_generation) (nat_lt counter_end s.handles.next_fh) (nat_lt counter_end s.next_copy)
@@ -80,9 +80,9 @@ module _ (files : FilesState) (held : Map HeldRequest) (kept : Map Kept) (copies
   abbrev reply : Reply ℕ ℕ
   reply = said (bare files held kept copies next v m unique h there) h
 
-  live_within : CanPerform (old false) unique → is_past_end (old false) ≡ false → (choice : ℕ → ℕ)
+  live_within : CanPerform (old false) unique → is_server_past_end (old false) ≡ false → (choice : ℕ → ℕ)
       → MayChoose choice files.nodes (files_given (old false) h)
-      → is_past_end (served choice (old false) unique h).server ≡ false
+      → is_server_past_end (served choice (old false) unique h).server ≡ false
   live_within can before choice may =
       let each = each_within (old false) before in
       let has : HasNumbers (tree_said
@@ -96,7 +96,7 @@ module _ (files : FilesState) (held : Map HeldRequest) (kept : Map Kept) (copies
       (opens_in_reply reply) in
       let start = numbers_said (bare files held kept copies next v m unique h there) h in
       let numbers = has.numbers refl in
-      ap is_past_end (ends_live files held kept copies next v m unique h there choice)
+      ap is_server_past_end (ends_live files held kept copies next v m unique h there choice)
       ∙ all_within (end_live files held kept copies next v m unique h there choice) (record {
         births = has.births;
         serials = has.serials;
@@ -105,8 +105,8 @@ module _ (files : FilesState) (held : Map HeldRequest) (kept : Map Kept) (copies
         copies = omega (arith, next_low);
       })
 
-  lost_within : CanPerform (old true) unique → is_past_end (old true) ≡ false → (choice : ℕ → ℕ)
-      → is_past_end (served choice (old true) unique h).server ≡ false
+  lost_within : CanPerform (old true) unique → is_server_past_end (old true) ≡ false → (choice : ℕ → ℕ)
+      → is_server_past_end (served choice (old true) unique h).server ≡ false
   lost_within can before choice =
       let each = each_within (old true) before in
       let has : HasNumbers (tree_said
@@ -114,7 +114,7 @@ module _ (files : FilesState) (held : Map HeldRequest) (kept : Map Kept) (copies
       numbers_of files held kept copies next v m unique h there true can in
       let start = numbers_said (bare files held kept copies next v m unique h there) h in
       let old_numbers = each.numbers in
-      ap (λ (s : Server). is_past_end (replying (without_unheld_files s) unique
+      ap (λ (s : Server). is_server_past_end (replying (without_unheld_files s) unique
       (performed choice (server_with files (remove held unique) kept copies next v m true) h).wire))
       (lost_is files held kept copies next v m unique h there choice)
       ∙ all_within (end_lost files held kept copies next v m unique h there choice) (record {
@@ -125,9 +125,9 @@ module _ (files : FilesState) (held : Map HeldRequest) (kept : Map Kept) (copies
         copies = each.copies;
       })
 
-  any_within : (a : Bool) → CanPerform (old a) unique → is_past_end (old a) ≡ false → (choice : ℕ → ℕ)
+  any_within : (a : Bool) → CanPerform (old a) unique → is_server_past_end (old a) ≡ false → (choice : ℕ → ℕ)
       → MayChoose choice files.nodes (files_given (old a) h)
-      → is_past_end (served choice (old a) unique h).server ≡ false
+      → is_server_past_end (served choice (old a) unique h).server ≡ false
   any_within true can before choice may = lost_within can before choice
   any_within false can before choice may = live_within can before choice may
 
@@ -136,8 +136,8 @@ files_alone s = record { tree = s.tree; nodes = s.nodes; handles = s.handles; no
 
 -- Where a held request can be performed, no counter is past its end afterwards, whatever is chosen.
 pub performs_within : (s : Server) (unique : ℕ) (h : HeldRequest) → get s.held unique ≡ Some h → CanPerform s unique
-    → is_past_end s ≡ false → (choice : ℕ → ℕ) → MayChoose choice s.nodes (files_given s h)
-    → is_past_end (served choice s unique h).server ≡ false
+    → is_server_past_end s ≡ false → (choice : ℕ → ℕ) → MayChoose choice s.nodes (files_given s h)
+    → is_server_past_end (served choice s unique h).server ≡ false
 performs_within s unique h there can before choice may =
     any_within (files_alone s) s.held s.kept s.copies s.next_copy s.validity s.minor unique h there s.aborted can before choice may
 
@@ -152,8 +152,8 @@ numbers_next t [] = refl
 numbers_next t (n ∷ ns) = numbers_next (handle_more t n) ns
 
 -- Where one more copy can be sent, no counter is past its end afterwards.
-pub copies_within : (s : Server) (unique : ℕ) (kept : Kept) → s.next_copy < 2 ^ 62 → is_past_end s ≡ false
-    → is_past_end (sent_again s unique kept) ≡ false
+pub copies_within : (s : Server) (unique : ℕ) (kept : Kept) → s.next_copy < 2 ^ 62 → is_server_past_end s ≡ false
+    → is_server_past_end (sent_again s unique kept) ≡ false
 copies_within s unique kept low before =
     let each = each_within s before in
     let gs = files_in_reply kept.wire in

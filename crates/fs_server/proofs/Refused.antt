@@ -4,7 +4,7 @@ use Rattle.fuse_spec.specs.Values.Maps.{get}
 use Rattle.fuse_spec.specs.declared.Refusal.TheVariants.{NoSuch, NoCopy, Exhausted}
 use Rattle.fuse_spec.specs.Kernel.Refusals.{unless, refusal_in, accepted}
 use Rattle.fuse_spec.specs.Server.Refusals.{held_found, kept_found}
-use Rattle.fuse_spec.specs.Server.Nodes.{counts_out}
+use Rattle.fuse_spec.specs.Server.Nodes.{count_overflows}
 use Rattle.fuse_spec.specs.Server.Performs.{files_given}
 use Rattle.fuse_spec.specs.Server.Copies.{is_current, files_named}
 use Rattle.fuse_spec.specs.Server.Server.{Server, HeldRequest, Kept}
@@ -16,7 +16,7 @@ module _ (s : Server) (unique : ℕ) where
       (ap (λ (o : Option HeldRequest). refusal_in (held_found s o (λ (held : HeldRequest). accepted))) none)
 
   pub counted_too_often : (held : HeldRequest) → get s.held unique ≡ Some held
-      → counts_out s.nodes (files_given s held) ≡ true → RefusesHeld s unique Exhausted
+      → count_overflows s.nodes (files_given s held) ≡ true → RefusesHeld s unique Exhausted
   counted_too_often held there out = as_judged Exhausted
       (ap (λ (o : Option HeldRequest). refusal_in (held_found s o (λ (held : HeldRequest). accepted))) there
       ∙ ap (λ (b : Bool). refusal_in (unless b Exhausted accepted)) out)
@@ -30,12 +30,12 @@ module _ (s : Server) (unique : ℕ) where
   not_current kept there stale = judged_again NoCopy
       (ap (λ (o : Option Kept). refusal_in (kept_found s o (λ (kept : Kept). accepted))) there
       ∙ ap (λ (b : Bool). refusal_in (unless (not b) NoCopy
-      (unless (counts_out s.nodes (files_named s kept.wire)) Exhausted accepted))) stale)
+      (unless (count_overflows s.nodes (files_named s kept.wire)) Exhausted accepted))) stale)
 
   pub copied_too_often : (kept : Kept) → get s.kept unique ≡ Some kept → is_current s kept.wire ≡ true
-      → counts_out s.nodes (files_named s kept.wire) ≡ true → RefusesAgain s unique Exhausted
+      → count_overflows s.nodes (files_named s kept.wire) ≡ true → RefusesAgain s unique Exhausted
   copied_too_often kept there current out = judged_again Exhausted
       (ap (λ (o : Option Kept). refusal_in (kept_found s o (λ (kept : Kept). accepted))) there
       ∙ ap (λ (b : Bool). refusal_in (unless (not b) NoCopy
-      (unless (counts_out s.nodes (files_named s kept.wire)) Exhausted accepted))) current
+      (unless (count_overflows s.nodes (files_named s kept.wire)) Exhausted accepted))) current
       ∙ ap (λ (b : Bool). refusal_in (unless b Exhausted accepted)) out)

@@ -12,7 +12,7 @@ use Rattle.fuse_spec.specs.Files.Operations.{Reply, files_in_reply, opens_in_rep
 use Rattle.fuse_spec.specs.declared.Validity.{Validity}
 use Rattle.fuse_spec.specs.declared.Refusal.TheVariants.{Exhausted}
 use Rattle.fuse_spec.specs.Kernel.Messages.{RequestBody, init, asks, release, forget, batch_forget, interrupt, WireReply}
-use Rattle.fuse_spec.specs.Server.Nodes.{NodeTable, HandleTable, all_given, all_opened, counts_out, handle_opened, handle_back, given, MayChoose, is_open, file_of}
+use Rattle.fuse_spec.specs.Server.Nodes.{NodeTable, HandleTable, all_given, all_opened, count_overflows, handle_opened, handle_back, given, MayChoose, is_open, file_of}
 use Rattle.fuse_spec.specs.Files.Trees.{Tree}
 use Rattle.fuse_spec.specs.Server.Performs.{PerformResult, files_given, performed, served, replying, wire_of, is_still_held}
 use Rattle.fuse_spec.specs.Server.Server.{Server, HeldRequest, Kept, Copy, without_unheld_files, is_file_held}
@@ -29,7 +29,7 @@ use Rattle.fs_files.proofs.Giving.{generations_given, none_out, sorted_given}
 use Rattle.fs_files.proofs.Performed.{performed_is, performed_lost, files_are, no_files, same_said, same_tree, same_handles}
 use Rattle.fs_server.specs.Values.{server_with}
 use Rattle.fs_server.specs.Steps.{CanPerform}
-use Rattle.fuse_spec.specs.Server.Refusals.{is_past_end}
+use Rattle.fuse_spec.specs.Server.Refusals.{is_server_past_end}
 use Rattle.fs_server.specs.Effects.{PerformsHeld, RefusesHeld, exhausted}
 use Rattle.fs_server.proofs.Refused.{counted_too_often}
 
@@ -99,7 +99,7 @@ module _ (files : FilesState) (held : Map HeldRequest) (kept : Map Kept) (copies
   module _ (there : get held unique ≡ Some h) where
     pub performs_live : {A : Type 0} (one two three : FilesState) (reply : Reply ℕ ℕ) (sent : SentReply A)
         (copy : Sent) (errno : ℕ)
-        → counts_out files.nodes (files_given (old false) h) ≡ false
+        → count_overflows files.nodes (files_given (old false) h) ≡ false
         → one.tree ≡ tree_said b h → one.handles ≡ handles_said b h → one.nodes ≡ files.nodes → reply ≡ said b h
         → GivesNumbers one reply sent two
         → three.tree ≡ without_unheld (is_file_held (server_of two v)) two.tree → three.nodes ≡ two.nodes
@@ -142,7 +142,7 @@ module _ (files : FilesState) (held : Map HeldRequest) (kept : Map Kept) (copies
     -- the same from files that only have more room
     pub performs_from : {A : Type 0} (start one two three : FilesState) (reply : Reply ℕ ℕ) (sent : SentReply A)
         (copy : Sent) (errno : ℕ) → start.tree ≡ files.tree → start.nodes ≡ files.nodes → start.handles ≡ files.handles
-        → counts_out files.nodes (files_given (old false) h) ≡ false → one.tree ≡ tree_said (server_at m start v) h
+        → count_overflows files.nodes (files_given (old false) h) ≡ false → one.tree ≡ tree_said (server_at m start v) h
         → one.handles ≡ handles_said (server_at m start v) h → one.nodes ≡ start.nodes
         → reply ≡ said (server_at m start v) h → GivesNumbers one reply sent two
         → three.tree ≡ without_unheld (is_file_held (server_of two v)) two.tree → three.nodes ≡ two.nodes
@@ -162,7 +162,7 @@ module _ (files : FilesState) (held : Map HeldRequest) (kept : Map Kept) (copies
 
   module _ (there : get held unique ≡ Some h) where
     pub performs_lost : (one three : FilesState) (reply : Reply ℕ ℕ) (errno : ℕ)
-        → counts_out files.nodes (files_given (old true) h) ≡ false
+        → count_overflows files.nodes (files_given (old true) h) ≡ false
         → one.tree ≡ tree_said b h → one.handles ≡ handles_said b h → one.nodes ≡ files.nodes → reply ≡ said b h
         → three.tree ≡ without_unheld (is_file_held (server_of one v)) one.tree → three.nodes ≡ one.nodes
         → three.handles ≡ one.handles
@@ -226,7 +226,7 @@ abbrev Past : Server → Type 0
 Past s = (2 ^ 62 < s.tree.next_birth) ⊎ ((2 ^ 62 < s.tree.next_serial)
     ⊎ ((2 ^ 62 < s.nodes.next_generation) ⊎ ((2 ^ 62 < s.handles.next_fh) ⊎ (2 ^ 62 < s.next_copy))))
 
-pub past : (s : Server) → Past s → is_past_end s ≡ true
+pub past : (s : Server) → Past s → is_server_past_end s ≡ true
 past s p =
     any_past (nat_lt counter_end s.tree.next_birth) (nat_lt counter_end s.tree.next_serial)
     (nat_lt counter_end s.nodes.next_generation) (nat_lt counter_end s.handles.next_fh) (nat_lt counter_end s.next_copy)
@@ -305,20 +305,20 @@ module _ (files : FilesState) (held : Map HeldRequest) (kept : Map Kept) (copies
 
   lacking_given : T (is_sorted nat_cmp files.nodes.rows)
       → (2 ^ 62 < generations_after files.nodes (files_in_reply (said bare h)))
-      ⊎ ((counts_out files.nodes (files_in_reply (said bare h)) ≡ true)
+      ⊎ ((count_overflows files.nodes (files_in_reply (said bare h)) ≡ true)
       ⊎ (2 ^ 62 < files.handles.next_fh + length (opens_in_reply (said bare h))))
       → RefusesHeld (server_with files held kept copies next v m false) unique Exhausted
   lacking_given rising lacks = elim lacks [
     | inl generations ↦ exhausted h there (λ choice may.
         let all = all_generations choice files.nodes (files_in_reply (said bare h)) rising
         (subst (MayChoose choice files.nodes) files_listed may) in
-        ap is_past_end (ends_live choice) ∙ past (end_live choice) (inr (inr (inl (omega (arith, all, generations))))))
+        ap is_server_past_end (ends_live choice) ∙ past (end_live choice) (inr (inr (inl (omega (arith, all, generations))))))
     | inr other ↦ elim other [
-      | inl out ↦ counted_too_often _ _ h there (ap (counts_out files.nodes) files_listed ∙ out)
+      | inl out ↦ counted_too_often _ _ h there (ap (count_overflows files.nodes) files_listed ∙ out)
       | inr numbers ↦ exhausted h there (λ choice may.
           let all = all_numbers (handles_said bare h) (opens_in_reply (said bare h)) in
           let start = numbers_said bare h in
-          ap is_past_end (ends_live choice) ∙ past (end_live choice)
+          ap is_server_past_end (ends_live choice) ∙ past (end_live choice)
           (inr (inr (inr (inl (omega (arith, all, start, numbers)))))))
     ]
   ]
@@ -327,17 +327,17 @@ module _ (files : FilesState) (held : Map HeldRequest) (kept : Map Kept) (copies
       → LacksNumber (tree_said bare h) files.nodes files.handles false (said bare h)
       → RefusesHeld (server_with files held kept copies next v m false) unique Exhausted
   lacking_live rising lacks = elim lacks [
-    | inl births ↦ exhausted h there (λ choice may. ap is_past_end (ends_live choice) ∙ past (end_live choice)
+    | inl births ↦ exhausted h there (λ choice may. ap is_server_past_end (ends_live choice) ∙ past (end_live choice)
         (inl births))
     | inr other ↦ elim other [
-      | inl serials ↦ exhausted h there (λ choice may. ap is_past_end (ends_live choice) ∙ past (end_live choice)
+      | inl serials ↦ exhausted h there (λ choice may. ap is_server_past_end (ends_live choice) ∙ past (end_live choice)
           (inr (inl serials)))
       | inr numbered ↦ lacking_given rising numbered.1
     ]
   ]
 
   pub no_copy : 2 ^ 62 ≤ next → RefusesHeld (server_with files held kept copies next v m false) unique Exhausted
-  no_copy le = exhausted h there (λ choice may. ap is_past_end (ends_live choice) ∙ past (end_live choice)
+  no_copy le = exhausted h there (λ choice may. ap is_server_past_end (ends_live choice) ∙ past (end_live choice)
       (inr (inr (inr (inr (omega (arith, le)))))))
 
   pub lost_is : (choice : ℕ → ℕ) → (performed choice
@@ -351,7 +351,7 @@ module _ (files : FilesState) (held : Map HeldRequest) (kept : Map Kept) (copies
   pub lacking_lost : LacksNumber (tree_said bare h) files.nodes files.handles true (said bare h)
       → RefusesHeld (server_with files held kept copies next v m true) unique Exhausted
   lacking_lost lacks = exhausted h there (λ choice may.
-      ap (λ (s : Server). is_past_end (replying (without_unheld_files s) unique
+      ap (λ (s : Server). is_server_past_end (replying (without_unheld_files s) unique
       (performed choice (server_with files (remove held unique) kept copies next v m true) h).wire))
       (lost_is choice)
       ∙ past (end_lost choice) (elim lacks [
@@ -372,10 +372,10 @@ module _ (files : FilesState) (held : Map HeldRequest) (kept : Map Kept) (copies
   -- no node's lookups come to their end
   counts_given : (a : Bool) → T (is_sorted nat_cmp files.nodes.rows) → AreHeldBelow files.nodes
       → HasNumbers (tree_said bare h) files.nodes files.handles a (said bare h)
-      → counts_out files.nodes (files_given (server_with files held kept copies next v m a) h) ≡ false
-  counts_given true rising below has = ap (counts_out files.nodes)
+      → count_overflows files.nodes (files_given (server_with files held kept copies next v m a) h) ≡ false
+  counts_given true rising below has = ap (count_overflows files.nodes)
       (no_files (server_with files held kept copies next v m true) h refl) ∙ none_out files.nodes [] rising below tt
-  counts_given false rising below has = ap (counts_out files.nodes) files_listed ∙ has.counts refl
+  counts_given false rising below has = ap (count_overflows files.nodes) files_listed ∙ has.counts refl
 
   -- what the server says of a request is what its files say
   pub can : (a : Bool) → T (is_sorted nat_cmp files.nodes.rows) → AreHeldBelow files.nodes
@@ -407,8 +407,8 @@ module _ (files : FilesState) (held : Map HeldRequest) (kept : Map Kept) (copies
       (same_Some c.held h (sym c.there ∙ there)) c.numbers))
 
   pub counts_of : (a : Bool) → CanPerform (server_with files held kept copies next v m a) unique
-      → counts_out files.nodes (files_given (server_with files held kept copies next v m a) h) ≡ false
-  counts_of a c = subst (λ (x : HeldRequest). counts_out files.nodes
+      → count_overflows files.nodes (files_given (server_with files held kept copies next v m a) h) ≡ false
+  counts_of a c = subst (λ (x : HeldRequest). count_overflows files.nodes
       (files_given (server_with files held kept copies next v m a) x) ≡ false)
       (same_Some c.held h (sym c.there ∙ there)) c.counts
 
@@ -429,8 +429,8 @@ module _ (files : FilesState) (held : Map HeldRequest) (kept : Map Kept) (copies
         (subst (λ (t : NodeTable). generations_after t (files_in_reply (said bare h)) ≤ 2 ^ 62)
         (sym (nodes ∙ nodes_start)) (has.generations refl))
 
-    pub live_counts : counts_out files.nodes (files_in_reply reply) ≡ false
-    live_counts = subst (λ (r : Reply ℕ ℕ). counts_out files.nodes (files_in_reply r) ≡ false) same_reply
+    pub live_counts : count_overflows files.nodes (files_in_reply reply) ≡ false
+    live_counts = subst (λ (r : Reply ℕ ℕ). count_overflows files.nodes (files_in_reply r) ≡ false) same_reply
         (has.counts refl)
 
     pub live_numbers : one.handles ≡ handles_said (server_at m start v) h

@@ -2,7 +2,7 @@
 use Rattle.std.proofs.Common.{◌≡◌, ℕ, ◌+◌, ◌≤◌, ◌<◌, ◌^◌, Bool, true, false, cond, nat_eq, List, [], length, Option, Some, None, refl, sym, ap, subst, ◌∙◌, arith}
 use Rattle.fuse_spec.specs.Values.Maps.{Map, get, put, remove}
 use Rattle.fuse_spec.specs.Kernel.Messages.{Forget, WireReply}
-use Rattle.fuse_spec.specs.Server.Nodes.{NodeTable, HandleTable, all_opened, counts_out}
+use Rattle.fuse_spec.specs.Server.Nodes.{NodeTable, HandleTable, all_opened, count_overflows}
 use Rattle.fuse_spec.specs.Values.Numbers.{max_validity}
 use Rattle.fuse_spec.specs.Files.Operations.{Reply, files_in_reply, opens_in_reply}
 use Rattle.fuse_spec.specs.Server.Copies.{rows_counted, handles_counted, kept_after}
@@ -159,7 +159,7 @@ module _ {V W X : Type 0} (files : FilesState) (held : Map V) (kept : Map W) (co
   pub performed : {A : Type 0} (h : HeldRequest) (unique : ℕ) (one two three : FilesState) (reply : Reply ℕ ℕ)
       (sent : SentReply A) (w : W) (x : X) → one.handles ≡ handles_said (server_of files v) h → one.nodes ≡ files.nodes
       → GivesNumbers one reply sent two → length (files_in_reply reply) ≤ 32
-      → counts_out files.nodes (files_in_reply reply) ≡ false → three.nodes ≡ two.nodes → three.handles ≡ two.handles
+      → count_overflows files.nodes (files_in_reply reply) ≡ false → three.nodes ≡ two.nodes → three.handles ≡ two.handles
       → next < 2 ^ 62 → AreNamed three.tree three.nodes three.handles
       → IsSoundServer three (remove held unique) (put kept unique w) (put copies next x) (next + 1) v
   performed h unique one two three reply sent w x handles nodes gives few none left_nodes left_handles low named =
@@ -168,7 +168,7 @@ module _ {V W X : Type 0} (files : FilesState) (held : Map V) (kept : Map W) (co
         below = subst AreHeldBelow (sym (left_nodes ∙ gives.nodes_is))
             (within_given gives.choice one.nodes (files_in_reply reply) (omega (arith, few)) gives.may
             (within_first one.nodes (files_in_reply reply) (ap
-            (λ (t : NodeTable). counts_out t (files_in_reply reply)) nodes ∙ none)));
+            (λ (t : NodeTable). count_overflows t (files_in_reply reply)) nodes ∙ none)));
         used = subst (AreUsed (next + 1)) (sym (left_handles ∙ gives.handles_is ∙ ap
             (λ (t : HandleTable). all_opened t (opens_in_reply reply)) handles))
             (used_told next (handles_said (server_of files v) h) reply (used_said next (server_of files v) h old.used));

@@ -3,14 +3,14 @@ use Rattle.std.specs.Prelude.{◌≡◌, ◌<◌, ℕ, Bool, true, false, nat_eq
 use Rattle.fuse_spec.specs.Values.Maps.{get}
 use Rattle.fuse_spec.specs.Kernel.Messages.{Forget, RequestBody, Request, WireReply}
 use Rattle.fuse_spec.specs.Files.Operations.{errno_of}
-use Rattle.fuse_spec.specs.Server.Nodes.{HandleTable, MayChoose, NodeTable, counts_out}
+use Rattle.fuse_spec.specs.Server.Nodes.{HandleTable, MayChoose, NodeTable, count_overflows}
 use Rattle.fuse_spec.specs.Server.Performs.{served, files_given}
 use Rattle.fuse_spec.specs.World.Worlds.{Sent}
 use Rattle.fuse_spec.specs.Server.Server.{Server, HeldRequest, Kept, Copy, RequestFault, unknown_opcode, unknown_node, too_many_forgets, repeated_unique, all_taken_back, fault_of, forgetting, is_file_held}
 use Rattle.fuse_spec.specs.Server.Copies.{given_back, files_named, handles_back, is_current, rows_back, sent_again, settled}
 use Rattle.fuse_spec.specs.Server.Taking.{taking}
 use Rattle.fuse_spec.specs.Kernel.Refusals.{refusal_in, accepted}
-use Rattle.fuse_spec.specs.Server.Refusals.{is_past_end, to_perform, to_send_again}
+use Rattle.fuse_spec.specs.Server.Refusals.{is_server_past_end, to_perform, to_send_again}
 use Rattle.fuse_spec.specs.Values.Numbers.{counter_end}
 use Rattle.fuse_spec.specs.declared.Entry.{Entry}
 use Rattle.fuse_spec.specs.declared.Taken.{Taken as TakenWord}
@@ -55,7 +55,7 @@ fault_or (Some fault) other = fault
 -- What a request that is refused is refused for.
 abbrev pub refused_for : Server → Request → ServerFault
 refused_for s request = fault_or (request_fault s request.unique (Some request.body))
-    (past_or_memory (is_past_end (taking s request.unique request.body).server))
+    (past_or_memory (is_server_past_end (taking s request.unique request.body).server))
 
 -- A frame spells a request that has no fault, and no counter would have given a number past its end: only memory can be
 -- wanting.
@@ -63,7 +63,7 @@ pub record CanTake (s : Server) (bytes : List ℕ) : Type 0 where
   pub request : Request
   pub says : SaysRequest bytes request
   pub faultless : request_fault s request.unique (Some request.body) ≡ None
-  pub within : is_past_end (taking s request.unique request.body).server ≡ false
+  pub within : is_server_past_end (taking s request.unique request.body).server ≡ false
 
 -- Taking a frame sends a copy of a reply at once.
 pub record AnswersFrame (s : Server) (bytes : List ℕ) : Type 0 where
@@ -93,17 +93,17 @@ pub record RefusesFrame (old : Server) (bytes : List ℕ) (fault : ServerFault) 
   pub of_none : ((request : Request) → SaysRequest bytes request → ⊥) → fault ≡ Wire
 
 -- Whether a request that is taken with this word takes memory: what is held does, and what is answered at once.
-abbrev pub takes_memory : TakenWord → Bool
-takes_memory Held = true
-takes_memory Again = true
-takes_memory Forgot = false
-takes_memory Marked = false
-takes_memory Ignored = false
+abbrev pub word_takes_memory : TakenWord → Bool
+word_takes_memory Held = true
+word_takes_memory Again = true
+word_takes_memory Forgot = false
+word_takes_memory Marked = false
+word_takes_memory Ignored = false
 
 -- Taking the request that a frame spells takes memory.
-abbrev pub WantsMemory : Server → List ℕ → Type 0
-WantsMemory s bytes = (request : Request) → SaysRequest bytes request
-    → takes_memory (taking s request.unique request.body).word ≡ true
+abbrev pub TakingNeedsMemory : Server → List ℕ → Type 0
+TakingNeedsMemory s bytes = (request : Request) → SaysRequest bytes request
+    → word_takes_memory (taking s request.unique request.body).word ≡ true
 
 -- These nodes and open numbers are left, and nameless files that nothing holds have gone.
 pub record DiscardsUnheld (old : FilesState) (nodes : NodeTable) (handles : HandleTable)
@@ -157,7 +157,7 @@ pub data RefusesHeld (s : Server) (unique : ℕ) : Refusal → Type 0 where
       → RefusesHeld s unique refusal
   exhausted : (held : HeldRequest) → get s.held unique ≡ Some held
       → ((choice : ℕ → ℕ) → MayChoose choice s.nodes (files_given s held)
-      → is_past_end (served choice s unique held).server ≡ true) → RefusesHeld s unique Exhausted
+      → is_server_past_end (served choice s unique held).server ≡ true) → RefusesHeld s unique Exhausted
 
 -- the first copy of a reply: none after an abort
 abbrev pub first_copy : (aborted : Bool) (number unique : ℕ) → WireReply → Option Sent
@@ -168,7 +168,7 @@ first_copy false number unique wire = Some (record { number = number; unique = u
 pub record PerformsHeld (old : Server) (unique errno : ℕ) (copy : Option Sent) (new : Server) : Type 0 where
   pub held : HeldRequest
   pub there : get old.held unique ≡ Some held
-  pub counts : counts_out old.nodes (files_given old held) ≡ false
+  pub counts : count_overflows old.nodes (files_given old held) ≡ false
   pub choice : ℕ → ℕ
   pub may : MayChoose choice old.nodes (files_given old held)
   pub server_is : new ≡ (served choice old unique held).server
@@ -181,14 +181,14 @@ pub data RefusesAgain (s : Server) (unique : ℕ) : Refusal → Type 0 where
   judged_again : (refusal : Refusal) → refusal_in (to_send_again s unique (λ kept. accepted)) ≡ Some refusal
       → RefusesAgain s unique refusal
   no_number : (kept : Kept) → get s.kept unique ≡ Some kept → is_current s kept.wire ≡ true
-      → is_past_end (sent_again s unique kept) ≡ true → RefusesAgain s unique Exhausted
+      → is_server_past_end (sent_again s unique kept) ≡ true → RefusesAgain s unique Exhausted
 
 -- A reply is kept under this unique, each node and open number that it names is still held, and a copy number is left.
 pub record CanSendAgain (s : Server) (unique : ℕ) : Type 0 where
   pub kept : Kept
   pub there : get s.kept unique ≡ Some kept
   pub current : is_current s kept.wire ≡ true
-  pub counts : counts_out s.nodes (files_named s kept.wire) ≡ false
+  pub counts : count_overflows s.nodes (files_named s kept.wire) ≡ false
   pub number : s.next_copy < counter_end
 
 -- One more copy of a kept reply is sent, and what it names is counted once more.
@@ -196,6 +196,6 @@ pub record SendsAgain (old : Server) (unique : ℕ) (copy : Sent) (new : Server)
   pub kept : Kept
   pub there : get old.kept unique ≡ Some kept
   pub current : is_current old kept.wire ≡ true
-  pub counts : counts_out old.nodes (files_named old kept.wire) ≡ false
+  pub counts : count_overflows old.nodes (files_named old kept.wire) ≡ false
   pub copy_is : copy ≡ record { number = old.next_copy; unique = unique; wire = kept.wire }
   pub after : new ≡ sent_again old unique kept

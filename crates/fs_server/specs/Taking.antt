@@ -10,12 +10,12 @@ use Rattle.fuse_spec.specs.Server.Server.{Server, HeldRequest, is_known, is_forg
 use Rattle.fk_wire.specs.Requests as wire
 use Rattle.fk_wire.specs.Requests.{RequestContent, RequestMessage, Spells}
 use Rattle.fuse_frames.specs.RequestTies.{body_in, body_or}
-use Rattle.fuse_spec.specs.Server.Refusals.{is_past_end}
+use Rattle.fuse_spec.specs.Server.Refusals.{is_server_past_end}
 use Rattle.fuse_spec.specs.Values.Numbers.{counter_end}
 
 -- what a request of this node asks
-abbrev pub body_of : ℕ → RequestContent → RequestBody
-body_of nodeid content = body_or (body_in nodeid content)
+abbrev pub request_body_of : ℕ → RequestContent → RequestBody
+request_body_of nodeid content = body_or (body_in nodeid content)
 
 -- what is held until it is performed
 abbrev pub waits : RequestBody → Bool
@@ -24,8 +24,8 @@ waits (batch_forget fs) = false
 waits (interrupt original) = false
 waits body = true
 
-abbrev pub is_held : ℕ → RequestContent → Bool
-is_held nodeid content = waits (body_of nodeid content)
+abbrev pub holds_request : ℕ → RequestContent → Bool
+holds_request nodeid content = waits (request_body_of nodeid content)
 
 -- what is answered at once: an INTERRUPT of a request that is not held and whose reply is not kept
 abbrev pub is_answered_now : Server → RequestBody → Bool
@@ -33,7 +33,7 @@ is_answered_now s (interrupt original) = not (is_some (get s.held original) || i
 is_answered_now s body = false
 
 abbrev pub answers : Server → ℕ → RequestContent → Bool
-answers s nodeid content = is_answered_now s (body_of nodeid content)
+answers s nodeid content = is_answered_now s (request_body_of nodeid content)
 
 -- what gives lookups back
 abbrev pub is_forgetting : RequestContent → Bool
@@ -53,8 +53,8 @@ are_names_known nodes (forget f) = is_some (get nodes.rows f.0)
 are_names_known nodes (batch_forget fs) = list_all (is_forgettable nodes) fs
 are_names_known nodes body = list_all (is_known nodes) (nodes_of_body body)
 
-abbrev pub knows : NodeTable → ℕ → RequestContent → Bool
-knows nodes nodeid content = are_names_known nodes (body_of nodeid content)
+abbrev pub knows_nodes : NodeTable → ℕ → RequestContent → Bool
+knows_nodes nodes nodeid content = are_names_known nodes (request_body_of nodeid content)
 
 -- Whether more lookups of a node are given back than it has.
 abbrev pub gives_too_many : NodeTable → RequestBody → Bool
@@ -63,7 +63,7 @@ gives_too_many nodes (batch_forget fs) = list_any (λ f. nat_lt (count_in (get n
 gives_too_many nodes body = false
 
 abbrev pub forgets_too_many : NodeTable → ℕ → RequestContent → Bool
-forgets_too_many nodes nodeid content = gives_too_many nodes (body_of nodeid content)
+forgets_too_many nodes nodeid content = gives_too_many nodes (request_body_of nodeid content)
 
 -- the nodes that a request names, with the generations that they have
 abbrev pub generations_of : NodeTable → RequestBody → List (ℕ × ℕ)
@@ -72,17 +72,17 @@ generations_of nodes body = map (λ id. (id, generation_in (row_of nodes id))) (
 -- what is held for it
 abbrev pub held_for : NodeTable → ℕ → RequestContent → HeldRequest
 held_for nodes nodeid content =
-    let body = body_of nodeid content in
+    let body = request_body_of nodeid content in
     record { body = body; generations = generations_of nodes body; marked = false }
 
--- Whether the minor knows what a request of this node asks.
+-- Whether the minor knows_nodes what a request of this node asks.
 abbrev pub is_spoken : Minor → ℕ → RequestContent → Bool
-is_spoken minor nodeid content = server.knows minor (body_of nodeid content)
+is_spoken minor nodeid content = server.knows minor (request_body_of nodeid content)
 
 -- A request of this node with nothing wrong.
 pub record IsFaultless (s : Server) (unique nodeid : ℕ) (content : RequestContent) : Type 0 where
-  pub spoken : is_spoken s.minor nodeid content ≡ true
-  pub known : knows s.nodes nodeid content ≡ true
+  pub for_minor : is_spoken s.minor nodeid content ≡ true
+  pub known : knows_nodes s.nodes nodeid content ≡ true
   pub few : forgets_too_many s.nodes nodeid content ≡ false
   pub unheld : get s.held unique ≡ None
   pub unkept : get s.kept unique ≡ None
@@ -93,5 +93,5 @@ pub record IsTakeable (s : Server) (bytes : List ℕ) (m : RequestMessage) : Typ
   pub spells : Spells bytes m
   pub only : (n : RequestMessage) → Spells bytes n → m ≡ n
   pub faultless : IsFaultless s m.unique m.nodeid m.content
-  pub within : is_past_end s ≡ false
+  pub within : is_server_past_end s ≡ false
   pub number : answers s m.nodeid m.content ≡ true → s.next_copy < counter_end

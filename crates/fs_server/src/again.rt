@@ -3,7 +3,7 @@
 ghost use Rattle.std.specs.Prelude.{◌≡◌, ◌⊎◌, ◌&&◌, false, OnErr, IfOk, IfErr, IfSome, IfNone, is_some};
 ghost use Rattle.std.specs.List.{list_all};
 ghost use Rattle.fuse_spec.specs.Values.Maps.{get};
-ghost use Rattle.fuse_spec.specs.Server.Nodes.{counts_out, is_held};
+ghost use Rattle.fuse_spec.specs.Server.Nodes.{count_overflows, is_held};
 ghost use Rattle.fuse_spec.specs.Server.Copies.{handles_counted, rows_counted};
 ghost use Rattle.fuse_spec.specs.Files.Operations.{files_in_reply, opens_in_reply};
 ghost use Rattle.fuse_spec.specs.Values.Numbers.{counter_end};
@@ -123,7 +123,7 @@ fn are_held<S: NodeStore>(files: &Files<S>, entries: &[Entry]) -> bool
 
 /// Counts once more each node and the open number that a reply names.
 fn count_again<S: NodeStore>(files: &mut Files<S>, reply: &SentReply<S::Heap>)
-    requires counts { counts_out files.old.nodes (files_of files.old.nodes (files_in_reply (sent_wire reply.now)))
+    requires counts { count_overflows files.old.nodes (files_of files.old.nodes (files_in_reply (sent_wire reply.now)))
         ≡ false }
     requires used { AreUsed counter_end files.old.handles }
     ensures tree { files.new.tree ≡ files.old.tree }
@@ -139,14 +139,14 @@ fn count_again<S: NodeStore>(files: &mut Files<S>, reply: &SentReply<S::Heap>)
 
 /// Counts the node of each entry once more.
 fn count_nodes_again<S: NodeStore>(files: &mut Files<S>, entries: &[Entry])
-    requires { counts_out files.old.nodes (files_of files.old.nodes entries.now) ≡ false }
+    requires { count_overflows files.old.nodes (files_of files.old.nodes entries.now) ≡ false }
     ensures tree { files.new.tree ≡ files.old.tree }
     ensures nodes { files.new.nodes ≡ rows_counted files.old.nodes entries.now }
     ensures handles { files.new.handles ≡ files.old.handles }
     ensures below { AreHeldBelow files.new.nodes }
 {
     for entry in entries {
-        files.keeps_sound();
+        files.lemma_sound();
         files.count_again(entry.nodeid);
     }
 }

@@ -1,7 +1,7 @@
 //! Replies to faulty request frames.
 
 ghost use Rattle.std.specs.Prelude.{◌≡◌, ◌≤ℤ◌, negsuc, MatchOption};
-ghost use Rattle.fs_server.specs.Faults.{is_answered, is_unanswered, IsFaultReply, IsAnswerable, IsErrorOf};
+ghost use Rattle.fs_server.specs.Faults.{is_fault_answered, is_unanswered, IsFaultReply, IsAnswerable, IsErrorOf};
 
 use crate::server::{ServerFault, ServerOf};
 use fk_wire::{frame_of_error, is_served_opcode_at, read_request_head};
@@ -57,7 +57,7 @@ fn error_of(minor: Minor, code: u32) -> i32
 
 /// Whether a fault is replied to: one of the frame alone, or of the nodes that it names.
 fn is_answered(fault: ServerFault) -> bool
-    ensures { result ≡ is_answered fault }
+    ensures { result ≡ is_fault_answered fault }
 {
     matches!(
         fault,

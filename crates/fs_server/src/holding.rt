@@ -3,8 +3,8 @@
 ghost use Rattle.std.specs.Prelude.{◌≡◌, true, IfOk};
 ghost use Rattle.fk_wire.specs.Requests.{request_content};
 ghost use Rattle.fuse_spec.specs.Kernel.Messages.{asks};
-ghost use Rattle.fs_files.specs.Values.{asked_of, named_in, operation_of};
-ghost use Rattle.fs_server.specs.Taking.{body_of, generations_of, held_for, is_held};
+ghost use Rattle.fs_files.specs.Values.{asked_of, nodes_named, held_operation_of};
+ghost use Rattle.fs_server.specs.Taking.{request_body_of, generations_of, held_for, holds_request};
 
 use fk_wire::{Request, RequestBody};
 use fs_files::{HeldBody, HeldOperation, HeldRequest, Named, Nodes};
@@ -19,7 +19,7 @@ pub(crate) fn held_request<A: Allocator + Copy, S: NodeStore>(
     nodes: &Nodes<S>,
     request: &Request<'_>,
 ) -> Result<HeldRequest<A>, AllocError>
-    requires { is_held request.now.nodeid (request_content request.now.body) ≡ true }
+    requires { holds_request request.now.nodeid (request_content request.now.body) ≡ true }
     ensures { IfOk result (λ held. held ≡ held_for nodes.now.table request.now.nodeid
         (request_content request.now.body)) }
 {
@@ -34,8 +34,8 @@ fn held_body<A: Allocator + Copy>(
     nodeid: u64,
     body: &RequestBody<'_>,
 ) -> Result<HeldBody<A>, AllocError>
-    requires { is_held nodeid (request_content body.now) ≡ true }
-    ensures { IfOk result (λ held. asked_of held ≡ body_of nodeid (request_content body.now)) }
+    requires { holds_request nodeid (request_content body.now) ≡ true }
+    ensures { IfOk result (λ held. asked_of held ≡ request_body_of nodeid (request_content body.now)) }
 {
     if let Some(operation) = operation_asked(nodeid, body) {
         let operation = operation.to_owned(alloc)?;
@@ -52,7 +52,7 @@ fn held_body<A: Allocator + Copy>(
 
 /// The nodes that a request names, with their generations.
 fn named_nodes<A: Allocator, S: NodeStore>(nodes: &Nodes<S>, body: &HeldBody<A>) -> Named
-    ensures { named_in result ≡ generations_of nodes.now.table (asked_of body.now) }
+    ensures { nodes_named result ≡ generations_of nodes.now.table (asked_of body.now) }
 {
     match body {
         HeldBody::Init { .. } => Named::Nothing,
@@ -66,7 +66,7 @@ fn nodes_of_operation<A: Allocator, S: NodeStore>(
     nodes: &Nodes<S>,
     operation: &HeldOperation<A>,
 ) -> Named
-    ensures { named_in result ≡ generations_of nodes.now.table (asks (operation_of operation.now)) }
+    ensures { nodes_named result ≡ generations_of nodes.now.table (asks (held_operation_of operation.now)) }
 {
     let node = nodes.named(operation.header_node());
     match operation.body_node() {

@@ -10,7 +10,7 @@ ghost use Rattle.fk_wire.specs.Requests.{RequestMessage, Spells, opcode_of, requ
 ghost use Rattle.fuse_frames.specs.RequestTies.{body_in};
 ghost use Rattle.fs_server.specs.declared.server.ServerFault.TheVariants.{Memory as MemoryFault};
 ghost use Rattle.fs_server.specs.Effects.{AnswersFrame, CanTake, RefusesFrame, request_fault};
-ghost use Rattle.fs_server.specs.Taking.{IsFaultless, IsTakeable, answers, forgets_too_many, is_spoken, knows};
+ghost use Rattle.fs_server.specs.Taking.{IsFaultless, IsTakeable, answers, forgets_too_many, is_spoken, knows_nodes};
 
 use crate::server::{ServerFault, ServerOf};
 use fk_wire::{
@@ -53,7 +53,7 @@ impl<S: NodeStore> ServerOf<S> {
         ensures refused { IfErr result (RefusesFrame self.now bytes.now) }
         ensures other { IfErr result (λ fault. fault ≡ MemoryFault → ⊥) }
     {
-        self.within();
+        self.lemma_in_range();
         let Ok(request) = read_request(bytes) else {
             return Err(ServerFault::Wire);
         };
@@ -138,7 +138,7 @@ fn is_spoken(minor: Minor, nodeid: u64, body: &RequestBody<'_>) -> bool
 /// Whether each node is held that a request names or whose lookups it gives back.
 #[inline(always)]
 fn names_known<S: NodeStore>(nodes: &Nodes<S>, nodeid: u64, body: &RequestBody<'_>) -> bool
-    ensures { result ≡ knows nodes.now.table nodeid (request_content body.now) }
+    ensures { result ≡ knows_nodes nodes.now.table nodeid (request_content body.now) }
 {
     match body {
         RequestBody::Forget { .. } => nodes.is_counted(nodeid),

@@ -4,11 +4,11 @@ ghost use Rattle.std.specs.Prelude.{◌≡◌, ◌≤◌, false, IfOk};
 ghost use Rattle.fuse_spec.specs.Values.Numbers.{max_validity};
 ghost use Rattle.fuse_spec.specs.World.Worlds.{first_server};
 ghost use Rattle.fuse_spec.specs.Server.Copies.{connection_lost, remounted};
-ghost use Rattle.fs_nodes.specs.Rows.{listed};
+ghost use Rattle.fs_nodes.specs.Rows.{listed_nodes};
 ghost use Rattle.fs_nodes.specs.Sound.{IsSoundNodeTable};
 ghost use Rattle.fs_files.specs.Bounds.{AreNamed};
 ghost use Rattle.fs_server.specs.Sound.{AreApart};
-ghost use Rattle.fuse_spec.specs.Server.Refusals.{is_past_end};
+ghost use Rattle.fuse_spec.specs.Server.Refusals.{is_server_past_end};
 
 use crate::replies::{KeptReply, SentCopy};
 use fs_files::{Files, HeldRequest};
@@ -117,22 +117,22 @@ impl<S: NodeStore> ServerOf<S> {
     }
 
     /// No counter has given a number past its end, 2^62.
-    pub fn within(&self)
-        ensures { is_past_end self.now ≡ false }
+    pub fn lemma_in_range(&self)
+        ensures { is_server_past_end self.now ≡ false }
     {
-        self.files.within();
+        self.files.lemma_in_range();
     }
 
     /// After each call a file without a name is that of a node or of an open number. Each held node has a generation,
     /// and each open number and copy a number, that was given before the coming one. What a call gives is the coming
     /// one, and none goes back, so no pair of nodeid and generation and no open number is given twice (libfuse's
     /// low-level notes ask this of a server).
-    pub fn keeps_sound(&self)
+    pub fn lemma_sound(&self)
         ensures named { AreNamed self.now.tree self.now.nodes self.now.handles }
         ensures nodes { IsSoundNodeTable self.now.nodes }
         ensures apart { AreApart self.now.held self.now.kept self.now.copies self.now.next_copy }
     {
-        self.files.keeps_sound();
+        self.files.lemma_sound();
     }
 
     /// Whether the mount was aborted: then no copy is sent until the next one.
@@ -142,7 +142,7 @@ impl<S: NodeStore> ServerOf<S> {
         self.is_aborted
     }
 
-    /// The minor that is spoken since the last mount.
+    /// The minor that is for_minor since the last mount.
     pub fn minor(&self) -> Minor
         ensures { result ≡ self.now.minor }
     {
@@ -161,7 +161,7 @@ impl<S: NodeStore> ServerOf<S> {
 
     /// A new mount: the nodes, open numbers, held requests, kept replies and copies go, and so do nameless files; the
     /// tree stays, and generations, open numbers and copy numbers go on. Validities are in milliseconds; the minor is
-    /// the one that is spoken.
+    /// the one that is for_minor.
     pub fn remount(&mut self, found_ms: u64, missing_ms: u64, minor: Minor)
         requires found { found_ms ≤ max_validity }
         requires missing { missing_ms ≤ max_validity }
@@ -185,7 +185,7 @@ impl<S: NodeStore> ServerOf<S> {
     ///
     /// Memory was wanting.
     pub fn nodes(&self, alloc: S::Heap) -> Result<Vec<(u64, u64, u64), S::Heap>, AllocError>
-        ensures { IfOk result (λ nodes. nodes.items ≡ listed self.now.nodes.rows) }
+        ensures { IfOk result (λ nodes. nodes.items ≡ listed_nodes self.now.nodes.rows) }
     {
         self.files.nodes().nodes(alloc)
     }

@@ -9,8 +9,8 @@ ghost use Rattle.fk_wire.specs.Pairs.{pairs_in};
 ghost use Rattle.fk_wire.specs.Requests.{request_content};
 ghost use Rattle.fs_server.specs.declared.server.ServerFault.TheVariants.{Memory as MemoryFault};
 ghost use Rattle.fs_files.specs.Bounds.{AreNamed};
-ghost use Rattle.fs_server.specs.Effects.{CanTake, TakesBack, TakesFrame, RefusesFrame, WantsMemory};
-ghost use Rattle.fs_server.specs.Taking.{IsFaultless, body_of, forgets_in, forgets_too_many, is_forgetting, is_held};
+ghost use Rattle.fs_server.specs.Effects.{CanTake, TakesBack, TakesFrame, RefusesFrame, TakingNeedsMemory};
+ghost use Rattle.fs_server.specs.Taking.{IsFaultless, request_body_of, forgets_in, forgets_too_many, is_forgetting, holds_request};
 
 use crate::holding::held_request;
 use crate::interrupting::taken_as;
@@ -32,7 +32,7 @@ impl<S: NodeStore> ServerOf<S> {
         ensures refused { OnErr result (self.new ≡ self.old) }
         ensures effect { MatchResult result (λ taken. TakesFrame self.old bytes.now taken self.new)
             (RefusesFrame self.old bytes.now) }
-        ensures memory { IfErr result (λ fault. fault ≡ MemoryFault → WantsMemory self.old bytes.now) }
+        ensures memory { IfErr result (λ fault. fault ≡ MemoryFault → TakingNeedsMemory self.old bytes.now) }
         ensures can { IfErr result (λ fault. fault ≡ MemoryFault → CanTake self.old bytes.now) }
     {
         let request = self.judged(bytes)?;
@@ -52,7 +52,7 @@ impl<S: NodeStore> ServerOf<S> {
     fn hold(&mut self, request: &Request<'_>) -> Result<Taken<S::Heap>, ServerFault>
         requires faultless { IsFaultless self.old request.now.unique request.now.nodeid
             (request_content request.now.body) }
-        requires holds { is_held request.now.nodeid (request_content request.now.body) ≡ true }
+        requires holds { holds_request request.now.nodeid (request_content request.now.body) ≡ true }
         ensures refused { OnErr result (self.new ≡ self.old) }
         ensures fault { IfErr result (λ fault. fault ≡ MemoryFault) }
         ensures taken { IfOk result (λ taken. taken ≡ record {
@@ -61,7 +61,7 @@ impl<S: NodeStore> ServerOf<S> {
           sent = None;
         }) }
         ensures held { OnOk result (self.new ≡ holding self.old request.now.unique
-            (body_of request.now.nodeid (request_content request.now.body))) }
+            (request_body_of request.now.nodeid (request_content request.now.body))) }
     {
         let Ok(()) = self.held.reserve(1) else {
             return Err(ServerFault::Memory);

@@ -7,7 +7,7 @@ use Rattle.fuse_spec.specs.Calls.Paths.{Name}
 use Rattle.fuse_spec.specs.Files.Operations.{rename}
 use Rattle.fuse_spec.specs.Files.Trees.{Tree, Named, file_at, is_directory, is_nameless, is_within, is_below}
 use Rattle.fuse_spec.specs.Files.FileOperations.{Check, first_refusal, refusal, is_dir, is_file, is_filled, replaces}
-use Rattle.fuse_spec.specs.Files.TreeShape.{IsBelow, is_top, is_in, IsShaped, Stands}
+use Rattle.fuse_spec.specs.Files.TreeShape.{IsBelow, is_top, is_in, IsShaped, IsInTree}
 use Rattle.fs_tree.proofs.Keeping.{length-without}
 use Rattle.fs_tree.proofs.BySerial.{find-gone}
 use Rattle.fs_tree.proofs.NameLinks.{find-kept}
@@ -187,7 +187,7 @@ module _ (tree : Tree) (top : ℕ) where
         → (steps : ℕ) × Within steps tree.names top dir
     steps_up dir (is_top _ at) directory = (0, eq-eqb dir top at)
     steps_up dir (is_in n _ there at below) directory =
-        let stands = All-contains (Stands tree) tree.names n shaped.names there in
+        let stands = All-contains (IsInTree tree) tree.names n shaped.names there in
         let rest = steps_up n.directory below stands.directory in
         (suc rest.0, up top rest.0 tree.names dir (n, first_is n dir there at directory, rest.1))
 

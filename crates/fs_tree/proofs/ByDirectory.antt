@@ -5,7 +5,7 @@ use Rattle.std.proofs.lemmas.List.{map-append, append-nil}
 use Rattle.std.proofs.lemmas.Grind.{common_steps}
 use Rattle.fuse_spec.specs.Values.Maps.{Map}
 use Rattle.fuse_spec.specs.Files.Trees.{Content, Named, is_at, same_name}
-use Rattle.fs_tree.specs.Stored.{Entry, in_directory, lead_in, listed, AreByDirectory}
+use Rattle.fs_tree.specs.Stored.{Entry, in_directory, lead_in, listed_names, AreByDirectory}
 use Rattle.fs_tree.proofs.ListLemmas.{filter-map}
 
 module _ {E : Type 0} where
@@ -132,7 +132,7 @@ records-in files after d e (x ∷ es) = by (nat_lt after x.serial) (records-in f
 pub listed-in : (entries : ℕ → List Entry) (names : List Named) → AreByDirectory entries names
     → (files : Map Content) (dir after : ℕ)
     → map (lead_in files) (filter (λ n. nat_lt after n.serial) (map (in_directory 0) (entries dir)))
-    ≡ listed files dir after names
+    ≡ listed_names files dir after names
 listed-in entries names by_dir files dir after =
     records-in files after 0 dir (entries dir) ∙ ap (λ l. map (lead_in files) (filter (λ n. nat_lt after n.serial) l))
     (by_dir dir)

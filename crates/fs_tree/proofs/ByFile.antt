@@ -7,7 +7,7 @@ use Rattle.std.proofs.lemmas.List.{map-append, append-nil}
 use Rattle.std.proofs.lemmas.List.Sums.{length-filter}
 use Rattle.std.proofs.lemmas.Grind.{common_steps}
 use Rattle.fuse_spec.specs.Files.Trees.{Named}
-use Rattle.fs_tree.specs.Stored.{AreBelow, IsRising, AreByFile, parent_of}
+use Rattle.fs_tree.specs.Stored.{AreKeysBelow, IsRising, AreByFile, parent_of}
 use Rattle.fs_tree.specs.Views.{named_of}
 use Rattle.fs_tree.specs.declared.rows.Row.{Row}
 use Rattle.fs_tree.proofs.ListLemmas.{filter-map}
@@ -44,7 +44,7 @@ module _ (parents : ℕ → List (ℕ × ℕ)) (names : List Named) (by_file : A
 
 -- ---- serials below the next
 
-below-mapped : (low next : ℕ) (names : List Named) → IsRising low names next → AreBelow next (map parent_of names)
+below-mapped : (low next : ℕ) (names : List Named) → IsRising low names next → AreKeysBelow next (map parent_of names)
 below-mapped low next [] rising = tt
 below-mapped low next (n ∷ names) rising = (
   first (n.serial) names rising.1,
@@ -56,7 +56,7 @@ below-mapped low next (n ∷ names) rising = (
     first s (m ∷ names) rising = let rest = first m.serial names rising.1 in omega (arith, rising.0)
 
 pub below-parents : (low next : ℕ) (parents : ℕ → List (ℕ × ℕ)) (names : List Named) → AreByFile parents names
-    → IsRising low names next → (file : ℕ) → AreBelow next (parents file)
+    → IsRising low names next → (file : ℕ) → AreKeysBelow next (parents file)
 below-parents low next parents names by_file rising file =
     rw (by_file file) (below-mapped low next (filter (λ n. nat_eq n.file file) names)
     (IsRising-where (λ n. nat_eq n.file file) low next names rising))
@@ -86,7 +86,7 @@ AreByFile-pushed parents after names n is by_file = λ k.
 pub AreByFile-undone : (parents put after : ℕ → List (ℕ × ℕ)) (names : List Named) (file serial directory : ℕ)
     → ((k : ℕ) → put k ≡ cond (nat_eq file k) (parents k ++ (serial, directory) ∷ []) (parents k))
     → ((k : ℕ) → after k ≡ cond (nat_eq file k) (filter (λ e. not (nat_eq e.0 serial)) (put k)) (put k))
-    → ((k : ℕ) → AreBelow serial (parents k)) → AreByFile parents names → AreByFile after names
+    → ((k : ℕ) → AreKeysBelow serial (parents k)) → AreByFile parents names → AreByFile after names
 AreByFile-undone parents put after names file serial directory is_put is below by_file = λ k.
     is k ∙ ap (λ l. cond (nat_eq file k) (filter (λ e. not (nat_eq e.0 serial)) l) l) (is_put k) ∙ by k
     (nat_eq file k) ∙ by_file k
@@ -141,7 +141,7 @@ module _ {A : Type 0} where
       by false other found rest = let back : nat_eq e.0 serial ≡ false =
           grind (arith, common_steps, other) in rw back (rest found)
 
-  pub below-rows : (low next : ℕ) (es : List (ℕ × Row A)) → IsRising low (map named_of es) next → AreBelow next es
+  pub below-rows : (low next : ℕ) (es : List (ℕ × Row A)) → IsRising low (map named_of es) next → AreKeysBelow next es
   below-rows low next [] rising = tt
   below-rows low next (e ∷ es) rising = (first e.0 es rising.1, below-rows (e.0 + 1) next es rising.1)
     where

@@ -12,8 +12,8 @@ use Rattle.std.proofs.lemmas.Grind.{common_steps}
 use Rattle.fuse_spec.specs.Values.Maps.{get, put, remove}
 use Rattle.fuse_spec.specs.Files.Trees.{Content, kind_of}
 use Rattle.fuse_spec.specs.declared.Kind.TheVariants.{Regular}
-use Rattle.fs_tree.specs.Stored.{AreBelow}
-use Rattle.fs_tree.specs.Views.{content_in, file_of}
+use Rattle.fs_tree.specs.Stored.{AreKeysBelow}
+use Rattle.fs_tree.specs.Views.{content_in, viewed_file}
 use Rattle.fs_tree.specs.declared.files.Content.{Content as Stored}
 
 -- the two tests of a key are one
@@ -94,7 +94,7 @@ module _ {V W : Type 0} (h : V → W) where
 
 module _ {V : Type 0} where
   -- a file put behind all others, and taken away again
-  pub put-undone : (es : List (ℕ × V)) (key : ℕ) (v : V) → AreBelow key es → remove (put es key v) key ≡ es
+  pub put-undone : (es : List (ℕ × V)) (key : ℕ) (v : V) → AreKeysBelow key es → remove (put es key v) key ≡ es
   put-undone [] key v below = let one : nat_eq key key ≡ true = grind (arith, common_steps) in rw one refl
   put-undone (e ∷ es) key v below =
       let lower : e.0 < key = below.0 in
@@ -102,7 +102,7 @@ module _ {V : Type 0} where
       rw (← nat_cmp_is key e.0 Greater (omega arith), other) (ap (λ l. e ∷ l) (put-undone es key v below.1))
 
 module _ {A : Type 0} where
-  pub there-kind : (es : List (ℕ × Stored A)) (file : ℕ) → kind_of (get (map file_of es) file) ≡ Regular
+  pub there-kind : (es : List (ℕ × Stored A)) (file : ℕ) → kind_of (get (map viewed_file es) file) ≡ Regular
       → IsSome (lookup (λ k. is_eq (nat_cmp file k)) es)
   there-kind es file kind = some_before content_in (lookup (λ k. is_eq (nat_cmp file k)) es)
       (there-content (option_map content_in (lookup (λ k. is_eq (nat_cmp file k)) es))

@@ -12,37 +12,37 @@ use Rattle.std.specs.Prelude.{IsTrue}
 use Rattle.fuse_spec.specs.declared.Kind.{Kind}
 use Rattle.fuse_spec.specs.declared.Kind.TheVariants.{Directory, Regular, Other}
 use Rattle.fs_tree.specs.Outcomes.{is_kind_regular}
-use Rattle.fs_tree.specs.Stored.{AreBelow, IsRising, IsKept}
+use Rattle.fs_tree.specs.Stored.{AreKeysBelow, IsRising, IsTreeKept}
 use Rattle.fs_tree.proofs.FileRows.{there-content}
 
 -- ---- births
 
 module _ {V : Type 0} where
-  pub AreBelow-more : (next more : ℕ) (es : List (ℕ × V)) → next ≤ more → AreBelow next es → AreBelow more es
+  pub AreBelow-more : (next more : ℕ) (es : List (ℕ × V)) → next ≤ more → AreKeysBelow next es → AreKeysBelow more es
   AreBelow-more next more [] le below = tt
   AreBelow-more next more (e ∷ es) le below = (omega (arith, below.0), AreBelow-more next more es le below.1)
 
-  pub AreBelow-put : (next key : ℕ) (v : V) (es : List (ℕ × V)) → key < next → AreBelow next es
-      → AreBelow next (put es key v)
+  pub AreBelow-put : (next key : ℕ) (v : V) (es : List (ℕ × V)) → key < next → AreKeysBelow next es
+      → AreKeysBelow next (put es key v)
   AreBelow-put next key v [] lt below = (lt, tt)
   AreBelow-put next key v (e ∷ es) lt below = by (nat_cmp key e.0) (AreBelow-put next key v es lt below.1)
     where
-      by : (r : Ordering) → AreBelow next (put es key v)
-          → AreBelow next (by_order r ((key, v) ∷ e ∷ es) ((e.0, v) ∷ es) (e ∷ put es key v))
+      by : (r : Ordering) → AreKeysBelow next (put es key v)
+          → AreKeysBelow next (by_order r ((key, v) ∷ e ∷ es) ((e.0, v) ∷ es) (e ∷ put es key v))
       by Less rest = (lt, below)
       by Equal rest = (below.0, below.1)
       by Greater rest = (below.0, rest)
 
-  pub AreBelow-where : (next : ℕ) (p : ℕ × V → Bool) (es : List (ℕ × V)) → AreBelow next es
-      → AreBelow next (filter p es)
+  pub AreBelow-where : (next : ℕ) (p : ℕ × V → Bool) (es : List (ℕ × V)) → AreKeysBelow next es
+      → AreKeysBelow next (filter p es)
   AreBelow-where next p [] below = tt
   AreBelow-where next p (e ∷ es) below = by (p e) (AreBelow-where next p es below.1)
     where
-      by : (b : Bool) → AreBelow next (filter p es) → AreBelow next (cond b (e ∷ filter p es) (filter p es))
+      by : (b : Bool) → AreKeysBelow next (filter p es) → AreKeysBelow next (cond b (e ∷ filter p es) (filter p es))
       by true rest = (below.0, rest)
       by false rest = rest
 
-  pub key_below : (next key : ℕ) (es : List (ℕ × V)) → AreBelow next es → IsSome (get es key) → key < next
+  pub key_below : (next key : ℕ) (es : List (ℕ × V)) → AreKeysBelow next es → IsSome (get es key) → key < next
   key_below next key [] below there = cc
   key_below next key (e ∷ es) below there = by (nat_cmp key e.0) refl there (key_below next key es below.1)
     where
@@ -100,10 +100,10 @@ module _ {E : Type 0} (p : E → Bool) where
 -- ---- the whole
 
 module _ (files : Map Content) (names : List Named) (births serials : ℕ)
-    (kept : IsKept files names births serials) where
+    (kept : IsTreeKept files names births serials) where
   -- one more name
   pub kept-named : (n : Named) → n.serial ≡ serials → length names < 4096 → serials < 2 ^ 62
-      → IsKept files (names ++ n ∷ []) births (serials + 1)
+      → IsTreeKept files (names ++ n ∷ []) births (serials + 1)
   kept-named n is few fits =
       record {
         born = kept.born;
@@ -114,7 +114,7 @@ module _ (files : Map Content) (names : List Named) (births serials : ℕ)
       }
 
   -- some names less
-  pub kept-where : (p : Named → Bool) → IsKept files (filter p names) births serials
+  pub kept-where : (p : Named → Bool) → IsTreeKept files (filter p names) births serials
   kept-where p =
       record {
         born = kept.born;
@@ -125,7 +125,7 @@ module _ (files : Map Content) (names : List Named) (births serials : ℕ)
       }
 
   -- one more file
-  pub kept-born : (c : Content) → births < 2 ^ 62 → IsKept (put files births c) names (births + 1) serials
+  pub kept-born : (c : Content) → births < 2 ^ 62 → IsTreeKept (put files births c) names (births + 1) serials
   kept-born c fits =
       record {
         born = AreBelow-put (births + 1) births c files (omega arith)
@@ -137,7 +137,7 @@ module _ (files : Map Content) (names : List Named) (births serials : ℕ)
       }
 
   -- some files less
-  pub kept-less : (p : ℕ × Content → Bool) → IsKept (filter p files) names births serials
+  pub kept-less : (p : ℕ × Content → Bool) → IsTreeKept (filter p files) names births serials
   kept-less p =
       record {
         born = AreBelow-where births p files kept.born;
@@ -149,7 +149,7 @@ module _ (files : Map Content) (names : List Named) (births serials : ℕ)
 
   -- other bytes in a regular file
   pub kept-written : (file : ℕ) (c : Content) → kind_of (get files file) ≡ Regular
-      → IsKept (put files file c) names births serials
+      → IsTreeKept (put files file c) names births serials
   kept-written file c regular =
       record {
         born = AreBelow-put births file c files (key_below births file files kept.born
@@ -167,10 +167,10 @@ fewer-found p names file None found at = cc
 fewer-found p names file (Some n) found at = length-without p names n found
 
 -- a file moved from one name to another
-pub kept-moved : (files : Map Content) (names : List Named) (births serials : ℕ) → IsKept files names births serials
+pub kept-moved : (files : Map Content) (names : List Named) (births serials : ℕ) → IsTreeKept files names births serials
     → (p q : Named → Bool) (n : Named) (file : ℕ) → n.serial ≡ serials
     → option_map (λ m. m.file) (find p names) ≡ Some file → serials < 2 ^ 62
-    → IsKept files (filter (λ m. not (q m)) (filter (λ m. not (p m)) names) ++ n ∷ []) births (serials + 1)
+    → IsTreeKept files (filter (λ m. not (q m)) (filter (λ m. not (p m)) names) ++ n ∷ []) births (serials + 1)
 kept-moved files names births serials kept p q n file is at fits =
     let fewer = fewer-found p names file (find p names) refl at in
     let few = kept.few in

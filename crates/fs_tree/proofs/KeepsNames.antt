@@ -5,7 +5,7 @@ use Rattle.std.proofs.lemmas.List.Elements.{All-filter}
 use Rattle.fuse_spec.specs.Values.Maps.{get, put}
 use Rattle.fuse_spec.specs.Calls.Paths.{Name}
 use Rattle.fuse_spec.specs.Files.Operations.{lookup, getattr, mkdir, create, unlink, rmdir, rename, link, opening, readdir, readdirplus, read, write}
-use Rattle.fuse_spec.specs.Files.Trees.{Tree, Named, Content, a_directory, a_file, bytes_of, file_at, is_at, is_nameless, overwritten, with_birth, with_name, without_name}
+use Rattle.fuse_spec.specs.Files.Trees.{Tree, Named, Content, a_directory, a_file, file_bytes, file_at, is_at, is_nameless, overwritten, with_birth, with_name, without_name}
 use Rattle.fuse_spec.specs.Files.FileOperations.{FileOperation, is_same, renamed, tree_unrefused}
 use Rattle.fuse_spec.specs.Files.TreeShape.{IsShaped, WritesRegular}
 use Rattle.fuse_spec.proofs.Tables.{get_put_there}
@@ -127,5 +127,5 @@ module _ (tree : Tree) (shaped : IsShaped tree) (x : ℕ) where
       was = elim (cases_eq x file) [
         | inl e ↦ subst (λ (y : ℕ). IsSome (get tree.files y)) (sym e) (there-content (get tree.files file) regular)
         | inr ne ↦ sym (ap is_some (get_put_there tree.files file
-            (a_file (overwritten (bytes_of (get tree.files file)) offset (b ∷ bytes))) x ne)) ∙ there
+            (a_file (overwritten (file_bytes (get tree.files file)) offset (b ∷ bytes))) x ne)) ∙ there
       ]

@@ -6,9 +6,9 @@ use Rattle.fuse_spec.specs.Values.Maps.{get, put}
 use Rattle.fuse_spec.specs.Values.Numbers.{eperm, enoent, eexist, enotdir, eisdir, einval, enospc, enotempty, max_names}
 use Rattle.fuse_spec.specs.Calls.Paths.{Name}
 use Rattle.fuse_spec.specs.Files.Operations.{lookup, getattr, mkdir, create, unlink, rmdir, rename, link, opening, readdir, readdirplus, read, write}
-use Rattle.fuse_spec.specs.Files.Trees.{Tree, Named, Content, a_directory, a_file, is_at, file_at, bytes_of, overwritten, is_directory, is_nameless, is_empty, with_name, without_name, with_birth}
+use Rattle.fuse_spec.specs.Files.Trees.{Tree, Named, Content, a_directory, a_file, is_at, file_at, file_bytes, overwritten, is_directory, is_nameless, is_empty, with_name, without_name, with_birth}
 use Rattle.fuse_spec.specs.Files.FileOperations.{FileOperation, Check, first_refusal, refusal, making, is_dir, is_file, is_filled, is_same, is_moved_below, replaces, renamed, tree_or, tree_unrefused, tree_after}
-use Rattle.fuse_spec.specs.Files.TreeShape.{IsShaped, Stands, WritesRegular, names_of}
+use Rattle.fuse_spec.specs.Files.TreeShape.{IsShaped, IsInTree, WritesRegular, names_leading_to}
 use Rattle.fuse_spec.proofs.Tables.{get_put_here}
 use Rattle.fuse_spec.proofs.QueueCounts.{count_by-push}
 use Rattle.fs_tree.proofs.Counting.{found_passes, found_there, none_passes, none_counted, each_fails, only_one, count_where, count_kept, count_fewer, all_gone}
@@ -53,7 +53,7 @@ module _ (tree : Tree) (shaped : IsShaped tree) (d : ℕ) (name : Name) (is_dir 
 
   -- a name more
   named_once : (file : ℕ) → IsSome (get tree.files file) → file ≢ 0
-      → (is_directory tree file ≡ true → names_of tree file ≡ 0) → IsShaped (with_name tree d name file)
+      → (is_directory tree file ≡ true → names_leading_to tree file ≡ 0) → IsShaped (with_name tree d name file)
   named_once file there other free = whole after (one_more tree
       (sound tree shaped) d name file is_dir there other free no_name)
       (All-push (IsInNamed after) tree.names new olds (still d named))
@@ -122,7 +122,7 @@ module _ (tree : Tree) (shaped : IsShaped tree) (d : ℕ) (name : Name) where
       still_of : (x : ℕ) → x ≢ file → is_nameless tree x ≡ false → is_nameless after x ≡ false
       still_of x other h =
           let kept = count_kept (λ n. nat_eq n.file x) (is_at d name) tree.names (apart_from file x at other) in
-          let le : names_of tree x ≤ names_of after x = omega (arith, kept) in
+          let le : names_leading_to tree x ≤ names_leading_to after x = omega (arith, kept) in
           still_named tree after x le h
 
       still : All (IsInNamed after) tree.names
@@ -162,11 +162,11 @@ module _ (tree : Tree) (shaped : IsShaped tree) (d : ℕ) (old : Name) (e : ℕ)
   moved_name = name_at (find (is_at d old) tree.names) file at
 
   moved_lies : Lies tree moved_name.0
-  moved_lies = let n = All-contains (Stands tree) tree.names moved_name.0 shaped.names
+  moved_lies = let n = All-contains (IsInTree tree) tree.names moved_name.0 shaped.names
       (found_there (is_at d old) tree.names moved_name.0 moved_name.1) in (n.directory, n.file, n.not_root)
 
   -- a directory that moves has no other name
-  nameless_between : is_directory tree file ≡ true → names_of gone file ≡ 0
+  nameless_between : is_directory tree file ≡ true → names_leading_to gone file ≡ 0
   nameless_between is =
       let one = shaped.one_name file is in
       let less = count_fewer (λ n. nat_eq n.file file) (is_at d old) tree.names moved_name.0 moved_name.1
@@ -185,7 +185,7 @@ module _ (tree : Tree) (shaped : IsShaped tree) (d : ℕ) (old : Name) (e : ℕ)
   keeps_name : (x : ℕ) → Apart tree shaped e new x → is_nameless tree x ≡ false → is_nameless after x ≡ false
   keeps_name x apart h = by (nat_eq file x) refl
     where
-      counted : names_of after x ≡ names_of gone x + cond (nat_eq file x) 1 0
+      counted : names_leading_to after x ≡ names_leading_to gone x + cond (nat_eq file x) 1 0
       counted = count_by-push (λ n. nat_eq n.file x) gone.names row
 
       by : (b : Bool) → nat_eq file x ≡ b → is_nameless after x ≡ false
@@ -339,7 +339,7 @@ module _ (tree : Tree) (shaped : IsShaped tree) where
   unrefused (read file offset size) free regular = shaped
   unrefused (write file offset []) free regular = shaped
   unrefused (write file offset (b ∷ bytes)) free regular =
-      with_bytes tree shaped file (overwritten (bytes_of (get tree.files file)) offset (b ∷ bytes)) regular
+      with_bytes tree shaped file (overwritten (file_bytes (get tree.files file)) offset (b ∷ bytes)) regular
 
   pub keeps : (operation : FileOperation) → WritesRegular tree operation → IsShaped (tree_after tree operation)
   keeps operation regular = by (refusal tree operation) refl

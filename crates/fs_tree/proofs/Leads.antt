@@ -3,8 +3,8 @@ use Rattle.std.proofs.Common.{◌≡◌, ℕ, ◌+◌, ◌-◌, Bool, true, fals
 use Rattle.fuse_spec.specs.Values.Maps.{Map}
 use Rattle.fuse_spec.specs.Files.Operations.{Dirent, DirentPlus, files_listed, first_listed, listed_by}
 use Rattle.fuse_spec.specs.Files.Trees.{Content, Named, fitting, fitting_pairs, record_length}
-use Rattle.fs_tree.specs.Stored.{dirent_in, files_led, fitting_with, lead_in, lead_pair, listed}
-use Rattle.fs_tree.specs.Views.{dirent_of, lead_of, pair_of}
+use Rattle.fs_tree.specs.Stored.{stored_dirent, files_led, fitting_with, lead_in, lead_pair, listed_names}
+use Rattle.fs_tree.specs.Views.{viewed_dirent, lead_of, viewed_pair}
 use Rattle.fs_tree.specs.declared.listing.Record.{Record}
 
 none_more : (n : ℕ) → 0 + n ≡ n
@@ -54,36 +54,36 @@ map_map f g (x ∷ xs) = ap (λ l. g (f x) ∷ l) (map_map f g xs)
 
 -- the records that a READDIR lists
 pub names-listed : (files : Map Content) (dir after room : ℕ) (names : List Named) (records : List Record)
-    → map lead_of records ≡ fitting_with 0 room (listed files dir after names)
-    → map dirent_of records ≡ fitting room (map (dirent_in files)
+    → map lead_of records ≡ fitting_with 0 room (listed_names files dir after names)
+    → map viewed_dirent records ≡ fitting room (map (stored_dirent files)
     (filter (λ n. nat_lt after n.serial) (filter (λ n. nat_eq n.directory dir) names)))
 names-listed files dir after room names records are =
     sym (map_map lead_of (λ r. r.1) records) ∙ ap (map (λ r. r.1)) are ∙ fitting-records room
-    (listed files dir after names)
+    (listed_names files dir after names)
     ∙ ap (fitting room) (map_map (lead_in files) (λ r. r.1)
     (filter (λ n. nat_lt after n.serial) (filter (λ n. nat_eq n.directory dir) names)))
 
 abbrev pair_in : ℕ → Map Content → Named → DirentPlus ℕ
-pair_in valid files n = record { file = Some n.file; valid = valid; dirent = dirent_in files n }
+pair_in valid files n = record { file = Some n.file; valid = valid; dirent = stored_dirent files n }
 
 -- the pairs that a READDIRPLUS lists
 pub pairs-listed : (valid : ℕ) (files : Map Content) (dir after room : ℕ) (names : List Named) (records : List Record)
-    → map lead_of records ≡ fitting_with 128 room (listed files dir after names)
-    → map (pair_of valid) records ≡ fitting_pairs room
+    → map lead_of records ≡ fitting_with 128 room (listed_names files dir after names)
+    → map (viewed_pair valid) records ≡ fitting_pairs room
     (map (pair_in valid files) (filter (λ n. nat_lt after n.serial) (filter (λ n. nat_eq n.directory dir) names)))
 pairs-listed valid files dir after room names records are =
     sym (map_map lead_of (lead_pair valid) records) ∙ ap (map (lead_pair valid)) are ∙ fitting-pairs valid room
-    (listed files dir after names)
+    (listed_names files dir after names)
     ∙ ap (fitting_pairs room) (map_map (lead_in files) (lead_pair valid)
     (filter (λ n. nat_lt after n.serial) (filter (λ n. nat_eq n.directory dir) names)))
 
 -- the files that they tell
 pub files-listed : (valid : ℕ) (files : Map Content) (dir after room : ℕ) (names : List Named)
-    → files_led (fitting_with 128 room (listed files dir after names))
+    → files_led (fitting_with 128 room (listed_names files dir after names))
     ≡ files_listed (fitting_pairs room (map (pair_in valid files)
     (filter (λ n. nat_lt after n.serial) (filter (λ n. nat_eq n.directory dir) names))))
 files-listed valid files dir after room names =
-    files-either valid (fitting_with 128 room (listed files dir after names)) ∙ ap files_listed
-    (fitting-pairs valid room (listed files dir after names)
+    files-either valid (fitting_with 128 room (listed_names files dir after names)) ∙ ap files_listed
+    (fitting-pairs valid room (listed_names files dir after names)
     ∙ ap (fitting_pairs room) (map_map (lead_in files) (lead_pair valid)
     (filter (λ n. nat_lt after n.serial) (filter (λ n. nat_eq n.directory dir) names))))

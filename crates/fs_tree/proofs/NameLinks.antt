@@ -12,8 +12,8 @@ use Rattle.std.proofs.lemmas.List.{map-append, append-nil, append_assoc}
 use Rattle.std.proofs.lemmas.Grind.{common_steps}
 use Rattle.fuse_spec.specs.Files.Operations.{Dirent, first_listed, listed_by}
 use Rattle.fuse_spec.specs.Files.Trees.{same_name, record_length}
-use Rattle.fs_tree.specs.Stored.{Entry, AreBefore, AreBelow, AreNamedOnce, IsRising, files_led, fitting_with, in_directory, lead_pair, without_key}
-use Rattle.fs_tree.specs.EntryViews.{entry_of, link_of, entry_link, link_in, AreLinked}
+use Rattle.fs_tree.specs.Stored.{Entry, AreBefore, AreKeysBelow, AreNamedOnce, IsRising, files_led, fitting_with, in_directory, lead_pair, without_key}
+use Rattle.fs_tree.specs.EntryViews.{leaf_entry, link_of, entry_link, link_in, AreLinked}
 use Rattle.fs_tree.specs.declared.entries.Leaf.{Leaf}
 use Rattle.fs_tree.specs.declared.entries.Link.{Link}
 use Rattle.fs_tree.proofs.ListLemmas.{filter-map}
@@ -120,59 +120,59 @@ AreNamedOnce-put es x once =
 
 module _ {A : Type 0} where
   kept-above : (serial : ℕ) (es : List (ℕ × Leaf A)) → AllByRecursion (λ y. nat_cmp serial y ≡ Less) (keys_of es)
-      → filter (λ e. not (nat_eq e.serial serial)) (map entry_of es) ≡ map entry_of es
+      → filter (λ e. not (nat_eq e.serial serial)) (map leaf_entry es) ≡ map leaf_entry es
   kept-above serial [] above = refl
   kept-above serial (e ∷ es) above =
       let lower : serial < e.0 = ranked serial e.0 Less (sym above.0) in
-      rw (other_back serial e.0 lower) (ap (λ l. entry_of e ∷ l) (kept-above serial es above.1))
+      rw (other_back serial e.0 lower) (ap (λ l. leaf_entry e ∷ l) (kept-above serial es above.1))
 
   above-found : (p : Entry → Bool) (serial : ℕ) (es : List (ℕ × Leaf A)) (x : Entry)
-      → AllByRecursion (λ y. nat_cmp serial y ≡ Less) (keys_of es) → find p (map entry_of es) ≡ Some x
+      → AllByRecursion (λ y. nat_cmp serial y ≡ Less) (keys_of es) → find p (map leaf_entry es) ≡ Some x
       → serial < x.serial
   above-found p serial [] x above found = cc
-  above-found p serial (e ∷ es) x above found = by (p (entry_of e)) found (above-found p serial es x above.1)
+  above-found p serial (e ∷ es) x above found = by (p (leaf_entry e)) found (above-found p serial es x above.1)
     where
-      by : (b : Bool) → cond b (Some (entry_of e)) (find p (map entry_of es)) ≡ Some x
-          → (find p (map entry_of es) ≡ Some x → serial < x.serial) → serial < x.serial
-      by true found rest = let one : entry_of e ≡ x = some_entry (entry_of e) x found in
+      by : (b : Bool) → cond b (Some (leaf_entry e)) (find p (map leaf_entry es)) ≡ Some x
+          → (find p (map leaf_entry es) ≡ Some x → serial < x.serial) → serial < x.serial
+      by true found rest = let one : leaf_entry e ≡ x = some_entry (leaf_entry e) x found in
           subst (λ d. serial < d.serial) one (ranked serial e.0 Less (sym above.0))
       by false found rest = rest found
 
   -- a name is left out by its serial
   pub name-serial : (name : List ℕ) (es : List (ℕ × Leaf A)) (x : Entry) → IsStrictlySortedBy nat_cmp (keys_of es)
-      → AreNamedOnce (map entry_of es) → find (λ e. same_name e.name name) (map entry_of es) ≡ Some x
-      → filter (λ e. not (nat_eq e.serial x.serial)) (map entry_of es)
-      ≡ filter (λ e. not (same_name e.name name)) (map entry_of es)
+      → AreNamedOnce (map leaf_entry es) → find (λ e. same_name e.name name) (map leaf_entry es) ≡ Some x
+      → filter (λ e. not (nat_eq e.serial x.serial)) (map leaf_entry es)
+      ≡ filter (λ e. not (same_name e.name name)) (map leaf_entry es)
   unfolding IsStrictlySortedBy
   name-serial name [] x sorted once found = cc
   name-serial name (e ∷ es) x sorted once found = by (same_name e.1.name.items name) refl found
       (name-serial name es x sorted.1 once.1)
     where
       by : (b : Bool) → same_name e.1.name.items name ≡ b
-          → cond b (Some (entry_of e)) (find (λ e. same_name e.name name) (map entry_of es)) ≡ Some x
-          → (find (λ e. same_name e.name name) (map entry_of es) ≡ Some x
-          → filter (λ e. not (nat_eq e.serial x.serial)) (map entry_of es)
-          ≡ filter (λ e. not (same_name e.name name)) (map entry_of es))
-          → filter (λ e. not (nat_eq e.serial x.serial)) (map entry_of (e ∷ es))
-          ≡ cond (not b) (entry_of e ∷ filter (λ e. not (same_name e.name name)) (map entry_of es))
-          (filter (λ e. not (same_name e.name name)) (map entry_of es))
+          → cond b (Some (leaf_entry e)) (find (λ e. same_name e.name name) (map leaf_entry es)) ≡ Some x
+          → (find (λ e. same_name e.name name) (map leaf_entry es) ≡ Some x
+          → filter (λ e. not (nat_eq e.serial x.serial)) (map leaf_entry es)
+          ≡ filter (λ e. not (same_name e.name name)) (map leaf_entry es))
+          → filter (λ e. not (nat_eq e.serial x.serial)) (map leaf_entry (e ∷ es))
+          ≡ cond (not b) (leaf_entry e ∷ filter (λ e. not (same_name e.name name)) (map leaf_entry es))
+          (filter (λ e. not (same_name e.name name)) (map leaf_entry es))
       by true s found rest =
-          let one : entry_of e ≡ x = some_entry (entry_of e) x found in
+          let one : leaf_entry e ≡ x = some_entry (leaf_entry e) x found in
           let at_name : e.1.name.items ≡ name = same_name-equal e.1.name.items name s in
-          let none : find (λ d. same_name d.name name) (map entry_of es) ≡ None =
-          subst (λ n. find (λ d. same_name d.name n) (map entry_of es) ≡ None) at_name once.0 in
+          let none : find (λ d. same_name d.name name) (map leaf_entry es) ≡ None =
+          subst (λ n. find (λ d. same_name d.name n) (map leaf_entry es) ≡ None) at_name once.0 in
           let itself : nat_eq e.0 e.0 ≡ true = grind (arith, common_steps) in
-          let gone : filter (λ d. not (nat_eq d.serial e.0)) (map entry_of (e ∷ es)) ≡ map entry_of es =
+          let gone : filter (λ d. not (nat_eq d.serial e.0)) (map leaf_entry (e ∷ es)) ≡ map leaf_entry es =
           rw itself (kept-above e.0 es sorted.0) in
-          subst (λ y. filter (λ d. not (nat_eq d.serial y.serial)) (map entry_of (e ∷ es))
-          ≡ filter (λ d. not (same_name d.name name)) (map entry_of es)) one
-          (gone ∙ sym (filter-none (λ d. same_name d.name name) (map entry_of es) none))
+          subst (λ y. filter (λ d. not (nat_eq d.serial y.serial)) (map leaf_entry (e ∷ es))
+          ≡ filter (λ d. not (same_name d.name name)) (map leaf_entry es)) one
+          (gone ∙ sym (filter-none (λ d. same_name d.name name) (map leaf_entry es) none))
       by false s found rest =
           let other : nat_eq e.0 x.serial ≡ false = other_serial e.0 x.serial
           (above-found (λ d. same_name d.name name) e.0 es x sorted.0 found) in
-          rw other (ap (λ l. entry_of e ∷ l) (rest found))
+          rw other (ap (λ l. leaf_entry e ∷ l) (rest found))
 
-  pub below-entries : (next : ℕ) (es : List (ℕ × Leaf A)) → AreBefore next (map entry_of es) → AreBelow next es
+  pub below-entries : (next : ℕ) (es : List (ℕ × Leaf A)) → AreBefore next (map leaf_entry es) → AreKeysBelow next es
   below-entries next [] before = tt
   below-entries next (e ∷ es) before = (before.0, below-entries next es before.1)
 
@@ -259,45 +259,45 @@ module _ {A : Type 0} where
           (filter (λ e. not (same_name e.name x.name)) es) x apart
           ∙ find-kept (λ e. same_name e.name n) (λ e. same_name e.name x.name) (apart_names x.name n apart) es))
 
-module _ {A : Type 0} (name : List ℕ) (es : List (ℕ × Leaf A)) (once : AreNamedOnce (map entry_of es))
+module _ {A : Type 0} (name : List ℕ) (es : List (ℕ × Leaf A)) (once : AreNamedOnce (map leaf_entry es))
     (sorted : IsStrictlySortedBy nat_cmp (keys_of es)) where
-  gone-by : (o : Option Entry) → find (λ e. same_name e.name name) (map entry_of es) ≡ o
-      → map entry_of (without_key (option_map (λ e. e.serial) o) es)
-      ≡ filter (λ e. not (same_name e.name name)) (map entry_of es)
-  gone-by None found = sym (filter-none (λ e. same_name e.name name) (map entry_of es) found)
-  gone-by (Some x) found = filter-map entry_of (λ e. not (nat_eq e.0 x.serial)) (λ e. not (nat_eq e.serial x.serial))
+  gone-by : (o : Option Entry) → find (λ e. same_name e.name name) (map leaf_entry es) ≡ o
+      → map leaf_entry (without_key (option_map (λ e. e.serial) o) es)
+      ≡ filter (λ e. not (same_name e.name name)) (map leaf_entry es)
+  gone-by None found = sym (filter-none (λ e. same_name e.name name) (map leaf_entry es) found)
+  gone-by (Some x) found = filter-map leaf_entry (λ e. not (nat_eq e.0 x.serial)) (λ e. not (nat_eq e.serial x.serial))
       (λ e. refl) es ∙ name-serial name es x sorted once found
 
   -- a name goes by its serial
-  pub removed-entries : map entry_of (without_key (option_map (λ e. e.serial)
-      (find (λ e. same_name e.name name) (map entry_of es))) es)
-      ≡ filter (λ e. not (same_name e.name name)) (map entry_of es)
-  removed-entries = gone-by (find (λ e. same_name e.name name) (map entry_of es)) refl
+  pub removed-entries : map leaf_entry (without_key (option_map (λ e. e.serial)
+      (find (λ e. same_name e.name name) (map leaf_entry es))) es)
+      ≡ filter (λ e. not (same_name e.name name)) (map leaf_entry es)
+  removed-entries = gone-by (find (λ e. same_name e.name name) (map leaf_entry es)) refl
 
-  put-by : (serial : ℕ) (leaf : Leaf A) → AreBefore serial (map entry_of es) → (o : Option Entry)
-      → find (λ e. same_name e.name name) (map entry_of es) ≡ o
+  put-by : (serial : ℕ) (leaf : Leaf A) → AreBefore serial (map leaf_entry es) → (o : Option Entry)
+      → find (λ e. same_name e.name name) (map leaf_entry es) ≡ o
       → without_key (option_map (λ e. e.serial) o) (es ++ (serial, leaf) ∷ [])
       ≡ without_key (option_map (λ e. e.serial) o) es ++ (serial, leaf) ∷ []
   put-by serial leaf before None found = refl
   put-by serial leaf before (Some x) found =
       let lower : x.serial < serial = before-found (λ e. same_name e.name name) serial
-      (map entry_of es) x before found in
+      (map leaf_entry es) x before found in
       let other : nat_eq serial x.serial ≡ false = other_back x.serial serial lower in
       filter-append (λ e. not (nat_eq e.0 x.serial)) es ((serial, leaf) ∷ []) ∙ rw other refl
 
   -- a name put last, and the one before it taken away
-  pub put-entries : (serial : ℕ) (leaf : Leaf A) → AreBefore serial (map entry_of es)
-      → map entry_of (without_key (option_map (λ e. e.serial) (find (λ e. same_name e.name name) (map entry_of es)))
-      (insert_entry nat_cmp es serial leaf)) ≡ filter (λ e. not (same_name e.name name)) (map entry_of es)
-      ++ entry_of (serial, leaf) ∷ []
+  pub put-entries : (serial : ℕ) (leaf : Leaf A) → AreBefore serial (map leaf_entry es)
+      → map leaf_entry (without_key (option_map (λ e. e.serial) (find (λ e. same_name e.name name) (map leaf_entry es)))
+      (insert_entry nat_cmp es serial leaf)) ≡ filter (λ e. not (same_name e.name name)) (map leaf_entry es)
+      ++ leaf_entry (serial, leaf) ∷ []
   put-entries serial leaf before =
-      ap (λ l. map entry_of (without_key (option_map (λ e. e.serial)
-      (find (λ e. same_name e.name name) (map entry_of es))) l))
+      ap (λ l. map leaf_entry (without_key (option_map (λ e. e.serial)
+      (find (λ e. same_name e.name name) (map leaf_entry es))) l))
       (put-last es serial leaf (below-entries serial es before))
-      ∙ ap (map entry_of) (put-by serial leaf before (find (λ e. same_name e.name name) (map entry_of es)) refl)
-      ∙ map-append entry_of (without_key (option_map (λ e. e.serial)
-      (find (λ e. same_name e.name name) (map entry_of es))) es) ((serial, leaf) ∷ [])
-      ∙ ap (λ l. l ++ entry_of (serial, leaf) ∷ []) removed-entries
+      ∙ ap (map leaf_entry) (put-by serial leaf before (find (λ e. same_name e.name name) (map leaf_entry es)) refl)
+      ∙ map-append leaf_entry (without_key (option_map (λ e. e.serial)
+      (find (λ e. same_name e.name name) (map leaf_entry es))) es) ((serial, leaf) ∷ [])
+      ∙ ap (λ l. l ++ leaf_entry (serial, leaf) ∷ []) removed-entries
 
 -- ---- listing
 
@@ -316,20 +316,20 @@ and_true false = refl
 module _ {A : Type 0} where
   -- the names over a serial
   pub names-after : (after : ℕ) (es : List (ℕ × Leaf A))
-      → map (in_directory 0) (map entry_of (filter (λ e. is_lt (nat_cmp after e.0) && true) es))
-      ≡ filter (λ n. nat_lt after n.serial) (map (in_directory 0) (map entry_of es))
+      → map (in_directory 0) (map leaf_entry (filter (λ e. is_lt (nat_cmp after e.0) && true) es))
+      ≡ filter (λ n. nat_lt after n.serial) (map (in_directory 0) (map leaf_entry es))
   names-after after [] = refl
   names-after after (e ∷ es) = rw (and_true (is_lt (nat_cmp after e.0)), is_lt-nat_cmp after e.0)
       (by (nat_lt after e.0) (names-after after es))
     where
-      by : (b : Bool) → map (in_directory 0) (map entry_of (filter (λ e. is_lt (nat_cmp after e.0) && true) es))
-          ≡ filter (λ n. nat_lt after n.serial) (map (in_directory 0) (map entry_of es))
-          → map (in_directory 0) (map entry_of (cond b (e ∷ filter (λ e. is_lt (nat_cmp after e.0) && true) es)
+      by : (b : Bool) → map (in_directory 0) (map leaf_entry (filter (λ e. is_lt (nat_cmp after e.0) && true) es))
+          ≡ filter (λ n. nat_lt after n.serial) (map (in_directory 0) (map leaf_entry es))
+          → map (in_directory 0) (map leaf_entry (cond b (e ∷ filter (λ e. is_lt (nat_cmp after e.0) && true) es)
           (filter (λ e. is_lt (nat_cmp after e.0) && true) es)))
-          ≡ cond b (in_directory 0 (entry_of e) ∷ filter (λ n. nat_lt after n.serial)
-          (map (in_directory 0) (map entry_of es))) (filter (λ n. nat_lt after n.serial)
-          (map (in_directory 0) (map entry_of es)))
-      by true rest = ap (λ l. in_directory 0 (entry_of e) ∷ l) rest
+          ≡ cond b (in_directory 0 (leaf_entry e) ∷ filter (λ n. nat_lt after n.serial)
+          (map (in_directory 0) (map leaf_entry es))) (filter (λ n. nat_lt after n.serial)
+          (map (in_directory 0) (map leaf_entry es)))
+      by true rest = ap (λ l. in_directory 0 (leaf_entry e) ∷ l) rest
       by false rest = rest
 
 module _ (more : ℕ) (rest : List (ℕ × Dirent)) (r : ℕ × Dirent) (room len : ℕ)

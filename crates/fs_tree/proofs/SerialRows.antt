@@ -9,7 +9,7 @@ use Rattle.std.specs.List.{AllByRecursion}
 use Rattle.std.specs.List.Sorted.{IsStrictlySortedBy}
 use Rattle.std.specs.BTreeMap.{insert_entry}
 use Rattle.std.proofs.lemmas.Grind.{common_steps}
-use Rattle.fs_tree.specs.Stored.{AreBelow}
+use Rattle.fs_tree.specs.Stored.{AreKeysBelow}
 use Rattle.fs_tree.proofs.FileRows.{is_eq-nat_cmp, none_some}
 
 other_key : (a b : ℕ) → a < b → nat_eq b a ≡ false
@@ -24,7 +24,7 @@ swapped a b false e = grind (arith, common_steps, e)
 
 module _ {V : Type 0} where
   -- a key above all others is put last
-  pub put-last : (es : List (ℕ × V)) (key : ℕ) (v : V) → AreBelow key es
+  pub put-last : (es : List (ℕ × V)) (key : ℕ) (v : V) → AreKeysBelow key es
       → insert_entry nat_cmp es key v ≡ es ++ (key, v) ∷ []
   put-last [] key v below = refl
   put-last (e ∷ es) key v below =
@@ -57,7 +57,7 @@ module _ {V : Type 0} where
       by false other rest above = rw (swapped key e.0 false other) (ap (λ l. e ∷ l) rest)
 
   -- a key put last that goes again
-  pub put-undone : (es : List (ℕ × V)) (key : ℕ) (v : V) → AreBelow key es
+  pub put-undone : (es : List (ℕ × V)) (key : ℕ) (v : V) → AreKeysBelow key es
       → filter (λ e. not (nat_eq e.0 key)) (es ++ (key, v) ∷ []) ≡ es
   put-undone [] key v below = let one : nat_eq key key ≡ true = grind (arith, common_steps) in rw one refl
   put-undone (e ∷ es) key v below =

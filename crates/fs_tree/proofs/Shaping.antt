@@ -11,7 +11,7 @@ use Rattle.fuse_spec.specs.Values.Maps.{Map, get, put, remove}
 use Rattle.fuse_spec.specs.Calls.Paths.{Name}
 use Rattle.fuse_spec.specs.declared.Kind.TheVariants.{Regular}
 use Rattle.fuse_spec.specs.Files.Trees.{Tree, Named, Content, a_directory, a_file, is_at, same_name, kind_of, is_kind_directory, is_directory, is_nameless, is_empty, with_name}
-use Rattle.fuse_spec.specs.Files.TreeShape.{IsShaped, Stands, names_of}
+use Rattle.fuse_spec.specs.Files.TreeShape.{IsShaped, IsInTree, names_leading_to}
 use Rattle.fuse_spec.proofs.Tables.{tie_no, get_put_here, get_put_there, get_gone_there, get_gone}
 use Rattle.fuse_spec.proofs.QueueCounts.{count_by-push}
 use Rattle.fs_tree.specs.Outcomes.{discarded, only_root, without_nameless}
@@ -41,7 +41,7 @@ IsInNamed tree n = is_nameless tree n.directory ≡ false
 -- What is true of every tree, but that no name is in a nameless directory.
 pub record Sound (tree : Tree) : Type 0 where
   pub root : is_directory tree 0 ≡ true
-  pub one_name : (file : ℕ) → is_directory tree file ≡ true → names_of tree file ≤ 1
+  pub one_name : (file : ℕ) → is_directory tree file ≡ true → names_leading_to tree file ≤ 1
   pub names : All (Lies tree) tree.names
   pub once : (directory : ℕ) (name : Name) → count_by (is_at directory name) tree.names ≤ 1
   pub unborn : (file : ℕ) → tree.next_birth ≤ file → get tree.files file ≡ None
@@ -88,19 +88,19 @@ both_true false b e = absurd (cc)
 -- one name more, where none stands, of a file that is no directory with a name
 module _ (tree : Tree) (s : Sound tree) (d : ℕ) (name : Name) (file : ℕ) (is_dir : is_directory tree d ≡ true)
     (there : IsSome (get tree.files file)) (other : file ≢ 0)
-    (free_file : is_directory tree file ≡ true → names_of tree file ≡ 0)
+    (free_file : is_directory tree file ≡ true → names_leading_to tree file ≡ 0)
     (free : count_by (is_at d name) tree.names ≡ 0) where
-  one_name_more : (x : ℕ) → is_directory tree x ≡ true → names_of (with_name tree d name file) x ≤ 1
+  one_name_more : (x : ℕ) → is_directory tree x ≡ true → names_leading_to (with_name tree d name file) x ≤ 1
   one_name_more x is = by (nat_eq file x) refl
     where
-      counted : names_of (with_name tree d name file) x ≡ names_of tree x + cond (nat_eq file x) 1 0
+      counted : names_leading_to (with_name tree d name file) x ≡ names_leading_to tree x + cond (nat_eq file x) 1 0
       counted = count_by-push (λ n. nat_eq n.file x) tree.names
           (record { directory = d; name = name; file = file; serial = tree.next_serial })
 
-      by : (b : Bool) → nat_eq file x ≡ b → names_of (with_name tree d name file) x ≤ 1
+      by : (b : Bool) → nat_eq file x ≡ b → names_leading_to (with_name tree d name file) x ≤ 1
       by true e =
           let same = same_number file x e in
-          let none : names_of tree x ≡ 0 = subst (λ y. names_of tree y ≡ 0) same
+          let none : names_leading_to tree x ≡ 0 = subst (λ y. names_leading_to tree y ≡ 0) same
           (free_file (subst (λ y. is_directory tree y ≡ true) (sym same) is)) in
           rw (counted, e) (omega (arith, none))
       by false e = let one = s.one_name x is in rw (counted, e) (omega (arith, one))
@@ -142,25 +142,25 @@ module _ (tree : Tree) (s : Sound tree) (d : ℕ) (name : Name) (file : ℕ) (is
 -- ---- files that have names
 
 -- a file with as many names or more is named as before
-pub still_named : (tree after : Tree) (x : ℕ) → names_of tree x ≤ names_of after x → is_nameless tree x ≡ false
+pub still_named : (tree after : Tree) (x : ℕ) → names_leading_to tree x ≤ names_leading_to after x → is_nameless tree x ≡ false
     → is_nameless after x ≡ false
 still_named tree after x le named = by (nat_eq x 0) named
   where
-    by : (b : Bool) → nat_eq (cond b 1 (names_of tree x)) 0 ≡ false → nat_eq (cond b 1 (names_of after x)) 0 ≡ false
+    by : (b : Bool) → nat_eq (cond b 1 (names_leading_to tree x)) 0 ≡ false → nat_eq (cond b 1 (names_leading_to after x)) 0 ≡ false
     by true e = refl
     by false e = grind (arith, nat_tests, le, e)
 
-pub has_name : (tree : Tree) (x : ℕ) → 1 ≤ names_of tree x → is_nameless tree x ≡ false
+pub has_name : (tree : Tree) (x : ℕ) → 1 ≤ names_leading_to tree x → is_nameless tree x ≡ false
 has_name tree x some = by (nat_eq x 0)
   where
-    by : (b : Bool) → nat_eq (cond b 1 (names_of tree x)) 0 ≡ false
+    by : (b : Bool) → nat_eq (cond b 1 (names_leading_to tree x)) 0 ≡ false
     by true = refl
     by false = grind (arith, nat_tests, some)
 
-nameless_none : (tree : Tree) (x : ℕ) → is_nameless tree x ≡ true → names_of tree x ≡ 0
+nameless_none : (tree : Tree) (x : ℕ) → is_nameless tree x ≡ true → names_leading_to tree x ≡ 0
 nameless_none tree x e = by (nat_eq x 0) e
   where
-    by : (b : Bool) → nat_eq (cond b 1 (names_of tree x)) 0 ≡ true → names_of tree x ≡ 0
+    by : (b : Bool) → nat_eq (cond b 1 (names_leading_to tree x)) 0 ≡ true → names_leading_to tree x ≡ 0
     by true e = absurd (cc)
     by false e = same_number _ _ e
 
@@ -205,7 +205,7 @@ module _ (tree : Tree) (shaped : IsShaped tree) (files : Map Content) (births : 
   }
     where
       by : (x : ℕ) → is_kind_directory (kind_of (get files x)) ≡ true → (b : Bool) → is_nameless tree x ≡ b
-          → names_of tree x ≤ 1
+          → names_leading_to tree x ≤ 1
       by x is true e = let none = nameless_none tree x e in omega (arith, none)
       by x is false e = shaped.one_name x (sym (same x e).1 ∙ is)
 
@@ -236,19 +236,19 @@ module _ (tree : Tree) (shaped : IsShaped tree) where
   pub named_there : (x : ℕ) → is_nameless tree x ≡ false → IsSome (get tree.files x)
   named_there x named = by (nat_eq x 0) refl named
     where
-      by : (b : Bool) → nat_eq x 0 ≡ b → nat_eq (cond b 1 (names_of tree x)) 0 ≡ false → IsSome (get tree.files x)
+      by : (b : Bool) → nat_eq x 0 ≡ b → nat_eq (cond b 1 (names_leading_to tree x)) 0 ≡ false → IsSome (get tree.files x)
       by true e h = subst (λ y. IsSome (get tree.files y)) (sym (same_number x 0 e))
           (directory_there (get tree.files 0) shaped.root)
       by false e h =
-          let some : 1 ≤ names_of tree x = grind (arith, nat_tests, h) in
+          let some : 1 ≤ names_leading_to tree x = grind (arith, nat_tests, h) in
           let found = one_found (λ n. nat_eq n.file x) tree.names some in
-          let stands = All-contains (Stands tree) tree.names found.0 shaped.names
+          let stands = All-contains (IsInTree tree) tree.names found.0 shaped.names
           (found_there (λ n. nat_eq n.file x) tree.names found.0 found.1) in
           subst (λ y. IsSome (get tree.files y)) (same_number found.0.file x
           (found_passes (λ n. nat_eq n.file x) tree.names found.0 found.1)) stands.file
 
   -- the coming file has no name
-  pub coming_nameless : names_of tree tree.next_birth ≡ 0
+  pub coming_nameless : names_leading_to tree tree.next_birth ≡ 0
   coming_nameless = none_counted (λ n. nat_eq n.file tree.next_birth) tree.names
       (λ i d lt. other_number _ tree.next_birth (born _ (shaped.names i d lt).file))
 
@@ -335,7 +335,7 @@ pub root_shaped : IsShaped only_root
 root_shaped = record {
   root = refl;
   one_name = λ file is. omega arith;
-  names = All-nil (Stands only_root);
+  names = All-nil (IsInTree only_root);
   once = λ d name. omega arith;
   unborn = λ file le. ap (λ b. cond b (Some a_directory) None) (tie_no file 0 (λ z. absurd (omega (arith, le, z))));
 }

@@ -16,8 +16,8 @@ abbrev pub entry_link : Entry → ℕ × ℕ
 entry_link e = (e.file, e.serial)
 
 module _ {A : Type 0} where
-  abbrev pub entry_of : ℕ × Leaf A → Entry
-  entry_of e = record { name = e.1.name.items; file = e.1.file; serial = e.0 }
+  abbrev pub leaf_entry : ℕ × Leaf A → Entry
+  leaf_entry e = record { name = e.1.name.items; file = e.1.file; serial = e.0 }
 
   -- The file to which a name leads, and its serial, among links by name.
   abbrev pub link_in : List (Vec ℕ A × Link) → List ℕ → Option (ℕ × ℕ)

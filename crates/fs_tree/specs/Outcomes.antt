@@ -12,47 +12,47 @@ use Rattle.fs_tree.specs.declared.error.TreeError.{TreeError}
 use Rattle.fs_tree.specs.declared.error.TreeError.TheVariants.{NotPermitted, NotFound, NoMemory, AlreadyExists, NotADirectory, IsADirectory, Invalid, FileTooLarge, NoSpace, NotEmpty}
 
 -- The error's number in errno.h.
-abbrev pub errno_of : TreeError → ℕ
-errno_of NotPermitted = eperm
-errno_of NotFound = enoent
-errno_of NoMemory = 12
-errno_of AlreadyExists = eexist
-errno_of NotADirectory = enotdir
-errno_of IsADirectory = eisdir
-errno_of Invalid = einval
-errno_of FileTooLarge = efbig
-errno_of NoSpace = enospc
-errno_of NotEmpty = enotempty
+abbrev pub tree_errno : TreeError → ℕ
+tree_errno NotPermitted = eperm
+tree_errno NotFound = enoent
+tree_errno NoMemory = 12
+tree_errno AlreadyExists = eexist
+tree_errno NotADirectory = enotdir
+tree_errno IsADirectory = eisdir
+tree_errno Invalid = einval
+tree_errno FileTooLarge = efbig
+tree_errno NoSpace = enospc
+tree_errno NotEmpty = enotempty
 
 -- The refusal that an error tells of. A want of memory comes only where nothing refuses.
-abbrev pub refusal_in : TreeError → Option ℕ
-refusal_in NotPermitted = Some eperm
-refusal_in NotFound = Some enoent
-refusal_in NoMemory = None
-refusal_in AlreadyExists = Some eexist
-refusal_in NotADirectory = Some enotdir
-refusal_in IsADirectory = Some eisdir
-refusal_in Invalid = Some einval
-refusal_in FileTooLarge = Some efbig
-refusal_in NoSpace = Some enospc
-refusal_in NotEmpty = Some enotempty
+abbrev pub tree_refusal_in : TreeError → Option ℕ
+tree_refusal_in NotPermitted = Some eperm
+tree_refusal_in NotFound = Some enoent
+tree_refusal_in NoMemory = None
+tree_refusal_in AlreadyExists = Some eexist
+tree_refusal_in NotADirectory = Some enotdir
+tree_refusal_in IsADirectory = Some eisdir
+tree_refusal_in Invalid = Some einval
+tree_refusal_in FileTooLarge = Some efbig
+tree_refusal_in NoSpace = Some enospc
+tree_refusal_in NotEmpty = Some enotempty
 
 -- What a test for a refusal answers: an error is the first refusal.
-abbrev pub Refuses : {T : Type 0} → Option ℕ → Result T TreeError → Type 0
-Refuses first result = MatchResult result (λ _. first ≡ None)
-    (λ e. (first ≡ refusal_in e) × (first ≡ Some (errno_of e)))
+abbrev pub RefusesWith : {T : Type 0} → Option ℕ → Result T TreeError → Type 0
+RefusesWith first result = MatchResult result (λ _. first ≡ None)
+    (λ e. (first ≡ tree_refusal_in e) × (first ≡ Some (tree_errno e)))
 
 -- The call was refused with this error: the first refusal of the operation, or a want of memory where there is none.
-abbrev pub IsRefused : Tree → FileOperation → TreeError → Type 0
-IsRefused tree operation error = refusal tree operation ≡ refusal_in error
+abbrev pub IsOperationRefused : Tree → FileOperation → TreeError → Type 0
+IsOperationRefused tree operation error = refusal tree operation ≡ tree_refusal_in error
 
 -- The same of a call that takes no memory.
 abbrev pub IsRefusedBy : Tree → FileOperation → TreeError → Type 0
-IsRefusedBy tree operation error = refusal tree operation ≡ Some (errno_of error)
+IsRefusedBy tree operation error = refusal tree operation ≡ Some (tree_errno error)
 
 -- Nothing refuses the operation, and this is its reply.
-abbrev pub IsReply : Tree → FileOperation → Reply ℕ ℕ → Type 0
-IsReply tree operation reply = (refusal tree operation ≡ None)
+abbrev pub IsOperationReply : Tree → FileOperation → Reply ℕ ℕ → Type 0
+IsOperationReply tree operation reply = (refusal tree operation ≡ None)
     × ((valid : Validity) → reply_unrefused valid tree operation ≡ reply)
 
 -- The tree with the root alone.

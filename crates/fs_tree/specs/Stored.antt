@@ -8,16 +8,16 @@ use Rattle.fuse_spec.specs.Files.Trees.{Content, Named, is_at, kind_of, record_l
 use Rattle.fuse_spec.specs.Values.Numbers.{counter_end, max_names}
 
 -- The record of READDIR for a name of one of these files.
-abbrev pub dirent_in : Map Content → Named → Dirent
-dirent_in files n = record { ino = n.file + 1; offset = n.serial; kind = kind_of (get files n.file); name = n.name }
+abbrev pub stored_dirent : Map Content → Named → Dirent
+stored_dirent files n = record { ino = n.file + 1; offset = n.serial; kind = kind_of (get files n.file); name = n.name }
 
 -- The file to which a name leads, with the name's record.
 abbrev pub lead_in : Map Content → Named → ℕ × Dirent
-lead_in files n = (n.file, dirent_in files n)
+lead_in files n = (n.file, stored_dirent files n)
 
 -- The same of the names in a directory whose serial is over `after`.
-abbrev pub listed : Map Content → ℕ → ℕ → List Named → List (ℕ × Dirent)
-listed files dir after names = map (lead_in files)
+abbrev pub listed_names : Map Content → ℕ → ℕ → List Named → List (ℕ × Dirent)
+listed_names files dir after names = map (lead_in files)
     (filter (λ n. nat_lt after n.serial) (filter (λ n. nat_eq n.directory dir) names))
 
 -- As many of these as fit so many bytes, from the first on, where each takes its record and so many bytes more.
@@ -35,9 +35,9 @@ abbrev pub files_led : List (ℕ × Dirent) → List ℕ
 files_led records = files_listed (map (lead_pair 0) records)
 
 -- Every key is below this number.
-abbrev pub AreBelow : {V : Type 0} → ℕ → List (ℕ × V) → Type 0
-AreBelow next [] = Unit {0}
-AreBelow next (e ∷ es) = (e.0 < next) × AreBelow next es
+abbrev pub AreKeysBelow : {V : Type 0} → ℕ → List (ℕ × V) → Type 0
+AreKeysBelow next [] = Unit {0}
+AreKeysBelow next (e ∷ es) = (e.0 < next) × AreKeysBelow next es
 
 -- The serials rise from name to name, from one number on, and stay below another.
 abbrev pub IsRising : ℕ → List Named → ℕ → Type 0
@@ -45,8 +45,8 @@ IsRising low [] next = low ≤ next
 IsRising low (n ∷ names) next = (low ≤ n.serial) × IsRising (n.serial + 1) names next
 
 -- No birth is drawn twice, names are in rising serial, and none is drawn twice; there are 4,096 names at most.
-pub record IsKept (files : Map Content) (names : List Named) (next_birth next_serial : ℕ) : Type 0 where
-  pub born : AreBelow next_birth files
+pub record IsTreeKept (files : Map Content) (names : List Named) (next_birth next_serial : ℕ) : Type 0 where
+  pub born : AreKeysBelow next_birth files
   pub rising : IsRising 1 names next_serial
   pub few : length names ≤ max_names
   pub births_fit : next_birth ≤ counter_end
@@ -68,11 +68,11 @@ abbrev pub AreBefore : ℕ → List Entry → Type 0
 AreBefore next [] = Unit {0}
 AreBefore next (e ∷ entries) = (e.serial < next) × AreBefore next entries
 
--- The names in a directory, where the directories that have any are listed.
+-- The names in a directory, where the directories that have any are listed_names.
 abbrev pub entries_in : List (ℕ × List Entry) → ℕ → List Entry
 entries_in directories dir = unwrap_or (lookup (nat_eq dir) directories) []
 
--- The directories of the names that lead to a file, by serial, where the files that have any are listed.
+-- The directories of the names that lead to a file, by serial, where the files that have any are listed_names.
 abbrev pub parents_in : List (ℕ × List (ℕ × ℕ)) → ℕ → List (ℕ × ℕ)
 parents_in files file = unwrap_or (lookup (nat_eq file) files) []
 
@@ -90,8 +90,8 @@ AreOnce [] = Unit {0}
 AreOnce (n ∷ names) = (find (is_at n.directory n.name) names ≡ None) × AreOnce names
 
 -- The serials rise from name to name.
-abbrev pub AreRising : List Named → Type 0
-AreRising names = (next : ℕ) × IsRising 1 names next
+abbrev pub AreSerialsRising : List Named → Type 0
+AreSerialsRising names = (next : ℕ) × IsRising 1 names next
 
 -- The names without the one of this serial, if there is one.
 abbrev pub without_serial : Option ℕ → List Named → List Named

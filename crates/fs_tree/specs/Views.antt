@@ -16,17 +16,17 @@ module _ {A : Type 0} where
   content_in Directory = a_directory
   content_in (Regular bytes) = a_file bytes.items
 
-  abbrev pub file_of : ℕ × Content A → ℕ × plain.Content
-  file_of e = (e.0, content_in e.1)
+  abbrev pub viewed_file : ℕ × Content A → ℕ × plain.Content
+  viewed_file e = (e.0, content_in e.1)
 
 -- The record of READDIR for a name. An inode number is one more than the file's birth.
-abbrev pub dirent_of : Record → Dirent
-dirent_of r = record { ino = r.file + 1; offset = r.serial; kind = r.kind; name = r.name.now }
+abbrev pub viewed_dirent : Record → Dirent
+viewed_dirent r = record { ino = r.file + 1; offset = r.serial; kind = r.kind; name = r.name.now }
 
 -- The same with the file to which the name leads.
 abbrev pub lead_of : Record → ℕ × Dirent
-lead_of r = (r.file, dirent_of r)
+lead_of r = (r.file, viewed_dirent r)
 
 -- The name as READDIRPLUS lists it, valid for so many milliseconds.
-abbrev pub pair_of : (valid : ℕ) → Record → DirentPlus ℕ
-pair_of valid r = record { file = Some r.file; valid = valid; dirent = dirent_of r }
+abbrev pub viewed_pair : (valid : ℕ) → Record → DirentPlus ℕ
+viewed_pair valid r = record { file = Some r.file; valid = valid; dirent = viewed_dirent r }

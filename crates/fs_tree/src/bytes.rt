@@ -5,7 +5,7 @@ ghost use Rattle.fuse_spec.specs.Files.Operations.{getattr, opening, read, write
 ghost use Rattle.fuse_spec.specs.Files.Trees.{attributes_of, overwritten};
 ghost use Rattle.fuse_spec.specs.Files.FileOperations.{refusal, tree_unrefused};
 ghost use Rattle.fuse_spec.specs.Values.Numbers.{counter_end, max_file};
-ghost use Rattle.fs_tree.specs.Outcomes.{IsRefused, IsReply, Refuses, is_regular};
+ghost use Rattle.fs_tree.specs.Outcomes.{IsOperationRefused, IsOperationReply, RefusesWith, is_regular};
 
 use crate::error::TreeError;
 use crate::tree::{ROOT, Tree};
@@ -34,7 +34,7 @@ impl<A: Allocator + Copy> Tree<A> {
     ///
     /// `IsADirectory` for a directory (EISDIR).
     pub fn open(&self, file: u64) -> Result<(), TreeError>
-        ensures { Refuses (refusal self.now (opening file)) result }
+        ensures { RefusesWith (refusal self.now (opening file)) result }
     {
         if self.is_directory(file) {
             return Err(TreeError::IsADirectory);
@@ -51,7 +51,7 @@ impl<A: Allocator + Copy> Tree<A> {
 
     /// The bytes of a file from an offset on: at most `size` and 4,096, fewer at the end of the file, none past it.
     pub fn read(&self, file: u64, offset: u64, size: u32) -> &[u8]
-        ensures { IsReply self.now (read file offset size) (content result.now) }
+        ensures { IsOperationReply self.now (read file offset size) (content result.now) }
     {
         let bytes = bytes_from(self.files.bytes(file), offset as usize);
         first_bytes(bytes, size.min(MAX_TRANSFER) as usize)
@@ -63,7 +63,7 @@ impl<A: Allocator + Copy> Tree<A> {
     ///
     /// `FileTooLarge` past 65,536 bytes (EFBIG; this project's rule).
     pub fn may_write(&self, file: u64, offset: u64, bytes: &[u8]) -> Result<(), TreeError>
-        ensures { Refuses (refusal self.now (write file offset bytes.now)) result }
+        ensures { RefusesWith (refusal self.now (write file offset bytes.now)) result }
     {
         if fits(offset, bytes.len()) {
             Ok(())
@@ -81,7 +81,7 @@ impl<A: Allocator + Copy> Tree<A> {
         requires { IsTrue (is_regular self.old file) }
         ensures ok { OnOk result ((refusal self.old (write file offset bytes.now) ≡ None)
             × (self.new ≡ tree_unrefused self.old (write file offset bytes.now))) }
-        ensures refused { IfErr result (IsRefused self.old (write file offset bytes.now)) }
+        ensures refused { IfErr result (IsOperationRefused self.old (write file offset bytes.now)) }
         ensures unchanged { OnErr result (self.new ≡ self.old) }
     {
         if !fits(offset, bytes.len()) {

@@ -51,12 +51,12 @@ impl<A: Allocator> Model for Entries<A> {
     ghost Value = { List Entry };
 
     ghost use Rattle.fs_tree.specs.Stored.{AreNamedOnce};
-    ghost use Rattle.fs_tree.specs.EntryViews.{entry_of, AreLinked};
+    ghost use Rattle.fs_tree.specs.EntryViews.{leaf_entry, AreLinked};
 
-    ghost view = { λ e. map entry_of e.names.entries };
+    ghost view = { λ e. map leaf_entry e.names.entries };
 
-    ghost invariant = { λ e. AreLinked e.links.entries (map entry_of e.names.entries)
-        × AreNamedOnce (map entry_of e.names.entries) };
+    ghost invariant = { λ e. AreLinked e.links.entries (map leaf_entry e.names.entries)
+        × AreNamedOnce (map leaf_entry e.names.entries) };
 }
 
 impl<A: Allocator + Copy> Entries<A> {

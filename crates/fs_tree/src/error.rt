@@ -1,7 +1,7 @@
 //! Why an operation was refused.
 
 ghost use Rattle.std.specs.Prelude.{◌≡◌};
-ghost use Rattle.fs_tree.specs.Outcomes.{errno_of};
+ghost use Rattle.fs_tree.specs.Outcomes.{tree_errno};
 
 use std::alloc::AllocError;
 use thiserror::Error;
@@ -34,7 +34,7 @@ pub enum TreeError {
 impl TreeError {
     /// The error's number in `errno.h`.
     pub fn errno(self) -> u8
-        ensures { result ≡ errno_of self }
+        ensures { result ≡ tree_errno self }
     {
         self as u8
     }

@@ -3,7 +3,7 @@
 ghost use Rattle.std.specs.Prelude.{◌≡◌, ◌+◌, ◌<◌, ◌≤◌, [], Some, filter, not, cond, count_by, length, nat_eq, OnErr, OnOk};
 ghost use Rattle.fuse_spec.specs.Values.Maps.{get, put, remove};
 ghost use Rattle.fuse_spec.specs.Values.Numbers.{max_file};
-ghost use Rattle.fuse_spec.specs.Files.Trees.{kind_of, bytes_of, a_file, overwritten};
+ghost use Rattle.fuse_spec.specs.Files.Trees.{kind_of, file_bytes, a_file, overwritten};
 ghost use Rattle.fuse_spec.specs.declared.Kind.TheVariants.{Regular};
 ghost use Rattle.fs_tree.specs.Views.{content_in};
 
@@ -33,7 +33,7 @@ impl<A: Allocator> Content<A> {
     }
 
     fn bytes(&self) -> &[u8]
-        ensures { result.now ≡ bytes_of (Some (content_in self.now)) }
+        ensures { result.now ≡ file_bytes (Some (content_in self.now)) }
     {
         match self {
             Content::Directory => &[],
@@ -47,7 +47,7 @@ impl<A: Allocator> Content<A> {
         requires some { 0 < length bytes.now }
         requires regular { kind_of (Some (content_in self.old)) ≡ Regular }
         ensures ok { OnOk result (content_in self.new
-            ≡ a_file (overwritten (bytes_of (Some (content_in self.old))) offset bytes.now)) }
+            ≡ a_file (overwritten (file_bytes (Some (content_in self.old))) offset bytes.now)) }
         ensures unchanged { OnErr result (content_in self.new ≡ content_in self.old) }
     {
         match self {
@@ -71,9 +71,9 @@ impl<A: Allocator> Model for Files<A> {
 
     ghost Value = { Map plain.Content };
 
-    ghost use Rattle.fs_tree.specs.Views.{file_of};
+    ghost use Rattle.fs_tree.specs.Views.{viewed_file};
 
-    ghost view = { λ f. map file_of f.contents.entries };
+    ghost view = { λ f. map viewed_file f.contents.entries };
 }
 
 impl<A: Allocator + Copy> Files<A> {
@@ -98,7 +98,7 @@ impl<A: Allocator + Copy> Files<A> {
     /// Of what kind a file is, and how many bytes it has; of a file that is not there, another kind and none.
     pub(crate) fn kind_and_size(&self, file: u64) -> (Kind, usize)
         ensures kind { result.0 ≡ kind_of (get self.now file) }
-        ensures size { result.1 ≡ length (bytes_of (get self.now file)) }
+        ensures size { result.1 ≡ length (file_bytes (get self.now file)) }
     {
         match self.contents.get(&file) {
             Some(content) => (content.kind(), content.bytes().len()),
@@ -108,7 +108,7 @@ impl<A: Allocator + Copy> Files<A> {
 
     /// The bytes of a file; of a directory, or of a file that is not there, none.
     pub(crate) fn bytes(&self, file: u64) -> &[u8]
-        ensures { result.now ≡ bytes_of (get self.now file) }
+        ensures { result.now ≡ file_bytes (get self.now file) }
     {
         match self.contents.get(&file) {
             Some(content) => content.bytes(),
@@ -140,7 +140,7 @@ impl<A: Allocator + Copy> Files<A> {
         requires some { 0 < length bytes.now }
         requires regular { kind_of (get self.old file) ≡ Regular }
         ensures ok { OnOk result (self.new
-            ≡ put self.old file (a_file (overwritten (bytes_of (get self.old file)) offset bytes.now))) }
+            ≡ put self.old file (a_file (overwritten (file_bytes (get self.old file)) offset bytes.now))) }
         ensures unchanged { OnErr result (self.new ≡ self.old) }
     {
         let Some(content) = self.contents.get_mut(&file) else {

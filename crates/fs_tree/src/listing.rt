@@ -4,8 +4,8 @@ ghost use Rattle.std.specs.Prelude.{◌≡◌, ◌+◌, ◌*◌, ◌/◌, ◌<�
 ghost use Rattle.fuse_spec.specs.Files.FileOperations.{refusal, reply_unrefused};
 ghost use Rattle.fuse_spec.specs.Files.Operations.{files_in_reply, readdir, readdirplus, listed, listed_plus};
 ghost use Rattle.fuse_spec.specs.declared.Validity.{Validity};
-ghost use Rattle.fs_tree.specs.Outcomes.{IsRefused, IsReply};
-ghost use Rattle.fs_tree.specs.Views.{dirent_of, pair_of};
+ghost use Rattle.fs_tree.specs.Outcomes.{IsOperationRefused, IsOperationReply};
+ghost use Rattle.fs_tree.specs.Views.{viewed_dirent, viewed_pair};
 
 use crate::Kind;
 use crate::error::TreeError;
@@ -43,9 +43,9 @@ impl<A: Allocator + Copy> Tree<A> {
         offset: u64,
         size: u32,
     ) -> Result<Vec<Record<'_>, A>, TreeError>
-        ensures ok { IfOk result (λ records. IsReply self.now (readdir directory offset size)
-            (listed (map dirent_of records.items))) }
-        ensures refused { IfErr result (IsRefused self.now (readdir directory offset size)) }
+        ensures ok { IfOk result (λ records. IsOperationReply self.now (readdir directory offset size)
+            (listed (map viewed_dirent records.items))) }
+        ensures refused { IfErr result (IsOperationRefused self.now (readdir directory offset size)) }
     {
         self.may_lookup(directory)?;
         let room = size.min(MAX_TRANSFER) as usize;
@@ -66,8 +66,8 @@ impl<A: Allocator + Copy> Tree<A> {
     ) -> Result<Vec<Record<'_>, A>, TreeError>
         ensures ok { IfOk result (λ records. (refusal self.now (readdirplus directory offset size) ≡ None)
             × ((valid : Validity) → reply_unrefused valid self.now (readdirplus directory offset size)
-            ≡ listed_plus (map (pair_of valid.found_ms) records.items))) }
-        ensures refused { IfErr result (IsRefused self.now (readdirplus directory offset size)) }
+            ≡ listed_plus (map (viewed_pair valid.found_ms) records.items))) }
+        ensures refused { IfErr result (IsOperationRefused self.now (readdirplus directory offset size)) }
     {
         self.may_lookup(directory)?;
         let room = size.min(MAX_TRANSFER) as usize;

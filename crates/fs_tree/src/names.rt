@@ -5,7 +5,7 @@ ghost use Rattle.fuse_spec.specs.Values.Maps.{Map};
 ghost use Rattle.fuse_spec.specs.Files.Trees.{Content, is_at, is_within, same_name};
 ghost use Rattle.fuse_spec.specs.Values.Numbers.{max_transfer};
 ghost use Rattle.fs_tree.specs.Views.{lead_of};
-ghost use Rattle.fs_tree.specs.Stored.{files_led, fitting_with, listed, AreRising, IsRising};
+ghost use Rattle.fs_tree.specs.Stored.{files_led, fitting_with, listed_names, AreSerialsRising, IsRising};
 
 use crate::directories::{Directories, close, close_empty, open, put_last_in, remove_from};
 use crate::entries::{Link, copy_of};
@@ -134,7 +134,7 @@ impl<A: Allocator + Copy> Names<A> {
 
     /// Takes the name in a directory away.
     pub(crate) fn remove(&mut self, directory: u64, name: &[u8])
-        requires { AreRising self.old }
+        requires { AreSerialsRising self.old }
         ensures { self.new ≡ filter (λ n. not (is_at directory name.now n)) self.old }
     {
         let serial = self.serial_at(directory, name);
@@ -219,7 +219,7 @@ impl<A: Allocator + Copy> Names<A> {
     ) -> Result<Vec<Record<'_>, A>, AllocError>
         requires { more ≤ 128 }
         ensures { IfOk result (λ records. map lead_of records.items
-            ≡ fitting_with more size (listed files.now directory after self.now)) }
+            ≡ fitting_with more size (listed_names files.now directory after self.now)) }
     {
         match self.directories.get(&directory) {
             Some(entries) => entries.list(files, after, size, more),
@@ -237,7 +237,7 @@ impl<A: Allocator + Copy> Names<A> {
     ) -> ArrayVec<u64, MOST_LISTED>
         requires { size ≤ max_transfer }
         ensures { (files : Map Content) → result.items ≡ files_led
-            (fitting_with 128 size (listed files directory after self.now)) }
+            (fitting_with 128 size (listed_names files directory after self.now)) }
     {
         match self.directories.get(&directory) {
             Some(entries) => entries.files_listed(after, size),

@@ -5,7 +5,7 @@ ghost use Rattle.fuse_spec.specs.Files.Operations.{mkdir, create, unlink, rmdir,
 ghost use Rattle.fuse_spec.specs.Files.Trees.{file_at, is_at, with_birth};
 ghost use Rattle.fuse_spec.specs.Files.FileOperations.{refusal, first_refusal, making, tree_unrefused, is_same};
 ghost use Rattle.fuse_spec.specs.Values.Numbers.{counter_end, max_names};
-ghost use Rattle.fs_tree.specs.Outcomes.{IsRefused, IsRefusedBy, Refuses, discarded, replacing, without_nameless};
+ghost use Rattle.fs_tree.specs.Outcomes.{IsOperationRefused, IsRefusedBy, RefusesWith, discarded, replacing, without_nameless};
 ghost use Rattle.fs_tree.specs.Views.{content_in};
 
 use crate::error::TreeError;
@@ -22,7 +22,7 @@ impl<A: Allocator + Copy> Tree<A> {
     /// `NotADirectory` (ENOTDIR), `NotFound` in a nameless directory (ENOENT), `AlreadyExists` (EEXIST), `NoSpace` at
     /// 4,096 names (ENOSPC; this project's rule).
     pub fn may_create(&self, directory: u64, name: &[u8]) -> Result<(), TreeError>
-        ensures refusal { Refuses (refusal self.now (mkdir directory name.now)) result }
+        ensures refusal { RefusesWith (refusal self.now (mkdir directory name.now)) result }
         ensures room { OnOk result (length self.now.names < max_names) }
         ensures free { OnOk result (find (is_at directory name.now) self.now.names ≡ None) }
     {
@@ -37,7 +37,7 @@ impl<A: Allocator + Copy> Tree<A> {
 
     /// Whether one more name in a directory is refused.
     fn may_add(&self, directory: u64, name: &[u8]) -> Result<(), TreeError>
-        ensures refusal { Refuses (first_refusal (making self.now directory name.now)) result }
+        ensures refusal { RefusesWith (first_refusal (making self.now directory name.now)) result }
         ensures room { OnOk result (length self.now.names < max_names) }
         ensures free { OnOk result (find (is_at directory name.now) self.now.names ≡ None) }
     {
@@ -61,7 +61,7 @@ impl<A: Allocator + Copy> Tree<A> {
         requires serials { self.old.next_serial < counter_end }
         ensures ok { IfOk result (λ file. (refusal self.old (mkdir directory name.now) ≡ None)
             × ((file ≡ self.old.next_birth) × (self.new ≡ tree_unrefused self.old (mkdir directory name.now)))) }
-        ensures refused { IfErr result (IsRefused self.old (mkdir directory name.now)) }
+        ensures refused { IfErr result (IsOperationRefused self.old (mkdir directory name.now)) }
         ensures unchanged { OnErr result (self.new ≡ self.old) }
     {
         self.make(directory, name, Content::Directory)
@@ -77,7 +77,7 @@ impl<A: Allocator + Copy> Tree<A> {
         requires serials { self.old.next_serial < counter_end }
         ensures ok { IfOk result (λ file. (refusal self.old (create directory name.now) ≡ None)
             × ((file ≡ self.old.next_birth) × (self.new ≡ tree_unrefused self.old (create directory name.now)))) }
-        ensures refused { IfErr result (IsRefused self.old (create directory name.now)) }
+        ensures refused { IfErr result (IsOperationRefused self.old (create directory name.now)) }
         ensures unchanged { OnErr result (self.new ≡ self.old) }
     {
         let bytes = Vec::new(self.alloc);
@@ -90,7 +90,7 @@ impl<A: Allocator + Copy> Tree<A> {
         ensures ok { IfOk result (λ file. (refusal self.old (mkdir directory name.now) ≡ None)
             × ((file ≡ self.old.next_birth) × (self.new ≡ with_birth self.old directory name.now
             (content_in content)))) }
-        ensures refused { IfErr result (IsRefused self.old (mkdir directory name.now)) }
+        ensures refused { IfErr result (IsOperationRefused self.old (mkdir directory name.now)) }
         ensures unchanged { OnErr result (self.new ≡ self.old) }
     {
         self.may_create(directory, name)?;
@@ -112,7 +112,7 @@ impl<A: Allocator + Copy> Tree<A> {
     ///
     /// `NotADirectory` (ENOTDIR), `NotFound` (ENOENT), `IsADirectory` where the name is a directory's (EISDIR).
     pub fn may_unlink(&self, directory: u64, name: &[u8]) -> Result<(), TreeError>
-        ensures { Refuses (refusal self.now (unlink directory name.now)) result }
+        ensures { RefusesWith (refusal self.now (unlink directory name.now)) result }
     {
         if !self.is_directory(directory) {
             return Err(TreeError::NotADirectory);
@@ -148,7 +148,7 @@ impl<A: Allocator + Copy> Tree<A> {
     /// `NotADirectory` (ENOTDIR), `NotFound` (ENOENT), `NotADirectory` where the name is another file's, `NotEmpty`
     /// (ENOTEMPTY).
     pub fn may_rmdir(&self, directory: u64, name: &[u8]) -> Result<(), TreeError>
-        ensures { Refuses (refusal self.now (rmdir directory name.now)) result }
+        ensures { RefusesWith (refusal self.now (rmdir directory name.now)) result }
     {
         if !self.is_directory(directory) {
             return Err(TreeError::NotADirectory);
@@ -184,7 +184,7 @@ impl<A: Allocator + Copy> Tree<A> {
     /// `NotADirectory` (ENOTDIR), `NotFound` in a nameless directory (ENOENT), `NotPermitted` for a directory (EPERM),
     /// `NotFound` for a nameless file, `AlreadyExists` (EEXIST), `NoSpace` at 4,096 names (ENOSPC; this project's rule).
     pub fn may_link(&self, file: u64, directory: u64, name: &[u8]) -> Result<(), TreeError>
-        ensures refusal { Refuses (refusal self.now (link file directory name.now)) result }
+        ensures refusal { RefusesWith (refusal self.now (link file directory name.now)) result }
         ensures room { OnOk result (length self.now.names < max_names) }
         ensures free { OnOk result (find (is_at directory name.now) self.now.names ≡ None) }
     {
@@ -212,7 +212,7 @@ impl<A: Allocator + Copy> Tree<A> {
         requires serials { self.old.next_serial < counter_end }
         ensures ok { OnOk result ((refusal self.old (link file directory name.now) ≡ None)
             × (self.new ≡ tree_unrefused self.old (link file directory name.now))) }
-        ensures refused { IfErr result (IsRefused self.old (link file directory name.now)) }
+        ensures refused { IfErr result (IsOperationRefused self.old (link file directory name.now)) }
         ensures unchanged { OnErr result (self.new ≡ self.old) }
     {
         self.may_link(file, directory, name)?;
@@ -235,7 +235,7 @@ impl<A: Allocator + Copy> Tree<A> {
         new_directory: u64,
         new: &[u8],
     ) -> Result<Option<u64>, TreeError>
-        ensures refusal { Refuses (refusal self.now (rename directory old.now new_directory new.now)) result }
+        ensures refusal { RefusesWith (refusal self.now (rename directory old.now new_directory new.now)) result }
         ensures moved { IfOk result (λ moved. moved ≡ cond (is_same (file_at self.now directory old.now)
             (file_at self.now new_directory new.now)) None (file_at self.now directory old.now)) }
     {
@@ -260,7 +260,7 @@ impl<A: Allocator + Copy> Tree<A> {
 
     /// Whether it is refused that a file replaces another one, and else the file.
     fn may_replace(&self, moved: u64, there: u64) -> Result<Option<u64>, TreeError>
-        ensures refusal { Refuses (first_refusal (replacing self.now (Some moved) (Some there))) result }
+        ensures refusal { RefusesWith (first_refusal (replacing self.now (Some moved) (Some there))) result }
         ensures moved { IfOk result (λ file. file ≡ Some moved) }
     {
         let is_directory = self.is_directory(moved);
@@ -292,7 +292,7 @@ impl<A: Allocator + Copy> Tree<A> {
         requires serials { self.old.next_serial < counter_end }
         ensures ok { OnOk result ((refusal self.old (rename directory old.now new_directory new.now) ≡ None)
             × (self.new ≡ tree_unrefused self.old (rename directory old.now new_directory new.now))) }
-        ensures refused { IfErr result (IsRefused self.old (rename directory old.now new_directory new.now)) }
+        ensures refused { IfErr result (IsOperationRefused self.old (rename directory old.now new_directory new.now)) }
         ensures unchanged { OnErr result (self.new ≡ self.old) }
     {
         let Some(file) = self.may_rename(directory, old, new_directory, new)? else {

@@ -2,7 +2,7 @@
 
 ghost use Rattle.std.specs.Prelude.{◌≡◌, ℕ, ◌++◌, ◌∷◌, [], not, filter, length, nat_eq, cond, slice_get, option_map, IsSome, OnErr, OnOk};
 ghost use Rattle.std.specs.Map.{lookup};
-ghost use Rattle.fs_tree.specs.Stored.{AreBelow, parents_in};
+ghost use Rattle.fs_tree.specs.Stored.{AreKeysBelow, parents_in};
 
 use indexmap::IndexMap;
 use std::alloc::{AllocError, Allocator};
@@ -54,7 +54,7 @@ impl<A: Allocator + Copy> Parents<A> {
 
     /// Puts a name last.
     fn put_last(&mut self, serial: u64, directory: u64) -> Result<(), AllocError>
-        requires { AreBelow serial self.old }
+        requires { AreKeysBelow serial self.old }
         ensures ok { OnOk result (self.new ≡ self.old ++ (serial, directory) ∷ []) }
         ensures unchanged { OnErr result (self.new ≡ self.old) }
     {
@@ -95,7 +95,7 @@ pub(crate) fn put_last_in<A: Allocator + Copy>(
     directory: u64,
 ) -> Result<(), AllocError>
     requires there { IsSome (lookup (nat_eq file) parents.old.entries) }
-    requires last { AreBelow serial (parents_in parents.old.entries file) }
+    requires last { AreKeysBelow serial (parents_in parents.old.entries file) }
     ensures ok { OnOk result ((k : ℕ) → parents_in parents.new.entries k
         ≡ cond (nat_eq file k) (parents_in parents.old.entries k ++ (serial, directory) ∷ [])
         (parents_in parents.old.entries k)) }

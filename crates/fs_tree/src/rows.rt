@@ -1,7 +1,7 @@
 //! The names of a tree by serial, and how many lead to a file.
 
 ghost use Rattle.std.specs.Prelude.{◌≡◌, ℕ, ◌++◌, ◌∷◌, [], find, length, count_by, nat_eq, option_map, OnOk, OnErr, Option};
-ghost use Rattle.fs_tree.specs.Stored.{AreRising, IsRising, without_serial};
+ghost use Rattle.fs_tree.specs.Stored.{AreSerialsRising, IsRising, without_serial};
 
 use crate::parents::{ParentsByFile, close, open, put_last_in, remove_from};
 use indexmap::IndexMap;
@@ -112,7 +112,7 @@ impl<A: Allocator + Copy> Rows<A> {
 
     /// Takes the name with this serial away, if there is one.
     pub(crate) fn remove(&mut self, serial: Option<u64>)
-        requires { AreRising self.old }
+        requires { AreSerialsRising self.old }
         ensures { self.new ≡ without_serial serial self.old }
     {
         let Some(serial) = serial else {

@@ -6,7 +6,7 @@ ghost use Rattle.fuse_spec.specs.Files.Trees.{is_directory, is_nameless, links, 
 ghost use Rattle.fuse_spec.specs.Files.FileOperations.{refusal};
 ghost use Rattle.fuse_spec.specs.Files.TreeShape.{IsShaped};
 ghost use Rattle.fuse_spec.specs.Values.Numbers.{counter_end, max_names};
-ghost use Rattle.fs_tree.specs.Outcomes.{IsRefusedBy, Refuses, only_root};
+ghost use Rattle.fs_tree.specs.Outcomes.{IsRefusedBy, RefusesWith, only_root};
 ghost use Rattle.fs_tree.specs.Stored.{IsRising};
 
 use crate::Kind;
@@ -36,7 +36,7 @@ impl<A: Allocator> Model for Tree<A> {
     ghost Value = { Tree };
 
     ghost use Rattle.fuse_spec.specs.Files.TreeShape.{IsShaped};
-    ghost use Rattle.fs_tree.specs.Stored.{IsKept};
+    ghost use Rattle.fs_tree.specs.Stored.{IsTreeKept};
 
     ghost view = { λ t. record {
       files = t.files;
@@ -45,7 +45,7 @@ impl<A: Allocator> Model for Tree<A> {
       next_serial = t.next_serial;
     } };
 
-    ghost invariant = { λ t. IsKept t.files t.names t.next_birth t.next_serial
+    ghost invariant = { λ t. IsTreeKept t.files t.names t.next_birth t.next_serial
         × IsShaped (record {
           files = t.files;
           names = t.names;
@@ -75,7 +75,7 @@ impl<A: Allocator + Copy> Tree<A> {
     }
 
     /// What is true of every tree is true of this one.
-    pub fn keeps_shape(&self)
+    pub fn lemma_shaped(&self)
         ensures { IsShaped self.now }
     {
         // A field is touched so that the type's invariant is at hand.
@@ -135,7 +135,7 @@ impl<A: Allocator + Copy> Tree<A> {
     ///
     /// `NotADirectory` for another file (ENOTDIR).
     pub fn may_lookup(&self, directory: u64) -> Result<(), TreeError>
-        ensures { Refuses (refusal self.now (lookup directory [])) result }
+        ensures { RefusesWith (refusal self.now (lookup directory [])) result }
     {
         if self.is_directory(directory) {
             Ok(())

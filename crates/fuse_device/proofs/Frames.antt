@@ -2,7 +2,7 @@
 use Rattle.std.proofs.Common.{◌≡◌, ◌-◌, ◌<◌, ◌≤◌, ◌++◌, ◌∙◌, ℕ, List, length, take, sym, ap, arith, length-append, append_assoc}
 use Rattle.std.proofs.lemmas.List.{take_at}
 use Rattle.byteorder.specs.Numbers.{little_from-append}
-use Rattle.fuse_device.specs.Streamed.{IsWhole, stated_len}
+use Rattle.fuse_device.specs.Streamed.{IsWholeFrame, stated_len}
 use borrow.Rule.Slice.PartMut.{put_mid, post_of}
 
 stated_len-append : (head rest : List ℕ) → length head ≡ 4 → stated_len (head ++ rest) ≡ stated_len head
@@ -20,7 +20,7 @@ frame_read head old body len four least is =
     ∙ take_at (head ++ body) post len (sym n)
 
 pub frame_whole : (n : ℕ) (head old body : List ℕ) (len : ℕ) → length head ≡ 4 → len ≡ stated_len (head ++ old) → n ≤ len
-    → length body ≡ len - 4 → 4 ≤ len → IsWhole n (head ++ body)
+    → length body ≡ len - 4 → 4 ≤ len → IsWholeFrame n (head ++ body)
 frame_whole n head old body len four is least body_is most =
     let all : len ≡ length (head ++ body) = omega (arith, length-append head body, four, body_is, most) in record {
       header = omega (arith, all, least);
@@ -29,7 +29,7 @@ frame_whole n head old body len four is least body_is most =
 
 -- less than a length and a body is no frame
 pub part_no_frame : (n : ℕ) (head old part : List ℕ) (len : ℕ) → length head ≡ 4 → len ≡ stated_len (head ++ old)
-    → length part < len - 4 → IsWhole n (head ++ part) → ⊥
+    → length part < len - 4 → IsWholeFrame n (head ++ part) → ⊥
 part_no_frame n head old part len four is less whole =
     let e : len ≡ length (head ++ part) = is ∙ stated_len-append head old four ∙ sym (stated_len-append head part four) ∙ whole.stated in
     omega (arith, e, length-append head part, four, less)

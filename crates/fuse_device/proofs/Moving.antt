@@ -5,10 +5,10 @@ use Rattle.std.specs.Io.KnownBytes.{Appends}
 use Rattle.std.proofs.KnownBytes.{Consumes-nil}
 use Rattle.fuse_spec.specs.declared.WriteResult.{WriteResult}
 use Rattle.fuse_device.specs.Transfers.{Transfer, sent, unsent}
-use Rattle.fuse_device.specs.Streamed.{Moves, Streamed, Writes, accepted_bytes}
+use Rattle.fuse_device.specs.Streamed.{MovesBytes, Streamed, Writes, accepted_bytes}
 use Rattle.fuse_device.specs.declared.device.DeviceEnd.{DeviceEnd}
 
-pub moves_one : (by : Transfer → List ℕ → Type 0) (t : Transfer) (bytes : List ℕ) → by t bytes → Moves by (t ∷ []) bytes
+pub moves_one : (by : Transfer → List ℕ → Type 0) (t : Transfer) (bytes : List ℕ) → by t bytes → MovesBytes by (t ∷ []) bytes
 moves_one by t bytes moved = (bytes, [], moved, refl, sym (append-nil bytes))
 
 module _ {R W : Type 0} (remaining : R → Option (List ℕ)) (contents : W → Option (List ℕ))

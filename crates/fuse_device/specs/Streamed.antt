@@ -21,19 +21,19 @@ abbrev pub stated_len : List ℕ → ℕ
 stated_len bytes = little_number 4 bytes
 
 -- the bytes are one whole frame, by its length: a header of so many bytes, and what it says follows
-pub record IsWhole (least : ℕ) (bytes : List ℕ) : Type 0 where
+pub record IsWholeFrame (least : ℕ) (bytes : List ℕ) : Type 0 where
   pub header : least ≤ length bytes
   pub stated : stated_len bytes ≡ length bytes
 
 -- A call read these bytes of a stream: the frame that was received, which is whole. At the other side's end, and where
 -- no frame came in time, it read none; and where the device failed no whole frame.
 abbrev pub ReadsStream : (least : ℕ) → Transfer → List ℕ → Type 0
-ReadsStream least (received frame) bytes = (bytes ≡ frame) × IsWhole least frame
+ReadsStream least (received frame) bytes = (bytes ≡ frame) × IsWholeFrame least frame
 ReadsStream least (sent frame result) bytes = bytes ≡ []
 ReadsStream least (unsent frame end) bytes = bytes ≡ []
 ReadsStream least (stopped Ended) bytes = bytes ≡ []
 ReadsStream least (stopped TimedOut) bytes = bytes ≡ []
-ReadsStream least (stopped Failed) bytes = IsWhole least bytes → ⊥
+ReadsStream least (stopped Failed) bytes = IsWholeFrame least bytes → ⊥
 
 -- the bytes of a frame that reach a writer, by its result
 abbrev pub accepted_bytes : List ℕ → WriteResult → List ℕ
@@ -50,14 +50,14 @@ Writes (unsent frame end) bytes = (n : ℕ) × (bytes ≡ take n frame)
 Writes (stopped end) bytes = bytes ≡ []
 
 -- These calls moved these bytes, each as this says, one after another.
-abbrev pub Moves : (Transfer → List ℕ → Type 0) → List Transfer → List ℕ → Type 0
-Moves by [] bytes = bytes ≡ []
-Moves by (t ∷ log) bytes = (front : List ℕ) × (rest : List ℕ)
-    × by t front × Moves by log rest × (bytes ≡ front ++ rest)
+abbrev pub MovesBytes : (Transfer → List ℕ → Type 0) → List Transfer → List ℕ → Type 0
+MovesBytes by [] bytes = bytes ≡ []
+MovesBytes by (t ∷ log) bytes = (front : List ℕ) × (rest : List ℕ)
+    × by t front × MovesBytes by log rest × (bytes ≡ front ++ rest)
 
-pub Moves-append : (by : Transfer → List ℕ → Type 0) (h k : List Transfer) (bs cs : List ℕ) → Moves by h bs
-    → Moves by k cs → Moves by (h ++ k) (bs ++ cs)
-Moves-append by [] k bs cs none there = subst (λ (l : List ℕ). Moves by k (l ++ cs)) (sym none) there
+pub Moves-append : (by : Transfer → List ℕ → Type 0) (h k : List Transfer) (bs cs : List ℕ) → MovesBytes by h bs
+    → MovesBytes by k cs → MovesBytes by (h ++ k) (bs ++ cs)
+Moves-append by [] k bs cs none there = subst (λ (l : List ℕ). MovesBytes by k (l ++ cs)) (sym none) there
 Moves-append by (t ∷ h) k bs cs (front, rest, moved, others, is) there = (
   front,
   rest ++ cs,
@@ -71,10 +71,10 @@ module _ {R W : Type 0} (remaining : R → Option (List ℕ)) (contents : W → 
   -- The reader gave the bytes that these calls read, each as `reads` says, and the writer took those that they wrote.
   pub record Streamed (old_reader new_reader : R) (old_writer new_writer : W) (log : List Transfer) : Type 0 where
     pub read : List ℕ
-    pub moved : Moves reads log read
+    pub moved : MovesBytes reads log read
     pub given : Consumes (remaining old_reader) (remaining new_reader) read
     pub written : List ℕ
-    pub writes : Moves Writes log written
+    pub writes : MovesBytes Writes log written
     pub taken : Appends (contents old_writer) (contents new_writer) written
 
   pub nothing_streamed : (reader : R) (writer : W) → Streamed reader reader writer writer []

@@ -2,7 +2,7 @@
 
 ghost use Rattle.std.specs.Prelude.{◌≡◌, ℕ, ◌+◌, ◌<◌, ◌≤◌, ◌++◌, [], List, length, take, IfErr, IfOk, IsErrOf, OnOk, OnErr};
 ghost use Rattle.std.specs.Io.KnownBytes.{Appends, Consumes};
-ghost use Rattle.fuse_device.specs.Streamed.{IsWhole, ReadsStream};
+ghost use Rattle.fuse_device.specs.Streamed.{IsWholeFrame, ReadsStream};
 ghost use Rattle.fuse_device.specs.Transfers.{stopped};
 
 use crate::device::{Device, DeviceEnd};
@@ -68,7 +68,7 @@ fn fill<R: Read>(from: &mut R, room: &mut [u8], gives_up: bool) -> Result<(), De
 /// Reads one frame into the front of the room, and says how many bytes it has.
 fn read_frame<R: Read>(from: &mut R, room: &mut [u8], cut: Cut) -> Result<usize, DeviceEnd>
     ensures count { IfOk result (λ n. n ≤ length room.new) }
-    ensures frame { IfOk result (λ n. IsWhole cut.least (take n room.new)
+    ensures frame { IfOk result (λ n. IsWholeFrame cut.least (take n room.new)
         × Consumes (R.remaining from.old) (R.remaining from.new) (take n room.new)) }
     ensures end { IfErr result (λ end. (bytes : List ℕ) × ReadsStream cut.least (stopped end) bytes
         × Consumes (R.remaining from.old) (R.remaining from.new) bytes) }

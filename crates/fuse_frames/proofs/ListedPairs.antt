@@ -12,7 +12,7 @@ use Rattle.std.proofs.lemmas.Int.{ints}
 use Rattle.std.proofs.lemmas.List.{append-nil}
 use Rattle.fk_wire.specs.declared.opcode.Opcode.TheVariants as op
 use Rattle.fk_wire.specs.Fields.{u32, u64}
-use Rattle.fk_wire.specs.Opcodes.{served}
+use Rattle.fk_wire.specs.Opcodes.{latest_minor}
 use Rattle.fk_wire.specs.Requests.{max_frame}
 use Rattle.fk_wire.specs.Replies.{plus_reply, ReplyMessage, WrittenReply, GoesWith, IsErrorNumber, kind_of_content}
 use Rattle.fk_wire.proofs.Frames.{reply_frame}
@@ -22,7 +22,7 @@ use Rattle.fuse_spec.specs.declared.Kind.TheVariants.{Directory, Regular, Other}
 use Rattle.fuse_spec.specs.declared.Attributes.{Attributes}
 use Rattle.fuse_spec.specs.Values.Numbers.{max_validity}
 use Rattle.fuse_spec.specs.Files.Operations.{DirentPlus}
-use Rattle.fuse_frames.specs.ReplyTies.{pairs_listed, pairs_told, entry_told, entry_for, file_in, valid_in, pair_in, pair_of, dirent_in, dirent_of, attr_of, attributes_in, kind_of_mode, mode_of, milliseconds, framed_by, message_of}
+use Rattle.fuse_frames.specs.ReplyTies.{pairs_listed, pairs_told, entry_told, written_entry_for, file_named, valid_in, pair_in, written_pair, dirent_read, dirent_written, attr_of, attributes_in, kind_of_mode, mode_of, milliseconds, framed_by, message_of}
 use Rattle.fuse_frames.proofs.ReplyLemmas.{reads_as_itself}
 
 -- ---- how they are written
@@ -114,7 +114,7 @@ by test nodeid generation seconds nanoseconds attr =
     if test then missing seconds nanoseconds else found nodeid generation seconds nanoseconds attr
 
 file_by : (test : Bool) (e : Entry) (seconds nanoseconds : ℕ)
-    → file_in (by test e.nodeid e.generation seconds nanoseconds (attr_of e.attributes)) ≡ cond test None (Some e)
+    → file_named (by test e.nodeid e.generation seconds nanoseconds (attr_of e.attributes)) ≡ cond test None (Some e)
 unfolding by
 file_by true e seconds nanoseconds = refl
 file_by false e seconds nanoseconds = ap (λ (a : Attributes). Some
@@ -126,7 +126,7 @@ unfolding by
 valid_by true nodeid generation seconds nanoseconds attr = refl
 valid_by false nodeid generation seconds nanoseconds attr = refl
 
-file_listed : (valid : ℕ) (e : Entry) (d : DirentContent) → file_in (listed valid e d).entry_out ≡ entry_told e
+file_listed : (valid : ℕ) (e : Entry) (d : DirentContent) → file_named (listed valid e d).entry_out ≡ entry_told e
 unfolding by
 file_listed valid e d = file_by (eqb e.nodeid 0) e (valid / 1000) (valid % 1000 * 1000000)
 
@@ -137,24 +137,24 @@ valid_listed valid e d most = valid_by (eqb e.nodeid 0) e.nodeid e.generation (v
     (attr_of e.attributes) ∙ reads_as_itself valid most
 
 pub pairs_say : (valid : ℕ) (es : List Entry) (ds : List DirentContent) → valid ≤ max_validity
-    → map pair_in (pairs_listed valid es ds) ≡ pairs_told valid es (map dirent_in ds)
+    → map pair_in (pairs_listed valid es ds) ≡ pairs_told valid es (map dirent_read ds)
 pairs_say valid (e ∷ es) (d ∷ ds) most =
     λ i. record {
       file = file_listed valid e d i;
       valid = valid_listed valid e d most i;
-      dirent = dirent_in d;
+      dirent = dirent_read d;
     } ∷ pairs_say valid es ds most i
 pairs_say valid [] ds most = refl
 pairs_say valid (e ∷ es) [] most = refl
 
-for_by : (test : Bool) (valid : ℕ) (e : Entry) → entry_for valid (cond test None (Some e))
+for_by : (test : Bool) (valid : ℕ) (e : Entry) → written_entry_for valid (cond test None (Some e))
     ≡ by test e.nodeid e.generation (valid / 1000) (valid % 1000 * 1000000) (attr_of e.attributes)
 unfolding by
 for_by true valid e = refl
 for_by false valid e = refl
 
 -- an entry that is read is written as it stood
-entry_back : (valid : ℕ) (e : Entry) → entry_for valid (entry_told e)
+entry_back : (valid : ℕ) (e : Entry) → written_entry_for valid (entry_told e)
     ≡ entry_of e.nodeid e.generation (valid / 1000) (valid % 1000 * 1000000) (attr_of e.attributes)
 unfolding by
 entry_back valid e = for_by (eqb e.nodeid 0) valid e
@@ -162,8 +162,8 @@ entry_back valid e = for_by (eqb e.nodeid 0) valid e
 first_same : {X : Type 0} {x y : X} {xs ys : List X} → x ∷ xs ≡ y ∷ ys → (x ≡ y) × (xs ≡ ys)
 first_same e = (cc, cc)
 
-pairs_back : (valid : ℕ) (es : List Entry) (ds : List DirentContent) → map dirent_of (map dirent_in ds) ≡ ds
-    → map pair_of (pairs_told valid es (map dirent_in ds)) ≡ pairs_listed valid es ds
+pairs_back : (valid : ℕ) (es : List Entry) (ds : List DirentContent) → map dirent_written (map dirent_read ds) ≡ ds
+    → map written_pair (pairs_told valid es (map dirent_read ds)) ≡ pairs_listed valid es ds
 pairs_back valid (e ∷ es) (d ∷ ds) types =
     let same = first_same types in
     λ i. record { entry_out = entry_back valid e i; dirent = same.0 i } ∷ pairs_back valid es ds same.1 i
@@ -175,14 +175,14 @@ pairs_back valid (e ∷ es) [] types = refl
 abbrev pub listing : (unique : ℕ) → List DirentPlusContent → ReplyMessage
 listing unique ps = record { unique = unique; error = pos 0; content = plus_reply ps }
 
-pub listing_goes : (unique : ℕ) (ps : List DirentPlusContent) → GoesWith served op.Readdirplus (listing unique ps)
+pub listing_goes : (unique : ℕ) (ps : List DirentPlusContent) → GoesWith latest_minor op.Readdirplus (listing unique ps)
 listing_goes unique ps = (kind_of_content (plus_reply []), refl, refl)
 
 pub listing_exact : (unique valid : ℕ) (es : List Entry) (ds : List DirentContent) → valid ≤ max_validity
-    → map dirent_of (map dirent_in ds) ≡ ds
+    → map dirent_written (map dirent_read ds) ≡ ds
     → listing unique (pairs_listed valid es ds) ≡ message_of (framed_by (listing unique (pairs_listed valid es ds)))
 listing_exact unique valid es ds most types =
-    let back = ap (λ (ps : List (DirentPlus Entry)). map pair_of ps)
+    let back = ap (λ (ps : List (DirentPlus Entry)). map written_pair ps)
     (pairs_say valid es ds most) ∙ pairs_back valid es ds types in
     ap (listing unique) (sym back)
 
@@ -195,7 +195,7 @@ listing_written unique size ps head new total small fits entries names range fir
     let body = spellings (direntpluses ps) in
     let none : IsErrorNumber (pos 0) = search (arith, ints) in
     let parts = ap (λ (x : List ℕ). x ++ body) first in
-    let frame = reply_frame served (listing unique ps) [] new (16 + size) (omega (arith, total)) small none refl
+    let frame = reply_frame latest_minor (listing unique ps) [] new (16 + size) (omega (arith, total)) small none refl
     (λ some. absurd (some refl)) entries names (omega arith) fits range
     (whole ∙ parts ∙ simp (append_assoc, append-nil)) in
     subst (λ (x : List ℕ). WrittenReply (listing unique ps) x) (sym frame.2) frame.1

@@ -8,7 +8,7 @@ use Rattle.fk_wire.specs.Replies.{decoded_reply}
 use Rattle.fk_wire.specs.declared.opcode.Opcode.{Opcode}
 use Rattle.fk_wire.specs.declared.opcode.Opcode.TheVariants as op
 use Rattle.fk_wire.specs.Entries.{missing, found}
-use Rattle.fk_wire.specs.Opcodes.{served}
+use Rattle.fk_wire.specs.Opcodes.{latest_minor}
 use Rattle.fk_wire.specs.Replies.{ReplyContent, empty_reply, entry_reply, attr_reply, open_reply, bytes_reply, write_reply, init_reply, create_reply, records_reply, plus_reply, ReplyMessage, GoesWith, WrittenReply, reply_kind, knows_kind, kind_of_content, IsErrorNumber}
 use Rattle.fk_wire.proofs.OneReply.{decoded_reply_is, error_fits}
 use Rattle.fk_wire.proofs.Frames.{spells_reply}
@@ -18,37 +18,37 @@ use Rattle.fuse_spec.specs.Values.Numbers.{max_validity}
 use Rattle.fuse_spec.specs.Files.Operations as reply
 use Rattle.fuse_spec.specs.Files.Operations.{Operation}
 use Rattle.fuse_spec.specs.Kernel.Replies.{goes_with, is_init_reply, is_empty_reply}
-use Rattle.fuse_frames.specs.ReplyTies.{SaysReply, IsReplyFrame, Framed, framed_by, said_in, message_of, content_of, error_of, has_reply, wire_said, wire_body, milliseconds}
+use Rattle.fuse_frames.specs.ReplyTies.{SaysReply, IsReplyFrame, Framed, framed_by, said_in, message_of, reply_content_of, error_of, has_reply, wire_said, wire_body, milliseconds}
 use Rattle.fuse_frames.specs.RequestTies.{asked_opcode}
 
 -- the bytes spell one reply to an opcode
-one_message : (o : Opcode) (bytes : List ℕ) (m : ReplyMessage) → GoesWith served o m → WrittenReply m bytes
+one_message : (o : Opcode) (bytes : List ℕ) (m : ReplyMessage) → GoesWith latest_minor o m → WrittenReply m bytes
     → decoded_reply o bytes ≡ m
-one_message o bytes m goes w = decoded_reply_is o bytes m (spells_reply served o m bytes goes w)
+one_message o bytes m goes w = decoded_reply_is o bytes m (spells_reply latest_minor o m bytes goes w)
 
-pub one_framed : (o : Opcode) (bytes : List ℕ) (m : ReplyMessage) → GoesWith served o m → WrittenReply m bytes
+pub one_framed : (o : Opcode) (bytes : List ℕ) (m : ReplyMessage) → GoesWith latest_minor o m → WrittenReply m bytes
     → record { unique = m.unique; wire = said_in o bytes } ≡ framed_by m
 unfolding said_in
 one_framed o bytes m goes w = ap (λ (n : ReplyMessage). record { unique = m.unique; wire = (framed_by n).wire })
     (one_message o bytes m goes w)
 
 -- Two messages that are written so have one unique.
-pub one_unique : (o : Opcode) (bytes : List ℕ) (m n : ReplyMessage) → GoesWith served o m → WrittenReply m bytes
-    → GoesWith served o n → WrittenReply n bytes → m.unique ≡ n.unique
+pub one_unique : (o : Opcode) (bytes : List ℕ) (m n : ReplyMessage) → GoesWith latest_minor o m → WrittenReply m bytes
+    → GoesWith latest_minor o n → WrittenReply n bytes → m.unique ≡ n.unique
 one_unique o bytes m n goes w goes_too w_too =
     ap (λ (x : ReplyMessage). x.unique) (sym (one_message o bytes m goes w) ∙ one_message o bytes n goes_too w_too)
 
 -- What is written as a message that is a reply's is that reply's frame.
-frame_of : (o : Opcode) (bytes : List ℕ) (m : ReplyMessage) → GoesWith served o m → WrittenReply m bytes
+frame_of : (o : Opcode) (bytes : List ℕ) (m : ReplyMessage) → GoesWith latest_minor o m → WrittenReply m bytes
     → m ≡ message_of (framed_by m) → IsReplyFrame o bytes (framed_by m)
 frame_of o bytes m goes w exact =
     record {
       written = subst (λ (n : ReplyMessage). WrittenReply n bytes) exact w;
-      goes = subst (λ (n : ReplyMessage). GoesWith served o n) exact goes;
+      goes = subst (λ (n : ReplyMessage). GoesWith latest_minor o n) exact goes;
       says = ap (λ (n : ReplyMessage). wire_said n.error n.content) (sym exact);
     }
 
-pub is_framed : (o : Opcode) (bytes : List ℕ) (m : ReplyMessage) → GoesWith served o m → WrittenReply m bytes
+pub is_framed : (o : Opcode) (bytes : List ℕ) (m : ReplyMessage) → GoesWith latest_minor o m → WrittenReply m bytes
     → m ≡ message_of (framed_by m) → IsReplyFrame o bytes (record { unique = m.unique; wire = said_in o bytes })
 is_framed o bytes m goes w exact = subst (λ (f : Framed). IsReplyFrame o bytes f)
     (sym (one_framed o bytes m goes w)) (frame_of o bytes m goes w exact)
@@ -78,8 +78,8 @@ abbrev is_failure : WireReply → Bool
 is_failure (reply.failed errno) = true
 is_failure wire = false
 
--- Of the bodies that are served each says what its kind says.
-said_kind : (c : ReplyContent) → IsTrue (knows_kind served (kind_of_content c))
+-- Of the bodies that are latest_minor each says what its kind says.
+said_kind : (c : ReplyContent) → IsTrue (knows_kind latest_minor (kind_of_content c))
     → kind_of_content c ≡ kind_of_content (body_saying (wire_body c))
 said_kind (entry_reply (missing seconds nanoseconds)) known = refl
 said_kind (entry_reply (found nodeid generation seconds nanoseconds a)) known = refl
@@ -96,7 +96,7 @@ no_failure c = refl
 
 -- The replies to an operation have the kind of body that says what goes with it.
 kind_going : (operation : Operation ℕ Opened) (wire : WireReply) → goes_with operation wire ≡ true
-    → is_failure wire ≡ false → reply_kind served (asked_opcode (asks operation))
+    → is_failure wire ≡ false → reply_kind latest_minor (asked_opcode (asks operation))
     ≡ Some (kind_of_content (body_saying wire))
 kind_going (reply.lookup d name) (reply.found entry valid) e good = refl
 kind_going (reply.lookup d name) (reply.missing valid) e good = refl
@@ -119,7 +119,7 @@ kind_going operation wire e good = absurd (true≢false (sym e))
 
 -- Each operation has a reply.
 replied_by : (operation : Operation ℕ Opened) → (d : ReplyContent)
-    × (reply_kind served (asked_opcode (asks operation)) ≡ Some (kind_of_content d))
+    × (reply_kind latest_minor (asked_opcode (asks operation)) ≡ Some (kind_of_content d))
 replied_by (reply.lookup d name) = (entry_reply (missing 0 0), refl)
 replied_by (reply.getattr x) = (attr_reply (record { ino = 0; size = 0; mode = 0; nlink = 0 }), refl)
 replied_by (reply.mkdir d name) = (entry_reply (missing 0 0), refl)
@@ -142,7 +142,7 @@ error_shows n ok e =
     absurd (cc same)
 
 -- With an error the body is empty.
-is_alone : (o : Opcode) (m : ReplyMessage) → GoesWith served o m → cast_unsigned w32 m.error ≢ 0
+is_alone : (o : Opcode) (m : ReplyMessage) → GoesWith latest_minor o m → cast_unsigned w32 m.error ≢ 0
     → kind_of_content m.content ≡ kind_of_content empty_reply
 is_alone o m goes shows = elim (eqb_tells (cast_unsigned w32 m.error) 0) [
   | inl h ↦ absurd
@@ -153,11 +153,11 @@ is_alone o m goes shows = elim (eqb_tells (cast_unsigned w32 m.error) 0) [
 -- What is said without error goes with the opcodes whose replies have that kind of body, and an error with all that
 -- have replies.
 goes_saying : (o p : Opcode) (d : ReplyContent) (unique : ℕ) (z : ℤ) (c : ReplyContent)
-    → GoesWith served o (record { unique = unique; error = z; content = c }) → IsErrorNumber z
-    → IsTrue (knows_kind served (kind_of_content c))
-    → reply_kind served p ≡ Some (kind_of_content d)
+    → GoesWith latest_minor o (record { unique = unique; error = z; content = c }) → IsErrorNumber z
+    → IsTrue (knows_kind latest_minor (kind_of_content c))
+    → reply_kind latest_minor p ≡ Some (kind_of_content d)
     → (is_failure (wire_said z c) ≡ false → kind_of_content (body_saying (wire_said z c)) ≡ kind_of_content d)
-    → GoesWith served p (record { unique = unique; error = z; content = c })
+    → GoesWith latest_minor p (record { unique = unique; error = z; content = c })
 goes_saying o p d unique (pos zero) c goes ok known has same =
     (kind_of_content d, has, said_kind c known ∙ same (no_failure c))
 goes_saying o p d unique (pos (suc n)) c goes ok known has same = absurd (omega (arith, ints, ok.0))
@@ -191,10 +191,10 @@ one_some e = cc
 
 module _ (o : Opcode) (bytes : List ℕ) (f : Framed) (frame : IsReplyFrame o bytes f) where
   -- The frame says what it says to every opcode that it goes with.
-  says_to : (p : Opcode) → GoesWith served p (message_of f) → SaysReply p bytes f.unique f.wire
+  says_to : (p : Opcode) → GoesWith latest_minor p (message_of f) → SaysReply p bytes f.unique f.wire
   says_to p goes = record {
     message = message_of f;
-    spells = spells_reply served p (message_of f) bytes goes frame.written;
+    spells = spells_reply latest_minor p (message_of f) bytes goes frame.written;
     unique_is = refl;
     says = frame.says;
   }
@@ -203,7 +203,7 @@ module _ (o : Opcode) (bytes : List ℕ) (f : Framed) (frame : IsReplyFrame o by
   says = says_to o frame.goes
 
   -- The frame says what it says to each opcode whose replies have the kind of body that says it.
-  says_as : (p : Opcode) (d : ReplyContent) → reply_kind served p ≡ Some (kind_of_content d)
+  says_as : (p : Opcode) (d : ReplyContent) → reply_kind latest_minor p ≡ Some (kind_of_content d)
       → (is_failure f.wire ≡ false → kind_of_content (body_saying f.wire) ≡ kind_of_content d)
       → SaysReply p bytes f.unique f.wire
   says_as p d has same =
@@ -240,7 +240,7 @@ pub error_in_range : (errno : ℕ) (z : ℤ) → 1 ≤ errno → errno ≤ 511 �
 error_in_range errno z some most is = subst IsErrorNumber (sym is) (grind (arith, ints, some, most))
 
 -- An error goes with each opcode that has replies.
-has_kind : (o : Opcode) → IsTrue (has_reply o) → (d : ReplyContent) × (reply_kind served o ≡ Some (kind_of_content d))
+has_kind : (o : Opcode) → IsTrue (has_reply o) → (d : ReplyContent) × (reply_kind latest_minor o ≡ Some (kind_of_content d))
 has_kind op.Lookup h = (entry_reply (missing 0 0), refl)
 has_kind op.Getattr h = (attr_reply (record { ino = 0; size = 0; mode = 0; nlink = 0 }), refl)
 has_kind op.Mkdir h = (entry_reply (missing 0 0), refl)
@@ -260,7 +260,7 @@ has_kind op.Interrupt h = (empty_reply, refl)
 has_kind o h = absurd (true≢false (sym h))
 
 pub error_goes : (o : Opcode) (unique errno : ℕ) (z : ℤ) → IsTrue (has_reply o) → 1 ≤ errno → errno ≤ 511
-    → z ≡ negsuc (errno - 1) → GoesWith served o (record { unique = unique; error = z; content = empty_reply })
+    → z ≡ negsuc (errno - 1) → GoesWith latest_minor o (record { unique = unique; error = z; content = empty_reply })
 error_goes o unique errno z has some most is =
     let shows : cast_unsigned w32 z ≢ 0 = λ e. error_shows (errno - 1)
     (subst IsErrorNumber is (error_in_range errno z some most is)) (ap (cast_unsigned w32) (sym is) ∙ e) in
@@ -280,4 +280,4 @@ pub error_exact : (unique errno : ℕ) (z : ℤ) → 1 ≤ errno → z ≡ negsu
     (message_of (framed_by (record { unique = unique; error = z; content = empty_reply })))
 error_exact unique errno z some is =
     let said = error_said errno z empty_reply some is in
-    λ i. record { unique = unique; error = (is ∙ ap error_of (sym said)) i; content = (ap content_of (sym said)) i }
+    λ i. record { unique = unique; error = (is ∙ ap error_of (sym said)) i; content = (ap reply_content_of (sym said)) i }

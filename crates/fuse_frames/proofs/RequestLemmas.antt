@@ -6,7 +6,7 @@ use Rattle.fk_wire.specs.declared.fault.WireFault.{WireFault}
 use Rattle.fk_wire.specs.declared.opcode.Opcode.{Opcode}
 use Rattle.fk_wire.specs.Requests as wire
 use Rattle.fk_wire.specs.Requests.{RequestContent, RequestMessage, opcode_of, Spells, Written}
-use Rattle.fk_wire.specs.Opcodes.{code_of, served, knows as knows_opcode}
+use Rattle.fk_wire.specs.Opcodes.{code_of, latest_minor, minor_knows as knows_opcode}
 use Rattle.fk_wire.specs.Fields.{number_at}
 use Rattle.fk_wire.specs.Faults.{FaultIsAt}
 use Rattle.fk_wire.proofs.OneRequest.{decoded_is, no_fault, same_code}
@@ -18,12 +18,12 @@ use Rattle.fuse_spec.specs.Files.Operations.{Asked}
 use Rattle.fuse_spec.specs.declared.operation.Operation.TheVariants as asked
 use Rattle.fuse_spec.specs.declared.Minor.{Minor}
 use Rattle.fuse_spec.specs.declared.Minor.TheVariants.{M15, M31}
-use Rattle.fuse_frames.specs.RequestTies.{SaysRequest, SaysRequestAt, codec_minor, IsRequestFrame, request_in, body_in, body_or, body_asking, asked_opcode, content_of, Asks}
+use Rattle.fuse_frames.specs.RequestTies.{SaysRequest, SaysRequestAt, codec_minor, IsRequestFrame, request_in, body_in, body_or, body_asking, asked_opcode, request_content_of, RequestAsks}
 
 pub frame_says : (bytes : List ℕ) (request : Request) → IsRequestFrame bytes request → SaysRequest bytes request
 frame_says bytes request h = record {
   message = h.message;
-  spells = spells served h.message bytes h.written;
+  spells = spells latest_minor h.message bytes h.written;
   unique = h.unique;
   says = h.says;
 }
@@ -44,10 +44,10 @@ pub framed_is : (message : RequestMessage) (bytes : List ℕ) (body : RequestBod
     → request_in bytes ≡ record { unique = message.unique; body = body }
 framed_is message bytes body w e =
     one_request bytes (record { unique = message.unique; body = body })
-    (record { message = message; spells = spells served message bytes w; unique = refl; says = e })
+    (record { message = message; spells = spells latest_minor message bytes w; unique = refl; says = e })
 
 pub is_framed : (message : RequestMessage) (bytes : List ℕ) (body : RequestBody) → Written message bytes
-    → body_in message.nodeid message.content ≡ Some body → message.content ≡ content_of body
+    → body_in message.nodeid message.content ≡ Some body → message.content ≡ request_content_of body
     → IsRequestFrame bytes (request_in bytes)
 is_framed message bytes body w e is =
     subst (λ (r : Request). IsRequestFrame bytes r) (sym (framed_is message bytes body w e))
@@ -64,7 +64,7 @@ all_written {P} old items none w = subst P (sym (w.2 ∙ ap (λ (xs : List ℕ).
 module _ (bytes read : List ℕ) (request : Request) (frame : IsRequestFrame bytes (request_in bytes))
     (is_view : request ≡ request_in bytes) (same : read ≡ bytes) where
   spelled : Spells read frame.message
-  spelled = subst (λ (x : List ℕ). Spells x frame.message) (sym same) (spells served frame.message bytes frame.written)
+  spelled = subst (λ (x : List ℕ). Spells x frame.message) (sym same) (spells latest_minor frame.message bytes frame.written)
 
   pub unique_at : (n : ℕ) → n ≡ number_at 8 8 read → n ≡ request.unique
   unique_at n e = e ∙ spelled.3.1.1.0 ∙ frame.unique ∙ sym (ap (λ (q : Request). q.unique) is_view)
@@ -79,8 +79,8 @@ module _ (bytes read : List ℕ) (request : Request) (frame : IsRequestFrame byt
   pub some_opcode : (n : ℕ) → n ≡ number_at 4 4 read → ((o : Opcode) → code_of o ≡ n → ⊥) → ⊥
   some_opcode n e none = none (asked_opcode request.body) (sym (code_at n e))
 
-  pub has_head : (f : WireFault) → FaultIsAt served read f → ⊥
-  has_head f e = no_fault served read frame.message f spelled e
+  pub has_head : (f : WireFault) → FaultIsAt latest_minor read f → ⊥
+  has_head f e = no_fault latest_minor read frame.message f spelled e
 
 -- ---- a minor
 
@@ -128,7 +128,7 @@ said_at minor bytes request h =
     }
 
 -- An operation is asked of the node of its request's header.
-pub asked_at : (o : Asked (Bor (List ℕ))) → Asks (body_in (header_node o) (content_of (body_asking o))) o
+pub asked_at : (o : Asked (Bor (List ℕ))) → RequestAsks (body_in (header_node o) (request_content_of (body_asking o))) o
 asked_at (asked.Lookup d name) = refl
 asked_at (asked.Getattr x) = refl
 asked_at (asked.Mkdir d name) = refl

@@ -8,15 +8,15 @@ use Rattle.fk_wire.specs.RecordEnds.{padding}
 use Rattle.fk_wire.specs.Entries.{EntryContent, missing, found, entry_fields}
 use Rattle.fk_wire.specs.Fields.{Field, ReadsAs}
 use Rattle.std.proofs.lemmas.List.Sums.{sum_by-cons}
-use Rattle.fk_wire.specs.Opcodes.{served}
+use Rattle.fk_wire.specs.Opcodes.{latest_minor}
 use Rattle.fk_wire.specs.Replies.{ReplyContent, empty_reply, entry_reply, attr_reply, open_reply, bytes_reply, write_reply, create_reply, records_reply, plus_reply, reply_kind, kind_of_content, reply_body, SpellsReply}
 use Rattle.fuse_spec.specs.declared.Opened.{Opened}
 use Rattle.fuse_spec.specs.Files.Operations.{Operation, lookup, getattr, mkdir, create, unlink, rmdir, rename, link, opening, readdir, readdirplus, read, write}
 use Rattle.fuse_spec.specs.Kernel.Replies.{goes_with}
 use Rattle.fuse_spec.specs.Files.Trees.{record_length, pair_length}
-use Rattle.fuse_frames.specs.ReplyTies.{wire_body, dirent_in, pair_in}
+use Rattle.fuse_frames.specs.ReplyTies.{wire_body, dirent_read, pair_in}
 use Rattle.fuse_frames.specs.RequestTies.{asked_opcode}
-use Rattle.fuse_frames.specs.ReplySaid.{is_within}
+use Rattle.fuse_frames.specs.ReplySaid.{is_within_request}
 
 -- a record with its padding
 pad_is : (n : ℕ) → 24 + n + padding n ≡ (31 + n) / 8 * 8
@@ -24,14 +24,14 @@ pad_is n = omega arith
 
 -- records are as long as their frame says
 records_end : (ds : List DirentContent) (place : ℕ) (bytes : List ℕ) → ReadsAs place (dirents ds) bytes
-    → length bytes ≡ place + sum_by record_length (map dirent_in ds)
+    → length bytes ≡ place + sum_by record_length (map dirent_read ds)
 records_end [] place bytes reads = omega (arith, reads)
 records_end (d ∷ ds) place bytes reads =
     let rest = records_end ds (place + 8 + 8 + 4 + 4 + length d.name + padding (length d.name)) bytes reads.1.1.1.1.1 in
     let pad = pad_is (length d.name) in
-    let sum : sum_by record_length (map dirent_in (d ∷ ds))
-    ≡ (31 + length d.name) / 8 * 8 + sum_by record_length (map dirent_in ds) =
-    sum_by-cons record_length (dirent_in d) (map dirent_in ds) in
+    let sum : sum_by record_length (map dirent_read (d ∷ ds))
+    ≡ (31 + length d.name) / 8 * 8 + sum_by record_length (map dirent_read ds) =
+    sum_by-cons record_length (dirent_read d) (map dirent_read ds) in
     omega (arith, rest, pad, sum)
 
 -- an entry has 128 bytes
@@ -61,9 +61,9 @@ pairs_end (p ∷ ps) place bytes reads =
     omega (arith, rest, pad, sum)
 
 fits : (operation : Operation ℕ Opened) (content : ReplyContent) (bytes : List ℕ)
-    → reply_kind served (asked_opcode (asks operation)) ≡ Some (kind_of_content content)
+    → reply_kind latest_minor (asked_opcode (asks operation)) ≡ Some (kind_of_content content)
     → ReadsAs 16 (reply_body content) bytes
-    → goes_with operation (wire_body content) ≡ is_within operation (length bytes) content
+    → goes_with operation (wire_body content) ≡ is_within_request operation (length bytes) content
 fits (lookup d w) (entry_reply (missing s n)) bytes is reads = refl
 fits (lookup d w) (entry_reply (found x g s n a)) bytes is reads = refl
 fits (lookup d w) content bytes is reads = cc
@@ -88,7 +88,7 @@ fits (opening x) (open_reply fh) bytes is reads = refl
 fits (opening x) content bytes is reads = cc
 fits (readdir d a size) (records_reply ds) bytes is reads =
     let end = records_end ds 16 bytes reads in
-    let same : sum_by record_length (map dirent_in ds) ≡ length bytes - 16 = omega (arith, end) in
+    let same : sum_by record_length (map dirent_read ds) ≡ length bytes - 16 = omega (arith, end) in
     ap (λ (n : ℕ). nat_le n size) same
 fits (readdir d a size) content bytes is reads = cc
 fits (readdirplus d a size) (plus_reply ps) bytes is reads =
@@ -107,14 +107,14 @@ fits (write o f b) content bytes is reads = cc
 pub content_fits : (operation : Operation ℕ Opened) (bytes : List ℕ) (unique : ℕ) (error : ℤ) (content : ReplyContent)
     → error ≡ pos 0 → SpellsReply (asked_opcode (asks operation)) bytes
     (record { unique = unique; error = error; content = content })
-    → goes_with operation (wire_body content) ≡ is_within operation (length bytes) content
+    → goes_with operation (wire_body content) ≡ is_within_request operation (length bytes) content
 content_fits operation bytes unique error content none spells =
     by (subst (λ (z : ℤ). SpellsReply (asked_opcode (asks operation)) bytes
     (record { unique = unique; error = z; content = content })) none spells)
   where
     by : SpellsReply (asked_opcode (asks operation)) bytes
         (record { unique = unique; error = pos 0; content = content })
-        → goes_with operation (wire_body content) ≡ is_within operation (length bytes) content
+        → goes_with operation (wire_body content) ≡ is_within_request operation (length bytes) content
     by s = fits operation content bytes (s.2.1 ∙ ap Some (sym s.2.2)) s.5.1.1.1
 
 -- an error goes with any

@@ -12,7 +12,7 @@ use Rattle.fuse_spec.specs.Files.Operations as reply
 use Rattle.fuse_spec.specs.Kernel.Messages.{WireReply, asks}
 use Rattle.fuse_spec.specs.Values.Numbers.{max_validity}
 use Rattle.fuse_spec.specs.Kernel.Replies.{goes_with}
-use Rattle.fuse_frames.specs.ReplyTies.{dirent_in, pair_in}
+use Rattle.fuse_frames.specs.ReplyTies.{dirent_read, pair_in}
 use Rattle.fuse_frames.specs.RequestTies.{asked_opcode}
 use Rattle.fuse_frames.specs.Replies.{reply_of}
 use Rattle.fuse_frames.specs.declared.reply.Reply.{Reply}
@@ -24,13 +24,13 @@ abbrev pub LentReply : Type 0
 LentReply = Reply Entry Records RecordsPlus (Bor (List ℕ))
 
 abbrev pub names_lent : Records → List reply.Dirent
-names_lent records = map dirent_in (records_in records)
+names_lent records = map dirent_read (records_in records)
 
 abbrev pub pairs_lent : RecordsPlus → List (reply.DirentPlus Entry)
 pairs_lent records = map pair_in (pluses_in records)
 
-abbrev pub wire_of : LentReply → WireReply
-wire_of said = reply_of (λ (entry : Entry). entry) names_lent pairs_lent (λ (bytes : Bor (List ℕ)). bytes.now) said
+abbrev pub lent_wire_of : LentReply → WireReply
+lent_wire_of said = reply_of (λ (entry : Entry). entry) names_lent pairs_lent (λ (bytes : Bor (List ℕ)). bytes.now) said
 
 -- a name is valid for a day at most
 abbrev pub LastsADay : LentReply → Type 0
@@ -41,14 +41,14 @@ LastsADay other = Unit {0}
 
 -- The bytes say this to the operation, and it goes with it.
 pub record SaysTo (operation : Operation ℕ Opened) (bytes : List ℕ) (said : LentReply) : Type 0 where
-  pub says : Says (asked_opcode (asks operation)) bytes (wire_of said)
-  pub goes : goes_with operation (wire_of said) ≡ true
+  pub says : Says (asked_opcode (asks operation)) bytes (lent_wire_of said)
+  pub goes : goes_with operation (lent_wire_of said) ≡ true
   pub day : LastsADay said
 
 -- Whether a body in a frame of so many bytes is no longer than was asked, nor tells of more written than was sent.
-abbrev pub is_within : Operation ℕ Opened → ℕ → ReplyContent → Bool
-is_within (readdir d after size) len content = nat_le (len - 16) size
-is_within (readdirplus d after size) len content = nat_le (len - 16) size
-is_within (read o offset size) len content = nat_le (len - 16) size
-is_within (write o offset bytes) len (write_reply size) = nat_le size (length bytes)
-is_within operation len content = true
+abbrev pub is_within_request : Operation ℕ Opened → ℕ → ReplyContent → Bool
+is_within_request (readdir d after size) len content = nat_le (len - 16) size
+is_within_request (readdirplus d after size) len content = nat_le (len - 16) size
+is_within_request (read o offset size) len content = nat_le (len - 16) size
+is_within_request (write o offset bytes) len (write_reply size) = nat_le size (length bytes)
+is_within_request operation len content = true

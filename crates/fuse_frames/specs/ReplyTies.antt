@@ -12,7 +12,7 @@ use Rattle.fk_wire.specs.Replies.{ReplyContent, empty_reply, entry_reply, attr_r
 use Rattle.fk_wire.specs.Replies.{write_reply, init_reply, create_reply, records_reply, plus_reply, ReplyMessage}
 use Rattle.fk_wire.specs.Replies.{GoesWith, SpellsReply, WrittenReply, IsErrorNumber, IsReplyContent, HasReplyNames}
 use Rattle.fk_wire.specs.Replies.{kind_of_content, knows_kind, reply_body, decoded_reply}
-use Rattle.fk_wire.specs.Opcodes.{served}
+use Rattle.fk_wire.specs.Opcodes.{latest_minor}
 use Rattle.fuse_spec.specs.Values.Numbers.{max_transfer, max_validity}
 use Rattle.fuse_spec.specs.Files.Operations as reply
 use Rattle.fuse_spec.specs.Files.Operations.{Dirent, DirentPlus}
@@ -45,13 +45,13 @@ no_entry = record { nodeid = 0; generation = 0; attributes = record { kind = Oth
 abbrev pub kind_of_type : ℕ → Kind
 kind_of_type type = cond (nat_eq type 4) Directory (cond (nat_eq type 8) Regular Other)
 
-abbrev pub dirent_in : DirentContent → Dirent
-dirent_in d = record { ino = d.ino; offset = d.off; kind = kind_of_type d.kind; name = d.name }
+abbrev pub dirent_read : DirentContent → Dirent
+dirent_read d = record { ino = d.ino; offset = d.off; kind = kind_of_type d.kind; name = d.name }
 
 -- The file that an entry names, if it names one, and for how many milliseconds. (linux/fuse.h, struct fuse_entry_out)
-abbrev pub file_in : EntryContent → Option Entry
-file_in (missing seconds nanoseconds) = None
-file_in (found nodeid generation seconds nanoseconds a) = Some (entry_in nodeid generation a)
+abbrev pub file_named : EntryContent → Option Entry
+file_named (missing seconds nanoseconds) = None
+file_named (found nodeid generation seconds nanoseconds a) = Some (entry_in nodeid generation a)
 
 abbrev pub valid_in : EntryContent → ℕ
 valid_in (missing seconds nanoseconds) = milliseconds seconds nanoseconds
@@ -59,7 +59,7 @@ valid_in (found nodeid generation seconds nanoseconds a) = milliseconds seconds 
 
 -- A name in a list with the file of its entry. (linux/fuse.h, struct fuse_direntplus)
 abbrev pub pair_in : DirentPlusContent → DirentPlus Entry
-pair_in p = record { file = file_in p.entry_out; valid = valid_in p.entry_out; dirent = dirent_in p.dirent }
+pair_in p = record { file = file_named p.entry_out; valid = valid_in p.entry_out; dirent = dirent_read p.dirent }
 
 -- what a body says
 abbrev pub wire_body : ReplyContent → WireReply
@@ -75,7 +75,7 @@ wire_body (init_reply major minor flags) = reply.agreed major minor flags
 wire_body (create_reply (missing seconds nanoseconds) fh) = reply.created no_entry (milliseconds seconds nanoseconds) fh
 wire_body (create_reply (found nodeid generation seconds nanoseconds a) fh) =
     reply.created (entry_in nodeid generation a) (milliseconds seconds nanoseconds) fh
-wire_body (records_reply ds) = reply.listed (map dirent_in ds)
+wire_body (records_reply ds) = reply.listed (map dirent_read ds)
 wire_body (plus_reply ps) = reply.listed_plus (map pair_in ps)
 
 -- what a reply says: its body, or the error number alone
@@ -100,7 +100,7 @@ framed_by m = record { unique = m.unique; wire = wire_said m.error m.content }
 
 -- ---- how replies are written
 
--- The mode of a file: octal 040755 of a directory, 0100644 of a regular file. No file of another kind is served.
+-- The mode of a file: octal 040755 of a directory, 0100644 of a regular file. No file of another kind is latest_minor.
 abbrev pub mode_of : Kind → ℕ
 mode_of Directory = 16877
 mode_of Regular = 33188
@@ -110,8 +110,8 @@ abbrev pub attr_of : Attributes → Attr
 attr_of a = record { ino = a.ino; size = a.size; mode = mode_of a.kind; nlink = a.nlink }
 
 -- A validity in milliseconds is written as whole seconds, and the rest as nanoseconds.
-abbrev pub found_of : Entry → ℕ → EntryContent
-found_of e valid = found e.nodeid e.generation (valid / 1000) (valid % 1000 * 1000000) (attr_of e.attributes)
+abbrev pub found_entry : Entry → ℕ → EntryContent
+found_entry e valid = found e.nodeid e.generation (valid / 1000) (valid % 1000 * 1000000) (attr_of e.attributes)
 
 abbrev pub missing_of : ℕ → EntryContent
 missing_of valid = missing (valid / 1000) (valid % 1000 * 1000000)
@@ -122,16 +122,16 @@ type_of Directory = 4
 type_of Regular = 8
 type_of Other = 0
 
-abbrev pub dirent_of : Dirent → DirentContent
-dirent_of d = record { ino = d.ino; off = d.offset; kind = type_of d.kind; name = d.name }
+abbrev pub dirent_written : Dirent → DirentContent
+dirent_written d = record { ino = d.ino; off = d.offset; kind = type_of d.kind; name = d.name }
 
 -- A name in a list is written with the entry of its file, or with one that names none.
-abbrev pub entry_for : (valid : ℕ) → Option Entry → EntryContent
-entry_for valid None = missing_of valid
-entry_for valid (Some entry) = found_of entry valid
+abbrev pub written_entry_for : (valid : ℕ) → Option Entry → EntryContent
+written_entry_for valid None = missing_of valid
+written_entry_for valid (Some entry) = found_entry entry valid
 
-abbrev pub pair_of : DirentPlus Entry → DirentPlusContent
-pair_of p = record { entry_out = entry_for p.valid p.file; dirent = dirent_of p.dirent }
+abbrev pub written_pair : DirentPlus Entry → DirentPlusContent
+written_pair p = record { entry_out = written_entry_for p.valid p.file; dirent = dirent_written p.dirent }
 
 -- The next three are names in a list with their entries, one to each name, where one of node 0 is of no file.
 abbrev pub entry_told : Entry → Option Entry
@@ -157,32 +157,32 @@ pairs_listed valid [] ds = []
 pairs_listed valid (e ∷ entries) [] = []
 
 -- the body of a reply; an error has none
-abbrev pub content_of : WireReply → ReplyContent
-content_of (reply.found entry valid) = entry_reply (found_of entry valid)
-content_of (reply.missing valid) = entry_reply (missing_of valid)
-content_of (reply.created entry valid fh) = create_reply (found_of entry valid) fh
-content_of (reply.opened fh) = open_reply fh
-content_of (reply.attributes attributes) = attr_reply (attr_of attributes)
-content_of (reply.listed records) = records_reply (map dirent_of records)
-content_of (reply.listed_plus pairs) = plus_reply (map pair_of pairs)
-content_of (reply.content bytes) = bytes_reply bytes
-content_of (reply.written size) = write_reply size
-content_of (reply.agreed major minor flags) = init_reply major minor flags
-content_of reply.done = empty_reply
-content_of (reply.failed errno) = empty_reply
+abbrev pub reply_content_of : WireReply → ReplyContent
+reply_content_of (reply.found entry valid) = entry_reply (found_entry entry valid)
+reply_content_of (reply.missing valid) = entry_reply (missing_of valid)
+reply_content_of (reply.created entry valid fh) = create_reply (found_entry entry valid) fh
+reply_content_of (reply.opened fh) = open_reply fh
+reply_content_of (reply.attributes attributes) = attr_reply (attr_of attributes)
+reply_content_of (reply.listed records) = records_reply (map dirent_written records)
+reply_content_of (reply.listed_plus pairs) = plus_reply (map written_pair pairs)
+reply_content_of (reply.content bytes) = bytes_reply bytes
+reply_content_of (reply.written size) = write_reply size
+reply_content_of (reply.agreed major minor flags) = init_reply major minor flags
+reply_content_of reply.done = empty_reply
+reply_content_of (reply.failed errno) = empty_reply
 
 abbrev pub error_of : WireReply → ℤ
 error_of (reply.failed errno) = negsuc (errno - 1)
 error_of wire = pos 0
 
 abbrev pub message_of : Framed → ReplyMessage
-message_of f = record { unique = f.unique; error = error_of f.wire; content = content_of f.wire }
+message_of f = record { unique = f.unique; error = error_of f.wire; content = reply_content_of f.wire }
 
 -- The bytes are the one frame in which this reply to a request of this opcode is written, and they say it.
 pub record IsReplyFrame (o : Opcode) (bytes : List ℕ) (framed : Framed) : Type 0 where
   pub written : WrittenReply (message_of framed) bytes
-  pub goes : GoesWith served o (message_of framed)
-  pub says : wire_said (error_of framed.wire) (content_of framed.wire) ≡ framed.wire
+  pub goes : GoesWith latest_minor o (message_of framed)
+  pub says : wire_said (error_of framed.wire) (reply_content_of framed.wire) ≡ framed.wire
 
 -- What the bytes of a reply are, where they spell anything.
 unfoldable pub said_in : Opcode → List ℕ → WireReply
@@ -207,5 +207,5 @@ pub record FitsRoom (m : ReplyMessage) : Type 0 where
   pub error : IsErrorNumber m.error
   pub entries : IsReplyContent m.content
   pub nameless : HasReplyNames m.content
-  pub served_so : IsTrue (knows_kind served (kind_of_content m.content))
+  pub served_so : IsTrue (knows_kind latest_minor (kind_of_content m.content))
   pub short : 16 + sizes (reply_body m.content) ≤ most_room

@@ -41,8 +41,8 @@ abbrev pub body_asking : Asked (Bor (List ℕ)) → RequestBody
 body_asking operation = asks (operation_of (λ s. s.now) operation)
 
 -- What a request asks is this operation.
-abbrev pub Asks : Option RequestBody → Asked (Bor (List ℕ)) → Type 0
-Asks asked operation = asked ≡ Some (body_asking operation)
+abbrev pub RequestAsks : Option RequestBody → Asked (Bor (List ℕ)) → Type 0
+RequestAsks asked operation = asked ≡ Some (body_asking operation)
 
 -- What a request asks is no operation.
 abbrev pub AsksNothing : Option RequestBody → Type 0
@@ -57,29 +57,29 @@ IsTransfer (wire.write fh offset bytes) = Unit {0}
 IsTransfer content = ⊥
 
 -- How a request is written. INIT is of version 7.31, with the flags that it offers.
-abbrev pub content_of : RequestBody → RequestContent
-content_of (init flags) = wire.init 7 31 flags
-content_of (asks (operation.lookup d name)) = wire.lookup name
-content_of (asks (operation.getattr x)) = wire.getattr
-content_of (asks (operation.mkdir d name)) = wire.mkdir name
-content_of (asks (operation.create d name)) = wire.create name
-content_of (asks (operation.unlink d name)) = wire.unlink name
-content_of (asks (operation.rmdir d name)) = wire.rmdir name
-content_of (asks (operation.rename d old e new)) = wire.rename e old new
-content_of (asks (operation.link x d name)) = wire.link x name
-content_of (asks (operation.opening x)) = wire.opening
-content_of (asks (operation.readdir d after size)) = wire.readdir after size
-content_of (asks (operation.readdirplus d after size)) = wire.readdirplus after size
-content_of (asks (operation.read o offset size)) = wire.read o.fh offset size
-content_of (asks (operation.write o offset bytes)) = wire.write o.fh offset bytes
-content_of (release o) = wire.release o.fh
-content_of (forget f) = wire.forget f.1
-content_of (batch_forget fs) = wire.batch_forget fs
-content_of (interrupt original) = wire.interrupt original
+abbrev pub request_content_of : RequestBody → RequestContent
+request_content_of (init flags) = wire.init 7 31 flags
+request_content_of (asks (operation.lookup d name)) = wire.lookup name
+request_content_of (asks (operation.getattr x)) = wire.getattr
+request_content_of (asks (operation.mkdir d name)) = wire.mkdir name
+request_content_of (asks (operation.create d name)) = wire.create name
+request_content_of (asks (operation.unlink d name)) = wire.unlink name
+request_content_of (asks (operation.rmdir d name)) = wire.rmdir name
+request_content_of (asks (operation.rename d old e new)) = wire.rename e old new
+request_content_of (asks (operation.link x d name)) = wire.link x name
+request_content_of (asks (operation.opening x)) = wire.opening
+request_content_of (asks (operation.readdir d after size)) = wire.readdir after size
+request_content_of (asks (operation.readdirplus d after size)) = wire.readdirplus after size
+request_content_of (asks (operation.read o offset size)) = wire.read o.fh offset size
+request_content_of (asks (operation.write o offset bytes)) = wire.write o.fh offset bytes
+request_content_of (release o) = wire.release o.fh
+request_content_of (forget f) = wire.forget f.1
+request_content_of (batch_forget fs) = wire.batch_forget fs
+request_content_of (interrupt original) = wire.interrupt original
 
 -- the opcode of a request that asks this
 abbrev pub asked_opcode : RequestBody → Opcode
-asked_opcode body = opcode_of (content_of body)
+asked_opcode body = opcode_of (request_content_of body)
 
 -- A minor as the codec names it.
 abbrev pub codec_minor : Minor → CodecMinor
@@ -103,7 +103,7 @@ pub record IsRequestFrame (bytes : List ℕ) (request : Request) : Type 0 where
   pub written : Written message bytes
   pub unique : message.unique ≡ request.unique
   pub says : body_in message.nodeid message.content ≡ Some request.body
-  pub content : message.content ≡ content_of request.body
+  pub content : message.content ≡ request_content_of request.body
 
 abbrev pub body_or : Option RequestBody → RequestBody
 body_or None = init 0

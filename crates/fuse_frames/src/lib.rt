@@ -22,6 +22,6 @@ pub use reply::Reply;
 pub use reply_body::{kind_of_type, listed_by};
 pub use reply_frame::ReplyFrame;
 pub use reply_room::ReplyRoom;
-pub use reply_said::{ReplySaid, said_to, said_to_call};
+pub use reply_said::{ReplySaid, decode_reply, said_to_call};
 pub use request_frame::RequestFrame;
 pub use sent::Sent;

@@ -2,8 +2,8 @@
 
 ghost use Rattle.std.specs.Prelude.{◌≡◌, IfSome, IfNone};
 ghost use Rattle.fk_wire.specs.Requests.{request_content};
-ghost use Rattle.fuse_frames.specs.RequestTies.{asked_opcode, body_asking, body_in, content_of};
-ghost use Rattle.fuse_frames.specs.RequestTies.{Asks, AsksNothing, IsTransfer};
+ghost use Rattle.fuse_frames.specs.RequestTies.{asked_opcode, body_asking, body_in, request_content_of};
+ghost use Rattle.fuse_frames.specs.RequestTies.{RequestAsks, AsksNothing, IsTransfer};
 
 use fk_wire::{Opcode, RequestBody};
 use fuse_spec::{Opened, Operation};
@@ -11,7 +11,7 @@ use fuse_spec::{Opened, Operation};
 /// The operation that the body of a request of a node asks, its names or bytes lent from the frame. INIT, RELEASE,
 /// INTERRUPT and forgets ask none (linux/fuse.h, enum fuse_opcode).
 pub fn operation_asked<'a>(nodeid: u64, body: &RequestBody<'a>) -> Option<Operation<&'a [u8]>>
-    ensures some { IfSome result (Asks (body_in nodeid (request_content body.now))) }
+    ensures some { IfSome result (RequestAsks (body_in nodeid (request_content body.now))) }
     ensures none { IfNone result (AsksNothing (body_in nodeid (request_content body.now))) }
 {
     let (directory, node) = (nodeid, nodeid);
@@ -62,7 +62,7 @@ pub fn opcode_asked(operation: &Operation<&[u8]>) -> Opcode
 
 /// The READ or WRITE that a body asks, if it asks one.
 fn transfer_asked<'a>(nodeid: u64, body: &RequestBody<'a>) -> Option<Operation<&'a [u8]>>
-    ensures some { IfSome result (Asks (body_in nodeid (request_content body.now))) }
+    ensures some { IfSome result (RequestAsks (body_in nodeid (request_content body.now))) }
     ensures none { IfNone result (IsTransfer (request_content body.now) → ⊥) }
 {
     match *body {
@@ -82,7 +82,7 @@ fn transfer_asked<'a>(nodeid: u64, body: &RequestBody<'a>) -> Option<Operation<&
 
 /// The body of the request that asks an operation.
 pub(crate) fn body_of<'a>(operation: &Operation<&'a [u8]>) -> RequestBody<'a>
-    ensures { request_content result ≡ content_of (body_asking operation.now) }
+    ensures { request_content result ≡ request_content_of (body_asking operation.now) }
 {
     match *operation {
         Operation::Lookup { name, .. } => RequestBody::Lookup { name },

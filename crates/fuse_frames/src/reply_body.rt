@@ -4,7 +4,7 @@ ghost use Rattle.std.specs.Prelude.{◌≡◌};
 ghost use Rattle.fk_wire.specs.Entries.{entry_content};
 ghost use Rattle.fk_wire.specs.Records.{direntplus_content};
 ghost use Rattle.fuse_spec.specs.Files.Operations.{listed_by as file_told};
-ghost use Rattle.fuse_frames.specs.ReplyTies.{attributes_in, file_in, kind_of_mode, pair_in, valid_in};
+ghost use Rattle.fuse_frames.specs.ReplyTies.{attributes_in, file_named, kind_of_mode, pair_in, valid_in};
 ghost use Rattle.fuse_frames.specs.ReplyTies.{kind_of_type as kind_told};
 ghost use Rattle.fuse_frames.specs.ReplyTies.{milliseconds as milliseconds_in};
 
@@ -72,7 +72,7 @@ pub(crate) fn entry_named(entry: &fk_wire::Entry) -> Entry
 
 /// The file that the entry of a name in a list names; with node id 0 it names none.
 fn file_of(entry: &fk_wire::Entry) -> Option<Entry>
-    ensures { result ≡ file_in (entry_content entry.now) }
+    ensures { result ≡ file_named (entry_content entry.now) }
 {
     if entry.nodeid == 0 {
         return None;

@@ -2,7 +2,7 @@
 
 ghost use Rattle.std.specs.Prelude.{◌≡◌, ◌≤◌, ◌+◌, ℕ, [], true, vec_capacity};
 ghost use Rattle.fk_wire.specs.Fields.{sizes};
-ghost use Rattle.fk_wire.specs.Opcodes.{served};
+ghost use Rattle.fk_wire.specs.Opcodes.{latest_minor};
 ghost use Rattle.fk_wire.specs.Replies.{ReplyMessage, WrittenReply, GoesWith, reply_body, reply_message, reply_content};
 ghost use Rattle.fuse_spec.specs.Kernel.Messages.{asks};
 ghost use Rattle.fuse_spec.specs.Files.Operations.{Operation};
@@ -66,7 +66,7 @@ impl<A: Allocator> ReplyFrame<A> {
     pub(crate) fn written(opcode: Opcode, bytes: Vec<u8, A>, reply: &Reply<'_>) -> ReplyFrame<A>
         requires empty { bytes.items ≡ [] }
         requires room { 16 + sizes (reply_body (reply_content reply.now.body)) ≤ vec_capacity bytes }
-        requires goes { GoesWith served opcode (reply_message reply.now) }
+        requires goes { GoesWith latest_minor opcode (reply_message reply.now) }
         requires fits { FitsRoom (reply_message reply.now) }
         requires exact { reply_message reply.now ≡ message_of (framed_by (reply_message reply.now)) }
         ensures { result ≡ framed_by (reply_message reply.now) }
@@ -83,10 +83,10 @@ impl<A: Allocator> ReplyFrame<A> {
     /// The frame of a reply of READDIRPLUS under a unique, whose bytes are written. They are written as `message_of`
     /// has it.
     pub(crate) fn listing(unique: u64, bytes: Vec<u8, A>) -> ReplyFrame<A>
-        requires { (message : ReplyMessage) × GoesWith served Opcode.Readdirplus message
+        requires { (message : ReplyMessage) × GoesWith latest_minor Opcode.Readdirplus message
             × WrittenReply message bytes.items × (message ≡ message_of (framed_by message))
             × (unique ≡ message.unique) }
-        ensures { (message : ReplyMessage) → GoesWith served Opcode.Readdirplus message
+        ensures { (message : ReplyMessage) → GoesWith latest_minor Opcode.Readdirplus message
             → WrittenReply message bytes.items → result ≡ framed_by message }
     {
         ReplyFrame {

@@ -4,13 +4,13 @@ ghost use Rattle.std.specs.Int.RustNames.{bit_and};
 ghost use Rattle.std.specs.Prelude.{◌≡◌, ◌≢◌, ◌≤◌, ◌+◌, ◌*◌, ◌/◌, ◌%◌, pos, negsuc, ◌-◌, Some, IfOk, length, map};
 ghost use Rattle.fk_wire.specs.Dirents.{dirents};
 ghost use Rattle.fk_wire.specs.Fields.{sizes};
-ghost use Rattle.fk_wire.specs.Opcodes.{served};
+ghost use Rattle.fk_wire.specs.Opcodes.{latest_minor};
 ghost use Rattle.fk_wire.specs.Records.{records_in};
 ghost use Rattle.fk_wire.specs.Replies.{reply_body, reply_content, kind_of_content, reply_kind};
 ghost use Rattle.fk_wire.specs.Requests.{known_flags};
 ghost use Rattle.fuse_spec.specs.Values.Numbers.{max_transfer, max_validity};
 ghost use Rattle.fuse_spec.specs.Files.Operations as reply;
-ghost use Rattle.fuse_frames.specs.ReplyTies.{FitsRoom, content_of, dirent_in, dirent_of, pairs_told, wire_body};
+ghost use Rattle.fuse_frames.specs.ReplyTies.{FitsRoom, reply_content_of, dirent_read, dirent_written, pairs_told, wire_body};
 ghost use Rattle.fuse_frames.specs.ReplyTies.{attr_of as attr_written};
 
 use crate::listing::put_listing;
@@ -53,10 +53,10 @@ impl<A: Allocator> ReplyRoom<A> {
 
     /// The frame of a reply without error.
     fn said(self, unique: u64, opcode: Opcode, body: ReplyBody<'_>) -> ReplyFrame<A>
-        requires goes { reply_kind served opcode ≡ Some (kind_of_content (reply_content body)) }
+        requires goes { reply_kind latest_minor opcode ≡ Some (kind_of_content (reply_content body)) }
         requires fits { FitsRoom (record { unique = unique; error = pos 0; content = reply_content body }) }
         requires room { 16 + sizes (reply_body (reply_content body)) ≤ self }
-        requires exact { reply_content body ≡ content_of (wire_body (reply_content body)) }
+        requires exact { reply_content body ≡ reply_content_of (wire_body (reply_content body)) }
         ensures { result ≡ record { unique = unique; wire = wire_body (reply_content body.entry) } }
     {
         let reply = Reply {
@@ -130,10 +130,10 @@ impl<A: Allocator> ReplyRoom<A> {
     /// The answer to READDIR: the records, for which there is room. The types are those of kinds (`type_of`).
     #[tactic(auto, using(fk_wire::proofs::RecordLists::records_are_named))]
     pub fn listed(self, unique: u64, records: Records<'_>) -> ReplyFrame<A>
-        requires types { map dirent_of (map dirent_in (records_in records)) ≡ records_in records }
+        requires types { map dirent_written (map dirent_read (records_in records)) ≡ records_in records }
         requires room { 16 + sizes (dirents (records_in records)) ≤ self }
         requires most { sizes (dirents (records_in records)) ≤ max_transfer }
-        ensures { result ≡ record { unique = unique; wire = reply.listed (map dirent_in (records_in records.entry)) } }
+        ensures { result ≡ record { unique = unique; wire = reply.listed (map dirent_read (records_in records.entry)) } }
     {
         self.said(unique, Opcode::Readdir, ReplyBody::Records { records })
     }
@@ -149,14 +149,14 @@ impl<A: Allocator> ReplyRoom<A> {
         found_ms: u64,
     ) -> ReplyFrame<A>
         requires together { length entries.now ≡ length (records_in records) }
-        requires types { map dirent_of (map dirent_in (records_in records)) ≡ records_in records }
+        requires types { map dirent_written (map dirent_read (records_in records)) ≡ records_in records }
         requires valid { found_ms ≤ max_validity }
         requires room { 16 + (128 * length entries.now + sizes (dirents (records_in records))) ≤ self }
         requires most { 128 * length entries.now + sizes (dirents (records_in records)) ≤ max_transfer }
         ensures { result ≡ record {
           unique = unique;
           wire = reply.listed_plus
-              (pairs_told found_ms entries.now (map dirent_in (records_in records.entry)));
+              (pairs_told found_ms entries.now (map dirent_read (records_in records.entry)));
         } }
     {
         let mut bytes = self.bytes;

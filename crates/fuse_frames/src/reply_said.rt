@@ -11,7 +11,7 @@ ghost use Rattle.fuse_frames.specs.ReplyTies.{wire_body, wire_said, no_entry};
 ghost use Rattle.fuse_frames.specs.RequestTies.{asked_opcode};
 ghost use Rattle.fuse_spec.specs.Files.Operations.{operation_of};
 ghost use Rattle.fuse_frames.specs.DecodedReplies.{Says, IsNoReply};
-ghost use Rattle.fuse_frames.specs.ReplySaid.{wire_of, LastsADay, SaysTo, is_within};
+ghost use Rattle.fuse_frames.specs.ReplySaid.{lent_wire_of, LastsADay, SaysTo, is_within_request};
 
 use crate::operations::opcode_asked;
 use crate::reply::Reply;
@@ -40,7 +40,7 @@ fn no_file() -> Entry
 
 /// What an entry says: with node id 0 the name is missing.
 fn said_by_entry(entry: &fk_wire::Entry) -> ReplySaid<'static>
-    ensures wire { wire_body (entry_reply (entry_content entry.now)) ≡ wire_of result }
+    ensures wire { wire_body (entry_reply (entry_content entry.now)) ≡ lent_wire_of result }
     ensures day { LastsADay result }
 {
     let valid_ms = milliseconds(entry.entry_valid, entry.entry_valid_nsec);
@@ -53,7 +53,7 @@ fn said_by_entry(entry: &fk_wire::Entry) -> ReplySaid<'static>
 
 /// What an entry with an open number says.
 fn said_by_create(entry: &fk_wire::Entry, fh: u64) -> ReplySaid<'static>
-    ensures wire { wire_body (create_reply (entry_content entry.now) fh) ≡ wire_of result }
+    ensures wire { wire_body (create_reply (entry_content entry.now) fh) ≡ lent_wire_of result }
     ensures day { LastsADay result }
 {
     let valid_ms = milliseconds(entry.entry_valid, entry.entry_valid_nsec);
@@ -68,7 +68,7 @@ fn said_by_create(entry: &fk_wire::Entry, fh: u64) -> ReplySaid<'static>
 /// What a body says.
 #[inline(always)]
 fn said_by(body: ReplyBody<'_>) -> ReplySaid<'_>
-    ensures wire { wire_body (reply_content body.entry) ≡ wire_of result }
+    ensures wire { wire_body (reply_content body.entry) ≡ lent_wire_of result }
     ensures day { LastsADay result }
 {
     match body {
@@ -108,9 +108,9 @@ fn failure(error: i32) -> Option<u32>
 
 /// What the bytes, whose head was read, say to a request of this opcode, if they are a reply to it.
 #[inline(always)]
-pub fn said_to<'a>(opcode: Opcode, head: ReplyHead, bytes: &'a [u8]) -> Option<ReplySaid<'a>>
+pub fn decode_reply<'a>(opcode: Opcode, head: ReplyHead, bytes: &'a [u8]) -> Option<ReplySaid<'a>>
     requires { IsReplyHead bytes.now head }
-    ensures said { IfSome result (λ said. Says opcode bytes.now (wire_of said)) }
+    ensures said { IfSome result (λ said. Says opcode bytes.now (lent_wire_of said)) }
     ensures day { IfSome result LastsADay }
     ensures none { IfNone result (IsNoReply opcode bytes.now) }
 {
@@ -126,7 +126,7 @@ pub fn said_to<'a>(opcode: Opcode, head: ReplyHead, bytes: &'a [u8]) -> Option<R
 /// Whether a body in a frame of so many bytes is no longer than was asked, nor tells of more written than was sent.
 #[inline(always)]
 fn is_within_asked(asked: &Operation<&[u8]>, len: usize, body: &ReplyBody<'_>) -> bool
-    ensures { result ≡ is_within (operation_of (λ s. s.now) asked.now) len (reply_content body.now) }
+    ensures { result ≡ is_within_request (operation_of (λ s. s.now) asked.now) len (reply_content body.now) }
 {
     match asked {
         Operation::Readdir { size, .. }

@@ -5,7 +5,7 @@ ghost use Rattle.fk_wire.specs.Requests.{request_content};
 ghost use Rattle.fuse_spec.specs.Kernel.Messages.{RequestBody as Asked, init, release, forget, batch_forget, interrupt};
 ghost use Rattle.fuse_spec.specs.Values.Numbers.{init_flags, max_forgets};
 ghost use Rattle.fuse_spec.specs.World.Worlds.{forget_body};
-ghost use Rattle.fuse_frames.specs.RequestTies.{IsRequestFrame, body_asking, body_in, content_of, asked_opcode};
+ghost use Rattle.fuse_frames.specs.RequestTies.{IsRequestFrame, body_asking, body_in, request_content_of, asked_opcode};
 
 use crate::operations::body_of;
 use crate::pair_bytes::pair_bytes;
@@ -43,7 +43,7 @@ fn framed<A: Allocator>(
     request: &fk_wire::Request<'_>,
 ) -> Result<RequestFrame<A>, AllocError>
     requires { (body : Asked) × (body_in request.now.nodeid (request_content request.now.body) ≡ Some body)
-        × (request_content request.now.body ≡ content_of body) }
+        × (request_content request.now.body ≡ request_content_of body) }
     ensures { (body : Asked) → body_in request.now.nodeid (request_content request.now.body) ≡ Some body
         → IfOk result (λ frame. frame ≡ record { unique = request.now.unique; body = body }) }
 {

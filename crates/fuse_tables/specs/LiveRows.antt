@@ -15,7 +15,7 @@ live (row ∷ rows) = entry_before row.0 row.1 (live rows)
 
 -- What is true of a table's rows: keys rise, the count is that of the entries, and at most half of what fits in all is
 -- entries, so that squeezing a full table frees as many rows as were taken out since it was last squeezed.
-pub record IsKept {V : Type 0} (rows : List (ℕ × Option V)) (count capacity : ℕ) : Type 0 where
+pub record AreRowsKept {V : Type 0} (rows : List (ℕ × Option V)) (count capacity : ℕ) : Type 0 where
   pub sorted : T (is_sorted nat_cmp rows)
   pub counted : count ≡ length (live rows)
   pub half : count + count ≤ capacity

@@ -26,7 +26,7 @@ pub struct RisingTable<V, A: Allocator = Global> {
 impl<V, A: Allocator> Model for RisingTable<V, A> {
     ghost use Rattle.std.specs.Prelude.{◌-◌, ◌/◌};
     ghost use Rattle.std.specs.VecDeque.{deque_capacity};
-    ghost use Rattle.fuse_tables.specs.LiveRows.{live, IsKept};
+    ghost use Rattle.fuse_tables.specs.LiveRows.{live, AreRowsKept};
     ghost use Rattle.fuse_tables.specs.TableState.{TableState, table_code};
 
     ghost Value = { TableState V };
@@ -35,7 +35,7 @@ impl<V, A: Allocator> Model for RisingTable<V, A> {
 
     ghost view = { λ t. record { entries = live t.rows.items; room = deque_capacity t.rows / 2 - t.count } };
 
-    ghost invariant = { λ t. IsKept t.rows.items t.count (deque_capacity t.rows) };
+    ghost invariant = { λ t. AreRowsKept t.rows.items t.count (deque_capacity t.rows) };
 }
 
 /// Twice the sum, if there is such a number.
@@ -72,7 +72,7 @@ impl<V: Drop, A: Allocator + Copy> RisingTable<V, A> {
     }
 
     /// Memory holds fewer than 2^63 entries. A call without effect, made where a proof rests on that.
-    pub fn keeps_sound(&self)
+    pub fn lemma_sound(&self)
         ensures few { length self.now.entries < 2 ^ 63 }
     {
         let _len = self.rows.len();

@@ -110,7 +110,7 @@ impl<V: Drop, A: Allocator + Copy> Table<V, A> {
 
     /// Entries stand in rising key, and memory holds fewer than 2^63. A call without effect, made where a proof rests
     /// on that.
-    pub fn keeps_sound(&self)
+    pub fn lemma_sound(&self)
         ensures sorted { T (is_sorted nat_cmp self.now.entries) }
         ensures few { length self.now.entries < 2 ^ 63 }
     {

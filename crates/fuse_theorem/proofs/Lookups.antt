@@ -5,7 +5,7 @@ pub mod WireCounts
 pub mod PerformedCounts
 pub mod LookupsServed
 pub mod CountsStay
-pub mod LookupsHeard
+pub mod LookupsAfterReply
 pub mod LookupsStay
 pub mod AtRest
 pub mod ForgetsNeeds

@@ -9,7 +9,7 @@ pub mod ReleasesStay
 pub mod ReleasesPending
 pub mod OpensApart
 pub mod OpensKept
-pub mod OpensHeard
+pub mod OpensAfterReply
 pub mod NumberCounts
 pub mod OpensInUse
 pub mod OpensServed

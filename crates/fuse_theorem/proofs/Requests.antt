@@ -8,10 +8,10 @@ pub mod RequestsSound
 pub mod NumbersStay
 pub mod AfterMount
 pub mod QueuesSound
-pub mod StillAsked
-pub mod StillAwaited
+pub mod AskKept
+pub mod AwaitedKept
 pub mod RequestsAsked
-pub mod StayAsked
+pub mod RequestsMatchAsks
 pub mod InterruptedStay
 pub mod LinksSound
 pub mod InterruptsNoted

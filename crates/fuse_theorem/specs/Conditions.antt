@@ -50,7 +50,7 @@ OpensItsFile t h operation wire = Unit {0}
 
 -- A request of a call that the server can perform: it is held alone under its number, no INTERRUPT marked it, and
 -- its nodes are held as they were when it was taken.
-pub record CanPerform (w : World) (unique : ℕ) (t : HeldRequest) (operation : Operation ℕ Opened) : Type 0 where
+pub record CanPerformCall (w : World) (unique : ℕ) (t : HeldRequest) (operation : Operation ℕ Opened) : Type 0 where
   pub there : get w.server.held unique ≡ Some t
   pub body_is : t.body ≡ asks operation
   pub unmarked : t.marked ≡ false
@@ -86,7 +86,7 @@ pub record IsUsable (nodes : Map Counted) (wire : WireReply) : Type 0 where
 
 -- A copy that replies to the request of an unanswered call, whose ask was performed: it goes with the operation, and
 -- its entries can be used.
-pub record IsReply (w : World) (p : Plain) (sent : Sent) (call : ℕ) (state : CallState Opened)
+pub record IsReplyToCall (w : World) (p : Plain) (sent : Sent) (call : ℕ) (state : CallState Opened)
     (reply : Reply ℕ ℕ) : Type 0 where
   pub request : QueuedRequest Purpose
   pub under : request_under w.kernel.queues sent.unique ≡ Some request
@@ -150,22 +150,22 @@ abbrev pub IsUnsent : World → ℕ → Type 0
 IsUnsent w node = All (λ (r : Request). list_any (nat_eq node) (nodes_of_body r.body) ≡ false) w.requests
 
 -- This open number is one of some file.
-abbrev pub IsNumber : HandleTable → ℕ → Type 0
-IsNumber h fh = get h.handles fh ≢ None
+abbrev pub IsOpenNumber : HandleTable → ℕ → Type 0
+IsOpenNumber h fh = get h.handles fh ≢ None
 
 -- With this table the server holds the open numbers of the kernel's open files and calls, of the requests on the link
 -- and of those that it holds, and those that copies and kept replies to unanswered requests name.
 pub record HoldsOpens (w : World) (h : HandleTable) : Type 0 where
-  pub opens : (handle : ℕ) (o : Opened) → get w.kernel.vfs.opens handle ≡ Some o → IsNumber h o.fh
+  pub opens : (handle : ℕ) (o : Opened) → get w.kernel.vfs.opens handle ≡ Some o → IsOpenNumber h o.fh
   pub calls : (call : ℕ) (state : CallState Opened) → get w.kernel.vfs.calls call ≡ Some state → (o : Opened)
-      → Contains (opens_of (asked state)) o → IsNumber h o.fh
-  pub sent : All (λ (r : Request). (o : Opened) → Contains (opens_of_body r.body) o → IsNumber h o.fh) w.requests
+      → Contains (opens_of (asked state)) o → IsOpenNumber h o.fh
+  pub sent : All (λ (r : Request). (o : Opened) → Contains (opens_of_body r.body) o → IsOpenNumber h o.fh) w.requests
   pub held : (unique : ℕ) (x : HeldRequest) → get w.server.held unique ≡ Some x → (o : Opened)
-      → Contains (opens_of_body x.body) o → IsNumber h o.fh
+      → Contains (opens_of_body x.body) o → IsOpenNumber h o.fh
   pub kept : (unique : ℕ) (k : Kept) → get w.server.kept unique ≡ Some k → request_under w.kernel.queues unique ≢ None
-      → (fh : ℕ) → Contains (opens_in_reply k.wire) fh → IsNumber h fh
+      → (fh : ℕ) → Contains (opens_in_reply k.wire) fh → IsOpenNumber h fh
   pub copies : All (λ (s : Sent). request_under w.kernel.queues s.unique ≢ None → (fh : ℕ)
-      → Contains (opens_in_reply s.wire) fh → IsNumber h fh) w.replies
+      → Contains (opens_in_reply s.wire) fh → IsOpenNumber h fh) w.replies
 
 -- What awaits a reply under a number: a request that was read, or with an odd number the request whose INTERRUPT it is.
 abbrev pub awaiting : Kernel → ℕ → Option Purpose

@@ -26,11 +26,11 @@ use Rattle.fuse_spec.specs.Reference.PlainSteps.{Takes}
 use Rattle.fuse_spec.specs.Claim.Denotes.{MeansIn}
 use Rattle.fuse_spec.specs.Claim.Alike.{Alike}
 use Rattle.fuse_theorem.specs.Numbering.{IsNumbered, IsNumberedWhileLive, IsOneToOne}
-use Rattle.fuse_theorem.specs.Conditions.{OneId, KnownAreHeld, TablesSound, CanPerform, CanDecline, CanRelease, IsReply, IsDeclined, UnreadAreUnsent, HoldsAll, HoldsOpens, IsInterrupt, IsUnsent, awaiting}
+use Rattle.fuse_theorem.specs.Conditions.{OneId, KnownAreHeld, TablesSound, CanPerformCall, CanDecline, CanRelease, IsReplyToCall, IsDeclined, UnreadAreUnsent, HoldsAll, HoldsOpens, IsInterrupt, IsUnsent, awaiting}
 
 -- The plain world takes the step of the outcome, and is alike to the world after it.
-abbrev pub Moves : Plain → Event → Outcome → World → Type 0
-Moves p e o after = (q : Plain) × Takes p e o q × Alike after q
+abbrev pub PlainMoves : Plain → Event → Outcome → World → Type 0
+PlainMoves p e o after = (q : Plain) × Takes p e o q × Alike after q
 
 -- The kernel's root is node 1, and the answers that are not collected stand in rising number.
 pub record IsRooted (c : Vfs Opened) : Type 0 where
@@ -38,22 +38,22 @@ pub record IsRooted (c : Vfs Opened) : Type 0 where
   pub answers : T (is_sorted nat_cmp c.answers)
 
 -- A request that the server can hold, or an INTERRUPT or forgets that it can take.
-abbrev pub CanTake : World → Plain → ℕ → Request → RequestBody → Type 0
-CanTake w p k r (init flags) = Unit {0}
-CanTake w p k r (asks operation) = Unit {0}
-CanTake w p k r (release o) = Unit {0}
-CanTake w p k r (forget f) = OneId w.server.nodes × HoldsAll w (all_taken_back w.server.nodes (f ∷ []))
-CanTake w p k r (batch_forget fs) = OneId w.server.nodes × HoldsAll w (all_taken_back w.server.nodes fs)
-CanTake w p k r (interrupt original) = IsInterrupt w p k r original
+abbrev pub CanTakeRequest : World → Plain → ℕ → Request → RequestBody → Type 0
+CanTakeRequest w p k r (init flags) = Unit {0}
+CanTakeRequest w p k r (asks operation) = Unit {0}
+CanTakeRequest w p k r (release o) = Unit {0}
+CanTakeRequest w p k r (forget f) = OneId w.server.nodes × HoldsAll w (all_taken_back w.server.nodes (f ∷ []))
+CanTakeRequest w p k r (batch_forget fs) = OneId w.server.nodes × HoldsAll w (all_taken_back w.server.nodes fs)
+CanTakeRequest w p k r (interrupt original) = IsInterrupt w p k r original
 
 -- A held request that the server can serve: an operation in a live mount or after an abort, one that is marked, INIT,
 -- or a RELEASE.
 pub data CanServe (choice : ℕ → ℕ) (w : World) (p : Plain) (unique : ℕ) (t : HeldRequest) : Type 0 where
-  performs : (operation : Operation ℕ Opened) → CanPerform w unique t operation → w.server.aborted ≡ false
+  performs : (operation : Operation ℕ Opened) → CanPerformCall w unique t operation → w.server.aborted ≡ false
       → TablesSound w.server → OneId w.server.nodes → KnownAreHeld w
       → ((ask : Ask) → get p.asks unique ≡ Some ask → MayChoose choice w.server.nodes
       (files_in_reply (reply_by p.validity p.tree ask.operation))) → CanServe choice w p unique t
-  performs_unheard : (operation : Operation ℕ Opened) → CanPerform w unique t operation → w.server.aborted ≡ true
+  performs_unreceived : (operation : Operation ℕ Opened) → CanPerformCall w unique t operation → w.server.aborted ≡ true
       → IsOneToOne (MeansIn w) → CanServe choice w p unique t
   declines : (operation : Operation ℕ Opened) → CanDecline w unique t operation → CanServe choice w p unique t
   initiates : (flags : ℕ) → t.body ≡ init flags → t.marked ≡ false → is_still_held w.server.nodes t.generations ≡ true
@@ -76,7 +76,7 @@ pub data CanReceive (w : World) (p : Plain) (sent : Sent) : Type 0 where
   of_call : (call : ℕ) (state : CallState Opened) (reply : Reply ℕ ℕ) → IsNumbered w → OneId w.server.nodes
       → is_live w.kernel.phase ≡ true → nat_eq (sent.unique % 2) 1 ≡ false
       → waiting w.kernel.queues sent.unique ≡ Some (Call call)
-      → IsReply w p sent call state reply → CanReceive w p sent
+      → IsReplyToCall w p sent call state reply → CanReceive w p sent
   of_declined : (call : ℕ) (state : CallState Opened) → IsNumbered w → OneId w.server.nodes
       → is_live w.kernel.phase ≡ true → nat_eq (sent.unique % 2) 1 ≡ false
       → waiting w.kernel.queues sent.unique ≡ Some (Call call) → IsDeclined w p sent call state
@@ -94,7 +94,7 @@ Needs choice w p (event.call call) = IsNumberedWhileLive w × IsOneToOne (MeansI
 Needs choice w p event.read_interrupt = IsSound w.kernel.queues
 Needs choice w p (event.read_forgets n) = IsSound w.kernel.queues
 Needs choice w p (event.read_pending k) = IsSound w.kernel.queues
-Needs choice w p (event.take k) = (r : Request) → slice_get w.requests k ≡ Some r → CanTake w p k r r.body
+Needs choice w p (event.take k) = (r : Request) → slice_get w.requests k ≡ Some r → CanTakeRequest w p k r r.body
 Needs choice w p (event.perform unique) = (t : HeldRequest) → get w.server.held unique ≡ Some t
     → CanServe choice w p unique t
 Needs choice w p (event.again unique) = OneId w.server.nodes × KnownAreHeld w

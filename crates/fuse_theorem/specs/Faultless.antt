@@ -45,4 +45,4 @@ pub record Faultless (w : World) : Type 0 where
   pub queued : All IsForget w.kernel.queues.forgets
   pub sent : All (λ (r : Request). All IsForget (forgets_of r.body)) w.requests
   pub kept : (unique : ℕ) (k : Kept) → get w.server.kept unique ≡ Some k → unique % 2 ≡ 0
-  pub spoken : Spoken w
+  pub for_minor : Spoken w

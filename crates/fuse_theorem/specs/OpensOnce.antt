@@ -11,16 +11,16 @@ use Rattle.fuse_theorem.specs.Copies.{SomeHas}
 use Rattle.fuse_theorem.specs.OpenNumbers.{open_files}
 
 -- The kept reply to this request carries the open number, or a copy on the reply link does.
-abbrev pub Carries : World → (unique fh : ℕ) → Type 0
-Carries w unique fh = ((k : Kept) × (get w.server.kept unique ≡ Some k) × (1 ≤ opens_in fh k.wire))
+abbrev pub CarriesOpen : World → (unique fh : ℕ) → Type 0
+CarriesOpen w unique fh = ((k : Kept) × (get w.server.kept unique ≡ Some k) × (1 ≤ opens_in fh k.wire))
     ⊎ SomeHas (λ (s : Sent). (s.unique ≡ unique) × (1 ≤ opens_in fh s.wire)) w.replies
 
 -- A number is of one open file at most. Replies to one request alone carry it, and until that is answered no open file
 -- has it.
 pub record OpensOnce (w : World) : Type 0 where
-  pub below : (unique fh : ℕ) → Carries w unique fh → fh < w.server.handles.next_fh
-  pub one : (u v fh : ℕ) → Carries w u fh → Carries w v fh → u ≡ v
-  pub unopened : (unique fh : ℕ) → Carries w unique fh → request_under w.kernel.queues unique ≢ None
+  pub below : (unique fh : ℕ) → CarriesOpen w unique fh → fh < w.server.handles.next_fh
+  pub one : (u v fh : ℕ) → CarriesOpen w u fh → CarriesOpen w v fh → u ≡ v
+  pub unopened : (unique fh : ℕ) → CarriesOpen w unique fh → request_under w.kernel.queues unique ≢ None
       → count_by (λ (o : Opened). nat_eq o.fh fh) (open_files w) ≡ 0
   pub once : (fh : ℕ) → count_by (λ (o : Opened). nat_eq o.fh fh) (open_files w) ≤ 1
 

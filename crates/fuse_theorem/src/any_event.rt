@@ -9,7 +9,7 @@ ghost use Rattle.fuse_spec.specs.World.Events as event;
 ghost use Rattle.fuse_spec.specs.World.Steps.{step, Happens};
 ghost use Rattle.fuse_spec.specs.World.Events.{Event, Outcome};
 ghost use Rattle.std.specs.Prelude.{Ok};
-ghost use Rattle.fuse_theorem.specs.EachEvent.{IsRooted, Moves, Needs};
+ghost use Rattle.fuse_theorem.specs.EachEvent.{IsRooted, PlainMoves, Needs};
 ghost use Rattle.fuse_spec.specs.World.Worlds.{World, first_world};
 ghost use Rattle.fuse_spec.specs.Reference.Plain.{Plain, first_plain};
 ghost use Rattle.fuse_spec.specs.Claim.Denotes.{MeansIn};
@@ -39,7 +39,7 @@ pub fn first_worlds()
 /// step of its outcome, and the two are alike again.
 pub fn step()
     ensures { (w : World) (p : Plain) → Alike w p → (choice : ℕ → ℕ) (e : Event) (o : Outcome) (after : World)
-        → Needs choice w p e → step choice w e ≡ Ok (o, after) → Moves p e o after }
+        → Needs choice w p e → step choice w e ≡ Ok (o, after) → PlainMoves p e o after }
 {}
 
 /// The kernel's root is node 1 at first and remains so, and the answers that are not collected stay in rising number,

@@ -2,7 +2,7 @@
 
 ghost use Rattle.std.specs.Prelude.{◌≡◌, ℕ, [], ◌∷◌};
 ghost use Rattle.fuse_spec.specs.Claim.Alike.{Alike};
-ghost use Rattle.fuse_spec.specs.Claim.Counts.{Keeps, SameNode};
+ghost use Rattle.fuse_spec.specs.Claim.Counts.{Protocol, SameNode};
 ghost use Rattle.fuse_spec.specs.World.Events as event;
 ghost use Rattle.fuse_spec.specs.Values.Maps.{get};
 ghost use Rattle.fuse_spec.specs.Reference.Plain.{Plain, first_plain};
@@ -22,7 +22,7 @@ ghost use Rattle.fuse_theorem.specs.WorldSound.{WorldSound};
 /// That two worlds are alike does not give the reference protocol: `headline::protocol_is_kept` needs all that is
 /// sound.
 pub fn alike_is_not_enough()
-    ensures { Alike with_a_stray_forget first_plain × (Keeps with_a_stray_forget → ⊥) }
+    ensures { Alike with_a_stray_forget first_plain × (Protocol with_a_stray_forget → ⊥) }
 {}
 
 /// A call is answered twice where it was unanswered and answered at first: `any_event::each_call_answered_once` needs

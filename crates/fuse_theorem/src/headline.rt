@@ -2,7 +2,7 @@
 
 ghost use Rattle.std.specs.Prelude.{◌≢◌, List, All};
 ghost use Rattle.fuse_spec.specs.Claim.Alike.{Alike};
-ghost use Rattle.fuse_spec.specs.Claim.Counts.{Keeps};
+ghost use Rattle.fuse_spec.specs.Claim.Counts.{Protocol};
 ghost use Rattle.fuse_spec.specs.declared.Refusal.TheVariants.{NoMemory};
 ghost use Rattle.fuse_spec.specs.World.Events.{Event, Outcome};
 ghost use Rattle.fuse_spec.specs.Reference.Plain.{Plain, first_plain};
@@ -29,7 +29,7 @@ pub fn all_stays_sound()
 /// no request has a fault, no copy was refused for its body, and where nothing is under way no call is unanswered and
 /// the two sides count the same.
 pub fn protocol_is_kept()
-    ensures { (w : World) (p : Plain) → AllSound w p → Keeps w }
+    ensures { (w : World) (p : Plain) → AllSound w p → Protocol w }
 {}
 
 /// Whatever the machine records of a list of events: the plain world has a run over the list with the same records, in
@@ -38,7 +38,7 @@ pub fn protocol_is_kept()
 pub fn every_list_runs()
     ensures from_first { (events : List Event) (records : List Record) (after : World)
         → Recorded first_world events records after → (q : Plain) × Run first_world first_plain events records after q
-        × Alike after q × Keeps after × AnswersOnce records × CallsEnd first_world records after }
+        × Alike after q × Protocol after × AnswersOnce records × CallsEnd first_world records after }
     ensures from_any { (w : World) (p : Plain) → AllSound w p → AnswersSound w.kernel.vfs
         → (events : List Event) (records : List Record) (after : World) → Recorded w events records after →
         (q : Plain) × Run w p events records after q × Alike after q × AllSound after q × AnswersOnce records

@@ -2,7 +2,7 @@
 
 ghost use Rattle.std.specs.Prelude.{◌+◌, ◌≤◌, ℕ, List, length};
 ghost use Rattle.fuse_spec.specs.Claim.Alike.{Alike};
-ghost use Rattle.fuse_spec.specs.Claim.Counts.{Keeps};
+ghost use Rattle.fuse_spec.specs.Claim.Counts.{Protocol};
 ghost use Rattle.fuse_spec.specs.World.Events.{Event, Outcome};
 ghost use Rattle.fuse_spec.specs.Values.Maps.{remove};
 ghost use Rattle.fuse_spec.specs.Values.Numbers.{max_calls};
@@ -32,7 +32,7 @@ pub fn sound_worlds_stay()
 /// is collected, and along a list of events. A call that is over stays so.
 pub fn sound_worlds_refine()
     ensures some { (w : World) → IsSoundWorld w → (p : Plain) × Alike w p }
-    ensures protocol { (w : World) → IsSoundWorld w → Keeps w }
+    ensures protocol { (w : World) → IsSoundWorld w → Protocol w }
     ensures event { (w : World) → IsSoundWorld w → (e : Event) (o : Outcome) (after : World) → Happens w e o after
         → (p : Plain) → Alike w p → (q : Plain) × Steps p e o q × Alike after q }
     ensures over { (w : World) → IsSoundWorld w → (e : Event) (o : Outcome) (after : World) → Happens w e o after
@@ -57,7 +57,7 @@ pub fn sound_sessions_refine()
         → (q : Plain) × SessionRun s p events records after q × Alike after.world q }
     ensures protocol { (s : Session) → IsSoundWorld s.world
         → (events : List Event) (records : List Record) (after : Session) → SessionRecorded s events records after
-        → Keeps after.world }
+        → Protocol after.world }
     ensures answers { (s : Session) → IsSoundWorld s.world
         → (events : List Event) (records : List Record) (after : Session) → SessionRecorded s events records after
         → AnswersOnce records × CallsEnd s.world records after.world }

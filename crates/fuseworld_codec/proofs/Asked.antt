@@ -10,7 +10,7 @@ use Rattle.fk_wire.specs.declared.opcode.Opcode.TheVariants as op
 use Rattle.fk_wire.proofs.OneRequest.{same_code}
 use Rattle.fk_wire.proofs.PairLists.{list_ends, one_list}
 use Rattle.fuseworld_codec.specs.declared.layout.FlatRequest.{FlatRequest}
-use Rattle.fuseworld_codec.specs.RequestStructs.{Asks, SaysRequest, name_in, newname_in, data_in}
+use Rattle.fuseworld_codec.specs.RequestStructs.{StructAsks, IsRequestStruct, name_in, newname_in, data_in}
 
 -- what a struct asks, if it asks something
 asked : Opcode → FlatRequest → List ℕ → RequestContent
@@ -33,7 +33,7 @@ asked op.Create r bytes = create (name_in r bytes)
 asked op.Interrupt r bytes = interrupt r.interrupted
 asked op.BatchForget r bytes = batch_forget (pairs_from (length (data_in r bytes) / 16) 0 (data_in r bytes))
 
-asks_one : (r : FlatRequest) (bytes : List ℕ) (a : RequestContent) → Asks r bytes a → asked (opcode_of a) r bytes ≡ a
+asks_one : (r : FlatRequest) (bytes : List ℕ) (a : RequestContent) → StructAsks r bytes a → asked (opcode_of a) r bytes ≡ a
 unfolding asked
 asks_one r bytes (lookup name) h = ap lookup h
 asks_one r bytes (forget n) h = ap forget h
@@ -60,8 +60,8 @@ asks_one r bytes (batch_forget ps) h =
 abbrev message : (unique nodeid : ℕ) → RequestContent → RequestMessage
 message unique nodeid content = record { unique = unique; nodeid = nodeid; content = content }
 
-pub says_one : (r : FlatRequest) (bytes : List ℕ) (m n : RequestMessage) → SaysRequest r bytes m
-    → SaysRequest r bytes n → m ≡ n
+pub says_one : (r : FlatRequest) (bytes : List ℕ) (m n : RequestMessage) → IsRequestStruct r bytes m
+    → IsRequestStruct r bytes n → m ≡ n
 says_one r bytes m n h k =
     let same : opcode_of m.content ≡ opcode_of n.content =
     same_code (opcode_of m.content) (opcode_of n.content) (sym h.0 ∙ k.0) in

@@ -2,8 +2,8 @@
 use Rattle.std.proofs.Common.{◌≡◌, ◌≤◌, ◌<◌, ℕ, ◌+◌, ◌^◌, List, [], ◌++◌, length, take, sym, ap, subst, ◌∙◌, arith}
 use Rattle.std.specs.Prelude.{IsTrue}
 use Rattle.std.proofs.lemmas.List.{take_all}
-use Rattle.fk_wire.specs.Fields.{AreNamed, InRange, sizes, spellings, u64}
-use Rattle.fk_wire.specs.Opcodes.{code_of, has_node, knows}
+use Rattle.fk_wire.specs.Fields.{HaveNames, InRange, sizes, spellings, u64}
+use Rattle.fk_wire.specs.Opcodes.{code_of, has_node, minor_knows}
 use Rattle.fk_wire.specs.Requests.{RequestMessage, IsNodeOf, WrittenAt, header, max_frame, opcode_of, request_body}
 use Rattle.fk_wire.specs.declared.opcode.Minor.{Minor}
 use Rattle.fk_wire.proofs.Frames.{frame, reply_frame}
@@ -14,8 +14,8 @@ use Rattle.fk_wire.specs.Replies.{ReplyMessage, HasReplyNames, IsAlone, IsErrorN
 pub whole_request : (minor : Minor) (m : RequestMessage) (out : List ℕ) (len place code : ℕ) → length out ≡ len
     → place ≡ len → 40 + sizes (request_body m.content) ≡ len → len ≤ max_frame → m.unique < 2 ^ 64
     → m.nodeid < 2 ^ 64 → code < 2 ^ 32 → code ≡ code_of (opcode_of m.content)
-    → IsTrue (knows minor (opcode_of m.content)) → IsNodeOf (has_node (opcode_of m.content)) m.nodeid
-    → InRange (request_body m.content) → AreNamed (request_body m.content)
+    → IsTrue (minor_knows minor (opcode_of m.content)) → IsNodeOf (has_node (opcode_of m.content)) m.nodeid
+    → InRange (request_body m.content) → HaveNames (request_body m.content)
     → take place out ≡ spellings (header len code m.unique (u64 m.nodeid)) ++ spellings (request_body m.content)
     → WrittenAt minor m out
 whole_request minor m out len place code size end total small unique node bound same known good fits names e =

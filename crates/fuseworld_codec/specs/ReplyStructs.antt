@@ -50,8 +50,8 @@ Replies r bytes (records_reply ds) = AreRecords 0 (bytes_said r bytes) ds
 Replies r bytes (plus_reply ps) = AreRecordsPlus 0 (bytes_said r bytes) ps
 
 -- The struct is this reply.
-abbrev pub SaysReply : FlatReply → List ℕ → ReplyMessage → Type 0
-SaysReply r bytes t = (r.unique ≡ t.unique) × (r.error ≡ t.error) × Replies r bytes t.content
+abbrev pub IsReplyStruct : FlatReply → List ℕ → ReplyMessage → Type 0
+IsReplyStruct r bytes t = (r.unique ≡ t.unique) × (r.error ≡ t.error) × Replies r bytes t.content
 
 -- The data of the struct lie within the bytes.
 abbrev pub HasReplyPlace : FlatReply → List ℕ → Type 0

@@ -22,30 +22,30 @@ abbrev pub data_in : FlatRequest → List ℕ → List ℕ
 data_in r bytes = bytes_at r.data_offset r.data_length bytes
 
 -- The struct asks this, by the fields that count for its opcode.
-abbrev pub Asks : FlatRequest → List ℕ → RequestContent → Type 0
-Asks r bytes (lookup name) = name_in r bytes ≡ name
-Asks r bytes (forget nlookup) = r.nlookup ≡ nlookup
-Asks r bytes getattr = Unit {0}
-Asks r bytes (mkdir name) = name_in r bytes ≡ name
-Asks r bytes (unlink name) = name_in r bytes ≡ name
-Asks r bytes (rmdir name) = name_in r bytes ≡ name
-Asks r bytes (rename newdir old new) = (r.newdir ≡ newdir) × (name_in r bytes ≡ old) × (newname_in r bytes ≡ new)
-Asks r bytes (link oldnodeid name) = (r.oldnodeid ≡ oldnodeid) × (name_in r bytes ≡ name)
-Asks r bytes opening = Unit {0}
-Asks r bytes (read fh offset size) = (r.fh ≡ fh) × (r.offset ≡ offset) × (r.size ≡ size)
-Asks r bytes (write fh offset data') = (r.fh ≡ fh) × (r.offset ≡ offset) × (data_in r bytes ≡ data')
-Asks r bytes (release fh) = r.fh ≡ fh
-Asks r bytes (init major minor flags) = (r.major ≡ major) × (r.minor ≡ minor) × (bit_and r.flags known_flags ≡ flags)
-Asks r bytes (readdir offset size) = (r.offset ≡ offset) × (r.size ≡ size)
-Asks r bytes (readdirplus offset size) = (r.offset ≡ offset) × (r.size ≡ size)
-Asks r bytes (create name) = name_in r bytes ≡ name
-Asks r bytes (interrupt unique) = r.interrupted ≡ unique
-Asks r bytes (batch_forget forgets) = ReadsAs 0 (forget_ones forgets) (data_in r bytes)
+abbrev pub StructAsks : FlatRequest → List ℕ → RequestContent → Type 0
+StructAsks r bytes (lookup name) = name_in r bytes ≡ name
+StructAsks r bytes (forget nlookup) = r.nlookup ≡ nlookup
+StructAsks r bytes getattr = Unit {0}
+StructAsks r bytes (mkdir name) = name_in r bytes ≡ name
+StructAsks r bytes (unlink name) = name_in r bytes ≡ name
+StructAsks r bytes (rmdir name) = name_in r bytes ≡ name
+StructAsks r bytes (rename newdir old new) = (r.newdir ≡ newdir) × (name_in r bytes ≡ old) × (newname_in r bytes ≡ new)
+StructAsks r bytes (link oldnodeid name) = (r.oldnodeid ≡ oldnodeid) × (name_in r bytes ≡ name)
+StructAsks r bytes opening = Unit {0}
+StructAsks r bytes (read fh offset size) = (r.fh ≡ fh) × (r.offset ≡ offset) × (r.size ≡ size)
+StructAsks r bytes (write fh offset data') = (r.fh ≡ fh) × (r.offset ≡ offset) × (data_in r bytes ≡ data')
+StructAsks r bytes (release fh) = r.fh ≡ fh
+StructAsks r bytes (init major minor flags) = (r.major ≡ major) × (r.minor ≡ minor) × (bit_and r.flags known_flags ≡ flags)
+StructAsks r bytes (readdir offset size) = (r.offset ≡ offset) × (r.size ≡ size)
+StructAsks r bytes (readdirplus offset size) = (r.offset ≡ offset) × (r.size ≡ size)
+StructAsks r bytes (create name) = name_in r bytes ≡ name
+StructAsks r bytes (interrupt unique) = r.interrupted ≡ unique
+StructAsks r bytes (batch_forget forgets) = ReadsAs 0 (forget_ones forgets) (data_in r bytes)
 
 -- The struct is this request.
-abbrev pub SaysRequest : FlatRequest → List ℕ → RequestMessage → Type 0
-SaysRequest r bytes m = (r.opcode ≡ code_of (opcode_of m.content)) × (r.unique ≡ m.unique) × (r.nodeid ≡ m.nodeid)
-    × Asks r bytes m.content
+abbrev pub IsRequestStruct : FlatRequest → List ℕ → RequestMessage → Type 0
+IsRequestStruct r bytes m = (r.opcode ≡ code_of (opcode_of m.content)) × (r.unique ≡ m.unique) × (r.nodeid ≡ m.nodeid)
+    × StructAsks r bytes m.content
 
 -- The names and the data of the struct lie within the bytes.
 abbrev pub HasPlaces : FlatRequest → List ℕ → Type 0

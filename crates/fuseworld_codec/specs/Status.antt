@@ -8,13 +8,13 @@ use Rattle.fk_wire.specs.Opcodes.{code_of}
 use Rattle.fk_wire.specs.WireFaults.{fault_number}
 
 -- the number of a minor version
-abbrev pub minor_number : Minor → ℕ
-minor_number minors.M15 = 15
-minor_number minors.M31 = 31
+abbrev pub minor_number_of : Minor → ℕ
+minor_number_of minors.M15 = 15
+minor_number_of minors.M31 = 31
 
 -- A number that is no minor version.
 abbrev pub IsNoMinor : ℕ → Type 0
-IsNoMinor number = (m : Minor) → minor_number m ≢ number
+IsNoMinor number = (m : Minor) → minor_number_of m ≢ number
 
 -- A number that is no opcode.
 abbrev pub IsNoOpcode : ℕ → Type 0

@@ -4,8 +4,8 @@ ghost use Rattle.std.specs.Prelude.{◌≡◌, ◌≢◌, IfOk, IfErr, IsOkAnd};
 ghost use Rattle.fk_wire.specs.Requests.{RequestMessage, SpellsAt};
 ghost use Rattle.fk_wire.specs.Faults.{FaultIsAt};
 ghost use Rattle.fk_wire.specs.declared.opcode.Minor.{Minor};
-ghost use Rattle.fuseworld_codec.specs.RequestStructs.{SaysRequest};
-ghost use Rattle.fuseworld_codec.specs.Status.{AnswersFault, IsNoMinor, minor_number};
+ghost use Rattle.fuseworld_codec.specs.RequestStructs.{IsRequestStruct};
+ghost use Rattle.fuseworld_codec.specs.Status.{AnswersFault, IsNoMinor, minor_number_of};
 
 use crate::layout::FlatRequest;
 use crate::request_fields::flat_of;
@@ -15,9 +15,9 @@ use fk_wire::{Minor, WireFault, read_request_at};
 /// The request that a frame spells.
 #[tactic(auto, using(crate::proofs::Places::body_reads))]
 fn flat_request(version: Minor, bytes: &[u8]) -> Result<FlatRequest, WireFault>
-    ensures ok { IfOk result (λ r. (m : RequestMessage) × SpellsAt version bytes.now m × SaysRequest r bytes.now m) }
+    ensures ok { IfOk result (λ r. (m : RequestMessage) × SpellsAt version bytes.now m × IsRequestStruct r bytes.now m) }
     ensures only { (m : RequestMessage) → SpellsAt version bytes.now m
-        → IsOkAnd result (λ r. SaysRequest r bytes.now m) }
+        → IsOkAnd result (λ r. IsRequestStruct r bytes.now m) }
     ensures fault { IfErr result (FaultIsAt version bytes.now) }
 {
     match read_request_at(version, bytes) {
@@ -35,13 +35,13 @@ fn flat_request(version: Minor, bytes: &[u8]) -> Result<FlatRequest, WireFault>
 #[unsafe(no_mangle)]
 pub extern "C" fn fuseworld_read_request(minor: u32, bytes: &[u8], out: &mut FlatRequest) -> u32
     // What is read is spelled so.
-    ensures ok { (v : Minor) → minor_number v ≡ minor → result ≡ 0
-        → (m : RequestMessage) × SpellsAt v bytes.now m × SaysRequest out.new bytes.now m }
+    ensures ok { (v : Minor) → minor_number_of v ≡ minor → result ≡ 0
+        → (m : RequestMessage) × SpellsAt v bytes.now m × IsRequestStruct out.new bytes.now m }
     // What is spelled so is read.
-    ensures only { (v : Minor) → minor_number v ≡ minor → (m : RequestMessage) → SpellsAt v bytes.now m
-        → (result ≡ 0) × SaysRequest out.new bytes.now m }
+    ensures only { (v : Minor) → minor_number_of v ≡ minor → (m : RequestMessage) → SpellsAt v bytes.now m
+        → (result ≡ 0) × IsRequestStruct out.new bytes.now m }
     // Else the answer is the first fault that applies, and the struct is as it was.
-    ensures fault { (v : Minor) → minor_number v ≡ minor → result ≢ 0 → AnswersFault result (FaultIsAt v bytes.now) }
+    ensures fault { (v : Minor) → minor_number_of v ≡ minor → result ≢ 0 → AnswersFault result (FaultIsAt v bytes.now) }
     ensures minor { IsNoMinor minor → result ≡ 8 }
     ensures kept { result ≢ 0 → out.new ≡ out.old }
 {

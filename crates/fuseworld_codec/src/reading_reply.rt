@@ -6,8 +6,8 @@ ghost use Rattle.fk_wire.specs.Replies.{ReplyMessage, SpellsReplyAt};
 ghost use Rattle.fk_wire.specs.ReplyFaults.{ReplyFaultIsAt};
 ghost use Rattle.fk_wire.specs.declared.opcode.Minor.{Minor};
 ghost use Rattle.fk_wire.specs.declared.opcode.Opcode.{Opcode};
-ghost use Rattle.fuseworld_codec.specs.ReplyStructs.{SaysReply};
-ghost use Rattle.fuseworld_codec.specs.Status.{AnswersFault, IsNoMinor, IsNoOpcode, minor_number};
+ghost use Rattle.fuseworld_codec.specs.ReplyStructs.{IsReplyStruct};
+ghost use Rattle.fuseworld_codec.specs.Status.{AnswersFault, IsNoMinor, IsNoOpcode, minor_number_of};
 
 use crate::layout::FlatReply;
 use crate::reply_fields::flat_of;
@@ -35,9 +35,9 @@ fn flat_reply(
     bytes: &[u8],
 ) -> Result<FlatReply, WireFault>
     ensures ok { IfOk result (λ r. (t : ReplyMessage) × SpellsReplyAt version opcode bytes.now t
-        × SaysReply r bytes.now t) }
+        × IsReplyStruct r bytes.now t) }
     ensures only { (t : ReplyMessage) → SpellsReplyAt version opcode bytes.now t
-        → IsOkAnd result (λ r. SaysReply r bytes.now t) }
+        → IsOkAnd result (λ r. IsReplyStruct r bytes.now t) }
     ensures code { IfOk result (λ r. r.opcode ≡ code) }
     ensures fault { IfErr result (ReplyFaultIsAt version opcode bytes.now) }
 {
@@ -62,16 +62,16 @@ pub extern "C" fn fuseworld_read_reply(
     out: &mut FlatReply,
 ) -> u32
     // What is read is spelled so.
-    ensures ok { (v : Minor) (o : Opcode) → minor_number v ≡ minor → code_of o ≡ opcode → result ≡ 0
-        → (t : ReplyMessage) × SpellsReplyAt v o bytes.now t × SaysReply out.new bytes.now t }
+    ensures ok { (v : Minor) (o : Opcode) → minor_number_of v ≡ minor → code_of o ≡ opcode → result ≡ 0
+        → (t : ReplyMessage) × SpellsReplyAt v o bytes.now t × IsReplyStruct out.new bytes.now t }
     // What is spelled so is read.
-    ensures only { (v : Minor) (o : Opcode) → minor_number v ≡ minor → code_of o ≡ opcode → (t : ReplyMessage)
-        → SpellsReplyAt v o bytes.now t → (result ≡ 0) × SaysReply out.new bytes.now t }
+    ensures only { (v : Minor) (o : Opcode) → minor_number_of v ≡ minor → code_of o ≡ opcode → (t : ReplyMessage)
+        → SpellsReplyAt v o bytes.now t → (result ≡ 0) × IsReplyStruct out.new bytes.now t }
     // Else the answer is the first fault that applies, and the struct is as it was.
-    ensures fault { (v : Minor) (o : Opcode) → minor_number v ≡ minor → code_of o ≡ opcode → result ≢ 0
+    ensures fault { (v : Minor) (o : Opcode) → minor_number_of v ≡ minor → code_of o ≡ opcode → result ≢ 0
         → AnswersFault result (ReplyFaultIsAt v o bytes.now) }
     // An opcode that is not known has no replies, as FORGET has none.
-    ensures unknown { (v : Minor) → minor_number v ≡ minor → IsNoOpcode opcode
+    ensures unknown { (v : Minor) → minor_number_of v ≡ minor → IsNoOpcode opcode
         → AnswersFault result (ReplyFaultIsAt v Opcode.Forget bytes.now) }
     ensures minor { IsNoMinor minor → result ≡ 8 }
     ensures opcode { result ≡ 0 → out.new.opcode ≡ opcode }

@@ -4,7 +4,7 @@ ghost use Rattle.std.specs.Prelude.{◌≡◌, ◌≤◌, length};
 ghost use Rattle.fk_wire.specs.Fields.{ReadsAs};
 ghost use Rattle.fk_wire.specs.Entries.{entry_content};
 ghost use Rattle.fk_wire.specs.Replies.{HasReplyNames, IsReplyContent, reply_body, reply_content, reply_message};
-ghost use Rattle.fuseworld_codec.specs.ReplyStructs.{SaysReply, attr_said, entry_said};
+ghost use Rattle.fuseworld_codec.specs.ReplyStructs.{IsReplyStruct, attr_said, entry_said};
 
 use crate::layout::{FlatAttr, FlatEntry, FlatReply};
 use crate::request_fields::known_bits;
@@ -114,7 +114,7 @@ pub(crate) fn flat_of(opcode: u32, reply: &Reply<'_>, frame: &[u8]) -> FlatReply
     requires entries { IsReplyContent (reply_content reply.now.body) }
     requires names { HasReplyNames (reply_content reply.now.body) }
     requires body { ReadsAs 16 (reply_body (reply_content reply.now.body)) frame.now }
-    ensures says { SaysReply result frame.now (reply_message reply.now) }
+    ensures says { IsReplyStruct result frame.now (reply_message reply.now) }
     ensures opcode { result.opcode ≡ opcode }
 {
     match reply.body {

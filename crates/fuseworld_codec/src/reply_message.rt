@@ -3,14 +3,14 @@
 ghost use Rattle.std.specs.Prelude.{◌≡◌, ◌≢◌, List, Some, IfOk, IfErr, Err, IsTrue, None, length, ◌↔◌};
 ghost use Rattle.fk_wire.specs.Entries.{entry_content};
 ghost use Rattle.fk_wire.specs.Fields.{sizes};
-ghost use Rattle.fk_wire.specs.Opcodes.{kind_of};
+ghost use Rattle.fk_wire.specs.Opcodes.{reply_kind_of};
 ghost use Rattle.fk_wire.specs.declared.opcode.Minor.{Minor};
 ghost use Rattle.fk_wire.specs.Replies.{GoesWith, IsAlone, IsErrorNumber, ReplyContent, ReplyMessage};
 ghost use Rattle.fk_wire.specs.Replies.{kind_of_content, plus_reply, reply_content, reply_kind, reply_message};
 ghost use Rattle.fk_wire.specs.declared.opcode.Opcode.{Opcode};
 ghost use Rattle.fk_wire.specs.Dirents.{DirentContent, DirentPlusContent, direntpluses};
 ghost use Rattle.fk_wire.specs.Records.{AreRecords, AreRecordsPlus, pluses_in, records_in};
-ghost use Rattle.fuseworld_codec.specs.ReplyStructs.{HasReplyPlace, Replies, SaysReply, attr_said};
+ghost use Rattle.fuseworld_codec.specs.ReplyStructs.{HasReplyPlace, Replies, IsReplyStruct, attr_said};
 ghost use Rattle.fuseworld_codec.specs.ReplyStructs.{bytes_said, entry_said};
 
 use crate::layout::{FlatAttr, FlatEntry, FlatReply};
@@ -81,12 +81,12 @@ fn pairs_of<'a>(r: &FlatReply, bytes: &'a [u8]) -> Result<RecordsPlus<'a>, u32>
 
 /// What a struct without an error replies under this opcode.
 fn body_of<'a>(opcode: Opcode, r: &FlatReply, bytes: &'a [u8]) -> Result<ReplyBody<'a>, u32>
-    ensures ok { IfOk result (λ b. (kind_of opcode ≡ Some (kind_of_content (reply_content b)))
+    ensures ok { IfOk result (λ b. (reply_kind_of opcode ≡ Some (kind_of_content (reply_content b)))
         × Replies r.now bytes.now (reply_content b)) }
     ensures len { IfOk result (λ b. (ps : List DirentPlusContent) → reply_content b ≡ plus_reply ps
         → sizes (direntpluses ps) ≡ r.now.data_length) }
     ensures none { IfErr result (λ e. HasReplyPlace r.now bytes.now → (s : ReplyContent)
-        → kind_of opcode ≡ Some (kind_of_content s) → Replies r.now bytes.now s → ⊥) }
+        → reply_kind_of opcode ≡ Some (kind_of_content s) → Replies r.now bytes.now s → ⊥) }
     ensures place { IfErr result (λ e. e ≡ 10 → HasReplyPlace r.now bytes.now → ⊥) }
     ensures status { IfErr result (λ e. (e ≢ 0) × (e ≢ 9)) }
 {
@@ -144,12 +144,12 @@ pub(crate) fn reply_of<'a>(
 ) -> Result<Reply<'a>, u32>
     requires { IsErrorNumber r.now.error }
     ensures ok { IfOk result (λ q. GoesWith version opcode (reply_message q)
-        × SaysReply r.now bytes.now (reply_message q)) }
+        × IsReplyStruct r.now bytes.now (reply_message q)) }
     ensures alone { IfOk result (λ q. IsAlone (reply_message q)) }
     ensures len { IfOk result (λ q. (ps : List DirentPlusContent) → reply_content q.body ≡ plus_reply ps
         → sizes (direntpluses ps) ≡ r.now.data_length) }
     ensures none { IfErr result (λ e. HasReplyPlace r.now bytes.now → (t : ReplyMessage)
-        → GoesWith version opcode t → SaysReply r.now bytes.now t → ⊥) }
+        → GoesWith version opcode t → IsReplyStruct r.now bytes.now t → ⊥) }
     ensures place { IfErr result (λ e. e ≡ 10 → HasReplyPlace r.now bytes.now → ⊥) }
     ensures status { IfErr result (λ e. (e ≢ 0) × (e ≢ 9)) }
     ensures unknown { reply_kind version opcode ≡ None → result ≡ Err 3 }

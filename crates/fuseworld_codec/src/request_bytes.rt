@@ -2,9 +2,9 @@
 
 ghost use Rattle.std.specs.Prelude.{◌≡◌, ◌≤◌, ◌<◌, ◌+◌, ◌*◌, ◌^◌, ◌++◌, IsTrue, length, take};
 ghost use Rattle.std.specs.Int.RustNames.{bit_and};
-ghost use Rattle.fk_wire.specs.Fields.{AreNamed, InRange, sizes, spellings, u64};
+ghost use Rattle.fk_wire.specs.Fields.{HaveNames, InRange, sizes, spellings, u64};
 ghost use Rattle.fk_wire.specs.Faults.{FitsFrame};
-ghost use Rattle.fk_wire.specs.Opcodes.{code_of, knows};
+ghost use Rattle.fk_wire.specs.Opcodes.{code_of, minor_knows};
 ghost use Rattle.fk_wire.specs.Pairs.{forget_ones, pairs_in};
 ghost use Rattle.fk_wire.specs.Requests.{WrittenAt, batch_forget, create, getattr, header, init, known_flags, mkdir};
 ghost use Rattle.fk_wire.specs.Requests.{opcode_of, range, release, rename, request_body, request_content};
@@ -200,9 +200,9 @@ fn put_body(out: &mut [u8], place: usize, body: &RequestBody<'_>) -> usize
 pub(crate) fn put_request(out: &mut [u8], version: Minor, code: u32, request: &Request<'_>)
     requires size { length out.old ≡ 40 + sizes (request_body (request_content request.now.body)) }
     requires code { code ≡ code_of (opcode_of (request_content request.now.body)) }
-    requires known { IsTrue (knows version (opcode_of (request_content request.now.body))) }
+    requires known { IsTrue (minor_knows version (opcode_of (request_content request.now.body))) }
     requires fits { FitsFrame (request_message request.now) }
-    requires named { AreNamed (request_body (request_content request.now.body)) }
+    requires named { HaveNames (request_body (request_content request.now.body)) }
     ensures { WrittenAt version (request_message request.now) out.new }
 {
     let len = out.len() as u32;

@@ -1,9 +1,9 @@
 //! Whether a request has a spelling, and how long it is.
 
 ghost use Rattle.std.specs.Prelude.{◌≡◌, ◌≤◌, ◌<◌, ◌+◌, ◌↔◌, IsTrue, IfOk, IfErr};
-ghost use Rattle.fk_wire.specs.Fields.{AreNamed, sizes};
+ghost use Rattle.fk_wire.specs.Fields.{HaveNames, sizes};
 ghost use Rattle.fk_wire.specs.Faults.{FitsFrame, RefusalIsAt};
-ghost use Rattle.fk_wire.specs.Opcodes.{has_node, knows};
+ghost use Rattle.fk_wire.specs.Opcodes.{has_node, minor_knows};
 ghost use Rattle.fk_wire.specs.Requests.{IsNodeOf, opcode_of, request_body, request_content, request_message};
 
 use fk_fields::is_name;
@@ -11,7 +11,7 @@ use fk_wire::{MAX_FRAME, Minor, Opcode, Request, RequestBody, WireFault};
 
 /// Whether the minor version knows an opcode: 7.15 has no BATCH_FORGET and no READDIRPLUS.
 pub(crate) fn is_known(version: Minor, opcode: Opcode) -> bool
-    ensures { IsTrue result ↔ IsTrue (knows version opcode) }
+    ensures { IsTrue result ↔ IsTrue (minor_knows version opcode) }
 {
     match version {
         Minor::M31 => true,
@@ -55,7 +55,7 @@ fn body_size(body: &RequestBody<'_>) -> usize
 /// Whether each name is one.
 #[tactic(auto, using(fk_wire::proofs::Frames::forgets_are_named))]
 fn has_names(body: &RequestBody<'_>) -> bool
-    ensures { IsTrue result ↔ AreNamed (request_body (request_content body.now)) }
+    ensures { IsTrue result ↔ HaveNames (request_body (request_content body.now)) }
 {
     match body {
         RequestBody::Lookup { name }
@@ -86,9 +86,9 @@ fn has_names(body: &RequestBody<'_>) -> bool
 /// The first of `Opcode`, `Body` and `Name` that applies.
 pub(crate) fn frame_size(version: Minor, request: &Request<'_>) -> Result<usize, WireFault>
     ensures size { IfOk result (λ n. n ≡ 40 + sizes (request_body (request_content request.now.body))) }
-    ensures known { IfOk result (λ n. IsTrue (knows version (opcode_of (request_content request.now.body)))) }
+    ensures known { IfOk result (λ n. IsTrue (minor_knows version (opcode_of (request_content request.now.body)))) }
     ensures fits { IfOk result (λ n. FitsFrame (request_message request.now)) }
-    ensures named { IfOk result (λ n. AreNamed (request_body (request_content request.now.body))) }
+    ensures named { IfOk result (λ n. HaveNames (request_body (request_content request.now.body))) }
     ensures fault { IfErr result (RefusalIsAt version (request_message request.now)) }
 {
     let opcode = request.body.opcode();

@@ -4,7 +4,7 @@ ghost use Rattle.std.specs.Prelude.{◌≡◌, ◌+◌, ◌-◌, length};
 ghost use Rattle.std.specs.Int.RustNames.{bit_and};
 ghost use Rattle.fk_wire.specs.Fields.{ReadsAs};
 ghost use Rattle.fk_wire.specs.Requests.{known_flags, request_body, request_content, request_message};
-ghost use Rattle.fuseworld_codec.specs.RequestStructs.{SaysRequest};
+ghost use Rattle.fuseworld_codec.specs.RequestStructs.{IsRequestStruct};
 
 use crate::layout::FlatRequest;
 use bitflags::Flags;
@@ -118,7 +118,7 @@ fn with_version(request: &Request<'_>, major: u32, minor: u32, flags: u32) -> Fl
 #[tactic(auto, using(crate::proofs::Places::flat_places, fk_wire::proofs::Masks::and_again))]
 pub(crate) fn flat_of(request: &Request<'_>, frame: &[u8]) -> FlatRequest
     requires { ReadsAs 40 (request_body (request_content request.now.body)) frame.now }
-    ensures { SaysRequest result frame.now (request_message request.now) }
+    ensures { IsRequestStruct result frame.now (request_message request.now) }
 {
     match request.body {
         RequestBody::Lookup { name } => with_name(1, request, 40, name),

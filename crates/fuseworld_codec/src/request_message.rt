@@ -5,7 +5,7 @@ ghost use Rattle.fk_wire.specs.Fields.{bytes_at, ReadsAs};
 ghost use Rattle.fk_wire.specs.Pairs.{forget_ones, pairs_in};
 ghost use Rattle.fk_wire.specs.Requests.{RequestContent, RequestMessage, opcode_of, request_content, request_message};
 ghost use Rattle.fk_wire.specs.declared.opcode.Opcode.{Opcode};
-ghost use Rattle.fuseworld_codec.specs.RequestStructs.{Asks, HasPlaces, SaysRequest, data_in, is_named};
+ghost use Rattle.fuseworld_codec.specs.RequestStructs.{StructAsks, HasPlaces, IsRequestStruct, data_in, is_named};
 ghost use Rattle.fuseworld_codec.specs.Status.{IsNoOpcode};
 
 use crate::layout::FlatRequest;
@@ -80,9 +80,9 @@ fn has_one_name(opcode: Opcode) -> bool
 fn named_body<'a>(opcode: Opcode, r: &FlatRequest, bytes: &'a [u8]) -> Result<RequestBody<'a>, u32>
     requires { IsTrue (is_named opcode) }
     ensures ok { IfOk result (λ b. (opcode_of (request_content b) ≡ opcode)
-        × Asks r.now bytes.now (request_content b)) }
+        × StructAsks r.now bytes.now (request_content b)) }
     ensures none { IfErr result (λ e. HasPlaces r.now bytes.now → (a : RequestContent) → opcode_of a ≡ opcode
-        → Asks r.now bytes.now a → ⊥) }
+        → StructAsks r.now bytes.now a → ⊥) }
     ensures place { IfErr result (λ e. e ≡ 10 → HasPlaces r.now bytes.now → ⊥) }
     ensures status { IfErr result (λ e. (e ≢ 0) × (e ≢ 9)) }
 {
@@ -105,9 +105,9 @@ fn named_body<'a>(opcode: Opcode, r: &FlatRequest, bytes: &'a [u8]) -> Result<Re
 fn other_body<'a>(opcode: Opcode, r: &FlatRequest, bytes: &'a [u8]) -> Result<RequestBody<'a>, u32>
     requires { is_named opcode ≡ false }
     ensures ok { IfOk result (λ b. (opcode_of (request_content b) ≡ opcode)
-        × Asks r.now bytes.now (request_content b)) }
+        × StructAsks r.now bytes.now (request_content b)) }
     ensures none { IfErr result (λ e. HasPlaces r.now bytes.now → (a : RequestContent) → opcode_of a ≡ opcode
-        → Asks r.now bytes.now a → ⊥) }
+        → StructAsks r.now bytes.now a → ⊥) }
     ensures place { IfErr result (λ e. e ≡ 10 → HasPlaces r.now bytes.now → ⊥) }
     ensures status { IfErr result (λ e. (e ≢ 0) × (e ≢ 9)) }
 {
@@ -148,9 +148,9 @@ fn other_body<'a>(opcode: Opcode, r: &FlatRequest, bytes: &'a [u8]) -> Result<Re
 /// What a struct of this opcode asks.
 fn body_of<'a>(opcode: Opcode, r: &FlatRequest, bytes: &'a [u8]) -> Result<RequestBody<'a>, u32>
     ensures ok { IfOk result (λ b. (opcode_of (request_content b) ≡ opcode)
-        × Asks r.now bytes.now (request_content b)) }
+        × StructAsks r.now bytes.now (request_content b)) }
     ensures none { IfErr result (λ e. HasPlaces r.now bytes.now → (a : RequestContent) → opcode_of a ≡ opcode
-        → Asks r.now bytes.now a → ⊥) }
+        → StructAsks r.now bytes.now a → ⊥) }
     ensures place { IfErr result (λ e. e ≡ 10 → HasPlaces r.now bytes.now → ⊥) }
     ensures status { IfErr result (λ e. (e ≢ 0) × (e ≢ 9)) }
 {
@@ -168,9 +168,9 @@ fn body_of<'a>(opcode: Opcode, r: &FlatRequest, bytes: &'a [u8]) -> Result<Reque
 /// 3 where the opcode is not known, 10 where a name or the data lead beyond the bytes, and 5 where the data
 /// of a BATCH_FORGET are no whole number of pairs.
 pub(crate) fn request_of<'a>(r: &FlatRequest, bytes: &'a [u8]) -> Result<Request<'a>, u32>
-    ensures ok { IfOk result (λ q. SaysRequest r.now bytes.now (request_message q)) }
+    ensures ok { IfOk result (λ q. IsRequestStruct r.now bytes.now (request_message q)) }
     ensures none { IfErr result (λ e. HasPlaces r.now bytes.now → (m : RequestMessage)
-        → SaysRequest r.now bytes.now m → ⊥) }
+        → IsRequestStruct r.now bytes.now m → ⊥) }
     ensures place { IfErr result (λ e. e ≡ 10 → HasPlaces r.now bytes.now → ⊥) }
     ensures status { IfErr result (λ e. (e ≢ 0) × (e ≢ 9)) }
     ensures unknown { IsNoOpcode r.now.opcode → result ≡ Err 3 }

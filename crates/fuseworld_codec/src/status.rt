@@ -2,7 +2,7 @@
 
 ghost use Rattle.std.specs.Prelude.{◌≡◌, ◌≢◌, MatchOption};
 ghost use Rattle.fk_wire.specs.declared.opcode.Minor.{Minor};
-ghost use Rattle.fuseworld_codec.specs.Status.{minor_number};
+ghost use Rattle.fuseworld_codec.specs.Status.{minor_number_of};
 
 use fk_wire::Minor;
 
@@ -27,7 +27,7 @@ pub(crate) const END: u32 = 11;
 
 /// The minor version of a number, if it is one.
 pub(crate) fn minor_of(number: u32) -> Option<Minor>
-    ensures { MatchOption result ((m : Minor) → minor_number m ≢ number) (λ m. minor_number m ≡ number) }
+    ensures { MatchOption result ((m : Minor) → minor_number_of m ≢ number) (λ m. minor_number_of m ≡ number) }
 {
     match number {
         15 => Some(Minor::M15),

@@ -7,8 +7,8 @@ ghost use Rattle.fk_wire.specs.Opcodes.{code_of};
 ghost use Rattle.fk_wire.specs.Requests.{RequestMessage, WrittenAt, opcode_of, request_body, request_content};
 ghost use Rattle.fk_wire.specs.Requests.{request_message};
 ghost use Rattle.fk_wire.specs.declared.opcode.Minor.{Minor};
-ghost use Rattle.fuseworld_codec.specs.RequestStructs.{HasPlaces, SaysRequest};
-ghost use Rattle.fuseworld_codec.specs.Status.{AnswersFault, IsNoMinor, IsNoOpcode, minor_number};
+ghost use Rattle.fuseworld_codec.specs.RequestStructs.{HasPlaces, IsRequestStruct};
+ghost use Rattle.fuseworld_codec.specs.Status.{AnswersFault, IsNoMinor, IsNoOpcode, minor_number_of};
 
 use crate::layout::FlatRequest;
 use crate::request_bytes::put_request;
@@ -70,17 +70,17 @@ pub extern "C" fn fuseworld_write_request(
     wanted: &mut usize,
 ) -> u32
     // What is written is the one spelling of the request that the struct says.
-    ensures ok { (v : Minor) → minor_number v ≡ minor → result ≡ 0 → (m : RequestMessage)
-        × SaysRequest request.now bytes.now m × WrittenAt v m (take wanted.new buffer.new)
+    ensures ok { (v : Minor) → minor_number_of v ≡ minor → result ≡ 0 → (m : RequestMessage)
+        × IsRequestStruct request.now bytes.now m × WrittenAt v m (take wanted.new buffer.new)
         × (drop wanted.new buffer.new ≡ drop wanted.new buffer.old) }
     // Too small a buffer: so many bytes are wanted.
-    ensures room { result ≡ 9 → (m : RequestMessage) × SaysRequest request.now bytes.now m
+    ensures room { result ≡ 9 → (m : RequestMessage) × IsRequestStruct request.now bytes.now m
         × (wanted.new ≡ 40 + sizes (request_body m.content)) × (length buffer.old < wanted.new) }
     // Else the answer is the first fault that applies, or there is no such request.
-    ensures fault { (v : Minor) → minor_number v ≡ minor → result ≢ 0 → result ≢ 9 → HasPlaces request.now bytes.now
-        → (m : RequestMessage) → SaysRequest request.now bytes.now m → AnswersFault result (RefusalIsAt v m) }
+    ensures fault { (v : Minor) → minor_number_of v ≡ minor → result ≢ 0 → result ≢ 9 → HasPlaces request.now bytes.now
+        → (m : RequestMessage) → IsRequestStruct request.now bytes.now m → AnswersFault result (RefusalIsAt v m) }
     ensures place { result ≡ 10 → HasPlaces request.now bytes.now → ⊥ }
-    ensures unknown { (v : Minor) → minor_number v ≡ minor → IsNoOpcode request.now.opcode → result ≡ 3 }
+    ensures unknown { (v : Minor) → minor_number_of v ≡ minor → IsNoOpcode request.now.opcode → result ≡ 3 }
     ensures minor { IsNoMinor minor → result ≡ 8 }
     ensures within { result ≡ 0 → wanted.new ≤ length buffer.old }
     ensures none { result ≢ 0 → result ≢ 9 → wanted.new ≡ 0 }

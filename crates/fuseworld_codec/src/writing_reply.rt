@@ -9,8 +9,8 @@ ghost use Rattle.fk_wire.specs.Replies.{reply_body, reply_content, reply_kind, r
 ghost use Rattle.fk_wire.specs.ReplyFaults.{ReplyRefusalIsAt};
 ghost use Rattle.fk_wire.specs.declared.opcode.Minor.{Minor};
 ghost use Rattle.fk_wire.specs.declared.opcode.Opcode.{Opcode};
-ghost use Rattle.fuseworld_codec.specs.ReplyStructs.{HasReplyPlace, SaysReply};
-ghost use Rattle.fuseworld_codec.specs.Status.{AnswersFault, IsNoMinor, minor_number};
+ghost use Rattle.fuseworld_codec.specs.ReplyStructs.{HasReplyPlace, IsReplyStruct};
+ghost use Rattle.fuseworld_codec.specs.Status.{AnswersFault, IsNoMinor, minor_number_of};
 
 use crate::layout::FlatReply;
 use crate::reply_bytes::put_reply;
@@ -77,21 +77,21 @@ pub extern "C" fn fuseworld_write_reply(
     wanted: &mut usize,
 ) -> u32
     // What is written is the one spelling of a reply to the opcode that the struct says.
-    ensures ok { (v : Minor) (o : Opcode) → minor_number v ≡ minor → code_of o ≡ reply.now.opcode → result ≡ 0
-        → (t : ReplyMessage) × GoesWith v o t × SaysReply reply.now bytes.now t
+    ensures ok { (v : Minor) (o : Opcode) → minor_number_of v ≡ minor → code_of o ≡ reply.now.opcode → result ≡ 0
+        → (t : ReplyMessage) × GoesWith v o t × IsReplyStruct reply.now bytes.now t
         × WrittenReplyAt v t (take wanted.new buffer.new)
         × (drop wanted.new buffer.new ≡ drop wanted.new buffer.old) }
     // Too small a buffer: so many bytes are wanted.
-    ensures room { result ≡ 9 → (t : ReplyMessage) × SaysReply reply.now bytes.now t
+    ensures room { result ≡ 9 → (t : ReplyMessage) × IsReplyStruct reply.now bytes.now t
         × (wanted.new ≡ 16 + sizes (reply_body t.content)) × (length buffer.old < wanted.new) }
     // Else there is no such reply, or the answer is the first fault that applies.
-    ensures fault { (v : Minor) (o : Opcode) → minor_number v ≡ minor → code_of o ≡ reply.now.opcode → result ≢ 0
+    ensures fault { (v : Minor) (o : Opcode) → minor_number_of v ≡ minor → code_of o ≡ reply.now.opcode → result ≢ 0
         → result ≢ 9 → IsErrorNumber reply.now.error → HasReplyPlace reply.now bytes.now
-        → ((t : ReplyMessage) → GoesWith v o t → SaysReply reply.now bytes.now t → ⊥)
-        ⊎ ((t : ReplyMessage) × SaysReply reply.now bytes.now t × AnswersFault result (ReplyRefusalIsAt v t)) }
-    ensures error { (v : Minor) → minor_number v ≡ minor → (IsErrorNumber reply.now.error → ⊥) → result ≡ 6 }
+        → ((t : ReplyMessage) → GoesWith v o t → IsReplyStruct reply.now bytes.now t → ⊥)
+        ⊎ ((t : ReplyMessage) × IsReplyStruct reply.now bytes.now t × AnswersFault result (ReplyRefusalIsAt v t)) }
+    ensures error { (v : Minor) → minor_number_of v ≡ minor → (IsErrorNumber reply.now.error → ⊥) → result ≡ 6 }
     ensures place { result ≡ 10 → HasReplyPlace reply.now bytes.now → ⊥ }
-    ensures unknown { (v : Minor) → minor_number v ≡ minor → IsErrorNumber reply.now.error
+    ensures unknown { (v : Minor) → minor_number_of v ≡ minor → IsErrorNumber reply.now.error
         → ((o : Opcode) → code_of o ≡ reply.now.opcode → reply_kind v o ≡ None) → result ≡ 3 }
     ensures minor { IsNoMinor minor → result ≡ 8 }
     ensures within { result ≡ 0 → wanted.new ≤ length buffer.old }

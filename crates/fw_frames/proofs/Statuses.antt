@@ -1,11 +1,11 @@
 -- The exit statuses of what ends a command early.
 use Rattle.std.proofs.Common.{◌≢◌, [], ◌∷◌, zero, suc, Result, Ok, Err, arith, refl}
 use Rattle.std.specs.Prelude.{Contains, IfErr}
-use Rattle.fw_frames.specs.Stops.{status_of}
+use Rattle.fw_frames.specs.Stops.{frame_status_of}
 use Rattle.fw_frames.specs.declared.stop.Stop.{Stop}
 use Rattle.fw_frames.specs.declared.stop.Stop.TheVariants as stop
 
-pub status_of_frame : (s : Stop) → status_of s ≢ 2 → Contains (0 ∷ 1 ∷ 3 ∷ 5 ∷ []) (status_of s)
+pub status_of_frame : (s : Stop) → frame_status_of s ≢ 2 → Contains (0 ∷ 1 ∷ 3 ∷ 5 ∷ []) (frame_status_of s)
 status_of_frame (stop.CannotRead name) other = (1, omega arith, refl)
 status_of_frame (stop.BadLine number fault) other = (1, omega arith, refl)
 status_of_frame stop.BadHex other = (1, omega arith, refl)
@@ -13,7 +13,7 @@ status_of_frame (stop.UnknownOpcode name) other = absurd (other refl)
 status_of_frame stop.NoMemory other = (2, omega arith, refl)
 status_of_frame stop.OutputRefused other = (3, omega arith, refl)
 
-pub status_of_reply : (s : Stop) → Contains (0 ∷ 1 ∷ 2 ∷ 3 ∷ 5 ∷ []) (status_of s)
+pub status_of_reply : (s : Stop) → Contains (0 ∷ 1 ∷ 2 ∷ 3 ∷ 5 ∷ []) (frame_status_of s)
 status_of_reply (stop.CannotRead name) = (1, omega arith, refl)
 status_of_reply (stop.BadLine number fault) = (1, omega arith, refl)
 status_of_reply stop.BadHex = (1, omega arith, refl)
@@ -22,14 +22,14 @@ status_of_reply stop.NoMemory = (3, omega arith, refl)
 status_of_reply stop.OutputRefused = (4, omega arith, refl)
 
 -- what stops a frame stops its line
-pub stops_line : {T : Type 0} (r : Result T Stop) → IfErr r (λ s. Contains (3 ∷ 5 ∷ []) (status_of s))
-    → IfErr r (λ s. Contains (1 ∷ 3 ∷ 5 ∷ []) (status_of s))
+pub stops_line : {T : Type 0} (r : Result T Stop) → IfErr r (λ s. Contains (3 ∷ 5 ∷ []) (frame_status_of s))
+    → IfErr r (λ s. Contains (1 ∷ 3 ∷ 5 ∷ []) (frame_status_of s))
 stops_line (Ok x) h = tt
 stops_line (Err s) h = (suc h.0, omega (arith, h.1), h.2)
 
 -- and what stops the reading stops all
-pub stops_reading : {T : Type 0} (r : Result T Stop) → IfErr r (λ s. Contains (1 ∷ 3 ∷ []) (status_of s))
-    → IfErr r (λ s. Contains (1 ∷ 3 ∷ 5 ∷ []) (status_of s))
+pub stops_reading : {T : Type 0} (r : Result T Stop) → IfErr r (λ s. Contains (1 ∷ 3 ∷ []) (frame_status_of s))
+    → IfErr r (λ s. Contains (1 ∷ 3 ∷ 5 ∷ []) (frame_status_of s))
 stops_reading (Ok x) h = tt
 stops_reading (Err s) (zero, below, is) = (0, omega arith, is)
 stops_reading (Err s) (suc zero, below, is) = (1, omega arith, is)

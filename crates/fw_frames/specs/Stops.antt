@@ -7,25 +7,25 @@ use Rattle.fw_frames.specs.declared.stop.Stop.TheVariants as stop
 
 -- 1 where the input cannot be read, 2 where no opcode has the name, 3 where memory is wanting, 5 where standard output
 -- refuses
-abbrev pub status_of : Stop → ℕ
-status_of (stop.CannotRead name) = 1
-status_of (stop.BadLine number fault) = 1
-status_of stop.BadHex = 1
-status_of (stop.UnknownOpcode name) = 2
-status_of stop.NoMemory = 3
-status_of stop.OutputRefused = 5
+abbrev pub frame_status_of : Stop → ℕ
+frame_status_of (stop.CannotRead name) = 1
+frame_status_of (stop.BadLine number fault) = 1
+frame_status_of stop.BadHex = 1
+frame_status_of (stop.UnknownOpcode name) = 2
+frame_status_of stop.NoMemory = 3
+frame_status_of stop.OutputRefused = 5
 
 -- a line's fault
-abbrev pub fault_words : CaptureFault → List ℕ
-fault_words faults.UnknownDirection = codes "unknown direction"
-fault_words faults.WrongWords = codes "wrong words"
-fault_words faults.BadHex = codes "bad hex"
+abbrev pub capture_fault_words : CaptureFault → List ℕ
+capture_fault_words faults.UnknownDirection = codes "unknown direction"
+capture_fault_words faults.WrongWords = codes "wrong words"
+capture_fault_words faults.BadHex = codes "bad hex"
 
 -- the lines on standard error, without their line feeds
-abbrev pub stop_line : Stop → List ℕ
-stop_line (stop.CannotRead name) = codes "cannot read " ++ name.now
-stop_line (stop.BadLine number fault) = codes "line " ++ decimal number ++ codes ": " ++ fault_words fault
-stop_line stop.BadHex = codes "bad hex"
-stop_line (stop.UnknownOpcode name) = codes "unknown opcode " ++ name.now
-stop_line stop.NoMemory = codes "no memory"
-stop_line stop.OutputRefused = codes "output refused"
+abbrev pub frame_stop_line : Stop → List ℕ
+frame_stop_line (stop.CannotRead name) = codes "cannot read " ++ name.now
+frame_stop_line (stop.BadLine number fault) = codes "line " ++ decimal number ++ codes ": " ++ capture_fault_words fault
+frame_stop_line stop.BadHex = codes "bad hex"
+frame_stop_line (stop.UnknownOpcode name) = codes "unknown opcode " ++ name.now
+frame_stop_line stop.NoMemory = codes "no memory"
+frame_stop_line stop.OutputRefused = codes "output refused"

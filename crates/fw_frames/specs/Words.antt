@@ -10,11 +10,11 @@ use Rattle.fk_wire.specs.Replies.{write_reply, init_reply, create_reply, records
 use Rattle.fk_wire.specs.Requests.{RequestContent, lookup, forget, getattr, mkdir, unlink, rmdir, rename, link}
 use Rattle.fk_wire.specs.Requests.{opening, read, write, release, init, readdir, readdirplus, create, interrupt}
 use Rattle.fk_wire.specs.Requests.{batch_forget}
-use Rattle.fw_frames.specs.HexTexts.{hex_or_none}
+use Rattle.fw_frames.specs.HexTexts.{hex_text_or_none}
 
 -- `?` stands for a byte of a name that is outside 33 to 126
-abbrev pub shown_byte : ℕ → ℕ
-shown_byte byte = if nat_le 33 byte && nat_le byte 126 then byte else 63
+abbrev pub printed_byte : ℕ → ℕ
+printed_byte byte = if nat_le 33 byte && nat_le byte 126 then byte else 63
 
 -- a flag's name, where a number has its bit
 unfoldable pub flag_word : (flags bit : ℕ) → List ℕ → List ℕ
@@ -26,7 +26,7 @@ flag_words flags = codes " flags" ++ flag_word flags 1 (codes " ASYNC_READ")
     ++ flag_word flags 0x2000 (codes " DO_READDIRPLUS") ++ flag_word flags 0x40000 (codes " PARALLEL_DIROPS")
 
 abbrev name_words : List ℕ → List ℕ
-name_words name = codes " name " ++ map shown_byte name
+name_words name = codes " name " ++ map printed_byte name
 
 abbrev pub range_words : (offset size : ℕ) → List ℕ
 range_words offset size = codes " offset " ++ decimal offset ++ codes " size " ++ decimal size
@@ -43,13 +43,13 @@ request_words getattr = []
 request_words (mkdir name) = name_words name
 request_words (unlink name) = name_words name
 request_words (rmdir name) = name_words name
-request_words (rename newdir old new) = codes " newdir " ++ decimal newdir ++ codes " old " ++ map shown_byte old
-    ++ codes " new " ++ map shown_byte new
+request_words (rename newdir old new) = codes " newdir " ++ decimal newdir ++ codes " old " ++ map printed_byte old
+    ++ codes " new " ++ map printed_byte new
 request_words (link oldnodeid name) = codes " oldnodeid " ++ decimal oldnodeid ++ name_words name
 request_words opening = []
 request_words (read fh offset size) = codes " fh " ++ decimal fh ++ range_words offset size
 request_words (write fh offset bytes) = codes " fh " ++ decimal fh ++ range_words offset (length bytes)
-    ++ codes " data " ++ hex_or_none bytes
+    ++ codes " data " ++ hex_text_or_none bytes
 request_words (release fh) = codes " fh " ++ decimal fh
 request_words (init major minor flags) = codes " major " ++ decimal major ++ codes " minor " ++ decimal minor
     ++ flag_words flags
@@ -76,12 +76,12 @@ attr_words a = codes " " ++ mode_word a.mode ++ codes " ino " ++ decimal a.ino +
 unfoldable pub valid_words : (seconds nanoseconds : ℕ) → List ℕ
 valid_words seconds nanoseconds = codes " valid " ++ decimal (seconds * 1000 + nanoseconds / 1000000) ++ codes " ms"
 
-unfoldable pub node_words : (nodeid generation : ℕ) → List ℕ
-node_words nodeid generation = codes " entry node " ++ decimal nodeid ++ codes " generation " ++ decimal generation
+unfoldable pub nodeid_words : (nodeid generation : ℕ) → List ℕ
+nodeid_words nodeid generation = codes " entry node " ++ decimal nodeid ++ codes " generation " ++ decimal generation
 
 abbrev pub entry_words : EntryContent → List ℕ
 entry_words (missing seconds nanoseconds) = codes " entry node 0" ++ valid_words seconds nanoseconds
-entry_words (found nodeid generation seconds nanoseconds a) = node_words nodeid generation
+entry_words (found nodeid generation seconds nanoseconds a) = nodeid_words nodeid generation
     ++ valid_words seconds nanoseconds ++ attr_words a
 
 abbrev pub open_words : ℕ → List ℕ
@@ -89,7 +89,7 @@ open_words fh = codes " open " ++ decimal fh
 
 -- a record of a READDIR
 abbrev pub dirent_words : DirentContent → List ℕ
-dirent_words d = codes " " ++ map shown_byte d.name ++ codes ":" ++ decimal d.off ++ codes ":" ++ type_word d.kind
+dirent_words d = codes " " ++ map printed_byte d.name ++ codes ":" ++ decimal d.off ++ codes ":" ++ type_word d.kind
 
 -- a record of a READDIRPLUS, and its entry
 abbrev pub direntplus_words : DirentPlusContent → List ℕ
@@ -101,7 +101,7 @@ reply_words empty_reply = []
 reply_words (entry_reply e) = entry_words e
 reply_words (attr_reply a) = codes " attr" ++ attr_words a
 reply_words (open_reply fh) = open_words fh
-reply_words (bytes_reply bytes) = codes " data " ++ hex_or_none bytes
+reply_words (bytes_reply bytes) = codes " data " ++ hex_text_or_none bytes
 reply_words (write_reply size) = codes " size " ++ decimal size
 reply_words (init_reply major minor flags) = codes " major " ++ decimal major ++ codes " minor " ++ decimal minor
     ++ flag_words flags

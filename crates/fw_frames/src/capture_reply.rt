@@ -1,7 +1,7 @@
 //! The replies of a capture.
 
 ghost use Rattle.std.specs.Prelude.{◌≡◌, ◌∷◌, [], Contains, IfErr};
-ghost use Rattle.fw_frames.specs.Stops.{status_of};
+ghost use Rattle.fw_frames.specs.Stops.{frame_status_of};
 
 use crate::conversation::{Conversation, Waiting};
 use crate::frame::write_fault;
@@ -210,7 +210,7 @@ pub(crate) fn decode_reply<A: Allocator + Copy, W: Write>(
     frame: &[u8],
     out: &mut W,
 ) -> Result<(), Stop<'static>>
-    ensures { IfErr result (λ stop. Contains (3 ∷ 5 ∷ []) (status_of stop)) }
+    ensures { IfErr result (λ stop. Contains (3 ∷ 5 ∷ []) (frame_status_of stop)) }
 {
     conversation.count_reply();
     let judged = judge(conversation, frame);

@@ -1,7 +1,7 @@
 //! The command `decode`: a capture in words.
 
 ghost use Rattle.std.specs.Prelude.{◌∷◌, [], Contains, IfErr, ◌≡◌};
-ghost use Rattle.fw_frames.specs.Stops.{status_of};
+ghost use Rattle.fw_frames.specs.Stops.{frame_status_of};
 
 use crate::capture_line::{Direction, read_capture_line};
 use crate::capture_reply::decode_reply;
@@ -19,7 +19,7 @@ fn next_line<'a, A: Allocator, R: BufRead>(
     input: &mut R,
     line: &mut Vec<u8, A>,
 ) -> Result<bool, Stop<'a>>
-    ensures { IfErr result (λ stop. Contains (1 ∷ 3 ∷ []) (status_of stop)) }
+    ensures { IfErr result (λ stop. Contains (1 ∷ 3 ∷ []) (frame_status_of stop)) }
 {
     line.clear();
     match input.read_until(b'\n', line) {
@@ -41,7 +41,7 @@ fn judge<'a, A: Allocator + Copy, R: BufRead>(
     name: &'a str,
     input: &mut R,
 ) -> Result<(), Stop<'a>>
-    ensures { IfErr result (λ stop. Contains (1 ∷ 3 ∷ []) (status_of stop)) }
+    ensures { IfErr result (λ stop. Contains (1 ∷ 3 ∷ []) (frame_status_of stop)) }
 {
     let mut line = Vec::new(alloc);
     for number in 1..u64::MAX {
@@ -63,7 +63,7 @@ fn decode_line<A: Allocator + Copy, W: Write>(
     line: &[u8],
     out: &mut W,
 ) -> Result<(), Stop<'static>>
-    ensures { IfErr result (λ stop. Contains (1 ∷ 3 ∷ 5 ∷ []) (status_of stop)) }
+    ensures { IfErr result (λ stop. Contains (1 ∷ 3 ∷ 5 ∷ []) (frame_status_of stop)) }
 {
     let line = match read_capture_line(line) {
         Ok(line) => line,
@@ -104,7 +104,7 @@ fn decode<'a, A: Allocator + Copy, R: BufRead, W: Write>(
     input: &mut R,
     out: &mut W,
 ) -> Result<(), Stop<'a>>
-    ensures { IfErr result (λ stop. Contains (1 ∷ 3 ∷ 5 ∷ []) (status_of stop)) }
+    ensures { IfErr result (λ stop. Contains (1 ∷ 3 ∷ 5 ∷ []) (frame_status_of stop)) }
 {
     let mut conversation = Conversation::new(alloc);
     let mut line = Vec::new(alloc);

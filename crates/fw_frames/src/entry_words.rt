@@ -3,7 +3,7 @@
 ghost use Rattle.std.specs.Prelude.{◌≡◌, ◌++◌, OnOk};
 ghost use Rattle.std.specs.Io.KnownBytes.{Appends};
 ghost use Rattle.fk_wire.specs.Entries.{entry_content, found, missing};
-ghost use Rattle.fw_frames.specs.Words.{attr_words, entry_words, mode_word, node_words, valid_words};
+ghost use Rattle.fw_frames.specs.Words.{attr_words, entry_words, mode_word, nodeid_words, valid_words};
 
 use fk_wire::{Attr, Entry};
 use std::io;
@@ -55,9 +55,9 @@ fn write_valid<W: Write>(out: &mut W, seconds: u64, nanoseconds: u32) -> io::Res
 }
 
 /// Writes ` entry node NODE generation GENERATION`.
-#[tactic(auto, unfolding(crate::specs::Words::node_words))]
+#[tactic(auto, unfolding(crate::specs::Words::nodeid_words))]
 fn write_node<W: Write>(out: &mut W, nodeid: u64, generation: u64) -> io::Result<()>
-    ensures { OnOk result (Appends (W.contents out.old) (W.contents out.new) (node_words nodeid generation)) }
+    ensures { OnOk result (Appends (W.contents out.old) (W.contents out.new) (nodeid_words nodeid generation)) }
 {
     write!(out, " entry node {nodeid} generation {generation}")
 }

@@ -4,7 +4,7 @@ ghost use Rattle.std.specs.Prelude.{◌≡◌, ◌++◌, OnOk, codes, decimal, m
 ghost use Rattle.std.specs.Io.KnownBytes.{Appends};
 ghost use Rattle.fk_wire.specs.Requests.{request_content};
 ghost use Rattle.fk_wire.specs.Pairs.{pairs_in};
-ghost use Rattle.fw_frames.specs.Words.{pair_words, range_words, request_words, shown_byte};
+ghost use Rattle.fw_frames.specs.Words.{pair_words, range_words, request_words, printed_byte};
 
 use crate::flag_words::write_flags;
 use crate::hex_text::write_hex_or_none;
@@ -15,7 +15,7 @@ use std::io::Write;
 
 /// Writes ` name NAME`.
 fn write_one_name<W: Write>(out: &mut W, name: &[u8]) -> io::Result<()>
-    ensures { OnOk result (Appends (W.contents out.old) (W.contents out.new) (codes " name " ++ map shown_byte name.now)) }
+    ensures { OnOk result (Appends (W.contents out.old) (W.contents out.new) (codes " name " ++ map printed_byte name.now)) }
 {
     out.write_all(b" name ")?;
     write_name(out, name)
@@ -24,7 +24,7 @@ fn write_one_name<W: Write>(out: &mut W, name: &[u8]) -> io::Result<()>
 /// Writes ` newdir NODE old NAME new NAME`.
 fn write_rename<W: Write>(out: &mut W, newdir: u64, old: &[u8], new: &[u8]) -> io::Result<()>
     ensures { OnOk result (Appends (W.contents out.old) (W.contents out.new) (codes " newdir " ++ decimal newdir
-        ++ codes " old " ++ map shown_byte old.now ++ codes " new " ++ map shown_byte new.now)) }
+        ++ codes " old " ++ map printed_byte old.now ++ codes " new " ++ map printed_byte new.now)) }
 {
     write!(out, " newdir {newdir} old ")?;
     write_name(out, old)?;
@@ -35,7 +35,7 @@ fn write_rename<W: Write>(out: &mut W, newdir: u64, old: &[u8], new: &[u8]) -> i
 /// Writes ` oldnodeid NODE name NAME`.
 fn write_link<W: Write>(out: &mut W, oldnodeid: u64, name: &[u8]) -> io::Result<()>
     ensures { OnOk result (Appends (W.contents out.old) (W.contents out.new) (codes " oldnodeid " ++ decimal oldnodeid
-        ++ codes " name " ++ map shown_byte name.now)) }
+        ++ codes " name " ++ map printed_byte name.now)) }
 {
     write!(out, " oldnodeid {oldnodeid} name ")?;
     write_name(out, name)

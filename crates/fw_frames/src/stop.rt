@@ -1,7 +1,7 @@
 //! Why a command ends early: its line on standard error, and its exit status.
 
 ghost use Rattle.std.specs.Prelude.{◌≡◌, Some};
-ghost use Rattle.fw_frames.specs.Stops.{fault_words, status_of, stop_line};
+ghost use Rattle.fw_frames.specs.Stops.{capture_fault_words, frame_status_of, frame_stop_line};
 
 use crate::capture_line::CaptureFault;
 use std::fmt;
@@ -20,7 +20,7 @@ pub(crate) enum Stop<'a> {
 
 /// A line's fault, in words.
 fn words_of_fault(fault: CaptureFault) -> &'static str
-    ensures { result.now ≡ fault_words fault }
+    ensures { result.now ≡ capture_fault_words fault }
 {
     match fault {
         CaptureFault::UnknownDirection => "unknown direction",
@@ -30,7 +30,7 @@ fn words_of_fault(fault: CaptureFault) -> &'static str
 }
 
 impl fmt::Display for CaptureFault {
-    ghost output = { λ fault. Some (fault_words fault) };
+    ghost output = { λ fault. Some (capture_fault_words fault) };
 
     fn fmt<W: fmt::Write>(&self, f: &mut fmt::Formatter<W>) -> fmt::Result {
         write!(f, "{}", words_of_fault(*self))
@@ -38,7 +38,7 @@ impl fmt::Display for CaptureFault {
 }
 
 impl fmt::Display for Stop<'_> {
-    ghost output = { λ stop. Some (stop_line stop) };
+    ghost output = { λ stop. Some (frame_stop_line stop) };
 
     fn fmt<W: fmt::Write>(&self, f: &mut fmt::Formatter<W>) -> fmt::Result {
         match *self {
@@ -58,7 +58,7 @@ impl Stop<'_> {
     ///
     /// What `faults` refuses is lost.
     pub(crate) fn report<F: Write>(self, faults: &mut F) -> u8
-        ensures { result ≡ status_of self.entry }
+        ensures { result ≡ frame_status_of self.entry }
     {
         if !matches!(self, Stop::OutputRefused) {
             let _ = writeln!(faults, "{self}");
@@ -69,7 +69,7 @@ impl Stop<'_> {
     /// The exit status: 1 where the input cannot be read, 2 where the command line names no opcode, 3 where memory is
     /// wanting, 5 where standard output refuses.
     fn status(self) -> u8
-        ensures { result ≡ status_of self.entry }
+        ensures { result ≡ frame_status_of self.entry }
     {
         match self {
             Stop::CannotRead { .. } | Stop::BadLine { .. } | Stop::BadHex => 1,

@@ -7,27 +7,27 @@ use Rattle.std.proofs.lemmas.List.{length-append, take_all, append-nil}
 use Rattle.fw_link.specs.declared.side.Side.{Side}
 use Rattle.fw_link.specs.declared.side.Side.TheVariants.{Kernel, Server}
 use Rattle.fw_link.specs.Carrying.{CutsOtherwise, IsLost}
-use Rattle.fw_link.specs.Envelopes.{IsDamaged, IsSound, first_of, len_in}
+use Rattle.fw_link.specs.Envelopes.{IsDamaged, IsUndamaged, first_envelope_of, len_in}
 use Rattle.fw_link.specs.Streams.{IsOne}
 use Rattle.fw_link.specs.Traffic.{BeginsWith, HasFailed, IsInOrder, IsCounted, IsWhole, Traffic, in_turn, no_traffic, other_side, sent}
 use Rattle.fw_link.proofs.Cuts.{first_of-long, first_of-short, len_in-append}
 
 -- what is damaged is not sound
-not_both : (s : List ℕ) → IsSound s → IsDamaged s → ⊥
+not_both : (s : List ℕ) → IsUndamaged s → IsDamaged s → ⊥
 not_both s sound (inl kind) = let k = sound.kind in omega arith
 not_both s sound (inr (judged, inl short)) = let n = sound.no_shorter judged in omega arith
 not_both s sound (inr (judged, inr long)) = let n = sound.no_longer judged in omega arith
 
 module _ (whole : List ℕ) (one : IsOne whole) where
   -- its beginnings are sound
-  front_sound : (front rest : List ℕ) → whole ≡ front ++ rest → IsSound front
+  front_sound : (front rest : List ℕ) → whole ≡ front ++ rest → IsUndamaged front
   front_sound [] rest is = record {
     kind = omega arith;
     no_shorter = λ h. absurd (omega arith);
     no_longer = λ h. absurd (omega arith);
   }
   front_sound (a ∷ front) rest is =
-      let s = subst IsSound is one.sound in
+      let s = subst IsUndamaged is one.sound in
       record {
         kind = s.kind;
         no_shorter = λ h. subst (λ (k : ℕ). 16 ≤ k) (len_in-append (a ∷ front) rest h)
@@ -37,7 +37,7 @@ module _ (whole : List ℕ) (one : IsOne whole) where
       }
 
   -- and have no end of an envelope within them
-  front_first : (front rest : List ℕ) → whole ≡ front ++ rest → first_of front ≡ front
+  front_first : (front rest : List ℕ) → whole ≡ front ++ rest → first_envelope_of front ≡ front
   front_first front rest is = elim (cases_lt (length front) 13) [
     | inl short ↦ first_of-short front short
     | inr long ↦
@@ -52,7 +52,7 @@ pub damage_otherwise : (len : ℕ) (got : List ℕ) → IsDamaged got → CutsOt
 damage_otherwise len got damaged whole one same (rest, is) = not_both got (front_sound whole one got rest is) damaged
 
 -- nor does what has the end of one within it
-pub end_otherwise : (len : ℕ) (got held : List ℕ) → held ≡ first_of got → length held < length got
+pub end_otherwise : (len : ℕ) (got held : List ℕ) → held ≡ first_envelope_of got → length held < length got
     → CutsOtherwise len got
 end_otherwise len got held first less whole one same (rest, is) =
     let e : length held ≡ length got = ap length (first ∙ front_first whole one got rest is) in omega arith

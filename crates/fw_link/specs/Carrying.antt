@@ -2,17 +2,17 @@
 use Rattle.std.specs.Prelude.{◌≡◌, ℕ, false, List, [], length, take}
 use Rattle.fw_link.specs.declared.envelope.Envelope.{Envelope}
 use Rattle.fw_link.specs.declared.side.Side.{Side}
-use Rattle.fw_link.specs.Cutting.{Held}
-use Rattle.fw_link.specs.Envelopes.{spelling}
+use Rattle.fw_link.specs.Cutting.{CutterState}
+use Rattle.fw_link.specs.Envelopes.{envelope_spelling}
 use Rattle.fw_link.specs.Streams.{IsOne}
 use Rattle.fw_link.specs.Traffic.{BeginsWith, HasFailed, Traffic, sent}
 
 -- the bytes of an envelope
-abbrev pub spelled : Envelope → List ℕ
-spelled envelope = spelling envelope.kind envelope.copy envelope.frame.now
+abbrev pub envelope_bytes : Envelope → List ℕ
+envelope_bytes envelope = envelope_spelling envelope.kind envelope.copy envelope.frame.now
 
 -- the cutter is where an envelope may begin
-pub record IsEmpty (held : Held) : Type 0 where
+pub record IsEmpty (held : CutterState) : Type 0 where
   pub nothing : held.bytes ≡ []
   pub good : held.is_damaged ≡ false
 

@@ -19,7 +19,7 @@ module _ {A : Type 0} where
     pub to_server : old.to_server ++ h.kernel_put ≡ h.server_got ++ new.to_server
 
   -- nothing is on its way
-  pub record IsIdle (link : MemoryLink A) : Type 0 where
+  pub record IsEmptyLink (link : MemoryLink A) : Type 0 where
     pub to_kernel : link.to_kernel ≡ []
     pub to_server : link.to_server ≡ []
 
@@ -42,7 +42,7 @@ moved_in_turn first mid last h k one two =
           h.kernel_put k.kernel_put h.server_got k.server_got one.to_server two.to_server;
     }
 
-pub moved_in_order : {A : Type 0} (first last : MemoryLink A) (h : Traffic) → IsIdle first → Moved first last h
+pub moved_in_order : {A : Type 0} (first last : MemoryLink A) (h : Traffic) → IsEmptyLink first → Moved first last h
     → IsInOrder h
 moved_in_order first last h idle moved =
     record {
@@ -55,8 +55,8 @@ none_left : (a b p g : List ℕ) → a ≡ [] → a ++ p ≡ g ++ b → g ≡ p 
 none_left a b p g empty moved whole =
     sym (append_cancel_left g [] b (append-nil g ∙ whole ∙ sym (ap (λ (l : List ℕ). l ++ p) empty) ∙ moved))
 
-pub stays_idle : {A : Type 0} (first last : MemoryLink A) (h : Traffic) → IsIdle first → Moved first last h → IsWhole h
-    → IsIdle last
+pub stays_idle : {A : Type 0} (first last : MemoryLink A) (h : Traffic) → IsEmptyLink first → Moved first last h → IsWhole h
+    → IsEmptyLink last
 stays_idle first last h idle moved whole =
     record {
       to_kernel = none_left first.to_kernel last.to_kernel

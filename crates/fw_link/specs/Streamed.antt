@@ -7,13 +7,13 @@ use Rattle.fw_link.specs.Traffic.{Traffic, no_traffic, in_turn}
 
 module _ {R W : Type 0} (remaining : R → Option (List ℕ)) (contents : W → Option (List ℕ)) where
   -- the writers took what was put, and the readers gave what was got
-  pub record Streamed (old new : StreamLink R W) (h : Traffic) : Type 0 where
+  pub record StreamedEnvelopes (old new : StreamLink R W) (h : Traffic) : Type 0 where
     pub kernel_wrote : Appends (contents old.kernel_writer) (contents new.kernel_writer) h.kernel_put
     pub server_wrote : Appends (contents old.server_writer) (contents new.server_writer) h.server_put
     pub kernel_read : Consumes (remaining old.kernel_reader) (remaining new.kernel_reader) h.kernel_got
     pub server_read : Consumes (remaining old.server_reader) (remaining new.server_reader) h.server_got
 
-  pub nothing_streamed : (link : StreamLink R W) → Streamed link link no_traffic
+  pub nothing_streamed : (link : StreamLink R W) → StreamedEnvelopes link link no_traffic
   nothing_streamed link =
       record {
         kernel_wrote = Appends-nil (contents link.kernel_writer);
@@ -22,8 +22,8 @@ module _ {R W : Type 0} (remaining : R → Option (List ℕ)) (contents : W → 
         server_read = Consumes-nil (remaining link.server_reader);
       }
 
-  pub streamed_in_turn : (first mid last : StreamLink R W) (h k : Traffic) → Streamed first mid h → Streamed mid last k
-      → Streamed first last (in_turn h k)
+  pub streamed_in_turn : (first mid last : StreamLink R W) (h k : Traffic) → StreamedEnvelopes first mid h → StreamedEnvelopes mid last k
+      → StreamedEnvelopes first last (in_turn h k)
   streamed_in_turn first mid last h k one two =
       record {
         kernel_wrote = Appends-trans (contents first.kernel_writer) (contents mid.kernel_writer)

@@ -2,8 +2,8 @@
 
 ghost use Rattle.std.specs.Prelude.{◌≡◌, ℕ, ◌<◌, ◌≤◌, ◌↔◌, ◌⊎◌, [], List, length, false};
 ghost use Rattle.std.specs.Prelude.{IfOk, IsTrue, Some, OnOk, OnErr, vec_len, vec_capacity};
-ghost use Rattle.fw_link.specs.Carrying.{CutsOtherwise, IsEmpty, IsLost, spelled};
-ghost use Rattle.fw_link.specs.Cutting.{Stands};
+ghost use Rattle.fw_link.specs.Carrying.{CutsOtherwise, IsEmpty, IsLost, envelope_bytes};
+ghost use Rattle.fw_link.specs.Cutting.{HoldsEnvelope};
 ghost use Rattle.fw_link.specs.Envelopes.{IsEnvelope};
 ghost use Rattle.fw_link.specs.Traffic.{HasFailed, IsCounted, no_traffic, sent};
 
@@ -71,7 +71,7 @@ fn get_bytes<L: Link, A: Allocator + Copy>(
 /// Whether this envelope stands in the cutter.
 fn stands<A: Allocator + Copy>(cutter: &Cutter<A>, envelope: &Envelope<'_>) -> bool
     ensures { IsTrue result ↔
-        Stands cutter.now envelope.now.kind envelope.now.copy envelope.now.frame.now }
+        HoldsEnvelope cutter.now envelope.now.kind envelope.now.copy envelope.now.frame.now }
 {
     match cutter.envelope() {
         Some(came) => {
@@ -94,9 +94,9 @@ pub struct Carrier<A: Allocator + Copy = Global> {
 
 impl<A: Allocator + Copy> Model for Carrier<A> {
     ghost use Rattle.std.specs.Prelude.{◌≤◌, vec_capacity};
-    ghost use Rattle.fw_link.specs.Cutting.{Held};
+    ghost use Rattle.fw_link.specs.Cutting.{CutterState};
 
-    ghost Value = { Held };
+    ghost Value = { CutterState };
 
     ghost view = { λ c. c.cutter };
 
@@ -133,12 +133,12 @@ impl<A: Allocator + Copy> Carrier<A> {
         requires whole { IsEnvelope envelope.now.kind envelope.now.copy envelope.now.frame.now }
         requires empty { IsEmpty self.old }
         ensures ok { OnOk result (L.carries link.old link.new
-            (sent from (spelled envelope.now) (spelled envelope.now))) }
+            (sent from (envelope_bytes envelope.now) (envelope_bytes envelope.now))) }
         ensures again { OnOk result (IsEmpty self.new) }
         ensures failed { OnOk result (L.failed link.new ≡ L.failed link.old) }
         // A beginning of the envelope was put, and some bytes were got. If these are a beginning of the envelope, the
         // link has failed.
-        ensures err { OnErr result (IsLost (L.carries link.old link.new) from (spelled envelope.now)
+        ensures err { OnErr result (IsLost (L.carries link.old link.new) from (envelope_bytes envelope.now)
             (L.failed link.old) (L.failed link.new)) }
     {
         self.sending.clear();
@@ -169,7 +169,7 @@ impl<A: Allocator + Copy> Carrier<A> {
         requires empty { IsEmpty self.old }
         requires idle { L.is_idle link.old }
         ensures ok { OnOk result (L.carries link.old link.new
-            (sent from (spelled envelope.now) (spelled envelope.now))) }
+            (sent from (envelope_bytes envelope.now) (envelope_bytes envelope.now))) }
         ensures again { OnOk result (IsEmpty self.new × L.is_idle link.new) }
         ensures counted { IsCounted result (L.failed link.old) (L.failed link.new) }
     {
@@ -189,7 +189,7 @@ impl<A: Allocator + Copy> Carrier<A> {
     ) -> Result<(), LinkFault>
         requires whole { IsEnvelope envelope.now.kind envelope.now.copy envelope.now.frame.now }
         requires empty { IsEmpty self.old }
-        requires gives { R.remaining link.old.server_reader ≡ Some (spelled envelope.now) }
+        requires gives { R.remaining link.old.server_reader ≡ Some (envelope_bytes envelope.now) }
         ensures again { OnOk result (IsEmpty self.new) }
         ensures counted { IsCounted result link.old.failed.count link.new.failed.count }
     {

@@ -3,8 +3,8 @@
 ghost use Rattle.std.specs.Prelude.{◌≡◌, ℕ, ◌+◌, ◌-◌, ◌≤◌, ◌<◌, ◌++◌, ◌∷◌, ◌↔◌, ◌⊎◌, [], List, length, take};
 ghost use Rattle.std.specs.Prelude.{drop, min, max, Bool, true, false, slice_index, nat_lt, if◌then◌else◌};
 ghost use Rattle.std.specs.Prelude.{IsTrue, IsOk, IsErr, IsSome, IsSomeAnd, IfOk, IfSome, OnOk, OnErr};
-ghost use Rattle.fw_link.specs.Cutting.{IsUpToOne, Stands};
-ghost use Rattle.fw_link.specs.Envelopes.{spelling, IsEnvelope, IsSound, IsDamaged, copy_in, first_of, len_in};
+ghost use Rattle.fw_link.specs.Cutting.{IsUpToOne, HoldsEnvelope};
+ghost use Rattle.fw_link.specs.Envelopes.{envelope_spelling, IsEnvelope, IsUndamaged, IsDamaged, copy_in, first_envelope_of, len_in};
 
 use crate::envelope::{Envelope, LONGEST};
 use byteorder::{ByteOrder, LittleEndian};
@@ -38,7 +38,7 @@ fn fill<A: Allocator + Copy>(held: &mut BytesMut<A>, len: usize, piece: &[u8]) -
 }
 
 /// The length that the frame states.
-#[tactic(auto, unfolding(crate::specs::Envelopes::stated_len))]
+#[tactic(auto, unfolding(crate::specs::Envelopes::stated_envelope_len))]
 fn stated(held: &[u8]) -> u32
     requires { 13 ≤ length held.now }
     ensures { result ≡ len_in held.now }
@@ -51,14 +51,14 @@ fn stated(held: &[u8]) -> u32
 fn copy_of(held: &[u8]) -> u64
     requires { 9 ≤ length held.now }
     ensures value { result ≡ copy_in held.now }
-    ensures spelled { held.now ≡ spelling (slice_index held.now 0) result (drop 9 held.now) }
+    ensures spelled { held.now ≡ envelope_spelling (slice_index held.now 0) result (drop 9 held.now) }
 {
     LittleEndian::read_u64(&held[1..])
 }
 
 /// Whether an envelope may begin with these bytes.
 fn is_sound(held: &[u8]) -> bool
-    ensures sound { IsTrue result → IsSound held.now }
+    ensures sound { IsTrue result → IsUndamaged held.now }
     ensures damaged { result ≡ false → IsDamaged held.now }
 {
     if !held.is_empty() && held[0] > 2 {
@@ -73,7 +73,7 @@ fn is_sound(held: &[u8]) -> bool
 
 /// Where the part ends that comes next: the judged bytes, then the whole.
 fn end_of(held: &[u8]) -> usize
-    requires { IsSound held.now }
+    requires { IsUndamaged held.now }
     ensures end { result ≡ (if nat_lt (length held.now) 13 then 13 else 9 + len_in held.now) }
     ensures most { result ≤ 4185 }
 {
@@ -91,13 +91,13 @@ pub struct Cutter<A: Allocator + Copy = Global> {
 }
 
 impl<A: Allocator + Copy> Model for Cutter<A> {
-    ghost use Rattle.fw_link.specs.Cutting.{Held, Keeps};
+    ghost use Rattle.fw_link.specs.Cutting.{CutterState, HasBuffer};
 
-    ghost Value = { Held };
+    ghost Value = { CutterState };
 
     ghost view = { λ c. record { bytes = c.held.items; is_damaged = c.is_damaged } };
 
-    ghost invariant = { λ c. Keeps c.held.items c.held.spare c.is_damaged };
+    ghost invariant = { λ c. HasBuffer c.held.items c.held.spare c.is_damaged };
 }
 
 impl<A: Allocator + Copy> Cutter<A> {
@@ -123,9 +123,9 @@ impl<A: Allocator + Copy> Cutter<A> {
         ensures count { IfOk result
             (λ n. (n ≤ length piece.now) × (self.new.bytes ≡ self.old.bytes ++ take n piece.now)) }
         // It doesn't matter in which pieces the bytes come: what is held is the stream up to the end of one envelope.
-        ensures held { OnOk result (self.new.bytes ≡ first_of (self.old.bytes ++ piece.now)) }
+        ensures held { OnOk result (self.new.bytes ≡ first_envelope_of (self.old.bytes ++ piece.now)) }
         ensures one { OnOk result (IsUpToOne self.new.bytes) }
-        ensures ok { OnOk result ((self.old.is_damaged ≡ false) × IsSound (self.old.bytes ++ piece.now)) }
+        ensures ok { OnOk result ((self.old.is_damaged ≡ false) × IsUndamaged (self.old.bytes ++ piece.now)) }
         ensures damage { OnErr result ((self.old.is_damaged ≡ true) ⊎ IsDamaged (self.old.bytes ++ piece.now)) }
         ensures for_good { IsTrue self.new.is_damaged ↔ IsErr result }
     {
@@ -144,10 +144,10 @@ impl<A: Allocator + Copy> Cutter<A> {
 
     /// The envelope that stands, if the stream wasn't damaged.
     pub fn envelope(&self) -> Option<Envelope<'_>>
-        ensures spelled { IfSome result (λ e. self.now.bytes ≡ spelling e.kind e.copy e.frame.now) }
+        ensures spelled { IfSome result (λ e. self.now.bytes ≡ envelope_spelling e.kind e.copy e.frame.now) }
         ensures whole { IfSome result (λ e. IsEnvelope e.kind e.copy e.frame.now) }
         ensures good { IsSome result → self.now.is_damaged ≡ false }
-        ensures only { (kind copy : ℕ) (frame : List ℕ) → Stands self.now kind copy frame
+        ensures only { (kind copy : ℕ) (frame : List ℕ) → HoldsEnvelope self.now kind copy frame
             → IsSomeAnd result (λ e. (e.kind ≡ kind) × (e.copy ≡ copy) × (e.frame.now ≡ frame)) }
     {
         if self.is_damaged {
@@ -167,8 +167,8 @@ impl<A: Allocator + Copy> Cutter<A> {
     /// Lets the envelope go that stands, so that the next one can come. With none it changes nothing.
     pub fn done(&mut self)
         ensures damaged { self.new.is_damaged ≡ self.old.is_damaged }
-        ensures gone { (kind copy : ℕ) (frame : List ℕ) → Stands self.old kind copy frame → self.new.bytes ≡ [] }
-        ensures kept { ((kind copy : ℕ) (frame : List ℕ) → Stands self.old kind copy frame → ⊥) → self.new ≡ self.old }
+        ensures gone { (kind copy : ℕ) (frame : List ℕ) → HoldsEnvelope self.old kind copy frame → self.new.bytes ≡ [] }
+        ensures kept { ((kind copy : ℕ) (frame : List ℕ) → HoldsEnvelope self.old kind copy frame → ⊥) → self.new ≡ self.old }
     {
         if self.envelope().is_some() {
             self.held.clear();

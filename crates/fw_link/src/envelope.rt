@@ -1,7 +1,7 @@
 //! What travels on a link.
 
 ghost use Rattle.std.specs.Prelude.{◌≡◌, ◌+◌, ◌≤◌, ◌++◌, length, vec_len, vec_capacity, OnOk, OnErr, IsOk};
-ghost use Rattle.fw_link.specs.Envelopes.{spelling};
+ghost use Rattle.fw_link.specs.Envelopes.{envelope_spelling};
 
 use std::alloc::{AllocError, Allocator};
 
@@ -31,7 +31,7 @@ pub fn put_envelope<A: Allocator>(
 ) -> Result<(), AllocError>
     requires small { length envelope.now.frame.now ≤ 4176 }
     ensures ok { OnOk result (out.new.items
-        ≡ out.old.items ++ spelling envelope.now.kind envelope.now.copy envelope.now.frame.now) }
+        ≡ out.old.items ++ envelope_spelling envelope.now.kind envelope.now.copy envelope.now.frame.now) }
     ensures err { OnErr result (out.new.items ≡ out.old.items) }
     ensures capacity { vec_capacity out.old ≤ vec_capacity out.new }
     ensures succeeds { vec_len out.old + (9 + length envelope.now.frame.now) ≤ vec_capacity out.old → IsOk result }

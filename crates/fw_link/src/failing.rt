@@ -29,12 +29,12 @@ pub struct FailingLink<A: Allocator + Copy = Global> {
 }
 
 impl<A: Allocator + Copy> FailingLink<A> {
-    ghost use Rattle.fw_link.specs.InMemory.{IsIdle};
+    ghost use Rattle.fw_link.specs.InMemory.{IsEmptyLink};
 
     /// A link on which nothing was put, and which fails at the put of the envelope of this number, counted
     /// from 1 on both sides together, or at the first get after it.
     pub fn new(alloc: A, fails_in: FailsIn, envelope: u64) -> Result<Self, AllocError>
-        ensures idle { IfOk result (λ link. IsIdle link.memory) }
+        ensures idle { IfOk result (λ link. IsEmptyLink link.memory) }
         ensures failed { IfOk result (λ link. link.memory.failed.count ≡ 0) }
         ensures place { IfOk result
             (λ link. (link.fails_in ≡ fails_in) × (link.envelopes_left ≡ envelope)) }
@@ -114,7 +114,7 @@ impl<A: Allocator + Copy> Link for FailingLink<A> {
 impl<A: Allocator + Copy> LinkInOrder for FailingLink<A> {
     ghost use Rattle.fw_link.specs.InMemory as memory;
 
-    ghost is_idle = { λ link. memory.IsIdle link.memory };
+    ghost is_idle = { λ link. memory.IsEmptyLink link.memory };
 
     ghost in_order = { λ first last h idle moved. memory.moved_in_order first.memory last.memory h idle moved };
 

@@ -138,11 +138,11 @@ pub struct MemoryLink<A: Allocator + Copy = Global> {
 }
 
 impl<A: Allocator + Copy> MemoryLink<A> {
-    ghost use Rattle.fw_link.specs.InMemory.{IsIdle, Moved};
+    ghost use Rattle.fw_link.specs.InMemory.{IsEmptyLink, Moved};
 
     /// A link on which nothing was put.
     pub fn new(alloc: A) -> Result<Self, AllocError>
-        ensures idle { IfOk result IsIdle }
+        ensures idle { IfOk result IsEmptyLink }
         ensures failed { IfOk result (λ link. link.failed.count ≡ 0) }
     {
         let to_kernel = Way::new(alloc)?;
@@ -214,7 +214,7 @@ impl<A: Allocator + Copy> Link for MemoryLink<A> {
 impl<A: Allocator + Copy> LinkInOrder for MemoryLink<A> {
     ghost use Rattle.fw_link.specs.InMemory as memory;
 
-    ghost is_idle = { memory.IsIdle };
+    ghost is_idle = { memory.IsEmptyLink };
 
     ghost in_order = { memory.moved_in_order };
 

@@ -106,9 +106,9 @@ impl<R: Read + Drop, W: Write + Drop> StreamLink<R, W> {
 }
 
 impl<R: Read + Drop, W: Write + Drop> Link for StreamLink<R, W> {
-    ghost use Rattle.fw_link.specs.Streamed.{Streamed, nothing_streamed, streamed_in_turn};
+    ghost use Rattle.fw_link.specs.Streamed.{StreamedEnvelopes, nothing_streamed, streamed_in_turn};
 
-    ghost carries = { Streamed R.remaining W.contents };
+    ghost carries = { StreamedEnvelopes R.remaining W.contents };
 
     ghost failed = { λ link. link.failed.count };
 

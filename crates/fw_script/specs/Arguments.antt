@@ -59,14 +59,14 @@ IsTextAt bytes word = IsHexOrNone word
 IsTextAt argument word = Unit {0}
 
 -- as many words as there have to be, none of them empty, and signals in their places
-abbrev pub IsShaped : List Argument → List (List ℕ) → Type 0
-IsShaped arguments words = HasWords (length arguments) words × AllAre IsSignalAt arguments words
+abbrev pub HasShape : List Argument → List (List ℕ) → Type 0
+HasShape arguments words = HasWords (length arguments) words × AllAre IsSignalAt arguments words
 
 -- what is wrong with the words that follow a form's, the first fault in order: their count, an empty
 -- one or a signal; a number; a text
 abbrev pub ArgumentFaultIs : List Argument → List (List ℕ) → LineFault → Type 0
 ArgumentFaultIs arguments words faults.UnknownEvent = ⊥
-ArgumentFaultIs arguments words faults.WrongWords = ¬ (IsShaped arguments words)
-ArgumentFaultIs arguments words faults.BadNumber = IsShaped arguments words × ¬ (AllAre IsNumberAt arguments words)
+ArgumentFaultIs arguments words faults.WrongWords = ¬ (HasShape arguments words)
+ArgumentFaultIs arguments words faults.BadNumber = HasShape arguments words × ¬ (AllAre IsNumberAt arguments words)
 ArgumentFaultIs arguments words faults.BadText =
-    IsShaped arguments words × AllAre IsNumberAt arguments words × ¬ (AllAre IsTextAt arguments words)
+    HasShape arguments words × AllAre IsNumberAt arguments words × ¬ (AllAre IsTextAt arguments words)

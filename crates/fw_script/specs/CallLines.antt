@@ -29,15 +29,15 @@ call_name form.Write = codes "write"
 call_name form.Close = codes "close"
 
 -- what follows that word
-abbrev pub after_call : CallForm → List Argument
-after_call (form.OfPath f) = text ∷ []
-after_call form.List = text ∷ number ∷ []
-after_call form.ListPlus = text ∷ number ∷ []
-after_call form.Rename = text ∷ text ∷ []
-after_call form.Link = text ∷ text ∷ []
-after_call form.Read = number ∷ number ∷ number ∷ []
-after_call form.Write = number ∷ number ∷ bytes ∷ []
-after_call form.Close = number ∷ []
+abbrev pub arguments_of_call : CallForm → List Argument
+arguments_of_call (form.OfPath f) = text ∷ []
+arguments_of_call form.List = text ∷ number ∷ []
+arguments_of_call form.ListPlus = text ∷ number ∷ []
+arguments_of_call form.Rename = text ∷ text ∷ []
+arguments_of_call form.Link = text ∷ text ∷ []
+arguments_of_call form.Read = number ∷ number ∷ number ∷ []
+arguments_of_call form.Write = number ∷ number ∷ bytes ∷ []
+arguments_of_call form.Close = number ∷ []
 
 -- the words after `call`, of the line that says a call
 abbrev pub spelled_call : Call → List (List ℕ)

@@ -1,7 +1,7 @@
 -- What lines begin with, and the words that follow.
 use Rattle.std.specs.Prelude.{ℕ, List, [], ◌∷◌, codes}
 use Rattle.fw_script.specs.Arguments.{Argument, number, text, signal, minor}
-use Rattle.fw_script.specs.CallLines.{call_name, after_call}
+use Rattle.fw_script.specs.CallLines.{call_name, arguments_of_call}
 use Rattle.fw_script.specs.declared.form.Form.{Form}
 use Rattle.fw_script.specs.declared.form.Form.TheVariants.{Word, Call, Read}
 use Rattle.fw_script.specs.declared.form.WordForm.{WordForm}
@@ -31,19 +31,19 @@ read_name read.Forgets = codes "f"
 read_name read.Pending = codes "p"
 
 -- the words that a line of this form begins with
-abbrev pub name_of : Form → List (List ℕ)
-name_of (Word f) = word_name f ∷ []
-name_of (Call f) = codes "call" ∷ call_name f ∷ []
-name_of (Read f) = codes "read" ∷ read_name f ∷ []
+abbrev pub form_words : Form → List (List ℕ)
+form_words (Word f) = word_name f ∷ []
+form_words (Call f) = codes "call" ∷ call_name f ∷ []
+form_words (Read f) = codes "read" ∷ read_name f ∷ []
 
 -- what follows `mount`: a third word is a minor
-abbrev pub after_mount : List (List ℕ) → List Argument
-after_mount (found ∷ missing ∷ last ∷ words) = number ∷ number ∷ minor ∷ []
-after_mount words = number ∷ number ∷ []
+abbrev pub arguments_of_mount : List (List ℕ) → List Argument
+arguments_of_mount (found ∷ missing ∷ last ∷ words) = number ∷ number ∷ minor ∷ []
+arguments_of_mount words = number ∷ number ∷ []
 
 -- what follows a word alone, where these words do
 abbrev pub after_word : WordForm → List (List ℕ) → List Argument
-after_word word.Mount words = after_mount words
+after_word word.Mount words = arguments_of_mount words
 after_word word.Interrupt words = number ∷ signal ∷ []
 after_word word.DropName words = number ∷ text ∷ []
 after_word word.Abort words = []
@@ -58,5 +58,5 @@ after_read _ = number ∷ []
 -- what follows the words that a line begins with, where these do
 abbrev pub arguments_of : Form → List (List ℕ) → List Argument
 arguments_of (Word f) words = after_word f words
-arguments_of (Call f) words = after_call f
+arguments_of (Call f) words = arguments_of_call f
 arguments_of (Read f) words = after_read f

@@ -4,7 +4,7 @@ use Rattle.fuse_spec.specs.declared.Minor.{Minor}
 use Rattle.fuse_spec.specs.declared.Minor.TheVariants.{M15, M31}
 use Rattle.fw_script.specs.Arguments.{ArgumentFaultIs, IsText, minor_word, signal_word}
 use Rattle.fw_script.specs.CallLines.{HasTexts, spelled_call}
-use Rattle.fw_script.specs.Forms.{name_of, arguments_of}
+use Rattle.fw_script.specs.Forms.{form_words, arguments_of}
 use Rattle.fw_script.specs.HexTexts.{IsHexOrNone}
 use Rattle.fw_script.specs.declared.form.Form.{Form}
 use Rattle.fw_script.specs.declared.line.LineFault.{LineFault}
@@ -58,13 +58,13 @@ EndsAt M15 words = words ≡ minor_word M15 ∷ []
 EndsAt M31 words = (words ≡ []) ⊎ (words ≡ minor_word M31 ∷ [])
 
 -- these are the words of the line
-abbrev pub Names : Line → List (List ℕ) → Type 0
-Names (line.Event (event.Mount found missing m)) words =
+abbrev pub LineHasWords : Line → List (List ℕ) → Type 0
+LineHasWords (line.Event (event.Mount found missing m)) words =
     (last : List (List ℕ)) × (words ≡ codes "mount" ∷ decimal found ∷ decimal missing ∷ last) × EndsAt m last
-Names l words = (words ≡ spelled l) × IsWritten l
+LineHasWords l words = (words ≡ spelled l) × IsWritten l
 
 -- what is wrong with the words of a line: before all else, no form begins so
-abbrev pub FaultIs : List (List ℕ) → LineFault → Type 0
-FaultIs words faults.UnknownEvent = (f : Form) (rest : List (List ℕ)) → words ≢ name_of f ++ rest
-FaultIs words fault =
-    (f : Form) × (rest : List (List ℕ)) × (words ≡ name_of f ++ rest) × ArgumentFaultIs (arguments_of f rest) rest fault
+abbrev pub WordsFaultIs : List (List ℕ) → LineFault → Type 0
+WordsFaultIs words faults.UnknownEvent = (f : Form) (rest : List (List ℕ)) → words ≢ form_words f ++ rest
+WordsFaultIs words fault =
+    (f : Form) × (rest : List (List ℕ)) × (words ≡ form_words f ++ rest) × ArgumentFaultIs (arguments_of f rest) rest fault

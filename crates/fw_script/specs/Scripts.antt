@@ -1,7 +1,7 @@
 -- Scripts, by their lines.
 use Rattle.std.specs.Prelude.{◌≡◌, ◌+◌, ◌⊎◌, ◌++◌, ◌∷◌, ◌==◌, ℕ, List, All, Option, length, slice_index}
 use Rattle.std.specs.List.{slice_split}
-use Rattle.fw_script.specs.Lines.{FaultIs, Names}
+use Rattle.fw_script.specs.Lines.{WordsFaultIs, LineHasWords}
 use Rattle.fw_script.specs.Words.{parts_left, words_of}
 use Rattle.fw_script.specs.declared.line.LineFault.{LineFault}
 use Rattle.fw_script.specs.declared.line.Line.{Line}
@@ -20,7 +20,7 @@ IsPassedOver line = (length line ≡ 0) ⊎ (slice_index line 0 ≡ 35)
 
 -- a line of a good script
 abbrev pub IsGoodLine : List ℕ → Type 0
-IsGoodLine line = IsPassedOver line ⊎ ((l : Line) × Names l (words_of line))
+IsGoodLine line = IsPassedOver line ⊎ ((l : Line) × LineHasWords l (words_of line))
 
 -- a script that is run
 abbrev pub IsGoodScript : List ℕ → Type 0
@@ -28,7 +28,7 @@ IsGoodScript script = All IsGoodLine (lines_of script)
 
 -- what is wrong with a line
 abbrev pub LineFaultIs : List ℕ → LineFault → Type 0
-LineFaultIs line fault = ¬ (IsPassedOver line) × FaultIs (words_of line) fault
+LineFaultIs line fault = ¬ (IsPassedOver line) × WordsFaultIs (words_of line) fault
 
 -- the first line with a fault, by its number from 1 on
 abbrev pub FirstFaultIs : List ℕ → ℕ → LineFault → Type 0

@@ -14,16 +14,16 @@ status_of stop.NoMemory = 3
 status_of stop.OutputRefused = 5
 
 -- a line's fault
-abbrev pub fault_words : LineFault → List ℕ
-fault_words faults.UnknownEvent = codes "unknown event"
-fault_words faults.WrongWords = codes "wrong words"
-fault_words faults.BadNumber = codes "bad number"
-fault_words faults.BadText = codes "bad text"
+abbrev pub line_fault_words : LineFault → List ℕ
+line_fault_words faults.UnknownEvent = codes "unknown event"
+line_fault_words faults.WrongWords = codes "wrong words"
+line_fault_words faults.BadNumber = codes "bad number"
+line_fault_words faults.BadText = codes "bad text"
 
 -- the lines on standard error, without their line feeds
 abbrev pub stop_line : Stop → List ℕ
 stop_line (stop.CannotRead name) = codes "cannot read " ++ name.now
-stop_line (stop.BadLine number fault) = codes "line " ++ decimal number ++ codes ": " ++ fault_words fault
+stop_line (stop.BadLine number fault) = codes "line " ++ decimal number ++ codes ": " ++ line_fault_words fault
 stop_line stop.BadHex = codes "bad hex"
 stop_line stop.NoMemory = codes "no memory"
 stop_line stop.OutputRefused = codes "output refused"

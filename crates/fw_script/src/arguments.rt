@@ -4,7 +4,7 @@ ghost use Rattle.std.specs.Prelude.{◌≡◌, ◌∷◌, ◌↔◌, [], ℕ, Is
 ghost use Rattle.std.specs.Prelude.{MatchResult, decimal, option_copied};
 ghost use Rattle.fw_script.specs.Arguments.{ArgumentFaultIs, IsMinor, IsSignal, IsText, minor_word, signal_word};
 ghost use Rattle.fw_script.specs.Arguments.{bytes, number, signal, text};
-ghost use Rattle.fw_script.specs.Forms.{after_mount};
+ghost use Rattle.fw_script.specs.Forms.{arguments_of_mount};
 ghost use Rattle.fw_script.specs.HexTexts.{IsHexOrNone};
 ghost use Rattle.fw_script.specs.Lines.{EndsAt};
 ghost use Rattle.fw_script.specs.Words.{words_left};
@@ -96,7 +96,7 @@ fn read_minor(word: &[u8]) -> Option<Minor>
 pub(crate) fn two_numbers_and_minor(rest: Option<&[u8]>) -> Result<(u64, u64, Minor), LineFault>
     ensures { let words = words_left (option_copied rest.entry) in MatchResult result
         (λ three. (last : List (List ℕ)) × (words ≡ decimal three.0 ∷ decimal three.1 ∷ last) × EndsAt three.2 last)
-        (ArgumentFaultIs (after_mount words) words) }
+        (ArgumentFaultIs (arguments_of_mount words) words) }
 {
     let Some((first, second, third)) = three_words(rest) else {
         let (first, second) = two_numbers(rest)?;

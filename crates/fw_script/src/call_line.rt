@@ -2,8 +2,8 @@
 
 ghost use Rattle.std.specs.Prelude.{◌≡◌, ◌≢◌, ◌∷◌, [], MatchOption, MatchResult, codes, option_copied};
 ghost use Rattle.fw_script.specs.Arguments.{ArgumentFaultIs, IsText};
-ghost use Rattle.fw_script.specs.CallLines.{HasTexts, after_call, call_name, path_name, spelled_call};
-ghost use Rattle.fw_script.specs.Lines.{Names};
+ghost use Rattle.fw_script.specs.CallLines.{HasTexts, arguments_of_call, call_name, path_name, spelled_call};
+ghost use Rattle.fw_script.specs.Lines.{LineHasWords};
 ghost use Rattle.fw_script.specs.Words.{words_left};
 
 use crate::arguments::{
@@ -79,8 +79,8 @@ fn call_of_path(form: PathForm, path: &[u8]) -> Call<'_>
 /// What the line of a call says.
 pub(crate) fn line_of_call(form: CallForm, rest: Option<&[u8]>) -> Result<Line<'_>, LineFault>
     ensures { let words = words_left (option_copied rest.entry) in MatchResult result
-        (λ l. Names l (codes "call" ∷ call_name form ∷ words))
-        (ArgumentFaultIs (after_call form) words) }
+        (λ l. LineHasWords l (codes "call" ∷ call_name form ∷ words))
+        (ArgumentFaultIs (arguments_of_call form) words) }
 {
     let call = match form {
         CallForm::OfPath(form) => call_of_path(form, one_text(rest)?),

@@ -1,7 +1,7 @@
 //! What lines begin with.
 
 ghost use Rattle.std.specs.Prelude.{◌≡◌, ◌≢◌, ◌++◌, ◌∷◌, [], ℕ, List, MatchOption, option_copied};
-ghost use Rattle.fw_script.specs.Forms.{name_of, read_name, word_name};
+ghost use Rattle.fw_script.specs.Forms.{form_words, read_name, word_name};
 ghost use Rattle.fw_script.specs.Words.{words_of, words_left};
 
 use crate::call_line::{CallForm, form_of_call};
@@ -80,8 +80,8 @@ fn form_of_read(word: &[u8]) -> Option<ReadForm>
 /// The form of a line, and the text after its words.
 pub(crate) fn split_form(line: &[u8]) -> Option<(Form, Option<&[u8]>)>
     ensures { MatchOption result
-        ((f : Form) (rest : List (List ℕ)) → words_of line.now ≢ name_of f ++ rest)
-        (λ r. words_of line.now ≡ name_of r.0 ++ words_left (option_copied r.1)) }
+        ((f : Form) (rest : List (List ℕ)) → words_of line.now ≢ form_words f ++ rest)
+        (λ r. words_of line.now ≡ form_words r.0 ++ words_left (option_copied r.1)) }
 {
     let (first, rest) = split_word(line);
     match first {

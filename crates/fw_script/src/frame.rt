@@ -3,7 +3,7 @@
 ghost use Rattle.std.specs.Prelude.{◌≡◌, ◌≢◌, ◌⊎◌, ◌∷◌, [], ℕ, List, Contains, IfErr, OnOk};
 ghost use Rattle.std.specs.Io.KnownBytes.{Appends};
 ghost use Rattle.fk_wire.specs.Requests.{opcode_of, request_content, request_message};
-ghost use Rattle.fw_script.specs.Frames.{PrintsFrame, fault_text, request_text};
+ghost use Rattle.fw_script.specs.Frames.{PrintsRequestFrame, frame_fault_text, request_frame_text};
 ghost use Rattle.fw_script.specs.HexTexts.{SpellsHex};
 ghost use Rattle.fw_script.specs.Stops.{status_of};
 ghost use Rattle.hex.specs.Hex.{IsBytes};
@@ -18,7 +18,7 @@ use std::io::Write;
 /// Writes `OPNAME UNIQUE NODE LEN`.
 fn write_request_line<W: Write>(out: &mut W, request: &Request<'_>, len: usize) -> io::Result<()>
     ensures { OnOk result (Appends (W.contents out.old) (W.contents out.new)
-        (request_text (request_message request.now) len)) }
+        (request_frame_text (request_message request.now) len)) }
 {
     let name = request.body.opcode().name();
     let unique = request.unique;
@@ -28,7 +28,7 @@ fn write_request_line<W: Write>(out: &mut W, request: &Request<'_>, len: usize) 
 
 /// Writes `fault N NAME`.
 fn write_fault_line<W: Write>(out: &mut W, fault: WireFault) -> io::Result<()>
-    ensures { OnOk result (Appends (W.contents out.old) (W.contents out.new) (fault_text fault)) }
+    ensures { OnOk result (Appends (W.contents out.old) (W.contents out.new) (frame_fault_text fault)) }
 {
     let number = fault.number();
     let name = fault.name();
@@ -37,7 +37,7 @@ fn write_fault_line<W: Write>(out: &mut W, fault: WireFault) -> io::Result<()>
 
 /// Writes what a frame is: `OPNAME UNIQUE NODE LEN`, or `fault N NAME`.
 fn write_frame<W: Write>(out: &mut W, frame: &[u8]) -> io::Result<()>
-    ensures { OnOk result (PrintsFrame frame.now (W.contents out.old) (W.contents out.new)) }
+    ensures { OnOk result (PrintsRequestFrame frame.now (W.contents out.old) (W.contents out.new)) }
 {
     match read_request(frame) {
         Ok(request) => write_request_line(out, &request, frame.len()),
@@ -47,7 +47,7 @@ fn write_frame<W: Write>(out: &mut W, frame: &[u8]) -> io::Result<()>
 
 /// Writes the same, and hands all on that was written.
 fn print_frame<W: Write>(out: &mut W, frame: &[u8]) -> io::Result<()>
-    ensures { OnOk result (PrintsFrame frame.now (W.contents out.old) (W.contents out.new)) }
+    ensures { OnOk result (PrintsRequestFrame frame.now (W.contents out.old) (W.contents out.new)) }
 {
     write_frame(out, frame)?;
     out.flush()
@@ -56,7 +56,7 @@ fn print_frame<W: Write>(out: &mut W, frame: &[u8]) -> io::Result<()>
 /// Prints what the frame of a hex text is.
 fn run<A: Allocator, W: Write>(alloc: A, text: &str, out: &mut W) -> Result<(), Stop<'static>>
     ensures printed { OnOk result ((frame : List ℕ) × SpellsHex text.now frame
-        × PrintsFrame frame (W.contents out.old) (W.contents out.new)) }
+        × PrintsRequestFrame frame (W.contents out.old) (W.contents out.new)) }
     ensures bad_hex { IfErr result (λ stop. status_of stop ≡ 1 →
         (frame : List ℕ) → IsBytes frame → ¬ (SpellsHex text.now frame)) }
     ensures silent { IfErr result (λ stop. status_of stop ≢ 5 → out.new ≡ out.old) }
@@ -81,7 +81,7 @@ pub fn run_frame<A: Allocator, W: Write, F: Write>(
 ) -> u8
     ensures statuses { Contains (0 ∷ 1 ∷ 3 ∷ 5 ∷ []) result }
     ensures printed { result ≡ 0 → (frame : List ℕ) × SpellsHex text.now frame
-        × PrintsFrame frame (W.contents out.old) (W.contents out.new) }
+        × PrintsRequestFrame frame (W.contents out.old) (W.contents out.new) }
     ensures bad_hex { result ≡ 1 → (frame : List ℕ) → IsBytes frame → ¬ (SpellsHex text.now frame) }
     ensures silent { (result ≡ 1) ⊎ (result ≡ 3) → out.new ≡ out.old }
 {

@@ -3,7 +3,7 @@
 ghost use Rattle.std.specs.Prelude.{◌≡◌, ◌∷◌, [], MatchResult, codes, option_copied};
 ghost use Rattle.fw_script.specs.Arguments.{ArgumentFaultIs};
 ghost use Rattle.fw_script.specs.Forms.{after_read, after_word, read_name, word_name};
-ghost use Rattle.fw_script.specs.Lines.{FaultIs, Names};
+ghost use Rattle.fw_script.specs.Lines.{WordsFaultIs, LineHasWords};
 ghost use Rattle.fw_script.specs.Words.{words_left, words_of};
 
 use crate::arguments::{
@@ -44,7 +44,7 @@ pub enum Line<'a> {
 /// What the line of a word says.
 fn line_of_word(form: WordForm, rest: Option<&[u8]>) -> Result<Line<'_>, LineFault>
     ensures { let words = words_left (option_copied rest.entry) in MatchResult result
-        (λ l. Names l (word_name form ∷ words))
+        (λ l. LineHasWords l (word_name form ∷ words))
         (ArgumentFaultIs (after_word form words) words) }
 {
     let event = match form {
@@ -86,7 +86,7 @@ fn line_of_word(form: WordForm, rest: Option<&[u8]>) -> Result<Line<'_>, LineFau
 /// What the line of a read says.
 fn line_of_read(form: ReadForm, rest: Option<&[u8]>) -> Result<Line<'_>, LineFault>
     ensures { let words = words_left (option_copied rest.entry) in MatchResult result
-        (λ l. Names l (codes "read" ∷ read_name form ∷ words))
+        (λ l. LineHasWords l (codes "read" ∷ read_name form ∷ words))
         (ArgumentFaultIs (after_read form) words) }
 {
     let pick = match form {
@@ -104,7 +104,7 @@ fn line_of_read(form: ReadForm, rest: Option<&[u8]>) -> Result<Line<'_>, LineFau
 ///
 /// The fault is the first of `UnknownEvent`, `WrongWords`, `BadNumber` and `BadText` that applies.
 pub fn read_line(line: &[u8]) -> Result<Line<'_>, LineFault>
-    ensures { MatchResult result (λ l. Names l (words_of line.now)) (FaultIs (words_of line.now)) }
+    ensures { MatchResult result (λ l. LineHasWords l (words_of line.now)) (WordsFaultIs (words_of line.now)) }
 {
     let Some((form, rest)) = split_form(line) else {
         return Err(LineFault::UnknownEvent);

@@ -1,7 +1,7 @@
 //! Why a run ends early: its line on standard error, and its exit status.
 
 ghost use Rattle.std.specs.Prelude.{◌≡◌, Some};
-ghost use Rattle.fw_script.specs.Stops.{fault_words, status_of, stop_line};
+ghost use Rattle.fw_script.specs.Stops.{line_fault_words, status_of, stop_line};
 
 use crate::line::LineFault;
 use std::error::Error;
@@ -20,7 +20,7 @@ pub(crate) enum Stop<'a> {
 
 /// A line's fault, in words.
 fn words_of_fault(fault: LineFault) -> &'static str
-    ensures { result.now ≡ fault_words fault }
+    ensures { result.now ≡ line_fault_words fault }
 {
     match fault {
         LineFault::UnknownEvent => "unknown event",
@@ -31,7 +31,7 @@ fn words_of_fault(fault: LineFault) -> &'static str
 }
 
 impl fmt::Display for LineFault {
-    ghost output = { λ fault. Some (fault_words fault) };
+    ghost output = { λ fault. Some (line_fault_words fault) };
 
     fn fmt<W: fmt::Write>(&self, f: &mut fmt::Formatter<W>) -> fmt::Result {
         write!(f, "{}", words_of_fault(*self))

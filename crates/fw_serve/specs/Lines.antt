@@ -9,16 +9,16 @@ use Rattle.fuse_device.specs.declared.device.DeviceEnd.TheVariants.{Ended, Timed
 use Rattle.fw_frames.specs.Words.{request_words}
 
 -- a node, its generation and its lookup count
-abbrev pub node_words : ℕ × ℕ × ℕ → List ℕ
-node_words node = codes " " ++ decimal node.0 ++ codes ":" ++ decimal node.1 ++ codes ":" ++ decimal node.2
+abbrev pub server_node_words : ℕ × ℕ × ℕ → List ℕ
+server_node_words node = codes " " ++ decimal node.0 ++ codes ":" ++ decimal node.1 ++ codes ":" ++ decimal node.2
 
 -- the nodes that a server holds
 abbrev pub nodes_line : List (ℕ × ℕ × ℕ) → List ℕ
-nodes_line nodes = codes "server" ++ flat_map node_words nodes ++ codes "\n"
+nodes_line nodes = codes "server" ++ flat_map server_node_words nodes ++ codes "\n"
 
 -- a request: its opcode, unique, node and fields
-abbrev pub request_line : RequestMessage → List ℕ
-request_line m = name_of (opcode_of m.content) ++ codes " " ++ decimal m.unique ++ codes " node " ++ decimal m.nodeid
+abbrev pub traced_request_line : RequestMessage → List ℕ
+traced_request_line m = name_of (opcode_of m.content) ++ codes " " ++ decimal m.unique ++ codes " node " ++ decimal m.nodeid
     ++ request_words m.content
 
 -- what came of a frame that was sent

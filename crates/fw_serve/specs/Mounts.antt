@@ -11,15 +11,15 @@ use Rattle.fs_serve.specs.LookupCounts.{IsServed}
 use Rattle.fw_serve.specs.declared.serving.Mount.{Mount}
 
 -- the server at its mount: its tree is the root alone
-abbrev pub first_of : Mount → Server
-first_of mount = remounted first_server mount.validity mount.minor
+abbrev pub server_at_mount : Mount → Server
+server_at_mount mount = remounted first_server mount.validity mount.minor
 
 -- the exit status at a device's end, or without one
-abbrev pub status_of : Option DeviceEnd → ℕ
-status_of (Some Ended) = 0
-status_of (Some TimedOut) = 4
-status_of (Some Failed) = 4
-status_of None = 4
+abbrev pub end_status_of : Option DeviceEnd → ℕ
+end_status_of (Some Ended) = 0
+end_status_of (Some TimedOut) = 4
+end_status_of (Some Failed) = 4
+end_status_of None = 4
 
 -- All that went over the device was served from this server on, until the device ended so.
 pub record ServesFrom {D : Type 0} (logs : D → D → List Transfer → Type 0) (first : Server) (old new : D) (status : ℕ)
@@ -27,4 +27,4 @@ pub record ServesFrom {D : Type 0} (logs : D → D → List Transfer → Type 0)
   pub end : Option DeviceEnd
   pub last : Server
   pub served : GoesOver logs old new end (λ log. IsServed first log last)
-  pub stopped : status ≡ status_of end
+  pub stopped : status ≡ end_status_of end

@@ -2,14 +2,14 @@
 
 ghost use Rattle.std.specs.Prelude.{OnOk, flat_map};
 ghost use Rattle.std.specs.Io.KnownBytes.{Appends};
-ghost use Rattle.fw_serve.specs.Lines.{node_words, nodes_line};
+ghost use Rattle.fw_serve.specs.Lines.{server_node_words, nodes_line};
 
 use std::io;
 use std::io::Write;
 
 /// Writes ` ID:GENERATION:COUNT`.
 fn write_node<W: Write>(out: &mut W, node: (u64, u64, u64)) -> io::Result<()>
-    ensures { OnOk result (Appends (W.contents out.old) (W.contents out.new) (node_words node)) }
+    ensures { OnOk result (Appends (W.contents out.old) (W.contents out.new) (server_node_words node)) }
 {
     let (id, generation, count) = node;
     write!(out, " {id}:{generation}:{count}")
@@ -17,7 +17,7 @@ fn write_node<W: Write>(out: &mut W, node: (u64, u64, u64)) -> io::Result<()>
 
 /// Writes each node.
 fn write_nodes<W: Write>(out: &mut W, nodes: &[(u64, u64, u64)]) -> io::Result<()>
-    ensures { OnOk result (Appends (W.contents out.old) (W.contents out.new) (flat_map node_words nodes.now)) }
+    ensures { OnOk result (Appends (W.contents out.old) (W.contents out.new) (flat_map server_node_words nodes.now)) }
 {
     for node in nodes {
         write_node(out, *node)?;

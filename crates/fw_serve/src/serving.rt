@@ -2,7 +2,7 @@
 
 ghost use Rattle.std.specs.Prelude.{◌≡◌, ◌≤◌, ◌⊎◌, ◌∷◌, [], Contains, IfOk, OnErr};
 ghost use Rattle.fuse_spec.specs.Values.Numbers.{max_validity};
-ghost use Rattle.fw_serve.specs.Mounts.{ServesFrom, first_of, status_of};
+ghost use Rattle.fw_serve.specs.Mounts.{ServesFrom, server_at_mount, end_status_of};
 
 use crate::nodes_line::write_nodes_line;
 use fs_serve::serve;
@@ -17,7 +17,7 @@ use std::io::Write;
 pub struct Mount {
     /// For how many milliseconds found names and missing ones are valid, each at most 86,400,000.
     pub validity: Validity,
-    /// The minor that is spoken.
+    /// The minor that is for_minor.
     pub minor: Minor,
     /// Whether the nodes that are held at the end are printed.
     pub shows_nodes: bool,
@@ -25,7 +25,7 @@ pub struct Mount {
 
 /// The exit status at a device's end: 0 where the other side ended, and else 4.
 fn status_at(end: Option<DeviceEnd>) -> u8
-    ensures { result ≡ status_of end }
+    ensures { result ≡ end_status_of end }
 {
     match end {
         Some(DeviceEnd::Ended) => 0,
@@ -37,7 +37,7 @@ fn status_at(end: Option<DeviceEnd>) -> u8
 fn mounted<A: Allocator + Copy>(alloc: A, mount: Mount) -> Result<Server<A>, AllocError>
     requires found { mount.validity.found_ms ≤ max_validity }
     requires missing { mount.validity.missing_ms ≤ max_validity }
-    ensures { IfOk result (λ server. server ≡ first_of mount) }
+    ensures { IfOk result (λ server. server ≡ server_at_mount mount) }
 {
     let mut server = Server::new(alloc)?;
     server.remount(
@@ -101,7 +101,7 @@ fn serve_mount<A: Allocator + Copy, D: Device, F: Write>(
 ) -> Result<u8, AllocError>
     requires found { mount.validity.found_ms ≤ max_validity }
     requires missing { mount.validity.missing_ms ≤ max_validity }
-    ensures served { IfOk result (ServesFrom D.logs (first_of mount) device.old device.new) }
+    ensures served { IfOk result (ServesFrom D.logs (server_at_mount mount) device.old device.new) }
     ensures refused { OnErr result (device.new ≡ device.old) }
 {
     let mut server = mounted(alloc, mount)?;
@@ -127,7 +127,7 @@ pub fn serve_device<A: Allocator + Copy, D: Device, F: Write>(
     requires found { mount.validity.found_ms ≤ max_validity }
     requires missing { mount.validity.missing_ms ≤ max_validity }
     ensures statuses { Contains (0 ∷ 3 ∷ 4 ∷ []) result }
-    ensures served { (result ≡ 0) ⊎ (result ≡ 4) → ServesFrom D.logs (first_of mount) device.old device.new result }
+    ensures served { (result ≡ 0) ⊎ (result ≡ 4) → ServesFrom D.logs (server_at_mount mount) device.old device.new result }
     ensures refused { result ≡ 3 → device.new ≡ device.old }
 {
     match serve_mount(alloc, mount, device, faults) {

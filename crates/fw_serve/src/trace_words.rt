@@ -3,7 +3,7 @@
 ghost use Rattle.std.specs.Prelude.{◌≡◌, OnOk};
 ghost use Rattle.std.specs.Io.KnownBytes.{Appends};
 ghost use Rattle.fk_wire.specs.Requests.{request_message};
-ghost use Rattle.fw_serve.specs.Lines.{request_line, result_words};
+ghost use Rattle.fw_serve.specs.Lines.{traced_request_line, result_words};
 
 use fk_wire::{
     Minor, Opcode, ReplyBody, ReplyHead, Request, WireFault, opcode_of_code, read_reply_at,
@@ -60,7 +60,7 @@ fn words_of_result(sent: Result<WriteResult, DeviceEnd>) -> &'static str
 /// Writes `OPNAME UNIQUE node NODE` and the fields of a request.
 fn write_request<W: Write>(out: &mut W, request: &Request<'_>) -> io::Result<()>
     ensures { OnOk result (Appends (W.contents out.old) (W.contents out.new)
-        (request_line (request_message request.now))) }
+        (traced_request_line (request_message request.now))) }
 {
     let name = request.body.opcode().name();
     let unique = request.unique;

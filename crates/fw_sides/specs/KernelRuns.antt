@@ -12,20 +12,20 @@ abbrev pub all_collected : Kernel → Kernel
 all_collected k = record k { vfs = record k.vfs { answers = [] } }
 
 -- An event happens to the kernel, and the answers of calls are collected; or it is refused, and nothing changes.
-pub data Happens (A : Type 0) (old : Kernel) (event : KernelEvent) : Kernel → Type 0 where
+pub data KernelHappens (A : Type 0) (old : Kernel) (event : KernelEvent) : Kernel → Type 0 where
   accepted : (step : KernelStep A) (new : Kernel) → KernelDoes old event step new
-      → Happens A old event (all_collected new)
-  refused : (refusal : Refusal) → KernelRefuses old event refusal → Happens A old event old
+      → KernelHappens A old event (all_collected new)
+  refused : (refusal : Refusal) → KernelRefuses old event refusal → KernelHappens A old event old
 
 -- A line is done: the event happens that it says; or nothing changes, where it says none (it asks for the nodes, is
 -- passed over or is at fault), or where memory is wanting for its bytes.
-pub data DoesLine (A : Type 0) (old : Kernel) (text : List ℕ) : Kernel → Type 0 where
-  event : (event : KernelEvent) → SaysEvent text event → (new : Kernel) → Happens A old event new
-      → DoesLine A old text new
-  nothing : DoesLine A old text old
+pub data DoesKernelLine (A : Type 0) (old : Kernel) (text : List ℕ) : Kernel → Type 0 where
+  event : (event : KernelEvent) → SaysEvent text event → (new : Kernel) → KernelHappens A old event new
+      → DoesKernelLine A old text new
+  nothing : DoesKernelLine A old text old
 
 -- Lines are done, one after another.
-pub data DoesLines (A : Type 0) (old : Kernel) : List (List ℕ) → Kernel → Type 0 where
-  none : DoesLines A old [] old
-  more : (before : List (List ℕ)) (mid : Kernel) → DoesLines A old before mid → (text : List ℕ) (new : Kernel)
-      → DoesLine A mid text new → DoesLines A old (before ++ text ∷ []) new
+pub data DoesKernelLines (A : Type 0) (old : Kernel) : List (List ℕ) → Kernel → Type 0 where
+  none : DoesKernelLines A old [] old
+  more : (before : List (List ℕ)) (mid : Kernel) → DoesKernelLines A old before mid → (text : List ℕ) (new : Kernel)
+      → DoesKernelLine A mid text new → DoesKernelLines A old (before ++ text ∷ []) new

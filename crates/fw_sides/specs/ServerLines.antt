@@ -11,10 +11,10 @@ use Rattle.fw_sides.specs.declared.server_line.ServerLine.{ServerLine}
 use Rattle.fw_sides.specs.declared.server_line.ServerLine.TheVariants as line
 
 -- the number that is said of what a writer was told: 0, ENOENT or EINVAL
-abbrev pub result_number : WriteResult → ℕ
-result_number Accepted = 0
-result_number NoEntry = 2
-result_number Invalid = 22
+abbrev pub settled_number : WriteResult → ℕ
+settled_number Accepted = 0
+settled_number NoEntry = 2
+settled_number Invalid = 22
 
 -- A text says this event to the server. Hex stands in it.
 abbrev pub SaysServerEvent : List ℕ → ServerEvent → Type 0
@@ -24,7 +24,7 @@ SaysServerEvent text (event.Take bytes) = text ≡ codes "take " ++ hex_or_none 
 SaysServerEvent text (event.Do unique) = words_of text ≡ codes "do" ∷ decimal unique ∷ []
 SaysServerEvent text (event.Again unique) = words_of text ≡ codes "again" ∷ decimal unique ∷ []
 SaysServerEvent text (event.Settle copy result) =
-    text ≡ codes "settle " ++ decimal copy ++ codes " " ++ decimal (result_number result)
+    text ≡ codes "settle " ++ decimal copy ++ codes " " ++ decimal (settled_number result)
 SaysServerEvent text event.Abort = words_of text ≡ codes "abort" ∷ []
 
 -- A text says this line to the server. What is in hex is hex.

@@ -7,7 +7,7 @@ use Rattle.fuse_spec.specs.declared.Validity.{Validity}
 use Rattle.fuse_spec.specs.Server.Copies.{connection_lost, remounted}
 use Rattle.fuse_spec.specs.Server.Server.{Server}
 use Rattle.fuse_spec.specs.Values.Numbers.{max_validity}
-use Rattle.fs_server.specs.Effects.{CanSendAgain, CanTake, HasNoCopy, PerformsHeld, RefusesAgain, RefusesFrame, RefusesHeld, SendsAgain, Settles, TakesFrame, WantsMemory}
+use Rattle.fs_server.specs.Effects.{CanSendAgain, CanTake, HasNoCopy, PerformsHeld, RefusesAgain, RefusesFrame, RefusesHeld, SendsAgain, Settles, TakesFrame, TakingNeedsMemory}
 use Rattle.fs_server.specs.Faults.{IsAnswerable, IsFaultReply}
 use Rattle.fs_server.specs.Steps.{CanPerform}
 use Rattle.fs_server.specs.declared.server.ServerFault.{ServerFault}
@@ -36,7 +36,7 @@ ServerDoes old e s new = ⊥
 -- The frame is at fault, and this is the reply that says so, where there is one.
 pub record RefusesTaking (old : Server) (bytes : List ℕ) (fault : ServerFault) (reply : Option (List ℕ)) : Type 0 where
   pub refused : RefusesFrame old bytes fault
-  pub memory : fault ≡ Memory → CanTake old bytes × WantsMemory old bytes
+  pub memory : fault ≡ Memory → CanTake old bytes × TakingNeedsMemory old bytes
   pub says : MatchOption reply (IsAnswerable bytes fault → ⊥) (IsFaultReply old.minor bytes fault)
 
 -- Why an event is refused. Want of memory comes last.

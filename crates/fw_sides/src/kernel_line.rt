@@ -1,7 +1,7 @@
 //! The lines that a kernel by itself is given.
 
 ghost use Rattle.std.specs.Prelude.{◌≡◌, ◌++◌, ℕ, List, IfOk, IfSome, IsErr, None, codes, option_copied};
-ghost use Rattle.fw_script.specs.Lines.{Names};
+ghost use Rattle.fw_script.specs.Lines.{LineHasWords};
 ghost use Rattle.fw_script.specs.Words.{words_of};
 ghost use Rattle.fw_sides.specs.KernelLines.{SaysEvent, SaysLine};
 
@@ -30,7 +30,7 @@ pub enum KernelLine<'a> {
 
 /// The event of a script that a line names, where it is one of the kernel's alone.
 fn kernel_event(event: Event<'_>) -> Option<KernelEvent<'_>>
-    ensures { (text : List ℕ) → Names (Line.Event event.entry) (words_of text) → IfSome result (SaysEvent text) }
+    ensures { (text : List ℕ) → LineHasWords (Line.Event event.entry) (words_of text) → IfSome result (SaysEvent text) }
 {
     match event {
         Event::Call(call) => Some(KernelEvent::Call(call)),

@@ -5,7 +5,7 @@ ghost use Rattle.fw_script.specs.HexTexts.{IsHexOrNone};
 ghost use Rattle.fw_sides.specs.KernelLines.{SaysLine};
 ghost use Rattle.fuse_spec.specs.Kernel.Kernel.{Kernel as KernelState};
 ghost use Rattle.fuse_spec.specs.World.Worlds.{first_kernel};
-ghost use Rattle.fw_sides.specs.KernelRuns.{DoesLine, DoesLines, Happens};
+ghost use Rattle.fw_sides.specs.KernelRuns.{DoesKernelLine, DoesKernelLines, KernelHappens};
 
 use crate::form::Form;
 use crate::input::{End, is_passed_over, next_line};
@@ -27,7 +27,7 @@ fn run_event<A: Allocator + Copy, W: Write>(
     form: Form,
     out: &mut W,
 ) -> Result<(), OutputRefused>
-    ensures { OnOk result (Happens A kernel.old event.now kernel.new) }
+    ensures { OnOk result (KernelHappens A kernel.old event.now kernel.new) }
 {
     match step_kernel(kernel, event) {
         Ok(step) => print_kernel_step(out, form, &step, kernel),
@@ -44,7 +44,7 @@ fn write_reply<A: Allocator + Copy, W: Write>(
     out: &mut W,
 ) -> Result<(), OutputRefused>
     requires { IsHexOrNone hex.now }
-    ensures { OnOk result (DoesLine A kernel.old (codes "write " ++ hex.now) kernel.new) }
+    ensures { OnOk result (DoesKernelLine A kernel.old (codes "write " ++ hex.now) kernel.new) }
 {
     match read_hex_or_none(bytes, hex) {
         Ok(()) => run_event(kernel, &KernelEvent::Write(bytes.as_slice()), form, out),
@@ -63,7 +63,7 @@ fn begin_write<A: Allocator + Copy, W: Write>(
 ) -> Result<(), OutputRefused>
     requires { IsHexOrNone hex.now }
     ensures { OnOk result ((text : List ℕ) → SaysLine text (KernelLine.CallWrite place.0 place.1 hex.entry)
-        → DoesLine A kernel.old text kernel.new) }
+        → DoesKernelLine A kernel.old text kernel.new) }
 {
     let (handle, offset) = place;
     match read_hex_or_none(bytes, hex) {
@@ -102,7 +102,7 @@ fn run_line<A: Allocator + Copy, W: Write>(
     form: Form,
     out: &mut W,
 ) -> Result<(), OutputRefused>
-    ensures { OnOk result (DoesLine A kernel.old line.now kernel.new) }
+    ensures { OnOk result (DoesKernelLine A kernel.old line.now kernel.new) }
 {
     match read_kernel_line(line) {
         Ok(KernelLine::Event(event)) => run_event(kernel, &event, form, out),
@@ -134,7 +134,7 @@ fn do_line<A: Allocator + Copy, W: Write>(
     form: Form,
     out: &mut W,
 ) -> Result<(), OutputRefused>
-    ensures { OnOk result (DoesLine A kernel.old room.old.line.items kernel.new) }
+    ensures { OnOk result (DoesKernelLine A kernel.old room.old.line.items kernel.new) }
 {
     if is_passed_over(room.line.as_slice()) {
         return Ok(());
@@ -159,7 +159,7 @@ fn run_next<A: Allocator + Copy, R: BufRead, W: Write>(
     input: &mut R,
     out: &mut W,
 ) -> Result<bool, End>
-    ensures { OnOk result ((text : List ℕ) × DoesLine A kernel.old text kernel.new) }
+    ensures { OnOk result ((text : List ℕ) × DoesKernelLine A kernel.old text kernel.new) }
 {
     if !next_line(input, &mut room.line)? {
         return Ok(false);
@@ -178,7 +178,7 @@ fn run_lines<A: Allocator + Copy, R: BufRead, W: Write>(
     input: &mut R,
     out: &mut W,
 ) -> Result<(), End>
-    ensures { OnOk result ((lines : List (List ℕ)) × DoesLines A kernel.old lines kernel.new) }
+    ensures { OnOk result ((lines : List (List ℕ)) × DoesKernelLines A kernel.old lines kernel.new) }
 {
     let mut room = Room {
         line: Vec::new(alloc),
@@ -206,7 +206,7 @@ pub fn run_kernel<A: Allocator + Copy, R: BufRead, W: Write>(
     input: &mut R,
     out: &mut W,
 ) -> Result<(), End>
-    ensures { OnOk result ((lines : List (List ℕ)) × (last : KernelState) × DoesLines A first_kernel lines last) }
+    ensures { OnOk result ((lines : List (List ℕ)) × (last : KernelState) × DoesKernelLines A first_kernel lines last) }
 {
     let mut kernel = Kernel::new(alloc);
     let ended = run_lines(alloc, &mut kernel, form, input, out);

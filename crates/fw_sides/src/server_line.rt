@@ -1,9 +1,9 @@
 //! The lines that a server by itself is given.
 
 ghost use Rattle.std.specs.Prelude.{◌≡◌, ◌++◌, ℕ, List, IfOk, IfSome, IsErr, None, codes, option_copied};
-ghost use Rattle.fw_script.specs.Lines.{Names};
+ghost use Rattle.fw_script.specs.Lines.{LineHasWords};
 ghost use Rattle.fw_script.specs.Words.{words_of};
-ghost use Rattle.fw_sides.specs.ServerLines.{SaysServerEvent, SaysServerLine, result_number};
+ghost use Rattle.fw_sides.specs.ServerLines.{SaysServerEvent, SaysServerLine, settled_number};
 
 use crate::server_event::ServerEvent;
 use crate::words::{first_word, two_words};
@@ -22,7 +22,7 @@ pub enum ServerLine<'a> {
 
 /// The event of a script that a line names, where it is one of the server's.
 fn server_event(event: Event<'_>) -> Option<ServerEvent<'_>>
-    ensures { (text : List ℕ) → Names (Line.Event event.entry) (words_of text) → IfSome result (SaysServerEvent text) }
+    ensures { (text : List ℕ) → LineHasWords (Line.Event event.entry) (words_of text) → IfSome result (SaysServerEvent text) }
 {
     match event {
         Event::Mount {
@@ -75,7 +75,7 @@ fn read_take(rest: Option<&[u8]>) -> Result<ServerLine<'_>, LineFault>
 
 /// What a writer was told, by the number that is printed for it.
 fn result_of(number: u64) -> Option<WriteResult>
-    ensures { IfSome result (λ told. result_number told ≡ number) }
+    ensures { IfSome result (λ told. settled_number told ≡ number) }
 {
     match number {
         0 => Some(WriteResult::Accepted),

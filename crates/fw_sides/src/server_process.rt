@@ -4,7 +4,7 @@ ghost use Rattle.std.specs.Prelude.{◌≡◌, ◌++◌, ℕ, List, OnOk, codes}
 ghost use Rattle.fw_script.specs.HexTexts.{IsHexOrNone};
 ghost use Rattle.fuse_spec.specs.Server.Server.{Server as ServerState};
 ghost use Rattle.fuse_spec.specs.World.Worlds.{first_server};
-ghost use Rattle.fw_sides.specs.ServerRuns.{DoesLine, DoesLines, Happens};
+ghost use Rattle.fw_sides.specs.ServerRuns.{DoesServerLine, DoesServerLines, ServerHappens};
 
 use crate::form::Form;
 use crate::input::{End, is_passed_over, next_line};
@@ -26,7 +26,7 @@ fn run_event<A: Allocator + Copy, W: Write>(
     form: Form,
     out: &mut W,
 ) -> Result<(), OutputRefused>
-    ensures { OnOk result (Happens A server.old event.now server.new) }
+    ensures { OnOk result (ServerHappens A server.old event.now server.new) }
 {
     match step_server(server, event) {
         Ok(step) => print_server_step(out, form, &step),
@@ -43,7 +43,7 @@ fn take<A: Allocator + Copy, W: Write>(
     out: &mut W,
 ) -> Result<(), OutputRefused>
     requires { IsHexOrNone hex.now }
-    ensures { OnOk result (DoesLine A server.old (codes "take " ++ hex.now) server.new) }
+    ensures { OnOk result (DoesServerLine A server.old (codes "take " ++ hex.now) server.new) }
 {
     match read_hex_or_none(bytes, hex) {
         Ok(()) => run_event(server, &ServerEvent::Take(bytes.as_slice()), form, out),
@@ -73,7 +73,7 @@ fn run_line<A: Allocator + Copy, W: Write>(
     form: Form,
     out: &mut W,
 ) -> Result<(), OutputRefused>
-    ensures { OnOk result (DoesLine A server.old line.now server.new) }
+    ensures { OnOk result (DoesServerLine A server.old line.now server.new) }
 {
     match read_server_line(line) {
         Ok(ServerLine::Event(event)) => run_event(server, &event, form, out),
@@ -98,7 +98,7 @@ fn do_line<A: Allocator + Copy, W: Write>(
     form: Form,
     out: &mut W,
 ) -> Result<(), OutputRefused>
-    ensures { OnOk result (DoesLine A server.old room.old.line.items server.new) }
+    ensures { OnOk result (DoesServerLine A server.old room.old.line.items server.new) }
 {
     if is_passed_over(room.line.as_slice()) {
         return Ok(());
@@ -123,7 +123,7 @@ fn run_next<A: Allocator + Copy, R: BufRead, W: Write>(
     input: &mut R,
     out: &mut W,
 ) -> Result<bool, End>
-    ensures { OnOk result ((text : List ℕ) × DoesLine A server.old text server.new) }
+    ensures { OnOk result ((text : List ℕ) × DoesServerLine A server.old text server.new) }
 {
     if !next_line(input, &mut room.line)? {
         return Ok(false);
@@ -142,7 +142,7 @@ fn run_lines<A: Allocator + Copy, R: BufRead, W: Write>(
     input: &mut R,
     out: &mut W,
 ) -> Result<(), End>
-    ensures { OnOk result ((lines : List (List ℕ)) × DoesLines A server.old lines server.new) }
+    ensures { OnOk result ((lines : List (List ℕ)) × DoesServerLines A server.old lines server.new) }
 {
     let mut room = Room {
         line: Vec::new(alloc),
@@ -174,7 +174,7 @@ pub fn run_server<A: Allocator + Copy, R: BufRead, W: Write>(
     input: &mut R,
     out: &mut W,
 ) -> Result<(), End>
-    ensures { OnOk result ((lines : List (List ℕ)) × (last : ServerState) × DoesLines A first_server lines last) }
+    ensures { OnOk result ((lines : List (List ℕ)) × (last : ServerState) × DoesServerLines A first_server lines last) }
 {
     let Ok(mut server) = Server::new(alloc) else {
         return Err(End::NoMemory);

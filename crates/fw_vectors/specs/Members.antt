@@ -16,9 +16,9 @@ abbrev pub further : {T : Type 0} → (T → List ℕ) → T → List ℕ
 further text x = codes "," ++ text x
 
 -- the texts of a list's elements, with a comma before each but the first
-abbrev pub listed : {T : Type 0} → (T → List ℕ) → List T → List ℕ
-listed text [] = []
-listed text (x ∷ xs) = text x ++ flat_map (further text) xs
+abbrev pub comma_list : {T : Type 0} → (T → List ℕ) → List T → List ℕ
+comma_list text [] = []
+comma_list text (x ∷ xs) = text x ++ flat_map (further text) xs
 
 abbrev pub name_member : List ℕ → List ℕ
 name_member name = codes "\"name\":\"" ++ encode_lower name ++ codes "\""
@@ -68,7 +68,7 @@ request_members (readdir offset size) = range_members offset size
 request_members (readdirplus offset size) = range_members offset size
 request_members (create name) = name_member name
 request_members (interrupt unique) = codes "\"unique\":\"" ++ decimal unique ++ codes "\""
-request_members (batch_forget forgets) = codes "\"pairs\":[" ++ listed pair_object forgets ++ codes "]"
+request_members (batch_forget forgets) = codes "\"pairs\":[" ++ comma_list pair_object forgets ++ codes "]"
 
 -- a struct fuse_attr
 unfoldable pub attr_object : Attr → List ℕ
@@ -110,5 +110,5 @@ reply_members (bytes_reply bytes) = codes "\"data\":\"" ++ encode_lower bytes ++
 reply_members (write_reply size) = codes "\"size\":\"" ++ decimal size ++ codes "\""
 reply_members (init_reply major minor flags) = init_members major minor flags
 reply_members (create_reply e fh) = codes "\"entry\":" ++ entry_object e ++ codes "," ++ fh_member fh
-reply_members (records_reply ds) = codes "\"records\":[" ++ listed dirent_object ds ++ codes "]"
-reply_members (plus_reply ps) = codes "\"records\":[" ++ listed direntplus_object ps ++ codes "]"
+reply_members (records_reply ds) = codes "\"records\":[" ++ comma_list dirent_object ds ++ codes "]"
+reply_members (plus_reply ps) = codes "\"records\":[" ++ comma_list direntplus_object ps ++ codes "]"

@@ -17,9 +17,9 @@ use Rattle.fk_wire.specs.Requests.{RequestMessage, SpellsAt}
 use Rattle.fk_wire.specs.WireFaults.{fault_name, fault_number}
 use Rattle.fw_vectors.specs.Members.{reply_members, request_members}
 
-abbrev pub minor_number : Minor → ℕ
-minor_number minors.M15 = 15
-minor_number minors.M31 = 31
+abbrev pub minor_value : Minor → ℕ
+minor_value minors.M15 = 15
+minor_value minors.M31 = 31
 
 -- the number at the place of the opcode in a frame that has this place
 unfoldable pub opcode_word : List ℕ → List ℕ
@@ -58,12 +58,12 @@ IsReplyVerdict minor o frame verdict =
 
 -- the end of each line before its verdict: the minor version and the frame
 unfoldable pub frame_members : Minor → List ℕ → List ℕ
-frame_members minor frame = codes ",\"minor\":" ++ decimal (minor_number minor) ++ codes ",\"hex\":\""
+frame_members minor frame = codes ",\"minor\":" ++ decimal (minor_value minor) ++ codes ",\"hex\":\""
     ++ encode_lower frame ++ codes "\","
 
 -- the line of a request
-abbrev pub request_line : Minor → List ℕ → List ℕ → List ℕ
-request_line minor frame verdict = codes "{\"direction\":\"request\",\"opcode\":" ++ opcode_word frame
+abbrev pub request_vector_line : Minor → List ℕ → List ℕ → List ℕ
+request_vector_line minor frame verdict = codes "{\"direction\":\"request\",\"opcode\":" ++ opcode_word frame
     ++ frame_members minor frame ++ verdict ++ codes "}\n"
 
 -- the line of a reply to an opcode
@@ -74,7 +74,7 @@ reply_line minor o frame verdict = codes "{\"direction\":\"reply\",\"opcode\":" 
 -- a line is that of a frame that is read as a request: its verdict is the codec's
 abbrev pub IsRequestLine : Minor → List ℕ → List ℕ → Type 0
 IsRequestLine minor frame line = (verdict : List ℕ) × IsRequestVerdict minor frame verdict
-    × (line ≡ request_line minor frame verdict)
+    × (line ≡ request_vector_line minor frame verdict)
 
 -- the same of one that is read as a reply to an opcode
 abbrev pub IsReplyLine : Minor → Opcode → List ℕ → List ℕ → Type 0

@@ -7,7 +7,7 @@ ghost use Rattle.fk_wire.specs.Entries.{entry_content};
 ghost use Rattle.fk_wire.specs.Records.{dirent_content, direntplus_content, pluses_in, records_in};
 ghost use Rattle.fk_wire.specs.Replies.{reply_content};
 ghost use Rattle.fw_vectors.specs.Members.{attr_object, dirent_object, direntplus_object, entry_object, fh_member};
-ghost use Rattle.fw_vectors.specs.Members.{further, listed, reply_members};
+ghost use Rattle.fw_vectors.specs.Members.{further, comma_list, reply_members};
 
 use crate::entry_members::{write_attr, write_entry};
 use crate::request_members::{write_fh, write_init};
@@ -93,7 +93,7 @@ fn write_further_records<W: Write>(out: &mut W, records: Records<'_>) -> io::Res
 /// Writes records, with a comma before each but the first.
 fn write_records<W: Write>(out: &mut W, records: Records<'_>) -> io::Result<()>
     ensures { OnOk result (Appends (W.contents out.old) (W.contents out.new)
-        (listed dirent_object (records_in records.entry))) }
+        (comma_list dirent_object (records_in records.entry))) }
 {
     let mut rest = records;
     let Some(first) = rest.next() else {
@@ -117,7 +117,7 @@ fn write_further_pluses<W: Write>(out: &mut W, records: RecordsPlus<'_>) -> io::
 /// Writes pairs, with a comma before each but the first.
 fn write_pluses<W: Write>(out: &mut W, records: RecordsPlus<'_>) -> io::Result<()>
     ensures { OnOk result (Appends (W.contents out.old) (W.contents out.new)
-        (listed direntplus_object (pluses_in records.entry))) }
+        (comma_list direntplus_object (pluses_in records.entry))) }
 {
     let mut rest = records;
     let Some(first) = rest.next() else {
@@ -130,7 +130,7 @@ fn write_pluses<W: Write>(out: &mut W, records: RecordsPlus<'_>) -> io::Result<(
 /// Writes the body of a READDIR reply.
 fn write_listing<W: Write>(out: &mut W, records: Records<'_>) -> io::Result<()>
     ensures { OnOk result (Appends (W.contents out.old) (W.contents out.new)
-        (codes "\"records\":[" ++ listed dirent_object (records_in records.entry) ++ codes "]")) }
+        (codes "\"records\":[" ++ comma_list dirent_object (records_in records.entry) ++ codes "]")) }
 {
     out.write_all(b"\"records\":[")?;
     write_records(out, records)?;
@@ -140,7 +140,7 @@ fn write_listing<W: Write>(out: &mut W, records: Records<'_>) -> io::Result<()>
 /// Writes the body of a READDIRPLUS reply.
 fn write_listing_plus<W: Write>(out: &mut W, records: RecordsPlus<'_>) -> io::Result<()>
     ensures { OnOk result (Appends (W.contents out.old) (W.contents out.new)
-        (codes "\"records\":[" ++ listed direntplus_object (pluses_in records.entry) ++ codes "]")) }
+        (codes "\"records\":[" ++ comma_list direntplus_object (pluses_in records.entry) ++ codes "]")) }
 {
     out.write_all(b"\"records\":[")?;
     write_pluses(out, records)?;

@@ -6,7 +6,7 @@ ghost use Rattle.std.specs.Io.KnownBytes.{Appends};
 ghost use Rattle.hex.specs.Hex.{encode_lower};
 ghost use Rattle.fk_wire.specs.Pairs.{pairs_in};
 ghost use Rattle.fk_wire.specs.Requests.{known_flags, request_content};
-ghost use Rattle.fw_vectors.specs.Members.{fh_member, further, init_members, listed, name_member, pair_object, range_members};
+ghost use Rattle.fw_vectors.specs.Members.{fh_member, further, init_members, comma_list, name_member, pair_object, range_members};
 ghost use Rattle.fw_vectors.specs.Members.{rename_members, request_members, write_members};
 
 use bitflags::Flags;
@@ -140,7 +140,7 @@ fn write_further_pairs<W: Write>(out: &mut W, pairs: Pairs<'_>) -> io::Result<()
 
 /// Writes pairs, with a comma before each but the first.
 fn write_pairs<W: Write>(out: &mut W, pairs: Pairs<'_>) -> io::Result<()>
-    ensures { OnOk result (Appends (W.contents out.old) (W.contents out.new) (listed pair_object (pairs_in pairs.entry))) }
+    ensures { OnOk result (Appends (W.contents out.old) (W.contents out.new) (comma_list pair_object (pairs_in pairs.entry))) }
 {
     let mut rest = pairs;
     let Some((nodeid, nlookup)) = rest.next() else {
@@ -153,7 +153,7 @@ fn write_pairs<W: Write>(out: &mut W, pairs: Pairs<'_>) -> io::Result<()>
 /// Writes the members of a BATCH_FORGET.
 fn write_batch<W: Write>(out: &mut W, pairs: Pairs<'_>) -> io::Result<()>
     ensures { OnOk result (Appends (W.contents out.old) (W.contents out.new)
-        (codes "\"pairs\":[" ++ listed pair_object (pairs_in pairs.entry) ++ codes "]")) }
+        (codes "\"pairs\":[" ++ comma_list pair_object (pairs_in pairs.entry) ++ codes "]")) }
 {
     out.write_all(b"\"pairs\":[")?;
     write_pairs(out, pairs)?;

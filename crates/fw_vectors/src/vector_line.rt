@@ -7,7 +7,7 @@ ghost use Rattle.fk_wire.specs.Opcodes.{code_of};
 ghost use Rattle.fk_wire.specs.Replies.{reply_message};
 ghost use Rattle.fk_wire.specs.Requests.{request_message};
 ghost use Rattle.fw_vectors.specs.Vectors.{IsReplyLine, IsReplyVerdict, IsRequestLine, IsRequestVerdict};
-ghost use Rattle.fw_vectors.specs.Vectors.{fault_members, frame_members, minor_number, opcode_word};
+ghost use Rattle.fw_vectors.specs.Vectors.{fault_members, frame_members, minor_value, opcode_word};
 ghost use Rattle.fw_vectors.specs.Vectors.{reply_start, reply_verdict, request_verdict};
 
 use crate::reply_members::write_reply_members;
@@ -20,7 +20,7 @@ use std::io::Write;
 
 /// The number of a minor version.
 fn number_of_minor(minor: Minor) -> u32
-    ensures { result ≡ minor_number minor }
+    ensures { result ≡ minor_value minor }
 {
     match minor {
         Minor::M15 => 15,

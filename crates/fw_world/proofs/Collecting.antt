@@ -18,7 +18,7 @@ use Rattle.fk_syscalls.specs.Values.{answer_of}
 use Rattle.fk_syscalls.specs.declared.call.Answer.{Answer as GivenAnswer}
 use Rattle.fw_world.specs.declared.record.Record.{Record}
 use Rattle.fw_world.specs.declared.record.Record.TheVariants.{Answered}
-use Rattle.fw_world.specs.Values.{record_of}
+use Rattle.fw_world.specs.Values.{run_record_of}
 
 -- ---- the lowest entry of a map
 
@@ -56,7 +56,7 @@ pub record Collects {A : Type 0} (old : World) (had : List (Record A)) (new : Wo
     (has : List (Record A)) : Type 0 where
   pub added : List (Record A)
   pub items : has ≡ had ++ added
-  pub recorded : map record_of added ++ answers_of new.kernel.vfs.answers ≡ answers_of old.kernel.vfs.answers
+  pub recorded : map run_record_of added ++ answers_of new.kernel.vfs.answers ≡ answers_of old.kernel.vfs.answers
   pub others : collected new ≡ collected old
   pub sorted : T (is_sorted nat_cmp new.kernel.vfs.answers)
 
@@ -102,11 +102,11 @@ module _ {A : Type 0} (old : World) (had : List (Record A)) (was : World) (has :
               ++ Answered call answer ∷ []) so_far.items ∙ append_assoc had so_far.added (Answered call answer ∷ []);
           recorded =
               ap (λ (xs : List records.Record). xs ++ answers_of (remove was.kernel.vfs.answers call))
-              (map-append record_of so_far.added (Answered call answer ∷ []))
-              ∙ append_assoc (map record_of so_far.added) (records.answered call (answer_of answer) ∷ [])
+              (map-append run_record_of so_far.added (Answered call answer ∷ []))
+              ∙ append_assoc (map run_record_of so_far.added) (records.answered call (answer_of answer) ∷ [])
               (answers_of (remove was.kernel.vfs.answers call))
-              ∙ (λ i. map record_of so_far.added ++ (pair i ∷ answers_of (left i))) ∙ ap
-              (λ (x : Map Answer). map record_of so_far.added ++ answers_of x) (sym is) ∙ so_far.recorded;
+              ∙ (λ i. map run_record_of so_far.added ++ (pair i ∷ answers_of (left i))) ∙ ap
+              (λ (x : Map Answer). map run_record_of so_far.added ++ answers_of x) (sym is) ∙ so_far.recorded;
           others = so_far.others;
           sorted = subst (λ (x : Map Answer). T (is_sorted nat_cmp x)) (sym left)
               (second_of_both (below_all nat_cmp e.0 m) (is_sorted nat_cmp m) sorted);
@@ -124,14 +124,14 @@ module _ {A : Type 0} (old : World) (had : List (Record A)) (was : World) (has :
   -- Where no answer waits, all are recorded.
   pub collects_all : None ≡ slice_get was.kernel.vfs.answers 0
       → (was ≡ collected old) × (added : List (Record A)) × (has ≡ had ++ added)
-      × (map record_of added ≡ answers_of old.kernel.vfs.answers)
+      × (map run_record_of added ≡ answers_of old.kernel.vfs.answers)
   collects_all none =
       let is = empty was.kernel.vfs.answers none in (
         (λ i. with_answers was (is i)) ∙ so_far.others,
         so_far.added,
         so_far.items,
-        sym (append-nil (map record_of so_far.added)) ∙ ap
-            (λ (x : Map Answer). map record_of so_far.added ++ answers_of x) (sym is) ∙ so_far.recorded,
+        sym (append-nil (map run_record_of so_far.added)) ∙ ap
+            (λ (x : Map Answer). map run_record_of so_far.added ++ answers_of x) (sym is) ∙ so_far.recorded,
       )
     where
       empty : (m : Map Answer) → None ≡ slice_get m 0 → m ≡ []

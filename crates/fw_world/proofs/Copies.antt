@@ -40,7 +40,7 @@ use Rattle.fuse_theorem.proofs.Answers.Answered.{waiting_is}
 use Rattle.fuse_theorem.proofs.Calls.Finding.{All-found}
 use Rattle.fuse_theorem.proofs.Refining.Queuing.{All-at}
 use Rattle.fuse_theorem.proofs.Replies.WriteNeeds.{write_met}
-use Rattle.fk_kernel.specs.AwaitedReplies.{Says, HasReplyHead, head_unique, Awaited, reply_to, awaited, awaited_by, awaited_by_call, awaited_by_interrupt, IsReplyWritten, IsAwaited, IsJudged, Means}
+use Rattle.fk_kernel.specs.AwaitedReplies.{Says, HasReplyHead, head_unique, Awaited, reply_to, awaited, awaited_by, awaited_by_call, awaited_by_interrupt, IsReplyWritten, IsAwaited, IsJudged, ReadsReply}
 use Rattle.fk_kernel.specs.AwaitedReplies.{said as means_said}
 use Rattle.fk_kernel.specs.AwaitedReplies as said
 use Rattle.std.specs.Prelude.{IfSome, IfNone}
@@ -50,7 +50,7 @@ use Rattle.fuse_spec.specs.Kernel.Refusals as kernel
 use Rattle.fk_kernel.proofs.PastEnds.{passes}
 use Rattle.fw_world.proofs.Happening.{writes}
 use Rattle.fw_world.proofs.Counters.{kernel_all_low, kernel_past, server_low}
-use Rattle.fw_world.proofs.Wanting.{wanting}
+use Rattle.fw_world.proofs.MemoryRefusals.{wanting}
 use Rattle.fw_world.proofs.Refusing.{past_written}
 
 -- What says a reply has its head.
@@ -205,21 +205,21 @@ module _ (w : World) (here : IsSoundWorld w) (place : ℕ) (sent : Sent) (found 
       let same : reply_to other ≡ reply_to o = sym it.0 ∙ awaits in
       subst (λ (x : Opcode). Says x bytes sent.wire) (cc same) it.1
 
-  heard_by : CanReceive w here.plain sent → (o : Opcode) → IsJudged o → awaited w.kernel sent.unique ≡ reply_to o
+  received_by : CanReceive w here.plain sent → (o : Opcode) → IsJudged o → awaited w.kernel sent.unique ≡ reply_to o
       → Says o bytes sent.wire
-  heard_by (each.nothing e) o judged awaits =
+  received_by (each.nothing e) o judged awaits =
       let none = awaits_none w.kernel sent.unique sent.wire e in
       let no : said.nothing ≡ reply_to o = sym none.0 ∙ awaits in
       absurd (cc no)
-  heard_by (each.of_interrupt kept numbered live odd waits) o judged awaits =
+  received_by (each.of_interrupt kept numbered live odd waits) o judged awaits =
       as_awaited o awaits opcode.Interrupt (to_interrupt kept live odd waits)
-  heard_by (each.of_release file numbered live even waits) o judged awaits =
+  received_by (each.of_release file numbered live even waits) o judged awaits =
       as_awaited o awaits opcode.Release (to_release file live even waits)
-  heard_by (each.of_init numbered live even waits wire_is) o judged awaits =
+  received_by (each.of_init numbered live even waits wire_is) o judged awaits =
       as_awaited o awaits opcode.Init (to_init even waits wire_is)
-  heard_by (each.of_call call state reply numbered one live even waits is) o judged awaits =
+  received_by (each.of_call call state reply numbered one live even waits is) o judged awaits =
       as_awaited o awaits (opcode_of (asked state)) (to_call call state even waits is.state_is is.goes)
-  heard_by (each.of_declined call state numbered one live even waits is) o judged awaits =
+  received_by (each.of_declined call state numbered one live even waits is) o judged awaits =
       as_awaited o awaits (opcode_of (asked state)) (to_call call state even waits is.state_is
       (ap (goes_with (asked state)) is.wire_is ∙ goes_failed (asked state)))
 
@@ -282,7 +282,7 @@ module _ (w : World) (here : IsSoundWorld w) (place : ℕ) (sent : Sent) (found 
   judged_of (write o offset bytes) = tt
 
   -- A number is wanting for what the copy says, where the machine's counter goes past its end.
-  passes_end : kernel.is_past w.kernel ≡ false → kernel.is_past (reply_written w.kernel sent.unique sent.wire).1 ≡ true
+  passes_end : kernel.is_kernel_past w.kernel ≡ false → kernel.is_kernel_past (reply_written w.kernel sent.unique sent.wire).1 ≡ true
       → WritePasses w.kernel bytes
   passes_end low past = (
     head.0,
@@ -298,7 +298,7 @@ module _ (w : World) (here : IsSoundWorld w) (place : ℕ) (sent : Sent) (found 
       by : CanReceive w here.plain sent → PassesEnd w.kernel sent.unique bytes (awaited w.kernel sent.unique)
       by (each.nothing e) =
           let none = awaits_none w.kernel sent.unique sent.wire e in
-          absurd (true≢false (sym past ∙ ap (λ (took : WriteResult × Kernel). kernel.is_past took.1) none.1 ∙ low))
+          absurd (true≢false (sym past ∙ ap (λ (took : WriteResult × Kernel). kernel.is_kernel_past took.1) none.1 ∙ low))
       by (each.of_interrupt kept numbered live odd waits) =
           said_past opcode.Interrupt tt (to_interrupt kept live odd waits)
       by (each.of_release o numbered live even waits) = said_past opcode.Release tt (to_release o live even waits)
@@ -332,10 +332,10 @@ module _ (w : World) (here : IsSoundWorld w) (place : ℕ) (sent : Sent) (found 
       → (r ≡ NoMemory → WritePasses w.kernel bytes → ⊥) → RefusedWith w (event.write place) r
   write_refused within r (exhausted it) last =
       let awaits : awaited w.kernel sent.unique ≡ reply_to it.opcode = ap (awaited w.kernel) (sym head.1) ∙ it.awaits in
-      let means : Means it.opcode bytes sent.wire = means_said sent.wire
-      (heard_by can_hear it.opcode it.judged awaits) in
-      let past : kernel.is_past (reply_written w.kernel sent.unique sent.wire).1 ≡ true =
-      ap (λ (u : ℕ). kernel.is_past (reply_written w.kernel u sent.wire).1)
+      let means : ReadsReply it.opcode bytes sent.wire = means_said sent.wire
+      (received_by can_hear it.opcode it.judged awaits) in
+      let past : kernel.is_kernel_past (reply_written w.kernel sent.unique sent.wire).1 ≡ true =
+      ap (λ (u : ℕ). kernel.is_kernel_past (reply_written w.kernel u sent.wire).1)
       (sym head.1) ∙ it.past sent.wire means in
       inl (past_written w place sent found past)
   write_refused within r (no_memory none) last = write_wanting within (last refl) NoMemory refl

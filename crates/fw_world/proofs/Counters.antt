@@ -2,7 +2,7 @@
 -- to it.
 use Rattle.std.proofs.Common.{◌≡◌, Bool, true, false, ◌||◌, refl, ◌∙◌}
 use Rattle.fuse_spec.specs.Kernel.Kernel.{Kernel}
-use Rattle.fuse_spec.specs.Kernel.Refusals.{is_past_end, is_counted_out}
+use Rattle.fuse_spec.specs.Kernel.Refusals.{is_kernel_past_end, is_counted_out}
 use Rattle.fuse_spec.specs.Kernel.Refusals as kernel
 use Rattle.fuse_spec.specs.Server.Refusals as server
 use Rattle.fuse_spec.specs.Server.Server.{Server}
@@ -46,39 +46,39 @@ not_second false true e low = absurd (cc low)
 not_second false false e low = e
 
 -- With this kernel and this server.
-pub world_within : (k : Kernel) (s : Server) → is_past_end k ≡ false → is_counted_out k.nodes ≡ false
-    → server.is_past_end s ≡ false → (w : World) → w.kernel ≡ k → w.server ≡ s → is_past w ≡ false
+pub world_within : (k : Kernel) (s : Server) → is_kernel_past_end k ≡ false → is_counted_out k.nodes ≡ false
+    → server.is_server_past_end s ≡ false → (w : World) → w.kernel ≡ k → w.server ≡ s → is_past w ≡ false
 world_within k s kernel_within none_out server_within w same_kernel same_server =
-    (λ i. kernel.is_past (same_kernel i) || server.is_past_end (same_server i)) ∙ none_past (is_past_end k)
-    (is_counted_out k.nodes) (server.is_past_end s) kernel_within none_out server_within
+    (λ i. kernel.is_kernel_past (same_kernel i) || server.is_server_past_end (same_server i)) ∙ none_past (is_kernel_past_end k)
+    (is_counted_out k.nodes) (server.is_server_past_end s) kernel_within none_out server_within
 
 -- One of these is past its end, and so a counter of the world is.
-pub past_by_all : (w : World) → kernel.is_past w.kernel ≡ true → is_past w ≡ true
-past_by_all w past = first_one (kernel.is_past w.kernel) (server.is_past_end w.server) past
+pub past_by_all : (w : World) → kernel.is_kernel_past w.kernel ≡ true → is_past w ≡ true
+past_by_all w past = first_one (kernel.is_kernel_past w.kernel) (server.is_server_past_end w.server) past
 
-pub past_by_kernel : (w : World) → is_past_end w.kernel ≡ true → is_past w ≡ true
-past_by_kernel w past = first_past (is_past_end w.kernel) (is_counted_out w.kernel.nodes)
-    (server.is_past_end w.server) past
+pub past_by_kernel : (w : World) → is_kernel_past_end w.kernel ≡ true → is_past w ≡ true
+past_by_kernel w past = first_past (is_kernel_past_end w.kernel) (is_counted_out w.kernel.nodes)
+    (server.is_server_past_end w.server) past
 
 pub past_by_count : (w : World) → is_counted_out w.kernel.nodes ≡ true → is_past w ≡ true
-past_by_count w past = second_past (is_past_end w.kernel) (is_counted_out w.kernel.nodes)
-    (server.is_past_end w.server) past
+past_by_count w past = second_past (is_kernel_past_end w.kernel) (is_counted_out w.kernel.nodes)
+    (server.is_server_past_end w.server) past
 
-pub past_by_server : (w : World) → server.is_past_end w.server ≡ true → is_past w ≡ true
-past_by_server w past = either (kernel.is_past w.kernel) (server.is_past_end w.server) past
+pub past_by_server : (w : World) → server.is_server_past_end w.server ≡ true → is_past w ≡ true
+past_by_server w past = either (kernel.is_kernel_past w.kernel) (server.is_server_past_end w.server) past
 
 -- No counter of a world is past its end, and so none of these is.
-pub kernel_all_low : (w : World) → is_past w ≡ false → kernel.is_past w.kernel ≡ false
-kernel_all_low w within = first_low (kernel.is_past w.kernel) (server.is_past_end w.server) within
+pub kernel_all_low : (w : World) → is_past w ≡ false → kernel.is_kernel_past w.kernel ≡ false
+kernel_all_low w within = first_low (kernel.is_kernel_past w.kernel) (server.is_server_past_end w.server) within
 
-pub kernel_low : (w : World) → is_past w ≡ false → is_past_end w.kernel ≡ false
-kernel_low w within = first_low (is_past_end w.kernel) (is_counted_out w.kernel.nodes) (kernel_all_low w within)
+pub kernel_low : (w : World) → is_past w ≡ false → is_kernel_past_end w.kernel ≡ false
+kernel_low w within = first_low (is_kernel_past_end w.kernel) (is_counted_out w.kernel.nodes) (kernel_all_low w within)
 
 pub count_low : (w : World) → is_past w ≡ false → is_counted_out w.kernel.nodes ≡ false
-count_low w within = second_low (is_past_end w.kernel) (is_counted_out w.kernel.nodes) (kernel_all_low w within)
+count_low w within = second_low (is_kernel_past_end w.kernel) (is_counted_out w.kernel.nodes) (kernel_all_low w within)
 
-pub server_low : (w : World) → is_past w ≡ false → server.is_past_end w.server ≡ false
-server_low w within = second_low (kernel.is_past w.kernel) (server.is_past_end w.server) within
+pub server_low : (w : World) → is_past w ≡ false → server.is_server_past_end w.server ≡ false
+server_low w within = second_low (kernel.is_kernel_past w.kernel) (server.is_server_past_end w.server) within
 
-pub kernel_past : (w : World) → is_past w ≡ true → server.is_past_end w.server ≡ false → kernel.is_past w.kernel ≡ true
-kernel_past w past low = not_second (kernel.is_past w.kernel) (server.is_past_end w.server) past low
+pub kernel_past : (w : World) → is_past w ≡ true → server.is_server_past_end w.server ≡ false → kernel.is_kernel_past w.kernel ≡ true
+kernel_past w past low = not_second (kernel.is_kernel_past w.kernel) (server.is_server_past_end w.server) past low

@@ -18,10 +18,10 @@ use Rattle.fuse_spec.specs.Kernel.QueueCalls.{pending_at, after_read_forgets}
 use Rattle.fuse_spec.specs.Kernel.Replies.{reply_written}
 use Rattle.fuse_spec.specs.Server.Server.{HeldRequest, Kept, Copy}
 use Rattle.fuse_spec.specs.Server.Copies.{is_current, files_named}
-use Rattle.fuse_spec.specs.Server.Nodes.{counts_out}
+use Rattle.fuse_spec.specs.Server.Nodes.{count_overflows}
 use Rattle.fuse_spec.specs.Server.Taking.{taking}
 use Rattle.fuse_spec.specs.Server.Performs.{PerformResult, served, files_given}
-use Rattle.fuse_spec.specs.World.Worlds.{World, Sent, after_mount, after_call, after_read_pending, after_read_forgets as after_forgets, after_take, after_perform, after_again, after_write, after_settle, after_tick, after_drop, after_evict}
+use Rattle.fuse_spec.specs.World.Worlds.{World, Sent, after_mount, after_call, world_after_read_pending, world_after_read_forgets as after_forgets, after_take, after_perform, after_again, after_write, after_settle, after_tick, after_drop, after_evict}
 use Rattle.fuse_spec.specs.World.Events.{Event, Outcome}
 use Rattle.fuse_spec.specs.World.Events as event
 use Rattle.fuse_spec.specs.Kernel.Refusals.{found, pending_found, unused_found, unless, refusal_in, accepted, when_live, when_not_interrupted, is_ready, is_busy}
@@ -71,12 +71,12 @@ read_ok k x y z e is =
     (unless_ok (not (nat_eq (length k.queues.interrupts) 0)) refusal.InterruptFirst x y z first is)
 
 pub reads : (w : World) (place : ℕ) (request : Request) → read_refusal w.kernel place ≡ None
-    → IsPendingRequest w.kernel place request → is_past (after_read_pending w place request.unique request.body) ≡ false
+    → IsPendingRequest w.kernel place request → is_past (world_after_read_pending w place request.unique request.body) ≡ false
     → Happens w (event.read_pending place) (event.is_read request.unique)
-    (after_read_pending w place request.unique request.body)
+    (world_after_read_pending w place request.unique request.body)
 reads w place request judged is within =
     let at = pending_at w.kernel.queues place in
-    let after = after_read_pending w place request.unique request.body in (
+    let after = world_after_read_pending w place request.unique request.body in (
       any_id,
       tt,
       read_ok w.kernel (pending_found w.kernel at (λ (unique : ℕ) (body : RequestBody). accepted))
@@ -97,7 +97,7 @@ takes w place request there within =
     )
 
 pub performs : (choice : ℕ → ℕ) (w : World) (unique : ℕ) (held : HeldRequest) → get w.server.held unique ≡ Some held
-    → counts_out w.server.nodes (files_given w.server held) ≡ false → MayStep choice w (event.perform unique)
+    → count_overflows w.server.nodes (files_given w.server held) ≡ false → MayStep choice w (event.perform unique)
     → (did : PerformResult) → served choice w.server unique held ≡ did
     → is_past (after_perform w unique did) ≡ false → Happens w (event.perform unique)
     (event.performed unique (errno_of did.wire) w.server.aborted) (after_perform w unique did)
@@ -113,7 +113,7 @@ performs choice w unique held there counts may did is within =
     )
 
 pub sends_again : (w : World) (unique : ℕ) (kept : Kept) → get w.server.kept unique ≡ Some kept
-    → is_current w.server kept.wire ≡ true → counts_out w.server.nodes (files_named w.server kept.wire) ≡ false
+    → is_current w.server kept.wire ≡ true → count_overflows w.server.nodes (files_named w.server kept.wire) ≡ false
     → is_past (after_again w unique kept) ≡ false
     → Happens w (event.again unique) (event.sent_again unique) (after_again w unique kept)
 sends_again w unique kept there current counts within =
@@ -122,7 +122,7 @@ sends_again w unique kept there current counts within =
       any_id,
       tt,
       ap (λ o. kept_found w.server o (sending_again w unique)) there ∙ ap (λ (b : Bool). unless (not b) refusal.NoCopy
-          (unless (counts_out w.server.nodes (files_named w.server kept.wire)) refusal.Exhausted
+          (unless (count_overflows w.server.nodes (files_named w.server kept.wire)) refusal.Exhausted
           (going outcome after))) current
           ∙ ap (λ (b : Bool). unless b refusal.Exhausted (going outcome after)) counts ∙ goes outcome after within,
     )

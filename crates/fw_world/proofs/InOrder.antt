@@ -7,7 +7,7 @@ use Rattle.fuse_spec.specs.World.Records.{Record, collected}
 use Rattle.fuse_spec.specs.Claim.Sessions.{Session, linked, lost}
 use Rattle.fw_link.specs.Traffic.{HasFailed, IsInOrder, IsWhole, Traffic, no_traffic}
 use Rattle.fw_link.proofs.Fronts.{all_got, front_of_all, in_order_front}
-use Rattle.fw_world.specs.Sends.{Carries, IsLostOn, IsSent, Loses, Sending, sending_bytes}
+use Rattle.fw_world.specs.Sends.{Carries, IsLostOn, IsSent, LosesEnvelope, Sending, sending_bytes}
 use Rattle.fw_world.specs.OverLinks.{RecordedOver, none_left, one_refused, one_accepted, one_lost, one_too_late}
 
 module _ {L : Type 0} (carries : L → L → Traffic → Type 0) (failed : L → ℕ) where
@@ -72,7 +72,7 @@ module _ {L : Type 0} (carries : L → L → Traffic → Type 0) (failed : L →
         (record { to_kernel = refl; to_server = refl })
 
     counted : (Sends : Sending → Type 0) (first last : L) → is_idle first
-        → Loses Sends (carries first last) (failed first) (failed last) → HasFailed (failed first) (failed last)
+        → LosesEnvelope Sends (carries first last) (failed first) (failed last) → HasFailed (failed first) (failed last)
     counted Sends first last idle l =
         let gone = l.is_lost in
         gone.counted (front_of_all gone.put_len (sending_bytes l.envelope) gone.got

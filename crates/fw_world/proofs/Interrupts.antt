@@ -9,7 +9,7 @@ use Rattle.fuse_spec.specs.Values.Maps.{get}
 use Rattle.fuse_spec.specs.Kernel.Kernel.{Kernel, is_live, call_signalled}
 use Rattle.fuse_spec.specs.Kernel.Uniques.{interrupt_number}
 use Rattle.fuse_spec.specs.Calls.Vfs.{CallState}
-use Rattle.fuse_spec.specs.World.Worlds.{World, after_read_interrupt, after_abort}
+use Rattle.fuse_spec.specs.World.Worlds.{World, world_after_read_interrupt, after_abort}
 use Rattle.fuse_spec.specs.World.Events.{Outcome}
 use Rattle.fuse_spec.specs.World.Events as event
 use Rattle.std.specs.Prelude.{Result}
@@ -64,8 +64,8 @@ signal_refused w call fatal r judged choice may =
 -- ---- the oldest INTERRUPT
 
 pub reads_interrupt : (w : World) (original : ℕ) (rest : List ℕ) → read_interrupt_refusal w.kernel ≡ None
-    → w.kernel.queues.interrupts ≡ original ∷ rest → is_past (after_read_interrupt w original) ≡ false
-    → Happens w event.read_interrupt (event.is_read (interrupt_number original)) (after_read_interrupt w original)
+    → w.kernel.queues.interrupts ≡ original ∷ rest → is_past (world_after_read_interrupt w original) ≡ false
+    → Happens w event.read_interrupt (event.is_read (interrupt_number original)) (world_after_read_interrupt w original)
 reads_interrupt w original rest judged first within =
     let outcome = event.is_read (interrupt_number original) in (
       any_id,
@@ -73,9 +73,9 @@ reads_interrupt w original rest judged first within =
       unless_ok (not (is_live w.kernel.phase)) refusal.NotReady
           (first_found w.kernel.queues.interrupts (λ (n : ℕ). accepted))
           (first_found w.kernel.queues.interrupts (reading_interrupt w))
-          (outcome, after_read_interrupt w original) judged
+          (outcome, world_after_read_interrupt w original) judged
           (ap (λ (xs : List ℕ). first_found xs (reading_interrupt w)) first
-          ∙ goes outcome (after_read_interrupt w original) within),
+          ∙ goes outcome (world_after_read_interrupt w original) within),
     )
 
 pub read_interrupt_refused : (w : World) (r : Refusal) → read_interrupt_refusal w.kernel ≡ Some r

@@ -3,13 +3,13 @@ pub mod Judged
 pub mod Happening
 pub mod LastFrames
 pub mod Refusing
-pub mod Parts
-pub mod Made
+pub mod WorldParts
+pub mod EventEffects
 pub mod Copies
 pub mod Collecting
 pub mod Recording
 pub mod Interrupts
-pub mod Wanting
+pub mod MemoryRefusals
 pub mod Stepping
 pub mod Sending
 pub mod Losing

@@ -23,7 +23,7 @@ use Rattle.fw_world.specs.declared.event.Outcome.{Outcome as OutcomeValue}
 use Rattle.fw_world.specs.declared.record.Record.{Record}
 use Rattle.fw_world.specs.declared.record.Record.TheVariants as recorded
 use Rattle.fw_world.specs.Sends.{IsSent, IsLostOn, LosesIn}
-use Rattle.fw_world.specs.Values.{event_of, outcome_of, record_of}
+use Rattle.fw_world.specs.Values.{event_of, outcome_of, run_record_of}
 use Rattle.fw_world.specs.Runs.{calls_not_over}
 use Rattle.fw_world.specs.OverLinks.{RecordedOver, none_left, one_refused, one_accepted, one_lost, one_too_late, RunsOver, session_of}
 
@@ -124,7 +124,7 @@ module _ {L : Type 0} (carries : L → L → Traffic → Type 0) (failed : L →
     -- What is added of one event.
     abbrev pub AddsOver : Session → L → EventValue → List (Record A) → Session → L → List (Record A) → Type 0
     AddsOver s link e had t next has = (added : List (Record A)) × (has ≡ had ++ added)
-        × RecordedOver carries failed s link (event_of e ∷ []) (map record_of added) t next
+        × RecordedOver carries failed s link (event_of e ∷ []) (map run_record_of added) t next
 
     adds_refusal : (w : World) (link : L) (e : EventValue) (refusal : Refusal) → RefusedWith w (event_of e) refusal
         → (had has : List (Record A)) → has ≡ had ++ recorded.Refused refusal ∷ []
@@ -168,7 +168,7 @@ module _ {L : Type 0} (carries : L → L → Traffic → Type 0) (failed : L →
         → Happens w (event_of e) (outcome_of o) mid → IsSent mid (outcome_of o) (carries link next)
         → failed next ≡ failed link
         → (had has answers : List (Record A)) → has ≡ had ++ (recorded.Outcome o ∷ answers)
-        → map record_of answers ≡ answers_of mid.kernel.vfs.answers
+        → map run_record_of answers ≡ answers_of mid.kernel.vfs.answers
         → AddsOver (linked w) link e had (linked (collected mid)) next has
     adds_accepted w mid link next e o happens sent same had has answers has_is answers_are =
         let one : RecordedOver carries failed (linked w) link (event_of e ∷ [])
@@ -176,7 +176,7 @@ module _ {L : Type 0} (carries : L → L → Traffic → Type 0) (failed : L →
         one_accepted w link (event_of e) (outcome_of o) mid next [] [] (linked (collected mid)) next happens sent same
         (none_left (linked (collected mid)) next) in
         let records_are : records.outcome (outcome_of o) ∷ answers_of mid.kernel.vfs.answers ++ []
-        ≡ records.outcome (outcome_of o) ∷ map record_of answers =
+        ≡ records.outcome (outcome_of o) ∷ map run_record_of answers =
         append-nil (records.outcome (outcome_of o) ∷ answers_of mid.kernel.vfs.answers) ∙ ap
         (λ (xs : List records.Record). records.outcome (outcome_of o) ∷ xs) (sym answers_are) in (
           recorded.Outcome o ∷ answers,
@@ -188,7 +188,7 @@ module _ {L : Type 0} (carries : L → L → Traffic → Type 0) (failed : L →
     adds_loss : (w gone : World) (link next : L) (e : EventValue) (o : OutcomeValue)
         → LosesIn w (event_of e) (outcome_of o) gone (carries link next) (failed link) (failed next)
         → (had has answers : List (Record A)) → has ≡ had ++ (recorded.Outcome o ∷ recorded.LinkLost ∷ answers)
-        → map record_of answers ≡ answers_of gone.kernel.vfs.answers
+        → map run_record_of answers ≡ answers_of gone.kernel.vfs.answers
         → AddsOver (linked w) link e had (lost (collected gone)) next has
     adds_loss w gone link next e o loses had has answers has_is answers_are =
         let one : RecordedOver carries failed (linked w) link (event_of e ∷ [])
@@ -198,7 +198,7 @@ module _ {L : Type 0} (carries : L → L → Traffic → Type 0) (failed : L →
         (lost (collected gone)) next loses.happens loses.is_lost loses.aborts
         (none_left (lost (collected gone)) next) in
         let records_are : records.outcome (outcome_of o) ∷ records.link_lost ∷ answers_of gone.kernel.vfs.answers ++ []
-        ≡ records.outcome (outcome_of o) ∷ records.link_lost ∷ map record_of answers =
+        ≡ records.outcome (outcome_of o) ∷ records.link_lost ∷ map run_record_of answers =
         append-nil (records.outcome (outcome_of o) ∷ records.link_lost ∷ answers_of gone.kernel.vfs.answers) ∙ ap
         (λ (xs : List records.Record). records.outcome (outcome_of o) ∷ records.link_lost ∷ xs)
         (sym answers_are) in (
@@ -221,7 +221,7 @@ module _ {L : Type 0} (carries : L → L → Traffic → Type 0) (failed : L →
         (failed next)) → (new : World) → new ≡ collected after
         → (had made begun noted has answers : List (Record A)) → made ≡ had → begun ≡ made ++ recorded.Outcome o ∷ []
         → noted ≡ begun ++ loss_of is_lost → has ≡ noted ++ answers
-        → map record_of answers ≡ answers_of after.kernel.vfs.answers
+        → map run_record_of answers ≡ answers_of after.kernel.vfs.answers
         → AddsOver (session_of w was) link e had (session_of new is_lost) next has
     adds_outcome w after was is_lost link next e o linked_before happens sent same loses new new_is had made begun noted has answers made_is begun_is noted_is has_is answers_are =
         subst (λ (b : Bool). AddsOver (session_of w b) link e had (session_of new is_lost) next has) (sym linked_before)
@@ -254,7 +254,7 @@ module _ {L : Type 0} (carries : L → L → Traffic → Type 0) (failed : L →
         (last : L) (has : List (Record A)) : Type 0 where
       pub added : List (Record A)
       pub items : has ≡ had ++ added
-      pub recorded_so : RecordedOver carries failed old link (map event_of events) (map record_of added) new last
+      pub recorded_so : RecordedOver carries failed old link (map event_of events) (map run_record_of added) new last
 
     pub none_ran : (s : Session) (link : L) (events : List EventValue) (had : List (Record A))
         → RanOver s link (take 0 events) had s link had
@@ -267,14 +267,14 @@ module _ {L : Type 0} (carries : L → L → Traffic → Type 0) (failed : L →
     one_more old link events had s at has k d new last more within ran adds =
         let whole : take (k + 1) events ≡ take k events ++ get_or events k d ∷ [] = take_more events k d within in
         let joined = then_over old s new link at last (map event_of (take k events))
-        (event_of (get_or events k d) ∷ []) (map record_of ran.added)
-        (map record_of adds.0) ran.recorded_so adds.2 in
+        (event_of (get_or events k d) ∷ []) (map run_record_of ran.added)
+        (map run_record_of adds.0) ran.recorded_so adds.2 in
         let events_are : map event_of (take k events) ++ event_of (get_or events k d) ∷ []
         ≡ map event_of (take (k + 1) events) =
         sym (map-append event_of (take k events) (get_or events k d ∷ [])) ∙ ap
         (λ (es : List EventValue). map event_of es) (sym whole) in
-        let records_are : map record_of ran.added ++ map record_of adds.0 ≡ map record_of (ran.added ++ adds.0) =
-        sym (map-append record_of ran.added adds.0) in
+        let records_are : map run_record_of ran.added ++ map run_record_of adds.0 ≡ map run_record_of (ran.added ++ adds.0) =
+        sym (map-append run_record_of ran.added adds.0) in
         record {
           added = ran.added ++ adds.0;
           items = adds.1 ∙ ap (λ (xs : List (Record A)). xs ++ adds.0) ran.items ∙ append_assoc had ran.added adds.0;
@@ -288,20 +288,20 @@ module _ {L : Type 0} (carries : L → L → Traffic → Type 0) (failed : L →
       -- What is said of the events that ran.
       abbrev pub ComesOver : Session → L → List (Record A) → Type 0
       ComesOver new last has = (added : List (Record A)) × (has ≡ had ++ added)
-          × RunsOver carries failed old link (map event_of events) (map record_of added) new last
+          × RunsOver carries failed old link (map event_of events) (map run_record_of added) new last
 
       pub comes_over : (new : Session) (last : L) (has : List (Record A)) → RanOver old link events had new last has
           → ComesOver new last has
       comes_over new last has ran =
-          let by_it = by_machine old new link last (map event_of events) (map record_of ran.added) ran.recorded_so in
-          let answers = session_answers old here (map event_of events) (map record_of ran.added) new by_it in (
+          let by_it = by_machine old new link last (map event_of events) (map run_record_of ran.added) ran.recorded_so in
+          let answers = session_answers old here (map event_of events) (map run_record_of ran.added) new by_it in (
             ran.added,
             ran.items,
             record {
               recorded = ran.recorded_so;
               plain_run = λ p refines. session_refines old here (map event_of events)
-                  (map record_of ran.added) new by_it p refines;
-              keeps = session_keeps old here (map event_of events) (map record_of ran.added) new by_it;
+                  (map run_record_of ran.added) new by_it p refines;
+              keeps = session_keeps old here (map event_of events) (map run_record_of ran.added) new by_it;
               once = answers.0;
               ended = answers.1;
             },

@@ -14,7 +14,7 @@ use Rattle.fw_world.specs.declared.event.Event.{Event as EventValue}
 use Rattle.fw_world.specs.declared.event.Outcome.{Outcome as OutcomeValue}
 use Rattle.fw_world.specs.declared.record.Record.{Record}
 use Rattle.fw_world.specs.declared.record.Record.TheVariants as recorded
-use Rattle.fw_world.specs.Values.{event_of, outcome_of, record_of}
+use Rattle.fw_world.specs.Values.{event_of, outcome_of, run_record_of}
 use Rattle.fw_world.specs.Runs.{RunsAs}
 
 -- ---- lists one after another
@@ -35,7 +35,7 @@ pub record RanSo {A : Type 0} (old : World) (events : List EventValue) (had : Li
     (has : List (Record A)) : Type 0 where
   pub added : List (Record A)
   pub items : has ≡ had ++ added
-  pub recorded : Recorded old (map event_of events) (map record_of added) new
+  pub recorded : Recorded old (map event_of events) (map run_record_of added) new
 
 pub none_ran : {A : Type 0} → (w : World) (events : List EventValue) (had : List (Record A))
     → RanSo w (take 0 events) had w had
@@ -44,7 +44,7 @@ none_ran w events had = record { added = []; items = sym (append-nil had); recor
 -- What is added of one event.
 abbrev pub AddsOne : {A : Type 0} → World → EventValue → List (Record A) → World → List (Record A) → Type 0
 AddsOne {A} old e had new has = (added : List (Record A)) × (has ≡ had ++ added)
-    × Recorded old (event_of e ∷ []) (map record_of added) new
+    × Recorded old (event_of e ∷ []) (map run_record_of added) new
 
 pub one_more : {A : Type 0} → (old : World) (events : List EventValue) (had : List (Record A)) (w : World)
     (has : List (Record A)) (k : ℕ) (d : EventValue) (new : World) (more : List (Record A))
@@ -53,13 +53,13 @@ pub one_more : {A : Type 0} → (old : World) (events : List EventValue) (had : 
 one_more {A} old events had w has k d new more within ran adds =
     let whole : take (k + 1) events ≡ take k events ++ get_or events k d ∷ [] = take_more events k d within in
     let joined = then_recorded old w new (map event_of (take k events)) (event_of (get_or events k d) ∷ [])
-    (map record_of ran.added) (map record_of adds.0) ran.recorded adds.2 in
+    (map run_record_of ran.added) (map run_record_of adds.0) ran.recorded adds.2 in
     let events_are : map event_of (take k events) ++ event_of (get_or events k d) ∷ []
     ≡ map event_of (take (k + 1) events) =
     sym (map-append event_of (take k events) (get_or events k d ∷ [])) ∙ ap (λ (es : List EventValue). map event_of es)
     (sym whole) in
-    let records_are : map record_of ran.added ++ map record_of adds.0 ≡ map record_of (ran.added ++ adds.0) =
-    sym (map-append record_of ran.added adds.0) in
+    let records_are : map run_record_of ran.added ++ map run_record_of adds.0 ≡ map run_record_of (ran.added ++ adds.0) =
+    sym (map-append run_record_of ran.added adds.0) in
     record {
       added = ran.added ++ adds.0;
       items = adds.1 ∙ ap (λ (xs : List (Record A)). xs ++ adds.0) ran.items ∙ append_assoc had ran.added adds.0;
@@ -83,13 +83,13 @@ pub adds_outcome : {A : Type 0} → (w : World) (e : EventValue) (o : OutcomeVal
     → Happens w (event_of e) (outcome_of o) mid → (had made begun has answers : List (Record A)) (new : World)
     → new ≡ collected mid → made ≡ had
     → begun ≡ made ++ recorded.Outcome o ∷ [] → has ≡ begun ++ answers
-    → map record_of answers ≡ answers_of mid.kernel.vfs.answers → AddsOne w e had new has
+    → map run_record_of answers ≡ answers_of mid.kernel.vfs.answers → AddsOne w e had new has
 adds_outcome {A} w e o mid happens had made begun has answers new after kept begun_is has_is answers_are =
     let one : Recorded w (event_of e ∷ []) (records.outcome (outcome_of o) ∷ answers_of mid.kernel.vfs.answers ++ [])
     (collected mid) = one_accepted w (event_of e) (outcome_of o) mid [] [] (collected mid) happens
     (none_left (collected mid)) in
     let same : records.outcome (outcome_of o) ∷ answers_of mid.kernel.vfs.answers ++ []
-    ≡ records.outcome (outcome_of o) ∷ map record_of answers =
+    ≡ records.outcome (outcome_of o) ∷ map run_record_of answers =
     append-nil (records.outcome (outcome_of o) ∷ answers_of mid.kernel.vfs.answers) ∙ ap
     (λ (xs : List records.Record). records.outcome (outcome_of o) ∷ xs) (sym answers_are) in (
       recorded.Outcome o ∷ answers,
@@ -117,17 +117,17 @@ module _ {A : Type 0} (old : World) (here : IsSoundWorld old) (events : List Eve
   -- What is said of the events that ran.
   abbrev pub Comes : World → List (Record A) → Type 0
   Comes new has = (added : List (Record A)) × (has ≡ had ++ added)
-      × RunsAs old (map event_of events) (map record_of added) new
+      × RunsAs old (map event_of events) (map run_record_of added) new
 
   pub comes_to : (new : World) (has : List (Record A)) → RanSo old events had new has → Comes new has
   comes_to new has ran =
-      let answers = list_answers old here (map event_of events) (map record_of ran.added) new ran.recorded in (
+      let answers = list_answers old here (map event_of events) (map run_record_of ran.added) new ran.recorded in (
         ran.added,
         ran.items,
         record {
           plain_run = λ p refines. list_refines old here (map event_of events)
-              (map record_of ran.added) new ran.recorded p refines;
-          keeps = list_keeps old here (map event_of events) (map record_of ran.added) new ran.recorded;
+              (map run_record_of ran.added) new ran.recorded p refines;
+          keeps = list_keeps old here (map event_of events) (map run_record_of ran.added) new ran.recorded;
           once = answers.0;
           ended = answers.1;
         },

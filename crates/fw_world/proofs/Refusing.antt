@@ -16,14 +16,14 @@ use Rattle.fuse_spec.specs.Kernel.Kernel.{Kernel, is_live, is_pinned, is_bound, 
 use Rattle.fuse_spec.specs.Kernel.QueueCalls.{pending_at, after_read_forgets}
 use Rattle.fuse_spec.specs.Kernel.Replies.{reply_written}
 use Rattle.fuse_spec.specs.Server.Copies.{files_named, is_current}
-use Rattle.fuse_spec.specs.Server.Nodes.{counts_out}
+use Rattle.fuse_spec.specs.Server.Nodes.{count_overflows}
 use Rattle.fuse_spec.specs.Server.Performs.{served, files_given}
 use Rattle.fuse_spec.specs.Server.Server.{HeldRequest, Kept}
 use Rattle.fuse_spec.specs.World.Worlds as worlds
 use Rattle.fuse_spec.specs.World.Worlds.{World, Sent, after_mount, after_call, after_take, after_perform, after_again, after_write, after_tick, after_drop}
 use Rattle.fuse_spec.specs.World.Events.{Event, Outcome}
 use Rattle.fuse_spec.specs.World.Events as event
-use Rattle.fuse_spec.specs.Kernel.Refusals.{found, pending_found, unused_found, unless, refusal_in, accepted, when_live, when_not_interrupted, is_ready, is_busy, is_past_end}
+use Rattle.fuse_spec.specs.Kernel.Refusals.{found, pending_found, unused_found, unless, refusal_in, accepted, when_live, when_not_interrupted, is_ready, is_busy, is_kernel_past_end}
 use Rattle.fw_world.proofs.Judged.{unless_refused, found_refused, not_refused}
 use Rattle.fuse_spec.specs.Server.Refusals.{held_found, kept_found}
 use Rattle.fuse_spec.specs.World.Steps.{Stepped, going, is_past, reading_pending, reading_forgets, taking_request, performing_held, sending_again, writing_copy, settling, dropping, evicting, MayChooseFor, IsRefused, RefusedWith}
@@ -43,11 +43,11 @@ is_exhausted o after past = ap (λ (b : Bool). cond b (Err refusal.Exhausted) (O
 -- A counter of the kernel past its end refuses what would come of the event.
 pub past_counters : (o : Outcome) (k : Kernel) (after : World) → after.kernel ≡ k → (r : Refusal)
     → refusal_in (within_counters k) ≡ Some r → going o after ≡ Err r
-past_counters o k after same r e = by (is_past_end k) refl e
+past_counters o k after same r e = by (is_kernel_past_end k) refl e
   where
-    by : (past : Bool) → is_past_end k ≡ past → refusal_in (unless past refusal.Exhausted accepted) ≡ Some r
+    by : (past : Bool) → is_kernel_past_end k ≡ past → refusal_in (unless past refusal.Exhausted accepted) ≡ Some r
         → going o after ≡ Err r
-    by true past is = is_exhausted o after (past_by_kernel after (ap is_past_end same ∙ past)) ∙ cc is
+    by true past is = is_exhausted o after (past_by_kernel after (ap is_kernel_past_end same ∙ past)) ∙ cc is
     by false past is = absurd (cc is)
 
 -- ---- a mount
@@ -105,7 +105,7 @@ forgets_refused w n r judged choice may =
     let counted = λ (x : ℕ × List Forget). within_counters after in
     read_so w.kernel (found read counted) (found read (reading_forgets w n)) r judged
     (λ e. found_refused read counted (reading_forgets w n) r e
-    (λ x. past_counters (event.is_read x.0) after (worlds.after_read_forgets w n x.1) refl r))
+    (λ x. past_counters (event.is_read x.0) after (worlds.world_after_read_forgets w n x.1) refl r))
 
 -- ---- the time, names and nodes
 
@@ -141,7 +141,7 @@ evict_refused w node r judged choice may =
 -- ---- a request performed
 
 sent_server : (w : World) (number unique : ℕ) (wire : Option WireReply)
-    → (worlds.replying w number unique wire).server ≡ w.server
+    → (worlds.copy_put w number unique wire).server ≡ w.server
 sent_server w number unique None = refl
 sent_server w number unique (Some wire) = refl
 
@@ -155,7 +155,7 @@ pub perform_refused : (w : World) (unique : ℕ) (r : Refusal) → RefusesHeld w
     → IsRefused w (event.perform unique) r
 perform_refused w unique r (as_judged _ judged) choice may =
     let held = get w.server.held unique in
-    let out = λ (h : HeldRequest). counts_out w.server.nodes (files_given w.server h) in
+    let out = λ (h : HeldRequest). count_overflows w.server.nodes (files_given w.server h) in
     found_refused held (λ (h : HeldRequest). unless (out h) refusal.Exhausted accepted)
     (λ (h : HeldRequest). unless (out h) refusal.Exhausted (performing_held choice w unique h)) r judged
     (λ h e. unless_refused (out h) refusal.Exhausted accepted (performing_held choice w unique h) r e
@@ -165,12 +165,12 @@ perform_refused w unique r (exhausted held there past) choice may =
     let after = after_perform w unique did in
     let same : after.server ≡ did.server = sent_server (record w { server = did.server }) w.server.next_copy unique
     (cond w.server.aborted None (Some did.wire)) in
-    let over : server.is_past_end after.server ≡ true =
-    ap server.is_past_end same ∙ past choice (subst (MayChooseFor choice w) there may) in
+    let over : server.is_server_past_end after.server ≡ true =
+    ap server.is_server_past_end same ∙ past choice (subst (MayChooseFor choice w) there may) in
     ap (λ o. held_found w.server o (performing_held choice w unique)) there
-    ∙ ap (unless (counts_out w.server.nodes (files_given w.server held)) refusal.Exhausted)
+    ∙ ap (unless (count_overflows w.server.nodes (files_given w.server held)) refusal.Exhausted)
     (is_exhausted (event.performed unique (errno_of did.wire) w.server.aborted) after (past_by_server after over))
-    ∙ either_way (counts_out w.server.nodes (files_given w.server held))
+    ∙ either_way (count_overflows w.server.nodes (files_given w.server held))
 
 -- Where memory is not wanting.
 pub refused_with : {X : Type 0} (w : World) (e : Event) (r : Result X Refusal) → IfErr r (IsRefused w e)
@@ -189,7 +189,7 @@ again_refused w unique r (judged_again _ judged) choice may = by (get w.server.k
     by None e = cc e
     by (Some kept) e =
         let stale = not (is_current w.server kept.wire) in
-        let out = counts_out w.server.nodes (files_named w.server kept.wire) in
+        let out = count_overflows w.server.nodes (files_named w.server kept.wire) in
         let again = sending_again w unique kept in
         unless_refused stale refusal.NoCopy (unless out refusal.Exhausted accepted)
         (unless out refusal.Exhausted again) r e
@@ -198,16 +198,16 @@ again_refused w unique r (no_number kept there current past) choice may =
     let outcome = event.sent_again unique in
     let after = after_again w unique kept in
     ap (λ o. kept_found w.server o (sending_again w unique)) there ∙ ap (λ (b : Bool). unless (not b) refusal.NoCopy
-    (unless (counts_out w.server.nodes (files_named w.server kept.wire)) refusal.Exhausted
+    (unless (count_overflows w.server.nodes (files_named w.server kept.wire)) refusal.Exhausted
     (going outcome after))) current
-    ∙ ap (unless (counts_out w.server.nodes (files_named w.server kept.wire)) refusal.Exhausted)
+    ∙ ap (unless (count_overflows w.server.nodes (files_named w.server kept.wire)) refusal.Exhausted)
     (is_exhausted outcome after (past_by_server after past))
-    ∙ either_way (counts_out w.server.nodes (files_named w.server kept.wire))
+    ∙ either_way (count_overflows w.server.nodes (files_named w.server kept.wire))
 
 -- ---- a copy written
 
 pub past_written : (w : World) (place : ℕ) (sent : Sent) → slice_get w.replies place ≡ Some sent
-    → kernel.is_past (reply_written w.kernel sent.unique sent.wire).1 ≡ true
+    → kernel.is_kernel_past (reply_written w.kernel sent.unique sent.wire).1 ≡ true
     → IsRefused w (event.write place) refusal.Exhausted
 past_written w place sent there past choice may =
     let took = reply_written w.kernel sent.unique sent.wire in

@@ -5,7 +5,7 @@ use Rattle.std.specs.Int.{cast_unsigned, w32}
 use Rattle.fk_wire.specs.declared.fault.WireFault.{WireFault}
 use Rattle.fk_wire.specs.declared.fault.WireFault.TheVariants as fault
 use Rattle.fk_wire.specs.Fields.{ReadsAs, number_at, spellings}
-use Rattle.fk_wire.specs.Opcodes.{served as served_minor}
+use Rattle.fk_wire.specs.Opcodes.{latest_minor as served_minor}
 use Rattle.fk_wire.specs.Replies.{IsErrorNumber, reply_body}
 use Rattle.fk_wire.specs.Requests.{request_fields}
 use Rattle.fk_wire.specs.Results.{ResultRefusalIs, SpellsResult, result_fields}
@@ -19,19 +19,19 @@ use Rattle.fuse_spec.specs.declared.WriteResult.TheVariants.{Accepted, NoEntry, 
 use Rattle.fuse_spec.specs.Values.Maps.{get}
 use Rattle.fuse_spec.specs.Server.Server.{HeldRequest, Kept}
 use Rattle.fuse_spec.specs.Server.Taking.{interrupting, taking}
-use Rattle.fuse_spec.specs.World.Worlds.{World, Sent, after_perform, after_take, replying}
+use Rattle.fuse_spec.specs.World.Worlds.{World, Sent, after_perform, after_take, copy_put}
 use Rattle.fuse_spec.specs.World.Events.{Event, Outcome, performed, taken}
 use Rattle.fuse_spec.specs.Files.Operations.{errno_of}
 use Rattle.fuse_spec.specs.Server.Performs.{PerformResult, served}
 use Rattle.fuse_spec.specs.World.Steps.{Happens}
 use Rattle.fuse_spec.specs.World.Refusals.{Leads, mounts, calls, reads_interrupt, reads_forgets, reads_pending, takes, performs, sends_again, writes, settles, signals, passes, drops, evicts, aborts}
 use Rattle.fuse_theorem.proofs.RefusalCases.RefusalsByCases.{only_accepted}
-use Rattle.fw_link.specs.Envelopes.{IsEnvelope, stated_len}
+use Rattle.fw_link.specs.Envelopes.{IsEnvelope, stated_envelope_len}
 use Rattle.fw_world.specs.Frames.{IsCopyFrame}
-use Rattle.fw_world.specs.Sends.{IsOut, error_of}
+use Rattle.fw_world.specs.Sends.{IsOut, result_error}
 
-stated : (bytes : List ℕ) → number_at 0 4 bytes ≡ length bytes → stated_len bytes ≡ length bytes
-unfolding number_at stated_len
+stated : (bytes : List ℕ) → number_at 0 4 bytes ≡ length bytes → stated_envelope_len bytes ≡ length bytes
+unfolding number_at stated_envelope_len
 stated bytes is = is
 
 pub request_whole : (bytes : List ℕ) (request : Request) → IsRequestFrame bytes request → IsEnvelope 0 0 bytes
@@ -61,7 +61,7 @@ reply_whole bytes sent number small frame =
     }
 
 pub result_whole : (bytes : List ℕ) (result : WriteResult) (unique number : ℕ) → number < 2 ^ 64
-    → SpellsResult bytes (error_of result) unique → IsEnvelope 2 number bytes
+    → SpellsResult bytes (result_error result) unique → IsEnvelope 2 number bytes
 result_whole bytes result unique number small says =
     let len : length bytes ≡ 16 = says.1.1.1.1 in
     record {
@@ -81,7 +81,7 @@ performed_out : (w : World) (unique : ℕ) (did : PerformResult)
     → IsOut (after_perform w unique did) (performed unique (errno_of did.wire) w.server.aborted)
 performed_out w unique did = by w.server.aborted
   where
-    by : (gone : Bool) → IsOut (replying (record w { server = did.server }) w.server.next_copy unique
+    by : (gone : Bool) → IsOut (copy_put (record w { server = did.server }) w.server.next_copy unique
         (cond gone None (Some did.wire))) (performed unique (errno_of did.wire) gone)
     by true = tt
     by false = put_last w.replies _
@@ -127,31 +127,31 @@ pub is_out : (w : World) (e : Event) (o : Outcome) (after : World) → Happens w
 is_out w e o after happens = led_out happens.0 w e o after (only_accepted happens.0 w e o after happens.2)
 
 -- The error numbers of results are such, and fit four bytes.
-is_number : (r : WriteResult) → IsErrorNumber (error_of r)
+is_number : (r : WriteResult) → IsErrorNumber (result_error r)
 is_number Accepted = search rules
 is_number NoEntry = search rules
 is_number Invalid = search rules
 
-number_fits : (r : WriteResult) → cast_unsigned w32 (error_of r) < 256 ^ 4
+number_fits : (r : WriteResult) → cast_unsigned w32 (result_error r) < 256 ^ 4
 number_fits Accepted = omega arith
 number_fits NoEntry = omega arith
 number_fits Invalid = omega arith
 
 spelled : (r : WriteResult) (unique : ℕ) (bytes : List ℕ) → unique < 2 ^ 64
-    → bytes ≡ spellings (result_fields (error_of r) unique) → SpellsResult bytes (error_of r) unique
+    → bytes ≡ spellings (result_fields (result_error r) unique) → SpellsResult bytes (result_error r) unique
 spelled r unique bytes small is =
     let fits : 16 < 256 ^ 4 = omega arith in (
       is_number r,
-      subst (λ (x : List ℕ). ReadsAs 0 (result_fields (error_of r) unique) x) (sym is)
-          (reads_back (result_fields (error_of r) unique) [] (fits, (number_fits r, (small, tt))) tt),
+      subst (λ (x : List ℕ). ReadsAs 0 (result_fields (result_error r) unique) x) (sym is)
+          (reads_back (result_fields (result_error r) unique) [] (fits, (number_fits r, (small, tt))) tt),
     )
 
 -- A result's frame that has room is written.
 pub result_written : (written : Result (Unit {0}) WireFault) (r : WriteResult) (unique : ℕ) (new : List ℕ)
     → unique < 2 ^ 64
-    → OnOk written (IsErrorNumber (error_of r) × (new ≡ spellings (result_fields (error_of r) unique)))
-    → IfErr written (ResultRefusalIs (error_of r)) → written ≢ Err fault.Memory
-    → SpellsResult new (error_of r) unique
+    → OnOk written (IsErrorNumber (result_error r) × (new ≡ spellings (result_fields (result_error r) unique)))
+    → IfErr written (ResultRefusalIs (result_error r)) → written ≢ Err fault.Memory
+    → SpellsResult new (result_error r) unique
 result_written (Ok _) r unique new small ok refused room = spelled r unique new small ok.1
 result_written (Err fault.Short) r unique new small ok refused room = absurd refused
 result_written (Err fault.Length) r unique new small ok refused room = absurd refused

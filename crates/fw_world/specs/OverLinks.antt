@@ -2,7 +2,7 @@
 use Rattle.std.specs.Prelude.{◌≡◌, ℕ, Bool, List, [], ◌∷◌, ◌++◌}
 use Rattle.fuse_spec.specs.declared.Refusal.{Refusal}
 use Rattle.fuse_spec.specs.declared.Refusal.TheVariants.{LinkLost}
-use Rattle.fuse_spec.specs.Claim.Counts.{Keeps}
+use Rattle.fuse_spec.specs.Claim.Counts.{Protocol}
 use Rattle.fuse_spec.specs.World.Events.{Event, Outcome, abort, aborted}
 use Rattle.fuse_spec.specs.Reference.Plain.{Plain}
 use Rattle.fuse_spec.specs.World.Records.{Record, outcome, refused, link_lost, answers_of, collected}
@@ -57,7 +57,7 @@ pub record RunsOver {L : Type 0} (carries : L → L → Traffic → Type 0) (fai
   pub recorded : RecordedOver carries failed old link events added new last
   pub plain_run : (p : Plain) → Alike old.world p
       → (q : Plain) × SessionRun old p events added new q × Alike new.world q
-  pub keeps : Keeps new.world
+  pub keeps : Protocol new.world
   pub once : AnswersOnce added
   pub ended : CallsEnd old.world added new.world
 

@@ -6,7 +6,7 @@ use Rattle.fuse_spec.specs.World.Events.{Event, Outcome}
 use Rattle.fuse_spec.specs.World.Records.{Record}
 use Rattle.fuse_spec.specs.Reference.Plain.{Plain}
 use Rattle.fuse_spec.specs.Reference.PlainWords.{Steps}
-use Rattle.fuse_spec.specs.Claim.Counts.{Keeps}
+use Rattle.fuse_spec.specs.Claim.Counts.{Protocol}
 use Rattle.fuse_spec.specs.Claim.Alike.{Alike}
 use Rattle.fuse_spec.specs.Claim.Runs.{Run, AnswersOnce, CallsEnd, IsOver}
 
@@ -29,7 +29,7 @@ events_run (Err k) events = take k events
 -- its own, and is alike to the world after, which keeps the reference protocol. A call that was over stays so.
 pub record StepsAs (old : World) (event : Event) (outcome : Outcome) (new : World) : Type 0 where
   pub plain_step : (p : Plain) → Alike old p → (q : Plain) × Steps p event outcome q × Alike new q
-  pub keeps : Keeps new
+  pub keeps : Protocol new
   pub over : (call : ℕ) → IsOver old call → IsOver new call
 
 -- The events ran with these records: from every plain world that is alike to the world before there is one plain run
@@ -37,6 +37,6 @@ pub record StepsAs (old : World) (event : Event) (outcome : Outcome) (new : Worl
 -- once, and over with its answer, so that no later list answers it.
 pub record RunsAs (old : World) (events : List Event) (added : List Record) (new : World) : Type 0 where
   pub plain_run : (p : Plain) → Alike old p → (q : Plain) × Run old p events added new q × Alike new q
-  pub keeps : Keeps new
+  pub keeps : Protocol new
   pub once : AnswersOnce added
   pub ended : CallsEnd old added new

@@ -13,7 +13,7 @@ use Rattle.fuse_frames.specs.RequestTies.{IsRequestFrame}
 use Rattle.fw_link.specs.declared.side.Side.{Side}
 use Rattle.fw_link.specs.declared.side.Side.TheVariants.{Kernel, Server}
 use Rattle.fw_link.specs.Carrying.{IsLost}
-use Rattle.fw_link.specs.Envelopes.{spelling}
+use Rattle.fw_link.specs.Envelopes.{envelope_spelling}
 use Rattle.fw_link.specs.Traffic.{Traffic, no_traffic, sent}
 use Rattle.fw_world.specs.Frames.{IsCopyFrame}
 
@@ -22,10 +22,10 @@ abbrev pub last_of : {E : Type 0} → List E → Option E
 last_of list = slice_get list (length list - 1)
 
 -- the error number of a reply's result, as its frame has it: 0, or negated ENOENT or EINVAL
-abbrev pub error_of : WriteResult → ℤ
-error_of Accepted = pos 0
-error_of NoEntry = negsuc 1
-error_of Invalid = negsuc 21
+abbrev pub result_error : WriteResult → ℤ
+result_error Accepted = pos 0
+result_error NoEntry = negsuc 1
+result_error Invalid = negsuc 21
 
 -- an envelope, with the side that sends it
 pub record Sending : Type 0 where
@@ -36,7 +36,7 @@ pub record Sending : Type 0 where
 
 -- the bytes of an envelope
 abbrev pub sending_bytes : Sending → List ℕ
-sending_bytes e = spelling e.kind e.copy e.frame
+sending_bytes e = envelope_spelling e.kind e.copy e.frame
 
 -- the frame of the last request on its link
 pub record SendsRequest (w : World) (e : Sending) : Type 0 where
@@ -60,7 +60,7 @@ pub record SendsReply (w : World) (e : Sending) : Type 0 where
 pub record SendsResult (w : World) (e : Sending) : Type 0 where
   pub result : ReplyResult
   pub is_last : last_of w.results ≡ Some result
-  pub spells : SpellsResult e.frame (error_of result.result) result.unique
+  pub spells : SpellsResult e.frame (result_error result.result) result.unique
   pub from : e.from ≡ Kernel
   pub kind : e.kind ≡ 2
   pub copy : e.copy ≡ result.number
@@ -72,7 +72,7 @@ pub record Carries (Sends : Sending → Type 0) (carries : Traffic → Type 0) :
   pub carried : carries (sent envelope.from (sending_bytes envelope) (sending_bytes envelope))
 
 -- An envelope of this kind was lost on the link.
-pub record Loses (Sends : Sending → Type 0) (carries : Traffic → Type 0) (before after : ℕ) : Type 0 where
+pub record LosesEnvelope (Sends : Sending → Type 0) (carries : Traffic → Type 0) (before after : ℕ) : Type 0 where
   pub envelope : Sending
   pub sends : Sends envelope
   pub is_lost : IsLost carries envelope.from (sending_bytes envelope) before after
@@ -89,11 +89,11 @@ IsSent w outcome carries = carries no_traffic
 
 -- The envelope of such an event was lost on the link.
 abbrev pub IsLostOn : World → Outcome → (Traffic → Type 0) → (before after : ℕ) → Type 0
-IsLostOn w (is_read unique) carries before after = Loses (SendsRequest w) carries before after
-IsLostOn w (taken unique Again) carries before after = Loses (SendsReply w) carries before after
-IsLostOn w (performed unique errno false) carries before after = Loses (SendsReply w) carries before after
-IsLostOn w (sent_again unique) carries before after = Loses (SendsReply w) carries before after
-IsLostOn w (written unique result) carries before after = Loses (SendsResult w) carries before after
+IsLostOn w (is_read unique) carries before after = LosesEnvelope (SendsRequest w) carries before after
+IsLostOn w (taken unique Again) carries before after = LosesEnvelope (SendsReply w) carries before after
+IsLostOn w (performed unique errno false) carries before after = LosesEnvelope (SendsReply w) carries before after
+IsLostOn w (sent_again unique) carries before after = LosesEnvelope (SendsReply w) carries before after
+IsLostOn w (written unique result) carries before after = LosesEnvelope (SendsResult w) carries before after
 IsLostOn w outcome carries before after = ⊥
 
 -- what is sent is on its link

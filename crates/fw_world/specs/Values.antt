@@ -71,11 +71,11 @@ outcome_of (outcome.Evicted node count) = event.evicted node count
 outcome_of outcome.Aborted = event.aborted
 
 -- the record of the definitions
-abbrev pub record_of : {A : Type 0} → Record A → record_of_run.Record
-record_of (recorded.Outcome outcome) = record_of_run.outcome (outcome_of outcome)
-record_of (recorded.Refused refusal) = record_of_run.refused refusal
-record_of recorded.LinkLost = record_of_run.link_lost
-record_of (recorded.Answered call answer) = record_of_run.answered call (answer_of answer)
+abbrev pub run_record_of : {A : Type 0} → Record A → record_of_run.Record
+run_record_of (recorded.Outcome outcome) = record_of_run.outcome (outcome_of outcome)
+run_record_of (recorded.Refused refusal) = record_of_run.refused refusal
+run_record_of recorded.LinkLost = record_of_run.link_lost
+run_record_of (recorded.Answered call answer) = record_of_run.answered call (answer_of answer)
 
 -- each counted node with its generation and its count, and each held one
 abbrev pub counted_nodes : Map Counted → List (ℕ × ℕ × ℕ)

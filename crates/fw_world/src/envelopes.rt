@@ -3,8 +3,8 @@
 ghost use Rattle.std.specs.Prelude.{◌≡◌, ◌≢◌, ◌≤◌, [], OnErr, OnOk, vec_capacity};
 ghost use Rattle.fk_wire.specs.Results.{SpellsResult};
 ghost use Rattle.fw_link.specs.Carrying.{IsEmpty};
-ghost use Rattle.fw_world.specs.Sends.{Carries, IsLostOn, IsOut, IsSent, Loses};
-ghost use Rattle.fw_world.specs.Sends.{SendsReply, SendsRequest, SendsResult, error_of};
+ghost use Rattle.fw_world.specs.Sends.{Carries, IsLostOn, IsOut, IsSent, LosesEnvelope};
+ghost use Rattle.fw_world.specs.Sends.{SendsReply, SendsRequest, SendsResult, result_error};
 ghost use Rattle.fw_world.specs.Values.{outcome_of};
 
 use crate::event::Outcome;
@@ -26,7 +26,7 @@ pub(crate) const RESULT_LEN: usize = 16;
 
 /// The error number of a reply's result, as its frame has it: 0, or negated.
 fn error_number(written: WriteResult) -> i32
-    ensures { result ≡ error_of written }
+    ensures { result ≡ result_error written }
 {
     match written {
         WriteResult::Accepted => 0,
@@ -38,7 +38,7 @@ fn error_number(written: WriteResult) -> i32
 /// Writes the frame of a result.
 fn frame_result<A: Allocator>(frame: &mut Vec<u8, A>, settled: ReplyResult)
     requires room { 16 ≤ vec_capacity frame.old }
-    ensures spells { SpellsResult frame.new.items (error_of settled.result) settled.unique }
+    ensures spells { SpellsResult frame.new.items (result_error settled.result) settled.unique }
     ensures capacity { vec_capacity frame.old ≤ vec_capacity frame.new }
 {
     frame.clear();
@@ -56,7 +56,7 @@ fn send_request<L: Link, A: Allocator + Copy>(
     ensures ok { OnOk result (Carries (SendsRequest world.now) (L.carries link.old link.new)) }
     ensures again { OnOk result (IsEmpty carrier.new) }
     ensures failed { OnOk result (L.failed link.new ≡ L.failed link.old) }
-    ensures err { OnErr result (Loses (SendsRequest world.now) (L.carries link.old link.new)
+    ensures err { OnErr result (LosesEnvelope (SendsRequest world.now) (L.carries link.old link.new)
         (L.failed link.old) (L.failed link.new)) }
 {
     // The world has one.
@@ -82,7 +82,7 @@ fn send_copy<L: Link, A: Allocator + Copy>(
     ensures ok { OnOk result (Carries (SendsReply world.now) (L.carries link.old link.new)) }
     ensures again { OnOk result (IsEmpty carrier.new) }
     ensures failed { OnOk result (L.failed link.new ≡ L.failed link.old) }
-    ensures err { OnErr result (Loses (SendsReply world.now) (L.carries link.old link.new)
+    ensures err { OnErr result (LosesEnvelope (SendsReply world.now) (L.carries link.old link.new)
         (L.failed link.old) (L.failed link.new)) }
 {
     // The world has one.
@@ -111,7 +111,7 @@ fn send_result<L: Link, A: Allocator + Copy>(
     ensures again { OnOk result (IsEmpty carrier.new) }
     ensures capacity { vec_capacity frame.old ≤ vec_capacity frame.new }
     ensures failed { OnOk result (L.failed link.new ≡ L.failed link.old) }
-    ensures err { OnErr result (Loses (SendsResult world.now) (L.carries link.old link.new)
+    ensures err { OnErr result (LosesEnvelope (SendsResult world.now) (L.carries link.old link.new)
         (L.failed link.old) (L.failed link.new)) }
 {
     // The world has one.

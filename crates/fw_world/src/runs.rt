@@ -6,7 +6,7 @@ ghost use Rattle.std.specs.Vec.{vec_len, vec_capacity};
 ghost use Rattle.fuse_spec.specs.World.Records.{answers_of, collected};
 ghost use Rattle.fuse_theorem.specs.Recorded.{Recorded};
 ghost use Rattle.fw_world.specs.declared.record.Record.{Record as RecordValue};
-ghost use Rattle.fw_world.specs.Values.{event_of, record_of};
+ghost use Rattle.fw_world.specs.Values.{event_of, run_record_of};
 ghost use Rattle.fw_world.specs.Runs.{RunsAs, calls_not_over, events_run};
 
 use crate::event::Event;
@@ -30,14 +30,14 @@ pub fn run<T: Tables>(
     records: &mut Vec<Record<T::Heap>, T::Heap>,
 ) -> Result<(), usize>
     ensures ran { (added : List (RecordValue T.Heap)) × (records.new.items ≡ records.old.items ++ added)
-        × RunsAs world.old (map event_of (events_run result events.now)) (map record_of added) world.new }
+        × RunsAs world.old (map event_of (events_run result events.now)) (map run_record_of added) world.new }
     ensures err { IfErr result (λ k. k < length events.now) }
     ensures full { OnErr result (vec_capacity records.old < vec_len records.old
         + calls_not_over world.old + 2 * length events.now) }
     ensures room { OnErr result (world.old.kernel.vfs.answers ≡ []
         → vec_capacity records.old < vec_len records.old + 66 * length events.now) }
 {
-    world.keeps_protocol();
+    world.lemma_protocol();
     for (k, event) in events.iter().enumerate() {
         if !run_one(world, event, records) {
             return Err(k);
@@ -66,12 +66,12 @@ fn run_one<T: Tables>(
     ensures full { result ≡ false → vec_capacity records.old < vec_len records.old + calls_not_over world.old + 2 }
     ensures ran { IsTrue result → (added : List (RecordValue T.Heap))
         × (records.new.items ≡ records.old.items ++ added)
-        × Recorded world.old (event_of event.now ∷ []) (map record_of added) world.new }
+        × Recorded world.old (event_of event.now ∷ []) (map run_record_of added) world.new }
     ensures room { IsTrue result →
         vec_len records.new + calls_not_over world.new + vec_capacity records.old
         ≤ vec_len records.old + calls_not_over world.old + 2 + vec_capacity records.new }
 {
-    world.keeps_protocol();
+    world.lemma_protocol();
     let Some(room) = most_records(world) else {
         return false;
     };
@@ -96,11 +96,11 @@ pub(crate) fn collect_all<T: Tables>(
     requires { vec_len records.old + length world.old.kernel.vfs.answers ≤ vec_capacity records.old }
     ensures world { world.new ≡ collected world.old }
     ensures records { (added : List (RecordValue T.Heap)) × (records.new.items ≡ records.old.items ++ added)
-        × (map record_of added ≡ answers_of world.old.kernel.vfs.answers) }
+        × (map run_record_of added ≡ answers_of world.old.kernel.vfs.answers) }
     ensures len { vec_len records.new ≡ vec_len records.old + length world.old.kernel.vfs.answers }
     ensures capacity { vec_capacity records.old ≤ vec_capacity records.new }
 {
-    world.keeps_protocol();
+    world.lemma_protocol();
     while let Some((call, answer)) = world.collect() {
         records.push_reserved(Record::Answered { call, answer });
     }

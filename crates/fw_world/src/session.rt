@@ -3,7 +3,7 @@
 ghost use Rattle.std.specs.Prelude.{◌≡◌, ◌≤◌, [], false, true, Err, IfErr, IfOk, IfNone};
 ghost use Rattle.std.specs.Prelude.{IfSome, OnErr, option_map, slice_get, vec_capacity};
 ghost use Rattle.fuse_spec.specs.World.Events.{abort, aborted};
-ghost use Rattle.fuse_spec.specs.Claim.Counts.{Keeps};
+ghost use Rattle.fuse_spec.specs.Claim.Counts.{Protocol};
 ghost use Rattle.fuse_spec.specs.Reference.Plain.{Plain, first_plain};
 ghost use Rattle.fuse_spec.specs.World.Steps.{Happens, RefusedWith};
 ghost use Rattle.fuse_spec.specs.declared.Refusal.TheVariants.{LinkLost};
@@ -34,7 +34,7 @@ fn give_up<A: Allocator + Copy>(world: &mut WorldIn<A>)
     requires { (world.old.requests ≡ []) × (world.old.replies ≡ []) × (world.old.results ≡ []) → ⊥ }
     ensures { Happens world.old abort aborted world.new }
 {
-    world.keeps_protocol();
+    world.lemma_protocol();
     let _aborted = world.step(&Event::Abort);
 }
 
@@ -112,7 +112,7 @@ impl<L: Link + Drop, A: Allocator + Copy> Session<L, A> {
         ensures refines { IfOk result (λ outcome. StepsOver self.old.world (event_of event.now) (outcome_of outcome)
             (session_of self.new.world self.new.is_lost)) }
     {
-        self.world.keeps_protocol();
+        self.world.lemma_protocol();
         if self.is_lost {
             return Err(Refusal::LinkLost);
         }
@@ -172,12 +172,12 @@ impl<L: Link + Drop, A: Allocator + Copy> Session<L, A> {
 
     /// A call without effect, for a caller's proof: what every event keeps is true of the session's world, it is alike
     /// to some plain world, and the reference protocol holds of it.
-    pub fn keeps_protocol(&self)
+    pub fn lemma_protocol(&self)
         ensures sound { IsSoundWorld self.now.world }
         ensures refines { (p : Plain) × Alike self.now.world p }
-        ensures keeps { Keeps self.now.world }
+        ensures keeps { Protocol self.now.world }
     {
-        self.world.keeps_protocol();
+        self.world.lemma_protocol();
     }
 
     /// The request or reply frame that the last step put on its link.

@@ -5,7 +5,7 @@ ghost use Rattle.std.specs.Prelude.{IfOk, IfErr, IfNone, IfSome, length, option_
 ghost use Rattle.fuse_spec.specs.World.Events as event;
 ghost use Rattle.fuse_spec.specs.World.Steps.{Happens, IsRefused, RefusedWith};
 ghost use Rattle.fuse_spec.specs.World.Worlds.{World as WorldState, first_world};
-ghost use Rattle.fuse_spec.specs.Claim.Counts.{Keeps};
+ghost use Rattle.fuse_spec.specs.Claim.Counts.{Protocol};
 ghost use Rattle.fuse_spec.specs.Reference.Plain.{Plain, first_plain};
 ghost use Rattle.fuse_spec.specs.Claim.Alike.{Alike};
 ghost use Rattle.fuse_spec.specs.Claim.Runs.{plain_handed_out};
@@ -132,7 +132,7 @@ impl<T: Tables> WorldOf<T> {
         ensures shows { IfOk result (IsShown self.new) }
         ensures refines { IfOk result (λ outcome. StepsAs self.old (event_of event.now) (outcome_of outcome) self.new) }
     {
-        self.keeps_protocol();
+        self.lemma_protocol();
         self.dispatch(event)
     }
 
@@ -173,7 +173,7 @@ impl<T: Tables> WorldOf<T> {
         ensures refines { IfSome result (λ r. (p : Plain) → Alike self.old p
             → Alike self.new (plain_handed_out p r.0)) }
     {
-        self.keeps_protocol();
+        self.lemma_protocol();
         self.kernel.collect()
     }
 
@@ -193,10 +193,10 @@ impl<T: Tables> WorldOf<T> {
 
     /// A call without effect, for a caller's proof: what every event keeps is true of the world, it is alike to some
     /// plain world, and the reference protocol holds of it.
-    pub fn keeps_protocol(&self)
+    pub fn lemma_protocol(&self)
         ensures sound { IsSoundWorld self.now }
         ensures refines { (p : Plain) × Alike self.now p }
-        ensures keeps { Keeps self.now }
+        ensures keeps { Protocol self.now }
     {
         // A field is touched so that the type's invariant is at hand.
         let _ = &self.kernel;
@@ -248,8 +248,8 @@ impl<T: Tables> WorldOf<T> {
         ensures nodes { IfOk result (λ nodes. nodes.items ≡ counted_nodes self.now.kernel.nodes) }
         ensures listed { IfOk result (λ nodes. AreListed nodes.items) }
     {
-        self.keeps_protocol();
-        self.kernel.counts_within();
+        self.lemma_protocol();
+        self.kernel.lemma_counts_in_range();
         self.kernel.nodes(*self.requests.allocator())
     }
 
@@ -262,8 +262,8 @@ impl<T: Tables> WorldOf<T> {
         ensures nodes { IfOk result (λ nodes. nodes.items ≡ held_nodes self.now.server.nodes.rows) }
         ensures listed { IfOk result (λ nodes. AreListed nodes.items) }
     {
-        self.keeps_protocol();
-        self.server.keeps_sound();
+        self.lemma_protocol();
+        self.server.lemma_sound();
         self.server.nodes(*self.requests.allocator())
     }
 

@@ -257,7 +257,7 @@ fn copies_again<S: NodeStore>(
 }
 
 fn lists<S: NodeStore>(server: &ServerOf<S>, heap: S::Heap, nodes: &[(u64, u64, u64)]) -> Outcome {
-    server.keeps_sound();
+    server.lemma_sound();
     match server.nodes(heap) {
         Ok(given) => judged(given.as_slice() == nodes),
         Err(AllocError) => Outcome::NoMemory,

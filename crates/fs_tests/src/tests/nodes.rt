@@ -48,7 +48,7 @@ fn give_again<S: NodeStore>(store: &mut S, file: u64, id: u64) -> Result<(u64, u
         return Err(AllocError);
     }
     // No other node is of this file.
-    store.keeps_sound();
+    store.lemma_sound();
     Ok(store.give(file))
 }
 

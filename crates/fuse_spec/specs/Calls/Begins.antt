@@ -2,7 +2,7 @@
 use Rattle.std.specs.Prelude.{ℕ, ◌||◌, cond, List, Option, Some, None, Ok, Err, length, nat_lt}
 use Rattle.fuse_spec.specs.Values.Maps.{Map, get}
 use Rattle.fuse_spec.specs.Values.Numbers.{ebadf, einval, max_file, max_transfer}
-use Rattle.fuse_spec.specs.Calls.Paths.{Name, words_of, parent_and_last}
+use Rattle.fuse_spec.specs.Calls.Paths.{Name, path_words_of, parent_and_last}
 use Rattle.fuse_spec.specs.Files.Operations.{Operation}
 use Rattle.fuse_spec.specs.Files.Operations as op
 use Rattle.fuse_spec.specs.Calls.Walks.{WalkPlan, last, rename, link}
@@ -18,7 +18,7 @@ pub data Beginning (F O : Type 0) : Type 0 where
 
 -- A path whose words are all walked, or its fault.
 abbrev pub whole_path : {F O : Type 0} → List ℕ → (List Name → Beginning F O) → Beginning F O
-whole_path path then = elim (words_of path) [ Err fault ↦ faulty fault | Ok words ↦ then words ]
+whole_path path then = elim (path_words_of path) [ Err fault ↦ faulty fault | Ok words ↦ then words ]
 
 -- A path that is walked up to its last word, which it must have: `/` alone is EINVAL. (this project's rule)
 abbrev pub parent_path : {F O : Type 0} → List ℕ → (List Name → Name → Beginning F O) → Beginning F O

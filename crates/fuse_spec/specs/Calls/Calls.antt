@@ -22,10 +22,10 @@ pub data Call : Type 0 where
 
 -- A call as it is put: where files may not be listed with their names, the names are listed alone. (this project's
 -- rule)
-abbrev pub spoken : (lists_files : Bool) → Call → Call
-spoken true call = call
-spoken false (listplus path after) = list path after
-spoken false call = call
+abbrev pub for_minor : (lists_files : Bool) → Call → Call
+for_minor true call = call
+for_minor false (listplus path after) = list path after
+for_minor false call = call
 
 -- Whether files are listed with their names at this minor. (linux/fuse.h, FUSE_READDIRPLUS)
 abbrev pub lists_files_at : Minor → Bool

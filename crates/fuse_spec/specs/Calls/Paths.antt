@@ -42,10 +42,10 @@ abbrev pub unless_faulty : List Name → Option ℕ → Result (List Name) ℕ
 unless_faulty words None = Ok words
 unless_faulty words (Some fault) = Err fault
 
-abbrev pub words_of : List ℕ → Result (List Name) ℕ
-words_of [] = Err einval
-words_of (first ∷ []) = cond (nat_eq first 47) (Ok []) (Err einval)
-words_of (first ∷ b ∷ bytes) = cond (nat_eq first 47)
+abbrev pub path_words_of : List ℕ → Result (List Name) ℕ
+path_words_of [] = Err einval
+path_words_of (first ∷ []) = cond (nat_eq first 47) (Ok []) (Err einval)
+path_words_of (first ∷ b ∷ bytes) = cond (nat_eq first 47)
     (unless_faulty (split [] (b ∷ bytes)) (first_fault 0 (split [] (b ∷ bytes)))) (Err einval)
 
 -- The words before the last, and the last.

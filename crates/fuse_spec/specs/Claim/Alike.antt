@@ -76,10 +76,10 @@ PurposeAsked w p e = MatchOption (body_of w.kernel e.1.kept) ⊥
 
 -- The reply says what its ask came to: the plain reply, or EINTR where the ask was declined; an ask that waits has no
 -- reply.
-abbrev pub StageTold : NodeTable → HandleTable → Stage → WireReply → Type 0
-StageTold t h waiting wire = ⊥
-StageTold t h (performed reply) wire = ReplyAlike (Names t) (Opens h) wire reply
-StageTold t h declined wire = wire ≡ failed eintr
+abbrev pub IsStageReplied : NodeTable → HandleTable → Stage → WireReply → Type 0
+IsStageReplied t h waiting wire = ⊥
+IsStageReplied t h (performed reply) wire = ReplyAlike (Names t) (Opens h) wire reply
+IsStageReplied t h declined wire = wire ≡ failed eintr
 
 -- The node was held under a generation when the request was taken, and under that generation denotes this file still.
 pub record Meant (t : NodeTable) (generations : List (ℕ × ℕ)) (id file : ℕ) : Type 0 where
@@ -122,9 +122,9 @@ pub record AsksAlike (w : World) (p : Plain) : Type 0 where
       → request_under w.kernel.queues unique ≡ Some request → get p.asks unique ≡ Some ask
       → is_signalled request.mark ≡ true → ask.noted ≡ true
   pub kept : (unique : ℕ) (kept : Kept) (ask : Ask) → get w.server.kept unique ≡ Some kept
-      → get p.asks unique ≡ Some ask → StageTold w.server.nodes w.server.handles ask.stage kept.wire
+      → get p.asks unique ≡ Some ask → IsStageReplied w.server.nodes w.server.handles ask.stage kept.wire
   pub copies : All (λ (sent : Sent). (ask : Ask) → get p.asks sent.unique ≡ Some ask
-      → StageTold w.server.nodes w.server.handles ask.stage sent.wire) w.replies
+      → IsStageReplied w.server.nodes w.server.handles ask.stage sent.wire) w.replies
 
 -- The world and the plain world are alike: with each node replaced by the file that it denotes, tree, calls, names in
 -- force, open files, asks, validities and the minor are the same.

@@ -26,8 +26,8 @@ counted None = 0
 counted (Some node) = node.count
 
 -- The next two are how often a reply names a node, and an open number.
-abbrev pub names_in : ℕ → WireReply → ℕ
-names_in id wire = count_by (λ (g : Entry). nat_eq g.nodeid id) (files_in_reply wire)
+abbrev pub times_named : ℕ → WireReply → ℕ
+times_named id wire = count_by (λ (g : Entry). nat_eq g.nodeid id) (files_in_reply wire)
 
 abbrev pub opens_in : ℕ → WireReply → ℕ
 opens_in fh wire = count_by (nat_eq fh) (opens_in_reply wire)
@@ -52,8 +52,8 @@ result_carries f s result = refused result.result (carried f (get s.copies resul
 abbrev pub in_flight : World → ℕ → ℕ
 in_flight w id =
     forgotten id w.kernel.queues.forgets + sum_by (λ (r : Request). forgotten id (forgets_of r.body)) w.requests
-    + sum_by (λ (sent : Sent). names_in id sent.wire) w.replies + sum_by
-    (result_carries (names_in id) w.server) w.results
+    + sum_by (λ (sent : Sent). times_named id sent.wire) w.replies + sum_by
+    (result_carries (times_named id) w.server) w.results
 
 -- Balance: the server's count of each node from 2 up is the kernel's and what is in flight.
 abbrev pub Balance : World → Type 0
@@ -192,7 +192,7 @@ pub record Settled (w : World) : Type 0 where
 -- The reference protocol, which is to hold after each event: Balance, of nodes and of open numbers, each of which one
 -- file of the kernel has at most; Held, no fault in a request on its link, no reply with a wrong body, and what is true
 -- at rest.
-pub record Keeps (w : World) : Type 0 where
+pub record Protocol (w : World) : Type 0 where
   pub balance : is_live w.kernel.phase ≡ true → Balance w
   pub open_balance : is_live w.kernel.phase ≡ true → OpenBalance w
   pub open_once : is_live w.kernel.phase ≡ true → (fh : ℕ) → open_in_kernel w.kernel fh ≤ 1

@@ -8,7 +8,7 @@ use Rattle.fuse_spec.specs.World.Steps.{Happens, RefusedWith}
 use Rattle.fuse_spec.specs.World.Records.{Record, outcome, refused, answered, answers_of, collected}
 use Rattle.fuse_spec.specs.Reference.Plain.{Plain}
 use Rattle.fuse_spec.specs.Reference.PlainWords.{Steps}
-use Rattle.fuse_spec.specs.Claim.Counts.{Keeps}
+use Rattle.fuse_spec.specs.Claim.Counts.{Protocol}
 use Rattle.fuse_spec.specs.Claim.Alike.{Alike}
 
 -- The plain world once the answer of one call is collected.
@@ -29,13 +29,13 @@ pub record Accepts (w : World) (p : Plain) (event : Event) (records : List Recor
   pub happens : Happens w event outcome_of mid
   pub steps : Steps p event outcome_of plain
   pub alike : Alike mid plain
-  pub keeps : Keeps mid
+  pub keeps : Protocol mid
   pub recorded : records ≡ outcome outcome_of ∷ answers_of plain.vfs.answers
   pub after : w' ≡ collected mid
   pub plain_after : p' ≡ plain_collected plain
 
 -- A refused event changes nothing, and its refusal is what is recorded: the machine's, or want of memory.
-pub record Refuses (w : World) (p : Plain) (event : Event) (records : List Record) (w' : World)
+pub record RefusesEvent (w : World) (p : Plain) (event : Event) (records : List Record) (w' : World)
     (p' : Plain) : Type 0 where
   pub refusal : Refusal
   pub judged : RefusedWith w event refusal
@@ -45,7 +45,7 @@ pub record Refuses (w : World) (p : Plain) (event : Event) (records : List Recor
 
 -- One event with these records leads from the one pair of worlds to the other.
 abbrev pub Moves : World → Plain → Event → List Record → World → Plain → Type 0
-Moves w p event records w' p' = Accepts w p event records w' p' ⊎ Refuses w p event records w' p'
+Moves w p event records w' p' = Accepts w p event records w' p' ⊎ RefusesEvent w p event records w' p'
 
 -- A list of events does, one event after another.
 abbrev pub Run : World → Plain → List Event → List Record → World → Plain → Type 0

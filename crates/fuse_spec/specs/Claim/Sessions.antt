@@ -7,7 +7,7 @@ use Rattle.fuse_spec.specs.World.Steps.{Happens}
 use Rattle.fuse_spec.specs.World.Records.{Record, outcome, refused, link_lost, answers_of, collected}
 use Rattle.fuse_spec.specs.Reference.Plain.{Plain}
 use Rattle.fuse_spec.specs.Reference.PlainWords.{Steps}
-use Rattle.fuse_spec.specs.Claim.Counts.{Keeps}
+use Rattle.fuse_spec.specs.Claim.Counts.{Protocol}
 use Rattle.fuse_spec.specs.Claim.Alike.{Alike}
 use Rattle.fuse_spec.specs.Claim.Runs.{Moves, plain_collected}
 
@@ -35,13 +35,13 @@ pub record Loses (w : World) (p : Plain) (event : Event) (records : List Record)
   pub happens : Happens w event outcome_of mid
   pub steps : Steps p event outcome_of plain
   pub alike : Alike mid plain
-  pub keeps : Keeps mid
+  pub keeps : Protocol mid
   pub last : World
   pub plain_last : Plain
   pub aborts : Happens mid abort aborted last
   pub plain_aborts : Steps plain abort aborted plain_last
   pub alike_last : Alike last plain_last
-  pub keeps_last : Keeps last
+  pub keeps_last : Protocol last
   pub recorded : records ≡ outcome outcome_of ∷ link_lost ∷ answers_of plain_last.vfs.answers
   pub after : w' ≡ collected last
   pub plain_after : p' ≡ plain_collected plain_last

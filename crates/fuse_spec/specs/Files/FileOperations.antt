@@ -5,7 +5,7 @@ use Rattle.fuse_spec.specs.Values.Maps.{get, put}
 use Rattle.fuse_spec.specs.Values.Numbers.{eperm, enoent, eexist, enotdir, eisdir, einval, efbig, enospc, enotempty, max_names, max_file, max_transfer}
 use Rattle.fuse_spec.specs.Calls.Paths.{Name}
 use Rattle.fuse_spec.specs.Files.Operations.{Operation, lookup, getattr, mkdir, create, unlink, rmdir, rename, link, opening, readdir, readdirplus, read, write, Reply, found, missing, created, opened, attributes, listed, listed_plus, content, written, done, failed}
-use Rattle.fuse_spec.specs.Files.Trees.{Tree, a_directory, a_file, file_at, is_directory, is_nameless, is_empty, is_below, attributes_of, with_name, without_name, with_birth, overwritten, bytes_of, fitting, records_after, fitting_pairs, pairs_after}
+use Rattle.fuse_spec.specs.Files.Trees.{Tree, a_directory, a_file, file_at, is_directory, is_nameless, is_empty, is_below, attributes_of, with_name, without_name, with_birth, overwritten, file_bytes, fitting, records_after, fitting_pairs, pairs_after}
 
 -- An operation on files: a file and an open file are both named by the file's birth.
 abbrev pub FileOperation : Type 0
@@ -101,13 +101,13 @@ refusal tree operation = first_refusal (checks tree operation)
 
 -- The reply to a LOOKUP: the file of the name, or a missing name that is valid for its own time. (linux/fuse.h, struct
 -- fuse_entry_out)
-abbrev pub looked_up : Validity → Option ℕ → Reply ℕ ℕ
-looked_up valid None = missing valid.missing_ms
-looked_up valid (Some file) = found file valid.found_ms
+abbrev pub lookup_reply : Validity → Option ℕ → Reply ℕ ℕ
+lookup_reply valid None = missing valid.missing_ms
+lookup_reply valid (Some file) = found file valid.found_ms
 
 -- The reply to an operation that nothing refuses.
 abbrev pub reply_unrefused : Validity → Tree → FileOperation → Reply ℕ ℕ
-reply_unrefused valid tree (lookup d name) = looked_up valid (file_at tree d name)
+reply_unrefused valid tree (lookup d name) = lookup_reply valid (file_at tree d name)
 reply_unrefused valid tree (getattr file) = attributes (attributes_of tree file)
 reply_unrefused valid tree (mkdir d name) = found tree.next_birth valid.found_ms
 reply_unrefused valid tree (create d name) = created tree.next_birth valid.found_ms tree.next_birth
@@ -121,7 +121,7 @@ reply_unrefused valid tree (readdirplus d after size) =
     listed_plus (fitting_pairs (min size max_transfer) (pairs_after valid.found_ms tree d after))
 reply_unrefused valid tree (opening file) = opened file
 reply_unrefused valid tree (read file offset size) =
-    content (take (min size max_transfer) (drop offset (bytes_of (get tree.files file))))
+    content (take (min size max_transfer) (drop offset (file_bytes (get tree.files file))))
 reply_unrefused valid tree (write file offset bytes) = written (length bytes)
 
 -- The tree once a file is moved: its old name goes, a name that it replaces goes, and its new name comes. (POSIX,
@@ -144,7 +144,7 @@ tree_unrefused tree (write file offset []) = tree
 tree_unrefused tree (write file offset (b ∷ bytes)) =
     record tree {
       files = put tree.files file (a_file
-          (overwritten (bytes_of (get tree.files file)) offset (b ∷ bytes)));
+          (overwritten (file_bytes (get tree.files file)) offset (b ∷ bytes)));
     }
 tree_unrefused tree (lookup d name) = tree
 tree_unrefused tree (getattr file) = tree

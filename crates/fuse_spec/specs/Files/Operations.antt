@@ -148,20 +148,20 @@ abbrev pub body_node : {S : Type 0} → Asked S → Option ℕ
 body_node o = second_of (files_in opened_nodes (operation_of (λ s. []) o))
 
 -- The names that an operation looks up, makes or takes away.
-abbrev pub names_in : {F O : Type 0} → Operation F O → List Name
-names_in (lookup d name) = name ∷ []
-names_in (mkdir d name) = name ∷ []
-names_in (create d name) = name ∷ []
-names_in (unlink d name) = name ∷ []
-names_in (rmdir d name) = name ∷ []
-names_in (rename d old e new) = old ∷ new ∷ []
-names_in (link x d name) = name ∷ []
-names_in (getattr x) = []
-names_in (opening x) = []
-names_in (readdir d after size) = []
-names_in (readdirplus d after size) = []
-names_in (read o offset size) = []
-names_in (write o offset bytes) = []
+abbrev pub operation_names : {F O : Type 0} → Operation F O → List Name
+operation_names (lookup d name) = name ∷ []
+operation_names (mkdir d name) = name ∷ []
+operation_names (create d name) = name ∷ []
+operation_names (unlink d name) = name ∷ []
+operation_names (rmdir d name) = name ∷ []
+operation_names (rename d old e new) = old ∷ new ∷ []
+operation_names (link x d name) = name ∷ []
+operation_names (getattr x) = []
+operation_names (opening x) = []
+operation_names (readdir d after size) = []
+operation_names (readdirplus d after size) = []
+operation_names (read o offset size) = []
+operation_names (write o offset bytes) = []
 
 -- The directory and the name that the entry of a reply is of, where the reply to the operation has one.
 -- (linux/fuse.h, struct fuse_entry_out)

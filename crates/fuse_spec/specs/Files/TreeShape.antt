@@ -14,12 +14,12 @@ pub data IsBelow (tree : Tree) (top : ℕ) : ℕ → Type 0 where
       → IsBelow tree top file
 
 -- How many names lead to the file. (POSIX, link count)
-abbrev pub names_of : Tree → ℕ → ℕ
-names_of tree file = count_by (λ n. nat_eq n.file file) tree.names
+abbrev pub names_leading_to : Tree → ℕ → ℕ
+names_leading_to tree file = count_by (λ n. nat_eq n.file file) tree.names
 
 -- The name stands in a directory of the tree that is not nameless, and leads to a file of the tree that is not the
 -- root.
-pub record Stands (tree : Tree) (n : Named) : Type 0 where
+pub record IsInTree (tree : Tree) (n : Named) : Type 0 where
   pub directory : is_directory tree n.directory ≡ true
   pub named : is_nameless tree n.directory ≡ false
   pub file : IsSome (get tree.files n.file)
@@ -29,8 +29,8 @@ pub record Stands (tree : Tree) (n : Named) : Type 0 where
 -- file has a birth from the next on.
 pub record IsShaped (tree : Tree) : Type 0 where
   pub root : is_directory tree 0 ≡ true
-  pub one_name : (file : ℕ) → is_directory tree file ≡ true → names_of tree file ≤ 1
-  pub names : All (Stands tree) tree.names
+  pub one_name : (file : ℕ) → is_directory tree file ≡ true → names_leading_to tree file ≤ 1
+  pub names : All (IsInTree tree) tree.names
   pub once : (directory : ℕ) (name : Name) → count_by (is_at directory name) tree.names ≤ 1
   pub unborn : (file : ℕ) → tree.next_birth ≤ file → get tree.files file ≡ None
 

@@ -47,10 +47,10 @@ kind_of (Some a_directory) = Directory
 kind_of (Some (a_file bytes)) = Regular
 
 -- The bytes of a file; a directory has none.
-abbrev pub bytes_of : Option Content → List ℕ
-bytes_of None = []
-bytes_of (Some a_directory) = []
-bytes_of (Some (a_file bytes)) = bytes
+abbrev pub file_bytes : Option Content → List ℕ
+file_bytes None = []
+file_bytes (Some a_directory) = []
+file_bytes (Some (a_file bytes)) = bytes
 
 -- The next two say whether a file is a directory. (POSIX, directory)
 abbrev pub is_kind_directory : Kind → Bool
@@ -70,12 +70,12 @@ abbrev pub is_nameless : Tree → ℕ → Bool
 is_nameless tree file = nat_eq (links tree file) 0
 
 -- The names in a directory, in rising serial.
-abbrev pub names_in : Tree → ℕ → List Named
-names_in tree dir = filter (λ n. nat_eq n.directory dir) tree.names
+abbrev pub directory_names : Tree → ℕ → List Named
+directory_names tree dir = filter (λ n. nat_eq n.directory dir) tree.names
 
 -- Whether the directory has no name in it. (POSIX, rmdir)
 abbrev pub is_empty : Tree → ℕ → Bool
-is_empty tree dir = nat_eq (length (names_in tree dir)) 0
+is_empty tree dir = nat_eq (length (directory_names tree dir)) 0
 
 -- Whether the directory is `top`, or `top` is reached from it within so many steps up, by these names. (POSIX, rename)
 abbrev pub is_within : ℕ → List Named → ℕ → ℕ → Bool
@@ -95,7 +95,7 @@ attributes_of tree file =
     record {
       kind = kind_of (get tree.files file);
       ino = file + 1;
-      size = length (bytes_of (get tree.files file));
+      size = length (file_bytes (get tree.files file));
       nlink = links tree file;
     }
 
@@ -142,7 +142,7 @@ fitting room (r ∷ records) = cond (nat_le (record_length r) room) (r ∷ fitti
 -- The records of the names in a directory whose serial is over `after`, which is the offset from which to read on.
 -- (libfuse, low-level: readdir)
 abbrev pub records_after : Tree → ℕ → ℕ → List Dirent
-records_after tree dir after = map (record_of tree) (filter (λ n. nat_lt after n.serial) (names_in tree dir))
+records_after tree dir after = map (record_of tree) (filter (λ n. nat_lt after n.serial) (directory_names tree dir))
 
 -- How long a name of READDIRPLUS is: an entry of 128 bytes, and the record. (linux/fuse.h, struct fuse_direntplus)
 abbrev pub pair_length : {F : Type 0} → DirentPlus F → ℕ
@@ -160,4 +160,4 @@ fitting_pairs room (r ∷ pairs) = cond (nat_le (pair_length r) room) (r ∷ fit
 
 -- The same of the names in a directory as READDIRPLUS lists them. (libfuse, low-level: readdirplus)
 abbrev pub pairs_after : (valid : ℕ) → Tree → ℕ → ℕ → List (DirentPlus ℕ)
-pairs_after valid tree dir after = map (pair_of valid tree) (filter (λ n. nat_lt after n.serial) (names_in tree dir))
+pairs_after valid tree dir after = map (pair_of valid tree) (filter (λ n. nat_lt after n.serial) (directory_names tree dir))

@@ -16,7 +16,7 @@ use Rattle.fuse_spec.specs.Files.Operations.{Operation, files_in, opened_nodes}
 use Rattle.fuse_spec.specs.Calls.Walks.{files_of_plan}
 use Rattle.fuse_spec.specs.declared.Minor.{Minor}
 use Rattle.fuse_spec.specs.declared.Minor.TheVariants.{M15, M31}
-use Rattle.fuse_spec.specs.Calls.Calls.{Call, spoken}
+use Rattle.fuse_spec.specs.Calls.Calls.{Call, for_minor}
 use Rattle.fuse_spec.specs.Calls.Calls as call
 use Rattle.fuse_spec.specs.Calls.Answers.{failed}
 use Rattle.fuse_spec.specs.Calls.Vfs.{CallState, walking, doing, using, asked, Vfs, Advance, answered, begun, given_up}
@@ -147,7 +147,7 @@ call_begun k call =
 -- A call begins as the kernel may put it: before READDIRPLUS, its names are listed alone. (linux/fuse.h,
 -- FUSE_READDIRPLUS)
 abbrev pub call_put : Kernel → Call → Kernel
-call_put k call = call_begun k (spoken k.lists_files call)
+call_put k call = call_begun k (for_minor k.lists_files call)
 
 -- The forgets that are read as one request; 7.15 knows no BATCH_FORGET. (linux/fuse.h, FUSE_BATCH_FORGET)
 abbrev pub forgets_read : Kernel → ℕ → Option (ℕ × List Forget)

@@ -48,16 +48,16 @@ or_no_memory None = NoMemory
 or_no_memory (Some refusal) = refusal
 
 -- Whether a counter of the kernel would have given a number past its end.
-abbrev pub is_past_end : Kernel → Bool
-is_past_end k = nat_lt counter_end k.queues.next || nat_lt counter_end k.vfs.next_call
+abbrev pub is_kernel_past_end : Kernel → Bool
+is_kernel_past_end k = nat_lt counter_end k.queues.next || nat_lt counter_end k.vfs.next_call
 
 -- Whether a node's lookups have come to the end of counters.
 abbrev pub is_counted_out : Map Counted → Bool
 is_counted_out nodes = list_any (λ (node : Counted). nat_le counter_end node.count) (values nodes)
 
 -- The one or the other.
-abbrev pub is_past : Kernel → Bool
-is_past k = is_past_end k || is_counted_out k.nodes
+abbrev pub is_kernel_past : Kernel → Bool
+is_kernel_past k = is_kernel_past_end k || is_counted_out k.nodes
 
 -- Whether calls are accepted: INIT is answered, or the mount is aborted, where they get ENOTCONN. (this project's rule)
 abbrev pub is_ready : Phase → Bool

@@ -78,10 +78,10 @@ is_init_reply (agreed major minor flags) = true
 is_init_reply (failed errno) = true
 is_init_reply wire = false
 
--- Whether the entries of a reply can be used: they can, or one is useless, or one names a counted node under another
+-- Whether the entries of a reply can be used: they can, or one is unusable, or one names a counted node under another
 -- generation.
 pub data Use : Type 0 where
-  usable useless : Use
+  usable unusable : Use
   stale : (node : ℕ) → Use
 
 -- Whether an entry can be used, where its node is counted so: not under another generation.
@@ -92,12 +92,12 @@ use_counted g (Some counted) = cond (nat_eq counted.generation g.generation) usa
 -- Whether an entry can be used: not if it names the root or no node, nor if its node is counted under another
 -- generation. (this project's rule)
 abbrev pub use_of : Map Counted → Entry → Use
-use_of nodes g = cond (nat_lt g.nodeid 2) useless (use_counted g (get nodes g.nodeid))
+use_of nodes g = cond (nat_lt g.nodeid 2) unusable (use_counted g (get nodes g.nodeid))
 
 -- The next two judge the entries of a reply in order: the first that can't be used decides.
 abbrev pub first_use : Use → Use → Use
 first_use usable rest = rest
-first_use useless rest = useless
+first_use unusable rest = unusable
 first_use (stale node) rest = stale node
 
 abbrev pub use_of_all : Map Counted → List Entry → Use
@@ -132,7 +132,7 @@ abbrev pub judged : Kernel → ℕ → CallState Opened → WireReply → Use �
 judged k call state wire usable =
     advanced (record k { nodes = looked_up k.nodes (files_in_reply wire) }) call
     (call_replied k.vfs call state (kernel_reply (asked state) wire))
-judged k call state wire useless = record k { vfs = answered k.vfs call (answer.failed eio) }
+judged k call state wire unusable = record k { vfs = answered k.vfs call (answer.failed eio) }
 judged k call state wire (stale node) = record k {
   vfs = answered k.vfs call (answer.failed eio);
   queues = after_forget k.queues node 1;
@@ -149,7 +149,7 @@ use_of_listed nodes (Some g) = use_of nodes g
 -- (this project's rule)
 abbrev pub pair_judged : DirentPlus Entry → Use → DirentPlus Entry
 pair_judged pair usable = pair
-pair_judged pair useless = record pair { file = None }
+pair_judged pair unusable = record pair { file = None }
 pair_judged pair (stale node) = record pair { file = None }
 
 -- The kernel's counts after such a name. (linux/fuse.h, struct fuse_direntplus)
@@ -165,7 +165,7 @@ pairs_judged nodes (pair ∷ pairs) = pair_judged pair (use_of_listed nodes (lis
 -- The next two are the nodes that are listed under another generation than they are counted.
 abbrev pub stale_in : Use → List ℕ
 stale_in usable = []
-stale_in useless = []
+stale_in unusable = []
 stale_in (stale node) = node ∷ []
 
 abbrev pub stale_among : Map Counted → List (DirentPlus Entry) → List ℕ

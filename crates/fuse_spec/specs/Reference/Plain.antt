@@ -8,7 +8,7 @@ use Rattle.fuse_spec.specs.Calls.Paths.{Name}
 use Rattle.fuse_spec.specs.Files.Operations.{Reply}
 use Rattle.fuse_spec.specs.Files.Trees.{Tree, a_directory}
 use Rattle.fuse_spec.specs.Files.FileOperations.{FileOperation, reply_by, tree_after}
-use Rattle.fuse_spec.specs.Calls.Calls.{Call, spoken, lists_files_at}
+use Rattle.fuse_spec.specs.Calls.Calls.{Call, for_minor, lists_files_at}
 use Rattle.fuse_spec.specs.declared.Minor.{Minor}
 use Rattle.fuse_spec.specs.declared.Minor.TheVariants.{M31}
 use Rattle.fuse_spec.specs.Calls.Answers.{failed}
@@ -41,24 +41,24 @@ pub record Plain : Type 0 where
   pub aborted : Bool
 
 -- The call's ask is put under this label, where it asks an operation.
-abbrev pub asking : Plain → (label call : ℕ) → Option FileOperation → Plain
-asking p label call None = p
-asking p label call (Some operation) = record p {
+abbrev pub ask_put : Plain → (label call : ℕ) → Option FileOperation → Plain
+ask_put p label call None = p
+ask_put p label call (Some operation) = record p {
   asks =
       put p.asks label (record { call = call; operation = operation; stage = waiting; noted = false; marked = false });
 }
 
 -- The system calls' side as a step of the call left it.
 abbrev pub going_on : Plain → (label call : ℕ) → Advance ℕ → Plain
-going_on p label call went = asking (record p { vfs = went.vfs }) label call went.operation
+going_on p label call went = ask_put (record p { vfs = went.vfs }) label call went.operation
 
 -- A call begins. What it asks bears this label.
-abbrev pub call_begun : Plain → (label : ℕ) → Call → Plain
-call_begun p label call = going_on p label p.vfs.next_call (begun p.aborted p.vfs call)
+abbrev pub plain_call_begun : Plain → (label : ℕ) → Call → Plain
+plain_call_begun p label call = going_on p label p.vfs.next_call (begun p.aborted p.vfs call)
 
 -- A call begins as it may be put at the mount's minor. (linux/fuse.h, FUSE_READDIRPLUS)
-abbrev pub call_put : Plain → (label : ℕ) → Call → Plain
-call_put p label call = call_begun p label (spoken (lists_files_at p.minor) call)
+abbrev pub plain_call_put : Plain → (label : ℕ) → Call → Plain
+plain_call_put p label call = plain_call_begun p label (for_minor (lists_files_at p.minor) call)
 
 -- An ask is performed: the tree changes as the operation says.
 abbrev pub ask_performed : Plain → (label : ℕ) → Ask → Plain

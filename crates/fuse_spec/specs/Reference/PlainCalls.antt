@@ -5,7 +5,7 @@ use Rattle.fuse_spec.specs.declared.Attributes.{Attributes}
 use Rattle.fuse_spec.specs.declared.Binding.{Binding}
 use Rattle.fuse_spec.specs.Values.Maps.{Map, get, put, remove, get_name, put_name, remove_name}
 use Rattle.fuse_spec.specs.Values.Numbers.{ebadf, einval, enoent, eio, max_file, max_transfer}
-use Rattle.fuse_spec.specs.Calls.Paths.{Name, is_dots, words_of}
+use Rattle.fuse_spec.specs.Calls.Paths.{Name, is_dots, path_words_of}
 use Rattle.fuse_spec.specs.Files.Operations.{Operation, OperationAlike, Reply, Dirent, DirentPlus}
 use Rattle.fuse_spec.specs.Files.Operations as op
 use Rattle.fuse_spec.specs.Files.Trees.{record_length, pair_length}
@@ -96,48 +96,48 @@ pub data GoesOn (c : Vfs ℕ) (number : ℕ) : ℕ → List Name → WalkPlan �
 
 -- The walk that a call takes. Where it makes, removes or moves a name, that is the last word of the path. (Linux VFS)
 pub data TakesWalk : Call → List Name → WalkPlan ℕ → Type 0 where
-  stats : (path : List ℕ) (words : List Name) → words_of path ≡ Ok words
+  stats : (path : List ℕ) (words : List Name) → path_words_of path ≡ Ok words
       → TakesWalk (call.stat path) words (last (op.getattr None))
-  lists : (path : List ℕ) (after : ℕ) (words : List Name) → words_of path ≡ Ok words
+  lists : (path : List ℕ) (after : ℕ) (words : List Name) → path_words_of path ≡ Ok words
       → TakesWalk (call.list path after) words (last (op.readdir None after max_transfer))
-  lists_files : (path : List ℕ) (after : ℕ) (words : List Name) → words_of path ≡ Ok words
+  lists_files : (path : List ℕ) (after : ℕ) (words : List Name) → path_words_of path ≡ Ok words
       → TakesWalk (call.listplus path after) words (last (op.readdirplus None after max_transfer))
-  opens : (path : List ℕ) (words : List Name) → words_of path ≡ Ok words
+  opens : (path : List ℕ) (words : List Name) → path_words_of path ≡ Ok words
       → TakesWalk (call.opening path) words (last (op.opening None))
-  mkdirs : (path : List ℕ) (words : List Name) (name : Name) → words_of path ≡ Ok (words ++ name ∷ [])
+  mkdirs : (path : List ℕ) (words : List Name) (name : Name) → path_words_of path ≡ Ok (words ++ name ∷ [])
       → TakesWalk (call.mkdir path) words (last (op.mkdir None name))
-  creates : (path : List ℕ) (words : List Name) (name : Name) → words_of path ≡ Ok (words ++ name ∷ [])
+  creates : (path : List ℕ) (words : List Name) (name : Name) → path_words_of path ≡ Ok (words ++ name ∷ [])
       → TakesWalk (call.create path) words (last (op.create None name))
-  unlinks : (path : List ℕ) (words : List Name) (name : Name) → words_of path ≡ Ok (words ++ name ∷ [])
+  unlinks : (path : List ℕ) (words : List Name) (name : Name) → path_words_of path ≡ Ok (words ++ name ∷ [])
       → TakesWalk (call.unlink path) words (last (op.unlink None name))
-  rmdirs : (path : List ℕ) (words : List Name) (name : Name) → words_of path ≡ Ok (words ++ name ∷ [])
+  rmdirs : (path : List ℕ) (words : List Name) (name : Name) → path_words_of path ≡ Ok (words ++ name ∷ [])
       → TakesWalk (call.rmdir path) words (last (op.rmdir None name))
-  renames : (old new : List ℕ) (words more : List Name) (from to : Name) → words_of old ≡ Ok (words ++ from ∷ [])
-      → words_of new ≡ Ok (more ++ to ∷ []) → TakesWalk (call.rename old new) words (rename from more to)
-  links : (old new : List ℕ) (words more : List Name) (name : Name) → words_of old ≡ Ok words
-      → words_of new ≡ Ok (more ++ name ∷ []) → TakesWalk (call.link old new) words (link more name)
+  renames : (old new : List ℕ) (words more : List Name) (from to : Name) → path_words_of old ≡ Ok (words ++ from ∷ [])
+      → path_words_of new ≡ Ok (more ++ to ∷ []) → TakesWalk (call.rename old new) words (rename from more to)
+  links : (old new : List ℕ) (words more : List Name) (name : Name) → path_words_of old ≡ Ok words
+      → path_words_of new ≡ Ok (more ++ name ∷ []) → TakesWalk (call.link old new) words (link more name)
 
 -- A path that can't be walked; one whose last word is to be made or removed must have one.
 pub data HasNoName : List ℕ → ℕ → Type 0 where
-  is_faulty : (path : List ℕ) (errno : ℕ) → words_of path ≡ Err errno → HasNoName path errno
-  is_root : (path : List ℕ) → words_of path ≡ Ok [] → HasNoName path einval
+  is_faulty : (path : List ℕ) (errno : ℕ) → path_words_of path ≡ Err errno → HasNoName path errno
+  is_root : (path : List ℕ) → path_words_of path ≡ Ok [] → HasNoName path einval
 
 -- A call that is answered an error at once. Of two paths the first is judged first.
 pub data Fails (opens : Map ℕ) : Call → ℕ → Type 0 where
-  of_stat : (path : List ℕ) (errno : ℕ) → words_of path ≡ Err errno → Fails opens (call.stat path) errno
-  of_list : (path : List ℕ) (after errno : ℕ) → words_of path ≡ Err errno → Fails opens (call.list path after) errno
-  of_listplus : (path : List ℕ) (after errno : ℕ) → words_of path ≡ Err errno
+  of_stat : (path : List ℕ) (errno : ℕ) → path_words_of path ≡ Err errno → Fails opens (call.stat path) errno
+  of_list : (path : List ℕ) (after errno : ℕ) → path_words_of path ≡ Err errno → Fails opens (call.list path after) errno
+  of_listplus : (path : List ℕ) (after errno : ℕ) → path_words_of path ≡ Err errno
       → Fails opens (call.listplus path after) errno
-  of_open : (path : List ℕ) (errno : ℕ) → words_of path ≡ Err errno → Fails opens (call.opening path) errno
+  of_open : (path : List ℕ) (errno : ℕ) → path_words_of path ≡ Err errno → Fails opens (call.opening path) errno
   of_mkdir : (path : List ℕ) (errno : ℕ) → HasNoName path errno → Fails opens (call.mkdir path) errno
   of_create : (path : List ℕ) (errno : ℕ) → HasNoName path errno → Fails opens (call.create path) errno
   of_unlink : (path : List ℕ) (errno : ℕ) → HasNoName path errno → Fails opens (call.unlink path) errno
   of_rmdir : (path : List ℕ) (errno : ℕ) → HasNoName path errno → Fails opens (call.rmdir path) errno
   of_old : (old new : List ℕ) (errno : ℕ) → HasNoName old errno → Fails opens (call.rename old new) errno
-  of_new : (old new : List ℕ) (words : List Name) (from : Name) (errno : ℕ) → words_of old ≡ Ok (words ++ from ∷ [])
+  of_new : (old new : List ℕ) (words : List Name) (from : Name) (errno : ℕ) → path_words_of old ≡ Ok (words ++ from ∷ [])
       → HasNoName new errno → Fails opens (call.rename old new) errno
-  of_linked : (old new : List ℕ) (errno : ℕ) → words_of old ≡ Err errno → Fails opens (call.link old new) errno
-  of_link : (old new : List ℕ) (words : List Name) (errno : ℕ) → words_of old ≡ Ok words → HasNoName new errno
+  of_linked : (old new : List ℕ) (errno : ℕ) → path_words_of old ≡ Err errno → Fails opens (call.link old new) errno
+  of_link : (old new : List ℕ) (words : List Name) (errno : ℕ) → path_words_of old ≡ Ok words → HasNoName new errno
       → Fails opens (call.link old new) errno
   read_of_none : (handle offset size : ℕ) → get opens handle ≡ None → Fails opens (call.read handle offset size) ebadf
   read_too_far : (handle offset size file : ℕ) → get opens handle ≡ Some file

@@ -10,7 +10,7 @@ use Rattle.fuse_spec.specs.declared.WriteResult.TheVariants.{Accepted, NoEntry, 
 use Rattle.fuse_spec.specs.declared.Taken.TheVariants as word
 use Rattle.fuse_spec.specs.World.Events.{Event, Outcome}
 use Rattle.fuse_spec.specs.World.Events as event
-use Rattle.fuse_spec.specs.Reference.Plain.{Plain, Ask, Stage, waiting, performed, declined, call_put, ask_performed, ask_declined, ask_delivered, ask_interrupted, ask_noted, ask_marked, plain_later, name_dropped, plain_aborted, plain_mounted}
+use Rattle.fuse_spec.specs.Reference.Plain.{Plain, Ask, Stage, waiting, performed, declined, plain_call_put, ask_performed, ask_declined, ask_delivered, ask_interrupted, ask_noted, ask_marked, plain_later, name_dropped, plain_aborted, plain_mounted}
 
 -- A step, where the condition holds.
 abbrev pub where_so : Bool → Plain → Option Plain
@@ -64,9 +64,9 @@ may_signal effect.Queued stage = true
 may_signal effect.None stage = true
 
 -- A signal reaches the ask of its call, if that is unanswered.
-abbrev pub signalling : Plain → IntrEffect → (call label : ℕ) → Option Ask → Option Plain
-signalling p signal call label None = None
-signalling p signal call label (Some ask) = where_so
+abbrev pub plain_signalling : Plain → IntrEffect → (call label : ℕ) → Option Ask → Option Plain
+plain_signalling p signal call label None = None
+plain_signalling p signal call label (Some ask) = where_so
     (is_some (get p.vfs.calls call) && (nat_eq ask.call call && may_signal signal ask.stage))
     (signalled_ask p signal label ask)
 
@@ -78,13 +78,13 @@ marking p label (Some ask) = Some (ask_marked p label ask)
 -- The plain world after an event with this outcome. With any other outcome than the event can have there is no step.
 abbrev pub takes : ℕ → Plain → Event → Outcome → Option Plain
 takes chosen p (event.call call) (event.begun number) =
-    where_so (nat_eq number p.vfs.next_call && not (is_some (get p.asks chosen))) (call_put p chosen call)
+    where_so (nat_eq number p.vfs.next_call && not (is_some (get p.asks chosen))) (plain_call_put p chosen call)
 takes chosen p (event.perform unique) (event.performed u errno lost) = serving p unique (get p.asks unique)
 takes chosen p (event.write k) (event.written unique Accepted) = delivering p unique chosen (get p.asks unique)
 takes chosen p (event.write k) (event.written unique NoEntry) = Some p
 takes chosen p (event.write k) (event.written unique Invalid) = Some p
 takes chosen p (event.intr call fatal) (event.interrupted c effect) =
-    signalling p effect call chosen (get p.asks chosen)
+    plain_signalling p effect call chosen (get p.asks chosen)
 takes chosen p (event.take k) (event.taken unique word.Marked) = marking p (unique - 1) (get p.asks (unique - 1))
 takes chosen p (event.take k) (event.taken unique other) = Some p
 takes chosen p (event.tick ms) (event.now clock) = where_so (nat_eq clock (p.vfs.clock + ms)) (plain_later p ms)

@@ -79,8 +79,8 @@ MayChoose choice t (file ∷ files) = MayName t file (choice file) × MayChoose 
 
 -- Whether a node's lookups would come to the end of counters, once each of these files is named once more. (this
 -- project's rule)
-abbrev pub counts_out : NodeTable → List ℕ → Bool
-counts_out t files = list_any (λ (row : HeldNode). nat_le counter_end (row.count + count_by (nat_eq row.file) files))
+abbrev pub count_overflows : NodeTable → List ℕ → Bool
+count_overflows t files = list_any (λ (row : HeldNode). nat_le counter_end (row.count + count_by (nat_eq row.file) files))
     (values t.rows)
 
 -- The next two give so many lookups of a node back; at none left the node goes. (libfuse, low-level: forget)

@@ -23,8 +23,8 @@ use Rattle.fuse_spec.specs.Server.Server.{HeldRequest, Kept}
 use Rattle.fuse_spec.specs.Server.Taking.{taking}
 use Rattle.fuse_spec.specs.Server.Performs.{served, files_given}
 use Rattle.fuse_spec.specs.Server.Copies.{is_current, files_named}
-use Rattle.fuse_spec.specs.Server.Nodes.{counts_out}
-use Rattle.fuse_spec.specs.World.Worlds.{World, Sent, after_mount, after_call, after_read_interrupt, after_read_forgets, after_read_pending, after_take, after_perform, after_again, after_write, after_settle, after_tick, after_drop, after_evict, after_abort}
+use Rattle.fuse_spec.specs.Server.Nodes.{count_overflows}
+use Rattle.fuse_spec.specs.World.Worlds.{World, Sent, after_mount, after_call, world_after_read_interrupt, world_after_read_forgets, world_after_read_pending, after_take, after_perform, after_again, after_write, after_settle, after_tick, after_drop, after_evict, after_abort}
 use Rattle.fuse_spec.specs.Kernel.Refusals.{is_ready}
 use Rattle.fuse_spec.specs.World.Steps.{is_past}
 use Rattle.fuse_spec.specs.World.Events.{Event, Outcome}
@@ -54,22 +54,22 @@ pub data Leads (choice : ℕ → ℕ) (w : World) : Event → Outcome → World 
   reads_interrupt : (original : ℕ) (rest : List ℕ) → is_live w.kernel.phase ≡ true
       → w.kernel.queues.interrupts ≡ original ∷ rest
       → Leads choice w event.read_interrupt (event.is_read (interrupt_number original))
-      (after_read_interrupt w original)
+      (world_after_read_interrupt w original)
   reads_forgets : (n unique : ℕ) (forgets : List Forget) → MayRead w → forgets_read w.kernel n ≡ Some (unique, forgets)
-      → Leads choice w (event.read_forgets n) (event.is_read unique) (after_read_forgets w n forgets)
+      → Leads choice w (event.read_forgets n) (event.is_read unique) (world_after_read_forgets w n forgets)
   reads_pending : (k unique : ℕ) (purpose : Purpose) (body : RequestBody) → MayRead w
       → pending_at w.kernel.queues k ≡ Some (unique, purpose) → body_of w.kernel purpose ≡ Some body
-      → Leads choice w (event.read_pending k) (event.is_read unique) (after_read_pending w k unique body)
+      → Leads choice w (event.read_pending k) (event.is_read unique) (world_after_read_pending w k unique body)
   takes : (k : ℕ) (request : Request) → slice_get w.requests k ≡ Some request
       → Leads choice w (event.take k) (event.taken request.unique (taking w.server request.unique request.body).word)
       (after_take w k request.unique (taking w.server request.unique request.body))
   performs : (unique : ℕ) (held : HeldRequest) → get w.server.held unique ≡ Some held
-      → counts_out w.server.nodes (files_given w.server held) ≡ false
+      → count_overflows w.server.nodes (files_given w.server held) ≡ false
       → Leads choice w (event.perform unique) (event.performed unique
       (errno_of (served choice w.server unique held).wire) w.server.aborted)
       (after_perform w unique (served choice w.server unique held))
   sends_again : (unique : ℕ) (kept : Kept) → get w.server.kept unique ≡ Some kept
-      → is_current w.server kept.wire ≡ true → counts_out w.server.nodes (files_named w.server kept.wire) ≡ false
+      → is_current w.server kept.wire ≡ true → count_overflows w.server.nodes (files_named w.server kept.wire) ≡ false
       → Leads choice w (event.again unique) (event.sent_again unique) (after_again w unique kept)
   writes : (k : ℕ) (sent : Sent) → slice_get w.replies k ≡ Some sent
       → Leads choice w (event.write k) (event.written sent.unique (reply_written w.kernel sent.unique sent.wire).0)
@@ -158,9 +158,9 @@ pub data Refuses (choice : ℕ → ℕ) (w : World) : Event → Refusal → Type
       → get w.kernel.nodes node ≡ Some counted → is_pinned w.kernel node || is_bound w.kernel node ≡ true
       → Refuses choice w (event.evict node) Busy
   counted_too_often : (unique : ℕ) (held : HeldRequest) → get w.server.held unique ≡ Some held
-      → counts_out w.server.nodes (files_given w.server held) ≡ true → Refuses choice w (event.perform unique) Exhausted
+      → count_overflows w.server.nodes (files_given w.server held) ≡ true → Refuses choice w (event.perform unique) Exhausted
   copied_too_often : (unique : ℕ) (kept : Kept) → get w.server.kept unique ≡ Some kept
-      → is_current w.server kept.wire ≡ true → counts_out w.server.nodes (files_named w.server kept.wire) ≡ true
+      → is_current w.server kept.wire ≡ true → count_overflows w.server.nodes (files_named w.server kept.wire) ≡ true
       → Refuses choice w (event.again unique) Exhausted
   past_its_end : (e : Event) (o : Outcome) (after : World) → draws e ≡ true → Leads choice w e o after
       → is_past after ≡ true → Refuses choice w e Exhausted

@@ -26,7 +26,7 @@ use Rattle.fuse_spec.specs.Server.Taking.{TakeResult, taking}
 use Rattle.fuse_spec.specs.Server.Performs.{PerformResult, served, files_given}
 use Rattle.fuse_spec.specs.Server.Refusals as server
 use Rattle.fuse_spec.specs.Server.Refusals.{to_perform, to_send_again}
-use Rattle.fuse_spec.specs.World.Worlds.{World, Sent, after_mount, after_call, after_read_interrupt, after_read_forgets, after_read_pending, after_take, after_perform, after_again, after_write, after_settle, after_tick, after_drop, after_evict, after_abort}
+use Rattle.fuse_spec.specs.World.Worlds.{World, Sent, after_mount, after_call, world_after_read_interrupt, world_after_read_forgets, world_after_read_pending, after_take, after_perform, after_again, after_write, after_settle, after_tick, after_drop, after_evict, after_abort}
 use Rattle.fuse_spec.specs.World.Events.{Event, Outcome}
 use Rattle.fuse_spec.specs.World.Events as event
 
@@ -36,7 +36,7 @@ Stepped = Result (Outcome × World) Refusal
 
 -- Whether a counter would have given a number past its end, or a node's count come to it.
 abbrev pub is_past : World → Bool
-is_past w = kernel.is_past w.kernel || server.is_past_end w.server
+is_past w = kernel.is_kernel_past w.kernel || server.is_server_past_end w.server
 
 -- The outcome, unless a counter would have to go past its end or a node's count to come to it.
 abbrev pub going : Outcome → World → Stepped
@@ -44,15 +44,15 @@ going outcome w = unless (is_past w) refusal.Exhausted (Ok (outcome, w))
 
 -- The oldest INTERRUPT is read.
 abbrev pub reading_interrupt : World → ℕ → Stepped
-reading_interrupt w original = going (event.is_read (interrupt_number original)) (after_read_interrupt w original)
+reading_interrupt w original = going (event.is_read (interrupt_number original)) (world_after_read_interrupt w original)
 
 -- So many forgets are read as one request.
 abbrev pub reading_forgets : World → ℕ → ℕ × List Forget → Stepped
-reading_forgets w n read = going (event.is_read read.0) (after_read_forgets w n read.1)
+reading_forgets w n read = going (event.is_read read.0) (world_after_read_forgets w n read.1)
 
 -- The pending request at this place is read.
 abbrev pub reading_pending : World → (place unique : ℕ) → RequestBody → Stepped
-reading_pending w place unique body = going (event.is_read unique) (after_read_pending w place unique body)
+reading_pending w place unique body = going (event.is_read unique) (world_after_read_pending w place unique body)
 
 -- A request is taken, with the server's word for it.
 abbrev pub taken_as : World → ℕ → ℕ → TakeResult → Stepped
@@ -159,11 +159,11 @@ takes_memory event.abort = false
 takes_memory other = true
 
 -- Memory was wanting: this is the last refusal, of an event that takes memory and that nothing else refuses.
-pub record WantsMemory (w : World) (event : Event) (refusal : Refusal) : Type 0 where
+pub record OutOfMemory (w : World) (event : Event) (refusal : Refusal) : Type 0 where
   pub wanting : refusal ≡ NoMemory
   pub takes : takes_memory event ≡ true
   pub last : (other : Refusal) → IsRefused w event other → ⊥
 
 -- The event is refused so, or memory was wanting.
 abbrev pub RefusedWith : World → Event → Refusal → Type 0
-RefusedWith w event refusal = IsRefused w event refusal ⊎ WantsMemory w event refusal
+RefusedWith w event refusal = IsRefused w event refusal ⊎ OutOfMemory w event refusal

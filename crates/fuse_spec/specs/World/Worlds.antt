@@ -59,8 +59,8 @@ abbrev pub requesting : World → ℕ → RequestBody → World
 requesting w unique body = record w { requests = w.requests ++ record { unique = unique; body = body } ∷ [] }
 
 -- The oldest INTERRUPT goes onto the request link, under the number of its original with the lowest bit set. (fuse.rst)
-abbrev pub after_read_interrupt : World → (original : ℕ) → World
-after_read_interrupt w original =
+abbrev pub world_after_read_interrupt : World → (original : ℕ) → World
+world_after_read_interrupt w original =
     requesting (record w { kernel = record w.kernel { queues = queues.after_read_interrupt w.kernel.queues } })
     (interrupt_number original) (interrupt original)
 
@@ -71,8 +71,8 @@ forget_body (f ∷ []) = forget f
 forget_body (f ∷ g ∷ fs) = batch_forget (f ∷ g ∷ fs)
 
 -- So many forgets go onto the request link as one request, which draws a number. (this project's rule)
-abbrev pub after_read_forgets : World → ℕ → List Forget → World
-after_read_forgets w n read =
+abbrev pub world_after_read_forgets : World → ℕ → List Forget → World
+world_after_read_forgets w n read =
     requesting (record w {
       kernel = record w.kernel {
         queues =
@@ -81,16 +81,16 @@ after_read_forgets w n read =
     }) w.kernel.queues.next (forget_body read)
 
 -- A pending request goes onto the request link, and is in processing. (fuse.rst)
-abbrev pub after_read_pending : World → (k unique : ℕ) → RequestBody → World
-after_read_pending w k unique body = requesting (record w {
+abbrev pub world_after_read_pending : World → (k unique : ℕ) → RequestBody → World
+world_after_read_pending w k unique body = requesting (record w {
   kernel =
       record w.kernel { queues = queues.after_read_pending w.kernel.queues k };
 }) unique body
 
 -- A copy goes onto the reply link, if there is one.
-abbrev pub replying : World → (number unique : ℕ) → Option WireReply → World
-replying w number unique None = w
-replying w number unique (Some wire) = record w {
+abbrev pub copy_put : World → (number unique : ℕ) → Option WireReply → World
+copy_put w number unique None = w
+copy_put w number unique (Some wire) = record w {
   replies = w.replies
       ++ record { number = number; unique = unique; wire = wire } ∷ [];
 }
@@ -98,7 +98,7 @@ replying w number unique (Some wire) = record w {
 -- The server takes the request at this place of the request link, and a reply that it gives at once goes onto the reply
 -- link.
 abbrev pub after_take : World → ℕ → ℕ → TakeResult → World
-after_take w k unique took = replying (record w {
+after_take w k unique took = copy_put (record w {
   requests = without w.requests k;
   server = took.server;
 }) w.server.next_copy unique took.reply
@@ -106,12 +106,12 @@ after_take w k unique took = replying (record w {
 -- The server performs a held request, and the first copy of its reply goes onto the reply link, unless the mount is
 -- aborted.
 abbrev pub after_perform : World → ℕ → PerformResult → World
-after_perform w unique did = replying (record w { server = did.server }) w.server.next_copy unique
+after_perform w unique did = copy_put (record w { server = did.server }) w.server.next_copy unique
     (cond w.server.aborted None (Some did.wire))
 
 -- One more copy of a kept reply goes onto the reply link.
 abbrev pub after_again : World → ℕ → Kept → World
-after_again w unique kept = replying (record w { server = sent_again w.server unique kept }) w.server.next_copy unique
+after_again w unique kept = copy_put (record w { server = sent_again w.server unique kept }) w.server.next_copy unique
     (Some kept.wire)
 
 -- The kernel takes the copy at this place of the reply link, and its result goes onto the result link.

@@ -14,14 +14,14 @@ use Rattle.fuse_spec.specs.Values.Maps.{Map, get, put}
 use Rattle.fuse_spec.specs.Values.Numbers.{max_calls}
 use Rattle.fuse_spec.specs.Calls.Answers.{Answer}
 use Rattle.fuse_spec.specs.Calls.Answers as answer
-use Rattle.fuse_spec.specs.Calls.Calls.{Call, spoken}
+use Rattle.fuse_spec.specs.Calls.Calls.{Call, for_minor}
 use Rattle.fuse_spec.specs.Calls.CallReplies.{call_replied}
 use Rattle.fuse_spec.specs.Kernel.Kernel.{Kernel, kernel_aborted, is_aborted, advanced, asking_for, released, released_if_idle, after_use, closed_by, closing_of, call_begun, after_signal, signalled_at, call_signalled, request_of}
 use Rattle.fuse_spec.specs.Kernel.Messages.{WireReply}
 use Rattle.fuse_spec.specs.Files.Operations.{Operation, done, failed, files_in_reply}
 use Rattle.fuse_spec.specs.Kernel.QueueCalls.{waiting, without, after_interrupt, interrupt_effect}
 use Rattle.fuse_spec.specs.Kernel.Queues.{QueueState}
-use Rattle.fuse_spec.specs.Kernel.Replies.{kernel_reply, looked_up, Use, usable, useless, stale, goes_with, is_agreement, judged, replied, replied_to_call, ended_by, request_reply_written, interrupt_reply_written, interrupt_replied, reply_written, reply_received, without_stale, reply_judged, use_of_reply, made_ready}
+use Rattle.fuse_spec.specs.Kernel.Replies.{kernel_reply, looked_up, Use, usable, unusable, stale, goes_with, is_agreement, judged, replied, replied_to_call, ended_by, request_reply_written, interrupt_reply_written, interrupt_replied, reply_written, reply_received, without_stale, reply_judged, use_of_reply, made_ready}
 use Rattle.fuse_spec.specs.Calls.Vfs.{asked, CallState, walking, doing, using, Vfs, Advance, answered, begun, all_answered, given_up}
 use Rattle.fuse_spec.specs.Server.Taking.{taking}
 use Rattle.fuse_spec.specs.Server.Performs.{served}
@@ -221,14 +221,14 @@ module _ (k : Kernel) (sound : AnswersSound k.vfs) where
       subst (λ (d : Vfs Opened). ChangesCall k.vfs call d)
       (sym (advanced_vfs (record k { queues = q; nodes = looked_up k.nodes (files_in_reply wire) }) call next))
       (replied_changes k.vfs call state (kernel_reply (asked state) wire))
-  judged_changes q call state wire useless = answered_changes k.vfs call (answer.failed 5)
+  judged_changes q call state wire unusable = answered_changes k.vfs call (answer.failed 5)
   judged_changes q call state wire (stale node) = answered_changes k.vfs call (answer.failed 5)
 
   -- A reply reaches a call.
-  call_hears : (call : ℕ) (wire : WireReply) (o : Option (CallState Opened)) → get k.vfs.calls call ≡ o
+  call_receives : (call : ℕ) (wire : WireReply) (o : Option (CallState Opened)) → get k.vfs.calls call ≡ o
       → CallsStay false k.vfs (replied_to_call k call wire o).1.vfs
-  call_hears call wire None there = as_they_were k.vfs sound
-  call_hears call wire (Some state) there = by (goes_with (asked state) wire)
+  call_receives call wire None there = as_they_were k.vfs sound
+  call_receives call wire (Some state) there = by (goes_with (asked state) wire)
     where
       by : (b : Bool) → CallsStay false k.vfs (replied k call state b wire).1.vfs
       by true = used_after call state there (reply_received k call state wire)
@@ -238,9 +238,9 @@ module _ (k : Kernel) (sound : AnswersSound k.vfs) where
           (answered_changes k.vfs call (answer.failed 5))
 
 -- A reply is written.
-reply_hears : (k : Kernel) → AnswersSound k.vfs → (unique : ℕ) (wire : WireReply)
+reply_receives : (k : Kernel) → AnswersSound k.vfs → (unique : ℕ) (wire : WireReply)
     → CallsStay false k.vfs (reply_written k unique wire).1.vfs
-reply_hears k sound unique wire = by (nat_eq (unique % 2) 1)
+reply_receives k sound unique wire = by (nat_eq (unique % 2) 1)
   where
     ended : (q : Kernel) (kept : Purpose) → AnswersSound q.vfs → CallsStay false q.vfs (ended_by q kept wire).1.vfs
     ended q purpose.Init s = agreed_or (is_agreement wire)
@@ -249,7 +249,7 @@ reply_hears k sound unique wire = by (nat_eq (unique % 2) 1)
         agreed_or true = as_they_were q.vfs s
         agreed_or false = gives_up q.vfs s
     ended q (purpose.Release o) s = as_they_were q.vfs s
-    ended q (purpose.Call call) s = call_hears q s call wire (get q.vfs.calls call) refl
+    ended q (purpose.Call call) s = call_receives q s call wire (get q.vfs.calls call) refl
 
     even : (o : Option Purpose) → CallsStay false k.vfs (request_reply_written k unique wire o).1.vfs
     even None = as_they_were k.vfs sound
@@ -273,7 +273,7 @@ reply_hears k sound unique wire = by (nat_eq (unique % 2) 1)
 
 -- A reply that goes out leaves the kernel as it is.
 sent_off : (w : World) → AnswersSound w.kernel.vfs → (number unique : ℕ) (wire : Option WireReply)
-    → CallsStay false w.kernel.vfs (worlds.replying w number unique wire).kernel.vfs
+    → CallsStay false w.kernel.vfs (worlds.copy_put w number unique wire).kernel.vfs
 sent_off w sound number unique None = as_they_were w.kernel.vfs sound
 sent_off w sound number unique (Some wire) = as_they_were w.kernel.vfs sound
 
@@ -301,7 +301,7 @@ by_event : (choice : ℕ → ℕ) (w : World) → AnswersSound w.kernel.vfs → 
     → Happened choice w e o after → CallsStay (begins_call e) w.kernel.vfs after.kernel.vfs
 by_event choice w s e o after (by_mount f m v idle) = gives_up w.kernel.vfs s
 by_event choice w s e o after (by_call call ready room within) =
-    call_begins w.kernel s (spoken w.kernel.lists_files call) (grind (arith, nat_tests, room))
+    call_begins w.kernel s (for_minor w.kernel.lists_files call) (grind (arith, nat_tests, room))
 by_event choice w s e o after (by_read_interrupt original rest live there within) = as_they_were w.kernel.vfs s
 by_event choice w s e o after (by_read_forgets n live free can within few) = as_they_were w.kernel.vfs s
 by_event choice w s e o after (by_read_pending k unique kept body live free there says within) =
@@ -313,7 +313,7 @@ by_event choice w s e o after (by_perform unique t there within) =
     let did = served choice w.server unique t in sent_off
     (record w { server = did.server }) s w.server.next_copy unique (cond w.server.aborted None (Some did.wire))
 by_event choice w s e o after (by_again unique kept there current within) = as_they_were w.kernel.vfs s
-by_event choice w s e o after (by_write k sent there within) = reply_hears w.kernel s sent.unique sent.wire
+by_event choice w s e o after (by_write k sent there within) = reply_receives w.kernel s sent.unique sent.wire
 by_event choice w s e o after (by_settle k result there) = as_they_were w.kernel.vfs s
 by_event choice w s e o after (by_signal call fatal state live there within) =
     call_signals w.kernel s call state fatal there

@@ -21,7 +21,7 @@ use Rattle.fuse_theorem.specs.Unperformed.{RequestsSound}
 use Rattle.fuse_theorem.specs.WorldSound.{WorldSound}
 use Rattle.fuse_theorem.proofs.Refining.WithAnswers.{with_answers, plain_with_answers, answers_alike}
 use Rattle.fuse_theorem.proofs.Requests.RequestsAsked.{moved_asked}
-use Rattle.fuse_theorem.proofs.Requests.StillAsked.{unmoved}
+use Rattle.fuse_theorem.proofs.Requests.AskKept.{unmoved}
 
 module _ (w : World) (answers : Map Answer) (sorted : T (is_sorted nat_cmp answers)) where
   numbers : IsNumberedWhileLive w → IsNumberedWhileLive (with_answers w answers)
@@ -160,7 +160,7 @@ module _ (w : World) (answers : Map Answer) (sorted : T (is_sorted nat_cmp answe
     queued = old.queued;
     sent = old.sent;
     kept = old.kept;
-    spoken = λ live is. let at = old.spoken live is in
+    for_minor = λ live is. let at = old.for_minor live is in
         record { minor = at.minor; lists_files = at.lists_files; calls = at.calls; sent = at.sent };
   }
 

@@ -14,14 +14,14 @@ use Rattle.fuse_spec.specs.Values.Maps.{Map, get, put, remove}
 use Rattle.fuse_spec.specs.Calls.Answers.{Answer}
 use Rattle.fuse_spec.specs.Calls.Answers as answer
 use Rattle.fuse_spec.specs.Calls.Begins.{Beginning, faulty, sets_out, uses, closes, beginning}
-use Rattle.fuse_spec.specs.Calls.Calls.{Call, spoken}
+use Rattle.fuse_spec.specs.Calls.Calls.{Call, for_minor}
 use Rattle.fuse_spec.specs.Calls.CallReplies.{call_replied, operation_replied}
 use Rattle.fuse_spec.specs.Kernel.Kernel.{Kernel, kernel_aborted, is_aborted, advanced, after_use, closed_by, call_begun, after_signal, signalled_at, call_signalled, request_of}
 use Rattle.fuse_spec.specs.Kernel.Messages.{WireReply}
 use Rattle.fuse_spec.specs.Files.Operations.{Operation, getattr, mkdir, create, unlink, rmdir, rename, link, opening, readdir, readdirplus, read, write, Reply, found, missing, created, opened, attributes, listed, listed_plus, content, written, done, failed, files_in_reply}
 use Rattle.fuse_spec.specs.Kernel.QueueCalls.{waiting, without, after_interrupt, interrupt_effect}
 use Rattle.fuse_spec.specs.Kernel.Queues.{QueueState}
-use Rattle.fuse_spec.specs.Kernel.Replies.{kernel_reply, Use, usable, useless, stale, goes_with, is_agreement, judged, replied, replied_to_call, ended_by, request_reply_written, interrupt_reply_written, interrupt_replied, reply_written, looked_up, reply_received, without_stale, reply_judged, use_of_reply, made_ready}
+use Rattle.fuse_spec.specs.Kernel.Replies.{kernel_reply, Use, usable, unusable, stale, goes_with, is_agreement, judged, replied, replied_to_call, ended_by, request_reply_written, interrupt_reply_written, interrupt_replied, reply_written, looked_up, reply_received, without_stale, reply_judged, use_of_reply, made_ready}
 use Rattle.fuse_spec.specs.Calls.Vfs.{asked, CallState, walking, doing, using, Vfs, answered, asking, look, numbered, bound, begun, after_beginning, after_walk, all_answered, given_up}
 use Rattle.fuse_spec.specs.Calls.Walks.{Walked, looks_up, finds_none, asks, walk}
 use Rattle.fuse_spec.specs.Server.Taking.{taking}
@@ -162,13 +162,13 @@ module _ (k : Kernel) where
         nodes = looked_up k.nodes (files_in_reply wire);
       }) call next))
       (replied_more k.vfs call state (kernel_reply (asked state) wire))
-  judged_more q call state wire useless = answered_more k.vfs call (answer.failed 5)
+  judged_more q call state wire unusable = answered_more k.vfs call (answer.failed 5)
   judged_more q call state wire (stale node) = answered_more k.vfs call (answer.failed 5)
 
-  hears_more : (call : ℕ) (wire : WireReply) (o : Option (CallState Opened))
+  receives_more : (call : ℕ) (wire : WireReply) (o : Option (CallState Opened))
       → OneMore k.vfs (replied_to_call k call wire o).1.vfs
-  hears_more call wire None = as_many k.vfs
-  hears_more call wire (Some state) = by (goes_with (asked state) wire)
+  receives_more call wire None = as_many k.vfs
+  receives_more call wire (Some state) = by (goes_with (asked state) wire)
     where
       by : (b : Bool) → OneMore k.vfs (replied k call state b wire).1.vfs
       by true = used_more state (reply_received k call state wire)
@@ -186,7 +186,7 @@ written_more k unique wire = by (nat_eq (unique % 2) 1)
         agreed_or true = as_many q.vfs
         agreed_or false = given_up_more q.vfs
     ended q (purpose.Release o) = as_many q.vfs
-    ended q (purpose.Call call) = hears_more q call wire (get q.vfs.calls call)
+    ended q (purpose.Call call) = receives_more q call wire (get q.vfs.calls call)
 
     even : (o : Option Purpose) → OneMore k.vfs (request_reply_written k unique wire o).1.vfs
     even None = as_many k.vfs
@@ -209,14 +209,14 @@ written_more k unique wire = by (nat_eq (unique % 2) 1)
 -- ---- events
 
 sent_more : (w : World) (number unique : ℕ) (wire : Option WireReply)
-    → OneMore w.kernel.vfs (worlds.replying w number unique wire).kernel.vfs
+    → OneMore w.kernel.vfs (worlds.copy_put w number unique wire).kernel.vfs
 sent_more w number unique None = as_many w.kernel.vfs
 sent_more w number unique (Some wire) = as_many w.kernel.vfs
 
 by_event : (choice : ℕ → ℕ) (w : World) (e : Event) (o : Outcome) (after : World) → Happened choice w e o after
     → OneMore w.kernel.vfs after.kernel.vfs
 by_event choice w e o after (by_mount f m v idle) = given_up_more w.kernel.vfs
-by_event choice w e o after (by_call call ready room within) = begins_more w.kernel (spoken w.kernel.lists_files call)
+by_event choice w e o after (by_call call ready room within) = begins_more w.kernel (for_minor w.kernel.lists_files call)
 by_event choice w e o after (by_read_interrupt original rest live there within) = as_many w.kernel.vfs
 by_event choice w e o after (by_read_forgets n live free can within few) = as_many w.kernel.vfs
 by_event choice w e o after (by_read_pending k unique kept body live free there says within) = as_many w.kernel.vfs

@@ -3,7 +3,7 @@ use Rattle.std.proofs.Common.{◌≡◌, ℕ, ◌||◌, cond, Bool, true, false,
 use Rattle.std.specs.Prelude.{nat_lt}
 use Rattle.fuse_spec.specs.Values.Maps.{Map, get}
 use Rattle.fuse_spec.specs.Values.Numbers.{max_file, max_transfer}
-use Rattle.fuse_spec.specs.Calls.Paths.{Name, words_of, parent_and_last}
+use Rattle.fuse_spec.specs.Calls.Paths.{Name, path_words_of, parent_and_last}
 use Rattle.fuse_spec.specs.Files.Operations.{Operation, OptionAlike, OperationAlike}
 use Rattle.fuse_spec.specs.Calls.Calls.{Call}
 use Rattle.fuse_spec.specs.Calls.Calls as call
@@ -21,7 +21,7 @@ module _ {F O G P : Type 0} (R : F → G → Type 0) (S : O → P → Type 0) wh
   whole_alike : (path : List ℕ) (f : List Name → Beginning F O) (g : List Name → Beginning G P)
       → ((words : List Name) → BeginningAlike (f words) (g words))
       → BeginningAlike (whole_path path f) (whole_path path g)
-  whole_alike path f g on = by (words_of path)
+  whole_alike path f g on = by (path_words_of path)
     where
       by : (r : Result (List Name) ℕ) → BeginningAlike (elim r [ Err fault ↦ faulty fault | Ok words ↦ f words ])
           (elim r [ Err fault ↦ faulty fault | Ok words ↦ g words ])

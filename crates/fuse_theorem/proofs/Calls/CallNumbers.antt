@@ -29,7 +29,7 @@ use Rattle.fuse_spec.specs.Kernel.Queues.{QueueState, IsSound, request_under, ma
 use Rattle.fuse_spec.specs.Kernel.QueueCalls.{after_enqueue, after_effect, after_reading, after_reply_effect, after_interrupt_reply, interrupt_effect, without}
 use Rattle.fuse_spec.specs.Kernel.Signals.{reply_effect}
 use Rattle.fuse_spec.specs.Kernel.Kernel.{Kernel, is_aborted, is_for, is_used, request_of, advanced, released, released_if_idle, after_use, closed_by, closing_of, call_begun, after_signal, signalled_at, call_signalled}
-use Rattle.fuse_spec.specs.Kernel.Replies.{kernel_reply, looked_up, Use, usable, useless, stale, goes_with, judged, replied, replied_to_call, reply_received, without_stale, reply_judged, use_of_reply}
+use Rattle.fuse_spec.specs.Kernel.Replies.{kernel_reply, looked_up, Use, usable, unusable, stale, goes_with, judged, replied, replied_to_call, reply_received, without_stale, reply_judged, use_of_reply}
 use Rattle.fuse_spec.proofs.QueueCounts.{count_by-push}
 use Rattle.fuse_spec.proofs.QueueReadings.{key_count-le-one}
 use Rattle.fuse_spec.proofs.Tables.{get_gone_here, get_gone_there}
@@ -234,7 +234,7 @@ replied_numbered k numbered call wire (Some state) there none = by (goes_with (a
               numbered.one_request;
         }) k.vfs.next_call call next none
         (call_replied_alone k.vfs call state (kernel_reply (asked state) x)) low (omega arith)
-    judged_numbered x useless = let calls = answered_numbered k numbered call (answer.failed 5) none in
+    judged_numbered x unusable = let calls = answered_numbered k numbered call (answer.failed 5) none in
         record { calls_below = calls.calls_below; one_request = calls.one_request }
     judged_numbered x (stale node) = let calls = answered_numbered k numbered call (answer.failed 5) none in
         record { calls_below = calls.calls_below; one_request = calls.one_request }

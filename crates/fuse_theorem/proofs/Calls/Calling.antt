@@ -7,7 +7,7 @@ use Rattle.fuse_spec.specs.declared.Phase.{Phase}
 use Rattle.fuse_spec.specs.declared.Phase.TheVariants.{Down, Starting, Ready, Aborted}
 use Rattle.fuse_spec.specs.Values.Maps.{get, put}
 use Rattle.fuse_spec.specs.Files.Operations.{Operation}
-use Rattle.fuse_spec.specs.Calls.Calls.{Call, spoken, lists_files_at}
+use Rattle.fuse_spec.specs.Calls.Calls.{Call, for_minor, lists_files_at}
 use Rattle.fuse_spec.specs.Calls.Calls as call
 use Rattle.fuse_spec.specs.Calls.Vfs.{Vfs, Advance, begun, after_beginning, numbered}
 use Rattle.fuse_spec.specs.Calls.Begins.{closing}
@@ -16,15 +16,15 @@ use Rattle.fuse_spec.specs.Kernel.Kernel.{Kernel, is_live, is_aborted, asking_fo
 use Rattle.fuse_spec.specs.World.Worlds.{World, after_call}
 use Rattle.fuse_spec.specs.Kernel.Refusals.{is_ready}
 use Rattle.fuse_spec.specs.World.Events as event
-use Rattle.fuse_spec.specs.Reference.Plain.{Plain, Ask, going_on, call_put}
+use Rattle.fuse_spec.specs.Reference.Plain.{Plain, Ask, going_on, plain_call_put}
 use Rattle.fuse_spec.specs.Reference.PlainSteps.{Takes, where_so}
 use Rattle.fuse_spec.specs.Claim.Denotes.{MeansIn, MeansOpenIn}
 use Rattle.fuse_spec.specs.Claim.Alike.{PurposeAsked, Alike}
 use Rattle.fuse_theorem.specs.Numbering.{IsOneToOne, IsNumbered, IsNumberedWhileLive, requests_for}
 use Rattle.fuse_theorem.proofs.Calls.Finding.{same_is, absent}
-use Rattle.fuse_theorem.proofs.Calls.Starting.{begun_alike}
+use Rattle.fuse_theorem.proofs.Calls.Starting.{begin_refines}
 use Rattle.fuse_theorem.proofs.Calls.Advancing.{begun_alone}
-use Rattle.fuse_theorem.proofs.Refining.Asking.{AlikeExceptCall, advanced_alike}
+use Rattle.fuse_theorem.proofs.Refining.Asking.{AlikeExceptCall, next_request_refines}
 use Rattle.fuse_theorem.proofs.Refining.Releasing.{next_unasked, closing_alike, released_alike}
 
 -- a call that closes an open file asks nothing
@@ -100,9 +100,9 @@ module _ (w : World) (p : Plain) (numbering : IsNumbered w) (one : IsOneToOne (M
       })
       (going_on p label w.kernel.vfs.next_call (begun b p.vfs call))
   call_alike call label true ready is labelled =
-      advanced_alike w p w.kernel.vfs.next_call numbering paused_new one same.tree same.validity same.minor same.agreed
+      next_request_refines w p w.kernel.vfs.next_call numbering paused_new one same.tree same.validity same.minor same.agreed
       (w.kernel.vfs.next_call + 1) (begun true w.kernel.vfs call) (begun true p.vfs call)
-      (begun_alike (MeansIn w) (MeansOpenIn w) one w.kernel.vfs p.vfs same.vfs true call)
+      (begin_refines (MeansIn w) (MeansOpenIn w) one w.kernel.vfs p.vfs same.vfs true call)
       (begun_alone true w.kernel.vfs call) (λ a e. absurd (cc)) same.aborted
   call_alike call label false ready is labelled =
       subst (λ (l : ℕ). Alike (record w { kernel = closing_of (advanced k c0 next) (closed_by k.vfs.opens call) })
@@ -126,9 +126,9 @@ module _ (w : World) (p : Plain) (numbering : IsNumbered w) (one : IsOneToOne (M
 
       went : Alike (record w { kernel = advanced k c0 next }) q
       went =
-          advanced_alike w p c0 numbering paused_new one same.tree same.validity same.minor same.agreed (c0 + 1) next
+          next_request_refines w p c0 numbering paused_new one same.tree same.validity same.minor same.agreed (c0 + 1) next
           (begun false p.vfs call)
-          (begun_alike (MeansIn w) (MeansOpenIn w) one k.vfs p.vfs same.vfs false call) (begun_alone false k.vfs call)
+          (begin_refines (MeansIn w) (MeansOpenIn w) one k.vfs p.vfs same.vfs false call) (begun_alone false k.vfs call)
           (λ a e. live) same.aborted
 
       by : (o : Option (ℕ × Opened)) → closed_by k.vfs.opens call ≡ o
@@ -144,25 +144,25 @@ module _ (w : World) (p : Plain) (numbering : IsNumbered w) (one : IsOneToOne (M
 
   -- Both put the call alike, where it is put at all.
   put_alike : (call : Call) (b : Bool) → is_ready w.kernel.phase ≡ true → is_aborted w.kernel.phase ≡ b
-      → begun b p.vfs (spoken w.kernel.lists_files call) ≡ begun b p.vfs (spoken (lists_files_at p.minor) call)
+      → begun b p.vfs (for_minor w.kernel.lists_files call) ≡ begun b p.vfs (for_minor (lists_files_at p.minor) call)
   put_alike call true ready is = refl
-  put_alike call false ready is = ap (λ (lists : Bool). begun false p.vfs (spoken lists call))
+  put_alike call false ready is = ap (λ (lists : Bool). begun false p.vfs (for_minor lists call))
       (same.agreed (ready_is w.kernel.phase ready is)).1
 
   goes_under : (call : Call) (label : ℕ) → is_ready w.kernel.phase ≡ true → get p.asks label ≡ None
       → (is_aborted w.kernel.phase ≡ false → label ≡ w.kernel.queues.next)
       → (q : Plain) × Takes p (event.call call) (event.begun w.kernel.vfs.next_call) q × Alike (after_call w call) q
   goes_under call label ready fresh labelled =
-      let put = spoken (lists_files_at p.minor) call in (
-        call_put p label call,
-        (label, ap (λ (b : Bool). where_so b (call_put p label call)) (may_begin w p same label fresh)),
+      let put = for_minor (lists_files_at p.minor) call in (
+        plain_call_put p label call,
+        (label, ap (λ (b : Bool). where_so b (plain_call_put p label call)) (may_begin w p same label fresh)),
         subst (λ (b : Bool). Alike (after_call w call) (going_on p label p.vfs.next_call
             (begun b p.vfs put))) same.aborted
             (subst (λ (n : ℕ). Alike (after_call w call) (going_on p label n
             (begun (is_aborted w.kernel.phase) p.vfs put))) same.vfs.next_call
             (subst (λ (went : Advance ℕ). Alike (after_call w call) (going_on p label w.kernel.vfs.next_call went))
             (put_alike call (is_aborted w.kernel.phase) ready refl)
-            (call_alike (spoken w.kernel.lists_files call) label (is_aborted w.kernel.phase) ready refl labelled))),
+            (call_alike (for_minor w.kernel.lists_files call) label (is_aborted w.kernel.phase) ready refl labelled))),
       )
 
   -- A call begins: after that the two are alike again.
@@ -195,7 +195,7 @@ module _ (w : World) (p : Plain) (one : IsOneToOne (MeansIn w)) (same : Alike w 
   -- The call is answered at once, in both worlds.
   answered_alike : Alike (record w { kernel = answered_kernel }) answered_plain
   answered_alike =
-      let begins = begun_alike (MeansIn w) (MeansOpenIn w) one w.kernel.vfs p.vfs same.vfs true call in
+      let begins = begin_refines (MeansIn w) (MeansOpenIn w) one w.kernel.vfs p.vfs same.vfs true call in
       record {
         tree = same.tree;
         vfs = begins.vfs;
@@ -218,15 +218,15 @@ module _ (w : World) (p : Plain) (one : IsOneToOne (MeansIn w)) (same : Alike w 
   answered_goes =
       let free = absent p.asks in
       let plain_aborted : p.aborted ≡ true = sym same.aborted ∙ aborted in (
-        call_put p free.0 call,
-        (free.0, ap (λ (b : Bool). where_so b (call_put p free.0 call)) (may_begin w p same free.0 free.1)),
+        plain_call_put p free.0 call,
+        (free.0, ap (λ (b : Bool). where_so b (plain_call_put p free.0 call)) (may_begin w p same free.0 free.1)),
         subst (λ (b : Bool). Alike (after_call w call) (going_on p free.0 p.vfs.next_call
-            (begun b p.vfs (spoken (lists_files_at p.minor) call)))) (sym plain_aborted)
+            (begun b p.vfs (for_minor (lists_files_at p.minor) call)))) (sym plain_aborted)
             (subst (λ (b : Bool). Alike (record w {
               kernel =
                   closing_of (advanced w.kernel w.kernel.vfs.next_call
-                  (begun b w.kernel.vfs (spoken w.kernel.lists_files call)))
-                  (cond b None (closed_by w.kernel.vfs.opens (spoken w.kernel.lists_files call)));
+                  (begun b w.kernel.vfs (for_minor w.kernel.lists_files call)))
+                  (cond b None (closed_by w.kernel.vfs.opens (for_minor w.kernel.lists_files call)));
             }) answered_plain)
             (sym aborted) answered_alike),
       )

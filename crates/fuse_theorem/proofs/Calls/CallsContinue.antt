@@ -13,7 +13,7 @@ use Rattle.fuse_spec.specs.Files.Operations.{Operation, files_in_reply}
 use Rattle.fuse_spec.specs.Calls.Vfs.{CallState, walking, doing, using, asked, Advance, answered, begun}
 use Rattle.fuse_spec.specs.Kernel.QueueCalls.{after_enqueue, after_effect, interrupt_effect}
 use Rattle.fuse_spec.specs.Kernel.Kernel.{Kernel, is_aborted, is_used, request_of, asking_for, advanced, released, released_if_idle, after_use, closed_by, closing_of, call_begun, after_signal, signalled_at, call_signalled}
-use Rattle.fuse_spec.specs.Kernel.Replies.{kernel_reply, looked_up, Use, usable, useless, stale, goes_with, judged, replied, replied_to_call, reply_received, without_stale, reply_judged, use_of_reply}
+use Rattle.fuse_spec.specs.Kernel.Replies.{kernel_reply, looked_up, Use, usable, unusable, stale, goes_with, judged, replied, replied_to_call, reply_received, without_stale, reply_judged, use_of_reply}
 
 pub record GoesOn (k l : Kernel) : Type 0 where
   pub phase : l.phase ≡ k.phase
@@ -106,7 +106,7 @@ replied_goes_on k call wire (Some state) = by (goes_with (asked state) wire)
         let went = advanced_goes_on (record (without_stale k wire) { nodes = looked_up k.nodes (files_in_reply x) }) call
         (call_replied k.vfs call state (kernel_reply (asked state) x)) in
         record { phase = went.phase; minor = went.minor; lists_files = went.lists_files; rises = went.rises }
-    judged_goes_on x useless = record { phase = refl; minor = refl; lists_files = refl; rises = omega arith }
+    judged_goes_on x unusable = record { phase = refl; minor = refl; lists_files = refl; rises = omega arith }
     judged_goes_on x (stale node) = record { phase = refl; minor = refl; lists_files = refl; rises = omega arith }
 
     by : (b : Bool) → GoesOn k (replied k call state b wire).1

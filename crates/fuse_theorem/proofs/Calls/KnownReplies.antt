@@ -1,4 +1,4 @@
--- What a call begins with, and what it hears, names known nodes.
+-- What a call begins with, and what it receives, names known nodes.
 use Rattle.fuse_theorem.proofs.Refining.Pairs.{told_files_with}
 use Rattle.std.proofs.Common.{◌≡◌, ℕ, Bool, true, false, cond, List, [], ◌∷◌, Option, Some, None, Result, Ok, Err, length, refl, subst, All, map, sym}
 use Rattle.std.specs.Prelude.{nat_lt, ◌||◌}
@@ -15,7 +15,7 @@ use Rattle.fuse_spec.specs.Values.Maps.{Map, get, remove}
 use Rattle.fuse_spec.specs.Kernel.Messages.{WireReply}
 use Rattle.fuse_spec.specs.Files.Operations.{Operation, DirentPlus, Reply, files_in, files_in_reply}
 use Rattle.fuse_spec.specs.Files.Operations as op
-use Rattle.fuse_spec.specs.Calls.Paths.{Name, words_of, parent_and_last}
+use Rattle.fuse_spec.specs.Calls.Paths.{Name, path_words_of, parent_and_last}
 use Rattle.fuse_spec.specs.Kernel.Replies.{kernel_reply}
 use Rattle.fuse_spec.specs.Calls.Walks.{files_of_plan}
 use Rattle.fuse_spec.specs.Calls.Vfs.{CallState, walking, doing, using, asked, Vfs, begun, bound, unbound, after_beginning, numbered}
@@ -36,7 +36,7 @@ module _ (nodes : Map Counted) where
 
   whole : (path : List ℕ) (then : List Name → Beginning ℕ Opened) → ((words : List Name) → BeginsKnown (then words))
       → BeginsKnown (whole_path path then)
-  whole path then each = by (words_of path)
+  whole path then each = by (path_words_of path)
     where
       by : (o : Result (List Name) ℕ) → BeginsKnown (elim o as
           (λ x. Beginning ℕ Opened) [ Err fault ↦ faulty fault | Ok words ↦ then words ])
@@ -113,7 +113,7 @@ module _ (nodes : Map Counted) where
           } in
           answered_known nodes (record (numbered c) { opens = remove c.opens handle }) closed c.next_call _
 
-  -- ---- a call hears a reply
+  -- ---- a call receives a reply
 
   -- the names of a list lead to known nodes
   all_bound_known : (d : ℕ) → IsKnown nodes d → (pairs : List (DirentPlus ℕ)) (c : Vfs Opened) → VfsKnown nodes c

@@ -11,7 +11,7 @@ use Rattle.fuse_spec.specs.declared.Purpose.TheVariants as purpose
 use Rattle.fuse_spec.specs.Calls.Answers as answer
 use Rattle.fuse_spec.specs.Calls.Begins.{Beginning, faulty, sets_out, uses, closes, whole_path, parent_path, beginning}
 use Rattle.fuse_spec.specs.Calls.Begins as begins
-use Rattle.fuse_spec.specs.Calls.Calls.{Call, spoken}
+use Rattle.fuse_spec.specs.Calls.Calls.{Call, for_minor}
 use Rattle.fuse_spec.specs.Calls.Calls as call
 use Rattle.fuse_spec.specs.Calls.CallReplies.{operation_replied, call_replied}
 use Rattle.fuse_spec.specs.Kernel.Kernel.{Kernel, is_aborted, kernel_aborted, advanced, after_use, closed_by, call_begun, after_signal, signalled_at, call_signalled, request_of}
@@ -19,10 +19,10 @@ use Rattle.fuse_spec.specs.Values.Maps.{Map, get, values}
 use Rattle.fuse_spec.specs.Kernel.Messages.{WireReply, asks}
 use Rattle.fuse_spec.specs.Files.Operations.{Operation, Reply, files_in_reply}
 use Rattle.fuse_spec.specs.Files.Operations as op
-use Rattle.fuse_spec.specs.Calls.Paths.{Name, words_of, parent_and_last}
+use Rattle.fuse_spec.specs.Calls.Paths.{Name, path_words_of, parent_and_last}
 use Rattle.fuse_spec.specs.Kernel.QueueCalls.{waiting, without, after_effect, interrupt_effect}
 use Rattle.fuse_spec.specs.Kernel.Queues.{QueueState}
-use Rattle.fuse_spec.specs.Kernel.Replies.{kernel_reply, looked_up, Use, usable, useless, stale, goes_with, is_agreement, judged, replied, replied_to_call, ended_by, request_reply_written, interrupt_reply_written, interrupt_replied, reply_written, reply_received, without_stale, reply_judged, use_of_reply, made_ready}
+use Rattle.fuse_spec.specs.Kernel.Replies.{kernel_reply, looked_up, Use, usable, unusable, stale, goes_with, is_agreement, judged, replied, replied_to_call, ended_by, request_reply_written, interrupt_reply_written, interrupt_replied, reply_written, reply_received, without_stale, reply_judged, use_of_reply, made_ready}
 use Rattle.fuse_spec.specs.Server.Server.{knows}
 use Rattle.fuse_spec.specs.Calls.Vfs.{asked, CallState, walking, doing, using, Vfs, answered, look, numbered, bound, begun, after_beginning, after_walk, walks_on}
 use Rattle.fuse_spec.specs.Calls.Walks.{FinalOperation, WalkPlan, last, rename, link, WalkStop, unknown, missing, arrived, go, after_last, after_stop, operation_at, Walked, looks_up, finds_none, walk}
@@ -97,7 +97,7 @@ OldBeginning (closes handle opened) = Unit {0}
 
 whole : (path : List ℕ) (then : List Name → Beginning ℕ Opened) → ((words : List Name) → OldBeginning (then words))
     → OldBeginning (whole_path path then)
-whole path then each = by (words_of path)
+whole path then each = by (path_words_of path)
   where
     by : (o : Result (List Name) ℕ) → OldBeginning (elim o as
         (λ x. Beginning ℕ Opened) [ Err fault ↦ faulty fault | Ok words ↦ then words ])
@@ -127,7 +127,7 @@ closing_old handle None = tt
 closing_old handle (Some x) = tt
 
 -- A call that is put without files sets out for nothing that 7.15 doesn't know.
-beginning_old : (opens : Map Opened) (x : Call) → OldBeginning (beginning opens (spoken false x))
+beginning_old : (opens : Map Opened) (x : Call) → OldBeginning (beginning opens (for_minor false x))
 beginning_old opens (call.stat path) = whole path _ (λ words. tt)
 beginning_old opens (call.list path after) = whole path _ (λ words. tt)
 beginning_old opens (call.listplus path after) = whole path _ (λ words. tt)
@@ -144,9 +144,9 @@ beginning_old opens (call.write handle offset bytes) =
 beginning_old opens (call.close handle) = closing_old handle (get opens handle)
 
 begun_old : (aborted : Bool) (c : Vfs Opened) → OldCalls c → (x : Call)
-    → OldCalls (begun aborted c (spoken false x)).vfs
+    → OldCalls (begun aborted c (for_minor false x)).vfs
 begun_old true c old x = All-gone OldState c.calls c.next_call old
-begun_old false c old x = by (beginning c.opens (spoken false x)) (beginning_old c.opens x)
+begun_old false c old x = by (beginning c.opens (for_minor false x)) (beginning_old c.opens x)
   where
     by : (b : Beginning ℕ Opened) → OldBeginning b → OldCalls (after_beginning (numbered c) c.next_call b).vfs
     by (faulty errno) h = All-gone OldState c.calls c.next_call old
@@ -154,7 +154,7 @@ begun_old false c old x = by (beginning c.opens (spoken false x)) (beginning_old
     by (uses handle operation) h = All-put OldState c.calls c.next_call (using handle operation) old h
     by (closes handle o) h = All-gone OldState c.calls c.next_call old
 
--- ---- a call hears a reply
+-- ---- a call receives a reply
 
 operation_old : (c : Vfs Opened) → OldCalls c → (call : ℕ) (operation : Operation ℕ Opened) (reply : Reply ℕ Opened)
     → OldCalls (operation_replied c call operation reply)
@@ -186,12 +186,12 @@ replied_old c old call (using handle operation) h reply = operation_old c old ca
 -- ---- the kernel
 
 module _ (k : Kernel) (old : OldCalls k.vfs) where
-  pub begins_old : (x : Call) → OldCalls (call_begun k (spoken false x)).vfs
+  pub begins_old : (x : Call) → OldCalls (call_begun k (for_minor false x)).vfs
   begins_old x =
-      let next = begun (is_aborted k.phase) k.vfs (spoken false x) in
+      let next = begun (is_aborted k.phase) k.vfs (for_minor false x) in
       let asking_it = advanced k k.vfs.next_call next in
       subst OldCalls (sym (closing_vfs asking_it (cond (is_aborted k.phase) None
-      (closed_by k.vfs.opens (spoken false x))) ∙ advanced_vfs k k.vfs.next_call next))
+      (closed_by k.vfs.opens (for_minor false x))) ∙ advanced_vfs k k.vfs.next_call next))
       (begun_old (is_aborted k.phase) k.vfs old x)
 
   used_old : (state : CallState Opened) (q : Kernel) → OldCalls q.vfs → OldCalls (after_use q state).vfs
@@ -224,13 +224,13 @@ module _ (k : Kernel) (old : OldCalls k.vfs) where
         nodes = looked_up k.nodes (files_in_reply wire);
       }) call next))
       (replied_old k.vfs old call state h (kernel_reply (asked state) wire))
-  judged_old q call state h wire useless = answered_old k.vfs old call (answer.failed 5)
+  judged_old q call state h wire unusable = answered_old k.vfs old call (answer.failed 5)
   judged_old q call state h wire (stale node) = answered_old k.vfs old call (answer.failed 5)
 
-  pub hears_old : (call : ℕ) (wire : WireReply) (o : Option (CallState Opened)) → get k.vfs.calls call ≡ o
+  pub receives_old : (call : ℕ) (wire : WireReply) (o : Option (CallState Opened)) → get k.vfs.calls call ≡ o
       → OldCalls (replied_to_call k call wire o).1.vfs
-  hears_old call wire None there = old
-  hears_old call wire (Some state) there = by (goes_with (asked state) wire)
+  receives_old call wire None there = old
+  receives_old call wire (Some state) there = by (goes_with (asked state) wire)
     where
       by : (b : Bool) → OldCalls (replied k call state b wire).1.vfs
       by true = used_old state (reply_received k call state wire)
@@ -250,7 +250,7 @@ written_old k old unique wire = by (nat_eq (unique % 2) 1)
         agreed_or true = h
         agreed_or false = All-nil OldState
     ended q (purpose.Release o) h = h
-    ended q (purpose.Call call) h = hears_old q h call wire (get q.vfs.calls call) refl
+    ended q (purpose.Call call) h = receives_old q h call wire (get q.vfs.calls call) refl
 
     even : (o : Option Purpose) → OldCalls (request_reply_written k unique wire o).1.vfs
     even None = old

@@ -14,7 +14,7 @@ use Rattle.fuse_spec.specs.Kernel.Kernel.{closed_by}
 use Rattle.fuse_spec.specs.Values.Maps.{Map, get}
 use Rattle.fuse_spec.specs.Kernel.Messages.{WireReply}
 use Rattle.fuse_spec.specs.Files.Operations.{Operation, lookup, getattr, mkdir, create, unlink, rmdir, rename, link, opening, readdir, readdirplus, read, write, Reply, found, missing, created, opened, attributes, listed, listed_plus, content, written, done, failed}
-use Rattle.fuse_spec.specs.Calls.Paths.{Name, words_of, parent_and_last}
+use Rattle.fuse_spec.specs.Calls.Paths.{Name, path_words_of, parent_and_last}
 use Rattle.fuse_spec.specs.Kernel.Replies.{kernel_reply, goes_with}
 use Rattle.fuse_spec.specs.Calls.Vfs.{CallState, walking, doing, using, Vfs, look, answered, asking, bound, unbound, opened_by, after_walk, after_beginning}
 use Rattle.fuse_spec.specs.Calls.Walks.{FinalOperation, WalkPlan, last, WalkStop, unknown, arrived, go, Walked, looks_up, finds_none, asks, operation_at, after_last, after_stop, walk}
@@ -117,7 +117,7 @@ pub data BeginsAs (opens : Map Opened) : Beginning ℕ Opened → Option (ℕ ×
 module _ (opens : Map Opened) where
   whole : (path : List ℕ) (then : List Name → Beginning ℕ Opened)
       → ((words : List Name) → BeginsAs opens (then words) None) → BeginsAs opens (whole_path path then) None
-  whole path then each = by (words_of path)
+  whole path then each = by (path_words_of path)
     where
       by : (o : Result (List Name) ℕ) → BeginsAs opens
           (elim o as (λ x. Beginning ℕ Opened) [ Err fault ↦ faulty fault | Ok words ↦ then words ]) None
@@ -178,7 +178,7 @@ begun_steps c call b (reads handle operation o at is) =
     IsThere : Map Opened → Opened → Type 0
     IsThere closing x = (get c.opens handle ≡ Some x) ⊎ (get closing handle ≡ Some x)
 
--- ---- a call hears a reply
+-- ---- a call receives a reply
 
 -- The file that the reply opens for the operation.
 abbrev pub gained_by : Operation ℕ Opened → Reply ℕ Opened → Option Opened

@@ -206,8 +206,8 @@ module _ {O P : Type 0} (R : ℕ → ℕ → Type 0) (S : O → P → Type 0) (o
   told_call_by c d same call (using n a) (walking y word' words' plan') s t h k = absurd h
   told_call_by c d same call (using n a) (doing b) s t h k = absurd h
 
-  pub told_call_alike : (c : Vfs O) (d : Vfs P) → VfsAlike R S c d
+  pub reply_step_refines : (c : Vfs O) (d : Vfs P) → VfsAlike R S c d
       → (call : ℕ) (st : CallState O) (st' : CallState P) (s : Reply ℕ O) (t : Reply ℕ P) → StateAlike R S st st'
       → ReplyAlike R S s t
       → AdvanceAlike (call_replied c call st s) (call_replied d call st' t)
-  told_call_alike c d same call st st' s t h k = told_call_by c d same call st st' s t h (same_reply R S s t k)
+  reply_step_refines c d same call st st' s t h k = told_call_by c d same call st st' s t h (same_reply R S s t k)

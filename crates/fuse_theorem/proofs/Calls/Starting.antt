@@ -82,17 +82,17 @@ after_beginning_alike {O} {P} R S one c d same call (closes n o) (closes m p) h 
 after_beginning_alike R S one c d same call b b' h = absurd h
 
 -- A call begins alike, live or aborted.
-pub begun_alike : {O P : Type 0} (R : ℕ → ℕ → Type 0) (S : O → P → Type 0) (one : IsOneToOne R) (c : Vfs O) (d : Vfs P)
+pub begin_refines : {O P : Type 0} (R : ℕ → ℕ → Type 0) (S : O → P → Type 0) (one : IsOneToOne R) (c : Vfs O) (d : Vfs P)
     → VfsAlike R S c d → (aborted : Bool) (call : Call)
     → AdvanceAlike R S one (begun aborted c call) (begun aborted d call)
-begun_alike {O} {P} R S one c d same true call =
+begin_refines {O} {P} R S one c d same true call =
     record {
       vfs = answered_alike R S one (numbered c) (numbered d)
           (numbered_alike R S c d same) c.next_call d.next_call (answer.failed 107)
           (answer.failed 107) same.next_call refl;
       operation = tt;
     }
-begun_alike {O} {P} R S one c d same false call =
+begin_refines {O} {P} R S one c d same false call =
     subst (λ (n : ℕ). AdvanceAlike R S one (after_beginning (numbered c) c.next_call (beginning c.opens call))
     (after_beginning (numbered d) n (beginning d.opens call))) same.next_call
     (after_beginning_alike R S one (numbered c) (numbered d) (numbered_alike R S c d same) c.next_call

@@ -1,7 +1,7 @@
 -- Each forget that is queued or sent is of a node from 2 up and of one lookup at least, and no reply is kept under the
 -- number of an INTERRUPT.
 use Rattle.fuse_theorem.proofs.Refining.SpokenStay.{spoken_after}
-use Rattle.fuse_spec.specs.Calls.Calls.{spoken}
+use Rattle.fuse_spec.specs.Calls.Calls.{for_minor}
 use Rattle.std.proofs.Common.{◌≡◌, ℕ, ◌+◌, ◌-◌, ◌≤◌, Bool, true, false, true≢false, cond, List, [], ◌∷◌, ◌++◌, take, drop, Option, Some, None, nat_eq, slice_get, refl, ap, sym, subst, ◌∙◌, arith, inl, inr, All}
 use Rattle.std.specs.Prelude.{◌%◌, nat_lt}
 use Rattle.std.specs.List.{remove as without_at}
@@ -21,12 +21,12 @@ use Rattle.fuse_spec.specs.Files.Operations.{DirentPlus, listed_by, listed_plus,
 use Rattle.fuse_spec.specs.Server.Performs.{performed, served}
 use Rattle.fuse_spec.specs.Kernel.QueueCalls.{can_read_forgets, waiting, without}
 use Rattle.fuse_spec.specs.Kernel.Queues.{pending}
-use Rattle.fuse_spec.specs.Kernel.Replies.{kernel_reply, looked_up, Use, usable, useless, stale, use_counted, first_use, use_of_all, goes_with, is_agreement, judged, replied, replied_to_call, request_reply_written, interrupt_reply_written, interrupt_replied, interrupt_reply_of, reply_written, reply_received, without_stale, reply_judged, use_of_reply, use_of, use_of_listed, looked_up_by, stale_in, stale_among, forgets_with, stale_in_reply, made_ready}
+use Rattle.fuse_spec.specs.Kernel.Replies.{kernel_reply, looked_up, Use, usable, unusable, stale, use_counted, first_use, use_of_all, goes_with, is_agreement, judged, replied, replied_to_call, request_reply_written, interrupt_reply_written, interrupt_replied, interrupt_reply_of, reply_written, reply_received, without_stale, reply_judged, use_of_reply, use_of, use_of_listed, looked_up_by, stale_in, stale_among, forgets_with, stale_in_reply, made_ready}
 use Rattle.fuse_spec.specs.Server.Server.{Server, HeldRequest, Kept, forgets_of}
 use Rattle.fuse_spec.specs.Server.Taking.{taking}
 use Rattle.fuse_spec.specs.Calls.Vfs.{CallState, asked, answered}
 use Rattle.fuse_spec.specs.Kernel.Uniques.{interrupt_number}
-use Rattle.fuse_spec.specs.World.Worlds.{World, first_world, forget_body, replying}
+use Rattle.fuse_spec.specs.World.Worlds.{World, first_world, forget_body, copy_put}
 use Rattle.fuse_spec.specs.World.Events.{Event, Outcome}
 use Rattle.fuse_spec.specs.World.Steps.{Happens}
 use Rattle.fuse_theorem.specs.AskedRequests.{RequestsAskedWhileLive}
@@ -68,7 +68,7 @@ stale_low nodes (g ∷ gs) node e = by (nat_lt g.nodeid 2) refl (get nodes g.nod
         generation false h = let same : g.nodeid ≡ node = cc (h) in subst (λ (n : ℕ). 2 ≤ n) same low
 
     by : (b : Bool) → nat_lt g.nodeid 2 ≡ b → (o : Option Counted)
-        → first_use (cond b useless (use_counted g o)) (use_of_all nodes gs) ≡ stale node
+        → first_use (cond b unusable (use_counted g o)) (use_of_all nodes gs) ≡ stale node
         → (use_of_all nodes gs ≡ stale node → 2 ≤ node) → 2 ≤ node
     by true is o f rest = absurd (cc (f))
     by false is o f rest = of_counted o (grind (arith, nat_tests, is)) f rest
@@ -80,7 +80,7 @@ told_low nodes (Some g) = by (use_of nodes g) refl
   where
     by : (u : Use) → use_of nodes g ≡ u → All Low (stale_in u)
     by usable e = All-nil Low
-    by useless e = All-nil Low
+    by unusable e = All-nil Low
     by (stale node) e = All-cons Low node [] (stale_low nodes (g ∷ []) node (ap (λ (u : Use). first_use u usable) e))
         (All-nil Low)
 
@@ -104,11 +104,11 @@ each_forget (node ∷ nodes) forgets old h =
     each_forget nodes (forgets ++ (node, 1) ∷ []) (All-push IsForget forgets (node, 1) old
     (All-head Low node nodes h, omega arith)) (All-tail Low node nodes h)
 
-heard_forgets : (k : Kernel) → All IsForget k.queues.forgets
+received_forgets : (k : Kernel) → All IsForget k.queues.forgets
     → (call : ℕ) (wire : WireReply) (o : Option (CallState Opened))
     → All IsForget (replied_to_call k call wire o).1.queues.forgets
-heard_forgets k old call wire None = old
-heard_forgets k old call wire (Some state) = by (goes_with (asked state) wire)
+received_forgets k old call wire None = old
+received_forgets k old call wire (Some state) = by (goes_with (asked state) wire)
   where
     stale_old : All IsForget (without_stale k wire).queues.forgets
     stale_old = each_forget (stale_in_reply k.nodes wire) k.queues.forgets old (in_reply_low k.nodes wire)
@@ -119,7 +119,7 @@ heard_forgets k old call wire (Some state) = by (goes_with (asked state) wire)
         let k1 = record (without_stale k wire) { nodes = looked_up k.nodes (files_in_reply x) } in
         let same = advanced_same k1 call (call_replied k.vfs call state (kernel_reply (asked state) x)) in
         same_forgets (without_stale k wire).queues.forgets _ same.forgets stale_old
-    judged_forgets x useless low = stale_old
+    judged_forgets x unusable low = stale_old
     judged_forgets x (stale node) low = All-push IsForget (without_stale k wire).queues.forgets (node, 1) stale_old
         (low node refl, omega arith)
 
@@ -155,7 +155,7 @@ written_forgets k old unique wire = by (nat_eq (unique % 2) 1)
     even None = old
     even (Some purpose.Init) = agrees (is_agreement wire)
     even (Some (purpose.Release o)) = old
-    even (Some (purpose.Call call)) = heard_forgets (record k { queues = without k.queues unique }) old call wire
+    even (Some (purpose.Call call)) = received_forgets (record k { queues = without k.queues unique }) old call wire
         (get k.vfs.calls call)
 
     by : (b : Bool) → All IsForget (cond b (interrupt_reply_written k unique wire (waiting k.queues (unique - 1)))
@@ -186,7 +186,7 @@ module _ (choice : ℕ → ℕ) (w : World) (sound : WorldSound w) (requests : R
       → All IsForget after.kernel.queues.forgets
   queued_after e o after (by_mount f m v idle) = All-nil IsForget
   queued_after e o after (by_call call ready room within) = let same =
-      begun_same w.kernel (spoken w.kernel.lists_files call) in
+      begun_same w.kernel (for_minor w.kernel.lists_files call) in
       same_forgets w.kernel.queues.forgets _ same.forgets old.queued
   queued_after e o after (by_read_interrupt original rest live there within) = old.queued
   queued_after e o after (by_read_forgets n live free can within few) = by (can_read_forgets w.kernel.queues n)
@@ -228,7 +228,7 @@ module _ (choice : ℕ → ℕ) (w : World) (sound : WorldSound w) (requests : R
   SentFine r = All IsForget (forgets_of r.body)
 
   replying_requests : (v : World) (number unique : ℕ) (o : Option WireReply)
-      → (replying v number unique o).requests ≡ v.requests
+      → (copy_put v number unique o).requests ≡ v.requests
   replying_requests v number unique None = refl
   replying_requests v number unique (Some wire) = refl
 
@@ -309,7 +309,7 @@ module _ (choice : ℕ → ℕ) (w : World) (sound : WorldSound w) (requests : R
       ]
 
   sent_off : (v : World) (number unique : ℕ) (o : Option WireReply) → KeptEven v.server.kept
-      → KeptEven (replying v number unique o).server.kept
+      → KeptEven (copy_put v number unique o).server.kept
   sent_off v number unique None h = h
   sent_off v number unique (Some wire) h = h
 
@@ -350,8 +350,8 @@ faultless_stay w sound requests links old e o after h =
       sent = sent_after h.0 w sound requests links old e o after did;
       kept =
           kept_even h.0 w sound requests links old e o after did;
-      spoken =
-          spoken_after h.0 w requests links old.spoken e o after did;
+      for_minor =
+          spoken_after h.0 w requests links old.for_minor e o after did;
     }
 
 pub first_faultless : Faultless first_world
@@ -359,5 +359,5 @@ first_faultless = record {
   queued = All-nil IsForget;
   sent = All-nil (λ (r : Request). All IsForget (forgets_of r.body));
   kept = λ u k at. absurd (cc);
-  spoken = λ live. absurd (true≢false (sym live));
+  for_minor = λ live. absurd (true≢false (sym live));
 }

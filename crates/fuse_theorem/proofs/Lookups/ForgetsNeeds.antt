@@ -15,7 +15,7 @@ use Rattle.fuse_spec.specs.Reference.Plain.{Plain}
 use Rattle.fuse_spec.specs.Kernel.Refusals.{found}
 use Rattle.fuse_spec.specs.World.Steps.{Happens, taking_request, settling, step}
 use Rattle.fuse_theorem.specs.Conditions.{OneId, HoldsAll}
-use Rattle.fuse_theorem.specs.EachEvent.{CanTake, Needs}
+use Rattle.fuse_theorem.specs.EachEvent.{CanTakeRequest, Needs}
 use Rattle.fuse_theorem.specs.EveryList.{BothSound}
 use Rattle.fuse_theorem.specs.ReleasesKnown.{ReleasesKnown}
 use Rattle.fuse_theorem.proofs.RefusalCases.Accepted.{going_ok}
@@ -26,7 +26,7 @@ use Rattle.fuse_theorem.proofs.Replies.KeptOnLink.{kept_stay_sent}
 use Rattle.fuse_theorem.proofs.Requests.LinksSound.{links_stay, none_at}
 use Rattle.fuse_theorem.proofs.OpenFiles.ReleasesStay.{releases_stay_known}
 use Rattle.fuse_theorem.proofs.Nodes.ServerSound.{one_id}
-use Rattle.fuse_theorem.proofs.Requests.StayAsked.{requests_stay_asked}
+use Rattle.fuse_theorem.proofs.Requests.RequestsMatchAsks.{requests_stay_asked}
 use Rattle.fuse_theorem.proofs.WholeLists.WorldSound.{worlds_stay}
 
 module _ (w : World) (p : Plain) (both : BothSound w p) (releases : ReleasesKnown w) where
@@ -83,7 +83,7 @@ module _ (w : World) (p : Plain) (both : BothSound w p) (releases : ReleasesKnow
     pub take_met : Needs choice w p (event.take k)
     take_met r there = by r.body refl
       where
-        by : (body : RequestBody) → r.body ≡ body → CanTake w p k r body
+        by : (body : RequestBody) → r.body ≡ body → CanTakeRequest w p k r body
         by (init flags) is = tt
         by (asks operation) is = tt
         by (release x) is = tt

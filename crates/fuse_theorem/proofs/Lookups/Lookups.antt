@@ -13,7 +13,7 @@ use Rattle.fuse_spec.specs.Files.Operations.{files_in_reply}
 use Rattle.fuse_spec.specs.Kernel.Kernel.{Kernel}
 use Rattle.fuse_spec.specs.Server.Nodes.{HeldNode, NodeTable, row_of, root_row}
 use Rattle.fuse_spec.specs.Server.Server.{Copy, count_in, forgotten, forgets_of}
-use Rattle.fuse_spec.specs.Claim.Counts.{Balance, counted, names_in, carried, refused}
+use Rattle.fuse_spec.specs.Claim.Counts.{Balance, counted, times_named, carried, refused}
 use Rattle.fuse_spec.specs.Claim.Denotes.{Denotes}
 use Rattle.fuse_spec.specs.World.Worlds.{World, Sent}
 use Rattle.fuse_theorem.specs.Lookups.{IsHeldAs, EntriesHeld, RefusedHeld, LookupsBalanced}
@@ -26,20 +26,20 @@ sent_forgets id requests = sum_by (λ (r : Request). forgotten id (forgets_of r.
 
 -- How often the copies on the reply link name a node, and how often the refused ones did.
 abbrev pub copies_name : ℕ → List Sent → ℕ
-copies_name id replies = sum_by (λ (s : Sent). names_in id s.wire) replies
+copies_name id replies = sum_by (λ (s : Sent). times_named id s.wire) replies
 
 abbrev pub refused_name : ℕ → Map Copy → List ReplyResult → ℕ
 refused_name id copies results = sum_by (λ (r : ReplyResult). refused r.result
-    (carried (names_in id) (get copies r.number))) results
+    (carried (times_named id) (get copies r.number))) results
 
 -- ---- what is counted is held
 
 -- A reply names what it names at least once.
 names_once : (wire : WireReply) (i : ℕ) (g : Entry) → i < length (files_in_reply wire)
-    → 1 ≤ names_in (get_or (files_in_reply wire) i g).nodeid wire
+    → 1 ≤ times_named (get_or (files_in_reply wire) i g).nodeid wire
 names_once wire i g lt =
     let id = (get_or (files_in_reply wire) i g).nodeid in
-    subst (λ (b : Bool). cond b 1 0 ≤ names_in id wire) (same_is id)
+    subst (λ (b : Bool). cond b 1 0 ≤ times_named id wire) (same_is id)
     (get_or-le-sum_by (λ (e : Entry). cond (nat_eq e.nodeid id) 1 0) (files_in_reply wire) i g lt)
 
 -- A node of a smaller table that is counted is held as before.
@@ -95,7 +95,7 @@ module _ (w : World) (old : LookupsBalanced w) where
         let entry = get_or (files_in_reply wire) j g in
         let was = old.copies i s lt j g inside in
         let named = names_once wire j g inside in
-        let sum = get_or-le-sum_by (λ (x : Sent). names_in entry.nodeid x.wire) w.replies i s lt in
+        let sum = get_or-le-sum_by (λ (x : Sent). times_named entry.nodeid x.wire) w.replies i s lt in
         let same : copies_name entry.nodeid v.replies ≡ copies_name entry.nodeid w.replies =
         ap (copies_name entry.nodeid) replies in
         let whole = balance entry.nodeid was.0 in (
@@ -110,7 +110,7 @@ module _ (w : World) (old : LookupsBalanced w) where
         let carries = refused_carries entry.nodeid (get_or v.results i r).result no_good copy
         (get v.server.copies (get_or v.results i r).number) there in
         let sum = get_or-le-sum_by (λ (x : ReplyResult). refused x.result
-        (carried (names_in entry.nodeid) (get v.server.copies x.number))) v.results i r lt in
+        (carried (times_named entry.nodeid) (get v.server.copies x.number))) v.results i r lt in
         let whole = balance entry.nodeid was.0 in (
           was.0,
           held_still w.server.nodes v.server.nodes fewer entry.nodeid entry.generation was.0 was.1
@@ -119,10 +119,10 @@ module _ (w : World) (old : LookupsBalanced w) where
   }
     where
       refused_carries : (id : ℕ) (result : WriteResult) → result ≢ Accepted → (copy : Copy) (o : Option Copy)
-          → o ≡ Some copy → names_in id copy.wire ≡ refused result (carried (names_in id) o)
+          → o ≡ Some copy → times_named id copy.wire ≡ refused result (carried (times_named id) o)
       refused_carries id Accepted no_good copy o at = absurd (no_good refl)
-      refused_carries id NoEntry no_good copy o at = ap (carried (names_in id)) (sym at)
-      refused_carries id Invalid no_good copy o at = ap (carried (names_in id)) (sym at)
+      refused_carries id NoEntry no_good copy o at = ap (carried (times_named id)) (sym at)
+      refused_carries id Invalid no_good copy o at = ap (carried (times_named id)) (sym at)
 
   -- The server holds as much as before or more.
   pub grown : (v : World) → ((i generation file : ℕ) → Denotes w.server.nodes i generation file

@@ -15,16 +15,16 @@ use Rattle.fuse_spec.specs.Server.Server.{Server, HeldRequest, Kept, Copy, forgo
 use Rattle.fuse_spec.specs.Server.Taking.{taking, interrupting}
 use Rattle.fuse_spec.specs.Server.Performs.{performed, served, files_given}
 use Rattle.fuse_spec.specs.Server.Copies.{is_current, sent_again, kept_after, after_result, given_back}
-use Rattle.fuse_spec.specs.Claim.Counts.{names_in, carried, refused}
+use Rattle.fuse_spec.specs.Claim.Counts.{times_named, carried, refused}
 use Rattle.fuse_spec.specs.Claim.Denotes.{Denotes}
-use Rattle.fuse_spec.specs.World.Worlds.{World, Sent, replying, after_take, after_perform, after_again, after_settle}
+use Rattle.fuse_spec.specs.World.Worlds.{World, Sent, copy_put, after_take, after_perform, after_again, after_settle}
 use Rattle.fuse_spec.proofs.Tables.{get_gone_there}
 use Rattle.fuse_theorem.specs.Copies.{CopiesSound}
 use Rattle.fuse_theorem.specs.Lookups.{EntriesHeld, RefusedHeld, LookupsBalanced}
 use Rattle.fuse_theorem.specs.ServerTables.{ServerSound}
 use Rattle.fuse_theorem.proofs.Replies.CopiesSound.{served_copies, results_still, results_apart}
 use Rattle.fuse_theorem.proofs.Refining.Forgetting.{all_less_denotes}
-use Rattle.fuse_theorem.proofs.Refining.Giving.{counted_denotes}
+use Rattle.fuse_theorem.proofs.Refining.LookupsCounted.{counted_denotes}
 use Rattle.fuse_theorem.proofs.Lists.LinkSums.{sum_removed, sum_same}
 use Rattle.fuse_theorem.proofs.Lookups.Lookups.{sent_forgets, copies_name, refused_name, shrunk, grown}
 use Rattle.fuse_theorem.proofs.Lookups.PerformedCounts.{Counts, performed_counts}
@@ -51,14 +51,14 @@ module _ (w : World) (old : LookupsBalanced w) (sound : CopiesSound w) (server :
 
     same_refused : (id : ℕ) → refused_name id s.copies w.results ≡ refused_name id w.server.copies w.results
     same_refused id =
-        sum_same (λ (r : ReplyResult). refused r.result (carried (names_in id) (get s.copies r.number)))
-        (λ (r : ReplyResult). refused r.result (carried (names_in id) (get w.server.copies r.number))) w.results
-        (λ i r lt. ap (λ (o : Option Copy). refused (get_or w.results i r).result (carried (names_in id) o))
+        sum_same (λ (r : ReplyResult). refused r.result (carried (times_named id) (get s.copies r.number)))
+        (λ (r : ReplyResult). refused r.result (carried (times_named id) (get w.server.copies r.number))) w.results
+        (λ i r lt. ap (λ (o : Option Copy). refused (get_or w.results i r).result (carried (times_named id) o))
         (same_copy i r lt))
 
     -- What it names is counted once more.
     copy_out : ((i generation file : ℕ) → Denotes w.server.nodes i generation file → Denotes s.nodes i generation file)
-        → ((id : ℕ) → count_of s.nodes id ≡ count_of w.server.nodes id + names_in id copy.wire)
+        → ((id : ℕ) → count_of s.nodes id ≡ count_of w.server.nodes id + times_named id copy.wire)
         → EntriesHeld s.nodes copy.wire
         → LookupsBalanced sent_world
     copy_out more counts held =
@@ -69,8 +69,8 @@ module _ (w : World) (old : LookupsBalanced w) (sound : CopiesSound w) (server :
         (λ i r lt other no_good there. old.refused i r lt other no_good (sym (same_copy i r lt) ∙ there))
         (λ id low.
         let whole = old.balance id low in
-        let pushed : copies_name id (w.replies ++ sent ∷ []) ≡ copies_name id w.replies + names_in id copy.wire =
-        sum_by_push (λ (x : Sent). names_in id x.wire) w.replies sent in
+        let pushed : copies_name id (w.replies ++ sent ∷ []) ≡ copies_name id w.replies + times_named id copy.wire =
+        sum_by_push (λ (x : Sent). times_named id x.wire) w.replies sent in
         let count = counts id in
         let forgets = same_forgets id in
         let back = same_refused id in
@@ -173,7 +173,7 @@ module _ (w : World) (old : LookupsBalanced w) (sound : CopiesSound w) (server :
           → (served choice w.server unique t).server.copies
           ≡ cond b w.server.copies (put w.server.copies w.server.next_copy
           (record { unique = unique; wire = (served choice w.server unique t).wire; first = w.server.next_copy }))
-          → LookupsBalanced (replying (record w {
+          → LookupsBalanced (copy_put (record w {
             server =
                 (served choice w.server unique t).server;
           }) w.server.next_copy unique
@@ -208,9 +208,9 @@ module _ (w : World) (old : LookupsBalanced w) (sound : CopiesSound w) (server :
   module _ (k : ℕ) (result : ReplyResult) (there : slice_get w.results k ≡ Some result) where
     -- how often the refused copies name a node without this result
     refused_less : (id : ℕ) → refused_name id w.server.copies (without_at w.results k) + refused result.result
-        (carried (names_in id) (get w.server.copies result.number)) ≡ refused_name id w.server.copies w.results
+        (carried (times_named id) (get w.server.copies result.number)) ≡ refused_name id w.server.copies w.results
     refused_less id = sum_removed (λ (r : ReplyResult). refused r.result
-        (carried (names_in id) (get w.server.copies r.number))) w.results k result there
+        (carried (times_named id) (get w.server.copies r.number))) w.results k result there
 
     abbrev left : Map Copy
     left = remove w.server.copies result.number
@@ -222,11 +222,11 @@ module _ (w : World) (old : LookupsBalanced w) (sound : CopiesSound w) (server :
     same_others : (id : ℕ) → refused_name id left (without_at w.results k)
         ≡ refused_name id w.server.copies (without_at w.results k)
     same_others id =
-        sum_same (λ (r : ReplyResult). refused r.result (carried (names_in id) (get left r.number)))
-        (λ (r : ReplyResult). refused r.result (carried (names_in id) (get w.server.copies r.number)))
+        sum_same (λ (r : ReplyResult). refused r.result (carried (times_named id) (get left r.number)))
+        (λ (r : ReplyResult). refused r.result (carried (times_named id) (get w.server.copies r.number)))
         (without_at w.results k)
         (λ i r lt. ap (λ (o : Option Copy). refused (get_or (without_at w.results k) i r).result
-        (carried (names_in id) o)) (others_same i r lt))
+        (carried (times_named id) o)) (others_same i r lt))
 
     others_held : All (RefusedHeld w.server.nodes left) (without_at w.results k)
     others_held i r lt copy no_good at = All-without
@@ -240,9 +240,9 @@ module _ (w : World) (old : LookupsBalanced w) (sound : CopiesSound w) (server :
       balance = λ id low.
           let whole = old.balance id low in
           let less = refused_less id in
-          let nothing : refused result.result (carried (names_in id) (get w.server.copies result.number)) ≡ 0 =
+          let nothing : refused result.result (carried (times_named id) (get w.server.copies result.number)) ≡ 0 =
           ap (λ (o : Option Copy). refused result.result (carried
-          (names_in id) o)) none ∙ refused_none result.result in
+          (times_named id) o)) none ∙ refused_none result.result in
           omega (arith, whole, less, nothing);
       known = old.known;
       copies = old.copies;
@@ -268,8 +268,8 @@ module _ (w : World) (old : LookupsBalanced w) (sound : CopiesSound w) (server :
           let whole = old.balance id low in
           let fewer = refused_less id in
           let same = same_others id in
-          let nothing : refused result.result (carried (names_in id) (get w.server.copies result.number)) ≡ 0 =
-          ap (λ (r : WriteResult). refused r (carried (names_in id) (get w.server.copies result.number))) good in
+          let nothing : refused result.result (carried (times_named id) (get w.server.copies result.number)) ≡ 0 =
+          ap (λ (r : WriteResult). refused r (carried (times_named id) (get w.server.copies result.number))) good in
           omega (arith, whole, fewer, same, nothing))
 
       -- The kernel refused it, and what it carried is given back.
@@ -283,8 +283,8 @@ module _ (w : World) (old : LookupsBalanced w) (sound : CopiesSound w) (server :
           let whole = old.balance id low in
           let fewer = refused_less id in
           let same = same_others id in
-          let carries : refused result.result (carried (names_in id) (get w.server.copies result.number))
-          ≡ names_in id copy.wire = all _ ∙ ap (carried (names_in id)) known in
+          let carries : refused result.result (carried (times_named id) (get w.server.copies result.number))
+          ≡ times_named id copy.wire = all _ ∙ ap (carried (times_named id)) known in
           let back = back_counts w.server.nodes copy.wire (All-at
           (RefusedHeld w.server.nodes w.server.copies) w.results k result old.refused there copy no_good known) id
           (omega (arith, whole, fewer, carries)) in

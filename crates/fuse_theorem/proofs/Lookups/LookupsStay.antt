@@ -1,6 +1,6 @@
 -- Lookups stay balanced, whatever happens.
 use Rattle.fuse_spec.specs.Values.Numbers.{init_flags}
-use Rattle.fuse_spec.specs.Calls.Calls.{spoken}
+use Rattle.fuse_spec.specs.Calls.Calls.{for_minor}
 use Rattle.fuse_spec.specs.declared.Minor.{Minor}
 use Rattle.std.proofs.Common.{◌≡◌, ℕ, ◌+◌, ◌≤◌, Bool, true, false, true≢false, cond, List, [], ◌∷◌, ◌++◌, take, drop, Option, Some, None, nat_eq, slice_get, option_map, refl, ap, sym, subst, ◌∙◌, arith, inl, inr, All}
 use Rattle.std.specs.List.{remove as without_at}
@@ -31,7 +31,7 @@ use Rattle.fuse_spec.specs.Server.Copies.{after_result, kept_after}
 use Rattle.fuse_spec.specs.Kernel.Replies.{reply_written}
 use Rattle.fuse_spec.specs.Claim.Counts.{counted}
 use Rattle.fuse_spec.specs.Claim.Denotes.{Denotes}
-use Rattle.fuse_spec.specs.World.Worlds.{World, Sent, replying, forget_body, first_world, server_settled, after_mount, after_read_interrupt, after_read_forgets, after_read_pending, after_take, after_perform, after_write, after_drop, after_evict}
+use Rattle.fuse_spec.specs.World.Worlds.{World, Sent, copy_put, forget_body, first_world, server_settled, after_mount, world_after_read_interrupt, world_after_read_forgets, world_after_read_pending, after_take, after_perform, after_write, after_drop, after_evict}
 use Rattle.fuse_spec.specs.World.Events.{Event, Outcome}
 use Rattle.fuse_spec.specs.World.Steps.{MayStep, MayChooseFor, Happens}
 use Rattle.fuse_theorem.specs.Conditions.{KnownAreHeld}
@@ -43,10 +43,10 @@ use Rattle.fuse_theorem.proofs.Calls.Finding.{other_is}
 use Rattle.fuse_theorem.proofs.Calls.CallsContinue.{begun_goes_on, signalled_goes_on}
 use Rattle.fuse_theorem.proofs.RefusalCases.Happened.{Happened, by_mount, by_call, by_read_interrupt, by_read_forgets, by_read_pending, by_take, by_perform, by_again, by_write, by_settle, by_signal, by_tick, by_drop, by_evict, by_abort, happened}
 use Rattle.fuse_theorem.proofs.Lookups.Lookups.{sent_forgets, kernel_moves}
-use Rattle.fuse_theorem.proofs.Lookups.LookupsHeard.{written_balanced}
+use Rattle.fuse_theorem.proofs.Lookups.LookupsAfterReply.{written_balanced}
 use Rattle.fuse_theorem.proofs.Lookups.LookupsServed.{taken_balanced, performed_balanced, again_balanced, settled_balanced}
 use Rattle.fuse_theorem.proofs.Nodes.NodesSound.{left_found, put_found}
-use Rattle.fuse_theorem.proofs.Requests.NumbersStay.{ReceivesReply, goes_on, ends, calls_of, written_heard, unheard, replying_kernel, numbers_stay, first_numbers}
+use Rattle.fuse_theorem.proofs.Requests.NumbersStay.{ReceivesReply, goes_on, ends, calls_of, written_received, unreceived, replying_kernel, numbers_stay, first_numbers}
 use Rattle.fuse_theorem.proofs.Lookups.PerformedCounts.{Counts, performed_counts}
 use Rattle.fuse_theorem.proofs.Requests.PerformedRest.{performed_rest}
 use Rattle.fuse_theorem.proofs.Lookups.RowCounts.{evicted_count}
@@ -61,7 +61,7 @@ moves : (w : World) → LookupsBalanced w → (k : Kernel) → SameCounts w.kern
 moves w old k same = kernel_moves w old k w.requests same.nodes
     (λ id. ap (λ (fs : List Forget). forgotten id fs + sent_forgets id w.requests) same.forgets)
 
-read_interrupt : (w : World) → LookupsBalanced w → (original : ℕ) → LookupsBalanced (after_read_interrupt w original)
+read_interrupt : (w : World) → LookupsBalanced w → (original : ℕ) → LookupsBalanced (world_after_read_interrupt w original)
 read_interrupt w old original =
     let new : Request = record { unique = interrupt_number original; body = interrupt original } in
     kernel_moves w old (record w.kernel { queues = queues.after_read_interrupt w.kernel.queues })
@@ -77,7 +77,7 @@ forget_body_is (f ∷ []) = refl
 forget_body_is (f ∷ g ∷ fs) = refl
 
 read_forgets : (w : World) → LookupsBalanced w → (n : ℕ) → queues.can_read_forgets w.kernel.queues n ≡ true
-    → LookupsBalanced (after_read_forgets w n (take n w.kernel.queues.forgets))
+    → LookupsBalanced (world_after_read_forgets w n (take n w.kernel.queues.forgets))
 read_forgets w old n can = by (queues.can_read_forgets w.kernel.queues n) can
   where
     by : (b : Bool) → b ≡ true → LookupsBalanced (record w {
@@ -123,7 +123,7 @@ body_forgets k (purpose.Call call) body says = by (get k.vfs.calls call) says
     by (Some state) e = let is : asks (asked state) ≡ body = cc in ap forgets_of (sym is)
 
 read_pending : (w : World) → LookupsBalanced w → (k unique : ℕ) (kept : Purpose) (body : RequestBody)
-    → body_of w.kernel kept ≡ Some body → LookupsBalanced (after_read_pending w k unique body)
+    → body_of w.kernel kept ≡ Some body → LookupsBalanced (world_after_read_pending w k unique body)
 read_pending w old k unique kept body says =
     let new : Request = record { unique = unique; body = body } in
     let forgets = read_same w.kernel.queues (slice_get (pending w.kernel.queues) k) in
@@ -171,7 +171,7 @@ KeptNamed kept = (unique : ℕ) (k : Kept) → get kept unique ≡ Some k
     → All (λ (g : Entry). 2 ≤ g.nodeid) (files_in_reply k.wire)
 
 sent_off : (w : World) (number unique : ℕ) (o : Option WireReply) → KeptNamed w.server.kept
-    → KeptNamed (replying w number unique o).server.kept
+    → KeptNamed (copy_put w number unique o).server.kept
 sent_off w number unique None named = named
 sent_off w number unique (Some wire) named = named
 
@@ -296,16 +296,16 @@ module _ (choice : ℕ → ℕ) (w : World) (s : LookupsSound w) where
       by false dead =
           let numbers = s.numbers in
           absurd (true≢false (sym live ∙ ap (λ (k : Kernel). is_live k.phase)
-          (unheard w.kernel (numbers.idle dead) sent.unique sent.wire) ∙ dead))
+          (unreceived w.kernel (numbers.idle dead) sent.unique sent.wire) ∙ dead))
 
   balanced_after : (e : Event) (o : Outcome) (after : World) → MayStep choice w e → Happened choice w e o after
       → is_live after.kernel.phase ≡ true → LookupsBalanced after
   balanced_after e o after may (by_mount f m v idle) live = fresh w f m v
   balanced_after e o after may (by_call call ready room within) live =
-      let goes = begun_goes_on w.kernel (spoken w.kernel.lists_files call) in
+      let goes = begun_goes_on w.kernel (for_minor w.kernel.lists_files call) in
       moves w (s.balanced (sym (ap is_live goes.phase) ∙ live))
-      (call_begun w.kernel (spoken w.kernel.lists_files call))
-      (begun_same w.kernel (spoken w.kernel.lists_files call))
+      (call_begun w.kernel (for_minor w.kernel.lists_files call))
+      (begun_same w.kernel (for_minor w.kernel.lists_files call))
   balanced_after e o after may (by_read_interrupt original rest was there within) live =
       read_interrupt w (s.balanced was) original
   balanced_after e o after may (by_read_forgets n was free can within few) live = read_forgets w (s.balanced was) n can
@@ -360,17 +360,17 @@ module _ (choice : ℕ → ℕ) (w : World) (s : LookupsSound w) where
 
       by : (b : Bool) → is_live w.kernel.phase ≡ b → (reply_written w.kernel sent.unique sent.wire).1.nodes ≡ []
       by true live = let numbers = s.numbers in let old =
-          numbers.live live in reply_received (written_heard w.kernel live old.queues
+          numbers.live live in reply_received (written_received w.kernel live old.queues
           (calls_of w old) sent.unique sent.wire)
       by false was = let numbers = s.numbers in ap (λ (k : Kernel). k.nodes)
-          (unheard w.kernel (numbers.idle was) sent.unique sent.wire) ∙ s.uncounted was
+          (unreceived w.kernel (numbers.idle was) sent.unique sent.wire) ∙ s.uncounted was
 
   uncounted_after : (e : Event) (o : Outcome) (after : World) → Happened choice w e o after
       → is_live after.kernel.phase ≡ false → after.kernel.nodes ≡ []
   uncounted_after e o after (by_mount f m v idle) dead = refl
   uncounted_after e o after (by_call call ready room within) dead =
-      let goes = begun_goes_on w.kernel (spoken w.kernel.lists_files call) in
-      let same = begun_same w.kernel (spoken w.kernel.lists_files call) in
+      let goes = begun_goes_on w.kernel (for_minor w.kernel.lists_files call) in
+      let same = begun_same w.kernel (for_minor w.kernel.lists_files call) in
       same.nodes ∙ s.uncounted (sym (ap is_live goes.phase) ∙ dead)
   uncounted_after e o after (by_read_interrupt original rest live there within) dead =
       lives_on after.kernel refl live dead

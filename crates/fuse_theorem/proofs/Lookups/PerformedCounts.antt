@@ -14,11 +14,11 @@ use Rattle.fuse_spec.specs.Files.Trees.{Tree}
 use Rattle.fuse_spec.specs.Server.Nodes.{HeldNode, NodeTable, file_of, is_open, MayName, IsUnheld, MayChoose, given, all_given, handle_back, given_row}
 use Rattle.fuse_spec.specs.Server.Server.{Server, HeldRequest}
 use Rattle.fuse_spec.specs.Server.Performs.{PerformResult, file_operation_of, is_open_for, doing, wire_of, refusing, performing, performed, is_still_held, files_by, files_given, entry_for, init_reply}
-use Rattle.fuse_spec.specs.Claim.Counts.{names_in}
+use Rattle.fuse_spec.specs.Claim.Counts.{times_named}
 use Rattle.fuse_spec.specs.Claim.Denotes.{Denotes}
 use Rattle.fuse_theorem.specs.Lookups.{IsHeldAs, EntriesHeld}
 use Rattle.fuse_theorem.specs.ServerTables.{NodesSound}
-use Rattle.fuse_theorem.proofs.Refining.Giving.{all_given_denotes}
+use Rattle.fuse_theorem.proofs.Refining.LookupsCounted.{all_given_denotes}
 use Rattle.fuse_theorem.proofs.Refining.Naming.{all_given_nodes}
 use Rattle.fuse_theorem.proofs.Nodes.NodesSound.{put_found}
 use Rattle.fuse_theorem.proofs.Refining.Pairs.{files_with}
@@ -56,11 +56,11 @@ named_times choice t tree (f ∷ files) id =
 -- each file that it names is counted once more
 wire_counts : (choice : ℕ → ℕ) (t : NodeTable) (tree : Tree) (fh : ℕ) (reply : Reply ℕ ℕ) (id : ℕ)
     → count_of (all_given choice t (files_in_reply reply)) id
-    ≡ count_of t id + names_in id (wire_of choice (all_given choice t (files_in_reply reply)) tree fh reply)
+    ≡ count_of t id + times_named id (wire_of choice (all_given choice t (files_in_reply reply)) tree fh reply)
 wire_counts choice t tree fh reply id =
     let last = all_given choice t (files_in_reply reply) in
     let given = given_times choice (files_in_reply reply) t id in
-    let named : names_in id (wire_of choice last tree fh reply) ≡ times choice id (files_in_reply reply) =
+    let named : times_named id (wire_of choice last tree fh reply) ≡ times choice id (files_in_reply reply) =
     ap (λ (gs : List Entry). count_by (λ (g : Entry). nat_eq g.nodeid id) gs)
     (files_with (entry_for choice last tree) (λ (file : ℕ). fh) reply) ∙ named_times choice last tree
     (files_in_reply reply) id in
@@ -109,7 +109,7 @@ wire_held choice t sound tree fh reply may =
 -- What becomes of the nodes: they grow by what the reply names, which is held, or nothing is named.
 pub record Counts (s : Server) (did : PerformResult) : Type 0 where
   pub more : (i generation file : ℕ) → Denotes s.nodes i generation file → Denotes did.server.nodes i generation file
-  pub counts : s.aborted ≡ false → (id : ℕ) → count_of did.server.nodes id ≡ count_of s.nodes id + names_in id did.wire
+  pub counts : s.aborted ≡ false → (id : ℕ) → count_of did.server.nodes id ≡ count_of s.nodes id + times_named id did.wire
   pub same : s.aborted ≡ true → did.server.nodes ≡ s.nodes
   pub held : EntriesHeld did.server.nodes did.wire
 
@@ -138,7 +138,7 @@ module _ (choice : ℕ → ℕ) (s : Server) (sound : NodesSound s.nodes) where
       more = λ i generation file d. by_more s.aborted i generation file d;
       counts = λ live id.
           subst (λ (b : Bool). count_of (cond b s.nodes given_nodes) id
-          ≡ count_of s.nodes id + names_in id (cond b (failed (errno_of reply)) sent_wire)) (sym live)
+          ≡ count_of s.nodes id + times_named id (cond b (failed (errno_of reply)) sent_wire)) (sym live)
           (wire_counts choice s.nodes (tree_after s.tree operation) s.handles.next_fh reply id);
       same = λ dead. ap (λ (b : Bool). cond b s.nodes given_nodes) dead;
       held = by_held s.aborted may;

@@ -12,12 +12,12 @@ use Rattle.fuse_spec.specs.Files.Operations.{files_in_reply}
 use Rattle.fuse_spec.specs.Server.Nodes.{HeldNode, NodeTable, taken_back, row_of, root_row, is_row_of, is_held, row_more}
 use Rattle.fuse_spec.specs.Server.Copies.{rows_counted, row_back, rows_back}
 use Rattle.fuse_spec.specs.Claim.Denotes.{Denotes}
-use Rattle.fuse_spec.specs.Claim.Counts.{names_in}
+use Rattle.fuse_spec.specs.Claim.Counts.{times_named}
 use Rattle.fuse_spec.proofs.QueueCounts.{count_by-cons}
 use Rattle.fuse_theorem.specs.Lookups.{IsHeldAs, EntriesHeld}
 use Rattle.fuse_theorem.proofs.Calls.Finding.{same_is, other_is}
 use Rattle.fuse_theorem.proofs.Refining.Forgetting.{less_denotes}
-use Rattle.fuse_theorem.proofs.Refining.Giving.{more_denotes}
+use Rattle.fuse_theorem.proofs.Refining.LookupsCounted.{more_denotes}
 use Rattle.fuse_theorem.proofs.Lookups.Lookups.{held_still}
 use Rattle.fuse_theorem.proofs.Lookups.RowCounts.{count_of, taken_count, more_count}
 
@@ -71,7 +71,7 @@ row_there t id generation low held none =
 
 -- Where the entries are held, each is counted once more.
 pub more_counts : (t : NodeTable) (wire : WireReply) → EntriesHeld t wire → (id : ℕ)
-    → count_of (rows_counted t (files_in_reply wire)) id ≡ count_of t id + names_in id wire
+    → count_of (rows_counted t (files_in_reply wire)) id ≡ count_of t id + times_named id wire
 more_counts t wire held id = by (files_in_reply wire) t held
   where
     still : (t : NodeTable) (node : ℕ) (g : Entry) → Held t g → Held (row_more t node) g
@@ -116,8 +116,8 @@ current_held t wire low current = by (files_in_reply wire) low current
 -- ---- a refused copy comes back
 
 -- Where the entries are held and counted, each is counted once less.
-pub back_counts : (t : NodeTable) (wire : WireReply) → EntriesHeld t wire → (id : ℕ) → names_in id wire ≤ count_of t id
-    → count_of (rows_back t (files_in_reply wire)) id + names_in id wire ≡ count_of t id
+pub back_counts : (t : NodeTable) (wire : WireReply) → EntriesHeld t wire → (id : ℕ) → times_named id wire ≤ count_of t id
+    → count_of (rows_back t (files_in_reply wire)) id + times_named id wire ≡ count_of t id
 back_counts t wire held id few = by (files_in_reply wire) t
     (each_more {P = Held t} {Q = HeldHere t} (files_in_reply wire) (λ g h same. h) held) few
   where

@@ -1,5 +1,5 @@
 -- What the server holds of calls is named as the kernel knows it, whatever the event.
-use Rattle.fuse_spec.specs.Calls.Calls.{spoken}
+use Rattle.fuse_spec.specs.Calls.Calls.{for_minor}
 use Rattle.std.proofs.Common.{◌≡◌, ◌≢◌, ℕ, ◌-◌, Bool, true, false, true≢false, cond, List, [], ◌∷◌, map, Option, Some, None, nat_eq, slice_get, refl, ap, sym, subst, ◌∙◌, inl, inr, All}
 use Rattle.std.specs.Prelude.{◌%◌}
 use Rattle.std.specs.List.{list_any}
@@ -21,11 +21,11 @@ use Rattle.fuse_spec.specs.Kernel.QueueCalls.{waiting, without}
 use Rattle.fuse_spec.specs.Calls.Vfs.{CallState, asked, answered}
 use Rattle.fuse_spec.specs.Kernel.Kernel.{Kernel, is_live, is_pinned, is_bound, kernel_aborted, after_use}
 use Rattle.fuse_spec.specs.Server.Performs.{served}
-use Rattle.fuse_spec.specs.Kernel.Replies.{kernel_reply, looked_up, Use, usable, useless, stale, goes_with, is_agreement, judged, replied, replied_to_call, request_reply_written, interrupt_reply_written, interrupt_replied, reply_written, reply_received, without_stale, reply_judged, use_of_reply, made_ready}
+use Rattle.fuse_spec.specs.Kernel.Replies.{kernel_reply, looked_up, Use, usable, unusable, stale, goes_with, is_agreement, judged, replied, replied_to_call, request_reply_written, interrupt_reply_written, interrupt_replied, reply_written, reply_received, without_stale, reply_judged, use_of_reply, made_ready}
 use Rattle.fuse_spec.specs.Server.Server.{HeldRequest, Kept, Copy, nodes_of_body}
 use Rattle.fuse_spec.specs.Server.Taking.{taking, interrupting}
 use Rattle.fuse_spec.specs.Claim.Denotes.{generation_known}
-use Rattle.fuse_spec.specs.World.Worlds.{World, first_world, replying, after_take, after_perform, after_settle}
+use Rattle.fuse_spec.specs.World.Worlds.{World, first_world, copy_put, after_take, after_perform, after_settle}
 use Rattle.fuse_spec.specs.World.Events.{Event, Outcome}
 use Rattle.fuse_spec.specs.World.Steps.{Happens}
 use Rattle.fuse_theorem.specs.AskedRequests.{IsAsked, SentAsked, RequestsAskedWhileLive}
@@ -67,7 +67,7 @@ replied_grows k call wire (Some state) = by (goes_with (asked state) wire)
         let same = advanced_same k1 call (call_replied k.vfs call state (kernel_reply (asked state) x)) in
         same_grows k1.nodes (judged (without_stale k wire) call state x usable).nodes same.nodes id generation
         (looked_up_known (files_in_reply x) k.nodes id generation e)
-    judged_grows x useless = λ id generation e. e
+    judged_grows x unusable = λ id generation e. e
     judged_grows x (stale node) = λ id generation e. e
 
     by : (b : Bool) → Grows k.nodes (replied k call state b wire).1.nodes
@@ -219,9 +219,9 @@ module _ (Which : RequestBody → Type 0) (choice : ℕ → ℕ) (w : World) (so
           old live u x (left_found w.server.held unique u x
           (ap (λ (m : Map HeldRequest). get m u) (sym rest.held) ∙ at))
 
-      by : (o : Option WireReply) → AllHeld Which (replying
+      by : (o : Option WireReply) → AllHeld Which (copy_put
           (record w { server = (served choice w.server unique t).server }) w.server.next_copy unique o)
-          (replying (record w {
+          (copy_put (record w {
             server =
                 (served choice w.server unique t).server;
           }) w.server.next_copy unique o).server.held
@@ -268,8 +268,8 @@ module _ (Which : RequestBody → Type 0) (choice : ℕ → ℕ) (w : World) (so
   by_event : (e : Event) (o : Outcome) (after : World) → Happened choice w e o after → HeldOfWhileLive Which after
   by_event e o after (by_mount f m v idle) live = λ u x at. absurd (cc)
   by_event e o after (by_call call ready room within) live = λ u x at.
-      let goes = begun_goes_on w.kernel (spoken w.kernel.lists_files call) in
-      let same = begun_same w.kernel (spoken w.kernel.lists_files call) in
+      let goes = begun_goes_on w.kernel (for_minor w.kernel.lists_files call) in
+      let same = begun_same w.kernel (for_minor w.kernel.lists_files call) in
       carried Which w after x (same_grows w.kernel.nodes after.kernel.nodes same.nodes)
       (old (ap is_live (sym goes.phase) ∙ live) u x at)
   by_event e o after (by_read_interrupt original rest lives there within) live =
@@ -286,7 +286,7 @@ module _ (Which : RequestBody → Type 0) (choice : ℕ → ℕ) (w : World) (so
   by_event e o after (by_perform unique t there within) live = by (is_live w.kernel.phase) refl
     where
       same : (v : World) (number unique : ℕ) (o : Option WireReply)
-          → is_live (replying v number unique o).kernel.phase ≡ is_live v.kernel.phase
+          → is_live (copy_put v number unique o).kernel.phase ≡ is_live v.kernel.phase
       same v number unique None = refl
       same v number unique (Some wire) = refl
 

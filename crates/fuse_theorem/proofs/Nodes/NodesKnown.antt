@@ -12,7 +12,7 @@ use Rattle.fuse_spec.specs.declared.Purpose.{Purpose}
 use Rattle.fuse_spec.specs.declared.Purpose.TheVariants as purpose
 use Rattle.fuse_spec.specs.declared.QueuedRequest.{QueuedRequest}
 use Rattle.fuse_spec.specs.Calls.Answers as answer
-use Rattle.fuse_spec.specs.Calls.Calls.{Call, spoken}
+use Rattle.fuse_spec.specs.Calls.Calls.{Call, for_minor}
 use Rattle.fuse_spec.specs.Calls.CallReplies.{call_replied}
 use Rattle.fuse_spec.specs.Values.Maps.{Map, get, put, remove, values}
 use Rattle.fuse_spec.specs.Kernel.Messages.{WireReply}
@@ -20,12 +20,12 @@ use Rattle.fuse_spec.specs.Files.Operations.{Operation, done, failed, files_in_r
 use Rattle.fuse_spec.specs.Kernel.QueueCalls.{after_effect, interrupt_effect, waiting, without}
 use Rattle.fuse_spec.specs.Calls.Vfs.{CallState, walking, doing, using, asked, Vfs, Advance, answered, begun, given_up}
 use Rattle.fuse_spec.specs.Kernel.Kernel.{Kernel, is_aborted, request_of, nodes_of_state, is_released_by, is_pinned, is_bound, kernel_aborted, asking_for, advanced, released, released_if_idle, after_use, closed_by, closing_of, call_begun, after_signal, signalled_at, call_signalled}
-use Rattle.fuse_spec.specs.Kernel.Replies.{kernel_reply, looked_up, counted_more, Use, usable, useless, stale, goes_with, is_agreement, judged, replied, replied_to_call, request_reply_written, interrupt_reply_written, interrupt_replied, reply_written, reply_received, without_stale, reply_judged, use_of_reply, made_ready}
+use Rattle.fuse_spec.specs.Kernel.Replies.{kernel_reply, looked_up, counted_more, Use, usable, unusable, stale, goes_with, is_agreement, judged, replied, replied_to_call, request_reply_written, interrupt_reply_written, interrupt_replied, reply_written, reply_received, without_stale, reply_judged, use_of_reply, made_ready}
 use Rattle.fuse_spec.specs.Claim.Denotes.{generation_known}
 use Rattle.fuse_spec.proofs.Tables.{get_put_here}
 use Rattle.fuse_spec.specs.Server.Taking.{taking}
 use Rattle.fuse_spec.specs.Server.Performs.{served}
-use Rattle.fuse_spec.specs.World.Worlds.{World, first_world, replying}
+use Rattle.fuse_spec.specs.World.Worlds.{World, first_world, copy_put}
 use Rattle.fuse_spec.specs.World.Events.{Event, Outcome}
 use Rattle.fuse_spec.specs.World.Steps.{Happens}
 use Rattle.fuse_theorem.specs.WorldSound.{WorldSound}
@@ -146,10 +146,10 @@ signal_known k old call state fatal = by (request_of k call)
     by None = old
     by (Some unique) = effect unique (interrupt_effect k.queues unique fatal)
 
-heard_known : (k : Kernel) → NodesKnown k → (call : ℕ) (wire : WireReply) (o : Option (CallState Opened))
+received_known : (k : Kernel) → NodesKnown k → (call : ℕ) (wire : WireReply) (o : Option (CallState Opened))
     → get k.vfs.calls call ≡ o → NodesKnown (replied_to_call k call wire o).1
-heard_known k old call wire None there = old
-heard_known k old call wire (Some state) there = by (goes_with (asked state) wire)
+received_known k old call wire None there = old
+received_known k old call wire (Some state) there = by (goes_with (asked state) wire)
   where
     judged_known : (x : WireReply) (u : Use) → NodesKnown (judged (without_stale k wire) call state x u)
     judged_known x usable =
@@ -160,7 +160,7 @@ heard_known k old call wire (Some state) there = by (goes_with (asked state) wir
         (replied_known (looked_up k.nodes gs) k.vfs more call state x
         (All-get (StateKnown (looked_up k.nodes gs)) k.vfs.calls call state more.calls there)
         (entries_known gs k.nodes))
-    judged_known x useless = answered_known k.nodes k.vfs old call (answer.failed 5)
+    judged_known x unusable = answered_known k.nodes k.vfs old call (answer.failed 5)
     judged_known x (stale node) = answered_known k.nodes k.vfs old call (answer.failed 5)
 
     by : (b : Bool) → NodesKnown (replied k call state b wire).1
@@ -200,7 +200,7 @@ write_known k old root unique wire = by (nat_eq (unique % 2) 1)
     even None = old
     even (Some purpose.Init) = agrees (is_agreement wire)
     even (Some (purpose.Release o)) = old
-    even (Some (purpose.Call call)) = heard_known (record k { queues = without k.queues unique }) old call wire
+    even (Some (purpose.Call call)) = received_known (record k { queues = without k.queues unique }) old call wire
         (get k.vfs.calls call) refl
 
     by : (b : Bool) → NodesKnown (cond b (interrupt_reply_written k unique wire (waiting k.queues (unique - 1)))
@@ -265,13 +265,13 @@ module _ (choice : ℕ → ℕ) (w : World) (sound : WorldSound w) (old : NodesK
   root_is = sound.rooted.root
 
   replying_same : (v : World) (number unique : ℕ) (o : Option WireReply) → NodesKnown v.kernel
-      → NodesKnown (replying v number unique o).kernel
+      → NodesKnown (copy_put v number unique o).kernel
   replying_same v number unique None h = h
   replying_same v number unique (Some wire) h = h
 
   by_event : (e : Event) (o : Outcome) (after : World) → Happened choice w e o after → NodesKnown after.kernel
   by_event e o after (by_mount f m v idle) = empty_known w.kernel.vfs root_is
-  by_event e o after (by_call call ready room within) = call_known w.kernel old (spoken w.kernel.lists_files call)
+  by_event e o after (by_call call ready room within) = call_known w.kernel old (for_minor w.kernel.lists_files call)
   by_event e o after (by_read_interrupt original rest live there within) = old
   by_event e o after (by_read_forgets n live free can within few) = old
   by_event e o after (by_read_pending k unique kept body live free there says within) = old

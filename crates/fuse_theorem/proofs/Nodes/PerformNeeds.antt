@@ -15,7 +15,7 @@ use Rattle.fuse_spec.specs.World.Worlds.{World}
 use Rattle.fuse_spec.specs.Reference.Plain.{Plain}
 use Rattle.fuse_spec.specs.World.Events as event
 use Rattle.fuse_spec.specs.World.Steps.{MayStep, MayChooseFor}
-use Rattle.fuse_theorem.specs.Conditions.{OneId, CanPerform, HoldsAll, HoldsOpens}
+use Rattle.fuse_theorem.specs.Conditions.{OneId, CanPerformCall, HoldsAll, HoldsOpens}
 use Rattle.fuse_theorem.specs.EachEvent.{CanServe, Needs}
 use Rattle.fuse_theorem.specs.EachEvent as each
 use Rattle.fuse_theorem.specs.EveryList.{BothSound}
@@ -29,7 +29,7 @@ use Rattle.fuse_theorem.proofs.Requests.LinksSound.{none_in}
 use Rattle.fuse_theorem.proofs.Lookups.LookupsStay.{known_held}
 use Rattle.fuse_theorem.proofs.Nodes.NodesSound.{left_found}
 use Rattle.fuse_theorem.proofs.Refining.Performing.{may_choose}
-use Rattle.fuse_theorem.proofs.Refining.PerformingUnasked.{unheld}
+use Rattle.fuse_theorem.proofs.Refining.PerformingWithoutAsk.{unheld}
 use Rattle.fuse_theorem.proofs.Requests.RequestsAsked.{request_even}
 use Rattle.fuse_theorem.proofs.Nodes.ServerSound.{one_id, tables_sound}
 use Rattle.fuse_theorem.proofs.Requests.StandsOnce.{one_held}
@@ -91,7 +91,7 @@ module _ (w : World) (p : Plain) (both : BothSound w p) (unique : ℕ) (t : Held
         → (operation : Operation ℕ Opened) → t.body ≡ asks operation → t.marked ≡ false → CanServe choice w p unique t
     performs choice may operation is unmarked = by (is_live w.kernel.phase) refl
       where
-        can : CanPerform w unique t operation
+        can : CanPerformCall w unique t operation
         can = record {
           there = there;
           body_is = is;
@@ -109,7 +109,7 @@ module _ (w : World) (p : Plain) (both : BothSound w p) (unique : ℕ) (t : Held
             let serving = links.serving live in
             each.performs operation can serving (tables_sound w.server lookups.server) one (known_held w world.lookups)
             (may_choose w p both.alike choice unique t operation can serving may)
-        by false dead = each.performs_unheard operation can (knows_abort dead)
+        by false dead = each.performs_unreceived operation can (knows_abort dead)
             (one_to_one w.kernel.nodes w.server.nodes one)
 
     -- Whatever is held, but that what the performing of a RELEASE needs is given.

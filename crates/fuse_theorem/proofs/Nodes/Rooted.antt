@@ -12,20 +12,20 @@ use Rattle.fuse_spec.specs.Values.Maps.{get, put, remove}
 use Rattle.fuse_spec.specs.Calls.Answers.{Answer}
 use Rattle.fuse_spec.specs.Calls.Answers as answer
 use Rattle.fuse_spec.specs.Calls.Begins.{Beginning, faulty, sets_out, uses, closes, beginning}
-use Rattle.fuse_spec.specs.Calls.Calls.{Call, spoken}
+use Rattle.fuse_spec.specs.Calls.Calls.{Call, for_minor}
 use Rattle.fuse_spec.specs.Calls.CallReplies.{all_bound, operation_replied, call_replied}
 use Rattle.fuse_spec.specs.Kernel.Kernel.{Kernel, kernel_aborted, is_aborted, advanced, asking_for, released, released_if_idle, after_use, closed_by, closing_of, call_begun, after_signal, signalled_at, call_signalled, request_of}
 use Rattle.fuse_spec.specs.Kernel.Messages.{WireReply}
 use Rattle.fuse_spec.specs.Files.Operations.{Operation, getattr, mkdir, create, unlink, rmdir, rename, link, opening, readdir, readdirplus, read, write, Reply, found, missing, created, opened, attributes, listed, listed_plus, content, written, done, failed, files_in_reply}
 use Rattle.fuse_spec.specs.Kernel.QueueCalls.{waiting, without, after_interrupt, interrupt_effect}
-use Rattle.fuse_spec.specs.Kernel.Replies.{kernel_reply, looked_up, Use, usable, useless, stale, goes_with, is_agreement, judged, replied, replied_to_call, ended_by, request_reply_written, interrupt_reply_written, interrupt_replied, reply_written, reply_received, without_stale, reply_judged, use_of_reply, made_ready}
+use Rattle.fuse_spec.specs.Kernel.Replies.{kernel_reply, looked_up, Use, usable, unusable, stale, goes_with, is_agreement, judged, replied, replied_to_call, ended_by, request_reply_written, interrupt_reply_written, interrupt_replied, reply_written, reply_received, without_stale, reply_judged, use_of_reply, made_ready}
 use Rattle.fuse_spec.specs.Calls.Vfs.{look, no_more, asked, CallState, walking, doing, using, Vfs, Advance, answered, bound, unbound, opened_by, after_walk, after_beginning, numbered, begun, given_up}
 use Rattle.fuse_spec.specs.Calls.Walks.{Walked, looks_up, finds_none, walk}
 use Rattle.fuse_spec.specs.Calls.Walks as walked
 use Rattle.std.specs.List.{remove as without_at}
 use Rattle.fuse_spec.specs.Server.Taking.{taking}
 use Rattle.fuse_spec.specs.Server.Performs.{served}
-use Rattle.fuse_spec.specs.World.Worlds.{World, Sent, after_mount, after_call, after_read_interrupt, after_read_forgets, after_read_pending, after_take, after_perform, after_again, after_write, after_settle, after_tick, after_drop, after_evict, after_abort}
+use Rattle.fuse_spec.specs.World.Worlds.{World, Sent, after_mount, after_call, world_after_read_interrupt, world_after_read_forgets, world_after_read_pending, after_take, after_perform, after_again, after_write, after_settle, after_tick, after_drop, after_evict, after_abort}
 use Rattle.fuse_spec.specs.World.Worlds as worlds
 use Rattle.fuse_spec.specs.World.Events.{Event, Outcome}
 use Rattle.fuse_spec.specs.World.Steps.{step}
@@ -167,7 +167,7 @@ judged_rooted k call state wire usable r =
     let next = call_replied k.vfs call state (kernel_reply (asked state) wire) in
     advanced_rooted (record k { nodes = looked_up k.nodes (files_in_reply wire) }) call next
     (replied_rooted k.vfs call state (kernel_reply (asked state) wire) r)
-judged_rooted k call state wire useless r = answered_rooted k.vfs call (answer.failed 5) r
+judged_rooted k call state wire unusable r = answered_rooted k.vfs call (answer.failed 5) r
 judged_rooted k call state wire (stale node) r = answered_rooted k.vfs call (answer.failed 5) r
 
 to_call_rooted : (k : Kernel) (call : ℕ) (wire : WireReply) (o : Option (CallState Opened)) → IsRooted k.vfs
@@ -216,7 +216,7 @@ written_rooted k unique wire r = by (nat_eq (unique % 2) 1)
 
 -- a reply that goes out leaves the kernel as it is
 sent_off : (w : World) (number unique : ℕ) (wire : Option WireReply) → IsRooted w.kernel.vfs
-    → IsRooted (worlds.replying w number unique wire).kernel.vfs
+    → IsRooted (worlds.copy_put w number unique wire).kernel.vfs
 sent_off w number unique None rooted = rooted
 sent_off w number unique (Some wire) rooted = rooted
 
@@ -224,7 +224,7 @@ by_event : (choice : ℕ → ℕ) (w : World) → IsRooted w.kernel.vfs → (e :
     → Happened choice w e o after → IsRooted after.kernel.vfs
 by_event choice w r e o after (by_mount f m v idle) = given_up_rooted w.kernel.vfs r
 by_event choice w r e o after (by_call call ready room within) =
-    begins_rooted w.kernel (spoken w.kernel.lists_files call) r
+    begins_rooted w.kernel (for_minor w.kernel.lists_files call) r
 by_event choice w r e o after (by_read_interrupt original rest live there within) = r
 by_event choice w r e o after (by_read_forgets n live free can within few) = r
 by_event choice w r e o after (by_read_pending k unique kept body live free there says within) = r

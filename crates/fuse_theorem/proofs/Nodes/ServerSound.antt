@@ -290,7 +290,7 @@ first_sound = record {
 }
 
 sent_off : (w : World) (number unique : ℕ) (wire : Option WireReply) → ServerSound w.server
-    → ServerSound (worlds.replying w number unique wire).server
+    → ServerSound (worlds.copy_put w number unique wire).server
 sent_off w number unique None sound = sound
 sent_off w number unique (Some wire) sound = sound
 

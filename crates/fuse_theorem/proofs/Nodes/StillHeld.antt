@@ -22,7 +22,7 @@ use Rattle.fuse_theorem.specs.Links.{LinksSound}
 use Rattle.fuse_theorem.specs.Lookups.{IsHeldAs}
 use Rattle.fuse_theorem.specs.StillHeld.{IsHeldMarked, NodesStillHeld, StillHeldAfterAbort, HeldReleasesKnown}
 use Rattle.fuse_theorem.specs.WorldSound.{WorldSound}
-use Rattle.fuse_theorem.proofs.Requests.AfterAbort.{WithoutMount, by_loss, by_kernel, by_serving, without_mount, replying_server, unheard_nodes}
+use Rattle.fuse_theorem.proofs.Requests.AfterAbort.{WithoutMount, by_loss, by_kernel, by_serving, without_mount, replying_server, unreceived_nodes}
 use Rattle.fuse_theorem.proofs.RefusalCases.Happened.{happened}
 use Rattle.fuse_theorem.proofs.Nodes.HeldKnown.{known_nodes_held}
 use Rattle.fuse_theorem.proofs.Lookups.LookupsStay.{known_held}
@@ -107,7 +107,7 @@ module _ (w : World) (sound : WorldSound w) (asked : RequestsAskedWhileLive w) (
   served_held choice unique t aborted u x at =
       let rest = performed_rest choice (record w.server { held = remove w.server.held unique }) t in
       let was = left_found w.server.held unique u x (ap (λ (m : Map HeldRequest). get m u) (sym rest.held) ∙ at) in
-      subst (λ (n : NodeTable). NodesStillHeld n x) (sym (unheard_nodes w sound choice unique t aborted))
+      subst (λ (n : NodeTable). NodesStillHeld n x) (sym (unreceived_nodes w sound choice unique t aborted))
       (now_still_held u x was)
 
   by_event : (choice : ℕ → ℕ) (after : World) → WithoutMount choice w after → AllHeld after.server

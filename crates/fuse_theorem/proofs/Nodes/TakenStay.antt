@@ -21,7 +21,7 @@ use Rattle.fuse_spec.specs.Server.Performs.{file_operation_of, is_open_for, is_s
 use Rattle.fuse_spec.specs.Server.Server.{Server, HeldRequest, Kept, Copy, nodes_of_body}
 use Rattle.fuse_spec.specs.Server.Taking.{taking, interrupting}
 use Rattle.fuse_spec.specs.Claim.Denotes.{generation_known}
-use Rattle.fuse_spec.specs.World.Worlds.{World, first_world, replying, server_settled}
+use Rattle.fuse_spec.specs.World.Worlds.{World, first_world, copy_put, server_settled}
 use Rattle.fuse_spec.specs.World.Events.{Event, Outcome}
 use Rattle.fuse_spec.specs.World.Steps.{Happens}
 use Rattle.fuse_theorem.specs.AskedRequests.{RequestsAskedWhileLive}
@@ -39,7 +39,7 @@ use Rattle.fuse_theorem.proofs.Lookups.LookupsStay.{known_held}
 use Rattle.fuse_theorem.proofs.Requests.NumbersStay.{replying_kernel}
 use Rattle.fuse_theorem.proofs.Requests.PerformedRest.{performed_rest}
 use Rattle.fuse_theorem.proofs.OpenFiles.ReleasesStay.{releases_stay_known}
-use Rattle.fuse_theorem.proofs.Requests.StayAsked.{requests_stay_asked}
+use Rattle.fuse_theorem.proofs.Requests.RequestsMatchAsks.{requests_stay_asked}
 use Rattle.fuse_theorem.proofs.Lists.Values.{All-gone, All-found_values}
 use Rattle.fuse_theorem.proofs.WholeLists.WorldSound.{worlds_stay}
 
@@ -84,13 +84,13 @@ module _ (s : Server) (old : InOrder s.held) where
       by Invalid = refl
 
 replying_server : (w : World) (number unique : ℕ) (o : Option WireReply)
-    → (replying w number unique o).server ≡ w.server
+    → (copy_put w number unique o).server ≡ w.server
 replying_server w number unique None = refl
 replying_server w number unique (Some wire) = refl
 
 module _ (choice : ℕ → ℕ) (w : World) (old : InOrder w.server.held) where
   sent_off : (v : World) (number unique : ℕ) (o : Option WireReply) → InOrder v.server.held
-      → InOrder (replying v number unique o).server.held
+      → InOrder (copy_put v number unique o).server.held
   sent_off v number unique o h = subst (λ (s : Server). InOrder s.held) (sym (replying_server v number unique o)) h
 
   order_stays : (e : Event) (o : Outcome) (after : World) → Happened choice w e o after → InOrder after.server.held

@@ -16,7 +16,7 @@ use Rattle.fuse_spec.specs.declared.Purpose.TheVariants as purpose
 use Rattle.fuse_spec.specs.Calls.Answers as answer
 use Rattle.fuse_spec.specs.Calls.Begins.{Beginning, faulty, sets_out, uses, closes, whole_path, parent_path, beginning}
 use Rattle.fuse_spec.specs.Calls.Begins as begins
-use Rattle.fuse_spec.specs.Calls.Calls.{Call, spoken}
+use Rattle.fuse_spec.specs.Calls.Calls.{Call, for_minor}
 use Rattle.fuse_spec.specs.Calls.Calls as call
 use Rattle.fuse_spec.specs.Calls.CallReplies.{operation_replied, call_replied}
 use Rattle.fuse_spec.specs.Claim.Counts.{opens_of}
@@ -24,15 +24,15 @@ use Rattle.fuse_spec.specs.Kernel.Kernel.{Kernel, is_using, is_aborted, is_used,
 use Rattle.fuse_spec.specs.Values.Maps.{Map, NameMap, get, put, remove, values}
 use Rattle.fuse_spec.specs.Kernel.Messages.{WireReply}
 use Rattle.fuse_spec.specs.Files.Operations.{Operation, Reply, getattr, mkdir, create, unlink, rmdir, rename, link, opening, readdir, readdirplus, read, write, found, missing, created, opened, attributes, listed, listed_plus, content, written, done, failed, files_in_reply}
-use Rattle.fuse_spec.specs.Calls.Paths.{Name, words_of, parent_and_last}
+use Rattle.fuse_spec.specs.Calls.Paths.{Name, path_words_of, parent_and_last}
 use Rattle.fuse_spec.specs.Kernel.QueueCalls.{after_effect, interrupt_effect, waiting, without}
-use Rattle.fuse_spec.specs.Kernel.Replies.{kernel_reply, looked_up, Use, usable, useless, stale, goes_with, is_agreement, judged, replied, replied_to_call, request_reply_written, interrupt_reply_written, interrupt_replied, reply_written, reply_received, without_stale, reply_judged, use_of_reply, made_ready}
+use Rattle.fuse_spec.specs.Kernel.Replies.{kernel_reply, looked_up, Use, usable, unusable, stale, goes_with, is_agreement, judged, replied, replied_to_call, request_reply_written, interrupt_reply_written, interrupt_replied, reply_written, reply_received, without_stale, reply_judged, use_of_reply, made_ready}
 use Rattle.fuse_spec.specs.Server.Taking.{taking}
 use Rattle.fuse_spec.specs.Server.Performs.{served}
 use Rattle.fuse_spec.specs.Calls.Vfs.{CallState, walking, doing, using, asked, Vfs, Advance, answered, bound, look, after_walk, after_beginning, numbered, begun, given_up}
 use Rattle.fuse_spec.specs.Calls.Walks.{Walked, looks_up, finds_none, walk}
 use Rattle.fuse_spec.specs.Calls.Walks as walked
-use Rattle.fuse_spec.specs.World.Worlds.{World, first_world, replying}
+use Rattle.fuse_spec.specs.World.Worlds.{World, first_world, copy_put}
 use Rattle.fuse_spec.specs.World.Events.{Event, Outcome}
 use Rattle.fuse_spec.specs.World.Steps.{Happens}
 use Rattle.fuse_spec.proofs.Tables.{get_gone_here}
@@ -107,7 +107,7 @@ advanced_but except k call next b = by next.operation
     by None = b
     by (Some operation) = b
 
--- ---- a call hears a reply
+-- ---- a call receives a reply
 
 module _ (c : Vfs Opened) (closing : Map Opened) (old : ClosedFiles c closing) (call : ℕ) (state : CallState Opened)
     (there : get c.calls call ≡ Some state) where
@@ -189,7 +189,7 @@ module _ (opens : Map Opened) where
 
   whole_on : (path : List ℕ) (then : List Name → Beginning ℕ Opened) → ((words : List Name) → BeginsOn (then words))
       → BeginsOn (whole_path path then)
-  whole_on path then each = by (words_of path)
+  whole_on path then each = by (path_words_of path)
     where
       by : (o : Result (List Name) ℕ) → BeginsOn (elim o as
           (λ x. Beginning ℕ Opened) [ Err fault ↦ faulty fault | Ok words ↦ then words ])
@@ -374,11 +374,11 @@ signal_closes k old call state fatal there = by (request_of k call)
     by None = old
     by (Some unique) = effect unique (interrupt_effect k.queues unique fatal)
 
-heard_closes : (k : Kernel) → ClosedFiles k.vfs k.closing
+received_closes : (k : Kernel) → ClosedFiles k.vfs k.closing
     → (call : ℕ) (wire : WireReply) (o : Option (CallState Opened)) → get k.vfs.calls call ≡ o
     → After (replied_to_call k call wire o).1
-heard_closes k old call wire None there = old
-heard_closes k old call wire (Some state) there = by (goes_with (asked state) wire)
+received_closes k old call wire None there = old
+received_closes k old call wire (Some state) there = by (goes_with (asked state) wire)
   where
     judged_so : (x : WireReply) (u : Use) → ClosedBut (λ h. is_using h state)
         (judged (without_stale k wire) call state x u).vfs (judged (without_stale k wire) call state x u).closing
@@ -389,7 +389,7 @@ heard_closes k old call wire (Some state) there = by (goes_with (asked state) wi
               looked_up k.nodes (files_in_reply x);
         }) call (call_replied k.vfs call state reply)
         (replied_so k.vfs k.closing old call state there reply state)
-    judged_so x useless = answered_so k.vfs k.closing old call state there (answer.failed 5)
+    judged_so x unusable = answered_so k.vfs k.closing old call state there (answer.failed 5)
     judged_so x (stale node) = answered_so k.vfs k.closing old call state there (answer.failed 5)
 
     by : (b : Bool) → After (replied k call state b wire).1
@@ -432,7 +432,7 @@ written_closes k old unique wire = by (nat_eq (unique % 2) 1)
     even None = old
     even (Some purpose.Init) = agrees (is_agreement wire)
     even (Some (purpose.Release o)) = old
-    even (Some (purpose.Call call)) = heard_closes (record k { queues = without k.queues unique }) old call wire
+    even (Some (purpose.Call call)) = received_closes (record k { queues = without k.queues unique }) old call wire
         (get k.vfs.calls call) refl
 
     by : (b : Bool) → After (cond b (interrupt_reply_written k unique wire (waiting k.queues (unique - 1)))
@@ -471,13 +471,13 @@ same_files c d closing calls opens next old = record {
 
 module _ (choice : ℕ → ℕ) (w : World) (old : ClosedFiles w.kernel.vfs w.kernel.closing) where
   sent_off : (v : World) (number unique : ℕ) (o : Option WireReply) → v.kernel ≡ w.kernel
-      → After (replying v number unique o).kernel
+      → After (copy_put v number unique o).kernel
   sent_off v number unique o same = subst After (sym (replying_kernel v number unique o ∙ same)) old
 
   closes_by_event : (e : Event) (o : Outcome) (after : World) → Happened choice w e o after → After after.kernel
   closes_by_event e o after (by_mount f m v idle) = none_open w.kernel.vfs
   closes_by_event e o after (by_call call ready room within) =
-      call_closes w.kernel old (spoken w.kernel.lists_files call)
+      call_closes w.kernel old (for_minor w.kernel.lists_files call)
   closes_by_event e o after (by_read_interrupt original rest live there within) = old
   closes_by_event e o after (by_read_forgets n live free can within few) = old
   closes_by_event e o after (by_read_pending k unique kept body live free there says within) = old

@@ -1,5 +1,5 @@
 -- An open number is of one open file at most, whatever happens.
-use Rattle.fuse_spec.specs.Calls.Calls.{spoken}
+use Rattle.fuse_spec.specs.Calls.Calls.{for_minor}
 use Rattle.fuse_spec.specs.declared.Minor.{Minor}
 use Rattle.std.proofs.Common.{◌≡◌, ◌≢◌, ℕ, ◌+◌, ◌-◌, ◌≤◌, ◌<◌, Bool, true, false, true≢false, cond, List, [], ◌++◌, drop, Option, Some, None, nat_eq, slice_get, count_by, refl, ap, sym, subst, ◌∙◌, arith, ◌⊎◌, inl, inr, All}
 use Rattle.std.specs.Prelude.{◌%◌, sum_by}
@@ -27,7 +27,7 @@ use Rattle.fuse_spec.specs.Kernel.Replies.{replied_to_call, request_reply_writte
 use Rattle.fuse_spec.specs.Server.Server.{Server, HeldRequest, Kept, Copy}
 use Rattle.fuse_spec.specs.Server.Taking.{taking, interrupting}
 use Rattle.fuse_spec.specs.Server.Performs.{PerformResult, performed, served}
-use Rattle.fuse_spec.specs.World.Worlds.{World, Sent, replying, first_world, after_mount, after_take, after_perform, after_again, after_write, after_settle, after_drop, after_evict}
+use Rattle.fuse_spec.specs.World.Worlds.{World, Sent, copy_put, first_world, after_mount, after_take, after_perform, after_again, after_write, after_settle, after_drop, after_evict}
 use Rattle.fuse_spec.specs.World.Events.{Event, Outcome}
 use Rattle.fuse_spec.specs.World.Steps.{MayStep, MayChooseFor, Happens}
 use Rattle.fuse_spec.proofs.QueueReadings.{request_under-without}
@@ -36,7 +36,7 @@ use Rattle.fuse_theorem.specs.EveryList.{BothSound}
 use Rattle.fuse_theorem.specs.Lookups.{LookupsSound}
 use Rattle.fuse_theorem.specs.Numbering.{IsNumbered}
 use Rattle.fuse_theorem.specs.OpenNumbers.{open_files, released_pending, released_sent, released_held, OpensBalanced, OpensSound}
-use Rattle.fuse_theorem.specs.OpensOnce.{Carries, OpensOnce, OpensOnceWhileLive}
+use Rattle.fuse_theorem.specs.OpensOnce.{CarriesOpen, OpensOnce, OpensOnceWhileLive}
 use Rattle.fuse_theorem.specs.ReleasesKnown.{ReleasesKnown}
 use Rattle.fuse_theorem.specs.WorldSound.{WorldSound}
 use Rattle.fuse_theorem.proofs.Answers.Answered.{waiting_is}
@@ -44,13 +44,13 @@ use Rattle.fuse_theorem.proofs.Calls.Finding.{same_is}
 use Rattle.fuse_theorem.proofs.Calls.CallsContinue.{begun_goes_on}
 use Rattle.fuse_theorem.proofs.RefusalCases.Happened.{Happened, by_mount, by_call, by_read_interrupt, by_read_forgets, by_read_pending, by_take, by_perform, by_again, by_write, by_settle, by_signal, by_tick, by_drop, by_evict, by_abort, happened}
 use Rattle.fuse_theorem.proofs.Replies.KeptOnLink.{stays_absent}
-use Rattle.fuse_theorem.proofs.Lookups.LookupsHeard.{wire_usable}
+use Rattle.fuse_theorem.proofs.Lookups.LookupsAfterReply.{wire_usable}
 use Rattle.fuse_theorem.proofs.Lists.MapSums.{worth}
 use Rattle.fuse_theorem.proofs.Requests.NewNumbers.{Draws, performed_draws, counted_next, given_back_next}
 use Rattle.fuse_theorem.proofs.Nodes.NodesSound.{put_found}
-use Rattle.fuse_theorem.proofs.Requests.NumbersStay.{replying_kernel, unheard}
+use Rattle.fuse_theorem.proofs.Requests.NumbersStay.{replying_kernel, unreceived}
 use Rattle.fuse_theorem.proofs.Lists.OpenSums.{has_number, open_sum, counts_opens}
-use Rattle.fuse_theorem.proofs.OpenFiles.OpensHeard.{HearsOpens, read_sum, written_heard}
+use Rattle.fuse_theorem.proofs.OpenFiles.OpensAfterReply.{ReceivesOpens, read_sum, written_received}
 use Rattle.fuse_theorem.proofs.OpenFiles.OpensKept.{begun_keeps, signalled_keeps}
 use Rattle.fuse_theorem.proofs.OpenFiles.OpensMoved.{SameOpen, open_same, keeps_same, interrupt_same, pending_same, forgets_same}
 use Rattle.fuse_theorem.proofs.OpenFiles.OpensOnce.{has_none, has_old, has_kept, has_at, files_with, none_new, one_new, one_opened}
@@ -69,7 +69,7 @@ one_of P Q xs (here x rest p) h = (x, p, All-head Q x rest h)
 one_of P Q xs (there x rest s) h = one_of P Q rest s (All-tail Q x rest h)
 
 -- The number of a request whose reply carries an open number was drawn.
-carries_below : (w : World) → IsNumbered w → is_live w.kernel.phase ≡ true → (unique fh : ℕ) → Carries w unique fh
+carries_below : (w : World) → IsNumbered w → is_live w.kernel.phase ≡ true → (unique fh : ℕ) → CarriesOpen w unique fh
     → unique < w.kernel.queues.next
 carries_below w numbered live unique fh (inl kept) = numbered.kept_below live unique kept.0 kept.1
 carries_below w numbered live unique fh (inr sent) =
@@ -88,7 +88,7 @@ fresh_once w f m v = record {
   once = λ fh. omega arith;
 }
   where
-    none : (u fh : ℕ) → Carries (after_mount w f m v) u fh → ⊥
+    none : (u fh : ℕ) → CarriesOpen (after_mount w f m v) u fh → ⊥
     none u fh (inl kept) = let at = kept.1 in cc (at)
     none u fh (inr sent) = has_none (λ (s : Sent). (s.unique ≡ u) × (1 ≤ opens_in fh s.wire)) [] sent refl
 
@@ -109,13 +109,13 @@ module _ (choice : ℕ → ℕ) (w : World) (p : Plain) (both : BothSound w p) (
   -- ---- the kernel moves
 
   -- What was answered stays so.
-  answered_still : (q : QueueState Purpose) → QueueMoves w.kernel.queues q → (u fh : ℕ) → Carries w u fh
+  answered_still : (q : QueueState Purpose) → QueueMoves w.kernel.queues q → (u fh : ℕ) → CarriesOpen w u fh
       → request_under q u ≢ None → request_under w.kernel.queues u ≢ None
   answered_still q moves u fh c waits none = waits
       (stays_absent w.kernel.queues q moves u (carries_below w numbered live u fh c) none)
 
   moved : (k : Kernel) (requests : List Request) → SameOpen w k requests
-      → ((u fh : ℕ) → Carries w u fh → request_under k.queues u ≢ None → request_under w.kernel.queues u ≢ None)
+      → ((u fh : ℕ) → CarriesOpen w u fh → request_under k.queues u ≢ None → request_under w.kernel.queues u ≢ None)
       → OpensOnce (record w { kernel = k; requests = requests })
   moved k requests same still = none_new w (record w { kernel = k; requests = requests }) old (omega arith)
       (λ u fh c. c) still (λ fh. let sum = open_same w k requests same (has_number fh) in omega (arith, sum))
@@ -131,7 +131,7 @@ module _ (choice : ℕ → ℕ) (w : World) (p : Plain) (both : BothSound w p) (
   -- ---- the server takes, sends again and settles
 
   taken_carries : (k unique : ℕ) (body : RequestBody) (u fh : ℕ)
-      → Carries (after_take w k unique (taking w.server unique body)) u fh → Carries w u fh
+      → CarriesOpen (after_take w k unique (taking w.server unique body)) u fh → CarriesOpen w u fh
   taken_carries k unique (init flags) u fh c = c
   taken_carries k unique (asks operation) u fh c = c
   taken_carries k unique (release o) u fh c = c
@@ -139,8 +139,8 @@ module _ (choice : ℕ → ℕ) (w : World) (p : Plain) (both : BothSound w p) (
   taken_carries k unique (batch_forget fs) u fh c = c
   taken_carries k unique (interrupt original) u fh c = by (get w.server.held original) (get w.server.kept original) c
     where
-      by : (h : Option HeldRequest) (o : Option Kept) → Carries
-          (after_take w k unique (interrupting w.server unique original h o)) u fh → Carries w u fh
+      by : (h : Option HeldRequest) (o : Option Kept) → CarriesOpen
+          (after_take w k unique (interrupting w.server unique original h o)) u fh → CarriesOpen w u fh
       by (Some t) o n = n
       by None (Some x) n = n
       by None None (inl kept) = inl kept
@@ -170,7 +170,7 @@ module _ (choice : ℕ → ℕ) (w : World) (p : Plain) (both : BothSound w p) (
       counted_next (opens_in_reply kept.wire) w.server.handles in omega (arith, same)) carried
       (λ u fh c waits. waits) (λ fh. omega arith)
     where
-      carried : (u fh : ℕ) → Carries (after_again w unique kept) u fh → Carries w u fh
+      carried : (u fh : ℕ) → CarriesOpen (after_again w unique kept) u fh → CarriesOpen w u fh
       carried u fh (inl x) = inl x
       carried u fh (inr sent) = elim (has_old (λ (s : Sent). (s.unique ≡ u)
           × (1 ≤ opens_in fh s.wire)) w.replies _ sent) [
@@ -187,7 +187,7 @@ module _ (choice : ℕ → ℕ) (w : World) (p : Plain) (both : BothSound w p) (
     }
 
     fewer : (s : Server) → s.kept ≡ kept_after w.server.kept copy (get w.server.kept copy.unique) → (u fh : ℕ)
-        → Carries (record w { results = without_at w.results k; server = s }) u fh → Carries w u fh
+        → CarriesOpen (record w { results = without_at w.results k; server = s }) u fh → CarriesOpen w u fh
     fewer s same u fh (inl x) = inl (
       x.0,
       kept_was w.server.kept copy (get w.server.kept copy.unique) u x.0
@@ -257,13 +257,13 @@ module _ (choice : ℕ → ℕ) (w : World) (p : Plain) (both : BothSound w p) (
           held =
               remove w.server.held unique;
         }) t).server.aborted ≡ b → (u fh : ℕ)
-            → Carries (replying (record w {
+            → CarriesOpen (copy_put (record w {
               server =
                   (served choice w.server unique t).server;
             }) w.server.next_copy unique
             (Some (served choice w.server unique t).wire)) u fh
             → ((u ≡ unique) × (1 ≤ opens_in fh (performed choice
-            (record w.server { held = remove w.server.held unique }) t).wire)) ⊎ Carries w u fh
+            (record w.server { held = remove w.server.held unique }) t).wire)) ⊎ CarriesOpen w u fh
         carried b aborted u fh (inr sent) = elim (has_old
             (λ (s : Sent). (s.unique ≡ u) × (1 ≤ opens_in fh s.wire)) w.replies _ sent) [
               | inl e ↦ inl
@@ -295,7 +295,7 @@ module _ (choice : ℕ → ℕ) (w : World) (p : Plain) (both : BothSound w p) (
                   }) t).server.next_copy;
                 }))) u ≡ Some x.0
                 → ((u ≡ unique) × (1 ≤ opens_in fh (performed choice
-                (record w.server { held = remove w.server.held unique }) t).wire)) ⊎ Carries w u fh
+                (record w.server { held = remove w.server.held unique }) t).wire)) ⊎ CarriesOpen w u fh
             of_kept true e = inr (inl (x.0, ap (λ (m : Map Kept). get m u) (sym kept_is) ∙ e, x.2))
             of_kept false e = elim (put_found (performed choice
                 (record w.server { held = remove w.server.held unique }) t).server.kept unique _ u x.0 e) [
@@ -304,11 +304,11 @@ module _ (choice : ℕ → ℕ) (w : World) (p : Plain) (both : BothSound w p) (
                 ]
 
         by : (b : Bool) → w.server.aborted ≡ b → OpensOnce
-            (replying (record w { server = (served choice w.server unique t).server }) w.server.next_copy unique
+            (copy_put (record w { server = (served choice w.server unique t).server }) w.server.next_copy unique
             (cond b None (Some (served choice w.server unique t).wire)))
         by true aborted = absurd (true≢false (sym aborted ∙ serving))
         by false alive_still =
-            one_new w (replying (record w {
+            one_new w (copy_put (record w {
               server =
                   (served choice w.server unique t).server;
             }) w.server.next_copy unique
@@ -338,10 +338,10 @@ module _ (choice : ℕ → ℕ) (w : World) (p : Plain) (both : BothSound w p) (
     still_live : is_live (reply_written w.kernel sent.unique sent.wire).1.phase ≡ true
     still_live = alive choice w p both releases opens k sent at live
 
-    reply_received : HearsOpens Serves w.kernel sent.wire (reply_written w.kernel sent.unique sent.wire)
+    reply_received : ReceivesOpens Serves w.kernel sent.wire (reply_written w.kernel sent.unique sent.wire)
     reply_received =
         let known = lookups.balanced live in
-        written_heard Serves w.kernel opens.apart numbered.one_request sent.unique sent.wire
+        written_received Serves w.kernel opens.apart numbered.one_request sent.unique sent.wire
         (wire_usable w.server.nodes w.kernel.nodes known.known sent.wire
         (entries choice w p both releases opens k sent at live))
         (λ even call state waits there goes o e. (call, even, waits)) still_live
@@ -356,7 +356,7 @@ module _ (choice : ℕ → ℕ) (w : World) (p : Plain) (both : BothSound w p) (
     moves : QueueMoves w.kernel.queues (reply_written w.kernel sent.unique sent.wire).1.queues
     moves = written_moves w.kernel sent.unique sent.wire still_live
 
-    carried : (u fh : ℕ) → Carries written u fh → Carries w u fh
+    carried : (u fh : ℕ) → CarriesOpen written u fh → CarriesOpen w u fh
     carried u fh (inl x) = inl x
     carried u fh (inr s) = inr (has_kept (λ (x : Sent). (x.unique ≡ u) × (1 ≤ opens_in fh x.wire)) w.replies k s)
 
@@ -410,11 +410,11 @@ module _ (choice : ℕ → ℕ) (w : World) (p : Plain) (both : BothSound w p) (
       → is_live after.kernel.phase ≡ true → OpensOnce after
   once_after e o after may (by_mount f m v idle) alive_now = fresh_once w f m v
   once_after e o after may (by_call call ready room within) alive_now =
-      moved (call_begun w.kernel (spoken w.kernel.lists_files call)) w.requests
-      (keeps_same w (call_begun w.kernel (spoken w.kernel.lists_files call))
-      (begun_keeps w.kernel opens.apart (spoken w.kernel.lists_files call)))
-      (answered_still (call_begun w.kernel (spoken w.kernel.lists_files call)).queues
-      (begun_moves w.kernel (spoken w.kernel.lists_files call)))
+      moved (call_begun w.kernel (for_minor w.kernel.lists_files call)) w.requests
+      (keeps_same w (call_begun w.kernel (for_minor w.kernel.lists_files call))
+      (begun_keeps w.kernel opens.apart (for_minor w.kernel.lists_files call)))
+      (answered_still (call_begun w.kernel (for_minor w.kernel.lists_files call)).queues
+      (begun_moves w.kernel (for_minor w.kernel.lists_files call)))
   once_after e o after may (by_read_interrupt original rest was found within) alive_now =
       moved after.kernel after.requests (interrupt_same w original) (λ u fh c waits. waits)
   once_after e o after may (by_read_forgets n was free can within few) alive_now =
@@ -458,7 +458,7 @@ mounted_once choice w sound dead e o after did live = by e o after did live
     by : (x : Event) (r : Outcome) (v : World) → Happened choice w x r v → is_live v.kernel.phase ≡ true → OpensOnce v
     by x r y (by_mount f m v idle) now = fresh_once w f m v
     by x r v (by_call call ready room within) now = let goes =
-        begun_goes_on w.kernel (spoken w.kernel.lists_files call) in
+        begun_goes_on w.kernel (for_minor w.kernel.lists_files call) in
         absurd (true≢false (sym now ∙ ap is_live goes.phase ∙ dead))
     by x r v (by_read_interrupt original rest lives found within) now = absurd (was lives)
     by x r v (by_read_forgets n lives free can within few) now = absurd (was lives)
@@ -481,7 +481,7 @@ mounted_once choice w sound dead e o after did live = by e o after did live
         let lookups = sound.lookups in
         let numbers = lookups.numbers in
         absurd (same (after_write w k sent (reply_written w.kernel sent.unique sent.wire))
-        (unheard w.kernel (numbers.idle dead) sent.unique sent.wire) now)
+        (unreceived w.kernel (numbers.idle dead) sent.unique sent.wire) now)
     by x r v (by_settle k result found) now = absurd (was now)
     by x r v (by_signal call fatal state lives found within) now = absurd (was lives)
     by x r v (by_tick ms timely) now = absurd (was now)

@@ -36,7 +36,7 @@ use Rattle.fuse_theorem.proofs.OpenFiles.OpensUsed.{used_counted}
 use Rattle.fuse_theorem.proofs.OpenFiles.OpensServed.{none_out}
 use Rattle.fuse_theorem.proofs.OpenFiles.OpensStay.{opens_stay}
 use Rattle.fuse_theorem.proofs.OpenFiles.OpensTables.{held_fits}
-use Rattle.fuse_theorem.proofs.Requests.StayAsked.{requests_stay_asked}
+use Rattle.fuse_theorem.proofs.Requests.RequestsMatchAsks.{requests_stay_asked}
 
 -- ---- what every event keeps
 

@@ -49,7 +49,7 @@ reply_fits t h operation (opened fh) goes its entries held o e = absurd (true≢
 reply_fits t h operation wire goes its entries held o e = absurd (cc (e))
 
 module _ (w : World) (p : Plain) (nodes : NodesKnown w.kernel) (held : KnownAreHeld w) (sent : Sent)
-    (entries : EntriesHeld w.server.nodes sent.wire) (hears : CanReceive w p sent) where
+    (entries : EntriesHeld w.server.nodes sent.wire) (receives : CanReceive w p sent) where
   -- the node that a call opens is held
   opening_held : (call : ℕ) (state : CallState Opened) → get w.kernel.vfs.calls call ≡ Some state → (node : ℕ)
       → asked state ≡ opening node → (generation : ℕ) × IsHeldAs w.server.nodes node generation
@@ -65,7 +65,7 @@ module _ (w : World) (p : Plain) (nodes : NodesKnown w.kernel) (held : KnownAreH
       → waiting w.kernel.queues sent.unique ≡ Some (purpose.Call call) → get w.kernel.vfs.calls call ≡ Some state
       → goes_with (asked state) sent.wire ≡ true → (o : Opened)
       → gained_by (asked state) (kernel_reply (asked state) sent.wire) ≡ Some o → IsOfItsNode w.server o
-  opened_fits even call state waits there goes o e = by hears
+  opened_fits even call state waits there goes o e = by receives
     where
       same_call : (a b : ℕ) → Some (purpose.Call a) ≡ waiting w.kernel.queues sent.unique
           → waiting w.kernel.queues sent.unique ≡ Some (purpose.Call b) → a ≡ b

@@ -13,13 +13,13 @@ use Rattle.fuse_spec.specs.Kernel.QueueCalls as queues
 use Rattle.fuse_spec.specs.Kernel.Kernel.{Kernel}
 use Rattle.fuse_spec.specs.Server.Nodes.{file_of, is_open}
 use Rattle.fuse_spec.specs.Server.Server.{Copy}
-use Rattle.fuse_spec.specs.World.Worlds.{World, Sent, forget_body, after_read_interrupt, after_read_forgets, after_read_pending, after_write}
+use Rattle.fuse_spec.specs.World.Worlds.{World, Sent, forget_body, world_after_read_interrupt, world_after_read_forgets, world_after_read_pending, after_write}
 use Rattle.fuse_theorem.specs.Copies.{IsKnownCopy, CopiesSound}
 use Rattle.fuse_theorem.specs.OpenNumbers.{released_by, open_files, IsOfItsNode, OpensBalanced}
 use Rattle.fuse_theorem.proofs.Lists.MapSums.{worth}
 use Rattle.fuse_theorem.proofs.Lists.OpenSums.{kernel_sum, sent_sum, open_sum, has_number, CountsOpens, counts_opens, opens_counted, none_failing, all_pass, failing, fewer_pass}
 use Rattle.fuse_theorem.proofs.OpenFiles.OpensKept.{KeepsOpen}
-use Rattle.fuse_theorem.proofs.OpenFiles.OpensHeard.{HearsOpens}
+use Rattle.fuse_theorem.proofs.OpenFiles.OpensAfterReply.{ReceivesOpens}
 use Rattle.fuse_theorem.proofs.Lists.LinkSums.{sum_removed}
 use Rattle.fuse_theorem.proofs.OpenFiles.OpensServed.{replies_carry, results_carry}
 use Rattle.fuse_theorem.proofs.Refining.Queuing.{All-at}
@@ -55,8 +55,8 @@ kernel_moves w old k requests same = record {
 pub keeps_same : (w : World) (k : Kernel) → KeepsOpen w.kernel k None → SameOpen w k w.requests
 keeps_same w k kept f = let same = kept.sums f in omega (arith, same)
 
-pub interrupt_same : (w : World) (original : ℕ) → SameOpen w (after_read_interrupt w original).kernel
-    (after_read_interrupt w original).requests
+pub interrupt_same : (w : World) (original : ℕ) → SameOpen w (world_after_read_interrupt w original).kernel
+    (world_after_read_interrupt w original).requests
 interrupt_same w original f = let pushed = sum_by_push (λ (r : Request). sum_by f (released_by r.body)) w.requests
     (record { unique = interrupt_number original; body = interrupt original }) in omega (arith, pushed)
 
@@ -66,7 +66,7 @@ pub pending_same : (w : World) (k unique : ℕ) (body : RequestBody)
       queues =
           queues.after_read_pending w.kernel.queues k;
     }) + sum_by f (released_by body) ≡ kernel_sum f w.kernel)
-    → SameOpen w (after_read_pending w k unique body).kernel (after_read_pending w k unique body).requests
+    → SameOpen w (world_after_read_pending w k unique body).kernel (world_after_read_pending w k unique body).requests
 pending_same w k unique body moved f =
     let pushed = sum_by_push (λ (r : Request). sum_by f (released_by r.body)) w.requests
     (record { unique = unique; body = body }) in
@@ -79,8 +79,8 @@ forgets_release f [] = refl
 forgets_release f (x ∷ []) = refl
 forgets_release f (x ∷ y ∷ fs) = refl
 
-pub forgets_same : (w : World) (n : ℕ) → SameOpen w (after_read_forgets w n (take n w.kernel.queues.forgets)).kernel
-    (after_read_forgets w n (take n w.kernel.queues.forgets)).requests
+pub forgets_same : (w : World) (n : ℕ) → SameOpen w (world_after_read_forgets w n (take n w.kernel.queues.forgets)).kernel
+    (world_after_read_forgets w n (take n w.kernel.queues.forgets)).requests
 forgets_same w n f = by (queues.can_read_forgets w.kernel.queues n)
   where
     pushed : sent_sum f (w.requests ++ record {
@@ -111,7 +111,7 @@ forgets_same w n f = by (queues.can_read_forgets w.kernel.queues n)
 
 module _ (w : World) (old : OpensBalanced w) (copies : CopiesSound w) (k : ℕ) (sent : Sent)
     (there : slice_get w.replies k ≡ Some sent) (taken : WriteResult × Kernel)
-    (reply_received : HearsOpens (IsOfItsNode w.server) w.kernel sent.wire taken) where
+    (reply_received : ReceivesOpens (IsOfItsNode w.server) w.kernel sent.wire taken) where
   abbrev written : World
   written = after_write w k sent taken
 
@@ -145,8 +145,8 @@ module _ (w : World) (old : OpensBalanced w) (copies : CopiesSound w) (k : ℕ) 
       ≡ refused taken.0 (opens_in fh sent.wire) =
       ap (λ (o : Option Copy). refused taken.0 (carried (opens_in fh) o)) copy.there ∙ ap
       (λ (x : WireReply). refused taken.0 (opens_in fh x)) copy.same_wire in
-      let heard_counts = reply_received.counts fh in
-      omega (arith, whole, sum, gone, pushed, carries, heard_counts)
+      let received_counts = reply_received.counts fh in
+      omega (arith, whole, sum, gone, pushed, carries, received_counts)
 
   abbrev was_open : Opened → Bool
   was_open o = is_open w.server.handles o.fh (file_of w.server.nodes o.nodeid)

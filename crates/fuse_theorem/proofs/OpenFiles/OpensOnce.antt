@@ -9,7 +9,7 @@ use Rattle.fuse_spec.specs.Kernel.Kernel.{Kernel}
 use Rattle.fuse_spec.specs.World.Worlds.{World}
 use Rattle.fuse_theorem.specs.Copies.{SomeHas, here, there}
 use Rattle.fuse_theorem.specs.OpenNumbers.{open_files}
-use Rattle.fuse_theorem.specs.OpensOnce.{Carries, OpensOnce}
+use Rattle.fuse_theorem.specs.OpensOnce.{CarriesOpen, OpensOnce}
 use Rattle.fuse_theorem.proofs.Calls.Finding.{other_is}
 use Rattle.fuse_theorem.proofs.Lists.OpenSums.{has_number}
 
@@ -48,8 +48,8 @@ files_with fh w = sum_by (has_number fh) (open_files w)
 
 module _ (w v : World) (old : OpensOnce w) where
   -- No more replies carry a number, no more files are open, and what is awaited was awaited.
-  pub none_new : w.server.handles.next_fh ≤ v.server.handles.next_fh → ((u fh : ℕ) → Carries v u fh → Carries w u fh)
-      → ((u fh : ℕ) → Carries w u fh → request_under v.kernel.queues u ≢ None → request_under w.kernel.queues u ≢ None)
+  pub none_new : w.server.handles.next_fh ≤ v.server.handles.next_fh → ((u fh : ℕ) → CarriesOpen v u fh → CarriesOpen w u fh)
+      → ((u fh : ℕ) → CarriesOpen w u fh → request_under v.kernel.queues u ≢ None → request_under w.kernel.queues u ≢ None)
       → ((fh : ℕ) → files_with fh v ≤ files_with fh w) → OpensOnce v
   none_new rises carried awaited fewer = record {
     below = λ u fh c. let was = old.below u fh (carried u fh c) in omega (arith, rises, was);
@@ -65,9 +65,9 @@ module _ (w v : World) (old : OpensOnce w) where
   -- ---- a number is new
 
   -- The reply to one request carries the coming number alone, which no file has.
-  pub one_new : (unique : ℕ) → ((u fh : ℕ) → Carries v u fh
+  pub one_new : (unique : ℕ) → ((u fh : ℕ) → CarriesOpen v u fh
       → ((u ≡ unique) × (fh ≡ w.server.handles.next_fh) × (v.server.handles.next_fh ≡ w.server.handles.next_fh + 1))
-      ⊎ Carries w u fh) → w.server.handles.next_fh ≤ v.server.handles.next_fh
+      ⊎ CarriesOpen w u fh) → w.server.handles.next_fh ≤ v.server.handles.next_fh
       → v.kernel ≡ w.kernel → files_with w.server.handles.next_fh w ≡ 0
       → ((fh : ℕ) → files_with fh v ≤ files_with fh w) → OpensOnce v
   one_new unique carried rises kernel none fewer = record {
@@ -90,9 +90,9 @@ module _ (w v : World) (old : OpensOnce w) where
   }
     where
       both : (a b fh : ℕ) → ((a ≡ unique) × (fh ≡ w.server.handles.next_fh)
-          × (v.server.handles.next_fh ≡ w.server.handles.next_fh + 1)) ⊎ Carries w a fh
+          × (v.server.handles.next_fh ≡ w.server.handles.next_fh + 1)) ⊎ CarriesOpen w a fh
           → ((b ≡ unique) × (fh ≡ w.server.handles.next_fh)
-          × (v.server.handles.next_fh ≡ w.server.handles.next_fh + 1)) ⊎ Carries w b fh → a ≡ b
+          × (v.server.handles.next_fh ≡ w.server.handles.next_fh + 1)) ⊎ CarriesOpen w b fh → a ≡ b
       both a b fh (inl n) (inl m) = n.0 ∙ sym m.0
       both a b fh (inl n) (inr d) = let is = n.1 in let low = old.below b fh d in absurd (omega (arith, is, low))
       both a b fh (inr c) (inl m) = let is = m.1 in let low = old.below a fh c in absurd (omega (arith, is, low))
@@ -102,9 +102,9 @@ module _ (w v : World) (old : OpensOnce w) where
 
   -- The request whose reply carried the number of the file that is opened is answered.
   pub one_opened : (unique : ℕ) (o : Opened) → w.server.handles.next_fh ≤ v.server.handles.next_fh
-      → ((u fh : ℕ) → Carries v u fh → Carries w u fh)
-      → ((u fh : ℕ) → Carries w u fh → request_under v.kernel.queues u ≢ None → request_under w.kernel.queues u ≢ None)
-      → Carries w unique o.fh → request_under w.kernel.queues unique ≢ None
+      → ((u fh : ℕ) → CarriesOpen v u fh → CarriesOpen w u fh)
+      → ((u fh : ℕ) → CarriesOpen w u fh → request_under v.kernel.queues u ≢ None → request_under w.kernel.queues u ≢ None)
+      → CarriesOpen w unique o.fh → request_under w.kernel.queues unique ≢ None
       → request_under v.kernel.queues unique ≡ None → ((fh : ℕ)
       → files_with fh v ≡ files_with fh w + has_number fh o) → OpensOnce v
   one_opened unique o rises carried awaited mine waited ended more = record {
@@ -112,7 +112,7 @@ module _ (w v : World) (old : OpensOnce w) where
     one = λ a b fh c d. old.one a b fh (carried a fh c) (carried b fh d);
     unopened = λ u fh c waits. elim (cases_eq o.fh fh) [
       | inl e ↦
-          let was : Carries w u o.fh = subst (λ (n : ℕ). Carries w u n) (sym e) (carried u fh c) in
+          let was : CarriesOpen w u o.fh = subst (λ (n : ℕ). CarriesOpen w u n) (sym e) (carried u fh c) in
           let same = old.one u unique o.fh was mine in
           absurd (waits (subst (λ (n : ℕ). request_under v.kernel.queues n ≡ None) (sym same) ended))
       | inr ne ↦

@@ -8,7 +8,7 @@ use Rattle.fuse_spec.specs.declared.ReplyResult.{ReplyResult}
 use Rattle.fuse_spec.specs.declared.WriteResult.{WriteResult}
 use Rattle.fuse_spec.specs.declared.WriteResult.TheVariants.{Accepted, NoEntry, Invalid}
 use Rattle.fuse_spec.specs.Server.Copies.{kept_after, after_result}
-use Rattle.fuse_spec.specs.Calls.Calls.{Call, spoken}
+use Rattle.fuse_spec.specs.Calls.Calls.{Call, for_minor}
 use Rattle.fuse_spec.specs.Values.Maps.{Map, get, remove}
 use Rattle.fuse_spec.specs.Kernel.Messages.{RequestBody, init, asks, release, forget, batch_forget, interrupt}
 use Rattle.fuse_spec.specs.Calls.Vfs.{Vfs, begun, given_up, later}
@@ -31,12 +31,12 @@ use Rattle.fuse_theorem.specs.WorldSound.{WorldSound}
 use Rattle.fuse_theorem.proofs.Calls.CallsContinue.{begun_goes_on, signalled_goes_on}
 use Rattle.fuse_theorem.proofs.RefusalCases.Happened.{Happened, by_mount, by_call, by_read_interrupt, by_read_forgets, by_read_pending, by_take, by_perform, by_again, by_write, by_settle, by_signal, by_tick, by_drop, by_evict, by_abort, happened}
 use Rattle.fuse_theorem.proofs.Requests.LinksSound.{AgreesToInit, none_at, stays_live}
-use Rattle.fuse_theorem.proofs.Lookups.LookupsHeard.{wire_usable}
+use Rattle.fuse_theorem.proofs.Lookups.LookupsAfterReply.{wire_usable}
 use Rattle.fuse_theorem.proofs.Lookups.LookupsStay.{known_held, lookups_stay}
 use Rattle.fuse_theorem.proofs.Lists.MapSums.{Rises, put_rises, gone_rises}
 use Rattle.fuse_theorem.proofs.Requests.NumbersStay.{aborted_if_ready, replying_kernel}
 use Rattle.fuse_theorem.proofs.OpenFiles.OpensFit.{opened_fits}
-use Rattle.fuse_theorem.proofs.OpenFiles.OpensHeard.{HearsOpens, read_sum, written_heard}
+use Rattle.fuse_theorem.proofs.OpenFiles.OpensAfterReply.{ReceivesOpens, read_sum, written_received}
 use Rattle.fuse_theorem.proofs.OpenFiles.OpensKept.{begun_keeps, signalled_keeps}
 use Rattle.fuse_theorem.proofs.OpenFiles.OpensMoved.{kernel_moves, keeps_same, interrupt_same, pending_same, forgets_same, written_balanced}
 use Rattle.fuse_theorem.proofs.OpenFiles.OpensTables.{replying_server, taken_balanced, performed_balanced, again_balanced, settled_balanced}
@@ -146,11 +146,11 @@ module _ (choice : ℕ → ℕ) (w : World) (p : Plain) (both : BothSound w p) (
     entries = let balanced = lookups.balanced live in
         All-at (λ (s : Sent). EntriesHeld w.server.nodes s.wire) w.replies k sent balanced.copies there
 
-    hears_opens : HearsOpens (IsOfItsNode w.server) w.kernel sent.wire (reply_written w.kernel sent.unique sent.wire)
-    hears_opens =
+    receives_opens : ReceivesOpens (IsOfItsNode w.server) w.kernel sent.wire (reply_written w.kernel sent.unique sent.wire)
+    receives_opens =
         let balanced = lookups.balanced live in
         let numbers = numbered live in
-        written_heard (IsOfItsNode w.server) w.kernel old.apart numbers.one_request sent.unique sent.wire
+        written_received (IsOfItsNode w.server) w.kernel old.apart numbers.one_request sent.unique sent.wire
         (wire_usable w.server.nodes w.kernel.nodes balanced.known sent.wire entries)
         (opened_fits w p both.nodes (known_held w lookups) sent entries
         (write_met choice w p sound both.asked both.links both.witness both.alike k sent there)) alive
@@ -165,14 +165,14 @@ module _ (choice : ℕ → ℕ) (w : World) (p : Plain) (both : BothSound w p) (
     where
       by : (b : Bool) → is_live w.kernel.phase ≡ b → OpensApart (reply_written w.kernel sent.unique sent.wire).1.vfs
           (reply_written w.kernel sent.unique sent.wire).1.closing
-      by true live = let reply_received = hears_opens k sent there live in let kept = reply_received.keeps in kept.apart
+      by true live = let reply_received = receives_opens k sent there live in let kept = reply_received.keeps in kept.apart
       by false dead = let links = both.links in none_at w.replies k sent (links.idle dead).replies there
 
   apart_after : (e : Event) (o : Outcome) (after : World) → Happened choice w e o after
       → OpensApart after.kernel.vfs after.kernel.closing
   apart_after e o after (by_mount f m v idle) = emptied_apart w.kernel.vfs
   apart_after e o after (by_call call ready room within) = let kept =
-      begun_keeps w.kernel old.apart (spoken w.kernel.lists_files call) in kept.apart
+      begun_keeps w.kernel old.apart (for_minor w.kernel.lists_files call) in kept.apart
   apart_after e o after (by_read_interrupt original rest live there within) = old.apart
   apart_after e o after (by_read_forgets n live free can within few) = old.apart
   apart_after e o after (by_read_pending k unique kept body live free there says within) = old.apart
@@ -211,18 +211,18 @@ module _ (choice : ℕ → ℕ) (w : World) (p : Plain) (both : BothSound w p) (
       by : (b : Bool) → is_live w.kernel.phase ≡ b → OpensBalanced
           (after_write w k sent (reply_written w.kernel sent.unique sent.wire))
       by true live = written_balanced w (old.balanced live) lookups.copies k sent there
-          (reply_written w.kernel sent.unique sent.wire) (hears_opens k sent there live)
+          (reply_written w.kernel sent.unique sent.wire) (receives_opens k sent there live)
       by false dead = let links = both.links in none_at w.replies k sent (links.idle dead).replies there
 
   balanced_after : (e : Event) (o : Outcome) (after : World) → MayStep choice w e → LookupsSound after
       → Happened choice w e o after → is_live after.kernel.phase ≡ true → OpensBalanced after
   balanced_after e o after may next (by_mount f m v idle) live = fresh w f m v
   balanced_after e o after may next (by_call call ready room within) live =
-      let goes = begun_goes_on w.kernel (spoken w.kernel.lists_files call) in
+      let goes = begun_goes_on w.kernel (for_minor w.kernel.lists_files call) in
       kernel_moves w (old.balanced (sym (ap is_live goes.phase) ∙ live))
-      (call_begun w.kernel (spoken w.kernel.lists_files call)) w.requests
-      (keeps_same w (call_begun w.kernel (spoken w.kernel.lists_files call))
-      (begun_keeps w.kernel old.apart (spoken w.kernel.lists_files call)))
+      (call_begun w.kernel (for_minor w.kernel.lists_files call)) w.requests
+      (keeps_same w (call_begun w.kernel (for_minor w.kernel.lists_files call))
+      (begun_keeps w.kernel old.apart (for_minor w.kernel.lists_files call)))
   balanced_after e o after may next (by_read_interrupt original rest was there within) live =
       kernel_moves w (old.balanced was) after.kernel after.requests (interrupt_same w original)
   balanced_after e o after may next (by_read_forgets n was free can within few) live =
@@ -298,8 +298,8 @@ module _ (choice : ℕ → ℕ) (w : World) (p : Plain) (both : BothSound w p) (
       → is_live after.kernel.phase ≡ false → Unopened after.kernel
   unopened_after e o after (by_mount f m v idle) dead = (refl, refl)
   unopened_after e o after (by_call call ready room within) dead =
-      let goes = begun_goes_on w.kernel (spoken w.kernel.lists_files call) in
-      called_unopened (spoken w.kernel.lists_files call) ready (sym (ap is_live goes.phase) ∙ dead)
+      let goes = begun_goes_on w.kernel (for_minor w.kernel.lists_files call) in
+      called_unopened (for_minor w.kernel.lists_files call) ready (sym (ap is_live goes.phase) ∙ dead)
   unopened_after e o after (by_read_interrupt original rest live there within) dead =
       lives_on after.kernel refl live dead
   unopened_after e o after (by_read_forgets n live free can within few) dead = lives_on after.kernel refl live dead

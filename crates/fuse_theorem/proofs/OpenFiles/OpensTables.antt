@@ -22,7 +22,7 @@ use Rattle.fuse_spec.specs.Server.Taking.{taking, interrupting}
 use Rattle.fuse_spec.specs.Server.Performs.{PerformResult, performed, served}
 use Rattle.fuse_spec.specs.Claim.Denotes.{Denotes}
 use Rattle.fuse_spec.specs.Reference.Plain.{Plain}
-use Rattle.fuse_spec.specs.World.Worlds.{World, replying, server_settled, after_take, after_perform, after_again, after_settle}
+use Rattle.fuse_spec.specs.World.Worlds.{World, copy_put, server_settled, after_take, after_perform, after_again, after_settle}
 use Rattle.fuse_spec.specs.World.Steps.{MayChooseFor}
 use Rattle.fuse_theorem.specs.AskedRequests.{HeldAsked, RequestsAsked, serves_call}
 use Rattle.fuse_theorem.specs.Copies.{CopiesSound}
@@ -35,7 +35,7 @@ use Rattle.fuse_theorem.specs.Unperformed.{BearsNumber, RequestsSound}
 use Rattle.fuse_theorem.proofs.Replies.CopiesSound.{served_copies}
 use Rattle.fuse_theorem.proofs.Calls.Finding.{same_is}
 use Rattle.fuse_theorem.proofs.Refining.Forgetting.{all_less_denotes}
-use Rattle.fuse_theorem.proofs.Refining.Giving.{denotes_one, counted_denotes, counted_open}
+use Rattle.fuse_theorem.proofs.Refining.LookupsCounted.{denotes_one, counted_denotes, counted_open}
 use Rattle.fuse_theorem.proofs.Nodes.HeldKnown.{still_held}
 use Rattle.fuse_theorem.proofs.Lists.LinkSums.{term_le}
 use Rattle.fuse_theorem.proofs.Lookups.LookupsStay.{known_held}
@@ -91,7 +91,7 @@ taken_handles w unique (interrupt original) = by (get w.server.held original) (g
 
 -- The server is the one that it was before the copy went out.
 pub replying_server : (w : World) (number unique : ℕ) (o : Option WireReply)
-    → (replying w number unique o).server ≡ w.server
+    → (copy_put w number unique o).server ≡ w.server
 replying_server w number unique None = refl
 replying_server w number unique (Some wire) = refl
 
@@ -213,7 +213,7 @@ module _ (w : World) (p : Plain) (both : BothSound w p) (live : is_live w.kernel
 
     -- The same files are open but that of a RELEASE.
     pub performed_files : (reply : Option WireReply) (f : Opened → ℕ)
-        → sum_by f (open_files (replying (record w {
+        → sum_by f (open_files (copy_put (record w {
           server =
               (served choice w.server unique t).server;
         }) w.server.next_copy unique reply)) + body_sum f t.body
@@ -231,7 +231,7 @@ module _ (w : World) (p : Plain) (both : BothSound w p) (live : is_live w.kernel
             omega (arith, before, after, gone, same)
 
         by : (x : Option WireReply) → sum_by f (open_files
-            (replying (record w {
+            (copy_put (record w {
               server =
                   (served choice w.server unique t).server;
             }) w.server.next_copy unique x)) + body_sum f t.body
@@ -294,15 +294,15 @@ module _ (w : World) (p : Plain) (both : BothSound w p) (live : is_live w.kernel
             → (served choice w.server unique t).server.copies
             ≡ cond b w.server.copies (put w.server.copies w.server.next_copy
             (record { unique = unique; wire = (served choice w.server unique t).wire; first = w.server.next_copy }))
-            → LookupsSound (replying
+            → LookupsSound (copy_put
             (record w { server = (served choice w.server unique t).server }) w.server.next_copy unique
             (cond b None (Some (served choice w.server unique t).wire)))
-            → OpensBalanced (replying
+            → OpensBalanced (copy_put
             (record w { server = (served choice w.server unique t).server }) w.server.next_copy unique
             (cond b None (Some (served choice w.server unique t).wire)))
         by true aborted copies after = absurd (true≢false (sym aborted ∙ serving))
         by false alive copies after =
-            let v = replying (record w { server = (served choice w.server unique t).server }) w.server.next_copy unique
+            let v = copy_put (record w { server = (served choice w.server unique t).server }) w.server.next_copy unique
             (Some (served choice w.server unique t).wire) in
             tables_change v after refl (more_nodes v.server.nodes nodes.more) numbers.files
             (λ f. let less_is = performed_files (Some (served choice w.server unique t).wire) f in

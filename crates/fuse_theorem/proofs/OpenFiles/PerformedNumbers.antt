@@ -14,7 +14,7 @@ use Rattle.fuse_spec.specs.Server.Server.{Server, HeldRequest}
 use Rattle.fuse_spec.specs.Server.Performs.{PerformResult, file_operation_of, is_open_for, doing, wire_of, refusing, performing, performed, is_still_held, init_reply}
 use Rattle.fuse_spec.specs.Claim.Counts.{opens_in}
 use Rattle.fuse_theorem.specs.OpenNumbers.{released_by}
-use Rattle.fuse_theorem.proofs.Refining.Giving.{opened_open}
+use Rattle.fuse_theorem.proofs.Refining.LookupsCounted.{opened_open}
 use Rattle.fuse_theorem.proofs.OpenFiles.NumberCounts.{number_count, back_count, opens_one, wire_opened, SameFiles, back_files}
 use Rattle.fuse_theorem.proofs.Lists.OpenSums.{has_number}
 use Rattle.fuse_theorem.proofs.Lookups.WireCounts.{OneAtMost, nothing, one}

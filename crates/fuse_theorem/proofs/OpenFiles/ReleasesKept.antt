@@ -26,7 +26,7 @@ use Rattle.fuse_spec.specs.Kernel.Messages.{WireReply}
 use Rattle.fuse_spec.specs.Files.Operations.{Operation, done, failed, files_in_reply}
 use Rattle.fuse_spec.specs.Kernel.QueueCalls.{after_enqueue, set_mark, after_reading, after_effect, interrupt_effect, after_reply_effect, waiting, without}
 use Rattle.fuse_spec.specs.Kernel.Queues.{QueueState, mark_under}
-use Rattle.fuse_spec.specs.Kernel.Replies.{kernel_reply, looked_up, Use, usable, useless, stale, goes_with, is_agreement, judged, replied, replied_to_call, request_reply_written, interrupt_reply_written, interrupt_replied, interrupt_reply_of, reply_written, reply_received, without_stale, reply_judged, use_of_reply, made_ready}
+use Rattle.fuse_spec.specs.Kernel.Replies.{kernel_reply, looked_up, Use, usable, unusable, stale, goes_with, is_agreement, judged, replied, replied_to_call, request_reply_written, interrupt_reply_written, interrupt_replied, interrupt_reply_of, reply_written, reply_received, without_stale, reply_judged, use_of_reply, made_ready}
 use Rattle.fuse_spec.specs.Kernel.Signals.{reply_effect}
 use Rattle.fuse_spec.specs.Calls.Vfs.{CallState, walking, doing, using, asked, Advance, answered, begun}
 use Rattle.fuse_theorem.specs.KnownNodes.{IsKnown, NodesKnown}
@@ -178,10 +178,10 @@ read_kept nodes q old (Some e) = by e.0 e.1.mark
 
 -- ---- replies
 
-heard_kept : (k : Kernel) → KeptReleases k → (call : ℕ) (wire : WireReply) (o : Option (CallState Opened))
+received_kept : (k : Kernel) → KeptReleases k → (call : ℕ) (wire : WireReply) (o : Option (CallState Opened))
     → KeptReleases (replied_to_call k call wire o).1
-heard_kept k old call wire None = old
-heard_kept k old call wire (Some state) = by (goes_with (asked state) wire)
+received_kept k old call wire None = old
+received_kept k old call wire (Some state) = by (goes_with (asked state) wire)
   where
     judged_kept : (x : WireReply) (u : Use) → KeptReleases (judged (without_stale k wire) call state x u)
     judged_kept x usable =
@@ -194,7 +194,7 @@ heard_kept k old call wire (Some state) = by (goes_with (asked state) wire)
           requests = All-more k.queues.requests (λ e h. more_released k.nodes
               (looked_up k.nodes gs) more e.1.kept h) old.requests;
         })
-    judged_kept x useless = record { closing = old.closing; requests = old.requests }
+    judged_kept x unusable = record { closing = old.closing; requests = old.requests }
     judged_kept x (stale node) = record { closing = old.closing; requests = old.requests }
 
     by : (b : Bool) → KeptReleases (replied k call state b wire).1
@@ -256,7 +256,7 @@ written_kept k old unique wire = by (nat_eq (unique % 2) 1)
     even None = old
     even (Some purpose.Init) = agrees (is_agreement wire)
     even (Some (purpose.Release o)) = ended
-    even (Some (purpose.Call call)) = heard_kept (record k { queues = without k.queues unique }) ended call wire
+    even (Some (purpose.Call call)) = received_kept (record k { queues = without k.queues unique }) ended call wire
         (get k.vfs.calls call)
 
     by : (b : Bool) → KeptReleases (cond b (interrupt_reply_written k unique wire (waiting k.queues (unique - 1)))

@@ -1,6 +1,6 @@
 -- The kernel knows the nodes of closed files and of RELEASEs, and the server holds RELEASEs as the kernel knows them,
 -- whatever the event.
-use Rattle.fuse_spec.specs.Calls.Calls.{spoken}
+use Rattle.fuse_spec.specs.Calls.Calls.{for_minor}
 use Rattle.std.proofs.Common.{◌≡◌, ℕ, ◌+◌, Bool, drop, true, false, true≢false, cond, [], ◌∷◌, Option, Some, None, nat_eq, slice_get, refl, sym, subst, ◌∙◌, get_or, All}
 use Rattle.std.specs.List.{list_any, remove as without_at}
 use Rattle.std.proofs.lemmas.List.Elements.{All-nil, All-cons, All-head}
@@ -21,7 +21,7 @@ use Rattle.fuse_spec.specs.Kernel.Queues.{pending}
 use Rattle.fuse_spec.specs.Server.Server.{nodes_of_body}
 use Rattle.fuse_spec.specs.Server.Taking.{taking}
 use Rattle.fuse_spec.specs.Calls.Vfs.{CallState, using, Vfs}
-use Rattle.fuse_spec.specs.World.Worlds.{World, first_world, replying}
+use Rattle.fuse_spec.specs.World.Worlds.{World, first_world, copy_put}
 use Rattle.fuse_spec.specs.World.Events.{Event, Outcome}
 use Rattle.fuse_spec.specs.World.Steps.{Happens}
 use Rattle.fuse_theorem.specs.AskedRequests.{IsAsked, RequestsAskedWhileLive}
@@ -91,8 +91,8 @@ module _ (w : World) (nodes : NodesKnown w.kernel) (old : ReleasesKnown w) where
       by (purpose.Call call) free h = tt
 
   requests_same : (v : World) (number unique : ℕ) (o : Option WireReply) → v.kernel ≡ w.kernel
-      → All (λ (e : ℕ × QueuedRequest Purpose). ReleaseKnown (replying v number unique o).kernel.nodes e.1.kept)
-      (replying v number unique o).kernel.queues.requests
+      → All (λ (e : ℕ × QueuedRequest Purpose). ReleaseKnown (copy_put v number unique o).kernel.nodes e.1.kept)
+      (copy_put v number unique o).kernel.queues.requests
   requests_same v number unique o same = subst (λ (k : Kernel). All
       (λ (e : ℕ × QueuedRequest Purpose). ReleaseKnown k.nodes e.1.kept) k.queues.requests)
       (sym (replying_kernel v number unique o ∙ same)) old.requests
@@ -101,7 +101,7 @@ module _ (w : World) (nodes : NodesKnown w.kernel) (old : ReleasesKnown w) where
       → All (λ (x : ℕ × QueuedRequest Purpose). ReleaseKnown after.kernel.nodes x.1.kept) after.kernel.queues.requests
   by_event choice e o after (by_mount f m v idle) = All-cons (Fine []) _ [] tt (All-nil (Fine []))
   by_event choice e o after (by_call call ready room within) = let now =
-      begun_kept w.kernel nodes releases (spoken w.kernel.lists_files call) in now.requests
+      begun_kept w.kernel nodes releases (for_minor w.kernel.lists_files call) in now.requests
   by_event choice e o after (by_read_interrupt original rest live there within) = old.requests
   by_event choice e o after (by_read_forgets n live free can within few) = by (can_read_forgets w.kernel.queues n)
     where

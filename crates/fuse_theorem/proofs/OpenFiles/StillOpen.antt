@@ -16,7 +16,7 @@ use Rattle.fuse_theorem.specs.AskedRequests.{RequestsAskedWhileLive}
 use Rattle.fuse_theorem.specs.Links.{LinksSound}
 use Rattle.fuse_theorem.specs.StillOpen.{NumbersStillOpen, HeldNumbersOpen, OpensLeft, OpensAfterAbort}
 use Rattle.fuse_theorem.specs.WorldSound.{WorldSound}
-use Rattle.fuse_theorem.proofs.Requests.AfterAbort.{WithoutMount, by_loss, by_kernel, by_serving, without_mount, replying_server, unheard_nodes}
+use Rattle.fuse_theorem.proofs.Requests.AfterAbort.{WithoutMount, by_loss, by_kernel, by_serving, without_mount, replying_server, unreceived_nodes}
 use Rattle.fuse_theorem.proofs.RefusalCases.Happened.{happened}
 use Rattle.fuse_theorem.proofs.OpenFiles.NumbersLeft.{left_open, released_open}
 use Rattle.fuse_theorem.proofs.Requests.NumbersStay.{replying_kernel}
@@ -91,7 +91,7 @@ module _ (w : World) (sound : WorldSound w) (live_open : is_live w.kernel.phase 
         let rest = performed_rest choice s1 t in
         let numbers = (performed choice s1 t).server.handles in
         subst (λ (n : NodeTable). NumbersStillOpen n numbers (performed choice s1 t).server.held)
-        (sym (unheard_nodes w sound choice unique t aborted))
+        (sym (unreceived_nodes w sound choice unique t aborted))
         (subst (λ (m : Map HeldRequest). NumbersStillOpen w.server.nodes numbers m) (sym rest.held) numbers_left)
 
   by_event : (choice : ℕ → ℕ) (after : World) → WithoutMount choice w after → OpensLeft after

@@ -3,7 +3,7 @@
 use Rattle.std.proofs.Common.{ℕ, List, ◌∷◌, ◌++◌, get_or, refl, All}
 use Rattle.std.proofs.lemmas.List.Elements.{All-nil, All-cons, All-append}
 use Rattle.fuse_spec.specs.declared.Refusal.TheVariants.{LinkLost}
-use Rattle.fuse_spec.specs.Claim.Counts.{Keeps}
+use Rattle.fuse_spec.specs.Claim.Counts.{Protocol}
 use Rattle.fuse_spec.specs.World.Events.{Event}
 use Rattle.fuse_spec.specs.Reference.Plain.{Plain}
 use Rattle.fuse_spec.specs.World.Records.{Record, outcome, refused, link_lost, answers_of, collected}
@@ -82,7 +82,7 @@ module _ (s : Session) (here : IsSoundWorld s.world) (events : List Event) (reco
       let run = session_run s p (sound_with s.world here p refines) events records after recorded in
       (run.0, run.1, run.2.both.alike)
 
-  pub session_keeps : Keeps after.world
+  pub session_keeps : Protocol after.world
   session_keeps = let run = session_run s here.plain here.sound events records after recorded in
       all_keep after.world run.0 run.2
 

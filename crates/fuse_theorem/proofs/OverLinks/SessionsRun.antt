@@ -4,7 +4,7 @@ use Rattle.fuse_spec.specs.Values.Maps.{Map}
 use Rattle.fuse_spec.specs.Calls.Answers.{Answer}
 use Rattle.fuse_spec.specs.declared.Refusal.TheVariants.{LinkLost}
 use Rattle.fuse_spec.specs.World.Records.{Record, outcome, refused, link_lost, answers_of, collected}
-use Rattle.fuse_spec.specs.Claim.Runs.{plain_collected, Accepts, Refuses}
+use Rattle.fuse_spec.specs.Claim.Runs.{plain_collected, Accepts, RefusesEvent}
 use Rattle.fuse_spec.specs.Claim.Sessions.{Session, linked, lost, Loses, moves, loses, refuses, SessionRun}
 use Rattle.fuse_spec.specs.World.Events.{Event, abort, aborted}
 use Rattle.fuse_spec.specs.Reference.Plain.{Plain}
@@ -27,7 +27,7 @@ pub session_run : (s : Session) (p : Plain) → AllSound s.world p
 session_run s p all events records after (none_left v) = (p, (refl, refl, refl), all)
 session_run s p all events records after (one_refused w event refusal rest more last judged recorded) =
     let run = session_run (linked w) p all rest more last recorded in
-    let refused_one : Refuses w p event (refused refusal ∷ []) w p =
+    let refused_one : RefusesEvent w p event (refused refusal ∷ []) w p =
     record { refusal = refusal; judged = judged; recorded = refl; after = refl; plain_after = refl } in
     (run.0, (refused refusal ∷ [], more, linked w, p, refl, moves w w p (inr refused_one), run.1), run.2)
 session_run s p all events records after (one_accepted w event o mid rest more last happens recorded) =

@@ -1,6 +1,6 @@
 -- What the plain world performs is replied to as its operation asks, and only what was interrupted is declined, whatever
 -- step it takes.
-use Rattle.fuse_spec.specs.Calls.Calls.{spoken, lists_files_at}
+use Rattle.fuse_spec.specs.Calls.Calls.{for_minor, lists_files_at}
 use Rattle.std.proofs.Common.{◌≡◌, ◌≢◌, ℕ, ◌-◌, ◌≤◌, Bool, true, false, true≢false, not, ◌&&◌, nat_eq, cond, List, [], ◌∷◌, Option, Some, None, refl, ap, sym, subst, ◌∙◌, arith, inl, inr}
 use Rattle.std.specs.Prelude.{nat_le, min, sum_by}
 use Rattle.std.specs.List.{list_all}
@@ -16,14 +16,14 @@ use Rattle.fuse_spec.specs.declared.Validity.{Validity}
 use Rattle.fuse_spec.specs.declared.WriteResult.TheVariants.{Accepted, NoEntry, Invalid}
 use Rattle.fuse_spec.specs.World.Events.{Event, Outcome}
 use Rattle.fuse_spec.specs.World.Events as event
-use Rattle.fuse_spec.specs.Files.FileOperations.{FileOperation, Check, checks, first_refusal, refusal, reply_unrefused, reply_or, looked_up, reply_by}
+use Rattle.fuse_spec.specs.Files.FileOperations.{FileOperation, Check, checks, first_refusal, refusal, reply_unrefused, reply_or, lookup_reply, reply_by}
 use Rattle.fuse_spec.specs.Values.Maps.{Map, get, put, remove}
 use Rattle.fuse_spec.specs.Files.Operations.{lookup, getattr, mkdir, create, unlink, rmdir, rename, link, opening, readdir, readdirplus, read, write, Dirent, DirentPlus, failed}
 use Rattle.fuse_spec.specs.Files.Trees.{Tree, record_length, fitting, records_after, pair_length, fitting_pairs, pairs_after, file_at}
 use Rattle.fuse_spec.specs.Calls.CallReplies.{call_replied}
 use Rattle.fuse_spec.specs.Calls.Vfs.{CallState, begun}
-use Rattle.fuse_spec.specs.Reference.Plain.{Plain, Ask, Stage, waiting, performed, declined, asking, call_put, ask_performed, ask_declined, ask_delivered, ask_interrupted, ask_noted, ask_marked, plain_later, name_dropped, plain_aborted, plain_mounted, first_plain}
-use Rattle.fuse_spec.specs.Reference.PlainSteps.{where_so, serving_ask, serving, delivering_to_call, delivering_reply, delivering, signalled_ask, signalling, marking, takes, Takes}
+use Rattle.fuse_spec.specs.Reference.Plain.{Plain, Ask, Stage, waiting, performed, declined, ask_put, plain_call_put, ask_performed, ask_declined, ask_delivered, ask_interrupted, ask_noted, ask_marked, plain_later, name_dropped, plain_aborted, plain_mounted, first_plain}
+use Rattle.fuse_spec.specs.Reference.PlainSteps.{where_so, serving_ask, serving, delivering_to_call, delivering_reply, delivering, signalled_ask, plain_signalling, marking, takes, Takes}
 use Rattle.fuse_spec.specs.Kernel.Kernel.{Kernel, is_live}
 use Rattle.fuse_spec.specs.Reference.PlainCalls.{RepliesTo}
 use Rattle.fuse_theorem.specs.AskedRequests.{IsInterrupted}
@@ -79,7 +79,7 @@ unrefused_so : (valid : Validity) (tree : Tree) (operation : FileOperation)
     → RepliesTo operation (reply_unrefused valid tree operation)
 unrefused_so valid tree (lookup d name) = by (file_at tree d name)
   where
-    by : (o : Option ℕ) → RepliesTo (lookup d name) (looked_up valid o)
+    by : (o : Option ℕ) → RepliesTo (lookup d name) (lookup_reply valid o)
     by None = tt
     by (Some file) = tt
 unrefused_so valid tree (getattr x) = tt
@@ -145,7 +145,7 @@ never_unrefused : (valid : Validity) (tree : Tree) (operation : FileOperation)
     → reply_unrefused valid tree operation ≢ failed 4
 never_unrefused valid tree (lookup d name) e = by (file_at tree d name) e
   where
-    by : (o : Option ℕ) → looked_up valid o ≡ failed 4 → ⊥
+    by : (o : Option ℕ) → lookup_reply valid o ≡ failed 4 → ⊥
     by None f = absurd (cc (f))
     by (Some file) f = absurd (cc (f))
 never_unrefused valid tree (getattr x) e = absurd (cc (e))
@@ -193,10 +193,10 @@ module _ (k : Kernel) where
 
   -- A call asks what it asks next.
   asking_served : (p : Plain) → AsksServed k p → (label call : ℕ) (o : Option FileOperation)
-      → AsksServed k (asking p label call o)
+      → AsksServed k (ask_put p label call o)
   asking_served p old label call None = old
   asking_served p old label call (Some operation) =
-      put_ask p (asking p label call (Some operation)) old label
+      put_ask p (ask_put p label call (Some operation)) old label
       (record { call = call; operation = operation; stage = waiting; noted = false; marked = false })
       (record {
         replied = λ reply e. absurd (cc);
@@ -282,9 +282,9 @@ module _ (k : Kernel) (p : Plain) (old : AsksServed k p) where
       → is_live k.phase ≡ true → IsInterrupted k unique)
       → takes chosen p e o ≡ Some q → AsksServed k q
   step_served chosen (event.call call) (event.begun number) q marks f =
-      let went = begun p.aborted p.vfs (spoken (lists_files_at p.minor) call) in
+      let went = begun p.aborted p.vfs (for_minor (lists_files_at p.minor) call) in
       let p1 = record p { vfs = went.vfs } in
-      where_served _ (call_put p chosen call) q (asking_served k p1
+      where_served _ (plain_call_put p chosen call) q (asking_served k p1
       (same_asks k p p1 old refl) chosen p.vfs.next_call went.operation) f
   step_served chosen (event.perform unique) (event.performed u errno lost) q marks f = by (get p.asks unique) refl f
     where
@@ -300,7 +300,7 @@ module _ (k : Kernel) (p : Plain) (old : AsksServed k p) where
   step_served chosen (event.write place) (event.written unique Invalid) q marks f = some_served p q old f
   step_served chosen (event.intr call fatal) (event.interrupted c x) q marks f = by (get p.asks chosen) refl f
     where
-      by : (y : Option Ask) → get p.asks chosen ≡ y → signalling p x call chosen y ≡ Some q → AsksServed k q
+      by : (y : Option Ask) → get p.asks chosen ≡ y → plain_signalling p x call chosen y ≡ Some q → AsksServed k q
       by None at g = absurd (cc)
       by (Some ask) at g = where_served _ (signalled_ask p x chosen ask) q
           (signalled_served x chosen ask (old chosen ask at)) g

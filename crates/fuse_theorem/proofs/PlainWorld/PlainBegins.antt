@@ -4,7 +4,7 @@ use Rattle.std.specs.Prelude.{nat_lt}
 use Rattle.std.proofs.lemmas.Bool.Decides.{nat_tests}
 use Rattle.fuse_spec.specs.Values.Maps.{get}
 use Rattle.fuse_spec.specs.Values.Numbers.{einval, max_file, max_transfer}
-use Rattle.fuse_spec.specs.Calls.Paths.{Name, words_of, parent_and_last}
+use Rattle.fuse_spec.specs.Calls.Paths.{Name, path_words_of, parent_and_last}
 use Rattle.fuse_spec.specs.Files.Operations as op
 use Rattle.fuse_spec.specs.Calls.Walks.{WalkPlan, last, rename, link}
 use Rattle.fuse_spec.specs.Calls.Calls.{Call}
@@ -55,23 +55,23 @@ module _ (c : Vfs ℕ) (number : ℕ) where
       Begins.sets_out x words plan went.vfs went.operation takes (goes_on c number c.root words plan)
 
   along : (x : Call) (path : List ℕ) (then : List Name → Beginning ℕ ℕ)
-      → ((errno : ℕ) → words_of path ≡ Err errno → BeginsBy x (faulty errno))
-      → ((words : List Name) → words_of path ≡ Ok words → BeginsBy x (then words)) → BeginsBy x (whole_path path then)
-  along x path then bad good = by (words_of path) refl
+      → ((errno : ℕ) → path_words_of path ≡ Err errno → BeginsBy x (faulty errno))
+      → ((words : List Name) → path_words_of path ≡ Ok words → BeginsBy x (then words)) → BeginsBy x (whole_path path then)
+  along x path then bad good = by (path_words_of path) refl
     where
-      by : (r : Result (List Name) ℕ) → words_of path ≡ r
+      by : (r : Result (List Name) ℕ) → path_words_of path ≡ r
           → BeginsBy x (elim r [ Err fault ↦ faulty fault | Ok words ↦ then words ])
       by (Err errno) e = bad errno e
       by (Ok words) e = good words e
 
   up_to_last : (x : Call) (path : List ℕ) (then : List Name → Name → Beginning ℕ ℕ)
       → ((errno : ℕ) → HasNoName path errno → BeginsBy x (faulty errno))
-      → ((words : List Name) (name : Name) → words_of path ≡ Ok (words ++ name ∷ []) → BeginsBy x (then words name))
+      → ((words : List Name) (name : Name) → path_words_of path ≡ Ok (words ++ name ∷ []) → BeginsBy x (then words name))
       → BeginsBy x (parent_path path then)
   up_to_last x path then bad good = along x path _ (λ errno e. bad errno (is_faulty path errno e))
       (λ words e. by words e (parent_and_last words) (ends_in words))
     where
-      by : (words : List Name) → words_of path ≡ Ok words → (o : Option (List Name × Name)) → EndsIn words o
+      by : (words : List Name) → path_words_of path ≡ Ok words → (o : Option (List Name × Name)) → EndsIn words o
           → BeginsBy x (elim o [ None ↦ faulty einval | Some parts ↦ then parts.0 parts.1 ])
       by words e None none = bad einval (is_root path (cc))
       by words e (Some parts) ends = good parts.0 parts.1 (cc)

@@ -50,18 +50,18 @@ module _ (c : Vfs ℕ) (number : ℕ) where
   answers operation reply = plain.is_no_reply operation reply refl
 
   -- A reply reaches the call as it does in words.
-  pub hears : (state : CallState ℕ) (reply : Reply ℕ ℕ)
+  pub receives : (state : CallState ℕ) (reply : Reply ℕ ℕ)
       → ReceivesReply c number state reply (call_replied c number state reply).vfs
       (call_replied c number state reply).operation
-  hears (walking directory word words plan) (op.found file valid) =
+  receives (walking directory word words plan) (op.found file valid) =
       let known = bound c directory word (Some file) valid in
       let went = walks_on known number file words plan in
       ReceivesReply.is_found directory word words plan file valid went.vfs went.operation
       (goes_on known number file words plan)
-  hears (walking directory word words plan) (op.missing valid) = plain.is_missing directory word words plan valid
-  hears (walking directory word words plan) (op.failed errno) = plain.is_not_delivered directory word words plan errno
-  hears (walking directory word words plan) reply = plain.is_odd directory word words plan reply refl
-  hears (doing operation) reply = plain.of_operation operation reply (operation_replied c number operation reply)
+  receives (walking directory word words plan) (op.missing valid) = plain.is_missing directory word words plan valid
+  receives (walking directory word words plan) (op.failed errno) = plain.is_not_delivered directory word words plan errno
+  receives (walking directory word words plan) reply = plain.is_odd directory word words plan reply refl
+  receives (doing operation) reply = plain.of_operation operation reply (operation_replied c number operation reply)
       (answers operation reply)
-  hears (using handle operation) reply = plain.of_open_file handle operation reply
+  receives (using handle operation) reply = plain.of_open_file handle operation reply
       (operation_replied c number operation reply) (answers operation reply)

@@ -10,18 +10,18 @@ use Rattle.fuse_spec.specs.declared.WriteResult.TheVariants.{Accepted, NoEntry, 
 use Rattle.fuse_spec.specs.Values.Maps.{get, remove}
 use Rattle.fuse_spec.specs.Files.Operations.{Operation, Reply}
 use Rattle.fuse_spec.specs.Calls.Calls as call
-use Rattle.fuse_spec.specs.Calls.Calls.{Call, spoken, lists_files_at}
+use Rattle.fuse_spec.specs.Calls.Calls.{Call, for_minor, lists_files_at}
 use Rattle.fuse_spec.specs.Calls.Vfs.{CallState, Vfs, begun, given_up}
 use Rattle.fuse_spec.specs.Calls.CallReplies.{call_replied}
-use Rattle.fuse_spec.specs.Reference.Plain.{Plain, Ask, Stage, waiting, performed, declined, asking, going_on, call_put, ask_performed, ask_declined, ask_delivered, ask_interrupted, plain_later}
-use Rattle.fuse_spec.specs.Reference.PlainSteps.{where_so, serving_ask, serving, delivering_to_call, delivering_reply, delivering, may_signal, signalled_ask, signalling, marking, takes, Takes}
+use Rattle.fuse_spec.specs.Reference.Plain.{Plain, Ask, Stage, waiting, performed, declined, ask_put, going_on, plain_call_put, ask_performed, ask_declined, ask_delivered, ask_interrupted, plain_later}
+use Rattle.fuse_spec.specs.Reference.PlainSteps.{where_so, serving_ask, serving, delivering_to_call, delivering_reply, delivering, may_signal, signalled_ask, plain_signalling, marking, takes, Takes}
 use Rattle.fuse_spec.specs.World.Events.{Event, Outcome}
 use Rattle.fuse_spec.specs.World.Events as event
 use Rattle.fuse_spec.specs.Reference.PlainWords.{one_more, Asks, Steps, PutAs}
 use Rattle.fuse_spec.specs.Reference.PlainWords as plain
 use Rattle.fuse_theorem.proofs.PlainWorld.PlainBegins.{begins}
 use Rattle.fuse_theorem.proofs.PlainWorld.PlainGivesUp.{gives_up}
-use Rattle.fuse_theorem.proofs.PlainWorld.PlainReplies.{hears}
+use Rattle.fuse_theorem.proofs.PlainWorld.PlainReplies.{receives}
 
 -- ---- conditions
 
@@ -58,12 +58,12 @@ same_number a b e = elim (eqb_tells a b) [ inl h ↦ sym h.1 | inr h ↦ absurd 
 -- ---- the steps
 
 asks : (p : Plain) (label number : ℕ) (after : Vfs ℕ) (asked : Option (Operation ℕ ℕ))
-    → Asks p label number after asked (asking (record p { vfs = after }) label number asked)
+    → Asks p label number after asked (ask_put (record p { vfs = after }) label number asked)
 asks p label number after None = plain.nothing
 asks p label number after (Some operation) = plain.puts_ask operation
 
 -- A call is put as it is in words.
-put_as : (m : Minor) (x : Call) → PutAs m x (spoken (lists_files_at m) x)
+put_as : (m : Minor) (x : Call) → PutAs m x (for_minor (lists_files_at m) x)
 put_as M31 x = plain.in_full x
 put_as M15 (call.listplus path after) = plain.names_alone path after
 put_as M15 x = plain.any_other x (λ path after e. absurd (cc (e)))
@@ -78,14 +78,14 @@ module _ (p q : Plain) where
   some_goes e o r same step = goes e o r (cc) step
 
   call_begins : (x : Call) (label : ℕ) → get p.asks label ≡ None
-      → Steps p (event.call x) (event.begun p.vfs.next_call) (call_put p label x)
+      → Steps p (event.call x) (event.begun p.vfs.next_call) (plain_call_put p label x)
   call_begins x label free = by p.aborted refl
     where
       y : Call
-      y = spoken (lists_files_at p.minor) x
+      y = for_minor (lists_files_at p.minor) x
 
       by : (aborted : Bool) → p.aborted ≡ aborted → Steps p (event.call x) (event.begun p.vfs.next_call)
-          (going_on p label p.vfs.next_call (begun aborted p.vfs (spoken (lists_files_at p.minor) x)))
+          (going_on p label p.vfs.next_call (begun aborted p.vfs (for_minor (lists_files_at p.minor) x)))
       by true lost = plain.begins_in_vain x lost
       by false live =
           let went = begun false p.vfs y in
@@ -126,7 +126,7 @@ module _ (p q : Plain) where
           goes _ _ _ did.leads
           (plain.delivers k unique label ask reply state went.vfs went.operation
           (ask_delivered p unique label ask reply state) there stage stands (is_free (get p.asks label) did.so)
-          (hears p.vfs ask.call state reply)
+          (receives p.vfs ask.call state reply)
           (asks (record p { asks = remove p.asks unique }) label ask.call went.vfs went.operation))
 
       by : (stage : Stage) → ask.stage ≡ stage → delivering_reply p unique label ask stage ≡ Some q
@@ -140,7 +140,7 @@ module _ (p q : Plain) where
           goes _ _ _ did.leads (plain.delivers_eintr k unique ask state.0 there stage holds.first state.1)
 
   signals : (number label : ℕ) (fatal : Bool) (c : ℕ) (signal : IntrEffect) (o : Option Ask) → get p.asks label ≡ o
-      → signalling p signal number label o ≡ Some q → Steps p (event.intr number fatal) (event.interrupted c signal) q
+      → plain_signalling p signal number label o ≡ Some q → Steps p (event.intr number fatal) (event.interrupted c signal) q
   signals number label fatal c signal None there e = absurd (cc)
   signals number label fatal c signal (Some ask) there e =
       let did = taken_so (is_some (get p.vfs.calls number) && (nat_eq ask.call number && may_signal signal ask.stage))
@@ -176,7 +176,7 @@ module _ (p q : Plain) where
   steps : (chosen : ℕ) (e : Event) (o : Outcome) → takes chosen p e o ≡ Some q → Steps p e o q
   steps chosen (event.call x) (event.begun number) e =
       let did = taken_so (nat_eq number p.vfs.next_call && not (is_some (get p.asks chosen)))
-      (call_put p chosen x) q e in
+      (plain_call_put p chosen x) q e in
       let tests = both (nat_eq number p.vfs.next_call) (not (is_some (get p.asks chosen))) did.so in
       subst (λ (n : ℕ). Steps p (event.call x) (event.begun n) q) (same_number number p.vfs.next_call tests.first)
       (goes _ _ _ did.leads (call_begins x chosen (is_free (get p.asks chosen) tests.second)))

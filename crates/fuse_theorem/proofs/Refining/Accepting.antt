@@ -1,5 +1,5 @@
--- The kernel accepts a reply to a call's request, for all operations: the call hears of the files what its ask came to.
-use Rattle.fuse_theorem.proofs.Refining.JudgedReplies.{heard_is}
+-- The kernel accepts a reply to a call's request, for all operations: the call receives of the files what its ask came to.
+use Rattle.fuse_theorem.proofs.Refining.JudgedReplies.{received_is}
 use Rattle.std.proofs.Common.{◌≡◌, ℕ, Bool, true, not, List, [], ◌∷◌, ◌++◌, Option, Some, None, is_some, refl, ap, sym, subst, ◌∙◌}
 use Rattle.fuse_spec.specs.declared.Counted.{Counted}
 use Rattle.fuse_spec.specs.declared.Opened.{Opened}
@@ -21,16 +21,16 @@ use Rattle.fuse_spec.specs.Claim.Denotes.{MeansIn, MeansOpenIn, StateAlike}
 use Rattle.fuse_spec.specs.Claim.Alike.{Alike}
 use Rattle.fuse_spec.proofs.QueueSoundness.{IsSound-without}
 use Rattle.fuse_theorem.specs.Numbering.{IsNumbered}
-use Rattle.fuse_theorem.specs.Conditions.{OneId, IsReply}
-use Rattle.fuse_theorem.proofs.Refining.TablesReplaced.{grown, carried_alike}
-use Rattle.fuse_theorem.proofs.Refining.LookedUp.{one_to_one, looked_up_known, heard_fits}
+use Rattle.fuse_theorem.specs.Conditions.{OneId, IsReplyToCall}
+use Rattle.fuse_theorem.proofs.Refining.TablesReplaced.{grown, replaced_tables_refine}
+use Rattle.fuse_theorem.proofs.Refining.LookedUp.{one_to_one, looked_up_known, received_fits}
 use Rattle.fuse_theorem.proofs.Refining.Releasing.{next_unasked}
-use Rattle.fuse_theorem.proofs.Refining.Writing.{unsent_alike, used_alike, heard_alike}
+use Rattle.fuse_theorem.proofs.Refining.Writing.{unsent_alike, used_alike, received_alike}
 
 module _ (w : World) (p : Plain) (numbered : IsNumbered w) (one : OneId w.server.nodes) (same : Alike w p)
     (live : is_live w.kernel.phase ≡ true) (k : ℕ) (sent : Sent) (call : ℕ) (state : CallState Opened)
     (reply : Reply ℕ ℕ)
-    (is : IsReply w p sent call state reply) where
+    (is : IsReplyToCall w p sent call state reply) where
   abbrev nodes' : Map Counted
   nodes' = looked_up w.kernel.nodes (files_in_reply sent.wire)
 
@@ -43,7 +43,7 @@ module _ (w : World) (p : Plain) (numbered : IsNumbered w) (one : OneId w.server
       let carries = grown w p nodes' w.server.nodes w.server.handles
       (λ id generation e. looked_up_known (files_in_reply sent.wire) w.kernel.nodes id generation e)
       (λ id generation file d. d) (λ fh file o. o) (one_to_one nodes' w.server.nodes one) in
-      carried_alike w p same nodes' w.server.nodes w.server.handles w.server.tree p.tree carries
+      replaced_tables_refine w p same nodes' w.server.nodes w.server.handles w.server.tree p.tree carries
       (record {
         names = same.tree.names;
         next_birth = same.tree.next_birth;
@@ -72,7 +72,7 @@ module _ (w : World) (p : Plain) (numbered : IsNumbered w) (one : OneId w.server
   next = call_replied w.kernel.vfs call state reply_received
 
   fits : ReplyAlike (MeansIn wl) (MeansOpenIn wl) reply_received reply
-  fits = heard_fits w.kernel.nodes w.server.nodes w.server.handles
+  fits = received_fits w.kernel.nodes w.server.nodes w.server.handles
       (asked state) is.ask.operation sent.wire reply is.goes is.used is.opens is.same is.told
 
   other_state : (o : Option (CallState ℕ)) → OptionAlike (StateAlike (MeansIn wl) (MeansOpenIn wl)) (Some state) o
@@ -90,7 +90,7 @@ module _ (w : World) (p : Plain) (numbered : IsNumbered w) (one : OneId w.server
 
   told_alike : Alike (record w { kernel = advanced k1 call next }) q
   told_alike =
-      heard_alike wl p looked_up_numbered
+      received_alike wl p looked_up_numbered
       (one_to_one nodes' w.server.nodes one) looked_up_alike live sent.unique call is.request is.ask state state'.0 is.under is.serves is.there is.by_call state'.1 state'.2 reply reply_received is.stage fits
 
   used_after : (s : CallState Opened) → state ≡ s → Alike
@@ -118,7 +118,7 @@ module _ (w : World) (p : Plain) (numbered : IsNumbered w) (one : OneId w.server
             without w.kernel.queues sent.unique;
       }) call state b sent.wire) is.goes
       ∙ ap (λ (l : Kernel). (Accepted, after_use l state))
-      (heard_is (record w.kernel { queues = without w.kernel.queues sent.unique }) call state sent.wire is.used)
+      (received_is (record w.kernel { queues = without w.kernel.queues sent.unique }) call state sent.wire is.used)
 
   pub accepts : (replied_to_call (record w.kernel { queues = without w.kernel.queues sent.unique }) call sent.wire
       (get w.kernel.vfs.calls call)).0 ≡ Accepted
@@ -127,7 +127,7 @@ module _ (w : World) (p : Plain) (numbered : IsNumbered w) (one : OneId w.server
   abbrev results' : List ReplyResult
   results' = w.results ++ record { number = sent.number; unique = sent.unique; result = Accepted } ∷ []
 
-  -- The reply is accepted: the plain world's call hears what its ask came to, and the two are alike again.
+  -- The reply is accepted: the plain world's call receives what its ask came to, and the two are alike again.
   pub accept_goes : (q' : Plain) × Takes p (event.write k) (event.written sent.unique Accepted) q'
       × Alike (after_write w k sent (replied_to_call (record w.kernel {
         queues =

@@ -2,7 +2,7 @@
 -- so.
 use Rattle.std.proofs.lemmas.List.Elements.{All-nil}
 use Rattle.fuse_spec.specs.declared.Entry.{Entry}
-use Rattle.fuse_theorem.proofs.Refining.JudgedReplies.{heard_is}
+use Rattle.fuse_theorem.proofs.Refining.JudgedReplies.{received_is}
 use Rattle.std.proofs.Common.{◌≡◌, ℕ, Bool, true, ◌&&◌, is_some, List, [], ◌∷◌, ◌++◌, Option, Some, None, refl, ap, sym, subst, ◌∙◌}
 use Rattle.fuse_spec.specs.declared.Opened.{Opened}
 use Rattle.fuse_spec.specs.declared.ReplyResult.{ReplyResult}
@@ -65,7 +65,7 @@ module _ (w : World) (p : Plain) (numbered : IsNumbered w) (one : OneId w.server
   -- what the kernel makes of it
   took_is : (s : CallState Opened) → replied k1 call s true (failed 4) ≡ (Accepted, after_use k2 s)
   took_is s = ap (λ (l : Kernel). (Accepted, l)) (ap (λ (l : Kernel). after_use l s)
-      (heard_is k1 call s (failed 4) (record {
+      (received_is k1 call s (failed 4) (record {
         judged = refl;
         none_stale = refl;
         is_usable = refl;

@@ -20,9 +20,9 @@ use Rattle.fuse_spec.specs.Kernel.Messages.{RequestBody, init, asks, release, fo
 use Rattle.fuse_spec.specs.Kernel.Kernel.{Kernel, is_live, is_aborted, body_of, asked_by, is_for, request_of, asking_for, advanced}
 use Rattle.fuse_spec.specs.Server.Server.{Kept}
 use Rattle.fuse_spec.specs.World.Worlds.{World, Sent}
-use Rattle.fuse_spec.specs.Reference.Plain.{Plain, Ask, waiting, asking, going_on}
+use Rattle.fuse_spec.specs.Reference.Plain.{Plain, Ask, waiting, ask_put, going_on}
 use Rattle.fuse_spec.specs.Claim.Denotes.{MeansIn, MeansOpenIn}
-use Rattle.fuse_spec.specs.Claim.Alike.{TreeAlike, RequestBodyAsked, PurposeAsked, RequestsAlike, IsPaired, StageTold, Alike}
+use Rattle.fuse_spec.specs.Claim.Alike.{TreeAlike, RequestBodyAsked, PurposeAsked, RequestsAlike, IsPaired, IsStageReplied, Alike}
 use Rattle.fuse_spec.proofs.Tables.{get_put_here, get_put_there}
 use Rattle.fuse_spec.proofs.QueueSoundness.{lookup-next}
 use Rattle.fuse_spec.proofs.QueueReadings.{pending-enqueue, request_under-enqueue, request_under-enqueue_other}
@@ -40,9 +40,9 @@ pub record AsksAlikeBut (w : World) (p : Plain) (call : ℕ) : Type 0 where
       → request_under w.kernel.queues unique ≡ Some request → get p.asks unique ≡ Some ask
       → is_signalled request.mark ≡ true → ask.noted ≡ true
   pub kept : (unique : ℕ) (kept : Kept) (ask : Ask) → get w.server.kept unique ≡ Some kept
-      → get p.asks unique ≡ Some ask → StageTold w.server.nodes w.server.handles ask.stage kept.wire
+      → get p.asks unique ≡ Some ask → IsStageReplied w.server.nodes w.server.handles ask.stage kept.wire
   pub copies : All (λ (sent : Sent). (ask : Ask) → get p.asks sent.unique ≡ Some ask
-      → StageTold w.server.nodes w.server.handles ask.stage sent.wire) w.replies
+      → IsStageReplied w.server.nodes w.server.handles ask.stage sent.wire) w.replies
 
 -- All is alike but for one call, for which no request is queued.
 pub record AlikeExceptCall (w : World) (p : Plain) (call : ℕ) : Type 0 where
@@ -302,17 +302,17 @@ module _ (w : World) (p : Plain) (call : ℕ) (numbered : IsNumbered w) (paused 
         }
 
     -- The step of a call, whether it is answered or asks an operation. Only a live mount is asked.
-    pub advanced_alike : (coming : ℕ) (c : Advance Opened) (d : Advance ℕ) → AdvanceAlike Mean MeanOpen one c d
+    pub next_request_refines : (coming : ℕ) (c : Advance Opened) (d : Advance ℕ) → AdvanceAlike Mean MeanOpen one c d
         → StepsAlone w.kernel.vfs.calls coming call c
         → ((a : Operation ℕ Opened) → c.operation ≡ Some a → is_live w.kernel.phase ≡ true)
         → is_aborted w.kernel.phase ≡ p.aborted
         → Alike (record w { kernel = advanced w.kernel call c }) (going_on p w.kernel.queues.next call d)
-    advanced_alike coming c d same alone asked_live aborted = by c.operation d.operation refl refl same.operation
+    next_request_refines coming c d same alone asked_live aborted = by c.operation d.operation refl refl same.operation
       where
         by : (o : Option (Operation ℕ Opened)) (o' : Option (Operation ℕ ℕ)) → c.operation ≡ o → d.operation ≡ o'
             → OptionAlike (OperationAlike Mean MeanOpen) o o'
             → Alike (record w { kernel = asking_for (record w.kernel { vfs = c.vfs }) call o })
-            (asking (record p { vfs = d.vfs }) w.kernel.queues.next call o')
+            (ask_put (record p { vfs = d.vfs }) w.kernel.queues.next call o')
         by None None e e' h = answered_goes coming c d same alone e e' aborted
         by (Some a) (Some b) e e' h = asking_goes coming c d same alone a b e e' (asked_live a e) aborted
         by None (Some b) e e' h = absurd h

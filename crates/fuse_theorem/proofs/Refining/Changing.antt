@@ -13,7 +13,7 @@ use Rattle.fuse_spec.specs.Server.Server.{HeldRequest, Kept}
 use Rattle.fuse_spec.specs.World.Worlds.{World, Sent}
 use Rattle.fuse_spec.specs.Reference.Plain.{Plain, Ask}
 use Rattle.fuse_spec.specs.Claim.Denotes.{MeansIn, MeansOpenIn}
-use Rattle.fuse_spec.specs.Claim.Alike.{RequestBodyAsked, PurposeAsked, Meant, MeantOpen, StageTold, Alike}
+use Rattle.fuse_spec.specs.Claim.Alike.{RequestBodyAsked, PurposeAsked, Meant, MeantOpen, IsStageReplied, Alike}
 use Rattle.fuse_spec.proofs.Tables.{get_put_here, get_put_there}
 use Rattle.fuse_theorem.proofs.Refining.Asking.{match_more, asked_beside}
 
@@ -37,11 +37,11 @@ pub record MayReplace (w : World) (p : Plain) (label : ℕ) (new : Ask) : Type 0
   pub noted : (request : QueuedRequest Purpose) → request_under w.kernel.queues label ≡ Some request
       → is_signalled request.mark ≡ true → old.noted ≡ true → new.noted ≡ true
   pub kept : (kept : Kept) → get w.server.kept label ≡ Some kept
-      → StageTold w.server.nodes w.server.handles old.stage kept.wire
-      → StageTold w.server.nodes w.server.handles new.stage kept.wire
+      → IsStageReplied w.server.nodes w.server.handles old.stage kept.wire
+      → IsStageReplied w.server.nodes w.server.handles new.stage kept.wire
   pub copies : All (λ (sent : Sent). sent.unique ≡ label
-      → StageTold w.server.nodes w.server.handles old.stage sent.wire
-      → StageTold w.server.nodes w.server.handles new.stage sent.wire) w.replies
+      → IsStageReplied w.server.nodes w.server.handles old.stage sent.wire
+      → IsStageReplied w.server.nodes w.server.handles new.stage sent.wire) w.replies
 
 module _ (w : World) (p : Plain) (same : Alike w p) (label : ℕ) (new : Ask) (may : MayReplace w p label new) where
   there_now : get (put p.asks label new) label ≡ Some new
@@ -142,7 +142,7 @@ module _ (w : World) (p : Plain) (same : Alike w p) (label : ℕ) (new : Ask) (m
                 ) in
                 let mine : get w.server.kept label ≡ Some kept =
                 subst (λ (n : ℕ). get w.server.kept n ≡ Some kept) here stored in
-                subst (λ (a : Ask). StageTold w.server.nodes w.server.handles a.stage kept.wire) is_new
+                subst (λ (a : Ask). IsStageReplied w.server.nodes w.server.handles a.stage kept.wire) is_new
                 (may.kept kept mine (old.kept label kept may.old mine may.there))
             | inr ne ↦ old.kept u kept x stored (sym (get_put_there p.asks label new u ne) ∙ at)
           ];
@@ -155,7 +155,7 @@ module _ (w : World) (p : Plain) (same : Alike w p) (label : ℕ) (new : Ask) (m
                       subst (λ (n : ℕ). get (put p.asks label new) n
                           ≡ Some x) here at,
                     ) in
-                    subst (λ (a : Ask). StageTold w.server.nodes w.server.handles a.stage sent.wire) is_new
+                    subst (λ (a : Ask). IsStageReplied w.server.nodes w.server.handles a.stage sent.wire) is_new
                     (may.copies i s lt here (old.copies i s lt may.old
                     (subst (λ (n : ℕ). get p.asks n ≡ Some may.old) (sym here) may.there)))
                 | inr ne ↦ old.copies i s lt x (sym (get_put_there p.asks label new sent.unique ne) ∙ at)

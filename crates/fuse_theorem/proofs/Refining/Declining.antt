@@ -15,7 +15,7 @@ use Rattle.fuse_spec.specs.World.Events as event
 use Rattle.fuse_spec.specs.Reference.Plain.{Plain, Ask, Stage, ask_declined}
 use Rattle.fuse_spec.specs.Reference.Plain as plain
 use Rattle.fuse_spec.specs.Reference.PlainSteps.{Takes, serving, serving_ask, where_so}
-use Rattle.fuse_spec.specs.Claim.Alike.{AskedBy, RequestBodyAsked, Meant, MeantOpen, StageTold, Alike}
+use Rattle.fuse_spec.specs.Claim.Alike.{AskedBy, RequestBodyAsked, Meant, MeantOpen, IsStageReplied, Alike}
 use Rattle.fuse_spec.proofs.Tables.{get_put_here, get_gone_here}
 use Rattle.fuse_theorem.specs.Conditions.{CanDecline}
 use Rattle.fuse_theorem.proofs.Refining.Changing.{with_ask, MayReplace, ask_changed}
@@ -50,7 +50,7 @@ module _ (w : World) (p : Plain) (same : Alike w p) (choice : ℕ → ℕ) (uniq
 
   -- the world afterwards, by whether the mount is aborted
   abbrev After : Bool → World
-  After aborted = worlds.replying (record w {
+  After aborted = worlds.copy_put (record w {
     server = record s2 {
       kept = cond aborted w.server.kept (put w.server.kept unique kept2);
       copies = cond aborted w.server.copies copies2;
@@ -93,8 +93,8 @@ module _ (w : World) (p : Plain) (same : Alike w p) (choice : ℕ → ℕ) (uniq
             (λ (x : Request). nat_eq unique x.unique) w.requests can.none_sent i r lt));
         held = λ x at. absurd (cc (at, get_gone_here w.server.held unique));
         noted = λ r under bears noted. noted;
-        kept = λ k at was. absurd (subst (λ (s : Stage). StageTold w.server.nodes w.server.handles s k.wire) stage was);
-        copies = λ i s lt same_key was. absurd (subst (λ (x : Stage). StageTold w.server.nodes w.server.handles x
+        kept = λ k at was. absurd (subst (λ (s : Stage). IsStageReplied w.server.nodes w.server.handles s k.wire) stage was);
+        copies = λ i s lt same_key was. absurd (subst (λ (x : Stage). IsStageReplied w.server.nodes w.server.handles x
             (get_or w.replies i s).wire) stage was);
       }
 
@@ -142,7 +142,7 @@ module _ (w : World) (p : Plain) (same : Alike w p) (choice : ℕ → ℕ) (uniq
       (w.server.next_copy + 1) wire kept2 copies2 refl
       (λ alive x at.
       let is_new : new ≡ x = cc (get_put_here p.asks unique new, at) in
-      subst (λ (y : Ask). StageTold w.server.nodes w.server.handles y.stage wire) is_new refl)
+      subst (λ (y : Ask). IsStageReplied w.server.nodes w.server.handles y.stage wire) is_new refl)
 
   -- The request is answered EINTR, and its ask declined: the two are alike again.
   pub decline_goes : (q : Plain) × Takes p (event.perform unique)

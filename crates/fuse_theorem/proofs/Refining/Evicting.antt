@@ -22,7 +22,7 @@ use Rattle.fuse_spec.specs.Claim.Alike.{Alike}
 use Rattle.fuse_spec.proofs.Tables.{get_gone, get_gone_there, place_tie_no}
 use Rattle.fuse_theorem.specs.Conditions.{IsUnsent}
 use Rattle.fuse_theorem.proofs.Calls.Finding.{same_is}
-use Rattle.fuse_theorem.proofs.Refining.UnusedNodesDropped.{Stay, Narrows, narrowed_alike}
+use Rattle.fuse_theorem.proofs.Refining.UnusedNodesDropped.{Stay, Narrows, fewer_nodes_refine}
 use Rattle.fuse_theorem.proofs.Refining.Queuing.{queues_alike}
 use Rattle.fuse_theorem.proofs.Trees.NamelessDiscarded.{found_any}
 
@@ -189,7 +189,7 @@ module _ (w : World) (p : Plain) (same : Alike w p) (node : ℕ) (root : w.kerne
   pub evicted_alike : (counted : Counted) → Alike (after_evict w node counted) p
   evicted_alike counted =
       let gone = record w { kernel = record w.kernel { nodes = left } } in
-      let carried = narrowed_alike w p same left w.server.nodes w.server.handles w.server.tree p.tree narrows same.tree in
+      let carried = fewer_nodes_refine w p same left w.server.nodes w.server.handles w.server.tree p.tree narrows same.tree in
       queues_alike gone p carried (after_forget w.kernel.queues node counted.count) w.requests
       (record {
         pending = carried.requests.pending;

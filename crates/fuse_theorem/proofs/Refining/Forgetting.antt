@@ -17,9 +17,9 @@ use Rattle.fuse_spec.specs.Claim.Denotes.{Denotes, Means, MeansIn}
 use Rattle.fuse_spec.specs.Claim.Alike.{Meant, Alike}
 use Rattle.fuse_spec.proofs.Tables.{get_put_here, get_put_there, get_gone_here, get_gone_there}
 use Rattle.fuse_theorem.specs.Conditions.{OneId, HoldsAll}
-use Rattle.fuse_theorem.proofs.Refining.TablesReplaced.{Carries, stage_more, carried_alike}
+use Rattle.fuse_theorem.proofs.Refining.TablesReplaced.{Carries, stage_more, replaced_tables_refine}
 use Rattle.fuse_theorem.proofs.Calls.Finding.{other_is, found_key}
-use Rattle.fuse_theorem.proofs.Refining.Giving.{denotes_one}
+use Rattle.fuse_theorem.proofs.Refining.LookupsCounted.{denotes_one}
 use Rattle.fuse_theorem.proofs.Refining.LookedUp.{one_to_one}
 use Rattle.fuse_theorem.proofs.Refining.Naming.{any_put_le}
 use Rattle.fuse_theorem.proofs.Refining.Taking.{ignored_alike}
@@ -218,7 +218,7 @@ forgotten_alike w p one same k fs holds =
     (λ file h. either (list_any (λ (row : HeldNode). nat_eq row.file file) (values t.rows)) (numbers file)
     (list_any (λ (row : HeldNode). nat_eq row.file file) (values w.server.nodes.rows)) h
     (λ q. files_fewer file fs w.server.nodes q)) in
-    let carried = carried_alike w p same w.kernel.nodes t w.server.handles
+    let carried = replaced_tables_refine w p same w.kernel.nodes t w.server.handles
     (without_unheld_files s2).tree p.tree carries trees in
     ignored_alike (record w { server = forgetting w.server fs }) p carried k
   where

@@ -18,10 +18,10 @@ use Rattle.fuse_theorem.proofs.Refining.LookedUp.{looked_up_known, usable_known}
 use Rattle.fuse_theorem.proofs.Nodes.NodesSound.{put_found}
 use Rattle.fuse_theorem.proofs.Replies.RepliesGo.{use_one, all_usable}
 
--- The kernel hears such a reply as one whose entries can all be used.
-pub heard_is : (k : Kernel) (call : ℕ) (state : CallState Opened) (wire : WireReply) → IsUsable k.nodes wire
+-- The kernel receives such a reply as one whose entries can all be used.
+pub received_is : (k : Kernel) (call : ℕ) (state : CallState Opened) (wire : WireReply) → IsUsable k.nodes wire
     → reply_received k call state wire ≡ judged k call state wire usable
-heard_is k call state wire is =
+received_is k call state wire is =
     λ i. judged (record k { queues = each_forgotten k.queues (is.none_stale i) }) call state (is.judged i)
     (is.is_usable i)
 

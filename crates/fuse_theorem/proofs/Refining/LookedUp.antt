@@ -12,13 +12,13 @@ use Rattle.fuse_spec.specs.Values.Maps.{Map, get, put}
 use Rattle.fuse_spec.specs.Files.Operations.{Operation, create, opening, Reply, found, missing, created, opened, attributes, listed, listed_plus, content, written, agreed, done, failed, files_in_reply, DirentPlus, listed_by, first_listed, files_listed, pair_with, OperationAlike, ReplyAlike, OptionAlike, PairsAlike}
 use Rattle.fuse_spec.specs.Kernel.Messages.{WireReply}
 use Rattle.fuse_spec.specs.Server.Nodes.{NodeTable, HandleTable, OpenNumber, is_open, is_file_of}
-use Rattle.fuse_spec.specs.Kernel.Replies.{goes_with, usable, useless, stale, use_counted, use_of, first_use, counted_more, looked_up, kernel_reply}
+use Rattle.fuse_spec.specs.Kernel.Replies.{goes_with, usable, unusable, stale, use_counted, use_of, first_use, counted_more, looked_up, kernel_reply}
 use Rattle.fuse_spec.specs.Claim.Denotes.{Denotes, Names, Opens, generation_known, Means, MeansOpen}
 use Rattle.fuse_spec.proofs.Tables.{get_put_here, get_put_there}
 use Rattle.fuse_theorem.specs.Numbering.{IsOneToOne}
 use Rattle.fuse_theorem.specs.Conditions.{OneId, OpensItsFile, IsUsable}
 use Rattle.fuse_theorem.proofs.Calls.Finding.{other_is}
-use Rattle.fuse_theorem.proofs.Refining.Giving.{denotes_one}
+use Rattle.fuse_theorem.proofs.Refining.LookupsCounted.{denotes_one}
 
 -- Where no two nodes have the same file, no two that the kernel knows mean the same.
 pub one_to_one : (nodes : Map Counted) (t : NodeTable) → OneId t → IsOneToOne (Means nodes t)
@@ -90,7 +90,7 @@ usable_known nodes g e = by (nat_lt g.nodeid 2) refl e
         ]
         tested false q f = absurd (cc)
 
-    by : (b : Bool) → nat_lt g.nodeid 2 ≡ b → first_use (cond b useless (use_counted g (get nodes g.nodeid))) usable
+    by : (b : Bool) → nat_lt g.nodeid 2 ≡ b → first_use (cond b unusable (use_counted g (get nodes g.nodeid))) usable
         ≡ usable → generation_known (looked_up nodes (g ∷ [])) g.nodeid ≡ Some g.generation
     by true q f = absurd (cc)
     by false q f =
@@ -115,19 +115,19 @@ abbrev EntryKnown : Map Counted → Entry → Type 0
 EntryKnown nodes g = generation_known nodes g.nodeid ≡ Some g.generation
 
 -- names of a list whose entries are known
-heard_pairs : (nodes : Map Counted) (t : NodeTable) (xs : List (DirentPlus Entry)) (ys : List (DirentPlus ℕ))
+received_pairs : (nodes : Map Counted) (t : NodeTable) (xs : List (DirentPlus Entry)) (ys : List (DirentPlus ℕ))
     → All (λ (g : Entry). generation_known nodes g.nodeid ≡ Some g.generation) (files_listed xs)
     → PairsAlike (Names t) xs ys
     → PairsAlike (Means nodes t) (map (pair_with (λ (g : Entry). g.nodeid)) xs) ys
-heard_pairs nodes t [] [] known h = h
-heard_pairs nodes t (x ∷ xs) (y ∷ ys) known h = (
+received_pairs nodes t [] [] known h = h
+received_pairs nodes t (x ∷ xs) (y ∷ ys) known h = (
   (
     subst (λ (o : Option ℕ). OptionAlike (Means nodes t) o (listed_by y)) (sym (told_with (λ (g : Entry). g.nodeid) x))
         (first (listed_by x) (listed_by y) known h.0.0),
     h.0.1,
     h.0.2,
   ),
-  heard_pairs nodes t xs ys (rest (listed_by x) known) h.1,
+  received_pairs nodes t xs ys (rest (listed_by x) known) h.1,
 )
   where
     first : (a : Option Entry) (b : Option ℕ) → All (EntryKnown nodes) (first_listed a (files_listed xs))
@@ -145,17 +145,17 @@ heard_pairs nodes t (x ∷ xs) (y ∷ ys) known h = (
         → All (EntryKnown nodes) (files_listed xs)
     rest None k = k
     rest (Some g) k = All-tail (EntryKnown nodes) g (files_listed xs) k
-heard_pairs nodes t [] (y ∷ ys) known h = absurd h
-heard_pairs nodes t (x ∷ xs) [] known h = absurd h
+received_pairs nodes t [] (y ∷ ys) known h = absurd h
+received_pairs nodes t (x ∷ xs) [] known h = absurd h
 
--- What the kernel hears is what the reply says of the files.
-pub heard_fits : (nodes : Map Counted) (t : NodeTable) (h : HandleTable) (operation : Operation ℕ Opened)
+-- What the kernel receives is what the reply says of the files.
+pub received_fits : (nodes : Map Counted) (t : NodeTable) (h : HandleTable) (operation : Operation ℕ Opened)
     (asked : Operation ℕ ℕ) (wire : WireReply) (reply : Reply ℕ ℕ) → goes_with operation wire ≡ true
     → IsUsable nodes wire → OpensItsFile t h operation wire
     → OperationAlike (Means nodes t) (MeansOpen nodes t h) operation asked → ReplyAlike (Names t) (Opens h) wire reply
     → ReplyAlike (Means (looked_up nodes (files_in_reply wire)) t) (MeansOpen (looked_up nodes (files_in_reply wire)) t h)
     (kernel_reply operation wire) reply
-heard_fits nodes t h operation asked (found g v) (found file v') goes used its same told = (
+received_fits nodes t h operation asked (found g v) (found file v') goes used its same told = (
   record {
     generation = g.generation;
     known = All-head
@@ -165,8 +165,8 @@ heard_fits nodes t h operation asked (found g v) (found file v') goes used its s
   },
   told.1,
 )
-heard_fits nodes t h operation asked (missing v) (missing v') goes used its same told = told
-heard_fits nodes t h (create d name) asked (created g v fh) (created file v' o) goes used its same told =
+received_fits nodes t h operation asked (missing v) (missing v') goes used its same told = told
+received_fits nodes t h (create d name) asked (created g v fh) (created file v' o) goes used its same told =
     let known = All-head (λ (x : Entry). generation_known (looked_up nodes (g ∷ [])) x.nodeid
     ≡ Some x.generation) g [] used.known in
     let one_file : file ≡ o = opens_one h fh file o (its file told.0) told.2 in (
@@ -181,7 +181,7 @@ heard_fits nodes t h (create d name) asked (created g v fh) (created file v' o) 
         is_number = told.2;
       },
     )
-heard_fits nodes t h (opening node) (opening file) (opened fh) (opened o) goes used its same told =
+received_fits nodes t h (opening node) (opening file) (opened fh) (opened o) goes used its same told =
     let one_file : file ≡ o = opens_one h fh file o (its same.generation file same.denotes) told in
     record {
       node_means = record {
@@ -191,16 +191,16 @@ heard_fits nodes t h (opening node) (opening file) (opened fh) (opened o) goes u
       };
       is_number = told;
     }
-heard_fits nodes t h operation asked (attributes a) (attributes b) goes used its same told = told
-heard_fits nodes t h operation asked (listed xs) (listed ys) goes used its same told = told
-heard_fits nodes t h operation asked (listed_plus xs) (listed_plus ys) goes used its same told =
-    heard_pairs (looked_up nodes (files_listed xs)) t xs ys used.known told
-heard_fits nodes t h operation asked (content xs) (content ys) goes used its same told = told
-heard_fits nodes t h operation asked (written n) (written m) goes used its same told = told
-heard_fits nodes t h operation asked (agreed a b x) (agreed c d y) goes used its same told = told
-heard_fits nodes t h operation asked done done goes used its same told = told
-heard_fits nodes t h operation asked (failed a) (failed b) goes used its same told = told
-heard_fits nodes t h operation asked (created g v fh) (created file v' o) goes used its same told = absurd (cc)
-heard_fits nodes t h (opening node) asked (opened fh) (opened o) goes used its same told = absurd same
-heard_fits nodes t h operation asked (opened fh) (opened o) goes used its same told = absurd (cc)
-heard_fits nodes t h operation asked wire reply goes used its same told = absurd told
+received_fits nodes t h operation asked (attributes a) (attributes b) goes used its same told = told
+received_fits nodes t h operation asked (listed xs) (listed ys) goes used its same told = told
+received_fits nodes t h operation asked (listed_plus xs) (listed_plus ys) goes used its same told =
+    received_pairs (looked_up nodes (files_listed xs)) t xs ys used.known told
+received_fits nodes t h operation asked (content xs) (content ys) goes used its same told = told
+received_fits nodes t h operation asked (written n) (written m) goes used its same told = told
+received_fits nodes t h operation asked (agreed a b x) (agreed c d y) goes used its same told = told
+received_fits nodes t h operation asked done done goes used its same told = told
+received_fits nodes t h operation asked (failed a) (failed b) goes used its same told = told
+received_fits nodes t h operation asked (created g v fh) (created file v' o) goes used its same told = absurd (cc)
+received_fits nodes t h (opening node) asked (opened fh) (opened o) goes used its same told = absurd same
+received_fits nodes t h operation asked (opened fh) (opened o) goes used its same told = absurd (cc)
+received_fits nodes t h operation asked wire reply goes used its same told = absurd told

@@ -15,7 +15,7 @@ use Rattle.fuse_spec.specs.World.Events as event
 use Rattle.fuse_spec.specs.Reference.Plain.{Plain, Ask, plain_mounted}
 use Rattle.fuse_spec.specs.Reference.PlainSteps.{Takes}
 use Rattle.fuse_spec.specs.Claim.Denotes.{MeansIn, MeansOpenIn}
-use Rattle.fuse_spec.specs.Claim.Alike.{RequestBodyAsked, PurposeAsked, StageTold, Alike}
+use Rattle.fuse_spec.specs.Claim.Alike.{RequestBodyAsked, PurposeAsked, IsStageReplied, Alike}
 use Rattle.fuse_theorem.proofs.Refining.OnlyRoots.{only_root_known}
 use Rattle.fuse_theorem.proofs.Refining.GivingUp.{given_up_alike, root_means}
 use Rattle.fuse_theorem.proofs.Trees.NamelessDiscarded.{discarded_unheld_alike}
@@ -67,7 +67,7 @@ module _ (w : World) (found_ms missing_ms : ℕ) (minor : Minor) where
         signalled = λ u r ask under at bears. absurd (cc);
         kept = λ u k ask stored at. absurd (cc);
         copies = All-nil (λ (sent : Sent). (ask : Ask) → get q.asks sent.unique ≡ Some ask
-            → StageTold mounted.server.nodes mounted.server.handles ask.stage sent.wire);
+            → IsStageReplied mounted.server.nodes mounted.server.handles ask.stage sent.wire);
       };
       validity = refl;
       minor = refl;

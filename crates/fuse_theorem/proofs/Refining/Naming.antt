@@ -1,6 +1,6 @@
 -- What a reply names as it is sent: files by the nodes that are given, an open file by its new number.
 use Rattle.fuse_theorem.proofs.Refining.Pairs.{pairs_named}
-use Rattle.fuse_theorem.proofs.Refining.Giving.{all_given_denotes}
+use Rattle.fuse_theorem.proofs.Refining.LookupsCounted.{all_given_denotes}
 use Rattle.std.proofs.Common.{◌≡◌, ◌≢◌, ℕ, ◌≤◌, Bool, true, false, true≢false, ◌||◌, cond, List, [], ◌∷◌, Option, Some, None, nat_eq, refl, ap, sym, subst, ◌∙◌, arith, inl, inr, All}
 use Rattle.std.specs.Prelude.{MatchOption}
 use Rattle.std.specs.List.{list_any}

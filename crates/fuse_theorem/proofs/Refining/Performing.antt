@@ -21,14 +21,14 @@ use Rattle.fuse_spec.specs.Reference.Plain.{Plain, Ask, Stage, ask_performed}
 use Rattle.fuse_spec.specs.Reference.Plain as plain
 use Rattle.fuse_spec.specs.Reference.PlainSteps.{Takes, serving, serving_ask, where_so}
 use Rattle.fuse_spec.specs.Claim.Denotes.{MeansIn, Denotes}
-use Rattle.fuse_spec.specs.Claim.Alike.{TreeAlike, AskedBy, RequestBodyAsked, Meant, MeantOpen, StageTold, Alike}
+use Rattle.fuse_spec.specs.Claim.Alike.{TreeAlike, AskedBy, RequestBodyAsked, Meant, MeantOpen, IsStageReplied, Alike}
 use Rattle.fuse_spec.proofs.Tables.{get_put_here, get_gone_here}
 use Rattle.fuse_theorem.specs.Numbering.{IsOneToOne}
-use Rattle.fuse_theorem.specs.Conditions.{TablesSound, KnownAreHeld, CanPerform}
-use Rattle.fuse_theorem.proofs.Refining.TablesReplaced.{grown, carried_alike}
+use Rattle.fuse_theorem.specs.Conditions.{TablesSound, KnownAreHeld, CanPerformCall}
+use Rattle.fuse_theorem.proofs.Refining.TablesReplaced.{grown, replaced_tables_refine}
 use Rattle.fuse_theorem.proofs.Refining.Changing.{with_ask, MayReplace, ask_changed}
 use Rattle.fuse_theorem.proofs.Calls.Finding.{same_is, other_is, none_passes}
-use Rattle.fuse_theorem.proofs.Refining.Giving.{all_given_denotes, one_grown, opened_open}
+use Rattle.fuse_theorem.proofs.Refining.LookupsCounted.{all_given_denotes, one_grown, opened_open}
 use Rattle.fuse_theorem.proofs.Trees.HeldOperations.{held_operation, denoted}
 use Rattle.fuse_theorem.proofs.Trees.Names.{is_named}
 use Rattle.fuse_theorem.proofs.Refining.Naming.{named_alike, given_held, opened_held}
@@ -115,7 +115,7 @@ module _ (w : World) (p : Plain) (same : Alike w p) where
     open_for (write o offset bytes) b h = absurd h
 
 module _ (w : World) (p : Plain) (same : Alike w p) (choice : ℕ → ℕ) (unique : ℕ) (t : HeldRequest)
-    (operation : Operation ℕ Opened) (can : CanPerform w unique t operation) where
+    (operation : Operation ℕ Opened) (can : CanPerformCall w unique t operation) where
   pub asked : AskedBy p.asks unique false t.marked
       (OperationAlike (Meant w.server.nodes t.generations)
       (MeantOpen w.server.nodes w.server.handles t.generations) operation)
@@ -239,8 +239,8 @@ module _ (w : World) (p : Plain) (same : Alike w p) (choice : ℕ → ℕ) (uniq
             (λ (x : Request). nat_eq unique x.unique) w.requests can.none_sent i r lt));
         held = λ x at. absurd (cc (at, get_gone_here w.server.held unique));
         noted = λ r under bears noted. noted;
-        kept = λ k at was. absurd (subst (λ (s : Stage). StageTold w.server.nodes w.server.handles s k.wire) stage was);
-        copies = λ i s lt same_key was. absurd (subst (λ (x : Stage). StageTold w.server.nodes w.server.handles x
+        kept = λ k at was. absurd (subst (λ (s : Stage). IsStageReplied w.server.nodes w.server.handles s k.wire) stage was);
+        copies = λ i s lt same_key was. absurd (subst (λ (x : Stage). IsStageReplied w.server.nodes w.server.handles x
             (get_or w.replies i s).wire) stage was);
       }
 
@@ -328,7 +328,7 @@ module _ (w : World) (p : Plain) (same : Alike w p) (choice : ℕ → ℕ) (uniq
         ap (λ (d : PerformResult). after_perform w unique
         (record { server = replying (without_unheld_files d.server) unique d.wire; wire = d.wire }))
         (performed_is false live)
-        ∙ (λ i. worlds.replying (record w {
+        ∙ (λ i. worlds.copy_put (record w {
           server = record s3 {
             kept = cond (live i) w.server.kept (put w.server.kept unique kept2);
             copies = cond (live i) w.server.copies copies2;
@@ -387,13 +387,13 @@ module _ (w : World) (p : Plain) (same : Alike w p) (choice : ℕ → ℕ) (uniq
         (files_in_reply reply) w.server.nodes id generation file d in
         let carries = grown w1 now w.kernel.nodes nodes2 handles2 (λ id generation e. e) denotes (opens_still reply)
         (one_grown w.kernel.nodes w.server.nodes nodes2 known denotes one) in
-        let carried = carried_alike w1 now asked_alike w.kernel.nodes nodes2 handles2 s3.tree
+        let carried = replaced_tables_refine w1 now asked_alike w.kernel.nodes nodes2 handles2 s3.tree
         (tree_after p.tree deed) carries trees_live in
         replied_alike (record w1 { server = s3 }) (ask_performed p unique asked.ask) carried unique w.server.next_copy
         (w.server.next_copy + 1) wire2 kept2 copies2 refl
         (λ alive x at.
         let is_new : new ≡ x = cc (get_put_here p.asks unique new, at) in
-        subst (λ (y : Ask). StageTold nodes2 handles2 y.stage wire2) is_new
+        subst (λ (y : Ask). IsStageReplied nodes2 handles2 y.stage wire2) is_new
         (named_alike choice w.server.nodes w.server.handles tree2 reply tables.no_root may))
 
     -- The server performs the request, and the plain world its ask: the two are alike again.
@@ -417,7 +417,7 @@ module _ (w : World) (p : Plain) (same : Alike w p) (choice : ℕ → ℕ) (uniq
         ap (λ (d : PerformResult). after_perform w unique
         (record { server = replying (without_unheld_files d.server) unique d.wire; wire = d.wire }))
         (performed_is true lost)
-        ∙ (λ i. worlds.replying (record w {
+        ∙ (λ i. worlds.copy_put (record w {
           server = record left {
             kept = cond (lost i) w.server.kept (put w.server.kept unique
                 (record { wire = failed (errno_of reply); first = w.server.next_copy }));
@@ -438,7 +438,7 @@ module _ (w : World) (p : Plain) (same : Alike w p) (choice : ℕ → ℕ) (uniq
         (makes_unless p.tree deed file (refusal p.tree deed)) h) in
         let carries = grown w1 (with_ask p unique new) w.kernel.nodes w.server.nodes w.server.handles
         (λ id generation e. e) (λ id generation file d. d) (λ fh file o. o) one in
-        let carried = carried_alike w1
+        let carried = replaced_tables_refine w1
         (with_ask p unique new) asked_alike w.kernel.nodes w.server.nodes w.server.handles left.tree
         (tree_after p.tree deed) carries trees in (
           ask_performed p unique asked.ask,

@@ -15,7 +15,7 @@ use Rattle.fuse_spec.specs.Kernel.QueueCalls as queues
 use Rattle.fuse_spec.specs.Kernel.Uniques.{interrupt_number}
 use Rattle.fuse_spec.specs.Kernel.Messages.{Forget, RequestBody, Request, interrupt}
 use Rattle.fuse_spec.specs.Kernel.Kernel.{body_of, is_for}
-use Rattle.fuse_spec.specs.World.Worlds.{World, forget_body, after_read_pending as world_read, after_read_interrupt as world_read_interrupt, after_read_forgets as world_read_forgets}
+use Rattle.fuse_spec.specs.World.Worlds.{World, forget_body, world_after_read_pending as world_read, world_after_read_interrupt as world_read_interrupt, world_after_read_forgets as world_read_forgets}
 use Rattle.fuse_spec.specs.Reference.Plain.{Plain}
 use Rattle.fuse_spec.specs.Claim.Denotes.{MeansIn, MeansOpenIn}
 use Rattle.fuse_spec.specs.Claim.Alike.{RequestBodyAsked, PurposeAsked, Alike}

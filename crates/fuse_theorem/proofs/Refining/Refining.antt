@@ -1,7 +1,7 @@
 -- What holds of a sound world, and of any plain world that it is alike to.
 use Rattle.std.proofs.Common.{ℕ, List, ap}
 use Rattle.fuse_spec.specs.Values.Maps.{remove}
-use Rattle.fuse_spec.specs.Claim.Counts.{Keeps}
+use Rattle.fuse_spec.specs.Claim.Counts.{Protocol}
 use Rattle.fuse_spec.specs.World.Events.{Event, Outcome}
 use Rattle.fuse_spec.specs.Reference.Plain.{Plain}
 use Rattle.fuse_spec.specs.Reference.PlainWords.{Steps}
@@ -28,7 +28,7 @@ module _ (w : World) (here : IsSoundWorld w) where
   pub refined : (p : Plain) × Alike w p
   refined = (here.plain, here.sound.both.alike)
 
-  pub kept : Keeps w
+  pub kept : Protocol w
   kept = all_keep w here.plain here.sound
 
   -- An event: every plain world that is alike takes its step, and is alike again.
@@ -69,7 +69,7 @@ module _ (w : World) (here : IsSoundWorld w) where
       (run.3, run.4)
 
   pub list_keeps : (events : List Event) (records : List Record) (after : World) → Recorded w events records after
-      → Keeps after
+      → Protocol after
   list_keeps events records after recorded =
       let run = all_run w here.plain here.sound here.answers events records after recorded in
       all_keep after run.0 run.2

@@ -33,7 +33,7 @@ use Rattle.fuse_theorem.specs.Conditions.{awaiting}
 use Rattle.fuse_theorem.proofs.Answers.Answered.{unasked, ended_stay, ready_alike}
 use Rattle.fuse_theorem.proofs.Refining.Queuing.{queues_alike}
 use Rattle.fuse_theorem.proofs.Refining.Reading.{same_requests}
-use Rattle.fuse_theorem.proofs.Refining.Unasked.{odd_unasked}
+use Rattle.fuse_theorem.proofs.Refining.NoAsk.{odd_unasked}
 use Rattle.fuse_theorem.proofs.Refining.Writing.{unsent_alike}
 
 -- What the kernel makes of a copy: a result and a kernel that the plain world does not see.

@@ -14,8 +14,8 @@ use Rattle.fuse_spec.specs.Claim.Denotes.{MeansIn, Denotes}
 use Rattle.fuse_spec.specs.Claim.Alike.{Alike}
 use Rattle.fuse_theorem.specs.Numbering.{IsOneToOne}
 use Rattle.fuse_theorem.specs.Conditions.{KnownAreHeld}
-use Rattle.fuse_theorem.proofs.Refining.TablesReplaced.{grown, carried_alike}
-use Rattle.fuse_theorem.proofs.Refining.Giving.{counted_denotes, counted_open, one_grown}
+use Rattle.fuse_theorem.proofs.Refining.TablesReplaced.{grown, replaced_tables_refine}
+use Rattle.fuse_theorem.proofs.Refining.LookupsCounted.{counted_denotes, counted_open, one_grown}
 use Rattle.fuse_theorem.proofs.Refining.Serving.{copied_alike}
 use Rattle.fuse_theorem.proofs.Trees.NamelessDiscarded.{any_put}
 
@@ -62,7 +62,7 @@ again_alike w p one held same unique kept there =
     λ file i. sym (rows_same file (files_in_reply kept.wire) w.server.nodes) i
     || sym (handles_same file (opens_in_reply kept.wire) w.server.handles) i in
     let w1 = record w { server = s1 } in
-    let alike1 : Alike w1 p = carried_alike w p same w.kernel.nodes t h w.server.tree p.tree carries (record {
+    let alike1 : Alike w1 p = replaced_tables_refine w p same w.kernel.nodes t h w.server.tree p.tree carries (record {
       names = same.tree.names;
       next_birth = same.tree.next_birth;
       next_serial = same.tree.next_serial;

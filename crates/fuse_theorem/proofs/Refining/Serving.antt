@@ -8,7 +8,7 @@ use Rattle.fuse_spec.specs.Kernel.Kernel.{is_live}
 use Rattle.fuse_spec.specs.Server.Server.{Kept, Copy}
 use Rattle.fuse_spec.specs.World.Worlds.{World, Sent}
 use Rattle.fuse_spec.specs.Reference.Plain.{Plain, Ask}
-use Rattle.fuse_spec.specs.Claim.Alike.{StageTold, Alike}
+use Rattle.fuse_spec.specs.Claim.Alike.{IsStageReplied, Alike}
 use Rattle.fuse_spec.proofs.Tables.{get_put_here, get_put_there, get_gone_here, get_gone_there}
 
 module _ (w : World) (p : Plain) (same : Alike w p) where
@@ -63,7 +63,7 @@ module _ (w : World) (p : Plain) (same : Alike w p) where
   -- A reply is kept under a number, and a copy of it goes out. It says what the ask under that number came to.
   pub replied_alike : (unique number next : ℕ) (wire : WireReply) (kept : Kept) (copies : Map Copy) → kept.wire ≡ wire
       → (is_live w.kernel.phase ≡ true → (ask : Ask) → get p.asks unique ≡ Some ask
-      → StageTold w.server.nodes w.server.handles ask.stage wire)
+      → IsStageReplied w.server.nodes w.server.handles ask.stage wire)
       → Alike (record w {
         server = record w.server {
           kept = put w.server.kept unique kept;
@@ -102,13 +102,13 @@ module _ (w : World) (p : Plain) (same : Alike w p) where
                   get_put_here w.server.kept unique kept,
                   subst (λ (n : ℕ). get (put w.server.kept unique kept) n ≡ Some k) e at,
                 ) in
-                subst (λ (x : WireReply). StageTold w.server.nodes w.server.handles ask.stage x)
+                subst (λ (x : WireReply). IsStageReplied w.server.nodes w.server.handles ask.stage x)
                 (sym is_wire ∙ ap (λ (x : Kept). x.wire) is_kept)
                 (told live ask (subst (λ (n : ℕ). get p.asks n ≡ Some ask) e there))
             | inr ne ↦ old.kept u k ask (sym (get_put_there w.server.kept unique kept u ne) ∙ at) there
           ];
           copies = All-push (λ (sent : Sent). (ask : Ask) → get p.asks sent.unique ≡ Some ask
-              → StageTold w.server.nodes w.server.handles ask.stage sent.wire) w.replies
+              → IsStageReplied w.server.nodes w.server.handles ask.stage sent.wire) w.replies
               (record { number = number; unique = unique; wire = wire }) old.copies
               (told live);
         };
@@ -121,7 +121,7 @@ module _ (w : World) (p : Plain) (same : Alike w p) where
   -- One more copy goes out. It says what the ask under its number came to.
   pub copied_alike : (unique number next : ℕ) (wire : WireReply) (copies : Map Copy)
       → (is_live w.kernel.phase ≡ true → (ask : Ask) → get p.asks unique ≡ Some ask
-      → StageTold w.server.nodes w.server.handles ask.stage wire)
+      → IsStageReplied w.server.nodes w.server.handles ask.stage wire)
       → Alike (record w {
         server = record w.server { copies = copies; next_copy = next };
         replies = w.replies ++ record { number = number; unique = unique; wire = wire } ∷ [];
@@ -152,7 +152,7 @@ module _ (w : World) (p : Plain) (same : Alike w p) where
           signalled = old.signalled;
           kept = old.kept;
           copies = All-push (λ (sent : Sent). (ask : Ask) → get p.asks sent.unique ≡ Some ask
-              → StageTold w.server.nodes w.server.handles ask.stage sent.wire) w.replies
+              → IsStageReplied w.server.nodes w.server.handles ask.stage sent.wire) w.replies
               (record { number = number; unique = unique; wire = wire }) old.copies
               (told live);
         };

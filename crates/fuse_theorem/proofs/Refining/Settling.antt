@@ -18,10 +18,10 @@ use Rattle.fuse_spec.specs.Reference.Plain.{Plain}
 use Rattle.fuse_spec.specs.Claim.Denotes.{Denotes}
 use Rattle.fuse_spec.specs.Claim.Alike.{Alike}
 use Rattle.fuse_spec.proofs.Tables.{get_put_here, get_put_there, get_gone_here, get_gone_there}
-use Rattle.fuse_theorem.specs.Conditions.{OneId, HoldsAll, HoldsOpens, IsNumber}
+use Rattle.fuse_theorem.specs.Conditions.{OneId, HoldsAll, HoldsOpens, IsOpenNumber}
 use Rattle.fuse_theorem.proofs.Refining.TablesReplaced.{stage_more}
 use Rattle.fuse_theorem.proofs.Refining.Forgetting.{less_denotes, any_fewer, rows_fewer, still, means, meant, unanswered}
-use Rattle.fuse_theorem.proofs.Refining.UnusedNodesDropped.{Narrows, narrowed_alike}
+use Rattle.fuse_theorem.proofs.Refining.UnusedNodesDropped.{Narrows, fewer_nodes_refine}
 use Rattle.fuse_theorem.proofs.Trees.NamelessDiscarded.{discarded_unheld_alike}
 
 -- ---- the server knows of fewer kept replies and copies
@@ -168,7 +168,7 @@ module _ (w : World) (p : Plain) (same : Alike w p) (one : OneId w.server.nodes)
     → (x : OpenNumber) × (get w.server.handles.handles fh ≡ Some x) × (y.file ≡ x.file)) (holds : HoldsAll w t)
     (opens : HoldsOpens w h) where
   -- an open number that is held is one of the same file
-  open_still : (fh file : ℕ) → IsNumber h fh → is_open w.server.handles fh file ≡ true → is_open h fh file ≡ true
+  open_still : (fh file : ℕ) → IsOpenNumber h fh → is_open w.server.handles fh file ≡ true → is_open h fh file ≡ true
   open_still fh file there old = by (get h.handles fh) refl there
     where
       by : (o : Option OpenNumber) → get h.handles fh ≡ o → o ≢ None → is_file_of file o ≡ true
@@ -252,7 +252,7 @@ given_back_alike w p one same wire holds opens =
     (list_any (λ (x : OpenNumber). nat_eq x.file file) (values w.server.handles.handles)) held
     (rows_back_files file (files_in_reply wire) w.server.nodes)
     (handles_back_files file (opens_in_reply wire) w.server.handles)) in
-    narrowed_alike w p same w.kernel.nodes t h (without_unheld_files s).tree p.tree
+    fewer_nodes_refine w p same w.kernel.nodes t h (without_unheld_files s).tree p.tree
     (narrows_fewer w p same one t h (rows_back_denotes (files_in_reply wire) w.server.nodes)
     (numbers_back (opens_in_reply wire) w.server.handles) holds opens) trees
   where

@@ -22,7 +22,7 @@ use Rattle.fuse_spec.specs.Kernel.Kernel.{Kernel, is_live, body_of, is_for, afte
 use Rattle.fuse_spec.specs.World.Worlds.{World}
 use Rattle.fuse_spec.specs.World.Events as event
 use Rattle.fuse_spec.specs.Reference.Plain.{Plain, Ask, Stage, waiting, performed, declined, ask_noted, ask_interrupted}
-use Rattle.fuse_spec.specs.Reference.PlainSteps.{Takes, may_signal, signalled_ask, signalling, where_so}
+use Rattle.fuse_spec.specs.Reference.PlainSteps.{Takes, may_signal, signalled_ask, plain_signalling, where_so}
 use Rattle.fuse_spec.specs.Claim.Denotes.{MeansIn, MeansOpenIn, StateAlike}
 use Rattle.fuse_spec.specs.Files.Operations.{OptionAlike}
 use Rattle.fuse_spec.specs.Claim.Alike.{IsPaired, RequestBodyAsked, PurposeAsked, Alike}
@@ -32,12 +32,12 @@ use Rattle.fuse_spec.proofs.QueueSoundness.{IsSound-dequeue}
 use Rattle.fuse_theorem.specs.Numbering.{IsNumbered, IsOneToOne}
 use Rattle.fuse_theorem.specs.Conditions.{UnreadAreUnsent}
 use Rattle.fuse_theorem.proofs.Calls.Advancing.{answered_alone}
-use Rattle.fuse_theorem.proofs.Refining.Asking.{advanced_alike}
+use Rattle.fuse_theorem.proofs.Refining.Asking.{next_request_refines}
 use Rattle.fuse_theorem.proofs.Refining.Ending.{without_ask, not_asked, paused_ended}
 use Rattle.fuse_theorem.proofs.Calls.Finding.{same_is, other_is, all_fail, count_less, found_entry}
 use Rattle.fuse_theorem.proofs.Requests.PendingCounts.{unread_pending}
 use Rattle.fuse_theorem.proofs.Calls.RepliesReceived.{answered_alike}
-use Rattle.fuse_theorem.proofs.Refining.Noting.{noted_alike, flagged_alike, interrupted_alike}
+use Rattle.fuse_theorem.proofs.Refining.SignalNoted.{noted_alike, flagged_alike, interrupted_alike}
 use Rattle.fuse_theorem.proofs.Refining.Writing.{used_alike}
 
 -- a request that serves a call
@@ -172,7 +172,7 @@ module _ (w : World) (p : Plain) (numbered : IsNumbered w) (one : IsOneToOne (Me
       } in
       let stepped : Alike (record w { kernel = record k1 { vfs = answered w.kernel.vfs call (answer.failed 4) } })
       (record (without_ask p pair.unique) { vfs = answered p.vfs call (answer.failed 4) }) =
-      advanced_alike w1 (without_ask p pair.unique) call numbered1 paused one same.tree same.validity same.minor same.agreed w.kernel.vfs.next_call (no_more (answered w.kernel.vfs call (answer.failed 4))) (no_more (answered p.vfs call (answer.failed 4)))
+      next_request_refines w1 (without_ask p pair.unique) call numbered1 paused one same.tree same.validity same.minor same.agreed w.kernel.vfs.next_call (no_more (answered w.kernel.vfs call (answer.failed 4))) (no_more (answered p.vfs call (answer.failed 4)))
       (record {
         vfs = answered_alike (MeansIn w) (MeansOpenIn w) one w.kernel.vfs p.vfs same.vfs call call
             (answer.failed 4) (answer.failed 4) refl refl;
@@ -219,7 +219,7 @@ module _ (w : World) (p : Plain) (numbered : IsNumbered w) (one : IsOneToOne (Me
       (same_is call) in
       let taken : Takes p (event.intr call fatal) (event.interrupted call e) q = (
         pair.unique,
-        ap (λ (o : Option Ask). signalling p e call pair.unique o) pair.there ∙ ap
+        ap (λ (o : Option Ask). plain_signalling p e call pair.unique o) pair.there ∙ ap
             (λ (b : Bool). where_so (b && (nat_eq pair.ask.call call && may_signal e pair.ask.stage)) q) unanswered ∙ ap
             (λ (b : Bool). where_so (b && may_signal e pair.ask.stage) q) mine ∙ ap (λ (b : Bool). where_so b q) may,
       ) in

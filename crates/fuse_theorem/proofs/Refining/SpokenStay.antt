@@ -13,7 +13,7 @@ use Rattle.fuse_spec.specs.declared.Purpose.TheVariants as purpose
 use Rattle.fuse_spec.specs.declared.ReplyResult.{ReplyResult}
 use Rattle.fuse_spec.specs.declared.WriteResult.{WriteResult}
 use Rattle.fuse_spec.specs.declared.WriteResult.TheVariants.{Accepted, NoEntry, Invalid}
-use Rattle.fuse_spec.specs.Calls.Calls.{spoken}
+use Rattle.fuse_spec.specs.Calls.Calls.{for_minor}
 use Rattle.fuse_spec.specs.Server.Copies.{after_result, kept_after}
 use Rattle.fuse_spec.specs.World.Events.{Event, Outcome}
 use Rattle.fuse_spec.specs.Kernel.Kernel.{Kernel, is_live, body_of, asked_by, call_begun, kernel_aborted, forgets_singly}
@@ -27,7 +27,7 @@ use Rattle.fuse_spec.specs.Server.Server.{Server, HeldRequest, Kept, Copy, knows
 use Rattle.fuse_spec.specs.Server.Taking.{taking, interrupting}
 use Rattle.fuse_spec.specs.Kernel.Uniques.{interrupt_number}
 use Rattle.fuse_spec.specs.Calls.Vfs.{CallState, walking, doing, using, asked}
-use Rattle.fuse_spec.specs.World.Worlds.{World, Sent, replying, forget_body, server_settled, after_write}
+use Rattle.fuse_spec.specs.World.Worlds.{World, Sent, copy_put, forget_body, server_settled, after_write}
 use Rattle.fuse_theorem.specs.AskedRequests.{InitIsFirst, RequestsAskedWhileLive}
 use Rattle.fuse_theorem.specs.Faultless.{OldState, OldRequest, Spoken}
 use Rattle.fuse_theorem.specs.Links.{LinksSound}
@@ -73,7 +73,7 @@ record SameBeside (v w : World) : Type 0 where
   minor : v.server.minor ≡ w.server.minor
   requests : v.requests ≡ w.requests
 
-sent_beside : (w : World) (number unique : ℕ) (o : Option WireReply) → SameBeside (replying w number unique o) w
+sent_beside : (w : World) (number unique : ℕ) (o : Option WireReply) → SameBeside (copy_put w number unique o) w
 sent_beside w number unique None = record { kernel = refl; minor = refl; requests = refl }
 sent_beside w number unique (Some wire) = record { kernel = refl; minor = refl; requests = refl }
 
@@ -208,12 +208,12 @@ module _ (choice : ℕ → ℕ) (w : World) (requests : RequestsAskedWhileLive w
   spoken_after e o after (by_mount f m v idle) live is =
       record { minor = refl; lists_files = refl; calls = All-nil OldState; sent = All-nil OldRequest }
   spoken_after e o after (by_call call ready room within) live is =
-      let goes = begun_goes_on w.kernel (spoken w.kernel.lists_files call) in
+      let goes = begun_goes_on w.kernel (for_minor w.kernel.lists_files call) in
       let was = old (ap is_live (sym goes.phase) ∙ live) is in
       record {
         minor = goes.minor ∙ was.minor;
         lists_files = goes.lists_files ∙ was.lists_files;
-        calls = subst (λ (lists : Bool). All OldState (values (call_begun w.kernel (spoken lists call)).vfs.calls))
+        calls = subst (λ (lists : Bool). All OldState (values (call_begun w.kernel (for_minor lists call)).vfs.calls))
             (sym was.lists_files) (begins_old w.kernel was.calls call);
         sent = was.sent;
       }

@@ -21,7 +21,7 @@ use Rattle.fuse_spec.specs.Kernel.Messages.{RequestBody, init, asks, release, fo
 use Rattle.fuse_spec.specs.Reference.Plain.{Plain, Ask, Stage, waiting, performed, declined}
 use Rattle.fuse_spec.specs.Server.Nodes.{NodeTable, HandleTable, is_open}
 use Rattle.fuse_spec.specs.Claim.Denotes.{WalkPlanAlike, StateAlike, BindingAlike, Names, Opens, Denotes, generation_known, Means, MeansOpen, MeansIn, MeansOpenIn}
-use Rattle.fuse_spec.specs.Claim.Alike.{TreeAlike, VfsAlike, RequestBodyAsked, Meant, MeantOpen, StageTold, Alike}
+use Rattle.fuse_spec.specs.Claim.Alike.{TreeAlike, VfsAlike, RequestBodyAsked, Meant, MeantOpen, IsStageReplied, Alike}
 use Rattle.fuse_theorem.specs.Numbering.{IsOneToOne}
 use Rattle.fuse_theorem.proofs.Refining.Asking.{match_more}
 use Rattle.fuse_theorem.proofs.Calls.Meaning.{operation_more, final_within, first_of}
@@ -121,7 +121,7 @@ reply_more R R' S S' a b f k h = absurd h
 pub stage_more : (t t' : NodeTable) (h h' : HandleTable) (stage : Stage) (wire : WireReply)
     → ((g : Entry) (file : ℕ) → Contains (files_in_reply wire) g → Names t g file → Names t' g file)
     → ((fh file : ℕ) → Contains (opens_in_reply wire) fh → Opens h fh file → Opens h' fh file)
-    → StageTold t h stage wire → StageTold t' h' stage wire
+    → IsStageReplied t h stage wire → IsStageReplied t' h' stage wire
 stage_more t t' h h' waiting wire f k told = absurd told
 stage_more t t' h h' (performed reply) wire f k told =
     reply_more (Names t) (Names t') (Opens h) (Opens h') wire reply f k told
@@ -157,21 +157,21 @@ pub record Carries (w : World) (p : Plain) (nodes : Map Counted) (t : NodeTable)
       → Contains (opens_of_body x.body) o → MeantOpen w.server.nodes w.server.handles x.generations o file
       → MeantOpen t h x.generations o file
   pub kept : is_live w.kernel.phase ≡ true → (unique : ℕ) (k : Kept) (ask : Ask) → get w.server.kept unique ≡ Some k
-      → get p.asks unique ≡ Some ask → StageTold w.server.nodes w.server.handles ask.stage k.wire
-      → StageTold t h ask.stage k.wire
+      → get p.asks unique ≡ Some ask → IsStageReplied w.server.nodes w.server.handles ask.stage k.wire
+      → IsStageReplied t h ask.stage k.wire
   pub copies : is_live w.kernel.phase ≡ true → All
       (λ (s : Sent). (ask : Ask) → get p.asks s.unique ≡ Some ask
-      → StageTold w.server.nodes w.server.handles ask.stage s.wire → StageTold t h ask.stage s.wire) w.replies
+      → IsStageReplied w.server.nodes w.server.handles ask.stage s.wire → IsStageReplied t h ask.stage s.wire) w.replies
 
 -- All stays alike.
-pub carried_alike : (w : World) (p : Plain) → Alike w p
+pub replaced_tables_refine : (w : World) (p : Plain) → Alike w p
     → (nodes : Map Counted) (t : NodeTable) (h : HandleTable) (tree tree' : Tree) → Carries w p nodes t h
     → TreeAlike (record w.server { tree = tree; nodes = t; handles = h }) tree'
     → Alike (record w {
       kernel = record w.kernel { nodes = nodes };
       server = record w.server { tree = tree; nodes = t; handles = h };
     }) (record p { tree = tree' })
-carried_alike w p same nodes t h tree tree' carries trees = record {
+replaced_tables_refine w p same nodes t h tree tree' carries trees = record {
   tree = trees;
   vfs = vfs_more (MeansIn w) (Means nodes t) carries.means (MeansOpenIn w)
       (MeansOpen nodes t h) carries.opens carries.one w.kernel.vfs p.vfs same.vfs;

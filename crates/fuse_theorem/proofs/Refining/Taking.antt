@@ -11,7 +11,7 @@ use Rattle.fuse_spec.specs.Server.Server.{HeldRequest, holding, sending, nodes_o
 use Rattle.fuse_spec.specs.World.Worlds.{World, Sent}
 use Rattle.fuse_spec.specs.Reference.Plain.{Plain, Ask}
 use Rattle.fuse_spec.specs.Claim.Denotes.{MeansIn, MeansOpenIn}
-use Rattle.fuse_spec.specs.Claim.Alike.{RequestBodyAsked, Meant, MeantOpen, StageTold, Alike}
+use Rattle.fuse_spec.specs.Claim.Alike.{RequestBodyAsked, Meant, MeantOpen, IsStageReplied, Alike}
 use Rattle.fuse_spec.proofs.Tables.{get_put_here, get_put_there}
 use Rattle.fuse_theorem.proofs.Refining.Queuing.{All-without, All-at}
 use Rattle.fuse_theorem.proofs.Calls.Meaning.{operation_more, means_meant, means_open_meant}
@@ -167,7 +167,7 @@ module _ (w : World) (p : Plain) (same : Alike w p) where
           signalled = old.signalled;
           kept = old.kept;
           copies = All-push (λ (sent : Sent). (ask : Ask) → get p.asks sent.unique ≡ Some ask
-              → StageTold w.server.nodes w.server.handles ask.stage sent.wire) w.replies
+              → IsStageReplied w.server.nodes w.server.handles ask.stage sent.wire) w.replies
               (record { number = number; unique = unique; wire = wire }) old.copies
               (λ ask there. absurd (cc (unasked, there)));
         };

@@ -22,7 +22,7 @@ use Rattle.fuse_spec.specs.Kernel.Messages.{RequestBody, Request, init, asks, re
 use Rattle.fuse_spec.specs.Reference.Plain.{Plain, Ask}
 use Rattle.fuse_spec.specs.Server.Nodes.{NodeTable, HandleTable}
 use Rattle.fuse_spec.specs.Claim.Denotes.{WalkPlanAlike, StateAlike, BindingAlike, Means, MeansOpen, MeansIn, MeansOpenIn}
-use Rattle.fuse_spec.specs.Claim.Alike.{TreeAlike, VfsAlike, RequestBodyAsked, Meant, MeantOpen, StageTold, Alike}
+use Rattle.fuse_spec.specs.Claim.Alike.{TreeAlike, VfsAlike, RequestBodyAsked, Meant, MeantOpen, IsStageReplied, Alike}
 use Rattle.fuse_theorem.proofs.Calls.Meaning.{operation_more, final_within, first_of, next_of}
 
 -- ---- what is alike under R and S is alike under what they imply of what stands in it
@@ -121,11 +121,11 @@ module _ (w : World) (p : Plain) (nodes : Map Counted) (t : NodeTable) (h : Hand
         → Contains (opens_of_body x.body) o → MeantOpen w.server.nodes w.server.handles x.generations o file
         → MeantOpen t h x.generations o file
     pub kept : is_live w.kernel.phase ≡ true → (unique : ℕ) (k : Kept) (ask : Ask) → get w.server.kept unique ≡ Some k
-        → get p.asks unique ≡ Some ask → StageTold w.server.nodes w.server.handles ask.stage k.wire
-        → StageTold t h ask.stage k.wire
+        → get p.asks unique ≡ Some ask → IsStageReplied w.server.nodes w.server.handles ask.stage k.wire
+        → IsStageReplied t h ask.stage k.wire
     pub copies : is_live w.kernel.phase ≡ true → All
         (λ (s : Sent). (ask : Ask) → get p.asks s.unique ≡ Some ask
-        → StageTold w.server.nodes w.server.handles ask.stage s.wire → StageTold t h ask.stage s.wire) w.replies
+        → IsStageReplied w.server.nodes w.server.handles ask.stage s.wire → IsStageReplied t h ask.stage s.wire) w.replies
 
 module _ (w : World) (p : Plain) (same : Alike w p) (nodes : Map Counted) (t : NodeTable) (h : HandleTable)
     (narrows : Narrows w p nodes t h) where
@@ -218,14 +218,14 @@ module _ (w : World) (p : Plain) (same : Alike w p) (nodes : Map Counted) (t : N
           }
 
 -- All stays alike.
-pub narrowed_alike : (w : World) (p : Plain) → Alike w p
+pub fewer_nodes_refine : (w : World) (p : Plain) → Alike w p
     → (nodes : Map Counted) (t : NodeTable) (h : HandleTable) (tree tree' : Tree) → Narrows w p nodes t h
     → TreeAlike (record w.server { tree = tree; nodes = t; handles = h }) tree'
     → Alike (record w {
       kernel = record w.kernel { nodes = nodes };
       server = record w.server { tree = tree; nodes = t; handles = h };
     }) (record p { tree = tree' })
-narrowed_alike w p same nodes t h tree tree' narrows trees = record {
+fewer_nodes_refine w p same nodes t h tree tree' narrows trees = record {
   tree = trees;
   vfs = vfs_within w p same nodes t h narrows;
   requests = record {

@@ -16,14 +16,14 @@ use Rattle.fuse_spec.specs.Kernel.Kernel.{Kernel, is_live, advanced, after_use}
 use Rattle.fuse_spec.specs.World.Worlds.{World, Sent}
 use Rattle.fuse_spec.specs.Reference.Plain.{Plain, Ask, waiting, performed, declined, going_on, ask_delivered, ask_interrupted}
 use Rattle.fuse_spec.specs.Claim.Denotes.{MeansIn, MeansOpenIn, StateAlike}
-use Rattle.fuse_spec.specs.Claim.Alike.{StageTold, Alike}
+use Rattle.fuse_spec.specs.Claim.Alike.{IsStageReplied, Alike}
 use Rattle.fuse_spec.proofs.QueueSoundness.{IsSound-without}
 use Rattle.fuse_theorem.specs.Numbering.{IsOneToOne, IsNumbered}
 use Rattle.fuse_theorem.proofs.Requests.Numbered.{ended_numbered}
 use Rattle.fuse_theorem.proofs.Calls.RepliesReceived.{answered_alike}
-use Rattle.fuse_theorem.proofs.Calls.RepliesReach.{AdvanceAlike, told_call_alike}
+use Rattle.fuse_theorem.proofs.Calls.RepliesReach.{AdvanceAlike, reply_step_refines}
 use Rattle.fuse_theorem.proofs.Calls.Advancing.{StepsAlone, call_replied_alone, answered_alone}
-use Rattle.fuse_theorem.proofs.Refining.Asking.{AlikeExceptCall, advanced_alike}
+use Rattle.fuse_theorem.proofs.Refining.Asking.{AlikeExceptCall, next_request_refines}
 use Rattle.fuse_theorem.proofs.Refining.Releasing.{next_unasked, released_alike}
 use Rattle.fuse_theorem.proofs.Refining.Queuing.{All-without}
 use Rattle.fuse_theorem.proofs.Refining.Ending.{without_ask, paused_ended, none_sent, none_held}
@@ -52,7 +52,7 @@ unsent_alike w p same k results = record {
         signalled = old.signalled;
         kept = old.kept;
         copies = All-without (λ (sent : Sent). (ask : Ask) → get p.asks sent.unique ≡ Some ask
-            → StageTold w.server.nodes w.server.handles ask.stage sent.wire) w.replies k old.copies;
+            → IsStageReplied w.server.nodes w.server.handles ask.stage sent.wire) w.replies k old.copies;
       };
   validity = same.validity;
   minor = same.minor;
@@ -107,19 +107,19 @@ module _ (w : World) (p : Plain) (numbered : IsNumbered w) (one : IsOneToOne (Me
       → AdvanceAlike (MeansIn w) (MeansOpenIn w) one c d → StepsAlone w.kernel.vfs.calls w.kernel.vfs.next_call call c
       → Alike (record w { kernel = advanced k1 call c }) (going_on p1 w.kernel.queues.next call d)
   stepped c d over alike alone =
-      advanced_alike w1 p1 call numbered1
+      next_request_refines w1 p1 call numbered1
       (paused over) one same.tree same.validity same.minor same.agreed w.kernel.vfs.next_call c d alike alone
       (λ a e. live) same.aborted
 
   label_free : get p.asks w.kernel.queues.next ≡ None
   label_free = next_unasked w p numbered.queues same live
 
-  -- The call hears a reply that is alike to what its ask came to.
-  pub heard_alike : (reply : Reply ℕ ℕ) (reply_received : Reply ℕ Opened) → ask.stage ≡ performed reply
+  -- The call receives a reply that is alike to what its ask came to.
+  pub received_alike : (reply : Reply ℕ ℕ) (reply_received : Reply ℕ Opened) → ask.stage ≡ performed reply
       → ReplyAlike (MeansIn w) (MeansOpenIn w) reply_received reply
       → Alike (record w { kernel = advanced k1 call (call_replied w.kernel.vfs call state reply_received) })
       (ask_delivered p unique w.kernel.queues.next ask reply state')
-  heard_alike reply reply_received over fits =
+  received_alike reply reply_received over fits =
       subst (λ (c : ℕ). Alike (record w {
         kernel = advanced k1 call
             (call_replied w.kernel.vfs call state reply_received);
@@ -127,11 +127,11 @@ module _ (w : World) (p : Plain) (numbered : IsNumbered w) (one : IsOneToOne (Me
       (going_on p1 w.kernel.queues.next c (call_replied p.vfs c state' reply))) (sym by_call)
       (stepped (call_replied w.kernel.vfs call state reply_received) (call_replied p.vfs call state' reply)
       (λ e. not_waiting reply (sym over ∙ e))
-      (told_call_alike (MeansIn w)
+      (reply_step_refines (MeansIn w)
       (MeansOpenIn w) one w.kernel.vfs p.vfs same.vfs call state state' reply_received reply states fits)
       (call_replied_alone w.kernel.vfs call state reply_received))
 
-  -- The call hears that its ask was declined.
+  -- The call receives that its ask was declined.
   pub declined_alike : ask.stage ≡ declined → Alike
       (record w { kernel = record k1 { vfs = answered w.kernel.vfs call (answer.failed 4) } })
       (ask_interrupted p unique ask)

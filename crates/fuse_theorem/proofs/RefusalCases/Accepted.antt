@@ -9,7 +9,7 @@ use Rattle.fuse_spec.specs.Kernel.Uniques.{IsNextNumber}
 use Rattle.fuse_spec.specs.World.Worlds.{World}
 use Rattle.fuse_spec.specs.World.Events.{Outcome}
 use Rattle.fuse_spec.specs.Kernel.Refusals as kernel
-use Rattle.fuse_spec.specs.Kernel.Refusals.{unless, is_past_end}
+use Rattle.fuse_spec.specs.Kernel.Refusals.{unless, is_kernel_past_end}
 use Rattle.fuse_spec.specs.World.Steps.{Stepped, is_past, going}
 
 pub record NotRefused (condition : Bool) (stepped : Stepped) (o : Outcome) (w : World) : Type 0 where
@@ -52,8 +52,8 @@ first_false false b e = refl
 -- no number of a request is past the end
 pub next_within : (w : World) → is_past w ≡ false → w.kernel.queues.next ≤ 2 ^ 62
 next_within w within =
-    let kernel_low = first_false (kernel.is_past w.kernel) _ within in
-    let numbers_low = first_false (is_past_end w.kernel) _ kernel_low in
+    let kernel_low = first_false (kernel.is_kernel_past w.kernel) _ within in
+    let numbers_low = first_false (is_kernel_past_end w.kernel) _ kernel_low in
     let low = first_false (nat_lt counter_end w.kernel.queues.next) _ numbers_low in
     grind (arith, nat_tests, low)
 

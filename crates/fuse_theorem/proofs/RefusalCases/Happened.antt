@@ -23,10 +23,10 @@ use Rattle.fuse_spec.specs.Server.Server.{HeldRequest, Kept}
 use Rattle.fuse_spec.specs.Server.Taking.{taking}
 use Rattle.fuse_spec.specs.Server.Performs.{served, files_given}
 use Rattle.fuse_spec.specs.Server.Copies.{is_current, files_named}
-use Rattle.fuse_spec.specs.World.Worlds.{World, Sent, after_mount, after_call, after_read_interrupt, after_read_forgets, after_read_pending, after_take, after_perform, after_again, after_write, after_settle, after_tick, after_drop, after_evict, after_abort}
+use Rattle.fuse_spec.specs.World.Worlds.{World, Sent, after_mount, after_call, world_after_read_interrupt, world_after_read_forgets, world_after_read_pending, after_take, after_perform, after_again, after_write, after_settle, after_tick, after_drop, after_evict, after_abort}
 use Rattle.fuse_spec.specs.World.Events.{Event, Outcome}
 use Rattle.fuse_spec.specs.World.Events as event
-use Rattle.fuse_spec.specs.Server.Nodes.{counts_out}
+use Rattle.fuse_spec.specs.Server.Nodes.{count_overflows}
 use Rattle.fuse_spec.specs.Kernel.Refusals.{first_found, found, pending_found, unused_found, when_not_interrupted, unless, is_ready, is_busy}
 use Rattle.fuse_spec.specs.Server.Refusals.{held_found, kept_found}
 use Rattle.fuse_spec.specs.World.Steps.{is_past, going, reading_interrupt, reading_forgets, reading_pending, taking_request, performing_held, sending_again, writing_copy, settling, signalling, dropping, evicting, step}
@@ -41,20 +41,20 @@ pub data Happened (choice : ℕ → ℕ) (w : World) : Event → Outcome → Wor
       → is_past (after_call w call) ≡ false
       → Happened choice w (event.call call) (event.begun w.kernel.vfs.next_call) (after_call w call)
   by_read_interrupt : (original : ℕ) (rest : List ℕ) → is_live w.kernel.phase ≡ true
-      → w.kernel.queues.interrupts ≡ original ∷ rest → is_past (after_read_interrupt w original) ≡ false
+      → w.kernel.queues.interrupts ≡ original ∷ rest → is_past (world_after_read_interrupt w original) ≡ false
       → Happened choice w event.read_interrupt (event.is_read (interrupt_number original))
-      (after_read_interrupt w original)
+      (world_after_read_interrupt w original)
   by_read_forgets : (n : ℕ) → is_live w.kernel.phase ≡ true → w.kernel.queues.interrupts ≡ []
-      → can_read_forgets w.kernel.queues n ≡ true → is_past (after_read_forgets w n (take n w.kernel.queues.forgets))
+      → can_read_forgets w.kernel.queues n ≡ true → is_past (world_after_read_forgets w n (take n w.kernel.queues.forgets))
       ≡ false
       → (forgets_singly w.kernel.minor && nat_lt 1 n) ≡ false
       → Happened choice w (event.read_forgets n) (event.is_read w.kernel.queues.next)
-      (after_read_forgets w n (take n w.kernel.queues.forgets))
+      (world_after_read_forgets w n (take n w.kernel.queues.forgets))
   by_read_pending : (k unique : ℕ) (kept : Purpose) (body : RequestBody) → is_live w.kernel.phase ≡ true
       → w.kernel.queues.interrupts ≡ [] → pending_at w.kernel.queues k ≡ Some (unique, kept)
       → body_of w.kernel kept ≡ Some body
-      → is_past (after_read_pending w k unique body) ≡ false
-      → Happened choice w (event.read_pending k) (event.is_read unique) (after_read_pending w k unique body)
+      → is_past (world_after_read_pending w k unique body) ≡ false
+      → Happened choice w (event.read_pending k) (event.is_read unique) (world_after_read_pending w k unique body)
   by_take : (k : ℕ) (r : Request) → slice_get w.requests k ≡ Some r
       → is_past (after_take w k r.unique (taking w.server r.unique r.body)) ≡ false
       → Happened choice w (event.take k) (event.taken r.unique (taking w.server r.unique r.body).word)
@@ -133,7 +133,7 @@ module _ (choice : ℕ → ℕ) (w : World) (o : Outcome) (last : World) where
           → first_found xs (reading_interrupt w) ≡ Ok (o, last) → Happened choice w event.read_interrupt o last
       by [] there live f = absurd (cc)
       by (original ∷ rest) there live f = goes event.read_interrupt (event.is_read (interrupt_number original))
-          (after_read_interrupt w original) f (λ within. by_read_interrupt original rest live there within)
+          (world_after_read_interrupt w original) f (λ within. by_read_interrupt original rest live there within)
   happened (event.read_forgets n) s =
       let read = forgets_read w.kernel n in
       let lives = unless_ok (not (is_live w.kernel.phase)) refusal.NotReady
@@ -151,7 +151,7 @@ module _ (choice : ℕ → ℕ) (w : World) (o : Outcome) (last : World) where
       by true b few can live free f = absurd (cc)
       by false true few can live free f =
           goes (event.read_forgets n) (event.is_read w.kernel.queues.next)
-          (after_read_forgets w n (take n w.kernel.queues.forgets)) f
+          (world_after_read_forgets w n (take n w.kernel.queues.forgets)) f
           (λ within. by_read_forgets n live free can within few)
       by false false few can live free f = absurd (cc)
   happened (event.read_pending k) s =
@@ -168,7 +168,7 @@ module _ (choice : ℕ → ℕ) (w : World) (o : Outcome) (last : World) where
           → found body (reading_pending w k x.0) ≡ Ok (o, last) → Happened choice w (event.read_pending k) o last
       by_body x there live free None says f = absurd (cc)
       by_body x there live free (Some body) says f =
-          goes (event.read_pending k) (event.is_read x.0) (after_read_pending w k x.0 body) f
+          goes (event.read_pending k) (event.is_read x.0) (world_after_read_pending w k x.0 body) f
           (λ within. by_read_pending k x.0 x.1 body live free there says within)
 
       by : (x : Option (ℕ × Purpose)) → pending_at w.kernel.queues k ≡ x → is_live w.kernel.phase ≡ true
@@ -194,7 +194,7 @@ module _ (choice : ℕ → ℕ) (w : World) (o : Outcome) (last : World) where
       by (Some t) there f =
           let did = served choice w.server unique t in
           let outcome = event.performed unique (errno_of did.wire) w.server.aborted in
-          let few = unless_ok (counts_out w.server.nodes (files_given w.server t)) refusal.Exhausted
+          let few = unless_ok (count_overflows w.server.nodes (files_given w.server t)) refusal.Exhausted
           (going outcome (after_perform w unique did)) o last f in
           goes (event.perform unique) outcome (after_perform w unique did) few.rest
           (λ within. by_perform unique t there within)
@@ -205,7 +205,7 @@ module _ (choice : ℕ → ℕ) (w : World) (o : Outcome) (last : World) where
           → Happened choice w (event.again unique) o last
       by None there f = absurd (cc)
       by (Some kept) there f =
-          let out = counts_out w.server.nodes (files_named w.server kept.wire) in
+          let out = count_overflows w.server.nodes (files_named w.server kept.wire) in
           let gone = going (event.sent_again unique) (after_again w unique kept) in
           let current = unless_ok (not (is_current w.server kept.wire)) refusal.NoCopy
           (unless out refusal.Exhausted gone) o last f in

@@ -12,7 +12,7 @@ use Rattle.fuse_spec.specs.Server.Copies.{is_current, files_named}
 use Rattle.fuse_spec.specs.World.Worlds.{World, after_mount, after_drop}
 use Rattle.fuse_spec.specs.World.Events.{Event, Outcome}
 use Rattle.fuse_spec.specs.World.Events as event
-use Rattle.fuse_spec.specs.Server.Nodes.{counts_out}
+use Rattle.fuse_spec.specs.Server.Nodes.{count_overflows}
 use Rattle.fuse_spec.specs.Kernel.Refusals.{first_found, found, pending_found, unused_found, when_live, when_not_interrupted, unless, is_ready, is_busy}
 use Rattle.fuse_spec.specs.Server.Refusals.{held_found, kept_found}
 use Rattle.fuse_spec.specs.World.Steps.{Stepped, is_past, going, reading_interrupt, reading_forgets, reading_pending, taking_request, performing_held, sending_again, writing_copy, settling, signalling, dropping, evicting, step}
@@ -89,12 +89,12 @@ module _ (choice : ℕ → ℕ) (w : World) where
   comes_to e o after (takes k request there) = ap (λ o. found o (taking_request w k)) there
   comes_to e o after (performs unique held there few) =
       ap (λ o. held_found w.server o (performing_held choice w unique)) there ∙ passed
-      (counts_out w.server.nodes (files_given w.server held)) Exhausted (going o after) few
+      (count_overflows w.server.nodes (files_given w.server held)) Exhausted (going o after) few
   comes_to e o after (sends_again unique kept there current few) =
       ap (λ o. kept_found w.server o (sending_again w unique)) there
       ∙ passed (not (is_current w.server kept.wire)) NoCopy
-      (unless (counts_out w.server.nodes (files_named w.server kept.wire)) Exhausted (going o after)) (ap not current)
-      ∙ passed (counts_out w.server.nodes (files_named w.server kept.wire)) Exhausted (going o after) few
+      (unless (count_overflows w.server.nodes (files_named w.server kept.wire)) Exhausted (going o after)) (ap not current)
+      ∙ passed (count_overflows w.server.nodes (files_named w.server kept.wire)) Exhausted (going o after) few
   comes_to e o after (writes k sent there) = ap (λ o. found o (writing_copy w k)) there
   comes_to e o after (settles k result there) = ap (λ o. found o (settling w k)) there
   comes_to e o after (signals call fatal state live there) =
@@ -194,9 +194,9 @@ module _ (choice : ℕ → ℕ) (w : World) where
       (is_pinned w.kernel node || is_bound w.kernel node) Busy _ used
   refused e r (counted_too_often unique held there many) =
       ap (λ o. held_found w.server o (performing_held choice w unique)) there ∙ refused_by
-      (counts_out w.server.nodes (files_given w.server held)) Exhausted _ many
+      (count_overflows w.server.nodes (files_given w.server held)) Exhausted _ many
   refused e r (copied_too_often unique kept there current many) =
       ap (λ o. kept_found w.server o (sending_again w unique)) there
       ∙ passed (not (is_current w.server kept.wire)) NoCopy _
-      (ap not current) ∙ refused_by (counts_out w.server.nodes (files_named w.server kept.wire)) Exhausted _ many
+      (ap not current) ∙ refused_by (count_overflows w.server.nodes (files_named w.server kept.wire)) Exhausted _ many
   refused e r (past_its_end same o after drawn there past) = exhausted e o after drawn there past

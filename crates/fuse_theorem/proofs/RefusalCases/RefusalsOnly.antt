@@ -24,10 +24,10 @@ use Rattle.fuse_spec.specs.Server.Server.{HeldRequest, Kept}
 use Rattle.fuse_spec.specs.Server.Taking.{taking}
 use Rattle.fuse_spec.specs.Server.Performs.{served, files_given}
 use Rattle.fuse_spec.specs.Server.Copies.{is_current, files_named}
-use Rattle.fuse_spec.specs.World.Worlds.{World, Sent, after_mount, after_call, after_read_interrupt, after_read_forgets, after_read_pending, after_take, after_perform, after_again, after_write, after_settle, after_tick, after_drop, after_evict, after_abort}
+use Rattle.fuse_spec.specs.World.Worlds.{World, Sent, after_mount, after_call, world_after_read_interrupt, world_after_read_forgets, world_after_read_pending, after_take, after_perform, after_again, after_write, after_settle, after_tick, after_drop, after_evict, after_abort}
 use Rattle.fuse_spec.specs.World.Events.{Event, Outcome}
 use Rattle.fuse_spec.specs.World.Events as event
-use Rattle.fuse_spec.specs.Server.Nodes.{counts_out}
+use Rattle.fuse_spec.specs.Server.Nodes.{count_overflows}
 use Rattle.fuse_spec.specs.Kernel.Refusals.{first_found, found, pending_found, unused_found, when_live, when_not_interrupted, unless, is_ready, is_busy}
 use Rattle.fuse_spec.specs.Server.Refusals.{held_found, kept_found}
 use Rattle.fuse_spec.specs.World.Steps.{Stepped, is_past, going, reading_interrupt, reading_forgets, reading_pending, taking_request, performing_held, sending_again, writing_copy, settling, signalling, dropping, evicting, step}
@@ -148,7 +148,7 @@ module _ (choice : ℕ → ℕ) (w : World) where
           → Comes event.read_interrupt (first_found xs (reading_interrupt w))
       by live [] there = nothing_live choice w event.read_interrupt live refl (no_interrupt there)
       by live (original ∷ rest) there = goes choice w event.read_interrupt (event.is_read (interrupt_number original))
-          (after_read_interrupt w original) refl (reads_interrupt original rest live there)
+          (world_after_read_interrupt w original) refl (reads_interrupt original rest live there)
 
   by_read_forgets : (n : ℕ) → Comes (event.read_forgets n) (step choice w (event.read_forgets n))
   by_read_forgets n =
@@ -161,7 +161,7 @@ module _ (choice : ℕ → ℕ) (w : World) where
           → forgets_read w.kernel n ≡ x → Comes (event.read_forgets n) (found x (reading_forgets w n))
       by live first None there = nothing_read choice w (event.read_forgets n) live first (no_forgets n there)
       by live first (Some x) there =
-          goes choice w (event.read_forgets n) (event.is_read x.0) (after_read_forgets w n x.1) refl
+          goes choice w (event.read_forgets n) (event.is_read x.0) (world_after_read_forgets w n x.1) refl
           (reads_forgets n x.0 x.1 (record { live = live; none_first = first }) there)
 
   by_read_pending : (k : ℕ) → Comes (event.read_pending k) (step choice w (event.read_pending k))
@@ -178,7 +178,7 @@ module _ (choice : ℕ → ℕ) (w : World) where
       by_body live first x there None says = nothing_read choice w (event.read_pending k) live first
           (no_body k x.0 x.1 there says)
       by_body live first x there (Some body) says =
-          goes choice w (event.read_pending k) (event.is_read x.0) (after_read_pending w k x.0 body) refl
+          goes choice w (event.read_pending k) (event.is_read x.0) (world_after_read_pending w k x.0 body) refl
           (reads_pending k x.0 x.1 body (record { live = live; none_first = first }) there says)
 
       by : is_live w.kernel.phase ≡ true → w.kernel.queues.interrupts ≡ [] → (x : Option (ℕ × Purpose))
@@ -203,7 +203,7 @@ module _ (choice : ℕ → ℕ) (w : World) where
   by_perform unique (Some held) there =
       let did = served choice w.server unique held in
       let outcome = event.performed unique (errno_of did.wire) w.server.aborted in
-      let out = counts_out w.server.nodes (files_given w.server held) in
+      let out = count_overflows w.server.nodes (files_given w.server held) in
       tested choice w (event.perform unique) out Exhausted (going outcome (after_perform w unique did))
       (λ t. counted_too_often unique held there t)
       (λ f. goes choice w (event.perform unique) outcome (after_perform w unique did) refl
@@ -215,7 +215,7 @@ module _ (choice : ℕ → ℕ) (w : World) where
   by_again unique (Some kept) there =
       let e = event.again unique in
       let current = is_current w.server kept.wire in
-      let out = counts_out w.server.nodes (files_named w.server kept.wire) in
+      let out = count_overflows w.server.nodes (files_named w.server kept.wire) in
       let gone = going (event.sent_again unique) (after_again w unique kept) in
       tested choice w e (not current) NoCopy (unless out Exhausted gone)
       (λ t. not_current unique kept there (not-true current t))

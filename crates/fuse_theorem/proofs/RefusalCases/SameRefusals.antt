@@ -12,7 +12,7 @@ use Rattle.fuse_spec.specs.World.Worlds.{World, after_perform}
 use Rattle.fuse_spec.specs.World.Worlds as worlds
 use Rattle.fuse_spec.specs.World.Events.{Event, Outcome}
 use Rattle.fuse_spec.specs.World.Events as event
-use Rattle.fuse_spec.specs.Server.Nodes.{counts_out}
+use Rattle.fuse_spec.specs.Server.Nodes.{count_overflows}
 use Rattle.fuse_spec.specs.Kernel.Refusals as kernel
 use Rattle.fuse_spec.specs.Kernel.Refusals.{unless}
 use Rattle.fuse_spec.specs.Server.Refusals.{held_found}
@@ -23,13 +23,13 @@ use Rattle.fuse_theorem.proofs.RefusalCases.SameCounters.{SameCounters, served_c
 -- ---- which counters are past their end
 
 past_after_reply : (w : World) (number unique : ℕ) (wire : Option WireReply)
-    → is_past (worlds.replying w number unique wire) ≡ is_past w
+    → is_past (worlds.copy_put w number unique wire) ≡ is_past w
 past_after_reply w number unique None = refl
 past_after_reply w number unique (Some wire) = refl
 
 past_alike : (w : World) (s t : Server) → SameCounters s t
     → is_past (record w { server = s }) ≡ is_past (record w { server = t })
-past_alike w s t same = λ i. kernel.is_past w.kernel || (nat_lt counter_end (same.birth i)
+past_alike w s t same = λ i. kernel.is_kernel_past w.kernel || (nat_lt counter_end (same.birth i)
     || nat_lt counter_end (same.serial i) || nat_lt counter_end (same.generation i)
     || nat_lt counter_end (same.number i) || nat_lt counter_end (same.copy i))
 
@@ -66,7 +66,7 @@ module _ (w : World) (c d : ℕ → ℕ) where
   performing_refused unique (Some t) m n r refused =
       let one = served c w.server unique t in
       let other = served d w.server unique t in
-      also_unless (counts_out w.server.nodes (files_given w.server t)) _ _ r
+      also_unless (count_overflows w.server.nodes (files_given w.server t)) _ _ r
       (also_past _ _ (after_perform w unique one) (after_perform w unique other)
       (performed_past w unique one other (served_counters c d w.server unique t m n)) r) refused
 

@@ -15,7 +15,7 @@ use Rattle.fuse_spec.specs.Server.Taking.{taking, interrupting}
 use Rattle.fuse_spec.specs.Server.Performs.{performed, served}
 use Rattle.fuse_spec.specs.Server.Copies.{kept_after, after_result}
 use Rattle.fuse_spec.specs.Kernel.Replies.{reply_written}
-use Rattle.fuse_spec.specs.World.Worlds.{World, Sent, replying, first_world, after_take, after_perform, after_again, after_write, after_settle}
+use Rattle.fuse_spec.specs.World.Worlds.{World, Sent, copy_put, first_world, after_take, after_perform, after_again, after_write, after_settle}
 use Rattle.fuse_spec.specs.World.Events.{Event, Outcome}
 use Rattle.fuse_spec.proofs.QueueCounts.{count_by-push}
 use Rattle.fuse_spec.proofs.Tables.{get_put_here, get_put_there, get_gone_there}
@@ -193,7 +193,7 @@ module _ (w : World) (sound : CopiesSound w) where
       by : (b : Bool) → (served choice w.server unique t).server.copies
           ≡ cond b w.server.copies (put w.server.copies w.server.next_copy
           (record { unique = unique; wire = (served choice w.server unique t).wire; first = w.server.next_copy }))
-          → CopiesSound (replying (record w {
+          → CopiesSound (copy_put (record w {
             server =
                 (served choice w.server unique t).server;
           }) w.server.next_copy unique
@@ -203,7 +203,7 @@ module _ (w : World) (sound : CopiesSound w) where
         unique = unique;
         wire = (served choice w.server unique t).wire;
         first = w.server.next_copy;
-      }) (replying (record w {
+      }) (copy_put (record w {
         server =
             (served choice w.server unique t).server;
       }) w.server.next_copy unique

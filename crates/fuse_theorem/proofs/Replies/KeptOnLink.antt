@@ -25,17 +25,17 @@ use Rattle.fuse_spec.specs.Server.Server.{HeldRequest, Kept, Copy}
 use Rattle.fuse_spec.specs.Server.Taking.{taking, interrupting}
 use Rattle.fuse_spec.specs.Server.Performs.{served}
 use Rattle.fuse_spec.specs.Server.Copies.{kept_after, after_result}
-use Rattle.fuse_spec.specs.Calls.Calls.{Call, spoken}
+use Rattle.fuse_spec.specs.Calls.Calls.{Call, for_minor}
 use Rattle.fuse_spec.specs.World.Events.{Event, Outcome}
 use Rattle.fuse_spec.specs.World.Steps.{Happens}
 use Rattle.fuse_theorem.specs.Numbering.{IsNumberedWhileLive}
 use Rattle.fuse_theorem.proofs.Calls.CallsContinue.{begun_goes_on}
 use Rattle.fuse_theorem.proofs.RefusalCases.Happened.{Happened, by_mount, by_call, by_read_interrupt, by_read_forgets, by_read_pending, by_take, by_perform, by_again, by_write, by_settle, by_signal, by_tick, by_drop, by_evict, by_abort, happened}
-use Rattle.fuse_spec.specs.World.Worlds.{World, Sent, first_world, after_read_pending, replying, after_take, after_perform, after_write, after_settle}
+use Rattle.fuse_spec.specs.World.Worlds.{World, Sent, first_world, world_after_read_pending, copy_put, after_take, after_perform, after_write, after_settle}
 use Rattle.fuse_theorem.specs.Copies.{SomeHas, here, there, KeptAreSent}
 use Rattle.fuse_theorem.specs.WorldSound.{WorldSound}
 use Rattle.fuse_theorem.proofs.Requests.DrawnNumbers.{number_even}
-use Rattle.fuse_theorem.proofs.Requests.NumbersStay.{ReceivesReply, goes_on, ends as heard_ends, calls_of, written_heard, unheard, numbers_stay}
+use Rattle.fuse_theorem.proofs.Requests.NumbersStay.{ReceivesReply, goes_on, ends as received_ends, calls_of, written_received, unreceived, numbers_stay}
 use Rattle.fuse_theorem.proofs.Nodes.NodesSound.{put_found}
 use Rattle.fuse_theorem.proofs.Requests.PerformedRest.{performed_rest}
 use Rattle.fuse_theorem.proofs.Refining.Settling.{kept_was}
@@ -204,7 +204,7 @@ module _ (choice : ℕ → ℕ) (w : World) (sound : WorldSound w) (old : KeptAr
       by : (b : Bool) → (served choice w.server unique t).server.kept
           ≡ cond b w.server.kept (put w.server.kept unique
           (record { wire = (served choice w.server unique t).wire; first = w.server.next_copy }))
-          → KeptAreSent (replying (record w {
+          → KeptAreSent (copy_put (record w {
             server =
                 (served choice w.server unique t).server;
           }) w.server.next_copy unique
@@ -288,7 +288,7 @@ module _ (choice : ℕ → ℕ) (w : World) (sound : WorldSound w) (old : KeptAr
       reply_received : is_live w.kernel.phase ≡ true → ReceivesReply w.kernel
           (reply_written w.kernel sent.unique sent.wire).1
           → KeptAreSent (after_write w k sent (reply_written w.kernel sent.unique sent.wire))
-      reply_received live (heard_ends dead idle uncounted) u x at stands =
+      reply_received live (received_ends dead idle uncounted) u x at stands =
           absurd (stands (ap (λ (q : QueueState Purpose). request_under q u) idle))
       reply_received live (goes_on alive rises calls) u x at stands =
           let lookups = sound.lookups in
@@ -312,13 +312,13 @@ module _ (choice : ℕ → ℕ) (w : World) (sound : WorldSound w) (old : KeptAr
           let lookups = sound.lookups in
           let numbers = lookups.numbers in
           let now = numbers.live live in
-          reply_received live (written_heard w.kernel live now.queues
+          reply_received live (written_received w.kernel live now.queues
           (calls_of w now) sent.unique sent.wire) u x at stands
       by false dead u x at stands =
           let lookups = sound.lookups in
           let numbers = lookups.numbers in
           absurd (stands (ap (λ (q : Kernel). request_under q.queues u)
-          (unheard w.kernel (numbers.idle dead) sent.unique sent.wire) ∙ ap
+          (unreceived w.kernel (numbers.idle dead) sent.unique sent.wire) ∙ ap
           (λ (q : QueueState Purpose). request_under q u) (numbers.idle dead)))
 
   -- A call begins, live or after an abort.
@@ -347,13 +347,13 @@ module _ (choice : ℕ → ℕ) (w : World) (sound : WorldSound w) (old : KeptAr
       → KeptAreSent after
   by_event e o after coming (by_mount f m v idle) u x at stands = absurd (cc)
   by_event e o after coming (by_call call ready room within) u x at stands =
-      called (spoken w.kernel.lists_files call) coming u x at stands
+      called (for_minor w.kernel.lists_files call) coming u x at stands
   by_event e o after coming (by_read_interrupt original rest live found within) u x at stands = old u x at stands
   by_event e o after coming (by_read_forgets n live free can within few) u x at stands =
       old u x at (λ none. stands (forgets_same n u (can_read_forgets w.kernel.queues n) ∙ none))
   by_event e o after coming (by_read_pending k unique kept body live free found says within) u x at stands =
-      moved (after_read_pending w k unique body).kernel live (read_moves w.kernel.queues sound.queues k)
-      (after_read_pending w k unique body).requests u x at stands
+      moved (world_after_read_pending w k unique body).kernel live (read_moves w.kernel.queues sound.queues k)
+      (world_after_read_pending w k unique body).requests u x at stands
   by_event e o after coming (by_take k r found within) u x at stands = taken k r u x at stands
   by_event e o after coming (by_perform unique t found within) u x at stands = performs unique t u x at stands
   by_event e o after coming (by_again unique kept found current within) u x at stands =

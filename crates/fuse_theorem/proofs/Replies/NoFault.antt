@@ -128,7 +128,7 @@ module _ (w : World) (p : Plain) (both : BothSound w p) (releases : ReleasesKnow
       by (interrupt original) number = odd_new (omega (arith, number))
 
   pub none_wrong : fault_of w.server (get_or w.requests i d) ≡ None
-  none_wrong = rw (request_known w faultless.spoken live i d lt, known, forgettable, not_too_many, new_number) refl
+  none_wrong = rw (request_known w faultless.for_minor live i d lt, known, forgettable, not_too_many, new_number) refl
 
 -- No request that is taken has a fault.
 pub no_fault : (w : World) (p : Plain) → BothSound w p → ReleasesKnown w → Faultless w

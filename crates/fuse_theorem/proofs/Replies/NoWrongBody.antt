@@ -76,8 +76,8 @@ module _ (w : World) (p : Plain) (both : BothSound w p) (fit : RepliesFit w) (k 
       → (reply_written w.kernel sent.unique sent.wire).0 ≢ Invalid
   even_so o waits even fits = rw (even, waits) fits
 
-  pub heard_fits : CanReceive w p sent → (reply_written w.kernel sent.unique sent.wire).0 ≢ Invalid
-  heard_fits (each.nothing none) = by (nat_eq (sent.unique % 2) 1) none
+  pub received_fits : CanReceive w p sent → (reply_written w.kernel sent.unique sent.wire).0 ≢ Invalid
+  received_fits (each.nothing none) = by (nat_eq (sent.unique % 2) 1) none
     where
       odd : (o : Option Purpose) → o ≡ None → (interrupt_reply_written w.kernel sent.unique sent.wire o).0 ≢ Invalid
       odd None e = λ f. absurd (cc (f))
@@ -93,12 +93,12 @@ module _ (w : World) (p : Plain) (both : BothSound w p) (fit : RepliesFit w) (k 
           (waiting w.kernel.queues sent.unique))).0 ≢ Invalid
       by true e = odd (waiting w.kernel.queues (sent.unique - 1)) e
       by false e = even (waiting w.kernel.queues sent.unique) e
-  heard_fits (each.of_interrupt kept numbered live odd waits) =
+  received_fits (each.of_interrupt kept numbered live odd waits) =
       let number : sent.unique % 2 ≡ 1 = grind (arith, nat_tests, odd) in
       let says = All-at (λ (s : Sent). s.unique % 2 ≡ 1
       → is_empty_reply s.wire ≡ true) w.replies k sent fit.interrupted there number in
       rw odd (odd_fits sent.wire says (waiting w.kernel.queues (sent.unique - 1)))
-  heard_fits (each.of_release o numbered live even waits) =
+  received_fits (each.of_release o numbered live even waits) =
       let request = waiting_is w.kernel.queues sent.unique (purpose.Release o) waits in
       let mine = All-found (λ (e : ℕ
       × QueuedRequest Purpose). FitsPurpose w.replies w.server.kept e.0 e.1.kept) sent.unique w.kernel.queues.requests request.request fit.released request.under in
@@ -106,13 +106,13 @@ module _ (w : World) (p : Plain) (both : BothSound w p) (fit : RepliesFit w) (k 
       let says = All-at (λ (s : Sent). s.unique ≡ sent.unique
       → is_empty_reply s.wire ≡ true) w.replies k sent empty.of_copies there refl in
       even_so (Some (purpose.Release o)) waits even (accepted (of_empty (is_empty_reply sent.wire) says))
-  heard_fits (each.of_init numbered live even waits wire_is) =
+  received_fits (each.of_init numbered live even waits wire_is) =
       even_so (Some purpose.Init) waits even (accepted
       (of_empty (is_init_reply sent.wire) (ap is_init_reply wire_is ∙ of_init_reply w.server.minor)))
-  heard_fits (each.of_call call state reply numbered one live even waits is) =
+  received_fits (each.of_call call state reply numbered one live even waits is) =
       even_so (Some (purpose.Call call)) waits even (accepted
       (called_so call state is.goes (get w.kernel.vfs.calls call) is.state_is))
-  heard_fits (each.of_declined call state numbered one live even waits is) =
+  received_fits (each.of_declined call state numbered one live even waits is) =
       even_so (Some (purpose.Call call)) waits even (accepted
       (called_so call state (ap (goes_with (asked state)) is.wire_is ∙ goes_failed (asked state))
       (get w.kernel.vfs.calls call) is.state_is))
@@ -123,5 +123,5 @@ module _ (w : World) (p : Plain) (both : BothSound w p) (fit : RepliesFit w) (k 
 -- What the kernel says of a copy is not that its body is wrong.
 pub none_invalid : (w : World) (p : Plain) → BothSound w p → RepliesFit w → (k : ℕ) (sent : Sent)
     → slice_get w.replies k ≡ Some sent → (reply_written w.kernel sent.unique sent.wire).0 ≢ Invalid
-none_invalid w p both fit k sent there = heard_fits w p both fit k sent there
+none_invalid w p both fit k sent there = received_fits w p both fit k sent there
     (write_met (λ n. n) w p both.world both.asked both.links both.witness both.alike k sent there)

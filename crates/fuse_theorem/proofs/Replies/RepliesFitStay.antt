@@ -1,6 +1,6 @@
 -- Replies to RELEASEs and INTERRUPTs say only whether the request failed, and no copy is refused for its body, whatever
 -- the event.
-use Rattle.fuse_spec.specs.Calls.Calls.{spoken}
+use Rattle.fuse_spec.specs.Calls.Calls.{for_minor}
 use Rattle.std.proofs.Common.{◌≡◌, ◌≢◌, ◌⊎◌, ℕ, ◌+◌, ◌≤◌, ◌<◌, Bool, true, false, true≢false, cond, List, [], ◌∷◌, ◌++◌, drop, length, Option, Some, None, slice_get, get_or, refl, ap, sym, subst, ◌∙◌, arith, inl, inr, All}
 use Rattle.std.specs.Prelude.{◌%◌}
 use Rattle.std.specs.List.{remove as without_at}
@@ -24,7 +24,7 @@ use Rattle.fuse_spec.specs.Kernel.Queues.{QueueState, request_under}
 use Rattle.fuse_spec.specs.Kernel.Replies.{is_empty_reply, reply_written}
 use Rattle.fuse_spec.specs.Server.Server.{Server, HeldRequest, Kept, Copy}
 use Rattle.fuse_spec.specs.Server.Taking.{taking, interrupting}
-use Rattle.fuse_spec.specs.World.Worlds.{World, Sent, first_world, replying, server_settled, after_take, after_perform, after_again, after_write, after_settle}
+use Rattle.fuse_spec.specs.World.Worlds.{World, Sent, first_world, copy_put, server_settled, after_take, after_perform, after_again, after_write, after_settle}
 use Rattle.fuse_spec.specs.World.Events.{Event, Outcome}
 use Rattle.fuse_spec.specs.Reference.Plain.{Plain}
 use Rattle.fuse_spec.specs.World.Steps.{Happens}
@@ -209,7 +209,7 @@ module _ (choice : ℕ → ℕ) (w : World) (p : Plain) (both : BothSound w p) (
       kept_was u x at = ap (λ (m : Map Kept). get m u) (sym (taken_kept w.server r.unique r.body)) ∙ at
 
       by : (o : Option WireReply) → (taking w.server r.unique r.body).reply ≡ o
-          → RepliesFit (replying (record w {
+          → RepliesFit (copy_put (record w {
             requests = without_at w.requests k;
             server = (taking w.server r.unique r.body).server;
           }) w.server.next_copy r.unique o)
@@ -263,7 +263,7 @@ module _ (choice : ℕ → ℕ) (w : World) (p : Plain) (both : BothSound w p) (
           (λ k at. elim (served_kept w.server choice unique t e.0 k at) [ inl h ↦ inl (sym h.0, h.1) | inr h ↦ inr h ])
           ((old live).released i d lt)
 
-      by : (b : Bool) → b ≡ false → RepliesFit (replying
+      by : (b : Bool) → b ≡ false → RepliesFit (copy_put
           (record w { server = (served choice w.server unique t).server }) w.server.next_copy unique
           (cond b None (Some (served choice w.server unique t).wire)))
       by true e = absurd (true≢false e)
@@ -316,9 +316,9 @@ module _ (choice : ℕ → ℕ) (w : World) (p : Plain) (both : BothSound w p) (
     results = All-nil (λ (r : ReplyResult). r.result ≢ Invalid);
   }
   by_event e o after (by_call call ready room within) live = let goes =
-      begun_goes_on w.kernel (spoken w.kernel.lists_files call) in
-      goes_on (ap is_live (sym goes.phase) ∙ live) (call_begun w.kernel (spoken w.kernel.lists_files call))
-      (begun_moves w.kernel (spoken w.kernel.lists_files call)) w.requests
+      begun_goes_on w.kernel (for_minor w.kernel.lists_files call) in
+      goes_on (ap is_live (sym goes.phase) ∙ live) (call_begun w.kernel (for_minor w.kernel.lists_files call))
+      (begun_moves w.kernel (for_minor w.kernel.lists_files call)) w.requests
   by_event e o after (by_read_interrupt original rest lives there within) live =
       record { released = (old lives).released; interrupted = (old lives).interrupted; results = (old lives).results }
   by_event e o after (by_read_forgets n lives free can within few) live =

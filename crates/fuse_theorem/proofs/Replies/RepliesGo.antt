@@ -19,7 +19,7 @@ use Rattle.fuse_spec.specs.Reference.PlainCalls.{RepliesTo}
 use Rattle.fuse_theorem.specs.Conditions.{OpensItsFile}
 use Rattle.fuse_theorem.specs.Lookups.{IsHeldAs}
 use Rattle.fuse_theorem.proofs.Calls.Cases.{SameOperation, both_lookup, both_getattr, both_mkdir, both_create, both_unlink, both_rmdir, both_rename, both_link, both_opening, both_readdir, both_readdirplus, both_read, both_write, same_operation, SameReply, same_found, same_missing, same_created, same_opened, same_attributes, same_listed, same_listed_plus, same_content, same_written, same_done, same_failed, same_reply}
-use Rattle.fuse_theorem.proofs.Refining.Giving.{denotes_one}
+use Rattle.fuse_theorem.proofs.Refining.LookupsCounted.{denotes_one}
 
 within : (n m : ℕ) → n ≤ m → nat_le n m ≡ true
 within n m le = grind (arith, nat_tests, le)

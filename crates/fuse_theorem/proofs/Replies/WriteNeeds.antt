@@ -22,10 +22,10 @@ use Rattle.fuse_spec.specs.Reference.Plain as plain
 use Rattle.fuse_spec.specs.World.Worlds.{World, Sent}
 use Rattle.fuse_spec.specs.World.Events as event
 use Rattle.fuse_spec.specs.Claim.Denotes.{Denotes, MeansIn, MeansOpenIn, generation_known, Names, Opens}
-use Rattle.fuse_spec.specs.Claim.Alike.{Alike, StageTold, IsPaired}
+use Rattle.fuse_spec.specs.Claim.Alike.{Alike, IsStageReplied, IsPaired}
 use Rattle.fuse_theorem.specs.AskedRequests.{RequestsAskedWhileLive}
 use Rattle.fuse_theorem.specs.PlainWitness.{PlainWitness, AskServed}
-use Rattle.fuse_theorem.specs.Conditions.{IsReply, IsDeclined, OpensItsFile}
+use Rattle.fuse_theorem.specs.Conditions.{IsReplyToCall, IsDeclined, OpensItsFile}
 use Rattle.fuse_theorem.specs.EachEvent.{CanReceive, Needs}
 use Rattle.fuse_theorem.specs.EachEvent as each
 use Rattle.fuse_theorem.specs.Links.{LinksSound}
@@ -137,10 +137,10 @@ module _ (w : World) (sound : WorldSound w) (asked_so : RequestsAskedWhileLive w
         there_in : get v.asks sent.unique ≡ Some pair_in.ask
         there_in = subst (λ (n : ℕ). get v.asks n ≡ Some pair_in.ask) same_unique pair_in.there
 
-        said_in : (s : Stage) → pair_in.ask.stage ≡ s → StageTold w.server.nodes w.server.handles s sent.wire
-        said_in s stage = subst (λ (x : Stage). StageTold w.server.nodes w.server.handles x sent.wire) stage
+        said_in : (s : Stage) → pair_in.ask.stage ≡ s → IsStageReplied w.server.nodes w.server.handles s sent.wire
+        said_in s stage = subst (λ (x : Stage). IsStageReplied w.server.nodes w.server.handles x sent.wire) stage
             (All-at (λ (x : Sent). (ask : Ask) → get v.asks x.unique ≡ Some ask
-            → StageTold w.server.nodes w.server.handles ask.stage x.wire) w.replies k sent
+            → IsStageReplied w.server.nodes w.server.handles ask.stage x.wire) w.replies k sent
             (alike.asks live).copies there pair_in.ask there_in)
 
       abbrev pair : IsPaired w p call state
@@ -156,7 +156,7 @@ module _ (w : World) (sound : WorldSound w) (asked_so : RequestsAskedWhileLive w
       is_served : AskServed w.kernel sent.unique known.ask
       is_served = witness.served sent.unique known.ask (there_in witness.plain witness.alike)
 
-      says : (s : Stage) → known.ask.stage ≡ s → StageTold w.server.nodes w.server.handles s sent.wire
+      says : (s : Stage) → known.ask.stage ≡ s → IsStageReplied w.server.nodes w.server.handles s sent.wire
       says = said_in witness.plain witness.alike
 
       goes : (s : Stage) → known.ask.stage ≡ s → goes_with (asked state) sent.wire ≡ true
@@ -187,7 +187,7 @@ module _ (w : World) (sound : WorldSound w) (asked_so : RequestsAskedWhileLive w
           (same.asks live).signalled sent.unique is_wait.request pair.ask is_wait.under ask_there
           (interrupt_signals is_wait.request.mark (interrupted.marked is_wait.request is_wait.under))
 
-      is_reply : (reply : Reply ℕ ℕ) → pair.ask.stage ≡ performed reply → IsReply w p sent call state reply
+      is_reply : (reply : Reply ℕ ℕ) → pair.ask.stage ≡ performed reply → IsReplyToCall w p sent call state reply
       is_reply reply stage =
           let entries = All-at (λ (s : Sent). EntriesHeld w.server.nodes s.wire) w.replies k sent balanced.copies there in
           record {
@@ -230,8 +230,8 @@ module _ (w : World) (sound : WorldSound w) (asked_so : RequestsAskedWhileLive w
           lookups.server in each.of_declined call state numbered (one_id w.server.nodes server.nodes) live even waits
           (is_declined stage)
 
-    call_hears : nat_eq (sent.unique % 2) 1 ≡ false → CanReceive w p sent
-    call_hears even = by (get w.kernel.vfs.calls call) refl
+    call_receives : nat_eq (sent.unique % 2) 1 ≡ false → CanReceive w p sent
+    call_receives even = by (get w.kernel.vfs.calls call) refl
       where
         by : (o : Option (CallState Opened)) → get w.kernel.vfs.calls call ≡ o → CanReceive w p sent
         by None at = absurd (unanswered None at refl)
@@ -239,31 +239,31 @@ module _ (w : World) (sound : WorldSound w) (asked_so : RequestsAskedWhileLive w
 
   -- ---- whatever awaits the copy
 
-  odd_hears : nat_eq (sent.unique % 2) 1 ≡ true → (o : Option Purpose) → waiting w.kernel.queues (sent.unique - 1) ≡ o
+  odd_receives : nat_eq (sent.unique % 2) 1 ≡ true → (o : Option Purpose) → waiting w.kernel.queues (sent.unique - 1) ≡ o
       → CanReceive w p sent
-  odd_hears odd None waits = each.nothing (ap (λ (b : Bool). cond b (waiting w.kernel.queues (sent.unique - 1))
+  odd_receives odd None waits = each.nothing (ap (λ (b : Bool). cond b (waiting w.kernel.queues (sent.unique - 1))
       (waiting w.kernel.queues sent.unique)) odd ∙ waits)
-  odd_hears odd (Some kept) waits = each.of_interrupt kept numbered live odd waits
+  odd_receives odd (Some kept) waits = each.of_interrupt kept numbered live odd waits
 
-  even_hears : nat_eq (sent.unique % 2) 1 ≡ false → (o : Option Purpose) → waiting w.kernel.queues sent.unique ≡ o
+  even_receives : nat_eq (sent.unique % 2) 1 ≡ false → (o : Option Purpose) → waiting w.kernel.queues sent.unique ≡ o
       → CanReceive w p sent
-  even_hears even None waits = each.nothing (ap (λ (b : Bool). cond b (waiting w.kernel.queues (sent.unique - 1))
+  even_receives even None waits = each.nothing (ap (λ (b : Bool). cond b (waiting w.kernel.queues (sent.unique - 1))
       (waiting w.kernel.queues sent.unique)) even ∙ waits)
-  even_hears even (Some purpose.Init) waits =
+  even_receives even (Some purpose.Init) waits =
       let request = waiting_is w.kernel.queues sent.unique purpose.Init waits in
       let first = init_is_first w.kernel
       (asked_so live).first sent.unique request.request request.under request.serves in
       each.of_init numbered live even waits (All-at (AgreesToInit w.server.minor) w.replies k sent
       (links.agreed live).copies there first)
-  even_hears even (Some (purpose.Release o)) waits = each.of_release o numbered live even waits
-  even_hears even (Some (purpose.Call call)) waits = call_hears call waits even
+  even_receives even (Some (purpose.Release o)) waits = each.of_release o numbered live even waits
+  even_receives even (Some (purpose.Call call)) waits = call_receives call waits even
 
-  hears : CanReceive w p sent
-  hears = by (nat_eq (sent.unique % 2) 1) refl
+  receives : CanReceive w p sent
+  receives = by (nat_eq (sent.unique % 2) 1) refl
     where
       by : (b : Bool) → nat_eq (sent.unique % 2) 1 ≡ b → CanReceive w p sent
-      by true odd = odd_hears odd (waiting w.kernel.queues (sent.unique - 1)) refl
-      by false even = even_hears even (waiting w.kernel.queues sent.unique) refl
+      by true odd = odd_receives odd (waiting w.kernel.queues (sent.unique - 1)) refl
+      by false even = even_receives even (waiting w.kernel.queues sent.unique) refl
 
 -- What the kernel needs to take any copy holds.
 pub write_met : (choice : ℕ → ℕ) (w : World) (p : Plain) → WorldSound w → RequestsAskedWhileLive w → LinksSound w
@@ -271,5 +271,5 @@ pub write_met : (choice : ℕ → ℕ) (w : World) (p : Plain) → WorldSound w 
 write_met choice w p sound asked_so links witness same k sent there = by (is_live w.kernel.phase) refl
   where
     by : (b : Bool) → is_live w.kernel.phase ≡ b → CanReceive w p sent
-    by true live = hears w sound asked_so links witness p same live k sent there
+    by true live = receives w sound asked_so links witness p same live k sent there
     by false dead = none_at w.replies k sent (links.idle dead).replies there

@@ -4,7 +4,7 @@ use Rattle.std.specs.List.{remove as without_at}
 use Rattle.fuse_spec.specs.declared.Opened.{Opened}
 use Rattle.fuse_spec.specs.declared.Phase.{Phase}
 use Rattle.fuse_spec.specs.declared.Phase.TheVariants.{Down, Starting, Ready, Aborted}
-use Rattle.fuse_spec.specs.Calls.Calls.{Call, spoken}
+use Rattle.fuse_spec.specs.Calls.Calls.{Call, for_minor}
 use Rattle.fuse_spec.specs.Values.Maps.{Map, get, remove}
 use Rattle.fuse_spec.specs.Kernel.Messages.{WireReply}
 use Rattle.fuse_spec.specs.Calls.Vfs.{CallState, begun}
@@ -13,7 +13,7 @@ use Rattle.fuse_spec.specs.Server.Nodes.{MayChoose}
 use Rattle.fuse_spec.specs.Server.Server.{HeldRequest}
 use Rattle.fuse_spec.specs.Server.Taking.{taking}
 use Rattle.fuse_spec.specs.Server.Performs.{is_still_held, served, files_by, files_given}
-use Rattle.fuse_spec.specs.World.Worlds.{World, replying, after_perform, after_abort}
+use Rattle.fuse_spec.specs.World.Worlds.{World, copy_put, after_perform, after_abort}
 use Rattle.fuse_spec.specs.World.Events.{Event, Outcome}
 use Rattle.fuse_spec.specs.Kernel.Refusals.{is_ready}
 use Rattle.fuse_theorem.specs.AskedRequests.{RequestsAskedWhileLive}
@@ -75,7 +75,7 @@ module _ (choice : ℕ → ℕ) (w : World) (sound : WorldSound w) (asked : Requ
   lives v live same dead = absurd (true≢false (sym (same ∙ live) ∙ dead))
 
   replied_live : (v : World) (number unique : ℕ) (o : Option WireReply) → v.kernel ≡ w.kernel
-      → is_live (replying v number unique o).kernel.phase ≡ is_live w.kernel.phase
+      → is_live (copy_put v number unique o).kernel.phase ≡ is_live w.kernel.phase
   replied_live v number unique o same = ap (λ (l : Kernel). is_live l.phase) (replying_kernel v number unique o ∙ same)
 
   serves : (unique : ℕ) (t : HeldRequest) → get w.server.held unique ≡ Some t → is_live w.kernel.phase ≡ false
@@ -87,9 +87,9 @@ module _ (choice : ℕ → ℕ) (w : World) (sound : WorldSound w) (asked : Requ
       → is_live after.kernel.phase ≡ false → WithoutMount choice w after
   without_mount e o after (by_mount f m v idle) = λ dead. absurd (true≢false dead)
   without_mount e o after (by_call call ready room within) =
-      from_dead after (λ live. let goes = begun_goes_on w.kernel (spoken w.kernel.lists_files call) in
+      from_dead after (λ live. let goes = begun_goes_on w.kernel (for_minor w.kernel.lists_files call) in
       ap is_live goes.phase) (λ dead. by_kernel after dead refl
-      (begun_empty w.kernel (spoken w.kernel.lists_files call) ready dead))
+      (begun_empty w.kernel (for_minor w.kernel.lists_files call) ready dead))
   without_mount e o after (by_read_interrupt original rest live there within) = lives after live refl
   without_mount e o after (by_read_forgets n live free can within few) = lives after live refl
   without_mount e o after (by_read_pending k unique kept body live free there says within) = lives after live refl
@@ -122,14 +122,14 @@ module _ (choice : ℕ → ℕ) (w : World) (sound : WorldSound w) (asked : Requ
 -- ---- a request is performed after an abort
 
 pub replying_server : (w : World) (number unique : ℕ) (o : Option WireReply)
-    → (replying w number unique o).server ≡ w.server
+    → (copy_put w number unique o).server ≡ w.server
 replying_server w number unique None = refl
 replying_server w number unique (Some wire) = refl
 
 -- No node is given.
-pub unheard_nodes : (w : World) → WorldSound w → (choice : ℕ → ℕ) (unique : ℕ) (t : HeldRequest)
+pub unreceived_nodes : (w : World) → WorldSound w → (choice : ℕ → ℕ) (unique : ℕ) (t : HeldRequest)
     → w.server.aborted ≡ true → (served choice w.server unique t).server.nodes ≡ w.server.nodes
-unheard_nodes w sound choice unique t aborted =
+unreceived_nodes w sound choice unique t aborted =
     let none : files_given w.server t ≡ [] = ap (λ (b : Bool). cond
     (b || (t.marked || not (is_still_held w.server.nodes t.generations))) [] (files_by w.server t.body)) aborted in
     let lookups = sound.lookups in

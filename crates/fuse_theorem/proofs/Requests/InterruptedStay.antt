@@ -1,5 +1,5 @@
 -- A plain world stays beside the world, whatever the event: what is interrupted stays so.
-use Rattle.fuse_spec.specs.Calls.Calls.{spoken}
+use Rattle.fuse_spec.specs.Calls.Calls.{for_minor}
 use Rattle.std.proofs.Common.{◌≡◌, ℕ, ◌+◌, ◌≤◌, ◌<◌, Bool, true, false, true≢false, cond, drop, Option, Some, None, nat_eq, refl, ap, sym, subst, ◌∙◌, arith, inl, inr}
 use Rattle.std.specs.List.{remove as without_at}
 use Rattle.std.specs.Map.{lookup}
@@ -32,12 +32,12 @@ use Rattle.fuse_theorem.proofs.RefusalCases.Happened.{Happened, by_mount, by_cal
 use Rattle.fuse_theorem.proofs.PlainWorld.PlainAsks.{step_served, mount_served}
 use Rattle.fuse_theorem.proofs.Refining.Queuing.{All-at}
 use Rattle.fuse_theorem.proofs.Replies.KeptOnLink.{stays_absent}
-use Rattle.fuse_theorem.proofs.Requests.NumbersStay.{calls_of, replying_kernel, unheard}
+use Rattle.fuse_theorem.proofs.Requests.NumbersStay.{calls_of, replying_kernel, unreceived}
 use Rattle.fuse_theorem.proofs.Requests.PendingCounts.{moves_fewer}
 use Rattle.fuse_theorem.proofs.Requests.QueueMoves.{QueueMoves, read_moves, begun_moves, signalled_moves, written_moves}
 use Rattle.fuse_theorem.proofs.Requests.RequestsAsked.{Keeps, interrupted_still}
-use Rattle.fuse_theorem.proofs.Requests.StillAsked.{Follows, unmoved, begun_follows, read_follows, signalled_follows}
-use Rattle.fuse_theorem.proofs.Requests.StillAwaited.{written_answers}
+use Rattle.fuse_theorem.proofs.Requests.AskKept.{Follows, unmoved, begun_follows, read_follows, signalled_follows}
+use Rattle.fuse_theorem.proofs.Requests.AwaitedKept.{written_answers}
 
 -- While a mount lives on, what is interrupted stays so.
 still_by : (k l : Kernel) → Follows k l → k.queues.next ≤ l.queues.next
@@ -106,11 +106,11 @@ module _ (choice : ℕ → ℕ) (w : World) (sound : WorldSound w) where
   by_event : (e : Event) (o : Outcome) (after : World) → Happened choice w e o after → Goes e after
   by_event e o after (by_mount m n v idle) = mounts m n v after
   by_event e o after (by_call call ready room within) = lives_on e after (λ live.
-      let goes = begun_goes_on w.kernel (spoken w.kernel.lists_files call) in
+      let goes = begun_goes_on w.kernel (for_minor w.kernel.lists_files call) in
       let lives : is_live w.kernel.phase ≡ true = ap is_live (sym goes.phase) ∙ live in (
         lives,
         moving w.kernel after.kernel (begun_follows w.kernel (calls_of w (numbered lives))
-            (spoken w.kernel.lists_files call)) (begun_moves w.kernel (spoken w.kernel.lists_files call)),
+            (for_minor w.kernel.lists_files call)) (begun_moves w.kernel (for_minor w.kernel.lists_files call)),
       ))
   by_event e o after (by_read_interrupt original rest lives there within) =
       lives_on e after (λ live. (lives, quietly w.kernel after.kernel refl refl (omega arith)))
@@ -163,7 +163,7 @@ module _ (choice : ℕ → ℕ) (w : World) (sound : WorldSound w) where
           let lookups = sound.lookups in
           let numbers = lookups.numbers in
           absurd (true≢false (sym alive ∙ ap (λ (q : Kernel). is_live q.phase)
-          (unheard w.kernel (numbers.idle dead) sent.unique sent.wire) ∙ dead))
+          (unreceived w.kernel (numbers.idle dead) sent.unique sent.wire) ∙ dead))
   by_event e o after (by_settle k result there) = lives_on e after (λ live.
       let is = settled_same w k result (get w.server.copies result.number) in
       (ap (λ (q : Kernel). is_live q.phase) (sym is) ∙ live, same w.kernel after.kernel is))

@@ -2,7 +2,7 @@
 use Rattle.fuse_spec.specs.Values.Numbers.{init_flags}
 use Rattle.fuse_spec.specs.declared.Minor.TheVariants.{M15, M31}
 use Rattle.fuse_spec.specs.declared.Minor.{Minor}
-use Rattle.fuse_spec.specs.Calls.Calls.{spoken}
+use Rattle.fuse_spec.specs.Calls.Calls.{for_minor}
 use Rattle.std.proofs.Common.{◌≡◌, ℕ, ◌-◌, Bool, true, false, true≢false, cond, List, [], Option, Some, None, nat_eq, slice_get, refl, ap, sym, subst, ◌∙◌, arith, inl, inr, All, ◌++◌, ◌∷◌}
 use Rattle.std.specs.Prelude.{◌%◌}
 use Rattle.std.specs.List.{remove as without_at}
@@ -24,7 +24,7 @@ use Rattle.fuse_spec.specs.Kernel.Replies.{is_agreement, request_reply_written, 
 use Rattle.fuse_spec.specs.Server.Server.{Server, HeldRequest, Kept, Copy}
 use Rattle.fuse_spec.specs.Server.Taking.{taking, interrupting}
 use Rattle.fuse_spec.specs.Server.Performs.{performed, served, init_reply}
-use Rattle.fuse_spec.specs.World.Worlds.{World, Sent, first_world, replying, after_take, after_perform, after_again, after_write, after_settle}
+use Rattle.fuse_spec.specs.World.Worlds.{World, Sent, first_world, copy_put, after_take, after_perform, after_again, after_write, after_settle}
 use Rattle.fuse_spec.specs.World.Events.{Event, Outcome}
 use Rattle.fuse_spec.specs.World.Steps.{Happens}
 use Rattle.fuse_theorem.specs.AskedRequests.{serves_call, BearsFirst, InitIsFirst, IsAsked, RequestsAsked, RequestsAskedWhileLive}
@@ -39,7 +39,7 @@ use Rattle.fuse_theorem.proofs.Nodes.NodesSound.{put_found, left_found}
 use Rattle.fuse_theorem.proofs.Requests.PerformedRest.{performed_rest}
 use Rattle.fuse_theorem.proofs.Refining.Queuing.{All-without, All-at}
 use Rattle.fuse_theorem.proofs.Refining.Settling.{kept_was}
-use Rattle.fuse_theorem.proofs.Requests.StillAsked.{IsNumberedFor}
+use Rattle.fuse_theorem.proofs.Requests.AskKept.{IsNumberedFor}
 
 abbrev pub AgreesToInit : Minor → Sent → Type 0
 AgreesToInit minor s = s.unique ≡ 2 → s.wire ≡ init_reply minor init_flags
@@ -284,7 +284,7 @@ module _ (choice : ℕ → ℕ) (w : World) (sound : WorldSound w) (asked : Requ
 
     live_performs : is_live w.kernel.phase ≡ true → (b : Bool)
         → (served choice w.server unique t).server.kept ≡ cond b w.server.kept (put w.server.kept unique first_kept)
-        → LinksSound (replying (record w {
+        → LinksSound (copy_put (record w {
           server =
               (served choice w.server unique t).server;
         }) w.server.next_copy unique (cond b None (Some wire)))
@@ -298,7 +298,7 @@ module _ (choice : ℕ → ℕ) (w : World) (sound : WorldSound w) (asked : Requ
         })
     live_performs live false kept =
         let old = links.agreed live in
-        serves (replying (record w { server = (served choice w.server unique t).server }) w.server.next_copy unique
+        serves (copy_put (record w { server = (served choice w.server unique t).server }) w.server.next_copy unique
         (Some wire)) live refl still_held aborted_same (record {
           copies = subst (λ (m : Minor). All (AgreesToInit m)
               (w.replies ++ record { number = w.server.next_copy; unique = unique; wire = wire } ∷ [])) (sym minor_same)
@@ -312,10 +312,10 @@ module _ (choice : ℕ → ℕ) (w : World) (sound : WorldSound w) (asked : Requ
               ];
         })
 
-    -- after an abort nobody hears of it
+    -- after an abort nobody receives of it
     dead_performs : is_live w.kernel.phase ≡ false → w.server.aborted ≡ true → (b : Bool) → w.server.aborted ≡ b
         → (served choice w.server unique t).server.kept ≡ cond b w.server.kept (put w.server.kept unique first_kept)
-        → LinksSound (replying (record w {
+        → LinksSound (copy_put (record w {
           server =
               (served choice w.server unique t).server;
         }) w.server.next_copy unique (cond b None (Some wire)))
@@ -426,7 +426,7 @@ module _ (choice : ℕ → ℕ) (w : World) (sound : WorldSound w) (asked : Requ
     idle = λ dead. absurd (true≢false dead);
   }
   by_event e o after (by_call call ready room within) = let goes =
-      begun_goes_on w.kernel (spoken w.kernel.lists_files call) in
+      begun_goes_on w.kernel (for_minor w.kernel.lists_files call) in
       goes_on after.kernel w.requests (ap is_live goes.phase) dead_requests
   by_event e o after (by_read_interrupt original rest live there within) =
       goes_on after.kernel after.requests refl (asks_live live after.requests)

@@ -18,7 +18,7 @@ use Rattle.fuse_spec.specs.declared.QueuedRequest.{QueuedRequest}
 use Rattle.fuse_spec.specs.declared.ReplyResult.{ReplyResult}
 use Rattle.fuse_spec.specs.declared.WriteResult.{WriteResult}
 use Rattle.fuse_spec.specs.declared.WriteResult.TheVariants.{Accepted, NoEntry, Invalid}
-use Rattle.fuse_spec.specs.Calls.Calls.{Call, spoken}
+use Rattle.fuse_spec.specs.Calls.Calls.{Call, for_minor}
 use Rattle.fuse_spec.specs.Values.Maps.{Map, get, put, remove}
 use Rattle.fuse_spec.specs.Kernel.Messages.{Forget, Request, RequestBody, init, asks, release, forget, batch_forget, interrupt, WireReply}
 use Rattle.fuse_spec.specs.Files.Operations.{done, failed}
@@ -34,7 +34,7 @@ use Rattle.fuse_spec.specs.Server.Taking.{TakeResult, taking, interrupting}
 use Rattle.fuse_spec.specs.Server.Performs.{performed, replying, served}
 use Rattle.fuse_spec.specs.Server.Copies.{kept_after, sent_again, given_back, after_result}
 use Rattle.fuse_spec.specs.Kernel.Replies.{is_agreement, ended_by, request_reply_written, interrupt_reply_written, interrupt_replied, reply_written, interrupt_reply_of, made_ready}
-use Rattle.fuse_spec.specs.World.Worlds.{World, Sent, first_world, forget_body, after_call, after_read_interrupt, after_read_forgets, after_read_pending, after_take, after_perform, after_again, after_write, after_settle, after_drop, after_evict}
+use Rattle.fuse_spec.specs.World.Worlds.{World, Sent, first_world, forget_body, after_call, world_after_read_interrupt, world_after_read_forgets, world_after_read_pending, after_take, after_perform, after_again, after_write, after_settle, after_drop, after_evict}
 use Rattle.fuse_spec.specs.World.Worlds as worlds
 use Rattle.fuse_spec.specs.World.Events.{Event, Outcome}
 use Rattle.fuse_spec.specs.Kernel.Refusals.{is_ready}
@@ -105,7 +105,7 @@ interrupted_stands q sound original rest there = by (nat_lt 0 (key_count origina
 
 module _ (w : World) (numbered : IsNumbered w) (live : is_live w.kernel.phase ≡ true) where
   read_interrupt : (original : ℕ) (rest : List ℕ) → w.kernel.queues.interrupts ≡ original ∷ rest
-      → IsSound (after_read_interrupt w original).kernel.queues → IsNumbered (after_read_interrupt w original)
+      → IsSound (world_after_read_interrupt w original).kernel.queues → IsNumbered (world_after_read_interrupt w original)
   read_interrupt original rest there sound = record {
     queues = sound;
     calls_below = numbered.calls_below;
@@ -127,7 +127,7 @@ module _ (w : World) (numbered : IsNumbered w) (live : is_live w.kernel.phase �
           omega (arith, low, even, coming_even)
 
   read_forgets : (n : ℕ) (fs : List Forget) → can_read_forgets w.kernel.queues n ≡ true
-      → IsSound (after_read_forgets w n fs).kernel.queues → IsNumbered (after_read_forgets w n fs)
+      → IsSound (world_after_read_forgets w n fs).kernel.queues → IsNumbered (world_after_read_forgets w n fs)
   read_forgets n fs can = by (can_read_forgets w.kernel.queues n) can
     where
       by : (b : Bool) → b ≡ true → IsSound (cond b (record w.kernel.queues {
@@ -158,8 +158,8 @@ module _ (w : World) (numbered : IsNumbered w) (live : is_live w.kernel.phase �
 
   read_pending : (place unique : ℕ) (kept : Purpose) (body : RequestBody)
       → pending_at w.kernel.queues place ≡ Some (unique, kept)
-      → IsSound (after_read_pending w place unique body).kernel.queues
-      → IsNumbered (after_read_pending w place unique body)
+      → IsSound (world_after_read_pending w place unique body).kernel.queues
+      → IsNumbered (world_after_read_pending w place unique body)
   read_pending place unique kept body there sound =
       let calls = read_numbered w.kernel (calls_of w numbered) (slice_get (pending w.kernel.queues) place) in
       let next = read_next (slice_get (pending w.kernel.queues) place) in
@@ -230,7 +230,7 @@ module _ (w : World) (numbered : IsNumbered w) where
       (server : Server) → All (λ (r : Request). Below r.unique) requests
       → (is_live w.kernel.phase ≡ true → (u : ℕ) (t : HeldRequest) → get server.held u ≡ Some t → Below u)
       → (is_live w.kernel.phase ≡ true → (u : ℕ) (k : Kept) → get server.kept u ≡ Some k → Below u)
-      → IsNumbered (worlds.replying (record w { requests = requests; server = server }) number unique wire)
+      → IsNumbered (worlds.copy_put (record w { requests = requests; server = server }) number unique wire)
   sent_after number unique low None requests server sent held kept =
       links_numbered requests server w.replies w.results sent numbered.replies_below held kept
   sent_after number unique low (Some wire) requests server sent held kept =
@@ -354,9 +354,9 @@ module _ (k : Kernel) (live : is_live k.phase ≡ true) (sound : IsSound k.queue
   went : (l : Kernel) → GoesOn k l → CallsNumbered l → ReceivesReply k l
   went l goes calls = goes_on (ap is_live goes.phase ∙ live) goes.rises calls
 
-  ended_heard : (kept : Purpose) → waiting k.queues unique ≡ Some kept
+  ended_received : (kept : Purpose) → waiting k.queues unique ≡ Some kept
       → ReceivesReply k (ended_by (record k { queues = without k.queues unique }) kept wire).1
-  ended_heard purpose.Init waits = by (is_agreement wire)
+  ended_received purpose.Init waits = by (is_agreement wire)
     where
       k1 : Kernel
       k1 = record k { queues = without k.queues unique }
@@ -365,13 +365,13 @@ module _ (k : Kernel) (live : is_live k.phase ≡ true) (sound : IsSound k.queue
       by true = let calls = without_numbered k numbered unique in
           goes_on refl (omega arith) (record { calls_below = calls.calls_below; one_request = calls.one_request })
       by false = ends refl refl refl
-  ended_heard (purpose.Release o) waits = went _ (record {
+  ended_received (purpose.Release o) waits = went _ (record {
     phase = refl;
     minor = refl;
     lists_files = refl;
     rises = omega arith;
   }) (without_numbered k numbered unique)
-  ended_heard (purpose.Call call) waits =
+  ended_received (purpose.Call call) waits =
       let k1 = record k { queues = without k.queues unique } in
       let request = waiting_is k.queues unique (purpose.Call call) waits in
       let mine : is_for call request.request.kept ≡ true =
@@ -381,13 +381,13 @@ module _ (k : Kernel) (live : is_live k.phase ≡ true) (sound : IsSound k.queue
       (replied_numbered k1 (without_numbered k numbered unique) call wire (get k.vfs.calls call) refl
       (none_left k numbered call unique request.request request.under mine))
 
-  pub written_heard : ReceivesReply k (reply_written k unique wire).1
-  written_heard = by (nat_eq (unique % 2) 1)
+  pub written_received : ReceivesReply k (reply_written k unique wire).1
+  written_received = by (nat_eq (unique % 2) 1)
     where
       even : (o : Option Purpose) → waiting k.queues unique ≡ o
           → ReceivesReply k (request_reply_written k unique wire o).1
       even None waits = went k (record { phase = refl; minor = refl; lists_files = refl; rises = omega arith }) numbered
-      even (Some kept) waits = ended_heard kept waits
+      even (Some kept) waits = ended_received kept waits
 
       reply_next : (original : ℕ) (reply : InterruptReply)
           → (queues.after_interrupt_reply k.queues original reply).next ≡ k.queues.next
@@ -422,10 +422,10 @@ module _ (k : Kernel) (live : is_live k.phase ≡ true) (sound : IsSound k.queue
       by true = odd (waiting k.queues (unique - 1))
       by false = even (waiting k.queues unique) refl
 
--- A kernel without requests hears nothing.
-pub unheard : (k : Kernel) → k.queues ≡ empty_queues → (unique : ℕ) (wire : WireReply)
+-- A kernel without requests receives nothing.
+pub unreceived : (k : Kernel) → k.queues ≡ empty_queues → (unique : ℕ) (wire : WireReply)
     → (reply_written k unique wire).1 ≡ k
-unheard k idle unique wire = by (nat_eq (unique % 2) 1)
+unreceived k idle unique wire = by (nat_eq (unique % 2) 1)
   where
     none : (u : ℕ) → waiting k.queues u ≡ None
     none u = ap (λ (q : QueueState Purpose). waiting q u) idle
@@ -444,7 +444,7 @@ aborted_if_ready Ready ready dead = sym dead
 aborted_if_ready Aborted ready dead = refl
 
 pub replying_kernel : (w : World) (number unique : ℕ) (o : Option WireReply)
-    → (worlds.replying w number unique o).kernel ≡ w.kernel
+    → (worlds.copy_put w number unique o).kernel ≡ w.kernel
 replying_kernel w number unique None = refl
 replying_kernel w number unique (Some wire) = refl
 
@@ -477,8 +477,8 @@ module _ (w : World) (numbered : IsNumberedWhileLive w) where
 
       by : (b : Bool) → is_live w.kernel.phase ≡ b → IsNumberedWhileLive after
       by true live = let old = numbered.live live in reply_received live
-          (written_heard w.kernel live old.queues (calls_of w old) sent.unique sent.wire)
-      by false dead = beside w after numbered (unheard w.kernel (numbered.idle dead) sent.unique sent.wire)
+          (written_received w.kernel live old.queues (calls_of w old) sent.unique sent.wire)
+      by false dead = beside w after numbered (unreceived w.kernel (numbered.idle dead) sent.unique sent.wire)
           (λ live. absurd (true≢false (sym live ∙ dead)))
 
   moved_numbered : (k : Kernel) → is_live w.kernel.phase ≡ true → GoesOn w.kernel k → IsSound k.queues
@@ -493,17 +493,17 @@ module _ (w : World) (numbered : IsNumberedWhileLive w) where
   call_numbered call ready sound = by (is_live w.kernel.phase) refl
     where
       at_once : (b : Bool) → b ≡ true → (closing_of (advanced w.kernel w.kernel.vfs.next_call
-          (begun b w.kernel.vfs (spoken w.kernel.lists_files call)))
-          (cond b None (closed_by w.kernel.vfs.opens (spoken w.kernel.lists_files call)))).queues ≡ w.kernel.queues
+          (begun b w.kernel.vfs (for_minor w.kernel.lists_files call)))
+          (cond b None (closed_by w.kernel.vfs.opens (for_minor w.kernel.lists_files call)))).queues ≡ w.kernel.queues
       at_once true e = refl
       at_once false e = absurd (true≢false (sym e))
 
       goes : GoesOn w.kernel (call_put w.kernel call)
-      goes = begun_goes_on w.kernel (spoken w.kernel.lists_files call)
+      goes = begun_goes_on w.kernel (for_minor w.kernel.lists_files call)
 
       by : (b : Bool) → is_live w.kernel.phase ≡ b → IsNumberedWhileLive (after_call w call)
       by true live = moved_numbered (call_put w.kernel call) live goes (sound live)
-          (begun_numbered w.kernel (calls_of w (numbered.live live)) (spoken w.kernel.lists_files call))
+          (begun_numbered w.kernel (calls_of w (numbered.live live)) (for_minor w.kernel.lists_files call))
       by false dead = record {
         live = λ still. absurd (true≢false (sym still ∙ ap is_live goes.phase ∙ dead));
         idle = λ _. at_once (is_aborted w.kernel.phase)
@@ -516,13 +516,13 @@ module _ (w : World) (numbered : IsNumberedWhileLive w) where
       record { live = λ _. mounted_numbered w f m v; idle = λ dead. absurd (true≢false dead) }
   stay choice e o after (by_call call ready room within) sound = call_numbered call ready sound
   stay choice e o after (by_read_interrupt original rest live there within) sound =
-      still_live (after_read_interrupt w original) live
+      still_live (world_after_read_interrupt w original) live
       (read_interrupt w (numbered.live live) live original rest there (sound live))
   stay choice e o after (by_read_forgets n live free can within few) sound =
-      let fs = take n w.kernel.queues.forgets in still_live (after_read_forgets w n fs) live
+      let fs = take n w.kernel.queues.forgets in still_live (world_after_read_forgets w n fs) live
       (read_forgets w (numbered.live live) live n fs can (sound live))
   stay choice e o after (by_read_pending k unique kept body live free there says within) sound =
-      still_live (after_read_pending w k unique body) live
+      still_live (world_after_read_pending w k unique body) live
       (read_pending w (numbered.live live) live k unique kept body there (sound live))
   stay choice e o after (by_take k r there within) sound =
       let took = taking w.server r.unique r.body in

@@ -1,6 +1,6 @@
 -- A request that was read and is unanswered stays on its way, whatever happens.
 use Rattle.fuse_spec.specs.Values.Numbers.{init_flags}
-use Rattle.fuse_spec.specs.Calls.Calls.{spoken}
+use Rattle.fuse_spec.specs.Calls.Calls.{for_minor}
 use Rattle.std.proofs.Common.{◌≡◌, ◌≢◌, ℕ, ◌+◌, ◌-◌, Bool, true, false, true≢false, cond, List, drop, Option, Some, None, nat_eq, slice_get, option_map, refl, ap, sym, subst, ◌∙◌, arith, inl, inr}
 use Rattle.std.specs.Prelude.{◌%◌}
 use Rattle.std.specs.List.{remove as without_at}
@@ -26,7 +26,7 @@ use Rattle.fuse_spec.specs.Kernel.Replies.{ended_by, request_reply_written, inte
 use Rattle.fuse_spec.specs.Server.Server.{HeldRequest, Kept, Copy}
 use Rattle.fuse_spec.specs.Server.Taking.{taking, interrupting}
 use Rattle.fuse_spec.specs.Server.Performs.{served}
-use Rattle.fuse_spec.specs.World.Worlds.{World, Sent, first_world, replying, after_read_pending as world_after_read, after_take, after_perform, after_write, after_settle}
+use Rattle.fuse_spec.specs.World.Worlds.{World, Sent, first_world, copy_put, world_after_read_pending as world_after_read, after_take, after_perform, after_write, after_settle}
 use Rattle.fuse_spec.specs.World.Events.{Event, Outcome}
 use Rattle.fuse_spec.specs.Calls.Answers.{Answer}
 use Rattle.fuse_spec.specs.World.Steps.{Happens}
@@ -227,14 +227,14 @@ module _ (choice : ℕ → ℕ) (w : World) (sound : WorldSound w) (links : Link
   performs live unique t u = by w.server.aborted (links.serving live)
     where
       did : World
-      did = replying (record w { server = (served choice w.server unique t).server }) w.server.next_copy unique
+      did = copy_put (record w { server = (served choice w.server unique t).server }) w.server.next_copy unique
           (Some (served choice w.server unique t).wire)
 
       held_is : (served choice w.server unique t).server.held ≡ remove w.server.held unique
       held_is = (performed_rest choice (record w.server { held = remove w.server.held unique }) t).held
 
       by : (b : Bool) → b ≡ false → IsOnItsWay w u → IsOnItsWay
-          (replying (record w { server = (served choice w.server unique t).server }) w.server.next_copy unique
+          (copy_put (record w { server = (served choice w.server unique t).server }) w.server.next_copy unique
           (cond b None (Some (served choice w.server unique t).wire))) u
       by true e = absurd (true≢false e)
       by false e = carried w did u (λ h. sent h) (λ h. elim (cases_eq u unique) [
@@ -309,10 +309,10 @@ module _ (choice : ℕ → ℕ) (w : World) (sound : WorldSound w) (links : Link
   by_event : (e : Event) (o : Outcome) (after : World) → Happened choice w e o after → ReadAreOnTheirWay after
   by_event e o after (by_mount f m v idle) live u r under read = just_queued (nat_eq u 2) r under read
   by_event e o after (by_call call ready room within) live u r under read =
-      let goes = begun_goes_on w.kernel (spoken w.kernel.lists_files call) in
+      let goes = begun_goes_on w.kernel (for_minor w.kernel.lists_files call) in
       kernel_stays after.kernel w.requests (λ v h. h) u
       (goes_on after.kernel (ap is_live (sym goes.phase) ∙ live)
-      (begun_reads_none w.kernel (spoken w.kernel.lists_files call)) u r under read)
+      (begun_reads_none w.kernel (for_minor w.kernel.lists_files call)) u r under read)
   by_event e o after (by_read_interrupt original rest lives there within) live u r under read =
       kernel_stays after.kernel after.requests (λ v h. has_pushed (IsRequest v) w.requests _ h) u
       (old lives u r under read)

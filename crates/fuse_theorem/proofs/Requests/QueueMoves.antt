@@ -26,7 +26,7 @@ use Rattle.fuse_spec.specs.Kernel.Queues.{QueueState, IsSound, is_unread, pendin
 use Rattle.fuse_spec.specs.Kernel.QueueCalls.{after_enqueue, after_forget, after_effect, after_reading, after_reply_effect, after_read_pending, set_mark, waiting, without}
 use Rattle.fuse_spec.specs.Kernel.Signals.{signal_effect, reply_effect}
 use Rattle.fuse_spec.specs.Kernel.Kernel.{Kernel, is_live, is_aborted, is_used, request_of, kernel_aborted, asking_for, advanced, released, released_if_idle, after_use, closed_by, closing_of, call_begun, after_signal, signalled_at, call_signalled}
-use Rattle.fuse_spec.specs.Kernel.Replies.{kernel_reply, looked_up, Use, usable, useless, stale, goes_with, is_agreement, judged, replied, replied_to_call, request_reply_written, interrupt_reply_written, interrupt_replied, interrupt_reply_of, reply_written, reply_received, without_stale, reply_judged, use_of_reply, made_ready}
+use Rattle.fuse_spec.specs.Kernel.Replies.{kernel_reply, looked_up, Use, usable, unusable, stale, goes_with, is_agreement, judged, replied, replied_to_call, request_reply_written, interrupt_reply_written, interrupt_replied, interrupt_reply_of, reply_written, reply_received, without_stale, reply_judged, use_of_reply, made_ready}
 use Rattle.fuse_spec.proofs.QueueSoundness.{mark_under-pending}
 
 -- `May` says which mark a request may get in place of which.
@@ -177,7 +177,7 @@ replied_reads_none k call wire (Some state) = by (goes_with (asked state) wire)
         (stays k.queues (without_stale k wire).queues refl refl)
         (advanced_moves (record (without_stale k wire) { nodes = looked_up k.nodes (files_in_reply x) }) call
         (call_replied k.vfs call state (kernel_reply (asked state) x)))
-    judged_moves x useless = stays k.queues (without_stale k wire).queues refl refl
+    judged_moves x unusable = stays k.queues (without_stale k wire).queues refl refl
     judged_moves x (stale node) = stays k.queues (after_forget (without_stale k wire).queues node 1) refl refl
 
     by : (b : Bool) → ReadsNone k.queues (replied k call state b wire).1.queues

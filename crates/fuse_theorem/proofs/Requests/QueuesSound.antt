@@ -9,19 +9,19 @@ use Rattle.fuse_spec.specs.declared.Purpose.TheVariants as purpose
 use Rattle.fuse_spec.specs.Values.Maps.{get, put}
 use Rattle.fuse_spec.specs.Calls.Answers.{Answer}
 use Rattle.fuse_spec.specs.Calls.Answers as answer
-use Rattle.fuse_spec.specs.Calls.Calls.{Call, spoken}
+use Rattle.fuse_spec.specs.Calls.Calls.{Call, for_minor}
 use Rattle.fuse_spec.specs.Calls.CallReplies.{call_replied}
 use Rattle.fuse_spec.specs.Kernel.Kernel.{Kernel, kernel_aborted, is_aborted, advanced, asking_for, released, released_if_idle, after_use, closed_by, closing_of, call_begun, after_signal, signalled_at, call_signalled, request_of}
 use Rattle.fuse_spec.specs.Kernel.Messages.{WireReply}
 use Rattle.fuse_spec.specs.Files.Operations.{Operation, done, failed, files_in_reply}
 use Rattle.fuse_spec.specs.Kernel.QueueCalls.{waiting, without, after_interrupt, interrupt_effect}
-use Rattle.fuse_spec.specs.Kernel.Replies.{kernel_reply, looked_up, Use, usable, useless, stale, goes_with, is_agreement, judged, replied, replied_to_call, ended_by, request_reply_written, interrupt_reply_written, interrupt_replied, reply_written, reply_received, without_stale, reply_judged, use_of_reply, made_ready}
+use Rattle.fuse_spec.specs.Kernel.Replies.{kernel_reply, looked_up, Use, usable, unusable, stale, goes_with, is_agreement, judged, replied, replied_to_call, ended_by, request_reply_written, interrupt_reply_written, interrupt_replied, reply_written, reply_received, without_stale, reply_judged, use_of_reply, made_ready}
 use Rattle.fuse_spec.specs.Calls.Vfs.{asked, CallState, walking, doing, using, Advance, answered, begun}
 use Rattle.std.specs.List.{remove as without_at}
 use Rattle.fuse_spec.specs.Kernel.QueueCalls.{pending_at, first_forgets}
 use Rattle.fuse_spec.specs.Server.Taking.{taking}
 use Rattle.fuse_spec.specs.Server.Performs.{served}
-use Rattle.fuse_spec.specs.World.Worlds.{World, Sent, after_mount, after_call, after_read_interrupt, after_read_forgets, after_read_pending, after_take, after_perform, after_again, after_write, after_settle, after_tick, after_drop, after_evict, after_abort}
+use Rattle.fuse_spec.specs.World.Worlds.{World, Sent, after_mount, after_call, world_after_read_interrupt, world_after_read_forgets, world_after_read_pending, after_take, after_perform, after_again, after_write, after_settle, after_tick, after_drop, after_evict, after_abort}
 use Rattle.fuse_spec.specs.World.Worlds as worlds
 use Rattle.fuse_spec.specs.World.Events.{Event, Outcome}
 use Rattle.fuse_spec.specs.World.Steps.{step}
@@ -205,7 +205,7 @@ replied_grows k call wire (Some state) = by (goes_with (asked state) wire)
     judged_grows x usable = then_grows k.queues (without_stale k wire).queues _ stale_grows
         (advanced_grows (record (without_stale k wire) { nodes = looked_up k.nodes (files_in_reply x) }) call
         (call_replied k.vfs call state (kernel_reply (asked state) x)))
-    judged_grows x useless = stale_grows
+    judged_grows x unusable = stale_grows
     judged_grows x (stale node) = then_grows k.queues (without_stale k wire).queues _ stale_grows
         (forget_grows (without_stale k wire).queues node 1)
 
@@ -259,7 +259,7 @@ written_sound k unique wire s = by (nat_eq (unique % 2) 1)
 
 -- a reply that goes out leaves the queues as they are
 sent_off : (w : World) (number unique : ℕ) (wire : Option WireReply) → IsSound w.kernel.queues
-    → IsSound (worlds.replying w number unique wire).kernel.queues
+    → IsSound (worlds.copy_put w number unique wire).kernel.queues
 sent_off w number unique None sound = sound
 sent_off w number unique (Some wire) sound = sound
 
@@ -279,11 +279,11 @@ by_event choice w r e o after (by_mount f m v idle) =
     IsSound-enqueue empty_queues purpose.Init empty_sound
     (record { even = refl; low = omega arith; high = omega arith })
 by_event choice w r e o after (by_call call ready room within) = let grows =
-    begun_grows w.kernel (spoken w.kernel.lists_files call) in grows.sound (next_within (after_call w call) within) r
+    begun_grows w.kernel (for_minor w.kernel.lists_files call) in grows.sound (next_within (after_call w call) within) r
 by_event choice w r e o after (by_read_interrupt original rest live there within) =
     IsSound-read_interrupt w.kernel.queues r
 by_event choice w r e o after (by_read_forgets n live free can within few) =
-    forgets_sound w.kernel.queues n r (next_within (after_read_forgets w n (take n w.kernel.queues.forgets)) within)
+    forgets_sound w.kernel.queues n r (next_within (world_after_read_forgets w n (take n w.kernel.queues.forgets)) within)
 by_event choice w r e o after (by_read_pending k unique kept body live free there says within) =
     reading_sound w.kernel.queues k r
 by_event choice w r e o after (by_take k q there within) =

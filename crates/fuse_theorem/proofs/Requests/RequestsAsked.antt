@@ -19,8 +19,8 @@ use Rattle.fuse_theorem.proofs.Calls.Finding.{same_is, none_passes}
 use Rattle.fuse_theorem.proofs.Requests.DrawnNumbers.{number_below, number_even}
 use Rattle.fuse_theorem.proofs.Refining.Queuing.{All-at}
 use Rattle.fuse_theorem.proofs.Requests.StandsOnce.{one_held}
-use Rattle.fuse_theorem.proofs.Requests.StillAsked.{StillThere, Follows}
-use Rattle.fuse_theorem.proofs.Requests.StillAwaited.{Answers}
+use Rattle.fuse_theorem.proofs.Requests.AskKept.{StillThere, Follows}
+use Rattle.fuse_theorem.proofs.Requests.AwaitedKept.{Answers}
 
 -- ---- one request
 

@@ -24,7 +24,7 @@ use Rattle.fuse_spec.specs.Kernel.Kernel.{Kernel, is_live, asked_by, body_of}
 use Rattle.fuse_spec.specs.Server.Server.{HeldRequest, Kept, Copy}
 use Rattle.fuse_spec.specs.Server.Taking.{taking, interrupting}
 use Rattle.fuse_spec.specs.Server.Performs.{performed, served}
-use Rattle.fuse_spec.specs.World.Worlds.{World, Sent, replying, first_world, forget_body, after_take, after_perform, after_settle}
+use Rattle.fuse_spec.specs.World.Worlds.{World, Sent, copy_put, first_world, forget_body, after_take, after_perform, after_settle}
 use Rattle.fuse_spec.specs.World.Events.{Event, Outcome}
 use Rattle.fuse_spec.specs.World.Steps.{step}
 use Rattle.fuse_spec.proofs.QueueCounts.{key_count-found}
@@ -62,7 +62,7 @@ abbrev Bears : Request → Type 0
 Bears r = BearsNumber r.unique r.body
 
 replying_requests : (w : World) (number unique : ℕ) (o : Option WireReply)
-    → (replying w number unique o).requests ≡ w.requests
+    → (copy_put w number unique o).requests ≡ w.requests
 replying_requests w number unique None = refl
 replying_requests w number unique (Some wire) = refl
 
@@ -243,7 +243,7 @@ module _ (choice : ℕ → ℕ) (w : World) (sound : RequestsSound w) (numbered 
       now_held = let rest = performed_rest choice (record w.server { held = remove w.server.held unique }) t in
           ap one_held (ap (λ (m : Map HeldRequest). get m unique) rest.held ∙ get_gone_here w.server.held unique)
 
-      by : (o : Option WireReply) → unperformed (replying
+      by : (o : Option WireReply) → unperformed (copy_put
           (record w { server = (served choice w.server unique t).server }) w.server.next_copy unique o) unique ≡ 0
       by None = let old = sound.once unique even in omega (arith, was_held, now_held, old)
       by (Some wire) = let old = sound.once unique even in omega (arith, was_held, now_held, old)
@@ -286,10 +286,10 @@ module _ (choice : ℕ → ℕ) (w : World) (sound : RequestsSound w) (numbered 
                 remove w.server.held unique;
           }) t).server.kept unique _ u (λ e. other (sym e)) ∙ at
 
-      by : (o : Option WireReply) → IsUnanswered (replying
+      by : (o : Option WireReply) → IsUnanswered (copy_put
           (record w { server = (served choice w.server unique t).server }) w.server.next_copy unique o) u
       by None = record { copies = old.copies; kept = kept_other }
-      by (Some wire) = unanswered_push (replying (record w {
+      by (Some wire) = unanswered_push (copy_put (record w {
         server =
             (served choice w.server unique t).server;
       }) w.server.next_copy unique

@@ -10,7 +10,7 @@ use Rattle.fuse_spec.specs.declared.QueuedRequest.{QueuedRequest}
 use Rattle.fuse_spec.specs.declared.ReplyResult.{ReplyResult}
 use Rattle.fuse_spec.specs.declared.WriteResult.{WriteResult}
 use Rattle.fuse_spec.specs.declared.WriteResult.TheVariants.{Accepted, NoEntry, Invalid}
-use Rattle.fuse_spec.specs.Calls.Calls.{Call, spoken}
+use Rattle.fuse_spec.specs.Calls.Calls.{Call, for_minor}
 use Rattle.fuse_spec.specs.Server.Copies.{kept_after, after_result}
 use Rattle.fuse_spec.specs.Values.Maps.{Map, get, put, remove}
 use Rattle.fuse_spec.specs.Kernel.Messages.{Forget, Request, RequestBody, init, asks, release, forget, batch_forget, interrupt, WireReply}
@@ -23,7 +23,7 @@ use Rattle.fuse_spec.specs.Server.Server.{HeldRequest, Kept, Copy}
 use Rattle.fuse_spec.specs.Server.Taking.{taking, interrupting}
 use Rattle.fuse_spec.specs.Server.Performs.{served}
 use Rattle.fuse_spec.specs.Kernel.Replies.{reply_written}
-use Rattle.fuse_spec.specs.World.Worlds.{World, Sent, replying, first_world, forget_body, server_settled, after_mount, after_call, after_read_interrupt, after_read_forgets, after_read_pending, after_take, after_perform, after_write}
+use Rattle.fuse_spec.specs.World.Worlds.{World, Sent, copy_put, first_world, forget_body, server_settled, after_mount, after_call, world_after_read_interrupt, world_after_read_forgets, world_after_read_pending, after_take, after_perform, after_write}
 use Rattle.fuse_spec.specs.World.Events.{Event, Outcome}
 use Rattle.fuse_spec.specs.World.Events as event
 use Rattle.fuse_spec.specs.World.Steps.{step}
@@ -38,7 +38,7 @@ use Rattle.fuse_theorem.proofs.Requests.DrawnNumbers.{number_below, number_even}
 use Rattle.fuse_theorem.proofs.Calls.CallsContinue.{begun_goes_on}
 use Rattle.fuse_theorem.proofs.RefusalCases.Happened.{Happened, by_mount, by_call, by_read_interrupt, by_read_forgets, by_read_pending, by_take, by_perform, by_again, by_write, by_settle, by_signal, by_tick, by_drop, by_evict, by_abort, happened}
 use Rattle.fuse_theorem.proofs.Lists.LinkSums.{sum_removed}
-use Rattle.fuse_theorem.proofs.Requests.NumbersStay.{ReceivesReply, goes_on, ends, calls_of, written_heard, unheard, numbers_stay}
+use Rattle.fuse_theorem.proofs.Requests.NumbersStay.{ReceivesReply, goes_on, ends, calls_of, written_received, unreceived, numbers_stay}
 use Rattle.fuse_theorem.proofs.Requests.PendingCounts.{pending_under, pending_le, pending_once, unread_pending, Fewer, moves_fewer}
 use Rattle.fuse_theorem.proofs.Requests.PerformedRest.{performed_rest}
 use Rattle.fuse_theorem.proofs.Requests.QueueMoves.{begun_moves, signalled_moves, written_moves}
@@ -199,7 +199,7 @@ settled_held w result (Some copy) u = by result.result
 
 module _ (b : ℕ → ℕ) (w : World) (room : HasRoom b w) (once : AtMost b w) (numbered : IsNumberedWhileLive w) where
   -- An INTERRUPT is read: its number is odd.
-  interrupt_once : (original : ℕ) → AtMost b (after_read_interrupt w original)
+  interrupt_once : (original : ℕ) → AtMost b (world_after_read_interrupt w original)
   interrupt_once original u even =
       let old = once u even in
       let pushed = count_by-push (λ (r : Request). nat_eq u r.unique) w.requests
@@ -209,7 +209,7 @@ module _ (b : ℕ → ℕ) (w : World) (room : HasRoom b w) (once : AtMost b w) 
 
   -- Forgets are read: they bear the coming number.
   forgets_once : is_live w.kernel.phase ≡ true → (n : ℕ) (fs : List Forget)
-      → queues.can_read_forgets w.kernel.queues n ≡ true → AtMost b (after_read_forgets w n fs)
+      → queues.can_read_forgets w.kernel.queues n ≡ true → AtMost b (world_after_read_forgets w n fs)
   forgets_once live n fs can u even = by (queues.can_read_forgets w.kernel.queues n) can
     where
       pushed : sent_under u (w.requests ++ record { unique = w.kernel.queues.next; body = forget_body fs } ∷ [])
@@ -248,12 +248,12 @@ module _ (b : ℕ → ℕ) (w : World) (room : HasRoom b w) (once : AtMost b w) 
 
   -- A pending request is read.
   read_once : is_live w.kernel.phase ≡ true → (k unique : ℕ) (kept : Purpose) (body : RequestBody)
-      → queues.pending_at w.kernel.queues k ≡ Some (unique, kept) → AtMost b (after_read_pending w k unique body)
+      → queues.pending_at w.kernel.queues k ≡ Some (unique, kept) → AtMost b (world_after_read_pending w k unique body)
   read_once live k unique kept body there = by (slice_get (pending w.kernel.queues) k) refl there
     where
       by : (o : Option (ℕ × QueuedRequest Purpose)) → slice_get (pending w.kernel.queues) k ≡ o
           → option_map {U = ℕ × Purpose} (λ (e : ℕ × QueuedRequest Purpose). (e.0, e.1.kept)) o ≡ Some (unique, kept)
-          → AtMost b (after_read_pending w k unique body)
+          → AtMost b (world_after_read_pending w k unique body)
       by None at e u even = absurd (cc)
       by (Some x) at e u even =
           let old = once u even in
@@ -323,13 +323,13 @@ module _ (b : ℕ → ℕ) (w : World) (room : HasRoom b w) (once : AtMost b w) 
           let few = gone_held w.server.held unique u in
           omega (arith, same, few)
 
-      by : (o : Option WireReply) → AtMost b (replying
+      by : (o : Option WireReply) → AtMost b (copy_put
           (record w { server = (served choice w.server unique t).server }) w.server.next_copy unique o)
-      by None = fewer_once b w once (replying (record w {
+      by None = fewer_once b w once (copy_put (record w {
         server =
             (served choice w.server unique t).server;
       }) w.server.next_copy unique None) refl refl held
-      by (Some wire) = fewer_once b w once (replying (record w {
+      by (Some wire) = fewer_once b w once (copy_put (record w {
         server =
             (served choice w.server unique t).server;
       }) w.server.next_copy unique (Some wire)) refl refl held
@@ -356,9 +356,9 @@ module _ (b : ℕ → ℕ) (w : World) (room : HasRoom b w) (once : AtMost b w) 
       by : (c : Bool) → is_live w.kernel.phase ≡ c → AtMost b
           (record w { kernel = (reply_written w.kernel sent.unique sent.wire).1 })
       by true live = let now = numbered.live live in reply_received live
-          (written_heard w.kernel live now.queues (calls_of w now) sent.unique sent.wire)
+          (written_received w.kernel live now.queues (calls_of w now) sent.unique sent.wire)
       by false dead = fewer_once b w once (record w { kernel = (reply_written w.kernel sent.unique sent.wire).1 })
-          (unheard w.kernel (numbered.idle dead) sent.unique sent.wire) refl (λ u. omega arith)
+          (unreceived w.kernel (numbered.idle dead) sent.unique sent.wire) refl (λ u. omega arith)
 
   -- A call begins.
   called : (call : Call) → (is_live w.kernel.phase ≡ true → IsSound (call_put w.kernel call).queues)
@@ -368,10 +368,10 @@ module _ (b : ℕ → ℕ) (w : World) (room : HasRoom b w) (once : AtMost b w) 
       by : (c : Bool) → is_live w.kernel.phase ≡ c → AtMost b (after_call w call)
       by true live u even = kernel_once b w room once (numbered.live live) live (call_put w.kernel call)
           (moves_fewer w.kernel.queues (call_put w.kernel call).queues
-          (begun_moves w.kernel (spoken w.kernel.lists_files call))) (sound live) u even
+          (begun_moves w.kernel (for_minor w.kernel.lists_files call))) (sound live) u even
       by false dead u even =
           let old = once u even in
-          let goes = begun_goes_on w.kernel (spoken w.kernel.lists_files call) in
+          let goes = begun_goes_on w.kernel (for_minor w.kernel.lists_files call) in
           let none : pending_under u (call_put w.kernel call).queues ≡ 0 =
           ap (pending_under u) (after.idle (ap is_live goes.phase ∙ dead)) in
           omega (arith, old, none)

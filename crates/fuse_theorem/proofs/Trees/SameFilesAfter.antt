@@ -5,9 +5,9 @@ use Rattle.std.specs.Prelude.{min, nat_lt}
 use Rattle.std.proofs.lemmas.List.Elements.{All-nil, All-cons, All-head, All-tail, All-filter}
 use Rattle.fuse_spec.specs.Values.Maps.{Map, get, put}
 use Rattle.fuse_spec.specs.Files.Operations.{lookup, getattr, mkdir, create, unlink, rmdir, rename, link, opening, readdir, readdirplus, read, write, files_in_reply, opens_in_reply}
-use Rattle.fuse_spec.specs.Files.Trees.{Tree, Named, Content, a_directory, a_file, file_at, bytes_of, overwritten, is_at, pairs_after}
+use Rattle.fuse_spec.specs.Files.Trees.{Tree, Named, Content, a_directory, a_file, file_at, file_bytes, overwritten, is_at, pairs_after}
 use Rattle.fuse_spec.specs.declared.Validity.{Validity}
-use Rattle.fuse_spec.specs.Files.FileOperations.{FileOperation, refusal, reply_by, reply_or, reply_unrefused, looked_up, tree_after, tree_or, tree_unrefused, renamed, is_same}
+use Rattle.fuse_spec.specs.Files.FileOperations.{FileOperation, refusal, reply_by, reply_or, reply_unrefused, lookup_reply, tree_after, tree_or, tree_unrefused, renamed, is_same}
 use Rattle.fuse_spec.proofs.Tables.{get_put_here, get_put_there}
 use Rattle.fuse_theorem.proofs.Calls.Finding.{same_is, other_is}
 use Rattle.fuse_theorem.proofs.Trees.Names.{is_named, named_before, named_push, each_named, found_named}
@@ -163,7 +163,7 @@ module _ (tree : Tree) (files : Map Content) (held : ℕ → Bool)
   files_unrefused (read x offset size) h file = unmade file
   files_unrefused (write x offset []) h file = unmade file
   files_unrefused (write x offset (b ∷ bytes)) h file =
-      overwriting x (λ (o : Option Content). a_file (overwritten (bytes_of o) offset (b ∷ bytes))) h file
+      overwriting x (λ (o : Option Content). a_file (overwritten (file_bytes o) offset (b ∷ bytes))) h file
 
   -- The files after the operation are those of the plain tree after it that stood, and the one that it made.
   pub files_after : (operation : FileOperation) → DeedStands operation → (file : ℕ)
@@ -265,7 +265,7 @@ module _ (tree : Tree) (files : Map Content) (held : ℕ → Bool)
 
   looked_stands : (valid : Validity) (test : Named → Bool) (o : Option ℕ)
       → option_map (λ (n : Named). n.file) (find test tree.names) ≡ o
-      → All (λ f. (stands f || false) ≡ true) (files_in_reply (looked_up valid o))
+      → All (λ f. (stands f || false) ≡ true) (files_in_reply (lookup_reply valid o))
   looked_stands valid test None e = All-nil (λ f. (stands f || false) ≡ true)
   looked_stands valid test (Some x) e = All-cons (λ f. (stands f || false) ≡ true) x []
       (or_left (stands x) false (lead_stands test x e)) (All-nil (λ f. (stands f || false) ≡ true))
@@ -304,7 +304,7 @@ module _ (tree : Tree) (files : Map Content) (held : ℕ → Bool)
   given_unrefused valid (read x offset size) h = All-nil (λ f. (stands f || false) ≡ true)
   given_unrefused valid (write x offset bytes) h = All-nil (λ f. (stands f || false) ≡ true)
 
-  opened_looked : (valid : Validity) (o : Option ℕ) → opens_in_reply (looked_up valid o) ≡ []
+  opened_looked : (valid : Validity) (o : Option ℕ) → opens_in_reply (lookup_reply valid o) ≡ []
   opened_looked valid None = refl
   opened_looked valid (Some x) = refl
 

@@ -6,8 +6,8 @@ use Rattle.fuse_spec.specs.declared.Validity.{Validity}
 use Rattle.fuse_spec.specs.Values.Maps.{get}
 use Rattle.fuse_spec.specs.Calls.Paths.{Name}
 use Rattle.fuse_spec.specs.Files.Operations.{lookup, getattr, mkdir, create, unlink, rmdir, rename, link, opening, readdir, readdirplus, read, write, files_in_reply, opens_in_reply}
-use Rattle.fuse_spec.specs.Files.Trees.{Tree, Named, Content, a_directory, a_file, file_at, kind_of, is_kind_directory, is_directory, is_nameless, bytes_of, overwritten, is_at, with_name, without_name, with_birth, pairs_after}
-use Rattle.fuse_spec.specs.Files.FileOperations.{FileOperation, Check, making, first_refusal, refusal, looked_up, reply_by, reply_or, reply_unrefused, tree_after, tree_or, tree_unrefused, renamed, is_same}
+use Rattle.fuse_spec.specs.Files.Trees.{Tree, Named, Content, a_directory, a_file, file_at, kind_of, is_kind_directory, is_directory, is_nameless, file_bytes, overwritten, is_at, with_name, without_name, with_birth, pairs_after}
+use Rattle.fuse_spec.specs.Files.FileOperations.{FileOperation, Check, making, first_refusal, refusal, lookup_reply, reply_by, reply_or, reply_unrefused, tree_after, tree_or, tree_unrefused, renamed, is_same}
 use Rattle.fuse_spec.proofs.Tables.{get_put_there}
 use Rattle.fuse_theorem.specs.ServerTables.{TreeSound}
 use Rattle.fuse_theorem.proofs.Refining.Pairs.{listed_told, fitting_told}
@@ -70,7 +70,7 @@ module _ (tree : Tree) (sound : TreeSound tree) where
   -- ---- the files that a reply names or opens
 
   looked : (valid : Validity) (o : Option ℕ) → ((file : ℕ) → o ≡ Some file → file ≢ 0)
-      → All NotRoot (files_in_reply (looked_up valid o))
+      → All NotRoot (files_in_reply (lookup_reply valid o))
   looked valid None f = All-nil NotRoot
   looked valid (Some file) f = All-cons NotRoot file [] (f file refl) (All-nil NotRoot)
 
@@ -88,7 +88,7 @@ module _ (tree : Tree) (sound : TreeSound tree) where
       (All-filter (λ n. nat_eq n.directory d) NamesNone tree.names sound.names)))
   given_unrefused valid operation free = All-nil NotRoot
 
-  opened_looked : (valid : Validity) (o : Option ℕ) → All NotRoot (opens_in_reply (looked_up valid o))
+  opened_looked : (valid : Validity) (o : Option ℕ) → All NotRoot (opens_in_reply (lookup_reply valid o))
   opened_looked valid None = All-nil NotRoot
   opened_looked valid (Some file) = All-nil NotRoot
 
@@ -183,7 +183,7 @@ module _ (tree : Tree) (sound : TreeSound tree) where
   unrefused_sound (read file offset size) free opens = sound
   unrefused_sound (write file offset []) free opens = sound
   unrefused_sound (write file offset (b ∷ bytes)) free opens = record {
-    root = get_put_there tree.files file (a_file (overwritten (bytes_of (get tree.files file)) offset (b ∷ bytes))) 0
+    root = get_put_there tree.files file (a_file (overwritten (file_bytes (get tree.files file)) offset (b ∷ bytes))) 0
         (λ e. opens (sym e)) ∙ sound.root;
     names = sound.names;
     births = sound.births;

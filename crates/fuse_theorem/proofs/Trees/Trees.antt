@@ -5,7 +5,7 @@ use Rattle.std.specs.Prelude.{nat_eq, nat_lt, find, filter, option_map, is_some}
 use Rattle.fuse_spec.specs.Values.Maps.{Map, get}
 use Rattle.fuse_spec.specs.Calls.Paths.{Name}
 use Rattle.fuse_spec.specs.Files.Operations.{lookup, getattr, mkdir, create, unlink, rmdir, rename, link, opening, readdir, readdirplus, read, write, attributes, listed, listed_plus, content, Dirent, DirentPlus}
-use Rattle.fuse_spec.specs.Files.Trees.{Tree, Named, Content, file_at, kind_of, bytes_of, is_kind_directory, is_directory, is_below, is_nameless, record_of, fitting, pair_of, fitting_pairs, is_at, links}
+use Rattle.fuse_spec.specs.Files.Trees.{Tree, Named, Content, file_at, kind_of, file_bytes, is_kind_directory, is_directory, is_below, is_nameless, record_of, fitting, pair_of, fitting_pairs, is_at, links}
 use Rattle.fuse_spec.specs.declared.Validity.{Validity}
 use Rattle.fuse_spec.specs.Files.FileOperations.{FileOperation, making, first_refusal, refusal, reply_by, reply_or, reply_unrefused, tree_after, tree_or, tree_unrefused, renamed, is_same, is_file, is_dir, is_filled, is_moved_below, replaces}
 use Rattle.fuse_spec.specs.Values.Numbers as number
@@ -146,7 +146,7 @@ module _ (tree : Tree) (files : Map Content) where
         → reply_unrefused valid (with_files tree files) operation ≡ reply_unrefused valid tree operation
     unrefused_same valid (lookup d name) h = refl
     unrefused_same valid (getattr file) h = λ i. attributes
-        (record { kind = kind_of (h i); ino = file + 1; size = length (bytes_of (h i)); nlink = links tree file })
+        (record { kind = kind_of (h i); ino = file + 1; size = length (file_bytes (h i)); nlink = links tree file })
     unrefused_same valid (mkdir d name) h = refl
     unrefused_same valid (create d name) h = refl
     unrefused_same valid (unlink d name) h = refl
@@ -164,7 +164,7 @@ module _ (tree : Tree) (files : Map Content) where
         (λ n same. one_pair valid.found_ms n same) (λ n. nat_lt after n.serial)
         (λ n. nat_eq n.directory d) tree.names named)
     unrefused_same valid (read file offset size) h =
-        λ i. content (take (min size number.max_transfer) (drop offset (bytes_of (h i))))
+        λ i. content (take (min size number.max_transfer) (drop offset (file_bytes (h i))))
     unrefused_same valid (write file offset bytes) h = refl
 
     -- The same is replied.

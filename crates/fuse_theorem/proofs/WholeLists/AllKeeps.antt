@@ -10,7 +10,7 @@ use Rattle.fuse_spec.specs.Kernel.Messages.{RequestBody, Request}
 use Rattle.fuse_spec.specs.Kernel.Queues.{QueueState, pending}
 use Rattle.fuse_spec.specs.Kernel.Kernel.{is_live, body_of}
 use Rattle.fuse_spec.specs.Server.Server.{Server, HeldRequest}
-use Rattle.fuse_spec.specs.Claim.Counts.{opens_of_body, ReleaseMeant, HeldLive, IsServable, Held, Keeps, AtRest, Settled}
+use Rattle.fuse_spec.specs.Claim.Counts.{opens_of_body, ReleaseMeant, HeldLive, IsServable, Held, Protocol, AtRest, Settled}
 use Rattle.fuse_spec.specs.World.Worlds.{World}
 use Rattle.fuse_spec.specs.Reference.Plain.{Plain}
 use Rattle.fuse_theorem.specs.AllSound.{AllSound}
@@ -136,7 +136,7 @@ module _ (w : World) (p : Plain) (all : AllSound w p) where
         files = opens_fit w (balanced rest.live).files;
       }
 
-  pub all_keep : Keeps w
+  pub all_keep : Protocol w
   all_keep =
       let world = all.both.world in
       let lookups = world.lookups in

@@ -8,10 +8,10 @@ use Rattle.fuse_spec.specs.World.Events.{Event, Outcome}
 use Rattle.fuse_spec.specs.World.Events as event
 use Rattle.fuse_spec.specs.World.Steps.{Happens, step}
 use Rattle.fuse_spec.specs.Claim.Alike.{Alike}
-use Rattle.fuse_theorem.specs.EachEvent.{CanTake, Needs}
+use Rattle.fuse_theorem.specs.EachEvent.{CanTakeRequest, Needs}
 use Rattle.fuse_theorem.specs.EveryList.{BothSound, ForgetsNothing, NeedsBothAlone}
 use Rattle.fuse_theorem.proofs.WholeLists.EachEvent.{each_moves}
-use Rattle.fuse_theorem.proofs.Refining.First.{first_alike}
+use Rattle.fuse_theorem.proofs.Refining.InitialWorld.{first_alike}
 use Rattle.fuse_theorem.proofs.Nodes.HeldStays.{first_held, held_stay_known}
 use Rattle.fuse_theorem.proofs.Requests.InterruptsNoted.{interrupt_noted}
 use Rattle.fuse_theorem.proofs.Replies.KeptOnLink.{first_kept, kept_stay_sent}
@@ -19,7 +19,7 @@ use Rattle.fuse_theorem.proofs.Requests.LinksSound.{first_links, links_stay}
 use Rattle.fuse_theorem.proofs.Nodes.NodesKnown.{first_known, nodes_stay_known}
 use Rattle.fuse_theorem.proofs.PlainWorld.PlainAsks.{first_served}
 use Rattle.fuse_theorem.proofs.Requests.InterruptedStay.{asks_stay_served}
-use Rattle.fuse_theorem.proofs.Requests.StayAsked.{first_asked, requests_stay_asked}
+use Rattle.fuse_theorem.proofs.Requests.RequestsMatchAsks.{first_asked, requests_stay_asked}
 use Rattle.fuse_theorem.proofs.Nodes.UnsentNodes.{evict_met}
 use Rattle.fuse_theorem.proofs.WholeLists.WorldSound.{first_world_sound, worlds_stay, needs_met}
 use Rattle.fuse_theorem.proofs.Replies.WriteNeeds.{write_met}
@@ -68,7 +68,7 @@ pub both_met : (w : World) (p : Plain) → BothSound w p → (choice : ℕ → �
 both_met w p both choice (event.take k) o after stepped alone = λ r there. takes r there r.body refl (alone r there)
   where
     takes : (r : Request) → slice_get w.requests k ≡ Some r → (body : RequestBody) → r.body ≡ body
-        → ForgetsNothing body → CanTake w p k r body
+        → ForgetsNothing body → CanTakeRequest w p k r body
     takes r there (init flags) is none = tt
     takes r there (asks operation) is none = tt
     takes r there (release x) is none = tt

@@ -6,12 +6,12 @@ use Rattle.fuse_spec.specs.Values.Maps.{Map}
 use Rattle.fuse_spec.specs.Calls.Answers.{Answer}
 use Rattle.fuse_spec.specs.World.Worlds.{World}
 use Rattle.fuse_spec.specs.World.Records.{Record, outcome, refused, answers_of, collected}
-use Rattle.fuse_spec.specs.Claim.Runs.{plain_collected, Accepts, Refuses, Run}
+use Rattle.fuse_spec.specs.Claim.Runs.{plain_collected, Accepts, RefusesEvent, Run}
 use Rattle.fuse_spec.specs.World.Events.{Event, Outcome}
 use Rattle.fuse_spec.specs.World.Steps.{Happens}
 use Rattle.fuse_spec.specs.Reference.Plain.{Plain}
 use Rattle.fuse_spec.specs.Reference.PlainSteps.{Takes}
-use Rattle.fuse_spec.specs.Claim.Counts.{Keeps}
+use Rattle.fuse_spec.specs.Claim.Counts.{Protocol}
 use Rattle.fuse_spec.specs.Claim.Alike.{Alike}
 use Rattle.fuse_theorem.specs.Recorded.{Recorded, none_left, one_refused, one_accepted}
 use Rattle.fuse_theorem.proofs.PlainWorld.PlainWorld.{steps_in_words as in_words}
@@ -23,7 +23,7 @@ pub record KeptBy (Allowed : Event → Type 0) (Sound : World → Plain → Type
       → Happens w e o after → (q : Plain) × Takes p e o q × Sound after q
   pub collecting : (w : World) (p : Plain) → Sound w p → Sound (collected w) (plain_collected p)
   pub alike : (w : World) (p : Plain) → Sound w p → Alike w p
-  pub protocol : (w : World) (p : Plain) → Sound w p → Keeps w
+  pub protocol : (w : World) (p : Plain) → Sound w p → Protocol w
 
 module _ (Allowed : Event → Type 0) (Sound : World → Plain → Type 0) (kept : KeptBy Allowed Sound) where
   -- Where the machine's records lead.
@@ -35,7 +35,7 @@ module _ (Allowed : Event → Type 0) (Sound : World → Plain → Type 0) (kept
   lists_run w p sound events records after allowed (none_left v) = (p, (refl, refl, refl), sound)
   lists_run w p sound events records after allowed (one_refused v event refusal rest more last judged recorded) =
       let run = lists_run w p sound rest more last (All-tail Allowed event rest allowed) recorded in
-      let refuses : Refuses w p event (refused refusal ∷ []) w p =
+      let refuses : RefusesEvent w p event (refused refusal ∷ []) w p =
       record { refusal = refusal; judged = judged; recorded = refl; after = refl; plain_after = refl } in
       (run.0, (refused refusal ∷ [], more, w, p, refl, inr refuses, run.1), run.2)
   lists_run w p sound events records after allowed (one_accepted v event o mid rest more last happens recorded) =

@@ -13,7 +13,7 @@ use Rattle.fuse_theorem.specs.Counterexamples.{with_a_stray_forget, with_a_node_
 use Rattle.fuse_theorem.specs.Lookups.{LookupsSound}
 use Rattle.fuse_theorem.specs.ServerTables.{NodesSound}
 use Rattle.fuse_theorem.specs.WorldSound.{WorldSound}
-use Rattle.fuse_theorem.proofs.Refining.First.{first_alike}
+use Rattle.fuse_theorem.proofs.Refining.InitialWorld.{first_alike}
 use Rattle.fuse_theorem.proofs.Nodes.ServerSound.{first_sound}
 use Rattle.fuse_theorem.proofs.WholeLists.WorldSound.{first_world_sound}
 

@@ -76,7 +76,7 @@ fn output_refused_at_each_byte(rt: HostRuntime) -> Result<(), Fail> {
 }
 
 /// Whether output that is taken and not handed on is refused, of a script and of a frame.
-fn flush_is_heard(alloc: Global) -> bool {
+fn flush_is_received(alloc: Global) -> bool {
     let mut input = STAT_OF_ROOT.script.as_bytes();
     let mut faults = Vec::new(alloc);
     let status = run_script(
@@ -92,7 +92,7 @@ fn flush_is_heard(alloc: Global) -> bool {
 
 #[test]
 fn output_refused_at_the_flush(rt: HostRuntime) -> Result<(), Fail> {
-    assert!(rt; flush_is_heard(rt.alloc()));
+    assert!(rt; flush_is_received(rt.alloc()));
     Ok(())
 }
 

@@ -5,7 +5,7 @@ ghost use Rattle.std.specs.Prelude.{if◌then◌else◌, List, IsTrue, IfErr, On
 ghost use Rattle.std.specs.Vec.{vec_len, vec_capacity};
 ghost use Rattle.fw_world.specs.OverLinks.{RecordedOver, RunsOver, session_of};
 ghost use Rattle.fw_world.specs.Runs.{calls_not_over, events_run};
-ghost use Rattle.fw_world.specs.Values.{event_of, record_of};
+ghost use Rattle.fw_world.specs.Values.{event_of, run_record_of};
 ghost use Rattle.fw_world.specs.declared.record.Record.{Record as RecordValue};
 ghost use Rattle.fw_world.specs.declared.record.Record.TheVariants.{LinkLost};
 
@@ -32,7 +32,7 @@ impl<L: Link + Drop, A: Allocator + Copy> Session<L, A> {
     ) -> Result<(), usize>
         ensures ran { (added : List (RecordValue A)) × (records.new.items ≡ records.old.items ++ added)
             × RunsOver L.carries L.failed (session_of self.old.world self.old.is_lost) self.old.link
-            (map event_of (events_run result events.now)) (map record_of added)
+            (map event_of (events_run result events.now)) (map run_record_of added)
             (session_of self.new.world self.new.is_lost) self.new.link }
         ensures err { IfErr result (λ k. k < length events.now) }
         ensures full { OnErr result (vec_capacity records.old < vec_len records.old
@@ -40,7 +40,7 @@ impl<L: Link + Drop, A: Allocator + Copy> Session<L, A> {
         ensures room { OnErr result (self.old.world.kernel.vfs.answers ≡ [] →
             vec_capacity records.old < vec_len records.old + 66 * length events.now) }
     {
-        self.world.keeps_protocol();
+        self.world.lemma_protocol();
         for (k, event) in events.iter().enumerate() {
             if !self.run_one(event, records) {
                 return Err(k);
@@ -57,12 +57,12 @@ impl<L: Link + Drop, A: Allocator + Copy> Session<L, A> {
             + calls_not_over self.old.world + 2 }
         ensures ran { IsTrue result → (added : List (RecordValue A)) × (records.new.items ≡ records.old.items ++ added)
             × RecordedOver L.carries L.failed (session_of self.old.world self.old.is_lost) self.old.link
-            (event_of event.now ∷ []) (map record_of added) (session_of self.new.world self.new.is_lost) self.new.link }
+            (event_of event.now ∷ []) (map run_record_of added) (session_of self.new.world self.new.is_lost) self.new.link }
         ensures room { IsTrue result →
             vec_len records.new + calls_not_over self.new.world + vec_capacity records.old
             ≤ vec_len records.old + calls_not_over self.old.world + 2 + vec_capacity records.new }
     {
-        self.world.keeps_protocol();
+        self.world.lemma_protocol();
         let Some(room) = most_records(&self.world) else {
             return false;
         };

@@ -10,7 +10,7 @@ ghost use Rattle.fw_world.specs.declared.world.LastPut.TheVariants.{Request};
 ghost use Rattle.fw_world.specs.Frames.{IsShown};
 ghost use Rattle.fw_world.specs.Values.{outcome_of, read_of};
 
-use super::counters::within;
+use super::counters::lemma_in_range;
 use super::refusals::refusal_or_no_memory;
 use super::{LastPut, WorldOf};
 use crate::event::Outcome;
@@ -33,11 +33,11 @@ impl<T: Tables> WorldOf<T> {
         let call = match self.kernel.begin(call) {
             Ok(call) => call,
             Err(refusal) => {
-                within(&self.kernel, &self.server);
+                lemma_in_range(&self.kernel, &self.server);
                 return Err(refusal);
             }
         };
-        within(&self.kernel, &self.server);
+        lemma_in_range(&self.kernel, &self.server);
         Ok(Outcome::Begun { call })
     }
 
@@ -60,12 +60,12 @@ impl<T: Tables> WorldOf<T> {
         ensures happens { IfOk result (λ outcome. Happens self.old event.read_interrupt (outcome_of outcome) self.new) }
         ensures shows { IfOk result (IsShown self.new) }
     {
-        within(&self.kernel, &self.server);
+        lemma_in_range(&self.kernel, &self.server);
         if self.requests.reserve(1).is_err() {
             return Err(refusal_or_no_memory(self.kernel.read_refusal(Pick::Interrupt)));
         }
         let frame = self.kernel.read(Pick::Interrupt)?;
-        within(&self.kernel, &self.server);
+        lemma_in_range(&self.kernel, &self.server);
         Ok(put_read(&mut self.requests, &mut self.last_put, frame))
     }
 
@@ -76,12 +76,12 @@ impl<T: Tables> WorldOf<T> {
             (outcome_of outcome) self.new) }
         ensures shows { IfOk result (IsShown self.new) }
     {
-        within(&self.kernel, &self.server);
+        lemma_in_range(&self.kernel, &self.server);
         if self.requests.reserve(1).is_err() {
             return Err(refusal_or_no_memory(self.kernel.read_refusal(Pick::Pending(place))));
         }
         let frame = self.kernel.read(Pick::Pending(place))?;
-        within(&self.kernel, &self.server);
+        lemma_in_range(&self.kernel, &self.server);
         Ok(put_read(&mut self.requests, &mut self.last_put, frame))
     }
 
@@ -92,12 +92,12 @@ impl<T: Tables> WorldOf<T> {
             (outcome_of outcome) self.new) }
         ensures shows { IfOk result (IsShown self.new) }
     {
-        within(&self.kernel, &self.server);
+        lemma_in_range(&self.kernel, &self.server);
         if self.requests.reserve(1).is_err() {
             return Err(refusal_or_no_memory(self.kernel.read_refusal(Pick::Forgets(count))));
         }
         let frame = self.kernel.read(Pick::Forgets(count))?;
-        within(&self.kernel, &self.server);
+        lemma_in_range(&self.kernel, &self.server);
         Ok(put_read(&mut self.requests, &mut self.last_put, frame))
     }
 
@@ -113,7 +113,7 @@ impl<T: Tables> WorldOf<T> {
         }
         let copy = &self.replies[place];
         if self.results.reserve(1).is_err() {
-            within(&self.kernel, &self.server);
+            lemma_in_range(&self.kernel, &self.server);
             return Err(refusal_or_no_memory(self.kernel.write_refusal(copy.bytes())));
         }
         let number = copy.number();
@@ -121,11 +121,11 @@ impl<T: Tables> WorldOf<T> {
         let written = match self.kernel.write(copy.bytes()) {
             Ok(written) => written,
             Err(refusal) => {
-                within(&self.kernel, &self.server);
+                lemma_in_range(&self.kernel, &self.server);
                 return Err(refusal);
             }
         };
-        within(&self.kernel, &self.server);
+        lemma_in_range(&self.kernel, &self.server);
         let _copy = take_at(&mut self.replies, place);
         self.results.push_back_reserved(ReplyResult {
             number,
@@ -149,7 +149,7 @@ impl<T: Tables> WorldOf<T> {
             Ok(effect) => effect,
             Err(refusal) => return Err(refusal),
         };
-        within(&self.kernel, &self.server);
+        lemma_in_range(&self.kernel, &self.server);
         Ok(Outcome::Interrupted { call, effect })
     }
 

@@ -8,7 +8,7 @@ ghost use Rattle.fs_server.specs.Effects.{AnswersFrame};
 ghost use Rattle.fw_world.specs.Frames.{IsCopyFrame, IsShown};
 ghost use Rattle.fw_world.specs.Values.{outcome_of, refusal_for, with_copy};
 
-use super::counters::within;
+use super::counters::lemma_in_range;
 use super::refusals::refusal_or_no_memory;
 use super::{LastPut, WorldOf};
 use crate::event::Outcome;
@@ -34,18 +34,18 @@ impl<T: Tables> WorldOf<T> {
         }
         let bytes = self.requests[place].bytes();
         if !reserve_answer(&mut self.replies, &self.server, bytes) {
-            within(&self.kernel, &self.server);
+            lemma_in_range(&self.kernel, &self.server);
             return Err(Refusal::NoMemory);
         }
         let took = match self.server.take(bytes) {
             Ok(took) => took,
             Err(fault) => {
-                within(&self.kernel, &self.server);
+                lemma_in_range(&self.kernel, &self.server);
                 return Err(refusal_of(fault));
             }
         };
         let _request = take_at(&mut self.requests, place);
-        within(&self.kernel, &self.server);
+        lemma_in_range(&self.kernel, &self.server);
         self.last_put = reply_put(&took.sent);
         append_if_any(&mut self.replies, took.sent);
         Ok(Outcome::Taken {
@@ -62,17 +62,17 @@ impl<T: Tables> WorldOf<T> {
         ensures shows { IfOk result (IsShown self.new) }
     {
         if self.replies.reserve(1).is_err() {
-            within(&self.kernel, &self.server);
+            lemma_in_range(&self.kernel, &self.server);
             return Err(refusal_or_no_memory(self.server.perform_refusal(unique)));
         }
         let done = match self.server.perform(unique) {
             Ok(done) => done,
             Err(refusal) => {
-                within(&self.kernel, &self.server);
+                lemma_in_range(&self.kernel, &self.server);
                 return Err(refusal);
             }
         };
-        within(&self.kernel, &self.server);
+        lemma_in_range(&self.kernel, &self.server);
         let errno = done.errno;
         let Some(first) = done.sent else {
             return Ok(Outcome::Lost { unique, errno });
@@ -89,17 +89,17 @@ impl<T: Tables> WorldOf<T> {
         ensures shows { IfOk result (IsShown self.new) }
     {
         if self.replies.reserve(1).is_err() {
-            within(&self.kernel, &self.server);
+            lemma_in_range(&self.kernel, &self.server);
             return Err(refusal_or_no_memory(self.server.again_refusal(unique)));
         }
         let copy = match self.server.again(unique) {
             Ok(copy) => copy,
             Err(refusal) => {
-                within(&self.kernel, &self.server);
+                lemma_in_range(&self.kernel, &self.server);
                 return Err(refusal);
             }
         };
-        within(&self.kernel, &self.server);
+        lemma_in_range(&self.kernel, &self.server);
         let len = put_reply(&mut self.replies, copy);
         self.last_put = LastPut::Reply;
         Ok(Outcome::SentAgain { unique, len })

@@ -1,7 +1,7 @@
 use Rattle.std.proofs.Common.{refl, sym, ◌∙◌}
 use Rattle.std.proofs.lemmas.Result.{on_ok_weaker}
 use Rattle.fk_wire.specs.Requests.{opcode_of, request_content, request_message}
-use Rattle.fk_wire.specs.Opcodes.{kind_of}
+use Rattle.fk_wire.specs.Opcodes.{reply_kind_of}
 use Rattle.fk_wire.specs.Replies.{reply_message}
 use Rattle.callers.specs.Answered.{unreplied}
 use Rattle.callers.proofs.Answering.{answered_by, none_there}
@@ -18,5 +18,5 @@ returns-then-has_reply-clause-answered g c =
 pub returns-else-has_reply-clause-answered : goal.returns-else-has_reply-clause-answered
 returns-else-has_reply-clause-answered g c =
     unreplied (request_message c.in_ok-request.request) c.in_ok-request.ensures.ok
-    (none_there (kind_of (opcode_of (request_content c.in_ok-request.request.body)))
+    (none_there (reply_kind_of (opcode_of (request_content c.in_ok-request.request.body)))
     (sym c.if-has_reply.false ∙ c.has_reply.ensures)) refl

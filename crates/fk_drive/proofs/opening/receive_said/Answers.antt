@@ -2,7 +2,7 @@ use Rattle.std.proofs.Common.{List, ℕ, [], ◌∷◌, subst}
 use Rattle.fuse_device.specs.Transfers.{received}
 use Rattle.fk_drive_frames.specs.OwnRequests.{SaysOfOpendir}
 use Rattle.fk_drive.specs.Driven.{driven}
-use Rattle.fk_drive.specs.Driving.{Driven, DrivesOver, Steps, opening}
+use Rattle.fk_drive.specs.Driving.{Driven, DrivesOver, DriveStep, opening}
 use Rattle.fk_drive.specs.Openings.{turn_of}
 use Rattle.fk_drive.proofs.Drivings.{over_same, over_step, over_stopped}
 use Rattle.fk_drive.proofs.opening.receive_said.Goals as goal
@@ -32,7 +32,7 @@ returns-in-Some-clause-drives g c kernel request under =
     c.in-Some.ensures.said in
     over_step g.D.Device.logs g.met.D.Device.goes_on c.args.device.now c.receive_frame.new.device
     (driven kernel c.args.connection.now turn) after (received frame ∷ []) c.in-Ok.ensures.frame
-    (subst (λ (s : Driven). Steps s (received frame ∷ []) after)
+    (subst (λ (s : Driven). DriveStep s (received frame ∷ []) after)
     (c.make_room.ensures.same kernel turn) (c.take_said.ensures kernel request c.args.own frame under says))
 
 pub returns-in-None-clause-drives : goal.returns-in-None-clause-drives
@@ -42,5 +42,5 @@ returns-in-None-clause-drives g c kernel request under =
     over_step g.D.Device.logs g.met.D.Device.goes_on c.args.device.now c.receive_frame.new.device
     (driven kernel c.args.connection.now turn) (driven kernel c.keep.new.self turn) (received frame ∷ [])
     c.in-Ok.ensures.frame
-    (subst (λ (s : Driven). Steps s (received frame ∷ []) (driven kernel c.keep.new.self turn))
+    (subst (λ (s : Driven). DriveStep s (received frame ∷ []) (driven kernel c.keep.new.self turn))
     (c.make_room.ensures.same kernel turn) (c.keep.ensures kernel turn))

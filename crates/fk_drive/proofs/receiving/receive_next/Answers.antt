@@ -1,7 +1,7 @@
 use Rattle.std.proofs.Common.{[], ◌∷◌, subst}
 use Rattle.fuse_device.specs.Transfers.{received}
 use Rattle.fk_drive.specs.Driven.{driven}
-use Rattle.fk_drive.specs.Driving.{Driven, DrivesOver, Steps}
+use Rattle.fk_drive.specs.Driving.{Driven, DrivesOver, DriveStep}
 use Rattle.fk_drive.proofs.Drivings.{over_same, over_step, over_stopped}
 use Rattle.fk_drive.proofs.receiving.receive_next.Goals as goal
 
@@ -24,5 +24,5 @@ returns g c kernel turn =
     over_step g.D.Device.logs g.met.D.Device.goes_on c.args.device.now c.receive_frame.new.device
     (driven kernel c.args.connection.now turn) (driven kernel c.keep.new.self turn) (received frame ∷ [])
     c.in_ok-frame.ensures.frame
-    (subst (λ (s : Driven). Steps s (received frame ∷ []) (driven kernel c.keep.new.self turn))
+    (subst (λ (s : Driven). DriveStep s (received frame ∷ []) (driven kernel c.keep.new.self turn))
     (c.make_room.ensures.same kernel turn) (c.keep.ensures kernel turn))

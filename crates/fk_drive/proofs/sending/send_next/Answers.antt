@@ -1,7 +1,7 @@
 use Rattle.std.proofs.Common.{[], ap, refl, subst, sym}
 use Rattle.fuse_spec.specs.Kernel.Kernel.{Kernel}
 use Rattle.fk_drive.specs.Driven.{driven}
-use Rattle.fk_drive.specs.Driving.{Steps, idle, picked, reads}
+use Rattle.fk_drive.specs.Driving.{DriveStep, idle, picked, reads}
 use Rattle.fk_drive.proofs.Drivings.{over_on, over_same, over_step}
 use Rattle.fk_drive.proofs.Requests.{says_of}
 use Rattle.fk_drive.proofs.sending.send_next.Goals as goal
@@ -22,7 +22,7 @@ returns-in-Ok-send_read g c =
     let frame = c.in-Ok.frame in
     let says = says_of c.written_is_spelled.ensures c.bytes.result.now frame c.bytes.ensures in
     let (turn, done, over) = c.in-Ok-send_read.ensures frame says (sym c.head-unique.ensures.unique) in
-    let step = subst (λ (k : Kernel). Steps (driven first connection idle) [] (driven k connection (picked frame)))
+    let step = subst (λ (k : Kernel). DriveStep (driven first connection idle) [] (driven k connection (picked frame)))
     (sym c.in-Ok.ensures.read) (reads refl c.args.pick c.in-Ok.ensures.judged frame c.in-Ok.ensures.frame) in (
       turn,
       done,
@@ -41,7 +41,7 @@ returns-in-Err-send_read g c =
     let frame = c.in-Ok.frame in
     let says = says_of c.written_is_spelled.ensures c.bytes.result.now frame c.bytes.ensures in
     let (turn, done, over) = c.in-Err-send_read.ensures frame says (sym c.head-unique.ensures.unique) in
-    let step = subst (λ (k : Kernel). Steps (driven first connection idle) [] (driven k connection (picked frame)))
+    let step = subst (λ (k : Kernel). DriveStep (driven first connection idle) [] (driven k connection (picked frame)))
     (sym c.in-Ok.ensures.read) (reads refl c.args.pick c.in-Ok.ensures.judged frame c.in-Ok.ensures.frame) in (
       turn,
       tt,

@@ -4,7 +4,7 @@ use Rattle.fuse_spec.specs.Values.Maps.{NameMap}
 use Rattle.fuse_spec.specs.Files.Operations.{DirentPlus}
 use Rattle.fuse_spec.specs.declared.Binding.{Binding}
 use Rattle.fuse_spec.specs.declared.Entry.{Entry}
-use Rattle.fk_nodes.specs.ListedFiles.{pairs_in, HaveNameRoom, names_judged}
+use Rattle.fk_nodes.specs.ListedFiles.{pairs_left_in, HaveNameRoom, names_judged}
 use Rattle.fk_nodes.proofs.Rooms.{kept_rooms}
 use Rattle.fk_nodes.proofs.listed.bind_listed.Goals as goal
 
@@ -14,7 +14,7 @@ loop-pair-preserved g c =
     let clock = c.args.clock in
     let directory = c.args.directory in
     let nodes = c.args.nodes.now in
-    let rest = pairs_in c.next.new.self in
+    let rest = pairs_left_in c.next.new.self in
     let rooms = subst (HaveNameRoom c.loop-pair.names directory) left c.loop-pair.invariant.room in
     record {
       bound =

@@ -11,7 +11,7 @@ returns-then-count_one-clause-len g c =
     let entry = c.in-Some.entry in
     let new : is_none (get m entry.nodeid) ≡ true = sym c.count_one.ensures.new ∙ c.if-count_one.true in
     rw c.count_one.ensures.counted
-    (ap (λ n. n + 1) c.requires.len ∙ one_more_by m entry c.keeps_sound.ensures.sorted new)
+    (ap (λ n. n + 1) c.requires.len ∙ one_more_by m entry c.lemma_sound.ensures.sorted new)
 
 pub returns-clause-len : goal.returns-clause-len
 returns-clause-len g c =
@@ -19,4 +19,4 @@ returns-clause-len g c =
     let entry = c.in-Some.entry in
     let known : is_none (get m entry.nodeid) ≡ false = sym c.count_one.ensures.new ∙ c.if-count_one.false in
     rw c.count_one.ensures.counted
-    (c.requires.len ∙ as_many_by m entry (use_counted entry (get m entry.nodeid)) c.keeps_sound.ensures.sorted known)
+    (c.requires.len ∙ as_many_by m entry (use_counted entry (get m entry.nodeid)) c.lemma_sound.ensures.sorted known)

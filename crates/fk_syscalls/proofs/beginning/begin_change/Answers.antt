@@ -8,4 +8,4 @@ returns-in-Ok-clause-wanting g c = rw (
   c.in-Ok.ensures.parts
       (λ words name. sets_out words (last (changes c.args.change name))),
   ← c.of_name.ensures.operation,
-) c.set_out.ensures.wanting
+) c.start_walk.ensures.wanting

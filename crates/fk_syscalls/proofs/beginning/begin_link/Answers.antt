@@ -8,4 +8,4 @@ returns-clause-wanting g c = rw (
   c.in-Ok.ensures.words,
   c.in-Ok-parent_of.ensures.parts (λ more name. sets_out (words_from c.args.old.now c.in-Ok.at)
       (link more name)),
-) c.set_out.ensures.wanting
+) c.start_walk.ensures.wanting

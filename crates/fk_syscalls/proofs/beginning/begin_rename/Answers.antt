@@ -11,4 +11,4 @@ returns-clause-wanting g c =
           (λ more to. sets_out words (rename from more to))),
       c.in-Ok-parent_of.ensures.parts (λ more to. sets_out (words_from from.words.now from.at)
           (rename from.name.now more to)),
-    ) c.set_out.ensures.wanting
+    ) c.start_walk.ensures.wanting

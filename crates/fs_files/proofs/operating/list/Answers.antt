@@ -8,7 +8,7 @@ record_bytes-requires g c =
     let births = c.births_left-births.ensures in
     let says : Lists c.args.with_files c.args.tree.now c.args.directory c.args.after c.args.size c.deref.result.now =
     rw c.deref.ensures.value c.in-Ok.ensures in
-    low_names c.args.tree.now c.args.directory c.args.after c.args.size c.keeps_shape.ensures (omega (arith, births))
+    low_names c.args.tree.now c.args.directory c.args.after c.args.size c.lemma_shaped.ensures (omega (arith, births))
     c.args.with_files c.deref.result.now says
 
 pub returns-then-with_files : goal.returns-then-with_files
@@ -17,7 +17,7 @@ returns-then-with_files g c v =
     let says : Lists c.args.with_files c.args.tree.now c.args.directory c.args.after c.args.size c.deref.result.now =
     rw c.deref.ensures.value c.in-Ok.ensures in
     let records = c.in_ok-records.ensures in
-    lists_files c.args.tree.now c.args.directory c.args.after c.args.size c.keeps_shape.ensures (omega (arith, births))
+    lists_files c.args.tree.now c.args.directory c.args.after c.args.size c.lemma_shaped.ensures (omega (arith, births))
     c.deref.result.now c.in_ok-records.records records.named records.fits records.items v c.args.with_files
     c.if-with_files.true says
 
@@ -27,6 +27,6 @@ returns g c v =
     let says : Lists c.args.with_files c.args.tree.now c.args.directory c.args.after c.args.size c.deref.result.now =
     rw c.deref.ensures.value c.in-Ok.ensures in
     let records = c.in_ok-records.ensures in
-    lists_names c.args.tree.now c.args.directory c.args.after c.args.size c.keeps_shape.ensures (omega (arith, births))
+    lists_names c.args.tree.now c.args.directory c.args.after c.args.size c.lemma_shaped.ensures (omega (arith, births))
     c.deref.result.now c.in_ok-records.records records.named records.fits records.items v c.args.with_files
     c.if-with_files.false says

@@ -23,7 +23,7 @@ returns-in-Open-clause-ok g c =
     let t = c.args.nodes.now.table in
     rw (c.file_of-file.ensures, c.header_node.ensures, c.in-Open.is)
     (opens c.args.validity c.args.tree.now _
-    (file_there c.args.tree.now t c.keeps_shape.ensures c.requires.there c.in-Open.node)
+    (file_there c.args.tree.now t c.lemma_shaped.ensures c.requires.there c.in-Open.node)
     (rw c.in-Open.is at c.requires.unrefused))
 
 pub returns-in-Unlink-clause-ok : goal.returns-in-Unlink-clause-ok

@@ -10,4 +10,4 @@ send_untaken-requires-clause-wants g c = c.requires.wants c.in-Memory.is
 pub returns-in_default : goal.returns-in_default
 returns-in_default g c =
     let (log, logs, sends, ends) = c.send_fault.ensures in
-    (log, logs, refused c.args.fault c.requires.refused c.in_default.not-Memory c.within.ensures log sends, ends)
+    (log, logs, refused c.args.fault c.requires.refused c.in_default.not-Memory c.lemma_in_range.ensures log sends, ends)

@@ -1,6 +1,6 @@
 use Rattle.std.proofs.Common.{[], refl, sym, subst}
 use Rattle.fuse_spec.specs.Server.Server.{Server}
-use Rattle.fs_server.specs.Effects.{CanTake, RefusesFrame, WantsMemory}
+use Rattle.fs_server.specs.Effects.{CanTake, RefusesFrame, TakingNeedsMemory}
 use Rattle.fs_serve.specs.Serving.{ServesFrame}
 use Rattle.fs_serve.proofs.Servings.{serves_at_once, serves_silently, serves_performed}
 use Rattle.fs_serve.proofs.serving.serve_frame.Goals as goal
@@ -20,7 +20,7 @@ refuse-requires-clause-can g c memory =
 
 pub refuse-requires-clause-wants : goal.refuse-requires-clause-wants
 refuse-requires-clause-wants g c memory =
-    subst (λ (s : Server). WantsMemory s c.args.frame.now) (sym c.in-Err.ensures.refused) (c.in-Err.ensures.memory memory)
+    subst (λ (s : Server). TakingNeedsMemory s c.args.frame.now) (sym c.in-Err.ensures.refused) (c.in-Err.ensures.memory memory)
 
 pub returns-in-Some : goal.returns-in-Some
 returns-in-Some g c =

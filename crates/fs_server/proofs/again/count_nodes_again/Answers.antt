@@ -23,7 +23,7 @@ loop-entry-preserved g c =
     let one = c.count_again.ensures in
     let before = c.loop-entry.invariant in (
       counted_on t n entries at c.loop-entry-test.true _ one.nodes before.0,
-      within_on t n entries at c.loop-entry-test.true c.keeps_sound.ensures one.nodes before.1,
+      within_on t n entries at c.loop-entry-test.true c.lemma_sound.ensures one.nodes before.1,
       one.tree ∙ before.2,
       one.handles ∙ before.3,
     )

@@ -3,7 +3,7 @@ use Rattle.std.proofs.Common.{length-append, length-drop}
 use Rattle.std.proofs.lemmas.List.{length-take-le}
 use Rattle.std.proofs.KnownBytes.{Consumes-trans}
 use Rattle.std.specs.Io.KnownBytes.{Consumes}
-use Rattle.fuse_device.specs.Streamed.{IsWhole}
+use Rattle.fuse_device.specs.Streamed.{IsWholeFrame}
 use Rattle.fuse_device.proofs.Frames.{frame_read, frame_whole, part_no_frame}
 use Rattle.fuse_device.proofs.stream.read_frame.Goals as goal
 
@@ -35,7 +35,7 @@ returns-in-Ok-clause-frame g c =
     let within : len ≤ length room = room_kept head room len four most c.if-room-len.false in
     let rest : length body ≡ len - 4 = c.fill-2.auto.room ∙ body_room head room len four most within in
     let read = frame_read head (drop 4 room) body len four long rest in (
-      subst (IsWhole c.args.cut.least) (sym read)
+      subst (IsWholeFrame c.args.cut.least) (sym read)
           (frame_whole c.args.cut.least head (drop 4 room) body len four c.read_u32-len.ensures least rest long),
       subst (λ (l : List ℕ). Consumes (g.R.Read.remaining c.args.from.now) (g.R.Read.remaining c.fill-2.new.from) l) (sym read)
           (Consumes-trans _ _ _ _ _ c.in_ok-fill.ensures.ok c.in-Ok.ensures.ok),

@@ -4,7 +4,7 @@ use Rattle.fuse_spec.specs.World.Events as event
 use Rattle.fuse_spec.specs.World.Steps.{Stepped}
 use Rattle.fuse_spec.specs.Reference.Plain.{Plain, first_plain}
 use Rattle.fuse_spec.specs.World.Records.{Record, outcome, refused}
-use Rattle.fuse_spec.specs.Claim.Runs.{Accepts, Refuses}
+use Rattle.fuse_spec.specs.Claim.Runs.{Accepts, RefusesEvent}
 use Rattle.fuse_spec.specs.World.Worlds.{World, first_world, after_tick}
 use Rattle.fuse_theorem.specs.Counterexamples.{a_millisecond_later}
 use Rattle.fuse_theorem.specs.Recorded.{none_left, one_accepted}
@@ -29,7 +29,7 @@ accepted first mid plain same a =
 
 -- And the record is no refusal.
 refused_so : (first rest : List Record) (mid : World) (plain : Plain) → outcome (event.now 1) ∷ [] ≡ first ++ rest
-    → Refuses a_millisecond_later first_plain (event.tick 1) first mid plain → ⊥
+    → RefusesEvent a_millisecond_later first_plain (event.tick 1) first mid plain → ⊥
 refused_so first rest mid plain records r = let both : outcome (event.now 1) ∷ [] ≡ refused r.refusal ∷ rest =
     records ∙ ap (λ (xs : List Record). xs ++ rest) r.recorded in cc (both)
 

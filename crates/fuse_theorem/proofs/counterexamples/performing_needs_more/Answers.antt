@@ -4,7 +4,7 @@ use Rattle.fuse_spec.specs.Files.Operations.{getattr}
 use Rattle.fuse_spec.specs.Reference.Plain.{first_plain}
 use Rattle.fuse_spec.specs.Server.Server.{HeldRequest}
 use Rattle.fuse_theorem.specs.Counterexamples.{with_a_late_request}
-use Rattle.fuse_theorem.specs.EachEvent.{CanServe, performs, performs_unheard, declines, initiates, releases}
+use Rattle.fuse_theorem.specs.EachEvent.{CanServe, performs, performs_unreceived, declines, initiates, releases}
 use Rattle.fuse_theorem.proofs.WholeLists.NoPremise.{stray_sound}
 use Rattle.fuse_theorem.proofs.counterexamples.performing_needs_more.Goals as goal
 
@@ -13,7 +13,7 @@ late = record { body = asks (getattr 2); generations = (2, 1) ∷ []; marked = f
 
 none_serves : (choice : ℕ → ℕ) → CanServe choice with_a_late_request first_plain 2 late → ⊥
 none_serves choice (performs operation can aborted tables one known may) = true≢false (sym can.still)
-none_serves choice (performs_unheard operation can aborted one) = true≢false (sym can.still)
+none_serves choice (performs_unreceived operation can aborted one) = true≢false (sym can.still)
 none_serves choice (declines operation can) = true≢false (sym can.marked)
 none_serves choice (initiates flags body unmarked still) = cc (body)
 none_serves choice (releases o can one held opens) = cc (can.body_is)

@@ -1,4 +1,4 @@
-use Rattle.fuse_theorem.proofs.Requests.StayAsked.{first_asked, requests_stay_asked}
+use Rattle.fuse_theorem.proofs.Requests.RequestsMatchAsks.{first_asked, requests_stay_asked}
 use Rattle.fuse_theorem.proofs.Nodes.UnsentNodes.{evict_met}
 use Rattle.fuse_theorem.proofs.every_list.requests_stay_asked.Goals as goal
 

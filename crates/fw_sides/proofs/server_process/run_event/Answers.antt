@@ -1,5 +1,5 @@
 use Rattle.std.proofs.Common.{sym, subst}
-use Rattle.fw_sides.specs.ServerRuns.{Happens, accepted, refused}
+use Rattle.fw_sides.specs.ServerRuns.{ServerHappens, accepted, refused}
 use Rattle.fw_sides.proofs.Outputs.{whatever}
 use Rattle.fw_sides.proofs.server_process.run_event.Goals as goal
 
@@ -9,5 +9,5 @@ returns-in-Ok g c = whatever c.print_server_step.result
 
 pub returns-in-Err : goal.returns-in-Err
 returns-in-Err g c = whatever c.print_server_refused.result
-    (subst (Happens g.row.A.Denot c.args.server.now c.args.event.now) (sym c.in-Err.ensures.err)
+    (subst (ServerHappens g.row.A.Denot c.args.server.now c.args.event.now) (sym c.in-Err.ensures.err)
     (refused c.in-Err.refused c.in-Err.ensures.refused))

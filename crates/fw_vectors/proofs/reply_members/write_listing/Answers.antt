@@ -1,7 +1,7 @@
 use Rattle.std.specs.Prelude.{codes}
 use Rattle.fk_wire.specs.Records.{records_in}
 use Rattle.fw_frames.proofs.Writes.{Appends-three, OnOk-map}
-use Rattle.fw_vectors.specs.Members.{dirent_object, listed}
+use Rattle.fw_vectors.specs.Members.{dirent_object, comma_list}
 use Rattle.fw_vectors.proofs.reply_members.write_listing.Goals as goal
 
 pub returns : goal.returns
@@ -9,5 +9,5 @@ returns g c =
     let now = g.W.Write.contents in
     OnOk-map _ _ c.write_all-2.result (λ wrote. Appends-three (now c.args.out.now) (now c.write_all.new.self)
     (now c.write_records.new.out) (now c.write_all-2.new.self) (codes "\"records\":[")
-    (listed dirent_object (records_in c.args.records)) (codes "]")
+    (comma_list dirent_object (records_in c.args.records)) (codes "]")
     c.in_ok-write_all.ensures.bytes c.in_ok-write_records.ensures wrote) c.write_all-2.ensures.bytes

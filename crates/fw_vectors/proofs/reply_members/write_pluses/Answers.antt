@@ -3,7 +3,7 @@ use Rattle.std.specs.Prelude.{flat_map}
 use Rattle.std.specs.Io.KnownBytes.{Appends}
 use Rattle.fk_wire.specs.Records.{direntplus_content, pluses_in}
 use Rattle.fw_frames.proofs.Writes.{Appends-append, OnOk-map}
-use Rattle.fw_vectors.specs.Members.{direntplus_object, further, listed}
+use Rattle.fw_vectors.specs.Members.{direntplus_object, further, comma_list}
 use Rattle.fw_vectors.proofs.reply_members.write_pluses.Goals as goal
 
 pub returns : goal.returns

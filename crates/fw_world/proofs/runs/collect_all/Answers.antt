@@ -4,7 +4,7 @@ use Rattle.fw_world.proofs.Collecting.{none_yet, collects_one, collects_all}
 use Rattle.fw_world.proofs.runs.collect_all.Goals as goal
 
 pub loop-call-init : goal.loop-call-init
-loop-call-init g c = (none_yet c.args.world.now c.args.records.now.items c.keeps_protocol.ensures.sound.sound.both.world.rooted.answers, c.requires, refl, omega (arith))
+loop-call-init g c = (none_yet c.args.world.now c.args.records.now.items c.lemma_protocol.ensures.sound.sound.both.world.rooted.answers, c.requires, refl, omega (arith))
 
 pub loop-call-smaller : goal.loop-call-smaller
 loop-call-smaller g c =

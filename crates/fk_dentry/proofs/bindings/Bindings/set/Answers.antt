@@ -1,9 +1,9 @@
 use Rattle.std.proofs.Common.{◌+◌, ◌≡◌, ◌≤◌, ℕ, ap, sym, subst, ◌∙◌, arith, Some, Option, length, is_some}
 use Rattle.fuse_spec.specs.declared.Binding.{Binding}
 use Rattle.fuse_spec.specs.Values.Maps.{Place, get_name}
-use Rattle.fk_dentry.specs.Counts.{count_in, total_in}
+use Rattle.fk_dentry.specs.Counts.{mentions_of, total_in}
 use Rattle.fk_dentry.specs.Named.{times, named, named_by}
-use Rattle.fk_dentry.specs.Rows.{slots_of, names_in, IsTable}
+use Rattle.fk_dentry.specs.Rows.{slots_of, bound_names, IsNameTable}
 use Rattle.fk_dentry.proofs.BoundNames.{names-put, room-put}
 use Rattle.fk_dentry.proofs.TableLemmas.{bound_among, room_bound, table-with}
 use Rattle.fk_dentry.proofs.bindings.Bindings.set.Goals as goal
@@ -15,7 +15,7 @@ pub replace-requires-clause-named : goal.replace-requires-clause-named
 replace-requires-clause-named g c = λ q.
     let key : Place = (c.args.directory, c.args.name.now) in
     subst (λ (b : Option Binding). times q
-    (named_by c.args.directory b) ≤ count_in c.self.inside.nodes.counts.entries q) (sym c.bind-old.ensures.old)
+    (named_by c.args.directory b) ≤ mentions_of c.self.inside.nodes.counts.entries q) (sym c.bind-old.ensures.old)
     (bound_among key c.self.invariant q)
 
 pub replace-requires-clause-room : goal.replace-requires-clause-room
@@ -35,20 +35,20 @@ invariant_of-self g c =
     let nodes = c.replace.new.self in
     let target = c.args.binding.target in
     let count = subst (λ (b : Option Binding). (q : ℕ)
-    → count_in nodes.counts.entries q + times q (named_by c.args.directory b)
-    ≡ count_in counts q + times q (named c.args.directory target)) old c.replace.ensures.count in
+    → mentions_of nodes.counts.entries q + times q (named_by c.args.directory b)
+    ≡ mentions_of counts q + times q (named c.args.directory target)) old c.replace.ensures.count in
     let total = subst (λ (b : Option Binding). total_in nodes.counts.entries + length (named_by c.args.directory b)
     ≡ total_in counts + length (named c.args.directory target)) old c.replace.ensures.total in
     let most = c.replace.ensures.most in
-    let table = table-with key c.self.invariant there c.args.binding (count_in nodes.counts.entries)
+    let table = table-with key c.self.invariant there c.args.binding (mentions_of nodes.counts.entries)
     (total_in nodes.counts.entries) nodes.most count total (omega (arith, most)) in
-    subst (λ s. IsTable s (count_in nodes.counts.entries) (total_in nodes.counts.entries) nodes.most)
+    subst (λ s. IsNameTable s (mentions_of nodes.counts.entries) (total_in nodes.counts.entries) nodes.most)
     (sym c.bind-old.ensures.slots) table
 
 pub returns-clause-names : goal.returns-clause-names
 returns-clause-names g c =
     let key : Place = (c.args.directory, c.args.name.now) in
-    rw (← c.self.view_is) (ap names_in c.bind-old.ensures.slots ∙ names-put
+    rw (← c.self.view_is) (ap bound_names c.bind-old.ensures.slots ∙ names-put
     (slots_of c.self.inside.rows.entries) key c.args.binding c.self.invariant.sorted)
 
 pub returns-clause-kept : goal.returns-clause-kept

@@ -1,9 +1,9 @@
 use Rattle.std.proofs.Common.{◌≡◌, ◌+◌, ◌≤◌, ℕ, ap, sym, subst, ◌∙◌, arith, Option, length, is_some}
 use Rattle.fuse_spec.specs.declared.Binding.{Binding}
 use Rattle.fuse_spec.specs.Values.Maps.{Place, get_name}
-use Rattle.fk_dentry.specs.Counts.{count_in, total_in}
+use Rattle.fk_dentry.specs.Counts.{mentions_of, total_in}
 use Rattle.fk_dentry.specs.Named.{times, named_by}
-use Rattle.fk_dentry.specs.Rows.{slots_of, names_in, IsTable}
+use Rattle.fk_dentry.specs.Rows.{slots_of, bound_names, IsNameTable}
 use Rattle.fk_dentry.proofs.BoundNames.{get-names, names-remove, room-remove}
 use Rattle.fk_dentry.proofs.TableLemmas.{bound_among, table-without}
 use Rattle.fk_dentry.proofs.bindings.Bindings.take_out.Goals as goal
@@ -12,7 +12,7 @@ pub leave-requires : goal.leave-requires
 leave-requires g c = λ q.
     let key : Place = (c.args.directory, c.args.name.now) in
     subst (λ (b : Option Binding). times q
-    (named_by c.args.directory b) ≤ count_in c.self.inside.nodes.counts.entries q)
+    (named_by c.args.directory b) ≤ mentions_of c.self.inside.nodes.counts.entries q)
     (sym c.take_out-binding.ensures.binding)
     (bound_among key c.self.invariant q)
 
@@ -24,14 +24,14 @@ invariant_of-self g c =
     let counts = c.self.inside.nodes.counts.entries in
     let nodes = c.leave.new.self in
     let gone = subst (λ (b : Option Binding). (q : ℕ)
-    → count_in nodes.counts.entries q + times q (named_by c.args.directory b)
-    ≡ count_in counts q) binding c.leave.ensures.count in
+    → mentions_of nodes.counts.entries q + times q (named_by c.args.directory b)
+    ≡ mentions_of counts q) binding c.leave.ensures.count in
     let fewer = subst (λ (b : Option Binding). total_in nodes.counts.entries + length (named_by c.args.directory b)
     ≡ total_in counts) binding c.leave.ensures.total in
     let most = c.leave.ensures.most in
-    let table = table-without key c.self.invariant (count_in nodes.counts.entries)
+    let table = table-without key c.self.invariant (mentions_of nodes.counts.entries)
     (total_in nodes.counts.entries) nodes.most gone fewer (omega (arith, most)) in
-    subst (λ s. IsTable s (count_in nodes.counts.entries) (total_in nodes.counts.entries) nodes.most)
+    subst (λ s. IsNameTable s (mentions_of nodes.counts.entries) (total_in nodes.counts.entries) nodes.most)
     (sym c.take_out-binding.ensures.slots) table
 
 pub returns-clause-bound : goal.returns-clause-bound
@@ -43,7 +43,7 @@ returns-clause-bound g c =
 pub returns-clause-names : goal.returns-clause-names
 returns-clause-names g c =
     let key : Place = (c.args.directory, c.args.name.now) in
-    rw (← c.self.view_is) (ap names_in c.take_out-binding.ensures.slots ∙ names-remove
+    rw (← c.self.view_is) (ap bound_names c.take_out-binding.ensures.slots ∙ names-remove
     (slots_of c.self.inside.rows.entries) key)
 
 pub returns-clause-kept : goal.returns-clause-kept

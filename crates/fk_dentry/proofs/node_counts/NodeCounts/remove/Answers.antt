@@ -1,7 +1,7 @@
 use Rattle.std.proofs.Common.{◌≡◌, ◌+◌, true, None, sym, ap, ◌∙◌, arith, cond, nat_eq}
 use Rattle.std.specs.Map.{lookup}
 use Rattle.std.specs.Option.{option_copied_mut}
-use Rattle.fk_dentry.specs.Counts.{count_in, total_in}
+use Rattle.fk_dentry.specs.Counts.{mentions_of, total_in}
 use Rattle.fk_dentry.proofs.Counts.{weight-less, weight-none, weight-some}
 use Rattle.fk_dentry.proofs.node_counts.NodeCounts.remove.Goals as goal
 
@@ -16,7 +16,7 @@ returns-in-Some-clause-count g c = λ q.
     let counts = c.args.self.now.counts.entries in
     let wrote = c.get_mut.follows.holds _ in
     let is = weight-some counts c.args.id _ c.get_mut.ensures.unique (sym c.in-Some.ensures.value) in
-    ap (λ es. count_in es q + cond (nat_eq q c.args.id) 1 0) wrote.0 ∙ weight-less (nat_eq q) counts c.args.id _
+    ap (λ es. mentions_of es q + cond (nat_eq q c.args.id) 1 0) wrote.0 ∙ weight-less (nat_eq q) counts c.args.id _
     (omega (arith, is, c.requires)) (sym c.in-Some.ensures.value)
 
 pub returns-in-Some-clause-total : goal.returns-in-Some-clause-total

@@ -1,6 +1,6 @@
 use Rattle.std.proofs.Common.{length, ◌≤◌, ◌<◌, refl, arith}
 use Rattle.fk_kernel.proofs.Sound.{gone_absent, sound_begun_answered}
-use Rattle.fk_kernel.proofs.Files.{numbered_files}
+use Rattle.fk_kernel.proofs.OpenFilesKept.{numbered_files}
 use Rattle.fk_kernel.proofs.kernel.KernelOf.begin_answered.Goals as goal
 
 pub invariant_of-self-2 : goal.invariant_of-self-2

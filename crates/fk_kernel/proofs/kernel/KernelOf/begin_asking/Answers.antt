@@ -4,7 +4,7 @@ use Rattle.fuse_spec.specs.Kernel.Refusals.{is_ready}
 use Rattle.fk_kernel.proofs.Phases.{live_if}
 use Rattle.fk_kernel.proofs.Sound.{sound_begun_asking}
 use Rattle.fk_kernel.proofs.Nodes.{still_counted, sorted_put}
-use Rattle.fk_kernel.proofs.Files.{asking_files}
+use Rattle.fk_kernel.proofs.OpenFilesKept.{asking_files}
 use Rattle.fk_kernel.proofs.kernel.KernelOf.begin_asking.Goals as goal
 
 pub invariant_of-self-2 : goal.invariant_of-self-2

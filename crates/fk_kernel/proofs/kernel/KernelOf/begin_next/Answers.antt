@@ -7,8 +7,8 @@ use Rattle.fuse_spec.specs.Kernel.Refusals.{or_no_memory}
 use Rattle.fk_kernel.proofs.Beginnings.{plain_begun, aborted_begun, no_close, asks_refusal, answered_unrefused, refused_alike, if_ok}
 use Rattle.fk_kernel.proofs.kernel.KernelOf.begin_next.Goals as goal
 
-pub set_out-requires-clause-closes_none : goal.set_out-requires-clause-closes_none
-set_out-requires-clause-closes_none g c = no_close c.args.call.now c.in_default.not-Close
+pub start_walk-requires-clause-closes_none : goal.start_walk-requires-clause-closes_none
+start_walk-requires-clause-closes_none g c = no_close c.args.call.now c.in_default.not-Close
 
 pub returns-in-Ask-clause-refusal : goal.returns-in-Ask-clause-refusal
 returns-in-Ask-clause-refusal g c =
@@ -20,7 +20,7 @@ returns-in-Ask-clause-refusal g c =
 pub returns-then-is_aborted-clause-refusal : goal.returns-then-is_aborted-clause-refusal
 returns-then-is_aborted-clause-refusal g c =
     let k = c.args.self.now in
-    let high : k.queues.next ≤ 2 ^ 62 = rw (← c.self.view_is) c.keeps_sound.ensures.sound.next.high in
+    let high : k.queues.next ≤ 2 ^ 62 = rw (← c.self.view_is) c.lemma_sound.ensures.sound.next.high in
     let aborted : is_aborted k.phase ≡ true = sym c.is_aborted.ensures ∙ c.if-is_aborted.true in
     let ends = ap (λ (b : Bool). begun b k.vfs (call_of c.args.call.now)) aborted in
     refused_alike c.begin_answered.result (ap or_no_memory
@@ -30,7 +30,7 @@ returns-then-is_aborted-clause-refusal g c =
 pub returns-then-is_aborted-clause-judged : goal.returns-then-is_aborted-clause-judged
 returns-then-is_aborted-clause-judged g c =
     let k = c.args.self.now in
-    let high : k.queues.next ≤ 2 ^ 62 = rw (← c.self.view_is) c.keeps_sound.ensures.sound.next.high in
+    let high : k.queues.next ≤ 2 ^ 62 = rw (← c.self.view_is) c.lemma_sound.ensures.sound.next.high in
     let aborted : is_aborted k.phase ≡ true = sym c.is_aborted.ensures ∙ c.if-is_aborted.true in
     let ends = ap (λ (b : Bool). begun b k.vfs (call_of c.args.call.now)) aborted in
     if_ok c.begin_answered.result (answered_unrefused k c.args.call.now (aborted_begun k c.args.call.now aborted)
@@ -39,7 +39,7 @@ returns-then-is_aborted-clause-judged g c =
 pub returns-in-Answer-clause-refusal : goal.returns-in-Answer-clause-refusal
 returns-in-Answer-clause-refusal g c =
     let k = c.args.self.now in
-    let high : k.queues.next ≤ 2 ^ 62 = rw (← c.self.view_is) c.keeps_sound.ensures.sound.next.high in
+    let high : k.queues.next ≤ 2 ^ 62 = rw (← c.self.view_is) c.lemma_sound.ensures.sound.next.high in
     let ends = rw c.in-Answer.is at c.in_ok-errno.ensures.begun in
     refused_alike c.begin_answered-in-Answer.result
     (ap or_no_memory (answered_unrefused k c.args.call.now
@@ -49,7 +49,7 @@ returns-in-Answer-clause-refusal g c =
 pub returns-in-Answer-clause-judged : goal.returns-in-Answer-clause-judged
 returns-in-Answer-clause-judged g c =
     let k = c.args.self.now in
-    let high : k.queues.next ≤ 2 ^ 62 = rw (← c.self.view_is) c.keeps_sound.ensures.sound.next.high in
+    let high : k.queues.next ≤ 2 ^ 62 = rw (← c.self.view_is) c.lemma_sound.ensures.sound.next.high in
     let ends = rw c.in-Answer.is at c.in_ok-errno.ensures.begun in
     if_ok c.begin_answered-in-Answer.result (answered_unrefused k c.args.call.now
     (plain_begun k c.args.call.now (no_close c.args.call.now c.in_default.not-Close))

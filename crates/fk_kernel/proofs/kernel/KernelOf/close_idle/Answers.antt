@@ -3,7 +3,7 @@ use Rattle.fuse_spec.specs.declared.Refusal.TheVariants.{NoMemory, Exhausted}
 use Rattle.fuse_spec.specs.Values.Maps.{get}
 use Rattle.fuse_spec.specs.Kernel.Uniques.{numbers_left_from}
 use Rattle.fk_kernel.proofs.Closes.{closes_idle, idle_refusal}
-use Rattle.fk_kernel.proofs.Files.{some_not_none, shut_files, numbered_files}
+use Rattle.fk_kernel.proofs.OpenFilesKept.{some_not_none, shut_files, numbered_files}
 use Rattle.fk_kernel.proofs.Nodes.{still_counted}
 use Rattle.fk_kernel.proofs.Sound.{sound_begun_answered, gone_absent}
 use Rattle.fk_kernel.proofs.kernel.KernelOf.close_idle.Goals as goal

@@ -3,7 +3,7 @@ use Rattle.std.proofs.lemmas.Result.{err_from_is_err_and}
 use Rattle.fuse_spec.specs.Values.Maps.{get}
 use Rattle.fuse_spec.specs.Kernel.Refusals.{or_no_memory}
 use Rattle.fk_kernel.proofs.Closes.{closes_in_use, used_unrefused}
-use Rattle.fk_kernel.proofs.Files.{some_not_none, closed_files, numbered_files}
+use Rattle.fk_kernel.proofs.OpenFilesKept.{some_not_none, closed_files, numbered_files}
 use Rattle.fk_kernel.proofs.Nodes.{still_counted}
 use Rattle.fk_kernel.proofs.Sound.{sound_begun_answered, gone_absent, length_put}
 use Rattle.fk_kernel.proofs.kernel.KernelOf.close_in_use.Goals as goal
@@ -20,7 +20,7 @@ returns-in_default-clause-refusal g c =
     rw (← c.self.view_is) (old.files.closed_once c.args.handle there) in
     let fresh : get now.vfs.calls now.vfs.next_call ≡ None =
     rw (← c.self.view_is) (old.numbers.calls_below k.next_call (omega arith)) in
-    let high : now.queues.next ≤ 2 ^ 62 = rw (← c.self.view_is) c.keeps_sound.ensures.sound.next.high in
+    let high : now.queues.next ≤ 2 ^ 62 = rw (← c.self.view_is) c.lemma_sound.ensures.sound.next.high in
     let judged = used_unrefused now c.args.handle c.args.opened c.requires.not_aborted c.requires.open none fresh c.requires.ready c.requires.few c.requires.number c.requires.used high in
     sym (ap or_no_memory judged)
 
@@ -36,7 +36,7 @@ returns-in_default-reserve-clause-refusal g c =
     rw (← c.self.view_is) (old.files.closed_once c.args.handle there) in
     let fresh : get now.vfs.calls now.vfs.next_call ≡ None =
     rw (← c.self.view_is) (old.numbers.calls_below k.next_call (omega arith)) in
-    let high : now.queues.next ≤ 2 ^ 62 = rw (← c.self.view_is) c.keeps_sound.ensures.sound.next.high in
+    let high : now.queues.next ≤ 2 ^ 62 = rw (← c.self.view_is) c.lemma_sound.ensures.sound.next.high in
     let judged = used_unrefused now c.args.handle c.args.opened c.requires.not_aborted c.requires.open none fresh c.requires.ready c.requires.few c.requires.number c.requires.used high in
     sym (ap or_no_memory judged)
 
@@ -52,7 +52,7 @@ returns-in_err-reserve_request-clause-refusal g c =
     rw (← c.self.view_is) (old.files.closed_once c.args.handle there) in
     let fresh : get now.vfs.calls now.vfs.next_call ≡ None =
     rw (← c.self.view_is) (old.numbers.calls_below k.next_call (omega arith)) in
-    let high : now.queues.next ≤ 2 ^ 62 = rw (← c.self.view_is) c.keeps_sound.ensures.sound.next.high in
+    let high : now.queues.next ≤ 2 ^ 62 = rw (← c.self.view_is) c.lemma_sound.ensures.sound.next.high in
     let judged = used_unrefused now c.args.handle c.args.opened c.requires.not_aborted c.requires.open none fresh c.requires.ready c.requires.few c.requires.number c.requires.used high in
     let p = err_from_is_err_and c.from_residual.result c.from_residual.ensures.1 in
     rw (p.1, p.2) (c.in_err-reserve_request.ensures.refusal ∙ sym (ap or_no_memory judged))
@@ -104,7 +104,7 @@ returns-clause-judged g c =
     rw (← c.self.view_is) (old.files.closed_once c.args.handle there) in
     let fresh : get now.vfs.calls now.vfs.next_call ≡ None =
     rw (← c.self.view_is) (old.numbers.calls_below k.next_call (omega arith)) in
-    let high : now.queues.next ≤ 2 ^ 62 = rw (← c.self.view_is) c.keeps_sound.ensures.sound.next.high in
+    let high : now.queues.next ≤ 2 ^ 62 = rw (← c.self.view_is) c.lemma_sound.ensures.sound.next.high in
     let judged = used_unrefused now c.args.handle c.args.opened c.requires.not_aborted c.requires.open none fresh c.requires.ready c.requires.few c.requires.number c.requires.used high in
     judged
 

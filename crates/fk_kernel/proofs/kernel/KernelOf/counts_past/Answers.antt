@@ -1,14 +1,14 @@
 use Rattle.std.proofs.Common.{ap, sym, ◌∙◌}
 use Rattle.fuse_spec.specs.Kernel.Refusals.{is_counted_out}
-use Rattle.fk_nodes.specs.ListedFiles.{pairs_in}
-use Rattle.fuse_frames.specs.ReplySaid.{LentReply, wire_of}
-use Rattle.fk_kernel.specs.Entries.{nodes_heard}
-use Rattle.fk_kernel.proofs.CountsHeard.{pairs_out}
+use Rattle.fk_nodes.specs.ListedFiles.{pairs_left_in}
+use Rattle.fuse_frames.specs.ReplySaid.{LentReply, lent_wire_of}
+use Rattle.fk_kernel.specs.Entries.{nodes_after_reply}
+use Rattle.fk_kernel.proofs.CountsAfterReply.{pairs_out}
 use Rattle.fk_kernel.proofs.kernel.KernelOf.counts_past.Goals as goal
 
 pub returns-in-ListedPlus : goal.returns-in-ListedPlus
 returns-in-ListedPlus g c =
     let nodes = c.args.self.now.nodes in
-    pairs_out nodes (pairs_in c.in-ListedPlus.pairs) c.counts_within.ensures.sorted c.listed_count_out.result
+    pairs_out nodes (pairs_left_in c.in-ListedPlus.pairs) c.lemma_counts_in_range.ensures.sorted c.listed_count_out.result
     (rw (← c.self.view_is) c.listed_count_out.ensures.out) (rw (← c.self.view_is) c.listed_count_out.ensures.within)
-    ∙ ap (λ (said : LentReply). is_counted_out (nodes_heard nodes (wire_of said))) (sym c.in-ListedPlus.is)
+    ∙ ap (λ (said : LentReply). is_counted_out (nodes_after_reply nodes (lent_wire_of said))) (sym c.in-ListedPlus.is)

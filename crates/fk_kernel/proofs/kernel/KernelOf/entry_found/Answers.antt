@@ -1,6 +1,6 @@
 use Rattle.std.proofs.Common.{sym, subst, ◌∙◌}
 use Rattle.fk_kernel.specs.Entries.{Makes}
-use Rattle.fk_kernel.proofs.CountsHeard.{entry_fits}
+use Rattle.fk_kernel.proofs.CountsAfterReply.{entry_fits}
 use Rattle.fk_kernel.proofs.CallStates.{makes_found}
 use Rattle.fk_kernel.proofs.kernel.KernelOf.entry_found.Goals as goal
 

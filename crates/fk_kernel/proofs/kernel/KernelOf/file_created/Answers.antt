@@ -1,5 +1,5 @@
 use Rattle.std.proofs.Common.{sym}
-use Rattle.fk_kernel.proofs.CountsHeard.{entry_fits}
+use Rattle.fk_kernel.proofs.CountsAfterReply.{entry_fits}
 use Rattle.fk_kernel.proofs.kernel.KernelOf.file_created.Goals as goal
 
 pub file_is_made-requires-clause-fits : goal.file_is_made-requires-clause-fits

@@ -4,7 +4,7 @@ use Rattle.fuse_spec.specs.Values.Maps.{get}
 use Rattle.fuse_spec.specs.Files.Operations.{create}
 use Rattle.fuse_spec.specs.Kernel.QueueCalls.{waiting}
 use Rattle.fuse_spec.specs.Calls.Vfs.{doing}
-use Rattle.fk_kernel.proofs.Files.{some_not_none, opened_files}
+use Rattle.fk_kernel.proofs.OpenFilesKept.{some_not_none, opened_files}
 use Rattle.fk_kernel.proofs.Nodes.{looked_up_counted, answered_is, sorted_gone}
 use Rattle.fk_kernel.proofs.Replied.{create_made}
 use Rattle.fk_kernel.proofs.Sound.{sound_answered}

@@ -4,7 +4,7 @@ use Rattle.fuse_spec.specs.Values.Maps.{get}
 use Rattle.fuse_spec.specs.Files.Operations.{opening}
 use Rattle.fuse_spec.specs.Kernel.QueueCalls.{waiting}
 use Rattle.fuse_spec.specs.Calls.Vfs.{doing}
-use Rattle.fk_kernel.proofs.Files.{some_not_none, opened_files}
+use Rattle.fk_kernel.proofs.OpenFilesKept.{some_not_none, opened_files}
 use Rattle.fk_kernel.proofs.Nodes.{still_counted, answered_is, sorted_gone}
 use Rattle.fk_kernel.proofs.Replied.{open_done}
 use Rattle.fk_kernel.proofs.Sound.{sound_answered}

@@ -2,7 +2,7 @@ use Rattle.std.proofs.Common.{refl, arith}
 use Rattle.fk_syscalls.specs.Values.{answer_of}
 use Rattle.fk_kernel.proofs.Nodes.{sorted_gone}
 use Rattle.fk_kernel.proofs.Sound.{sound_answered, there_is, length_gone}
-use Rattle.fk_kernel.proofs.Files.{answered_files}
+use Rattle.fk_kernel.proofs.OpenFilesKept.{answered_files}
 use Rattle.fuse_spec.specs.Values.Maps.{get}
 use Rattle.fk_kernel.proofs.kernel.KernelOf.finish.Goals as goal
 

@@ -1,4 +1,4 @@
-use Rattle.fk_kernel.proofs.First.{sound_first}
+use Rattle.fk_kernel.proofs.InitialKernel.{sound_first}
 use Rattle.fk_kernel.proofs.kernel.KernelOf.new.Goals as goal
 
 pub invariant_of-result : goal.invariant_of-result

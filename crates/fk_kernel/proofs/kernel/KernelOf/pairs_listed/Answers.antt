@@ -11,8 +11,8 @@ use Rattle.fuse_spec.specs.declared.Opened.{Opened}
 use Rattle.fk_wire.specs.Records.{pluses_in}
 use Rattle.fuse_frames.specs.ReplyTies.{pair_in}
 use Rattle.fk_nodes.specs.LookedUp.{looked_up_from, stale_by}
-use Rattle.fk_nodes.specs.ListedFiles.{pairs_in}
-use Rattle.fk_kernel.proofs.CountsHeard.{pairs_below}
+use Rattle.fk_nodes.specs.ListedFiles.{pairs_left_in}
+use Rattle.fk_kernel.proofs.CountsAfterReply.{pairs_below}
 use Rattle.fk_kernel.proofs.Nodes.{answered_is, listed_counted}
 use Rattle.fk_kernel.proofs.Replied.{list_done}
 use Rattle.fk_kernel.proofs.CallStates.{asked_is, lists_from}
@@ -20,13 +20,13 @@ use Rattle.fk_kernel.proofs.kernel.KernelOf.pairs_listed.Goals as goal
 
 pub count_and_bind-requires-clause-below : goal.count_and_bind-requires-clause-below
 count_and_bind-requires-clause-below g c = rw (← c.self.view_is) at
-    (pairs_below c.args.self.now.nodes (pairs_in c.args.pairs) c.requires.counts)
+    (pairs_below c.args.self.now.nodes (pairs_left_in c.args.pairs) c.requires.counts)
 
 pub invariant_of-self-2 : goal.invariant_of-self-2
 invariant_of-self-2 g c =
     let k = c.self.inside in
     let old = c.self.invariant in
-    let pairs = pairs_in c.args.pairs in
+    let pairs = pairs_left_in c.args.pairs in
     let below = rw (← c.self.view_is) at (pairs_below c.args.self.now.nodes pairs c.requires.counts) in
     let kept = c.answer-kept.ensures.room.forgets in
     let given = c.forget_stale.ensures.forgets in
@@ -55,7 +55,7 @@ returns-clause-ok g c =
     let k = c.self.inside in
     let s = k.queues.queues in
     let now = c.args.self.now in
-    let pairs = pairs_in c.args.pairs in
+    let pairs = pairs_left_in c.args.pairs in
     let aw = c.requires.awaits in
     let lists = lists_from aw.operation aw.state pairs aw.stands aw.goes in
     let asks : Operation ℕ Opened = readdirplus lists.directory lists.after lists.size in

@@ -6,7 +6,7 @@ use Rattle.fuse_spec.specs.Values.Maps.{Map, get, values}
 use Rattle.fuse_spec.specs.Calls.Vfs.{CallState}
 use Rattle.fuse_spec.specs.declared.Opened.{Opened}
 use Rattle.fk_kernel.proofs.Closes.{released_used, released_none, released_some}
-use Rattle.fk_kernel.proofs.Files.{some_not_none, released_files}
+use Rattle.fk_kernel.proofs.OpenFilesKept.{some_not_none, released_files}
 use Rattle.fk_kernel.proofs.Nodes.{still_counted}
 use Rattle.fk_kernel.proofs.Sound.{gone_absent, length_gone}
 use Rattle.fk_kernel.proofs.kernel.KernelOf.release_if_idle.Goals as goal

@@ -10,11 +10,11 @@ use Rattle.fuse_spec.specs.Files.Operations.{Operation, lookup}
 use Rattle.fuse_spec.specs.Calls.Paths.{Name}
 use Rattle.fuse_spec.specs.Calls.Walks.{WalkPlan}
 use Rattle.fk_syscalls.specs.States.{IsWalking}
-use Rattle.fuse_spec.specs.Kernel.Refusals.{is_past_end}
+use Rattle.fuse_spec.specs.Kernel.Refusals.{is_kernel_past_end}
 use Rattle.fk_kernel.proofs.Phases.{within_ends}
 use Rattle.fk_kernel.proofs.Replied.{lookup_found}
 use Rattle.fk_kernel.proofs.Walking.{asks_past}
-use Rattle.fk_kernel.proofs.Within.{walks_within}
+use Rattle.fk_kernel.proofs.CountersInRange.{walks_within}
 use Rattle.fk_kernel.proofs.kernel.KernelOf.runs_out.Given as given
 use Rattle.fk_kernel.proofs.kernel.KernelOf.runs_out.Goals as goal
 
@@ -53,7 +53,7 @@ returns-clause-past g c = λ would.
     let asks = walks_so g c stands.directory stands.word stands.words stands.plan stands.is ∙ would in
     let next : Advance Opened = walks_on (bound now.vfs stands.directory stands.word
     (Some entry.nodeid) c.args.valid_ms) c.args.call entry.nodeid stands.words stands.plan in
-    ap (λ (r : WriteResult × Kernel). is_past_end r.1)
+    ap (λ (r : WriteResult × Kernel). is_kernel_past_end r.1)
     (lookup_found now c.args.unique c.args.call c.requires.even c.requires.waits stands.directory stands.word stands.words stands.plan (c.requires.unanswered ∙ stands.is) entry c.args.valid_ms c.requires.usable)
     ∙ asks_past (record now {
       vfs = next.vfs;
@@ -66,8 +66,8 @@ returns-clause-within g c = λ would.
     let now = c.args.self.now in
     let entry = c.args.entry.now in
     let stands = c.requires.looks_up in
-    let ends = within_ends now.queues.next now.vfs.next_call c.within.ensures in
+    let ends = within_ends now.queues.next now.vfs.next_call c.lemma_in_range.ensures in
     let asks = walks_so g c stands.directory stands.word stands.words stands.plan stands.is ∙ would in
-    ap (λ (r : WriteResult × Kernel). is_past_end r.1)
+    ap (λ (r : WriteResult × Kernel). is_kernel_past_end r.1)
     (lookup_found now c.args.unique c.args.call c.requires.even c.requires.waits stands.directory stands.word stands.words stands.plan (c.requires.unanswered ∙ stands.is) entry c.args.valid_ms c.requires.usable)
     ∙ walks_within now c.args.unique c.args.call stands.directory stands.word stands.words stands.plan entry c.args.valid_ms ends.0 ends.1 (λ some. absurd (true≢false (sym some ∙ asks)))

@@ -8,18 +8,18 @@ use Rattle.fuse_spec.specs.Calls.Vfs.{using, asked}
 use Rattle.fuse_spec.specs.declared.Opened.{Opened}
 use Rattle.fuse_frames.specs.RequestTies.{asked_opcode}
 use Rattle.fk_syscalls.specs.States.{StandsAt}
-use Rattle.fuse_spec.specs.Kernel.Refusals.{is_counted_out, is_past_end}
+use Rattle.fuse_spec.specs.Kernel.Refusals.{is_counted_out, is_kernel_past_end}
 use Rattle.fk_nodes.proofs.Outs.{or_none}
-use Rattle.fuse_frames.specs.ReplySaid.{wire_of}
+use Rattle.fuse_frames.specs.ReplySaid.{lent_wire_of}
 use Rattle.fk_kernel.specs.AwaitedReplies.{Says, reply_to, awaited_by_call, wrong_body_to}
-use Rattle.fk_kernel.proofs.CountsHeard.{wrong_nodes}
+use Rattle.fk_kernel.proofs.CountsAfterReply.{wrong_nodes}
 use Rattle.fk_kernel.proofs.PastEnds.{passes, said_passes, none_passes, wrong_to_call}
 use Rattle.fk_kernel.proofs.Replied.{ends_over, judged_op}
-use Rattle.fk_kernel.proofs.Within.{wrong_within}
+use Rattle.fk_kernel.proofs.CountersInRange.{wrong_within}
 use Rattle.fk_kernel.proofs.kernel.KernelOf.said_to_call.Goals as goal
 
-pub returns-then-ends_past-clause-past : goal.returns-then-ends_past-clause-past
-returns-then-ends_past-clause-past g c =
+pub returns-then-unique_overflows-clause-past : goal.returns-then-unique_overflows-clause-past
+returns-then-unique_overflows-clause-past g c =
     let now = c.args.self.now in
     let state = c.args.state.now in
     let operation = operation_of (λ s. s.now) c.asks.result in
@@ -27,7 +27,7 @@ returns-then-ends_past-clause-past g c =
     let awaits : awaited_by_call (get now.vfs.calls c.args.call) ≡ reply_to (asked_opcode (asks operation)) =
     ap awaited_by_call here ∙ ap (λ (o : Operation ℕ Opened). reply_to (asked_opcode (asks o)))
     (sym c.asks.ensures.operation) in
-    let p = c.ends_past.ensures.past c.if-ends_past.true in
+    let p = c.unique_overflows.ensures.past c.if-unique_overflows.true in
     let same : state ≡ using p.handle p.operation = cc (here, p.is) in
     let one : operation ≡ p.operation = c.asks.ensures.operation ∙ ap asked same in
     let stands : StandsAt p.operation (using p.handle p.operation) =
@@ -48,7 +48,7 @@ returns-then-said_past-clause-past g c =
     ap awaited_by_call c.requires.unanswered ∙ ap (λ (o : Operation ℕ Opened). reply_to (asked_opcode (asks o)))
     (sym c.asks.ensures.operation) in
     rw awaits (passes now c.args.head.unique c.args.bytes.now (asked_opcode (asks operation)) (judged_op operation)
-    (wire_of c.in-Some.said) c.in-Some.ensures.said.says (c.said_past.ensures.past c.if-said_past.true))
+    (lent_wire_of c.in-Some.said) c.in-Some.ensures.said.says (c.said_past.ensures.past c.if-said_past.true))
 
 pub returns-else-said_past-clause-stays : goal.returns-else-said_past-clause-stays
 returns-else-said_past-clause-stays g c =
@@ -58,13 +58,13 @@ returns-else-said_past-clause-stays g c =
     ap awaited_by_call c.requires.unanswered ∙ ap (λ (o : Operation ℕ Opened). reply_to (asked_opcode (asks o)))
     (sym c.asks.ensures.operation) in
     rw awaits (said_passes now c.args.head.unique c.args.bytes.now (asked_opcode (asks operation))
-    (wire_of c.in-Some.said) c.in-Some.ensures.said.says (c.said_past.ensures.stays c.if-said_past.false))
+    (lent_wire_of c.in-Some.said) c.in-Some.ensures.said.says (c.said_past.ensures.stays c.if-said_past.false))
 
 pub returns-else-said_past-clause-said : goal.returns-else-said_past-clause-said
 returns-else-said_past-clause-said g c =
     let said = c.in-Some.ensures.said in
     record {
-      says = subst (λ (o : Operation ℕ Opened). Says (asked_opcode (asks o)) c.args.bytes.now (wire_of c.in-Some.said))
+      says = subst (λ (o : Operation ℕ Opened). Says (asked_opcode (asks o)) c.args.bytes.now (lent_wire_of c.in-Some.said))
           c.asks.ensures.operation said.says;
       awaits = record {
         operation = operation_of (λ s. s.now) c.asks.result;
@@ -87,11 +87,11 @@ returns-in-None-clause-stays g c =
     let same : operation ≡ asked state = c.asks.ensures.operation in
     let awaits : awaited_by_call (get now.vfs.calls c.args.call) ≡ reply_to (asked_opcode (asks operation)) =
     ap awaited_by_call here ∙ ap (λ (o : Operation ℕ Opened). reply_to (asked_opcode (asks o))) (sym same) in
-    let ends = c.ends_past.ensures.within c.if-ends_past.false in
+    let ends = c.unique_overflows.ensures.within c.if-unique_overflows.false in
     let stays = λ (wire : WireReply) (other : goes_with (asked state) wire ≡ false). or_none
-    (is_past_end (reply_written now c.args.head.unique wire).1) (is_counted_out (reply_written now c.args.head.unique wire).1.nodes)
-    (wrong_within now c.args.head.unique c.args.call c.requires.even c.requires.waits c.within.ensures ends state here wire other)
-    (ap is_counted_out (wrong_nodes now c.args.head.unique c.args.call c.requires.even c.requires.waits state here wire other) ∙ c.counts_within.ensures.none_out) in
+    (is_kernel_past_end (reply_written now c.args.head.unique wire).1) (is_counted_out (reply_written now c.args.head.unique wire).1.nodes)
+    (wrong_within now c.args.head.unique c.args.call c.requires.even c.requires.waits c.lemma_in_range.ensures ends state here wire other)
+    (ap is_counted_out (wrong_nodes now c.args.head.unique c.args.call c.requires.even c.requires.waits state here wire other) ∙ c.lemma_counts_in_range.ensures.none_out) in
     rw awaits
     (none_passes now c.args.head.unique c.args.bytes.now (asked_opcode (asks operation))
     (λ wire says. stays wire (subst (λ (o : Operation ℕ Opened). goes_with o wire ≡ false) same

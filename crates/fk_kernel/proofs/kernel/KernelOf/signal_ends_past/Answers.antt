@@ -12,7 +12,7 @@ returns-clause-past g c = λ past.
     let none : is_some (waiting k.queues c.args.unique) ≡ false = search rules in
     let fatal : c.args.fatal ≡ true = search rules in (
       ap (interrupt_effect k.queues c.args.unique) fatal ∙ unread_dequeued k.queues c.args.unique there none,
-      c.ends_past.ensures.past past,
+      c.unique_overflows.ensures.past past,
     )
 
 pub returns-then-is_some-clause-within : goal.returns-then-is_some-clause-within
@@ -22,4 +22,4 @@ returns-then-is_some-clause-within g c = λ past effect.
     absurd (once_read k.queues c.args.unique c.args.fatal waits effect)
 
 pub returns-clause-within : goal.returns-clause-within
-returns-clause-within g c = λ past effect. c.ends_past.ensures.within past
+returns-clause-within g c = λ past effect. c.unique_overflows.ensures.within past

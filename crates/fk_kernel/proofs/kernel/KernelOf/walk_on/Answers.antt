@@ -7,17 +7,17 @@ use Rattle.fuse_spec.specs.Kernel.Replies.{looked_up}
 use Rattle.fuse_spec.specs.Calls.Answers.{failed}
 use Rattle.fuse_spec.specs.declared.WriteResult.{WriteResult}
 use Rattle.fuse_spec.specs.declared.WriteResult.TheVariants.{Accepted}
-use Rattle.fk_syscalls.specs.States.{HasNames, IsWalking}
+use Rattle.fk_syscalls.specs.States.{HasCachedNames, IsWalking}
 use Rattle.fk_syscalls.specs.Values.{comes_to}
 use Rattle.fuse_spec.specs.Calls.Vfs.{Vfs, Advance, walking, walks_on, bound, asking, answered, no_more}
 use Rattle.fuse_spec.specs.declared.Opened.{Opened}
 use Rattle.fuse_spec.proofs.Tables.{get_gone_here}
-use Rattle.fuse_spec.specs.Kernel.Refusals.{is_past_end}
+use Rattle.fuse_spec.specs.Kernel.Refusals.{is_kernel_past_end}
 use Rattle.fk_kernel.proofs.Nodes.{looked_up_counted, answered_is, still_counted, put_gone, length_again, sorted_put, sorted_gone}
 use Rattle.fk_kernel.proofs.Replied.{lookup_found}
 use Rattle.fk_kernel.proofs.Sound.{sound_answered, sound_walks, there_is}
 use Rattle.fk_kernel.proofs.Walking.{asked_left}
-use Rattle.fk_kernel.proofs.Files.{walking_files, answered_files}
+use Rattle.fk_kernel.proofs.OpenFilesKept.{walking_files, answered_files}
 use Rattle.fk_kernel.proofs.kernel.KernelOf.walk_on.Goals as goal
 
 pub bind_entry-requires-clause-names_one : goal.bind_entry-requires-clause-names_one
@@ -57,7 +57,7 @@ enqueue-unique-requires-clause-number g c =
     let names = c.in_ok-bind_entry.ensures.names (walking stands.directory stands.word stands.words stands.plan)
     (stands.directory, stands.word) here refl in
     let vfs : Vfs Opened = bound now.vfs stands.directory stands.word (Some c.args.entry.now.nodeid) c.args.valid_ms in
-    let has : HasNames vfs c.bind_entry.new.names.names k.clock =
+    let has : HasCachedNames vfs c.bind_entry.new.names.names k.clock =
     rw (← c.self.view_is, names, until) (record { names = refl; clock = refl; root = refl }) in
     let comes : walks_on vfs c.args.call c.args.entry.now.nodeid stands.words stands.plan
     ≡ asking vfs c.args.call c.in-Ask.state =
@@ -67,9 +67,9 @@ enqueue-unique-requires-clause-number g c =
       queues = without now.queues c.args.unique;
       nodes = looked_up now.nodes (c.args.entry.now ∷ []);
     } in
-    let asks : is_past_end (advanced knows c.args.call (asking vfs c.args.call c.in-Ask.state)) ≡ false =
-    sym (ap (λ (a : Advance Opened). is_past_end (advanced knows c.args.call a)) comes)
-    ∙ sym (ap (λ (r : WriteResult × Kernel). is_past_end r.1)
+    let asks : is_kernel_past_end (advanced knows c.args.call (asking vfs c.args.call c.in-Ask.state)) ≡ false =
+    sym (ap (λ (a : Advance Opened). is_kernel_past_end (advanced knows c.args.call a)) comes)
+    ∙ sym (ap (λ (r : WriteResult × Kernel). is_kernel_past_end r.1)
     (lookup_found now c.args.unique c.args.call c.requires.even c.requires.waits stands.directory stands.word stands.words stands.plan stands.is c.args.entry.now c.args.valid_ms c.requires.usable))
     ∙ c.requires.within in
     let left = asked_left now.queues.next now.vfs.next_call asks in
@@ -97,7 +97,7 @@ invariant_of-self-in-Ask g c =
     let names = c.in_ok-bind_entry.ensures.names (walking stands.directory stands.word stands.words stands.plan)
     (stands.directory, stands.word) here refl in
     let vfs : Vfs Opened = bound now.vfs stands.directory stands.word (Some c.args.entry.now.nodeid) c.args.valid_ms in
-    let has : HasNames vfs c.bind_entry.new.names.names k.clock =
+    let has : HasCachedNames vfs c.bind_entry.new.names.names k.clock =
     rw (← c.self.view_is, names, until) (record { names = refl; clock = refl; root = refl }) in
     let comes : walks_on vfs c.args.call c.args.entry.now.nodeid stands.words stands.plan
     ≡ asking vfs c.args.call c.in-Ask.state =
@@ -199,7 +199,7 @@ returns-in-Ask-clause-ok g c =
     let names = c.in_ok-bind_entry.ensures.names (walking stands.directory stands.word stands.words stands.plan)
     (stands.directory, stands.word) here refl in
     let vfs : Vfs Opened = bound now.vfs stands.directory stands.word (Some c.args.entry.now.nodeid) c.args.valid_ms in
-    let has : HasNames vfs c.bind_entry.new.names.names k.clock =
+    let has : HasCachedNames vfs c.bind_entry.new.names.names k.clock =
     rw (← c.self.view_is, names, until) (record { names = refl; clock = refl; root = refl }) in
     let comes : walks_on vfs c.args.call c.args.entry.now.nodeid stands.words stands.plan
     ≡ asking vfs c.args.call c.in-Ask.state =
@@ -247,7 +247,7 @@ returns-in-Answer-clause-ok g c =
     let names = c.in_ok-bind_entry.ensures.names (walking stands.directory stands.word stands.words stands.plan)
     (stands.directory, stands.word) here refl in
     let vfs : Vfs Opened = bound now.vfs stands.directory stands.word (Some c.args.entry.now.nodeid) c.args.valid_ms in
-    let has : HasNames vfs c.bind_entry.new.names.names k.clock =
+    let has : HasCachedNames vfs c.bind_entry.new.names.names k.clock =
     rw (← c.self.view_is, names, until) (record { names = refl; clock = refl; root = refl }) in
     let comes : walks_on vfs c.args.call c.args.entry.now.nodeid stands.words stands.plan
     ≡ no_more (answered vfs c.args.call (failed c.in-Answer.errno)) =

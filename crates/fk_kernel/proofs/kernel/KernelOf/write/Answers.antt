@@ -4,21 +4,21 @@ use Rattle.fuse_spec.specs.declared.Purpose.TheVariants.{Init, Release, Call}
 use Rattle.fuse_spec.specs.Values.Maps.{get}
 use Rattle.fk_kernel.specs.AwaitedReplies.{awaited_by_call, head_unique}
 use Rattle.fk_kernel.proofs.PastEnds.{memory_last}
-use Rattle.fk_kernel.proofs.Taken.{odd_test, even_test, taken_odd, taken_even, awaited_even, taken_none, taken_judged}
+use Rattle.fk_kernel.proofs.RepliesTaken.{odd_test, even_test, taken_odd, taken_even, awaited_even, taken_none, taken_judged}
 use Rattle.fk_wire.specs.declared.opcode.Opcode.TheVariants as op
-use Rattle.fk_wire.specs.Opcodes.{served}
+use Rattle.fk_wire.specs.Opcodes.{latest_minor}
 use Rattle.fk_kernel.proofs.Heads.{no_head}
 use Rattle.fk_kernel.proofs.OfNoCall.{awaited_of_call}
 use Rattle.fk_kernel.proofs.kernel.KernelOf.write.Goals as goal
 
 pub returns-in_default-clause-unawaited : goal.returns-in_default-clause-unawaited
 returns-in_default-clause-unawaited g c = λ head awaits.
-    let fault = c.in_default.ensures.fault served op.Getattr in
+    let fault = c.in_default.ensures.fault latest_minor op.Getattr in
     absurd (no_head c.args.bytes.now c.in_default.field-0 fault.0 fault.1 head)
 
 pub returns-in_default-clause-taken : goal.returns-in_default-clause-taken
 returns-in_default-clause-taken g c = λ head.
-    let fault = c.in_default.ensures.fault served op.Getattr in
+    let fault = c.in_default.ensures.fault latest_minor op.Getattr in
     absurd (no_head c.args.bytes.now c.in_default.field-0 fault.0 fault.1 head)
 
 pub returns-then-head-eq1-clause-taken : goal.returns-then-head-eq1-clause-taken

@@ -2,27 +2,27 @@ use Rattle.std.proofs.Common.{rules, ◌≡◌, None, Some, refl, sym, ap, subst
 use Rattle.fuse_spec.specs.Kernel.QueueCalls.{waiting}
 use Rattle.fuse_spec.specs.declared.Purpose.TheVariants.{Init, Release, Call}
 use Rattle.fk_wire.specs.declared.opcode.Opcode.TheVariants as op
-use Rattle.fk_wire.specs.Opcodes.{served}
+use Rattle.fk_wire.specs.Opcodes.{latest_minor}
 use Rattle.fk_kernel.specs.Refused.{PassesEnd}
 use Rattle.fk_kernel.specs.AwaitedReplies.{Awaited, head_unique}
 use Rattle.fk_kernel.proofs.Heads.{no_head, has_head}
 use Rattle.fk_kernel.proofs.PastEnds.{nothing_passes, odd_passes, init_passes, release_passes}
-use Rattle.fk_kernel.proofs.Taken.{odd_test, even_test, awaited_even}
-use Rattle.fuse_spec.specs.Kernel.Refusals.{is_counted_out, is_past_end}
+use Rattle.fk_kernel.proofs.RepliesTaken.{odd_test, even_test, awaited_even}
+use Rattle.fuse_spec.specs.Kernel.Refusals.{is_counted_out, is_kernel_past_end}
 use Rattle.fk_nodes.proofs.Outs.{or_none}
 use Rattle.fk_kernel.proofs.kernel.KernelOf.write_refusal.Goals as goal
 
 pub returns-in_default-clause-none : goal.returns-in_default-clause-none
 returns-in_default-clause-none g c = λ p.
-    let fault = c.in_default.ensures.fault served op.Getattr in
+    let fault = c.in_default.ensures.fault latest_minor op.Getattr in
     no_head c.args.bytes.now c.in_default.field-0 fault.0 fault.1 p.0
 
 pub returns-then-head-eq1-clause-none : goal.returns-then-head-eq1-clause-none
 returns-then-head-eq1-clause-none g c = λ p.
     let unique = head_unique c.args.bytes.now in
     odd_passes c.args.self.now unique c.args.bytes.now
-    (or_none (is_past_end c.args.self.now)
-    (is_counted_out c.args.self.now.nodes) c.within.ensures c.counts_within.ensures.none_out)
+    (or_none (is_kernel_past_end c.args.self.now)
+    (is_counted_out c.args.self.now.nodes) c.lemma_in_range.ensures c.lemma_counts_in_range.ensures.none_out)
     (odd_test c.in-Ok.head.unique unique c.in-Ok.ensures.ok.3 c.if-head-eq1.true) p.1
 
 pub returns-in_default-waiting-clause-none : goal.returns-in_default-waiting-clause-none
@@ -48,8 +48,8 @@ returns-in-Init-clause-none g c = λ p.
     rw (← c.self.view_is) (ap (waiting queues) (sym same) ∙ at ∙ ap Some c.in-Init.is) in
     let even = even_test c.in-Ok.head.unique unique same c.if-head-eq1.false in
     let awaits = awaited_even now unique even (Some Init) waits in
-    init_passes now unique c.args.bytes.now (or_none (is_past_end c.args.self.now)
-    (is_counted_out c.args.self.now.nodes) c.within.ensures c.counts_within.ensures.none_out) even waits
+    init_passes now unique c.args.bytes.now (or_none (is_kernel_past_end c.args.self.now)
+    (is_counted_out c.args.self.now.nodes) c.lemma_in_range.ensures c.lemma_counts_in_range.ensures.none_out) even waits
     (subst (λ (a : Awaited). PassesEnd now unique c.args.bytes.now a) awaits p.1)
 
 pub returns-in-Release-clause-none : goal.returns-in-Release-clause-none
@@ -63,8 +63,8 @@ returns-in-Release-clause-none g c = λ p.
     rw (← c.self.view_is) (ap (waiting queues) (sym same) ∙ at ∙ ap Some c.in-Release.is) in
     let even = even_test c.in-Ok.head.unique unique same c.if-head-eq1.false in
     let awaits = awaited_even now unique even (Some (Release c.in-Release.field-0)) waits in
-    release_passes now unique c.args.bytes.now (or_none (is_past_end c.args.self.now)
-    (is_counted_out c.args.self.now.nodes) c.within.ensures c.counts_within.ensures.none_out) even c.in-Release.field-0 waits (subst (λ (a : Awaited). PassesEnd now unique c.args.bytes.now a) awaits p.1)
+    release_passes now unique c.args.bytes.now (or_none (is_kernel_past_end c.args.self.now)
+    (is_counted_out c.args.self.now.nodes) c.lemma_in_range.ensures c.lemma_counts_in_range.ensures.none_out) even c.in-Release.field-0 waits (subst (λ (a : Awaited). PassesEnd now unique c.args.bytes.now a) awaits p.1)
 
 pub returns-then-call_passes_end-clause-refused : goal.returns-then-call_passes_end-clause-refused
 returns-then-call_passes_end-clause-refused g c =

@@ -3,7 +3,7 @@ use Rattle.std.specs.Prelude.{is_some}
 use Rattle.fk_wire.specs.declared.opcode.Opcode.TheVariants as op
 use Rattle.fuse_spec.specs.Kernel.QueueCalls.{waiting}
 use Rattle.fuse_spec.specs.Kernel.Replies.{reply_written, is_agreement}
-use Rattle.fuse_frames.specs.ReplySaid.{wire_of}
+use Rattle.fuse_frames.specs.ReplySaid.{lent_wire_of}
 use Rattle.fk_kernel.proofs.Nodes.{still_counted, answered_is}
 use Rattle.fk_kernel.proofs.Replied.{init_agreed, init_aborts, init_unsaid}
 use Rattle.fuse_frames.proofs.ReplyCases.{says_to_init}
@@ -39,11 +39,11 @@ returns-then-agrees-clause-said g c = λ wire says.
     let k = c.args.self.now in
     let s = c.self.inside.queues.queues in
     let waits : is_some (waiting s c.args.head.unique) ≡ true = rw (← c.self.view_is) at (ap is_some c.requires.waits) in
-    let agreed : is_agreement (wire_of c.in-Some.said) ≡ true = sym c.agrees.ensures ∙ c.if-agrees.true in
+    let agreed : is_agreement (lent_wire_of c.in-Some.said) ≡ true = sym c.agrees.ensures ∙ c.if-agrees.true in
     ap (reply_written k c.args.head.unique) (says_one op.Init c.args.bytes.now wire
-    (wire_of c.in-Some.said) says c.in-Some.ensures.said)
-    ∙ init_agreed k c.args.head.unique c.requires.even c.requires.waits (wire_of c.in-Some.said)
-    (says_to_init c.args.bytes.now (wire_of c.in-Some.said) c.in-Some.ensures.said) agreed
+    (lent_wire_of c.in-Some.said) says c.in-Some.ensures.said)
+    ∙ init_agreed k c.args.head.unique c.requires.even c.requires.waits (lent_wire_of c.in-Some.said)
+    (says_to_init c.args.bytes.now (lent_wire_of c.in-Some.said) c.in-Some.ensures.said) agreed
     ∙ rw (
       ← c.self.view_is,
       c.answer-kept.ensures.state,
@@ -55,12 +55,12 @@ returns-then-agrees-clause-said g c = λ wire says.
 pub returns-else-agrees-clause-said : goal.returns-else-agrees-clause-said
 returns-else-agrees-clause-said g c = λ wire says.
     let k = c.args.self.now in
-    let other : is_agreement (wire_of c.in-Some.said) ≡ false = sym c.agrees.ensures ∙ c.if-agrees.false in
+    let other : is_agreement (lent_wire_of c.in-Some.said) ≡ false = sym c.agrees.ensures ∙ c.if-agrees.false in
     rw c.give_up-else-agrees.ensures
     (ap (reply_written k c.args.head.unique) (says_one op.Init c.args.bytes.now wire
-    (wire_of c.in-Some.said) says c.in-Some.ensures.said)
-    ∙ init_aborts k c.args.head.unique c.requires.even c.requires.waits (wire_of c.in-Some.said)
-    (says_to_init c.args.bytes.now (wire_of c.in-Some.said) c.in-Some.ensures.said) other)
+    (lent_wire_of c.in-Some.said) says c.in-Some.ensures.said)
+    ∙ init_aborts k c.args.head.unique c.requires.even c.requires.waits (lent_wire_of c.in-Some.said)
+    (says_to_init c.args.bytes.now (lent_wire_of c.in-Some.said) c.in-Some.ensures.said) other)
 
 pub returns-then-agrees-clause-unsaid : goal.returns-then-agrees-clause-unsaid
 returns-then-agrees-clause-unsaid g c = λ none. absurd (none _ c.in-Some.ensures.said)

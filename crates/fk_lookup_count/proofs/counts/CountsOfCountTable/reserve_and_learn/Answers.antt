@@ -3,7 +3,7 @@ use Rattle.std.specs.Option.{is_none}
 use Rattle.std.specs.FinMap.{get as slot_of}
 use Rattle.fuse_spec.specs.Values.Maps.{get, put}
 use Rattle.fuse_spec.specs.declared.Counted.{Counted}
-use Rattle.fk_lookup_count.specs.CountedNodes.{looked_up}
+use Rattle.fk_lookup_count.specs.CountedNodes.{counted_once_more}
 use Rattle.fk_lookup_count.specs.Slots.{nodes_in, slot_looked_up}
 use Rattle.fk_lookup_count.proofs.SlotLemmas.{Slots, no_slot, no_node, node_is, nodes-insert, room-insert}
 use Rattle.fk_lookup_count.proofs.LookupLemmas.{if_err, none_unlike, room_looked_up, slot_fits, new_there, again_there, is_unlike, is_alike}
@@ -34,7 +34,7 @@ returns-in_default-clause-ok g c =
     let same : g.S.Slots.slots c.count_lookup.new.self ≡ s =
     c.in_default.ensures.slots ∙ ap (slot_looked_up s id generation) none in
     ap nodes_in c.in_ok-add.ensures.ok ∙ nodes-insert _ id node (omega arith) ∙ ap
-    (λ (t : Slots). put (nodes_in t) id node) same ∙ sym (ap (looked_up (nodes_in s) id generation) (no_slot s id none))
+    (λ (t : Slots). put (nodes_in t) id node) same ∙ sym (ap (counted_once_more (nodes_in s) id generation) (no_slot s id none))
 
 pub returns-in_err-add-clause-counted : goal.returns-in_err-add-clause-counted
 returns-in_err-add-clause-counted g c = if_err c.from_residual.result

@@ -4,4 +4,4 @@ use Rattle.fk_lookup_count.proofs.list_slots.ListSlotsSlots.len.Goals as goal
 
 pub returns-clause-len : goal.returns-clause-len
 returns-clause-len g c = rw (← c.self.view_is)
-    (c.len.ensures ∙ sym (ap length (entries-map_of c.self.inside.slots.entries c.keeps_sound.ensures.sorted)))
+    (c.len.ensures ∙ sym (ap length (entries-map_of c.self.inside.slots.entries c.lemma_sound.ensures.sorted)))

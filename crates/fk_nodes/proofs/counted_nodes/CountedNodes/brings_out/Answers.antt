@@ -5,7 +5,7 @@ use Rattle.std.proofs.lemmas.Bool.Decides.{nat_tests}
 use Rattle.fuse_spec.specs.Values.Maps.{get}
 use Rattle.fuse_spec.specs.Values.Numbers.{counter_end}
 use Rattle.fk_nodes.specs.LookedUp.{times_listed}
-use Rattle.fk_nodes.specs.ListedFiles.{pairs_in}
+use Rattle.fk_nodes.specs.ListedFiles.{pairs_left_in}
 use Rattle.fk_nodes.proofs.Counting.{one_out}
 use Rattle.fk_nodes.proofs.counted_nodes.CountedNodes.brings_out.Goals as goal
 
@@ -18,7 +18,7 @@ past count times low more = omega (arith, low, more)
 pub returns-clause-out : goal.returns-clause-out
 returns-clause-out g c = λ more.
     let nodes = c.args.self.now in
-    let pairs = pairs_in c.args.pairs in
+    let pairs = pairs_left_in c.args.pairs in
     let entry = c.in-Some.entry in
     let counted = c.in-Some-counted.counted in
     let at : get nodes entry.nodeid ≡ Some counted = sym c.in-Some-counted.ensures in

@@ -5,14 +5,14 @@ use Rattle.fuse_frames.specs.ReplyTies.{pair_in}
 use Rattle.fuse_spec.specs.Values.Maps.{Map}
 use Rattle.fuse_spec.specs.declared.Counted.{Counted}
 use Rattle.fk_nodes.specs.LookedUp.{looked_up_from, AreAtMost}
-use Rattle.fk_nodes.specs.ListedFiles.{pairs_in}
+use Rattle.fk_nodes.specs.ListedFiles.{pairs_left_in}
 use Rattle.fk_nodes.proofs.MostLookups.{all_saturated}
 use Rattle.fk_nodes.proofs.counted_nodes.CountedNodes.count_listed.Goals as goal
 
 pub invariant_of-self-2 : goal.invariant_of-self-2
 invariant_of-self-2 g c =
     let m = g.C.CountTable.counted c.self.inside.table in
-    let pairs = pairs_in c.args.pairs in
+    let pairs = pairs_left_in c.args.pairs in
     let most = c.self.inside.most_lookups in
     let more = c.saturating_add-self-inside.result in
     let rises : more ≡ min (most + length pairs) (2 ^ 64 - 1) =

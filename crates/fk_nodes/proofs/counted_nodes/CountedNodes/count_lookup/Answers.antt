@@ -16,7 +16,7 @@ invariant_of-self-then-is_new g c =
     let rises : c.saturating_add-self-inside.result ≡ min (c.self.inside.most_lookups + 1) (2 ^ 64 - 1) =
     omega (arith, c.saturating_add-self-inside.ensures) in
     rw (counted, looked_up_is m entry) (
-      ap (λ n. n + 1) c.self.invariant.0 ∙ one_more m entry c.keeps_sound.ensures.sorted fresh,
+      ap (λ n. n + 1) c.self.invariant.0 ∙ one_more m entry c.lemma_sound.ensures.sorted fresh,
       one_saturated m entry c.self.inside.most_lookups c.saturating_add-self-inside.result c.self.invariant.1 low
           (rw (← c.self.view_is) at c.requires.fits) rises,
     )
@@ -32,7 +32,7 @@ invariant_of-self-else-is_new g c =
     let rises : c.saturating_add-self-inside.result ≡ min (c.self.inside.most_lookups + 1) (2 ^ 64 - 1) =
     omega (arith, c.saturating_add-self-inside.ensures) in
     rw (counted, looked_up_is m entry) (
-      c.self.invariant.0 ∙ as_many m entry c.keeps_sound.ensures.sorted known,
+      c.self.invariant.0 ∙ as_many m entry c.lemma_sound.ensures.sorted known,
       one_saturated m entry c.self.inside.most_lookups c.saturating_add-self-inside.result c.self.invariant.1 low
           (rw (← c.self.view_is) at c.requires.fits) rises,
     )

@@ -29,7 +29,7 @@ pub invariant_of-self-2 : goal.invariant_of-self-2
 invariant_of-self-2 g c =
     let m = g.C.CountTable.counted c.self.inside.table in
     rw c.evict.ensures.counted (
-      fewer m c.self.inside.len c.args.id c.in_ok-forget.forget c.keeps_sound.ensures.sorted c.self.invariant.0
+      fewer m c.self.inside.len c.args.id c.in_ok-forget.forget c.lemma_sound.ensures.sorted c.self.invariant.0
           (sym c.in_ok-forget.was ∙ c.evict.ensures.forget),
       one_fewer c.self.inside.most_lookups m c.args.id c.self.invariant.1,
     )

@@ -2,7 +2,7 @@ use Rattle.fk_opens.proofs.Counted.{few_uses, opened_more}
 use Rattle.fk_opens.proofs.open_files.OpenFiles.put.Goals as goal
 
 pub pin-requires-clause-small : goal.pin-requires-clause-small
-pin-requires-clause-small g c = few_uses _ c.self.invariant c.args.opened.nodeid c.keeps_sound.ensures.few
+pin-requires-clause-small g c = few_uses _ c.self.invariant c.args.opened.nodeid c.lemma_sound.ensures.few
 
 pub invariant_of-self : goal.invariant_of-self
 invariant_of-self g c =

@@ -10,13 +10,13 @@ use Rattle.fk_queues.proofs.kernel_queues.KernelQueuesQueueTablePurpose.enqueue.
 pub pin_released-requires-clause-small : goal.pin_released-requires-clause-small
 pin_released-requires-clause-small g c = λ node.
     let es = (g.Q.QueueTable.state c.self.inside.queues).requests in
-    few_pins c.self.invariant.pinned node (omega (arith, releases_most es node, c.keeps_sound.ensures.few))
+    few_pins c.self.invariant.pinned node (omega (arith, releases_most es node, c.lemma_sound.ensures.few))
 
 pub put_served-requires-clause-above : goal.put_served-requires-clause-above
 put_served-requires-clause-above g c =
     let s = g.Q.QueueTable.state c.self.inside.queues in
     rw (c.self.invariant.served, c.enqueue-unique.ensures.unique)
-    (served_above s.next s.requests (drawn_all_below s.next s.requests c.keeps_sound.ensures.sound.requests))
+    (served_above s.next s.requests (drawn_all_below s.next s.requests c.lemma_sound.ensures.sound.requests))
 
 pub invariant_of-self : goal.invariant_of-self
 invariant_of-self g c =

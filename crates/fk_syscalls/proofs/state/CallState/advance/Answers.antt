@@ -55,4 +55,4 @@ returns g c = λ vfs call directory word words plan has walks.
     let none = none_left bytes c.in-Some.stop.at (sym c.is_some.ensures ∙ c.if-is_some.false) in
     let arrives : go (known names c.args.clock) from next ≡ arrived c.in-Some.stop.node =
     stop ∙ ap (stop_at c.in-Some.stop.node) none in
-    on ∙ c.arrived_at.ensures vfs call from next has arrives
+    on ∙ c.walk_finished.ensures vfs call from next has arrives

@@ -1,5 +1,5 @@
 use Rattle.std.proofs.Common.{◌≡◌, List, ◌∷◌, All, [], refl, sym, subst, ◌∙◌, ap}
-use Rattle.fuse_spec.specs.Files.Operations.{names_in, operation_of}
+use Rattle.fuse_spec.specs.Files.Operations.{operation_names, operation_of}
 use Rattle.std.proofs.lemmas.List.Elements.{All-head, All-cons, All-nil}
 use Rattle.fk_syscalls.specs.Words.{IsWord, words_from}
 use Rattle.fk_syscalls.proofs.NamesStay.{names_at}
@@ -16,5 +16,5 @@ pub returns-in-Last-clause-word : goal.returns-in-Last-clause-word
 returns-in-Last-clause-word g c =
     let aim = rw c.in-Walks.is at c.self.invariant.sound in
     let sound = rw c.in-Last.is at aim.0 in
-    subst (All IsWord) (sym (ap names_in c.at.ensures ∙ names_at (operation_of (λ s. s.items) c.in-Last.operation)
+    subst (All IsWord) (sym (ap operation_names c.at.ensures ∙ names_at (operation_of (λ s. s.items) c.in-Last.operation)
     c.self.inside.node)) sound.words

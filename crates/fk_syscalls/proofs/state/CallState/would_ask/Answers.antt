@@ -4,7 +4,7 @@ use Rattle.std.specs.Prelude.{is_some}
 use Rattle.fuse_spec.specs.Calls.Vfs.{Advance, walks_on}
 use Rattle.fuse_spec.specs.declared.Opened.{Opened}
 use Rattle.fuse_spec.specs.Calls.Walks.{go, arrived}
-use Rattle.fk_syscalls.specs.NewNames.{with_name}
+use Rattle.fk_syscalls.specs.NewNames.{with_new_name}
 use Rattle.fk_syscalls.specs.Plans.{plan_of, IsLast}
 use Rattle.fk_syscalls.specs.States.{walking_at}
 use Rattle.fk_syscalls.specs.Walks.{known, stop_at}
@@ -18,7 +18,7 @@ returns-in_default-walk_past g c = λ vfs call directory word words plan has wal
     let bytes = self.words.items in
     let plan_now = plan_of (λ s. s.items) c.in-Walks.plan in
     let from = c.args.new.now.node in
-    let names = with_name c.args.names.now.names c.args.new.now in
+    let names = with_new_name c.args.names.now.names c.args.new.now in
     let left = words_from bytes self.at in
     let next = words_from bytes c.next_place-next.result in
     let view : walking_at self.node left plan_now ≡ c.args.self.now = rw c.in-Walks.is at c.self.view_is in
@@ -34,7 +34,7 @@ returns-then-is_some g c = λ vfs call directory word words plan has walks.
     let bytes = self.words.items in
     let plan_now = plan_of (λ s. s.items) c.in-Walks.plan in
     let from = c.args.new.now.node in
-    let names = with_name c.args.names.now.names c.args.new.now in
+    let names = with_new_name c.args.names.now.names c.args.new.now in
     let left = words_from bytes self.at in
     let next = words_from bytes c.next_place-next.result in
     let view : walking_at self.node left plan_now ≡ c.args.self.now = rw c.in-Walks.is at c.self.view_is in
@@ -64,7 +64,7 @@ returns-in-Last g c = λ vfs call directory word words plan has walks.
     let bytes = self.words.items in
     let plan_now = plan_of (λ s. s.items) c.in-Walks.plan in
     let from = c.args.new.now.node in
-    let names = with_name c.args.names.now.names c.args.new.now in
+    let names = with_new_name c.args.names.now.names c.args.new.now in
     let left = words_from bytes self.at in
     let next = words_from bytes c.next_place-next.result in
     let view : walking_at self.node left plan_now ≡ c.args.self.now = rw c.in-Walks.is at c.self.view_is in
@@ -82,7 +82,7 @@ returns-in-Rename g c = λ vfs call directory word words plan has walks.
     let bytes = self.words.items in
     let plan_now = plan_of (λ s. s.items) c.in-Walks.plan in
     let from = c.args.new.now.node in
-    let names = with_name c.args.names.now.names c.args.new.now in
+    let names = with_new_name c.args.names.now.names c.args.new.now in
     let left = words_from bytes self.at in
     let next = words_from bytes c.next_place-next.result in
     let view : walking_at self.node left plan_now ≡ c.args.self.now = rw c.in-Walks.is at c.self.view_is in
@@ -107,7 +107,7 @@ returns-in-Link g c = λ vfs call directory word words plan has walks.
     let bytes = self.words.items in
     let plan_now = plan_of (λ s. s.items) c.in-Walks.plan in
     let from = c.args.new.now.node in
-    let names = with_name c.args.names.now.names c.args.new.now in
+    let names = with_new_name c.args.names.now.names c.args.new.now in
     let left = words_from bytes self.at in
     let next = words_from bytes c.next_place-next.result in
     let view : walking_at self.node left plan_now ≡ c.args.self.now = rw c.in-Walks.is at c.self.view_is in

@@ -8,13 +8,13 @@ pub give-requires-clause-generation : goal.give-requires-clause-generation
 give-requires-clause-generation g c =
     let no_dots : is_dots c.args.name.now ≡ false = search rules in
     named_left c.args.self.now.nodes c.args.file
-    (is_dots c.args.name.now) no_dots c.keeps_sound.ensures c.requires.generations
+    (is_dots c.args.name.now) no_dots c.lemma_sound.ensures c.requires.generations
 
 pub returns-then-not-is_dots-clause-generations : goal.returns-then-not-is_dots-clause-generations
 returns-then-not-is_dots-clause-generations g c files =
     let no_dots : is_dots c.args.name.now ≡ false = search rules in
     let gives = c.give.ensures.gives in
     one_generations c.args.self.now.nodes c.give.new.self.nodes
-    (cond (is_dots c.args.name.now) None (Some c.args.file)) files c.keeps_sound.ensures
+    (cond (is_dots c.args.name.now) None (Some c.args.file)) files c.lemma_sound.ensures
     (named_given c.args.self.now.nodes c.give.new.self.nodes c.args.file gives.id (is_dots c.args.name.now) no_dots
     (gives.id, gives.may, gives.nodes_is))

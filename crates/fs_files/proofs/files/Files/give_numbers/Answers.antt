@@ -1,7 +1,7 @@
 use Rattle.fs_files.proofs.Numbered.{gives_found, gives_created, gives_opened, gives_said}
 use Rattle.std.proofs.Common.{◌≤◌, ◌^◌, ℕ, List, [], subst}
 use Rattle.fs_files.specs.Giving.{generations_after}
-use Rattle.fs_files.specs.Listed.{names_in}
+use Rattle.fs_files.specs.Listed.{dirents_in_bytes}
 use Rattle.fs_files.proofs.Giving.{generation_left, holds_sorted}
 use Rattle.fs_files.proofs.NumberedList.{same_files, gives_listed}
 use Rattle.fs_files.proofs.files.Files.give_numbers.Goals as goal
@@ -33,14 +33,14 @@ returns-in-ListedPlus-clause-gives g c =
 
 pub give-requires-clause-generation : goal.give-requires-clause-generation
 give-requires-clause-generation g c = generation_left c.args.self.now.nodes c.in-Found.file []
-    (holds_sorted c.args.self.now.nodes c.keeps_sound.ensures) (rw c.in-Found.is at c.requires.generations)
+    (holds_sorted c.args.self.now.nodes c.lemma_sound.ensures) (rw c.in-Found.is at c.requires.generations)
 
 pub give-entry-requires-clause-generation : goal.give-entry-requires-clause-generation
 give-entry-requires-clause-generation g c = generation_left c.args.self.now.nodes c.in-Created.file []
-    (holds_sorted c.args.self.now.nodes c.keeps_sound.ensures) (rw c.in-Created.is at c.requires.generations)
+    (holds_sorted c.args.self.now.nodes c.lemma_sound.ensures) (rw c.in-Created.is at c.requires.generations)
 
 pub list-requires-clause-generations : goal.list-requires-clause-generations
 list-requires-clause-generations g c =
     subst (λ (files : List ℕ). generations_after c.args.self.now.nodes files ≤ 2 ^ 62)
-    (same_files c.args.found_ms (names_in c.in-ListedPlus.records.items))
+    (same_files c.args.found_ms (dirents_in_bytes c.in-ListedPlus.records.items))
     (rw c.in-ListedPlus.is at c.requires.generations)

@@ -3,7 +3,7 @@ use Rattle.fuse_spec.specs.Files.Operations.{Dirent, files_listed}
 use Rattle.fuse_spec.specs.Files.Trees.{Tree}
 use Rattle.fk_wire.specs.Dirents.{DirentContent}
 use Rattle.fk_wire.specs.Records.{dirent_content}
-use Rattle.fuse_frames.specs.ReplyTies.{dirent_in}
+use Rattle.fuse_frames.specs.ReplyTies.{dirent_read}
 use Rattle.fs_files.specs.Bounds.{IsThere}
 use Rattle.fs_files.specs.Listed.{listed_in, pair_listed}
 use Rattle.fs_files.proofs.NumberedNames.{StillToGive, next_counted, first_to_give, next_generations, next_listable, given_next, next_room}
@@ -26,11 +26,11 @@ overflow_sub-record g c =
     let old = c.args.self.now in
     let now = c.records.self in
     let all = files_listed (map (pair_listed 0) (listed_in c.args.records)) in
-    let d : Dirent = dirent_in (dirent_content c.in-Some.record) in
+    let d : Dirent = dirent_read (dirent_content c.in-Some.record) in
     let ds : List Dirent = listed_in c.next.new.self in
     let still : StillToGive old.tree old.nodes all now.nodes now.node_room (d ∷ ds) =
     subst (λ (xs : List DirentContent). StillToGive old.tree old.nodes all now.nodes now.node_room
-    (map dirent_in xs)) c.in-Some.ensures.steps c.records.invariant.2 in
+    (map dirent_read xs)) c.in-Some.ensures.steps c.records.invariant.2 in
     (next_listable old.tree old.nodes all now.nodes now.node_room d ds still).0
 
 pub give_named-requires-clause-file : goal.give_named-requires-clause-file
@@ -38,11 +38,11 @@ give_named-requires-clause-file g c =
     let old = c.args.self.now in
     let now = c.records.self in
     let all = files_listed (map (pair_listed 0) (listed_in c.args.records)) in
-    let d : Dirent = dirent_in (dirent_content c.in-Some.record) in
+    let d : Dirent = dirent_read (dirent_content c.in-Some.record) in
     let ds : List Dirent = listed_in c.next.new.self in
     let still : StillToGive old.tree old.nodes all now.nodes now.node_room (d ∷ ds) =
     subst (λ (xs : List DirentContent). StillToGive old.tree old.nodes all now.nodes now.node_room
-    (map dirent_in xs)) c.in-Some.ensures.steps c.records.invariant.2 in
+    (map dirent_read xs)) c.in-Some.ensures.steps c.records.invariant.2 in
     (next_listable old.tree old.nodes all now.nodes now.node_room d ds still).1
 
 pub give_named-requires-clause-there : goal.give_named-requires-clause-there
@@ -50,11 +50,11 @@ give_named-requires-clause-there g c =
     let old = c.args.self.now in
     let now = c.records.self in
     let all = files_listed (map (pair_listed 0) (listed_in c.args.records)) in
-    let d : Dirent = dirent_in (dirent_content c.in-Some.record) in
+    let d : Dirent = dirent_read (dirent_content c.in-Some.record) in
     let ds : List Dirent = listed_in c.next.new.self in
     let still : StillToGive old.tree old.nodes all now.nodes now.node_room (d ∷ ds) =
     subst (λ (xs : List DirentContent). StillToGive old.tree old.nodes all now.nodes now.node_room
-    (map dirent_in xs)) c.in-Some.ensures.steps c.records.invariant.2 in
+    (map dirent_read xs)) c.in-Some.ensures.steps c.records.invariant.2 in
     subst (λ (t : Tree). IsThere t (d.ino - 1)) (sym c.records.invariant.3)
     (next_listable old.tree old.nodes all now.nodes now.node_room d ds still).2
 
@@ -63,11 +63,11 @@ give_named-requires-clause-room g c =
     let old = c.args.self.now in
     let now = c.records.self in
     let all = files_listed (map (pair_listed 0) (listed_in c.args.records)) in
-    let d : Dirent = dirent_in (dirent_content c.in-Some.record) in
+    let d : Dirent = dirent_read (dirent_content c.in-Some.record) in
     let ds : List Dirent = listed_in c.next.new.self in
     let still : StillToGive old.tree old.nodes all now.nodes now.node_room (d ∷ ds) =
     subst (λ (xs : List DirentContent). StillToGive old.tree old.nodes all now.nodes now.node_room
-    (map dirent_in xs)) c.in-Some.ensures.steps c.records.invariant.2 in
+    (map dirent_read xs)) c.in-Some.ensures.steps c.records.invariant.2 in
     next_room old.tree old.nodes all now.nodes now.node_room d ds still
 
 pub give_named-requires-clause-generations : goal.give_named-requires-clause-generations
@@ -75,11 +75,11 @@ give_named-requires-clause-generations g c =
     let old = c.args.self.now in
     let now = c.records.self in
     let all = files_listed (map (pair_listed 0) (listed_in c.args.records)) in
-    let d : Dirent = dirent_in (dirent_content c.in-Some.record) in
+    let d : Dirent = dirent_read (dirent_content c.in-Some.record) in
     let ds : List Dirent = listed_in c.next.new.self in
     let still : StillToGive old.tree old.nodes all now.nodes now.node_room (d ∷ ds) =
     subst (λ (xs : List DirentContent). StillToGive old.tree old.nodes all now.nodes now.node_room
-    (map dirent_in xs)) c.in-Some.ensures.steps c.records.invariant.2 in
+    (map dirent_read xs)) c.in-Some.ensures.steps c.records.invariant.2 in
     next_generations old.tree old.nodes all now.nodes now.node_room d ds still
 
 pub give_named-requires-clause-counted : goal.give_named-requires-clause-counted
@@ -87,11 +87,11 @@ give_named-requires-clause-counted g c =
     let old = c.args.self.now in
     let now = c.records.self in
     let all = files_listed (map (pair_listed 0) (listed_in c.args.records)) in
-    let d : Dirent = dirent_in (dirent_content c.in-Some.record) in
+    let d : Dirent = dirent_read (dirent_content c.in-Some.record) in
     let ds : List Dirent = listed_in c.next.new.self in
     let still : StillToGive old.tree old.nodes all now.nodes now.node_room (d ∷ ds) =
     subst (λ (xs : List DirentContent). StillToGive old.tree old.nodes all now.nodes now.node_room
-    (map dirent_in xs)) c.in-Some.ensures.steps c.records.invariant.2 in
+    (map dirent_read xs)) c.in-Some.ensures.steps c.records.invariant.2 in
     next_counted old.tree old.nodes all now.nodes now.node_room d ds still
 
 pub records-preserved : goal.records-preserved
@@ -99,11 +99,11 @@ records-preserved g c =
     let old = c.args.self.now in
     let now = c.records.self in
     let all = files_listed (map (pair_listed 0) (listed_in c.args.records)) in
-    let d : Dirent = dirent_in (dirent_content c.in-Some.record) in
+    let d : Dirent = dirent_read (dirent_content c.in-Some.record) in
     let ds : List Dirent = listed_in c.next.new.self in
     let still : StillToGive old.tree old.nodes all now.nodes now.node_room (d ∷ ds) =
     subst (λ (xs : List DirentContent). StillToGive old.tree old.nodes all now.nodes now.node_room
-    (map dirent_in xs)) c.in-Some.ensures.steps c.records.invariant.2 in
+    (map dirent_read xs)) c.in-Some.ensures.steps c.records.invariant.2 in
     let next = c.give_named.new.self in
     let does = c.give_named.ensures in (
       tt,
@@ -120,7 +120,7 @@ returns-clause-given g c =
     let all = files_listed (map (pair_listed 0) (listed_in c.args.records)) in
     let still : StillToGive old.tree old.nodes all now.nodes now.node_room [] =
     subst (λ (xs : List DirentContent). StillToGive old.tree old.nodes all now.nodes now.node_room
-    (map dirent_in xs)) c.in-None.ensures.steps.0 c.records.invariant.2 in
+    (map dirent_read xs)) c.in-None.ensures.steps.0 c.records.invariant.2 in
     still.goes now.nodes refl
 
 pub returns-clause-tree : goal.returns-clause-tree

@@ -1,14 +1,14 @@
 use Rattle.std.proofs.Common.{sym, ◌∙◌}
-use Rattle.fs_files.specs.Values.{server_at, operation_of}
+use Rattle.fs_files.specs.Values.{server_at, held_operation_of}
 use Rattle.fs_files.proofs.Drawn.{closed_draws, open_draws}
 use Rattle.fs_files.proofs.files.Files.plan_asked.Goals as goal
 
 pub returns-then-not-is_open_for : goal.returns-then-not-is_open_for
 returns-then-not-is_open_for g c v m = closed_draws (server_at m c.args.self.now v)
-    (operation_of c.args.operation.now) c.no_numbers.result
+    (held_operation_of c.args.operation.now) c.no_numbers.result
     (sym (c.is_open_for.ensures v) ∙ c.if-not-is_open_for.true) c.no_numbers.ensures
 
 pub returns : goal.returns
-returns g c v m = open_draws (server_at m c.args.self.now v) (operation_of c.args.operation.now) c.plan_of.result
+returns g c v m = open_draws (server_at m c.args.self.now v) (held_operation_of c.args.operation.now) c.plan_of.result
     (sym (c.is_open_for.ensures v) ∙ c.if-not-is_open_for.false)
     (rw (← c.self.view_is, ← c.self-inside.view_is) (c.plan_of.ensures v))

@@ -4,8 +4,8 @@ use Rattle.fk_wire.specs.Dirents.{DirentContent}
 use Rattle.fk_wire.specs.Records.{records_in, dirent_content}
 use Rattle.fuse_spec.specs.Files.Operations.{Dirent, files_listed}
 use Rattle.fuse_spec.specs.declared.Entry.{Entry}
-use Rattle.fuse_frames.specs.ReplyTies.{dirent_in}
-use Rattle.fs_files.specs.Listed.{names_in}
+use Rattle.fuse_frames.specs.ReplyTies.{dirent_read}
+use Rattle.fs_files.specs.Listed.{dirents_in_bytes}
 use Rattle.fs_files.specs.Replies.{IsListable}
 use Rattle.fs_files.specs.Numbering.{entries_named, entry_named}
 use Rattle.fuse_spec.specs.Files.Operations.{first_listed}
@@ -19,10 +19,10 @@ records-init g c =
     let tree = c.args.self.now.tree in
     let nodes = c.args.self.now.nodes in
     let same = (over_are c.args.records.now c.over.result c.unwrap-record-items.result c.over.ensures c.unwrap-record-items.ensures).0 in
-    let names : map dirent_in (records_in c.unwrap-record-items.result) ≡ names_in c.args.records.now =
-    ap (λ (ds : List DirentContent). map dirent_in ds) same in
-    let many : length (map dirent_in (records_in c.unwrap-record-items.result))
-    ≡ length (names_in c.args.records.now) = ap (λ (ds : List Dirent). length ds) names in
+    let names : map dirent_read (records_in c.unwrap-record-items.result) ≡ dirents_in_bytes c.args.records.now =
+    ap (λ (ds : List DirentContent). map dirent_read ds) same in
+    let many : length (map dirent_read (records_in c.unwrap-record-items.result))
+    ≡ length (dirents_in_bytes c.args.records.now) = ap (λ (ds : List Dirent). length ds) names in
     let none : length c.args.entries.now.items ≡ 0 = ap (λ (es : List Entry). length es) c.requires.none in
     let no_file_entries : length c.args.file_entries.now.items ≡ 0 = ap (λ (es : List Entry). length es) c.requires.no_file_entries in
     let room = c.requires.room in
@@ -40,26 +40,26 @@ records-init g c =
 pub overflow_sub-record : goal.overflow_sub-record
 overflow_sub-record g c =
     let listable = subst (λ (ds : List DirentContent). All (IsListable c.args.self.now.tree)
-    (map dirent_in ds)) c.in-Some.ensures.steps c.records.invariant.2 in
-    (All-head (IsListable c.args.self.now.tree) (dirent_in (dirent_content c.in-Some.record))
-    (map dirent_in (records_in c.next.new.self)) listable).0
+    (map dirent_read ds)) c.in-Some.ensures.steps c.records.invariant.2 in
+    (All-head (IsListable c.args.self.now.tree) (dirent_read (dirent_content c.in-Some.record))
+    (map dirent_read (records_in c.next.new.self)) listable).0
 
 pub entry_of-entry-requires : goal.entry_of-entry-requires
 entry_of-entry-requires g c =
     let listable = subst (λ (ds : List DirentContent). All (IsListable c.args.self.now.tree)
-    (map dirent_in ds)) c.in-Some.ensures.steps c.records.invariant.2 in
-    (All-head (IsListable c.args.self.now.tree) (dirent_in (dirent_content c.in-Some.record))
-    (map dirent_in (records_in c.next.new.self)) listable).1
+    (map dirent_read ds)) c.in-Some.ensures.steps c.records.invariant.2 in
+    (All-head (IsListable c.args.self.now.tree) (dirent_read (dirent_content c.in-Some.record))
+    (map dirent_read (records_in c.next.new.self)) listable).1
 
 pub records-preserved : goal.records-preserved
 records-preserved g c =
     let tree = c.args.self.now.tree in
     let nodes = c.args.self.now.nodes in
-    let d : Dirent = dirent_in (dirent_content c.in-Some.record) in
-    let ds : List Dirent = map dirent_in (records_in c.next.new.self) in
-    let first : map dirent_in (records_in c.records.record-iterator) ≡ d ∷ ds =
-    ap (λ (xs : List DirentContent). map dirent_in xs) c.in-Some.ensures.steps in
-    let many : length (map dirent_in (records_in c.records.record-iterator)) ≡ length (d ∷ ds) =
+    let d : Dirent = dirent_read (dirent_content c.in-Some.record) in
+    let ds : List Dirent = map dirent_read (records_in c.next.new.self) in
+    let first : map dirent_read (records_in c.records.record-iterator) ≡ d ∷ ds =
+    ap (λ (xs : List DirentContent). map dirent_read xs) c.in-Some.ensures.steps in
+    let many : length (map dirent_read (records_in c.records.record-iterator)) ≡ length (d ∷ ds) =
     ap (λ (xs : List Dirent). length xs) first in
     let es : List Entry = c.records.entries.items in
     let ts : List Entry = c.records.file_entries.items in
@@ -67,8 +67,8 @@ records-preserved g c =
     let is : e ≡ entry_named tree nodes d = c.entry_of-entry.ensures in
     let o : Option Entry = cond (is_dots d.name) None (Some e) in
     let rest : List Entry = files_listed (entries_named tree nodes ds) in
-    let whole : List Entry = map (entry_named tree nodes) (names_in c.args.records.now) in
-    let all_files : List Entry = files_listed (entries_named tree nodes (names_in c.args.records.now)) in
+    let whole : List Entry = map (entry_named tree nodes) (dirents_in_bytes c.args.records.now) in
+    let all_files : List Entry = files_listed (entries_named tree nodes (dirents_in_bytes c.args.records.now)) in
     let items : es ++ map (entry_named tree nodes) (d ∷ ds) ≡ whole =
     subst (λ (xs : List Dirent). es ++ map (entry_named tree nodes) xs ≡ whole) first c.records.invariant.3 in
     let file_entries : ts ++ files_listed (entries_named tree nodes (d ∷ ds)) ≡ all_files =

@@ -1,7 +1,7 @@
 use Rattle.std.proofs.Common.{◌≡◌, List, length, map, sym, subst, ap, arith}
 use Rattle.fk_wire.specs.Dirents.{DirentContent}
 use Rattle.fuse_spec.specs.declared.Entry.{Entry}
-use Rattle.fuse_frames.specs.ReplyTies.{dirent_in, dirent_of}
+use Rattle.fuse_frames.specs.ReplyTies.{dirent_read, dirent_written}
 use Rattle.fs_files.proofs.Listing.{over_are}
 use Rattle.fs_files.proofs.listed_names.ListedNames.framed.Goals as goal
 
@@ -15,7 +15,7 @@ pub listed_plus-requires-clause-types : goal.listed_plus-requires-clause-types
 listed_plus-requires-clause-types g c =
     let same = over_are c.args.self.now.records.items c.over.result c.unwrap-records.result
     (rw c.deref.ensures.value at c.over.ensures) c.unwrap-records.ensures in
-    subst (λ (ds : List DirentContent). map dirent_of (map dirent_in ds) ≡ ds)
+    subst (λ (ds : List DirentContent). map dirent_written (map dirent_read ds) ≡ ds)
     (sym same.0) c.args.self.now.are_records.1
 
 pub listed_plus-requires-clause-room : goal.listed_plus-requires-clause-room

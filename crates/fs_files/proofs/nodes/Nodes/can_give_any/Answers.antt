@@ -1,6 +1,6 @@
 use Rattle.std.proofs.Common.{◌^◌, ◌-◌, arith}
 use Rattle.std.proofs.lemmas.Bool.{ltb-true}
-use Rattle.fs_files.proofs.DrawsFew.{counts_within, generations_few}
+use Rattle.fs_files.proofs.DrawsFew.{lemma_counts_in_range, generations_few}
 use Rattle.fs_files.proofs.Giving.{holds_sorted}
 use Rattle.fs_files.proofs.nodes.Nodes.can_give_any.Goals as goal
 
@@ -14,5 +14,5 @@ returns-then-generations_left g c = λ near files few.
     let all = c.generations_left.ensures in
     rw (← c.self.view_is) (
       omega (arith, generations, few, left, all),
-      counts_within t most files (holds_sorted t c.keeps_sound.ensures) c.self.invariant (omega (arith, few, low)),
+      lemma_counts_in_range t most files (holds_sorted t c.lemma_sound.ensures) c.self.invariant (omega (arith, few, low)),
     )

@@ -1,6 +1,6 @@
 use Rattle.std.proofs.Common.{◌≡◌, ◌+◌, ◌-◌, ◌^◌, sym, subst, arith}
 use Rattle.std.specs.Prelude.{min}
-use Rattle.fs_files.specs.Bounds.{AreCounted}
+use Rattle.fs_files.specs.Bounds.{HaveCountsUpTo}
 use Rattle.fs_files.proofs.Lookups.{given_counted}
 use Rattle.fs_files.proofs.nodes.Nodes.count_again.Goals as goal
 
@@ -13,7 +13,7 @@ invariant_of-self g c =
     let most = c.self.inside.most_lookups in
     let more = c.saturating_add-self-inside.result in
     let rises : more ≡ min (most + 1) (2 ^ 64 - 1) = omega (arith, c.saturating_add-self-inside.ensures) in
-    subst (AreCounted more) (sym c.give.ensures.table)
+    subst (HaveCountsUpTo more) (sym c.give.ensures.table)
     (given_counted (g.S.NodeStore.table c.self.inside.store) most more c.self.invariant
     (λ id row there. let low = (rw (← c.self.view_is) at c.requires) id row there in omega (arith, low))
     rises c.in-Some.file c.give.result.0)

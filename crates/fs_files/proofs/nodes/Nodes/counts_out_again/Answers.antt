@@ -22,7 +22,7 @@ pub returns : goal.returns
 returns g c =
     let t = g.S.NodeStore.table c.self.inside.store in
     rw (← c.self.view_is)
-    (sym (none_out t (files_of t c.args.entries.now) (holds_sorted t c.keeps_sound.ensures)
+    (sym (none_out t (files_of t c.args.entries.now) (holds_sorted t c.lemma_sound.ensures)
     (rw (← c.self.view_is) at c.requires)
     ((rw (← c.self.view_is) at c.loop.invariant.0) (none_counted t
     (files_of t c.args.entries.now) c.loop.left.now c.loop.counter _ c.loop.invariant.1 c.loop-test.false))))

@@ -1,6 +1,6 @@
 use Rattle.std.proofs.Common.{sym, subst, ◌∙◌}
 use Rattle.fuse_spec.specs.Server.Nodes.{IsUnheld}
-use Rattle.fs_files.specs.Values.{NodesState}
+use Rattle.fs_files.specs.Values.{HeldNodes}
 use Rattle.fs_nodes.proofs.Callers.{has_no}
 use Rattle.fs_files.proofs.NodeLemmas.{has_some}
 use Rattle.fs_files.proofs.nodes.Nodes.has.Goals as goal
@@ -12,5 +12,5 @@ returns-clause-none g c = λ none. rw (← c.self.view_is)
 
 pub returns-clause-some : goal.returns-clause-some
 returns-clause-some g c = λ some unheld. has_some
-    (g.S.NodeStore.table c.self.inside.store) c.args.file c.keeps_sound.ensures.sorted (sym some ∙ c.has.ensures)
-    (subst (λ (v : NodesState). IsUnheld v.table c.args.file) (sym c.self.view_is) unheld)
+    (g.S.NodeStore.table c.self.inside.store) c.args.file c.lemma_sound.ensures.sorted (sym some ∙ c.has.ensures)
+    (subst (λ (v : HeldNodes). IsUnheld v.table c.args.file) (sym c.self.view_is) unheld)

@@ -13,4 +13,4 @@ returns-in-Some-clause-out g c reached files times =
 pub returns-in-Some-clause-within : goal.returns-in-Some-clause-within
 returns-in-Some-clause-within g c short files times =
     rw (← c.self.view_is)
-    (within_at (g.S.NodeStore.table c.self.inside.store) files c.in-Some.id c.args.file c.in-Some.ensures.some c.count_of.result c.args.more c.count_of.ensures times c.keeps_sound.ensures (rw (← c.self.view_is) at c.requires) short)
+    (within_at (g.S.NodeStore.table c.self.inside.store) files c.in-Some.id c.args.file c.in-Some.ensures.some c.count_of.result c.args.more c.count_of.ensures times c.lemma_sound.ensures (rw (← c.self.view_is) at c.requires) short)

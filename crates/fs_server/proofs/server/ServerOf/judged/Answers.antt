@@ -1,7 +1,7 @@
 use Rattle.std.proofs.Common.{◌≡◌, ◌<◌, ◌^◌, true, true≢false, sym, ◌∙◌}
 use Rattle.fk_wire.specs.Requests.{request_content, request_message}
 use Rattle.fs_server.specs.Taking.{answers}
-use Rattle.fs_server.proofs.Becoming.{exhausts}
+use Rattle.fs_server.proofs.TakingEffects.{exhausts}
 use Rattle.fs_server.proofs.Frames.{refuses_as}
 use Rattle.fs_server.proofs.server.ServerOf.judged.Goals.{else-answers-via-then-answers+else-self-ge-COUNTER_END, else-answers-via-else-answers}
 use Rattle.fs_server.proofs.server.ServerOf.judged.Goals as goal
@@ -28,6 +28,6 @@ returns-clause-takeable g c =
       spells = c.in-Ok.ensures.ok;
       only = c.in-Ok.ensures.only;
       faultless = c.in_default-request_fault.ensures.faultless;
-      within = c.within.ensures;
+      within = c.lemma_in_range.ensures;
       number = number;
     }

@@ -1,9 +1,9 @@
 use Rattle.std.proofs.Common.{rules, ◌≡◌, true, sym, ap, ◌∙◌}
 use Rattle.fk_wire.specs.Requests.{request_message, request_content}
-use Rattle.fs_server.specs.Taking.{is_held}
-use Rattle.fs_server.proofs.Becoming.{faultless, held_so, interrupted_so}
+use Rattle.fs_server.specs.Taking.{holds_request}
+use Rattle.fs_server.proofs.TakingEffects.{faultless, held_so, interrupted_so}
 use Rattle.fs_server.proofs.Frames.{forgets}
-use Rattle.fs_server.proofs.Wanting.{answer_wants, hold_wants, memory_can}
+use Rattle.fs_server.proofs.MemoryRefusals.{answer_wants, hold_wants, memory_can}
 use Rattle.fs_server.proofs.server.ServerOf.take.Goals as goal
 
 pub returns-then-is_forget-clause-effect : goal.returns-then-is_forget-clause-effect
@@ -35,7 +35,7 @@ pub returns-in_default : goal.returns-in_default
 returns-in_default g c =
     let m = request_message c.in_ok-request.request in
     let right = c.in_ok-request.ensures.takeable in
-    let is : is_held c.in_ok-request.request.nodeid (request_content c.in_ok-request.request.body) ≡ true = search rules in
+    let is : holds_request c.in_ok-request.request.nodeid (request_content c.in_ok-request.request.body) ≡ true = search rules in
     record {
       refused = c.hold.ensures.refused;
       effect = held_so c.args.self.now c.args.bytes.now m right is c.hold.new.self c.hold.result c.hold.ensures.fault c.hold.ensures.taken c.hold.ensures.held;

@@ -3,7 +3,7 @@ use Rattle.std.proofs.lemmas.List.{append-nil, append_assoc}
 use Rattle.fuse_spec.specs.Files.Operations.{Dirent, first_listed, listed_by}
 use Rattle.fuse_spec.specs.Files.Trees.{record_length}
 use Rattle.fs_tree.specs.Stored.{files_led, fitting_with, lead_in, lead_pair, in_directory}
-use Rattle.fs_tree.specs.EntryViews.{entry_of}
+use Rattle.fs_tree.specs.EntryViews.{leaf_entry}
 use Rattle.fs_tree.proofs.NameLinks.{names-after, files-more, files-end, over, told-append, under}
 use Rattle.fs_tree.proofs.entries.Entries.files_listed.Goals as goal
 
@@ -26,8 +26,8 @@ loop-leaf-preserved g c =
     let fits = under len c.loop-leaf.room c.if-len-room.false in (
       (λ files.
           let r : ℕ × Dirent = lead_in files (in_directory 0
-          (entry_of (c.in-Some.field-0-0.now, c.in-Some.leaf.now))) in
-          let rest = map (lead_in files) (map (in_directory 0) (map entry_of c.next.new.self)) in
+          (leaf_entry (c.in-Some.field-0-0.now, c.in-Some.leaf.now))) in
+          let rest = map (lead_in files) (map (in_directory 0) (map leaf_entry c.next.new.self)) in
           let size : 128 + record_length r.1 ≡ len = ap (λ n. 128 + n)
           (rw c.deref.ensures.value at (sym c.record_len-len.ensures.len)) in
           let done = rw c.in-Some.ensures.steps at (c.loop-leaf.invariant.0 files) in
@@ -54,8 +54,8 @@ returns-then-len-room g c =
     let len = 128 + c.record_len-len.result in
     let fails = over len c.loop-leaf.room c.if-len-room.true in
     λ files.
-    let r : ℕ × Dirent = lead_in files (in_directory 0 (entry_of (c.in-Some.field-0-0.now, c.in-Some.leaf.now))) in
-    let rest = map (lead_in files) (map (in_directory 0) (map entry_of c.next.new.self)) in
+    let r : ℕ × Dirent = lead_in files (in_directory 0 (leaf_entry (c.in-Some.field-0-0.now, c.in-Some.leaf.now))) in
+    let rest = map (lead_in files) (map (in_directory 0) (map leaf_entry c.next.new.self)) in
     let size : 128 + record_length r.1 ≡ len = ap (λ n. 128 + n)
     (rw c.deref.ensures.value at (sym c.record_len-len.ensures.len)) in
     let done = rw c.in-Some.ensures.steps at (c.loop-leaf.invariant.0 files) in

@@ -4,7 +4,7 @@ use Rattle.fuse_spec.specs.Files.Operations.{Dirent}
 use Rattle.fuse_spec.specs.Files.Trees.{record_length}
 use Rattle.fs_tree.specs.Stored.{fitting_with, lead_in, in_directory}
 use Rattle.fs_tree.specs.Views.{lead_of}
-use Rattle.fs_tree.specs.EntryViews.{entry_of}
+use Rattle.fs_tree.specs.EntryViews.{leaf_entry}
 use Rattle.fs_tree.proofs.NameLinks.{names-after, fitting-more, fitting-end, over, under}
 use Rattle.fs_tree.proofs.entries.Entries.list.Goals.{in-None, in-Some+then-len-room}
 use Rattle.fs_tree.proofs.entries.Entries.list.Goals as goal
@@ -20,8 +20,8 @@ pub loop-serial-preserved : goal.loop-serial-preserved
 loop-serial-preserved g c =
     let files = c.args.files.now in
     let more = c.args.more in
-    let r : ℕ × Dirent = lead_in files (in_directory 0 (entry_of (c.in-Some.serial.now, c.in-Some.leaf.now))) in
-    let rest = map (lead_in files) (map (in_directory 0) (map entry_of c.next.new.self)) in
+    let r : ℕ × Dirent = lead_in files (in_directory 0 (leaf_entry (c.in-Some.serial.now, c.in-Some.leaf.now))) in
+    let rest = map (lead_in files) (map (in_directory 0) (map leaf_entry c.next.new.self)) in
     let size : more + record_length r.1 ≡ more + c.record_len.result =
     ap (λ n. more + n) (rw c.deref.ensures.value at (sym c.record_len.ensures.len)) in
     let fits = under (more + c.record_len.result) c.loop-serial.room c.if-len-room.false in
@@ -37,8 +37,8 @@ returns g c = elim c.match-next.branch [
   | in-Some+then-len-room w ↦
       let files = c.args.files.now in
       let more = c.args.more in
-      let r : ℕ × Dirent = lead_in files (in_directory 0 (entry_of (w.in-Some.serial.now, w.in-Some.leaf.now))) in
-      let rest = map (lead_in files) (map (in_directory 0) (map entry_of c.next.new.self)) in
+      let r : ℕ × Dirent = lead_in files (in_directory 0 (leaf_entry (w.in-Some.serial.now, w.in-Some.leaf.now))) in
+      let rest = map (lead_in files) (map (in_directory 0) (map leaf_entry c.next.new.self)) in
       let size : more + record_length r.1 ≡ more + w.record_len.result =
       ap (λ n. more + n) (rw w.deref.ensures.value at (sym w.record_len.ensures.len)) in
       let fails = over (more + w.record_len.result) c.loop-serial.room w.if-len-room.true in

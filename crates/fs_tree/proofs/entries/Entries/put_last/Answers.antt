@@ -1,6 +1,6 @@
 use Rattle.std.proofs.Common.{ap, ◌∙◌, map, refl}
 use Rattle.fs_tree.specs.Stored.{Entry}
-use Rattle.fs_tree.specs.EntryViews.{entry_of}
+use Rattle.fs_tree.specs.EntryViews.{leaf_entry}
 use Rattle.fs_tree.proofs.NameLinks.{AreLinked-put, AreNamedOnce-put, put-entries}
 use Rattle.fs_tree.proofs.entries.Entries.put_last.Goals as goal
 
@@ -19,8 +19,8 @@ invariant_of-self-2 g c =
       c.deref-2.ensures.value,
     ) (
       AreLinked-put x c.args.link c.self.inside.links.entries _
-          (map entry_of c.self.inside.names.entries) refl refl updates.3 updates.1 c.self.invariant.0,
-      AreNamedOnce-put (map entry_of c.self.inside.names.entries) x c.self.invariant.1,
+          (map leaf_entry c.self.inside.names.entries) refl refl updates.3 updates.1 c.self.invariant.0,
+      AreNamedOnce-put (map leaf_entry c.self.inside.names.entries) x c.self.invariant.1,
     )
 
 pub returns-clause-ok : goal.returns-clause-ok
@@ -28,7 +28,7 @@ returns-clause-ok g c =
     let before = rw (← c.self.view_is) at c.requires in
     let replaced = rw (← c.self.view_is, c.deref.ensures.value) at c.serial_at-replaced.ensures in
     rw (← c.self.view_is)
-    (ap (map entry_of) c.take_away.ensures.entries
+    (ap (map leaf_entry) c.take_away.ensures.entries
     ∙ rw (
       c.in_ok-_none.ensures.entries,
       replaced,

@@ -1,7 +1,7 @@
 use Rattle.std.proofs.Common.{ap, ◌∙◌, map, not}
 use Rattle.fuse_spec.specs.Files.Trees.{same_name}
 use Rattle.fs_tree.specs.Stored.{without_key}
-use Rattle.fs_tree.specs.EntryViews.{entry_of}
+use Rattle.fs_tree.specs.EntryViews.{leaf_entry}
 use Rattle.fs_tree.proofs.NameLinks.{AreLinked-removed, AreNamedOnce-where, removed-entries}
 use Rattle.fs_tree.proofs.entries.Entries.remove.Goals as goal
 
@@ -14,14 +14,14 @@ invariant_of-self g c =
       removed-entries c.args.name.now c.self.inside.names.entries c.self.invariant.1 c.take_away.ensures.was_ordered,
     ) (
       AreLinked-removed c.args.name.now c.self.inside.links.entries _
-          (map entry_of c.self.inside.names.entries) c.swap_remove-link.ensures.updates.3 c.swap_remove-link.ensures.updates.1 c.self.invariant.0,
+          (map leaf_entry c.self.inside.names.entries) c.swap_remove-link.ensures.updates.3 c.swap_remove-link.ensures.updates.1 c.self.invariant.0,
       AreNamedOnce-where (λ e. not (same_name e.name c.args.name.now))
-          (map entry_of c.self.inside.names.entries) c.self.invariant.1,
+          (map leaf_entry c.self.inside.names.entries) c.self.invariant.1,
     )
 
 pub returns : goal.returns
 returns g c =
     let serial = rw (← c.self.view_is) at c.serial_at-serial.ensures in
     rw (← c.self.view_is)
-    (ap (map entry_of) (c.take_away.ensures.entries ∙ ap (λ o. without_key o c.self.inside.names.entries) serial)
+    (ap (map leaf_entry) (c.take_away.ensures.entries ∙ ap (λ o. without_key o c.self.inside.names.entries) serial)
     ∙ removed-entries c.args.name.now c.self.inside.names.entries c.self.invariant.1 c.take_away.ensures.was_ordered)

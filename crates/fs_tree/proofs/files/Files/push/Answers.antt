@@ -1,8 +1,8 @@
 use Rattle.std.proofs.Common.{ap, ◌∙◌, map}
-use Rattle.fs_tree.specs.Views.{content_in, file_of}
+use Rattle.fs_tree.specs.Views.{content_in, viewed_file}
 use Rattle.fs_tree.proofs.FileRows.{put-seen}
 use Rattle.fs_tree.proofs.files.Files.push.Goals as goal
 
 pub returns-clause-ok : goal.returns-clause-ok
 returns-clause-ok g c = rw (← c.self.view_is) (ap
-    (map file_of) c.in_ok-_old.ensures.entries ∙ put-seen content_in c.self.inside.contents.entries c.args.birth c.args.content)
+    (map viewed_file) c.in_ok-_old.ensures.entries ∙ put-seen content_in c.self.inside.contents.entries c.args.birth c.args.content)

@@ -1,5 +1,5 @@
 use Rattle.std.proofs.Common.{ap, ◌∙◌}
-use Rattle.fuse_frames.specs.RequestTies.{body_asking, body_in, content_of}
+use Rattle.fuse_frames.specs.RequestTies.{body_asking, body_in, request_content_of}
 use Rattle.fuse_frames.proofs.RequestLemmas.{asked_at}
 use Rattle.fuse_frames.proofs.request_frame.RequestFrame.asks.Goals as goal
 
@@ -10,7 +10,7 @@ framed-requires g c =
     let node = c.header_node-nodeid.ensures in (
       body_asking operation,
       ap (body_in c.header_node-nodeid.result) body
-          ∙ (λ i. body_in (node i) (content_of (body_asking operation))) ∙ asked_at operation,
+          ∙ (λ i. body_in (node i) (request_content_of (body_asking operation))) ∙ asked_at operation,
       body,
     )
 
@@ -21,4 +21,4 @@ returns g c =
     let node = c.header_node-nodeid.ensures in
     c.framed.ensures (body_asking operation)
     (ap (body_in c.header_node-nodeid.result) body
-    ∙ (λ i. body_in (node i) (content_of (body_asking operation))) ∙ asked_at operation)
+    ∙ (λ i. body_in (node i) (request_content_of (body_asking operation))) ∙ asked_at operation)

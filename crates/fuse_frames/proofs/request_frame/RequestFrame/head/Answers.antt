@@ -1,17 +1,17 @@
 use Rattle.std.proofs.Common.{sym}
-use Rattle.fk_wire.specs.Opcodes.{served}
+use Rattle.fk_wire.specs.Opcodes.{latest_minor}
 use Rattle.fuse_frames.proofs.RequestLemmas.{has_head, opcode_at, some_opcode, unique_at}
 use Rattle.fuse_frames.proofs.request_frame.RequestFrame.head.Goals as goal
 
 pub returns-in_default-clause-unique : goal.returns-in_default-clause-unique
 returns-in_default-clause-unique g c =
     absurd (has_head c.self.inside.bytes.items c.deref.result.now c.args.self.now c.self.invariant (sym c.self.view_is)
-    c.deref.ensures.value c.in_default.field-0 (c.in_default.ensures.fault served).0)
+    c.deref.ensures.value c.in_default.field-0 (c.in_default.ensures.fault latest_minor).0)
 
 pub returns-in_default-clause-opcode : goal.returns-in_default-clause-opcode
 returns-in_default-clause-opcode g c =
     absurd (has_head c.self.inside.bytes.items c.deref.result.now c.args.self.now c.self.invariant (sym c.self.view_is)
-    c.deref.ensures.value c.in_default.field-0 (c.in_default.ensures.fault served).0)
+    c.deref.ensures.value c.in_default.field-0 (c.in_default.ensures.fault latest_minor).0)
 
 pub returns-in_default-opcode_of_code-clause-unique : goal.returns-in_default-opcode_of_code-clause-unique
 returns-in_default-opcode_of_code-clause-unique g c =

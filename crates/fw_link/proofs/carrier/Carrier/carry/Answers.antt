@@ -1,7 +1,7 @@
 use Rattle.std.proofs.Common.{◌≡◌, ℕ, List, [], length, inl, inr, Result, Ok, Err, subst, sym, ap, ◌∙◌, rules}
 use Rattle.std.specs.Prelude.{OnErr}
-use Rattle.fw_link.specs.Carrying.{IsLost, spelled}
-use Rattle.fw_link.specs.Cutting.{Stands}
+use Rattle.fw_link.specs.Carrying.{IsLost, envelope_bytes}
+use Rattle.fw_link.specs.Cutting.{HoldsEnvelope}
 use Rattle.fw_link.specs.Traffic.{HasFailed, sent}
 use Rattle.fw_link.proofs.Fronts.{lost, put_and_got, whole_front}
 use Rattle.fw_link.proofs.Splitting.{one_put}
@@ -13,7 +13,7 @@ on_err P (Err _) p = p
 
 pub returns-in_err-get_bytes-clause-err : goal.returns-in_err-get_bytes-clause-err
 returns-in_err-get_bytes-clause-err g c =
-    let bytes = spelled c.args.envelope.now in
+    let bytes = envelope_bytes c.args.envelope.now in
     let put : c.deref.result.now ≡ bytes = search rules in
     let len : length c.deref.result.now ≡ c.len-len.result = search rules in
     let (got, carried, why) = c.in_err-get_bytes.ensures.err in
@@ -40,7 +40,7 @@ returns-in_err-get_bytes-clause-err g c =
 
 pub returns-then-not-stands-clause-err : goal.returns-then-not-stands-clause-err
 returns-then-not-stands-clause-err g c =
-    let bytes = spelled c.args.envelope.now in
+    let bytes = envelope_bytes c.args.envelope.now in
     let put : c.deref.result.now ≡ bytes = search rules in
     let len : length c.deref.result.now ≡ c.len-len.result = search rules in
     lost
@@ -70,9 +70,9 @@ returns-then-not-stands-clause-err g c =
 
 pub returns-clause-ok : goal.returns-clause-ok
 returns-clause-ok g c =
-    let bytes = spelled c.args.envelope.now in
+    let bytes = envelope_bytes c.args.envelope.now in
     let put : c.deref.result.now ≡ bytes = search rules in
-    let there : Stands c.get_bytes.new.cutter c.args.envelope.now.kind c.args.envelope.now.copy c.args.envelope.now.frame.now = search rules in
+    let there : HoldsEnvelope c.get_bytes.new.cutter c.args.envelope.now.kind c.args.envelope.now.copy c.args.envelope.now.frame.now = search rules in
     put_and_got
     g.L.Link.carries
     g.met.L.Link.goes_on

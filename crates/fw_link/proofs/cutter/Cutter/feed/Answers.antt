@@ -1,21 +1,21 @@
 use Rattle.std.proofs.Common.{ℕ, ◌≡◌, ◌≤◌, ◌-◌, ◌++◌, take, drop, length, subst, inr, arith}
 use Rattle.std.proofs.lemmas.List.{length-take, length-drop}
 use Rattle.fw_link.proofs.Cuts.{sound, damaged, filled, up_to_one, counted}
-use Rattle.fw_link.specs.Envelopes.{IsSound, first_of}
+use Rattle.fw_link.specs.Envelopes.{IsUndamaged, first_envelope_of}
 use Rattle.fw_link.proofs.cutter.Cutter.feed.Goals as goal
 use Rattle.fw_link.proofs.cutter.Cutter.feed.Given.{Over}
 
 -- the judged bytes are sound
-sound_first : (g : Over) (c : goal.After-fill-rest g) → IsSound c.fill-head.new.held.items
-sound_first g c = subst IsSound c.as_slice.ensures (c.is_sound.ensures.sound c.if-not-is_sound.false)
+sound_first : (g : Over) (c : goal.After-fill-rest g) → IsUndamaged c.fill-head.new.held.items
+sound_first g c = subst IsUndamaged c.as_slice.ensures (c.is_sound.ensures.sound c.if-not-is_sound.false)
 
 -- and so is the stream
-sound_stream : (g : Over) (c : goal.After-fill-rest g) → IsSound (c.self.inside.held.items ++ c.args.piece.now)
-sound_stream g c = sound _ _ (omega arith) (subst IsSound c.fill-head.ensures.held (sound_first g c))
+sound_stream : (g : Over) (c : goal.After-fill-rest g) → IsUndamaged (c.self.inside.held.items ++ c.args.piece.now)
+sound_stream g c = sound _ _ (omega arith) (subst IsUndamaged c.fill-head.ensures.held (sound_first g c))
 
 -- what is held is the stream up to the end of its first envelope
 held : (g : Over) (c : goal.After-fill-rest g) → c.fill-rest.new.held.items
-    ≡ first_of (c.self.inside.held.items ++ c.args.piece.now)
+    ≡ first_envelope_of (c.self.inside.held.items ++ c.args.piece.now)
 held g c = filled _ _ _ _ _ _ (c.self.invariant.one c.if-self.false)
     (sound_first g c) c.fill-head.ensures.taken c.fill-head.ensures.held
     (rw c.as_slice-2.ensures at c.end_of-end.ensures.end) c.fill-rest.ensures.held

@@ -26,7 +26,7 @@ pub returns-then-not-run_one-clause-ran : goal.returns-then-not-run_one-clause-r
 returns-then-not-run_one-clause-ran g c =
     let same = c.run_one.ensures.not_run c.if-not-run_one.true in
     comes_over g.L.Link.carries g.L.Link.failed
-    (session_of c.args.self.now.world c.args.self.now.is_lost) c.args.self.now.link c.keeps_protocol.ensures.sound
+    (session_of c.args.self.now.world c.args.self.now.is_lost) c.args.self.now.link c.lemma_protocol.ensures.sound
     (take c.loop-k.k c.args.events.now) c.args.records.now.items
     (session_of c.run_one.new.self.world c.run_one.new.self.is_lost) c.run_one.new.self.link c.run_one.new.records.items
     (ran_as_before g.L.Link.carries g.L.Link.failed
@@ -36,7 +36,7 @@ returns-then-not-run_one-clause-ran g c =
 pub returns-clause-ran : goal.returns-clause-ran
 returns-clause-ran g c =
     comes_over g.L.Link.carries g.L.Link.failed
-    (session_of c.args.self.now.world c.args.self.now.is_lost) c.args.self.now.link c.keeps_protocol.ensures.sound c.args.events.now c.args.records.now.items (session_of c.loop-k.self.world c.loop-k.self.is_lost) c.loop-k.self.link c.loop-k.records.items
+    (session_of c.args.self.now.world c.args.self.now.is_lost) c.args.self.now.link c.lemma_protocol.ensures.sound c.args.events.now c.args.records.now.items (session_of c.loop-k.self.world c.loop-k.self.is_lost) c.loop-k.self.link c.loop-k.records.items
     (all_over g.L.Link.carries g.L.Link.failed
     (session_of c.args.self.now.world c.args.self.now.is_lost) c.args.self.now.link c.args.events.now c.loop-k.k c.loop-k-test.false c.args.records.now.items (session_of c.loop-k.self.world c.loop-k.self.is_lost) c.loop-k.self.link c.loop-k.records.items c.loop-k.invariant.0)
 
@@ -49,5 +49,5 @@ returns-then-not-run_one-clause-room g c =
     let full : vec_capacity c.args.records.now < vec_len c.args.records.now
     + calls_not_over c.args.self.now.world + 2 * length c.args.events.now =
     omega (arith, c.loop-k.invariant.1, c.loop-k-test.true, c.run_one.ensures.full c.if-not-run_one.true) in
-    room_for_all c.args.self.now.world c.keeps_protocol.ensures.sound (vec_len c.args.records.now)
+    room_for_all c.args.self.now.world c.lemma_protocol.ensures.sound (vec_len c.args.records.now)
     (vec_capacity c.args.records.now) c.loop-k.k (length c.args.events.now) c.loop-k-test.true full

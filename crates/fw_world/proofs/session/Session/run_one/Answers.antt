@@ -10,7 +10,7 @@ pub collect_all-requires : goal.collect_all-requires
 collect_all-requires g c =
     let room : vec_len c.reserve.new.self + c.in-Some.room ≤ vec_capacity c.reserve.new.self =
     made_room c.reserve.result _ _ _ c.reserve.ensures.ok (sym c.is_err.ensures.value ∙ c.if-is_err.false) in
-    let few = one_more_at_most c.args.self.now.world c.step.new.self.world c.keeps_protocol.ensures.sound c.step.new.self.is_lost (event_of c.args.event.now) (outcome_of c.in-Ok.outcome) (g.L.Link.carries c.args.self.now.link c.step.new.self.link) (g.L.Link.failed c.args.self.now.link) (g.L.Link.failed c.step.new.self.link) c.in-Ok.ensures.happens c.in-Ok.ensures.lost in
+    let few = one_more_at_most c.args.self.now.world c.step.new.self.world c.lemma_protocol.ensures.sound c.step.new.self.is_lost (event_of c.args.event.now) (outcome_of c.in-Ok.outcome) (g.L.Link.carries c.args.self.now.link c.step.new.self.link) (g.L.Link.failed c.args.self.now.link) (g.L.Link.failed c.step.new.self.link) c.in-Ok.ensures.happens c.in-Ok.ensures.lost in
     omega (
       arith,
       room,
@@ -36,7 +36,7 @@ returns-in-Err-clause-ran g c ran =
 
 pub returns-in-Ok-clause-room : goal.returns-in-Ok-clause-room
 returns-in-Ok-clause-room g c ran =
-    let few = one_more_at_most c.args.self.now.world c.step.new.self.world c.keeps_protocol.ensures.sound c.step.new.self.is_lost (event_of c.args.event.now) (outcome_of c.in-Ok.outcome) (g.L.Link.carries c.args.self.now.link c.step.new.self.link) (g.L.Link.failed c.args.self.now.link) (g.L.Link.failed c.step.new.self.link) c.in-Ok.ensures.happens c.in-Ok.ensures.lost in
+    let few = one_more_at_most c.args.self.now.world c.step.new.self.world c.lemma_protocol.ensures.sound c.step.new.self.is_lost (event_of c.args.event.now) (outcome_of c.in-Ok.outcome) (g.L.Link.carries c.args.self.now.link c.step.new.self.link) (g.L.Link.failed c.args.self.now.link) (g.L.Link.failed c.step.new.self.link) c.in-Ok.ensures.happens c.in-Ok.ensures.lost in
     let none_left = ap (λ (w : World). length w.kernel.vfs.answers) c.collect_all.ensures.world in
     let calls_left = ap (λ (w : World). length w.kernel.vfs.calls) c.collect_all.ensures.world in
     omega (

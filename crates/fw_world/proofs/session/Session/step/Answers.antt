@@ -15,4 +15,4 @@ carry-requires-clause-out g c = is_out c.args.self.now.world (event_of c.args.ev
 pub returns-clause-refines : goal.returns-clause-refines
 returns-clause-refines g c = steps_over c.args.self.now.world c.step.new.self c.carry.new.self.world
     (event_of c.args.event.now)
-    (outcome_of c.in-Ok.outcome) c.carry.new.self.is_lost c.keeps_protocol.ensures.sound c.in-Ok.ensures.happens c.carry.ensures.same c.carry.ensures.aborts
+    (outcome_of c.in-Ok.outcome) c.carry.new.self.is_lost c.lemma_protocol.ensures.sound c.in-Ok.ensures.happens c.carry.ensures.same c.carry.ensures.aborts

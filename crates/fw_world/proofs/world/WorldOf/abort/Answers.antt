@@ -1,5 +1,5 @@
-use Rattle.fw_world.proofs.Parts.{world_of}
-use Rattle.fw_world.proofs.Made.{aborted}
+use Rattle.fw_world.proofs.WorldParts.{world_of}
+use Rattle.fw_world.proofs.EventEffects.{aborted}
 use Rattle.fw_world.proofs.Interrupts.{abort_refused}
 use Rattle.fw_world.proofs.world.WorldOf.abort.Goals as goal
 

@@ -1,4 +1,4 @@
-use Rattle.fw_world.proofs.Parts.{world_of, call_collected_is_sound}
+use Rattle.fw_world.proofs.WorldParts.{world_of, call_collected_is_sound}
 use Rattle.fw_world.proofs.Stepping.{collect_refines}
 use Rattle.fw_world.proofs.world.WorldOf.collect.Goals as goal
 

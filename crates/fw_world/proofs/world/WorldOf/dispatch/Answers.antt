@@ -1,5 +1,5 @@
 use Rattle.fuse_spec.specs.World.Events as event
-use Rattle.fw_world.proofs.Parts.{world_of}
+use Rattle.fw_world.proofs.WorldParts.{world_of}
 use Rattle.fw_world.proofs.Refusing.{refused_with}
 use Rattle.fw_world.proofs.world.WorldOf.dispatch.Goals as goal
 

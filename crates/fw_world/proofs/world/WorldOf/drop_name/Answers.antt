@@ -1,6 +1,6 @@
 use Rattle.std.proofs.Common.{refl}
-use Rattle.fw_world.proofs.Parts.{world_of}
-use Rattle.fw_world.proofs.Made.{dropped}
+use Rattle.fw_world.proofs.WorldParts.{world_of}
+use Rattle.fw_world.proofs.EventEffects.{dropped}
 use Rattle.fw_world.proofs.Refusing.{drop_refused}
 use Rattle.fw_world.proofs.world.WorldOf.drop_name.Goals as goal
 

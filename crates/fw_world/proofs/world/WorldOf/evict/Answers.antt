@@ -1,6 +1,6 @@
 use Rattle.std.proofs.Common.{refl, sym}
-use Rattle.fw_world.proofs.Parts.{world_of}
-use Rattle.fw_world.proofs.Made.{evicted_so}
+use Rattle.fw_world.proofs.WorldParts.{world_of}
+use Rattle.fw_world.proofs.EventEffects.{evicted_so}
 use Rattle.fw_world.proofs.Refusing.{evict_refused}
 use Rattle.fw_world.proofs.world.WorldOf.evict.Goals as goal
 

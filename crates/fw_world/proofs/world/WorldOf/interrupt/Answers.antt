@@ -1,6 +1,6 @@
 use Rattle.std.proofs.Common.{refl}
-use Rattle.fw_world.proofs.Parts.{world_of}
-use Rattle.fw_world.proofs.Made.{signalled}
+use Rattle.fw_world.proofs.WorldParts.{world_of}
+use Rattle.fw_world.proofs.EventEffects.{signalled}
 use Rattle.fw_world.proofs.Interrupts.{signal_refused}
 use Rattle.fw_world.proofs.world.WorldOf.interrupt.Goals as goal
 
@@ -10,8 +10,8 @@ returns-in-Err-clause-refusal g c = rw (← c.self.view_is)
 
 pub invariant_of-self-2 : goal.invariant_of-self-2
 invariant_of-self-2 g c =
-    (signalled (world_of c.self.inside.kernel c.self.inside.server c.self.inside.requests.items c.self.inside.replies.items c.self.inside.results.items) c.self.invariant c.interrupt.new.self c.self.inside.server c.self.inside.requests.items c.self.inside.replies.items c.self.inside.results.items c.args.call c.args.fatal c.in-Ok.effect c.in-Ok.ensures.judged c.in-Ok.ensures.signalled refl refl refl refl c.within.ensures).1
+    (signalled (world_of c.self.inside.kernel c.self.inside.server c.self.inside.requests.items c.self.inside.replies.items c.self.inside.results.items) c.self.invariant c.interrupt.new.self c.self.inside.server c.self.inside.requests.items c.self.inside.replies.items c.self.inside.results.items c.args.call c.args.fatal c.in-Ok.effect c.in-Ok.ensures.judged c.in-Ok.ensures.signalled refl refl refl refl c.lemma_in_range.ensures).1
 
 pub returns-clause-happens : goal.returns-clause-happens
 returns-clause-happens g c = rw (← c.self.view_is)
-    (signalled (world_of c.self.inside.kernel c.self.inside.server c.self.inside.requests.items c.self.inside.replies.items c.self.inside.results.items) c.self.invariant c.interrupt.new.self c.self.inside.server c.self.inside.requests.items c.self.inside.replies.items c.self.inside.results.items c.args.call c.args.fatal c.in-Ok.effect c.in-Ok.ensures.judged c.in-Ok.ensures.signalled refl refl refl refl c.within.ensures).0
+    (signalled (world_of c.self.inside.kernel c.self.inside.server c.self.inside.requests.items c.self.inside.replies.items c.self.inside.results.items) c.self.invariant c.interrupt.new.self c.self.inside.server c.self.inside.requests.items c.self.inside.replies.items c.self.inside.results.items c.args.call c.args.fatal c.in-Ok.effect c.in-Ok.ensures.judged c.in-Ok.ensures.signalled refl refl refl refl c.lemma_in_range.ensures).0

@@ -13,6 +13,6 @@ returns-clause-nodes g c = subst (λ (w : World). IfOk c.nodes.result (λ nodes.
 pub returns-clause-listed : goal.returns-clause-listed
 returns-clause-listed g c =
     let world = c.args.self.now in
-    let sorted = subst (λ (w : World). T (is_sorted nat_cmp w.kernel.nodes)) c.self.view_is c.counts_within.ensures.sorted in
+    let sorted = subst (λ (w : World). T (is_sorted nat_cmp w.kernel.nodes)) c.self.view_is c.lemma_counts_in_range.ensures.sorted in
     if_listed (λ nodes. nodes.items) c.nodes.result (counted_nodes world.kernel.nodes) (returns-clause-nodes g c)
-    (counted_are_listed world c.keeps_protocol.ensures.sound sorted)
+    (counted_are_listed world c.lemma_protocol.ensures.sound sorted)

@@ -1,9 +1,9 @@
 use Rattle.fuse_spec.specs.World.Events as event
 use Rattle.fk_kernel.specs.Refused.{mount_refusal}
-use Rattle.fw_world.proofs.Parts.{world_of}
-use Rattle.fw_world.proofs.Made.{mounted, day_at_most}
+use Rattle.fw_world.proofs.WorldParts.{world_of}
+use Rattle.fw_world.proofs.EventEffects.{mounted, day_at_most}
 use Rattle.fw_world.proofs.Refusing.{mount_refused}
-use Rattle.fw_world.proofs.Wanting.{judged, mount_wanting}
+use Rattle.fw_world.proofs.MemoryRefusals.{judged, mount_wanting}
 use Rattle.fw_world.proofs.world.WorldOf.mount.Goals as goal
 
 pub returns-in-Err-clause-refusal : goal.returns-in-Err-clause-refusal

@@ -2,10 +2,10 @@ use Rattle.std.proofs.Common.{sym, subst}
 use Rattle.fuse_spec.specs.World.Worlds.{World, first_world}
 use Rattle.fuse_spec.specs.Reference.Plain.{first_plain}
 use Rattle.fuse_spec.specs.Claim.Alike.{Alike}
-use Rattle.fuse_theorem.proofs.Refining.First.{first_alike}
+use Rattle.fuse_theorem.proofs.Refining.InitialWorld.{first_alike}
 use Rattle.fuse_theorem.specs.SoundWorlds.{IsSoundWorld}
 use Rattle.fuse_theorem.proofs.WholeLists.SoundWorlds.{first_is_sound}
-use Rattle.fw_world.proofs.Parts.{is_made}
+use Rattle.fw_world.proofs.WorldParts.{is_made}
 use Rattle.fw_world.proofs.world.WorldOf.new.Goals as goal
 
 pub invariant_of-result : goal.invariant_of-result

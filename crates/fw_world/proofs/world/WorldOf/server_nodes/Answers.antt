@@ -13,7 +13,7 @@ returns-clause-nodes g c = subst (λ (w : World). IfOk c.nodes.result (λ nodes.
 pub returns-clause-listed : goal.returns-clause-listed
 returns-clause-listed g c =
     let world = c.args.self.now in
-    let sorted_here = subst (λ (b : Bool). T b) (sym c.keeps_sound.ensures.nodes.sorted) tt in
+    let sorted_here = subst (λ (b : Bool). T b) (sym c.lemma_sound.ensures.nodes.sorted) tt in
     let sorted = subst (λ (w : World). T (is_sorted nat_cmp w.server.nodes.rows)) c.self.view_is sorted_here in
     if_listed (λ nodes. nodes.items) c.nodes.result (held_nodes world.server.nodes.rows) (returns-clause-nodes g c)
-    (held_are_listed world c.keeps_protocol.ensures.sound sorted)
+    (held_are_listed world c.lemma_protocol.ensures.sound sorted)

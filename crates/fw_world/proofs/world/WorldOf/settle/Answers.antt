@@ -1,7 +1,7 @@
 use Rattle.std.proofs.Common.{refl, length, arith}
 use Rattle.std.proofs.lemmas.Option.{slice_get_read, slice_get_past}
-use Rattle.fw_world.proofs.Parts.{world_of}
-use Rattle.fw_world.proofs.Made.{settled}
+use Rattle.fw_world.proofs.WorldParts.{world_of}
+use Rattle.fw_world.proofs.EventEffects.{settled}
 use Rattle.fw_world.proofs.Refusing.{no_result}
 use Rattle.fw_world.proofs.world.WorldOf.settle.Goals as goal
 

@@ -1,6 +1,6 @@
 use Rattle.std.proofs.Common.{refl}
-use Rattle.fw_world.proofs.Parts.{world_of}
-use Rattle.fw_world.proofs.Made.{ticked}
+use Rattle.fw_world.proofs.WorldParts.{world_of}
+use Rattle.fw_world.proofs.EventEffects.{ticked}
 use Rattle.fw_world.proofs.Refusing.{tick_refused}
 use Rattle.fw_world.proofs.world.WorldOf.tick.Goals as goal
 

@@ -1,5 +1,5 @@
 use Rattle.std.proofs.Common.{sym, ◌∙◌}
-use Rattle.fw_world.proofs.Parts.{has_room_ok, not_true}
+use Rattle.fw_world.proofs.WorldParts.{has_room_ok, not_true}
 use Rattle.fw_world.proofs.world.server_events.reserve_answer.Goals as goal
 
 pub returns-then-not-take_answers-clause-room : goal.returns-then-not-take_answers-clause-room

@@ -1,4 +1,0 @@
-use Rattle.fk_nodes.proofs.counted_nodes.CountedNodes.are_sorted.Goals as goal
-
-pub returns : goal.returns
-returns g c = rw (← c.self.view_is) c.keeps_sound.ensures.sorted

@@ -1,4 +1,0 @@
-use Rattle.fs_files.proofs.files.Files.keeps_sound.Goals as goal
-
-pub returns : goal.returns
-returns g c = rw (← c.self.view_is, ← c.self-inside.view_is) c.keeps_sound.ensures
