@@ -4,7 +4,9 @@ pub mod Forms
 pub mod Frames
 pub mod HexTexts
 pub mod Lines
+pub mod Outputs
 pub mod Records
+pub mod Running
 pub mod Scripts
 pub mod Stops
 pub mod Words

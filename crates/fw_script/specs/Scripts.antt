@@ -1,10 +1,27 @@
--- Scripts, by their lines.
-use Rattle.std.specs.Prelude.{◌≡◌, ◌+◌, ◌⊎◌, ◌++◌, ◌∷◌, ◌==◌, ℕ, List, All, Option, length, slice_index}
+-- What a script is, which events it has, and what its run prints.
+use Rattle.std.specs.Prelude.{◌≡◌, ◌+◌, ◌⊎◌, ◌++◌, ◌∷◌, [], ◌==◌, ℕ, Bool, true, false, List, All, Option, None, length, slice_index, codes, map}
+use Rattle.std.specs.Prelude.{IfSome}
+use Rattle.std.specs.Io.KnownBytes.{Appends}
 use Rattle.std.specs.List.{slice_split}
+use Rattle.fuse_spec.specs.World.Worlds.{World, first_world}
+use Rattle.fw_link.specs.Traffic.{Traffic}
 use Rattle.fw_script.specs.Lines.{WordsFaultIs, LineHasWords}
+use Rattle.fw_script.specs.Outputs.{AppendsSome}
+use Rattle.fw_script.specs.Records.{event_text, nodes_text}
 use Rattle.fw_script.specs.Words.{parts_left, words_of}
 use Rattle.fw_script.specs.declared.line.LineFault.{LineFault}
 use Rattle.fw_script.specs.declared.line.Line.{Line}
+use Rattle.fw_script.specs.declared.line.Line.TheVariants as lines
+use Rattle.fw_world.specs.declared.event.Event.{Event}
+use Rattle.fw_world.specs.declared.event.Outcome.{Outcome}
+use Rattle.fw_world.specs.declared.record.Record.{Record}
+use Rattle.fw_world.specs.declared.record.Record.TheVariants as records
+use Rattle.fw_world.specs.Frames.{IsFrameOf}
+use Rattle.fw_world.specs.OverLinks.{RunsOver, session_of}
+use Rattle.fw_world.specs.Runs.{RunsAs}
+use Rattle.fw_world.specs.Values.{counted_nodes, event_of, held_nodes, run_record_of}
+
+-- ---- lines
 
 -- the lines: what stands before, between and after the line feeds
 abbrev pub lines_of : List ℕ → List (List ℕ)
@@ -35,3 +52,107 @@ abbrev pub FirstFaultIs : List ℕ → ℕ → LineFault → Type 0
 FirstFaultIs script number fault =
     (before : List (List ℕ)) × (line : List ℕ) × (after : List (List ℕ)) × (lines_of script ≡ before ++ line ∷ after)
     × All IsGoodLine before × (number ≡ length before + 1) × LineFaultIs line fault
+
+-- the event that a line says
+abbrev pub LineSaysEvent : List ℕ → Event → Type 0
+LineSaysEvent line event = LineHasWords (lines.Event event) (words_of line)
+
+-- a line that asks for the nodes of kernel and server
+abbrev pub SaysShow : List ℕ → Type 0
+SaysShow line = words_of line ≡ codes "show" ∷ []
+
+-- ---- what is printed
+
+-- What runs a script, by its states: one event with its records leads from one state to another, a state has this frame
+-- of an outcome, and these nodes are counted by its kernel and held by its server.
+pub record Machine (S A : Type 0) : Type 1 where
+  pub runs : S → Event → List (Record A) → S → Type 0
+  pub puts : S → Outcome → Option (List ℕ) → Type 0
+  pub counted : S → List (ℕ × ℕ × ℕ)
+  pub held : S → List (ℕ × ℕ × ℕ)
+
+-- The frame that is printed after an event with these records: under hex that of its outcome in the state after it.
+abbrev pub IsPut : {S A : Type 0} → Machine S A → Bool → S → List (Record A) → Option (List ℕ) → Type 0
+IsPut m true new (records.Outcome o ∷ answers) put = m.puts new o put
+IsPut m hex new added put = put ≡ None
+
+-- What one line prints, with the events and the records that it comes to.
+pub data PrintsLine {S A : Type 0} (m : Machine S A) (hex : Bool) (old : S) (line : List ℕ) : List Event
+    → List (Record A) → List ℕ → S → Type 0 where
+  nothing : IsPassedOver line → PrintsLine m hex old line [] [] [] old
+  event : (e : Event) (added : List (Record A)) (put : Option (List ℕ)) (new : S) → LineSaysEvent line e
+      → m.runs old e added new → IsPut m hex new added put
+      → PrintsLine m hex old line (e ∷ []) added (event_text added put) new
+  nodes : SaysShow line
+      → PrintsLine m hex old line [] []
+      (nodes_text (codes "kernel") (m.counted old) ++ nodes_text (codes "server") (m.held old)) old
+
+-- What lines print, one after another, with all their events and records.
+pub data Prints {S A : Type 0} (m : Machine S A) (hex : Bool) (first : S) : List (List ℕ) → List Event
+    → List (Record A) → List ℕ → S → Type 0 where
+  no_line : Prints m hex first [] [] [] [] first
+  next_line : (lines : List (List ℕ)) (events : List Event) (records : List (Record A)) (text : List ℕ) (mid : S)
+      → Prints m hex first lines events records text mid → (line : List ℕ) (more : List Event)
+      (added : List (Record A)) (printed : List ℕ) (last : S) → PrintsLine m hex mid line more added printed last
+      → Prints m hex first (lines ++ line ∷ []) (events ++ more) (records ++ added) (text ++ printed) last
+
+-- ---- the two machines
+
+-- A world.
+abbrev pub world_machine : (A : Type 0) → Machine World A
+world_machine A = record {
+  runs = λ old event added new. RunsAs old (event_of event ∷ []) (map run_record_of added) new;
+  puts = IsFrameOf;
+  counted = λ w. counted_nodes w.kernel.nodes;
+  held = λ w. held_nodes w.server.nodes.rows;
+}
+
+-- A session over a link: its world, whether the link is lost, and the link.
+abbrev pub session_machine : (A L : Type 0) → (L → L → Traffic → Type 0) → (L → ℕ) → Machine (World × Bool × L) A
+session_machine A L carries failed = record {
+  runs =
+      λ old event added new. RunsOver carries failed (session_of old.0 old.1) old.2 (event_of event ∷ [])
+      (map run_record_of added) (session_of new.0 new.1) new.2;
+  puts = λ s. IsFrameOf s.0;
+  counted = λ s. counted_nodes s.0.kernel.nodes;
+  held = λ s. held_nodes s.0.server.nodes.rows;
+}
+
+-- This is printed of these lines, and the records that it has are those of one run of their events on a first world.
+pub record IsRunOf (A : Type 0) (hex : Bool) (lines : List (List ℕ)) (text : List ℕ) : Type 0 where
+  pub events : List Event
+  pub records : List (Record A)
+  pub last : World
+  pub prints : Prints (world_machine A) hex first_world lines events records text last
+  pub runs : RunsAs first_world (map event_of events) (map run_record_of records) last
+
+-- The same over a link, which is lost in the end or is not.
+pub record IsRunOver (A : Type 0) {L : Type 0} (carries : L → L → Traffic → Type 0) (failed : L → ℕ) (link : L)
+    (hex is_lost : Bool) (lines : List (List ℕ)) (text : List ℕ) : Type 0 where
+  pub events : List Event
+  pub records : List (Record A)
+  pub world : World
+  pub last : L
+  pub prints : Prints (session_machine A L carries failed) hex (first_world, false, link) lines events records text
+      (world, is_lost, last)
+  pub runs : RunsOver carries failed (session_of first_world false) link (map event_of events) (map run_record_of records)
+      (session_of world is_lost) last
+
+-- ---- what an output gets, where the script and its bytes are known
+
+-- all that is printed of a script
+abbrev pub PrintsAll : (List (List ℕ) → List ℕ → Type 0) → Option (List ℕ) → (old new : Option (List ℕ)) → Type 0
+PrintsAll IsRun script old new =
+    IfSome script (λ s. (text : List ℕ) × IsRun (lines_of s) text × Appends old new text)
+
+-- all that is printed of the first lines of a script
+abbrev pub PrintsFirst : (List (List ℕ) → List ℕ → Type 0) → Option (List ℕ) → (old new : Option (List ℕ)) → Type 0
+PrintsFirst IsRun script old new =
+    IfSome script (λ s. (done : List (List ℕ)) × (rest : List (List ℕ)) × (lines_of s ≡ done ++ rest)
+    × (text : List ℕ) × IsRun done text × Appends old new text)
+
+-- a beginning of that
+abbrev pub PrintsSome : (List (List ℕ) → List ℕ → Type 0) → Option (List ℕ) → (old new : Option (List ℕ)) → Type 0
+PrintsSome IsRun script old new =
+    IfSome script (λ s. (done : List (List ℕ)) × (rest : List (List ℕ)) × (lines_of s ≡ done ++ rest)
+    × (text : List ℕ) × IsRun done text × AppendsSome old new text)

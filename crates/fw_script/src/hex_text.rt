@@ -1,10 +1,11 @@
 //! Bytes as lower-case hex, two digits a byte.
 
 ghost use Rattle.std.specs.Prelude.{◌≡◌, ◌↔◌, ◌<◌, ◌≤◌, ◌*◌, ℕ, List, All, Err};
-ghost use Rattle.std.specs.Prelude.{IfOk, IsTrue, OnOk, length, slice_index};
+ghost use Rattle.std.specs.Prelude.{IfOk, IsTrue, OnErr, OnOk, length, slice_index};
 ghost use Rattle.std.specs.Io.KnownBytes.{Appends};
 ghost use Rattle.hex.specs.Hex.{IsBytes, encode_lower, lower_digits};
 ghost use Rattle.fw_script.specs.HexTexts.{IsHex, IsHexOrNone, IsLowerDigit, SpellsHex, hex_or_none};
+ghost use Rattle.fw_script.specs.Outputs.{AppendsSome};
 ghost use Rattle.fw_script.specs.declared.hex_text.HexFault.TheVariants.{BadHex, NoMemory};
 
 use crate::output::{OutputRefused, write_text};
@@ -116,7 +117,8 @@ const BLOCK: usize = 32;
 /// Writes no more bytes than a block as lower-case hex, in one write.
 fn write_block<W: Write>(out: &mut W, bytes: &[u8]) -> Result<(), OutputRefused>
     requires { length bytes.now ≤ 32 }
-    ensures { OnOk result (Appends (W.contents out.old) (W.contents out.new) (encode_lower bytes.now)) }
+    ensures ok { OnOk result (Appends (W.contents out.old) (W.contents out.new) (encode_lower bytes.now)) }
+    ensures refused { OnErr result (AppendsSome (W.contents out.old) (W.contents out.new) (encode_lower bytes.now)) }
 {
     let mut digits = [0; 2 * BLOCK];
     let text = &mut digits[..2 * bytes.len()];
@@ -126,7 +128,8 @@ fn write_block<W: Write>(out: &mut W, bytes: &[u8]) -> Result<(), OutputRefused>
 
 /// Writes bytes as lower-case hex.
 pub fn write_hex<W: Write>(out: &mut W, bytes: &[u8]) -> Result<(), OutputRefused>
-    ensures { OnOk result (Appends (W.contents out.old) (W.contents out.new) (encode_lower bytes.now)) }
+    ensures ok { OnOk result (Appends (W.contents out.old) (W.contents out.new) (encode_lower bytes.now)) }
+    ensures refused { OnErr result (AppendsSome (W.contents out.old) (W.contents out.new) (encode_lower bytes.now)) }
 {
     let mut written = 0;
     while bytes.len() - written > BLOCK {
@@ -142,7 +145,8 @@ pub fn write_hex<W: Write>(out: &mut W, bytes: &[u8]) -> Result<(), OutputRefuse
 ///
 /// The output refused.
 pub fn write_hex_or_none<W: Write>(out: &mut W, bytes: &[u8]) -> Result<(), OutputRefused>
-    ensures { OnOk result (Appends (W.contents out.old) (W.contents out.new) (hex_or_none bytes.now)) }
+    ensures ok { OnOk result (Appends (W.contents out.old) (W.contents out.new) (hex_or_none bytes.now)) }
+    ensures refused { OnErr result (AppendsSome (W.contents out.old) (W.contents out.new) (hex_or_none bytes.now)) }
 {
     if bytes.is_empty() {
         return write_text(out, b"-");

@@ -1,13 +1,13 @@
 //! The lines of a script.
 
-ghost use Rattle.std.specs.Prelude.{◌≡◌, ◌≢◌, ◌↔◌, ℕ, All, Err, IfErr, IfOk};
-ghost use Rattle.std.specs.Prelude.{IfSome, IsTrue, MatchResult, option_copied};
+ghost use Rattle.std.specs.Prelude.{◌≡◌, ◌↔◌, All, IfErr, IfOk};
+ghost use Rattle.std.specs.Prelude.{IfSome, IsTrue, MatchOption, MatchResult, option_copied};
 ghost use Rattle.std.specs.Iterator.{YieldsFirstRef, item_count};
-ghost use Rattle.fw_script.specs.Lines.{IsWritten};
-ghost use Rattle.fw_script.specs.Stops.{status_of};
-ghost use Rattle.fw_script.specs.declared.stop.Stop.TheVariants.{BadLine, NoMemory};
-ghost use Rattle.fw_script.specs.Scripts.{FirstFaultIs, IsGoodLine, IsGoodScript};
+ghost use Rattle.fw_script.specs.Lines.{IsWritten, LineHasWords};
+ghost use Rattle.fw_script.specs.Running.{JudgingEnds, Say};
+ghost use Rattle.fw_script.specs.Scripts.{IsGoodLine, IsGoodScript};
 ghost use Rattle.fw_script.specs.Scripts.{IsPassedOver, LineFaultIs, lines_left, lines_of};
+ghost use Rattle.fw_script.specs.Words.{words_of};
 
 use crate::line::{Line, LineFault, read_line};
 use crate::split::{find_far, split_at_first};
@@ -55,6 +55,8 @@ fn is_passed_over(line: &[u8]) -> bool
 #[inline(always)]
 fn read_any(line: &[u8]) -> Result<Option<Line<'_>>, LineFault>
     ensures judged { MatchResult result (λ said. IsGoodLine line.now) (LineFaultIs line.now) }
+    ensures says { IfOk result (λ said. MatchOption said (IsPassedOver line.now)
+        (λ l. LineHasWords l (words_of line.now))) }
     ensures written { IfOk result (λ said. IfSome said IsWritten) }
 {
     if is_passed_over(line) {
@@ -67,10 +69,7 @@ fn read_any(line: &[u8]) -> Result<Option<Line<'_>>, LineFault>
 /// Why a script is refused whose lines cannot be kept: for its first line with a fault, or else for want of memory.
 #[cold]
 fn refused_lines(script: &[u8]) -> Stop<'static>
-    ensures status { status_of result ≢ 5 }
-    ensures bad { (number : ℕ) (fault : LineFault) → result ≡ BadLine number fault
-        → FirstFaultIs script.now number fault }
-    ensures memory { result ≡ NoMemory → IsGoodScript script.now }
+    ensures { JudgingEnds script.now result }
 {
     let mut number = 0;
     for line in Lines::of(script) {
@@ -88,10 +87,8 @@ pub(crate) fn read_lines<A: Allocator>(
     script: &[u8],
 ) -> Result<Vec<Line<'_>, A>, Stop<'static>>
     ensures good { IfOk result (λ lines. IsGoodScript script.now × All IsWritten lines.items) }
-    ensures refused { IfErr result (λ stop. status_of stop ≢ 5) }
-    ensures bad { (number : ℕ) (fault : LineFault) → result ≡ Err (BadLine number fault)
-        → FirstFaultIs script.now number fault }
-    ensures memory { result ≡ Err NoMemory → IsGoodScript script.now }
+    ensures say { IfOk result (λ lines. Say (lines_of script.now) lines.items) }
+    ensures refused { IfErr result (JudgingEnds script.now) }
 {
     let mut lines = Vec::new(alloc);
     let mut number = 0;

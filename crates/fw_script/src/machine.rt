@@ -1,30 +1,59 @@
 //! What runs the events of a script: a world, or a session over a link.
 
+ghost use Rattle.std.specs.Prelude.{◌≡◌, ◌++◌, List, IfOk, OnErr, OnOk, option_map};
+ghost use Rattle.fw_script.specs.Scripts.{Machine as MachineBy, session_machine, world_machine};
+ghost use Rattle.fw_world.specs.declared.record.Record.{Record as RecordValue};
+
 use fw_link::Link;
-use fw_world::{Event, Outcome, Record, Session, Tables, WorldOf, run};
+use fw_world::{Event, Outcome, Record, Session, Tables, WorldIn, WorldOf, run};
 use std::alloc::{AllocError, Allocator};
+use std::slice::from_ref;
 
 /// The nodes of one side: id, generation and lookup count of each.
 pub(crate) type Nodes<A> = Vec<(u64, u64, u64), A>;
 
-/// What runs events. What its calls give is said by those of `fw_world`.
+/// What runs events.
 pub(crate) trait Machine<A: Allocator> {
-    fn run(&mut self, events: &[Event<'_>], records: &mut Vec<Record<A>, A>) -> Result<(), usize>;
+    /// What contracts see of it.
+    type State;
 
-    fn frame_of(&self, outcome: &Outcome) -> Option<&[u8]>;
+    ghost state: { Self → Self.State };
 
-    fn kernel_nodes(&self) -> Result<Nodes<A>, AllocError>;
+    ghost acts: { MachineBy Self.State A };
 
-    fn server_nodes(&self) -> Result<Nodes<A>, AllocError>;
+    /// Runs one event, and appends its records. Where memory is wanting for them it has not run.
+    fn run(&mut self, event: &Event<'_>, records: &mut Vec<Record<A>, A>) -> Result<(), AllocError>
+        ensures ran { OnOk result ((added : List (RecordValue A)) × (records.new.items ≡ records.old.items ++ added)
+            × acts.runs (state self.old) event.now added (state self.new)) }
+        ensures err { OnErr result (state self.new ≡ state self.old) };
+
+    fn frame_of(&self, outcome: &Outcome) -> Option<&[u8]>
+        ensures { acts.puts (state self.now) outcome.now (option_map (λ bytes. bytes.now) result) };
+
+    fn kernel_nodes(&self) -> Result<Nodes<A>, AllocError>
+        ensures { IfOk result (λ nodes. nodes.items ≡ acts.counted (state self.now)) };
+
+    fn server_nodes(&self) -> Result<Nodes<A>, AllocError>
+        ensures { IfOk result (λ nodes. nodes.items ≡ acts.held (state self.now)) };
 }
 
 impl<T: Tables> Machine<T::Heap> for WorldOf<T> {
+    type State = WorldOf<T>;
+
+    ghost state = { λ world. world };
+
+    ghost acts = { world_machine T.Heap };
+
     fn run(
         &mut self,
-        events: &[Event<'_>],
+        event: &Event<'_>,
         records: &mut Vec<Record<T::Heap>, T::Heap>,
-    ) -> Result<(), usize> {
-        run(self, events, records)
+    ) -> Result<(), AllocError> {
+        self.lemma_protocol();
+        match run(self, from_ref(event), records) {
+            Ok(()) => Ok(()),
+            Err(_) => Err(AllocError),
+        }
     }
 
     fn frame_of(&self, outcome: &Outcome) -> Option<&[u8]> {
@@ -41,8 +70,21 @@ impl<T: Tables> Machine<T::Heap> for WorldOf<T> {
 }
 
 impl<L: Link + Drop, A: Allocator + Copy> Machine<A> for Session<L, A> {
-    fn run(&mut self, events: &[Event<'_>], records: &mut Vec<Record<A>, A>) -> Result<(), usize> {
-        Session::run(self, events, records)
+    type State = (WorldIn<A>, bool, L);
+
+    ghost state = { λ session. (session.world, session.is_lost, session.link) };
+
+    ghost acts = { session_machine A L L.carries L.failed };
+
+    fn run(
+        &mut self,
+        event: &Event<'_>,
+        records: &mut Vec<Record<A>, A>,
+    ) -> Result<(), AllocError> {
+        match Session::run(self, from_ref(event), records) {
+            Ok(()) => Ok(()),
+            Err(_) => Err(AllocError),
+        }
     }
 
     fn frame_of(&self, outcome: &Outcome) -> Option<&[u8]> {

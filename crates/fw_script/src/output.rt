@@ -1,9 +1,10 @@
 //! The output of a run.
 
-ghost use Rattle.std.specs.Prelude.{OnOk};
+ghost use Rattle.std.specs.Prelude.{◌≤◌, [], IfOk, OnErr, OnOk, length, take};
 ghost use Rattle.std.specs.Io.KnownBytes.{Appends};
+ghost use Rattle.fw_script.specs.Outputs.{AppendsSome};
 
-use std::io::Write;
+use std::io::{ErrorKind, Write};
 use thiserror::Error;
 
 /// An output did not take all that was written.
@@ -15,13 +16,52 @@ use thiserror::Error;
 #[error("an output did not take all that was written")]
 pub struct OutputRefused;
 
-/// Writes a text.
+/// Writes bytes, and says how many were taken. What is interrupted is tried again.
+#[inline(always)]
+fn write_some<W: Write>(out: &mut W, bytes: &[u8]) -> Result<usize, OutputRefused>
+    ensures count { IfOk result (λ n. n ≤ length bytes.now) }
+    ensures ok { IfOk result (λ n. Appends (W.contents out.old) (W.contents out.new) (take n bytes.now)) }
+    ensures refused { OnErr result (Appends (W.contents out.old) (W.contents out.new) []) }
+{
+    for _try in 0..u64::MAX {
+        match out.write(bytes) {
+            Ok(count) => return Ok(count),
+            Err(error) if error.kind() == ErrorKind::Interrupted => {}
+            Err(_) => return Err(OutputRefused),
+        }
+    }
+    Err(OutputRefused)
+}
+
+/// Writes a text in as many writes as it takes. A write of no bytes is a refusal.
+#[cold]
+fn write_rest<W: Write>(out: &mut W, text: &[u8]) -> Result<(), OutputRefused>
+    ensures ok { OnOk result (Appends (W.contents out.old) (W.contents out.new) text.now) }
+    ensures refused { OnErr result (AppendsSome (W.contents out.old) (W.contents out.new) text.now) }
+{
+    let mut rest = text;
+    while !rest.is_empty() {
+        let count = write_some(out, rest)?;
+        if count == 0 {
+            return Err(OutputRefused);
+        }
+        rest = &rest[count..];
+    }
+    Ok(())
+}
+
+/// Writes a text, which an output mostly takes at once. Where it refuses, it has a beginning of the text.
 #[inline(always)]
 pub(crate) fn write_text<W: Write>(out: &mut W, text: &[u8]) -> Result<(), OutputRefused>
-    ensures { OnOk result (Appends (W.contents out.old) (W.contents out.new) text.now) }
+    ensures ok { OnOk result (Appends (W.contents out.old) (W.contents out.new) text.now) }
+    ensures refused { OnErr result (AppendsSome (W.contents out.old) (W.contents out.new) text.now) }
 {
-    match out.write_all(text) {
-        Ok(()) => Ok(()),
-        Err(_) => Err(OutputRefused),
+    let count = write_some(out, text)?;
+    if count == text.len() {
+        return Ok(());
     }
+    if count == 0 {
+        return Err(OutputRefused);
+    }
+    write_rest(out, &text[count..])
 }

@@ -1,8 +1,10 @@
 //! Records as the lines that are printed.
 
-ghost use Rattle.std.specs.Prelude.{◌≡◌, ◌≤◌, ◌++◌, ◌↔◌, All, IsTrue, OnOk};
+ghost use Rattle.std.specs.Prelude.{◌≡◌, ◌≤◌, ◌++◌, ◌↔◌, All, IsTrue, OnErr, OnOk};
 ghost use Rattle.std.specs.Prelude.{codes, decimal, flat_map, length, map, option_copied};
 ghost use Rattle.std.specs.Io.KnownBytes.{Appends};
+ghost use Rattle.fw_script.specs.HexTexts.{hex_or_none};
+ghost use Rattle.fw_script.specs.Outputs.{AppendsSome};
 ghost use Rattle.fw_script.specs.Records.{answer_text, event_text, frame_text, outcome_line, put_text, record_text};
 ghost use Rattle.fw_script.specs.Records.{attributes_words, kind_word, listed_words, refusal_name, refusal_number};
 ghost use Rattle.fw_script.specs.Records.{shown_byte};
@@ -37,7 +39,8 @@ fn is_shown_as_is(name: &[u8]) -> bool
 
 /// Writes a name.
 fn write_name<W: Write>(out: &mut W, name: &[u8]) -> Result<(), OutputRefused>
-    ensures { OnOk result (Appends (W.contents out.old) (W.contents out.new) (map shown_byte name.now)) }
+    ensures ok { OnOk result (Appends (W.contents out.old) (W.contents out.new) (map shown_byte name.now)) }
+    ensures refused { OnErr result (AppendsSome (W.contents out.old) (W.contents out.new) (map shown_byte name.now)) }
 {
     if is_shown_as_is(name) {
         return write_text(out, name);
@@ -50,7 +53,9 @@ fn write_name<W: Write>(out: &mut W, name: &[u8]) -> Result<(), OutputRefused>
 
 /// Writes what follows a listed name, as `:OFF:KIND`.
 fn write_place<W: Write>(out: &mut W, offset: u64, kind: Kind) -> Result<(), OutputRefused>
-    ensures { OnOk result (Appends (W.contents out.old) (W.contents out.new)
+    ensures ok { OnOk result (Appends (W.contents out.old) (W.contents out.new)
+        (codes ":" ++ decimal offset ++ codes ":" ++ kind_word kind)) }
+    ensures refused { OnErr result (AppendsSome (W.contents out.old) (W.contents out.new)
         (codes ":" ++ decimal offset ++ codes ":" ++ kind_word kind)) }
 {
     let mut text = ShortText::new();
@@ -66,7 +71,8 @@ fn write_listed<A: Allocator, W: Write>(
     out: &mut W,
     listed: &ListedName<A>,
 ) -> Result<(), OutputRefused>
-    ensures { OnOk result (Appends (W.contents out.old) (W.contents out.new) (listed_words listed.now)) }
+    ensures ok { OnOk result (Appends (W.contents out.old) (W.contents out.new) (listed_words listed.now)) }
+    ensures refused { OnErr result (AppendsSome (W.contents out.old) (W.contents out.new) (listed_words listed.now)) }
 {
     write_text(out, b" ")?;
     write_name(out, listed.name.as_slice())?;
@@ -78,7 +84,8 @@ fn write_listing<A: Allocator, W: Write>(
     out: &mut W,
     names: &[ListedName<A>],
 ) -> Result<(), OutputRefused>
-    ensures { OnOk result (Appends (W.contents out.old) (W.contents out.new) (flat_map listed_words names.now)) }
+    ensures ok { OnOk result (Appends (W.contents out.old) (W.contents out.new) (flat_map listed_words names.now)) }
+    ensures refused { OnErr result (AppendsSome (W.contents out.old) (W.contents out.new) (flat_map listed_words names.now)) }
 {
     for listed in names {
         write_listed(out, listed)?;
@@ -99,7 +106,9 @@ fn put_call(text: &mut ShortText, call: u64)
 /// Writes what an answered call's line begins with, and a word.
 fn write_start<W: Write>(out: &mut W, call: u64, word: &[u8]) -> Result<(), OutputRefused>
     requires { length word.now ≤ 2 }
-    ensures { OnOk result (Appends (W.contents out.old) (W.contents out.new)
+    ensures ok { OnOk result (Appends (W.contents out.old) (W.contents out.new)
+        (codes "answer " ++ decimal call ++ codes " " ++ word.now)) }
+    ensures refused { OnErr result (AppendsSome (W.contents out.old) (W.contents out.new)
         (codes "answer " ++ decimal call ++ codes " " ++ word.now)) }
 {
     let mut text = ShortText::new();
@@ -114,7 +123,9 @@ fn write_attributes<W: Write>(
     call: u64,
     attributes: Attributes,
 ) -> Result<(), OutputRefused>
-    ensures { OnOk result (Appends (W.contents out.old) (W.contents out.new)
+    ensures ok { OnOk result (Appends (W.contents out.old) (W.contents out.new)
+        (codes "answer " ++ decimal call ++ codes " " ++ attributes_words attributes ++ codes "\n")) }
+    ensures refused { OnErr result (AppendsSome (W.contents out.old) (W.contents out.new)
         (codes "answer " ++ decimal call ++ codes " " ++ attributes_words attributes ++ codes "\n")) }
 {
     let mut text = ShortText::new();
@@ -132,7 +143,9 @@ fn write_counted<W: Write>(
     number: u64,
 ) -> Result<(), OutputRefused>
     requires { length word.now ≤ 2 }
-    ensures { OnOk result (Appends (W.contents out.old) (W.contents out.new)
+    ensures ok { OnOk result (Appends (W.contents out.old) (W.contents out.new)
+        (codes "answer " ++ decimal call ++ codes " " ++ word.now ++ decimal number ++ codes "\n")) }
+    ensures refused { OnErr result (AppendsSome (W.contents out.old) (W.contents out.new)
         (codes "answer " ++ decimal call ++ codes " " ++ word.now ++ decimal number ++ codes "\n")) }
 {
     let mut text = ShortText::new();
@@ -143,27 +156,48 @@ fn write_counted<W: Write>(
     write_text(out, text.bytes())
 }
 
+/// Writes the line of a call that is answered with listed names.
+fn write_names<A: Allocator, W: Write>(
+    out: &mut W,
+    call: u64,
+    names: &[ListedName<A>],
+) -> Result<(), OutputRefused>
+    ensures ok { OnOk result (Appends (W.contents out.old) (W.contents out.new)
+        (codes "answer " ++ decimal call ++ codes " " ++ (codes "0" ++ flat_map listed_words names.now) ++ codes "\n")) }
+    ensures refused { OnErr result (AppendsSome (W.contents out.old) (W.contents out.new)
+        (codes "answer " ++ decimal call ++ codes " " ++ (codes "0" ++ flat_map listed_words names.now) ++ codes "\n")) }
+{
+    write_start(out, call, b"0")?;
+    write_listing(out, names)?;
+    write_text(out, b"\n")
+}
+
+/// Writes the line of a call that is answered with bytes.
+fn write_content<W: Write>(out: &mut W, call: u64, bytes: &[u8]) -> Result<(), OutputRefused>
+    ensures ok { OnOk result (Appends (W.contents out.old) (W.contents out.new)
+        (codes "answer " ++ decimal call ++ codes " " ++ (codes "0 " ++ hex_or_none bytes.now) ++ codes "\n")) }
+    ensures refused { OnErr result (AppendsSome (W.contents out.old) (W.contents out.new)
+        (codes "answer " ++ decimal call ++ codes " " ++ (codes "0 " ++ hex_or_none bytes.now) ++ codes "\n")) }
+{
+    write_start(out, call, b"0 ")?;
+    write_hex_or_none(out, bytes)?;
+    write_text(out, b"\n")
+}
+
 /// Writes the line of an answered call.
 fn write_answered<A: Allocator, W: Write>(
     out: &mut W,
     call: u64,
     answer: &Answer<A>,
 ) -> Result<(), OutputRefused>
-    ensures { OnOk result (Appends (W.contents out.old) (W.contents out.new) (answer_text call answer.now)) }
+    ensures ok { OnOk result (Appends (W.contents out.old) (W.contents out.new) (answer_text call answer.now)) }
+    ensures refused { OnErr result (AppendsSome (W.contents out.old) (W.contents out.new) (answer_text call answer.now)) }
 {
     match answer {
         Answer::Done => write_start(out, call, b"0\n"),
         Answer::Attributes(attributes) => write_attributes(out, call, *attributes),
-        Answer::Listing(names) => {
-            write_start(out, call, b"0")?;
-            write_listing(out, names.as_slice())?;
-            write_text(out, b"\n")
-        }
-        Answer::Content(bytes) => {
-            write_start(out, call, b"0 ")?;
-            write_hex_or_none(out, bytes.as_slice())?;
-            write_text(out, b"\n")
-        }
+        Answer::Listing(names) => write_names(out, call, names.as_slice()),
+        Answer::Content(bytes) => write_content(out, call, bytes.as_slice()),
         Answer::Written { size } => write_counted(out, call, b"0 ", u64::from(*size)),
         Answer::Failed { errno } => write_counted(out, call, b"", u64::from(*errno)),
     }
@@ -171,7 +205,9 @@ fn write_answered<A: Allocator, W: Write>(
 
 /// Writes the line of a refused event.
 fn write_refused<W: Write>(out: &mut W, refusal: Refusal) -> Result<(), OutputRefused>
-    ensures { OnOk result (Appends (W.contents out.old) (W.contents out.new)
+    ensures ok { OnOk result (Appends (W.contents out.old) (W.contents out.new)
+        (codes "refused " ++ decimal (refusal_number refusal) ++ codes " " ++ refusal_name refusal ++ codes "\n")) }
+    ensures refused { OnErr result (AppendsSome (W.contents out.old) (W.contents out.new)
         (codes "refused " ++ decimal (refusal_number refusal) ++ codes " " ++ refusal_name refusal ++ codes "\n")) }
 {
     let mut text = ShortText::new();
@@ -186,7 +222,8 @@ fn write_refused<W: Write>(out: &mut W, refusal: Refusal) -> Result<(), OutputRe
 /// Writes the line of an outcome.
 #[inline(always)]
 fn write_outcome<W: Write>(out: &mut W, outcome: Outcome) -> Result<(), OutputRefused>
-    ensures { OnOk result (Appends (W.contents out.old) (W.contents out.new) (outcome_line outcome ++ codes "\n")) }
+    ensures ok { OnOk result (Appends (W.contents out.old) (W.contents out.new) (outcome_line outcome ++ codes "\n")) }
+    ensures refused { OnErr result (AppendsSome (W.contents out.old) (W.contents out.new) (outcome_line outcome ++ codes "\n")) }
 {
     let mut text = ShortText::new();
     text.put_byte(b'\n');
@@ -199,7 +236,8 @@ pub fn write_record<A: Allocator, W: Write>(
     out: &mut W,
     record: &Record<A>,
 ) -> Result<(), OutputRefused>
-    ensures { OnOk result (Appends (W.contents out.old) (W.contents out.new) (record_text «record».now)) }
+    ensures ok { OnOk result (Appends (W.contents out.old) (W.contents out.new) (record_text «record».now)) }
+    ensures refused { OnErr result (AppendsSome (W.contents out.old) (W.contents out.new) (record_text «record».now)) }
 {
     match record {
         Record::Outcome(outcome) => write_outcome(out, *outcome),
@@ -211,7 +249,8 @@ pub fn write_record<A: Allocator, W: Write>(
 
 /// Writes the line of a frame that was put.
 fn write_frame<W: Write>(out: &mut W, frame: &[u8]) -> Result<(), OutputRefused>
-    ensures { OnOk result (Appends (W.contents out.old) (W.contents out.new) (frame_text frame.now)) }
+    ensures ok { OnOk result (Appends (W.contents out.old) (W.contents out.new) (frame_text frame.now)) }
+    ensures refused { OnErr result (AppendsSome (W.contents out.old) (W.contents out.new) (frame_text frame.now)) }
 {
     write_text(out, b"frame ")?;
     write_hex(out, frame)?;
@@ -223,7 +262,8 @@ fn write_answers<A: Allocator, W: Write>(
     out: &mut W,
     answers: &[Record<A>],
 ) -> Result<(), OutputRefused>
-    ensures { OnOk result (Appends (W.contents out.old) (W.contents out.new) (flat_map record_text answers.now)) }
+    ensures ok { OnOk result (Appends (W.contents out.old) (W.contents out.new) (flat_map record_text answers.now)) }
+    ensures refused { OnErr result (AppendsSome (W.contents out.old) (W.contents out.new) (flat_map record_text answers.now)) }
 {
     for answer in answers {
         write_record(out, answer)?;
@@ -234,7 +274,8 @@ fn write_answers<A: Allocator, W: Write>(
 /// Writes the line of an event's first record. Most are outcomes, whose writing is laid in here.
 #[inline(always)]
 fn write_first<A: Allocator, W: Write>(out: &mut W, first: &Record<A>) -> Result<(), OutputRefused>
-    ensures { OnOk result (Appends (W.contents out.old) (W.contents out.new) (record_text first.now)) }
+    ensures ok { OnOk result (Appends (W.contents out.old) (W.contents out.new) (record_text first.now)) }
+    ensures refused { OnErr result (AppendsSome (W.contents out.old) (W.contents out.new) (record_text first.now)) }
 {
     match first {
         Record::Outcome(outcome) => write_outcome(out, *outcome),
@@ -245,12 +286,31 @@ fn write_first<A: Allocator, W: Write>(out: &mut W, first: &Record<A>) -> Result
 /// Writes the line of a frame that was put, if there is one.
 #[inline(always)]
 fn write_put<W: Write>(out: &mut W, frame: Option<&[u8]>) -> Result<(), OutputRefused>
-    ensures { OnOk result (Appends (W.contents out.old) (W.contents out.new) (put_text (option_copied frame.entry))) }
+    ensures ok { OnOk result (Appends (W.contents out.old) (W.contents out.new) (put_text (option_copied frame.entry))) }
+    ensures refused { OnErr result (AppendsSome (W.contents out.old) (W.contents out.new) (put_text (option_copied frame.entry))) }
 {
     match frame {
         Some(frame) => write_frame(out, frame),
         None => Ok(()),
     }
+}
+
+/// Writes the line of an event's first record, that of the frame that was put, if there is one, and those of the answers.
+#[inline(always)]
+fn write_lines<A: Allocator, W: Write>(
+    out: &mut W,
+    first: &Record<A>,
+    frame: Option<&[u8]>,
+    answers: &[Record<A>],
+) -> Result<(), OutputRefused>
+    ensures ok { OnOk result (Appends (W.contents out.old) (W.contents out.new)
+        (record_text first.now ++ put_text (option_copied frame.entry) ++ flat_map record_text answers.now)) }
+    ensures refused { OnErr result (AppendsSome (W.contents out.old) (W.contents out.new)
+        (record_text first.now ++ put_text (option_copied frame.entry) ++ flat_map record_text answers.now)) }
+{
+    write_first(out, first)?;
+    write_put(out, frame)?;
+    write_answers(out, answers)
 }
 
 /// Writes the lines of an event's records, and after the first that of the frame that was put, if there is one.
@@ -260,13 +320,13 @@ pub(crate) fn write_event<A: Allocator, W: Write>(
     records: &[Record<A>],
     frame: Option<&[u8]>,
 ) -> Result<(), OutputRefused>
-    ensures { OnOk result (Appends (W.contents out.old) (W.contents out.new)
+    ensures ok { OnOk result (Appends (W.contents out.old) (W.contents out.new)
+        (event_text records.now (option_copied frame.entry))) }
+    ensures refused { OnErr result (AppendsSome (W.contents out.old) (W.contents out.new)
         (event_text records.now (option_copied frame.entry))) }
 {
     let Some((first, answers)) = records.split_first() else {
         return Ok(());
     };
-    write_first(out, first)?;
-    write_put(out, frame)?;
-    write_answers(out, answers)
+    write_lines(out, first, frame, answers)
 }

@@ -1,12 +1,18 @@
 //! The run of a script.
 
-ghost use Rattle.std.specs.Prelude.{◌≡◌, ◌≢◌, ◌⊎◌, ◌∷◌, [], All, Contains, IfErr, IfOk, IfSome, OnOk, flat_map};
-ghost use Rattle.std.specs.Io.KnownBytes.{Appends};
+ghost use Rattle.std.specs.Prelude.{◌≡◌, ◌≢◌, ◌⊎◌, ◌++◌, ◌∷◌, [], ℕ, List, Option, All, Contains, IfErr, IfOk, IfSome};
+ghost use Rattle.std.specs.Prelude.{Bool, true, false, OnErr, OnOk, codes, flat_map, option_map};
+ghost use Rattle.std.specs.Io.KnownBytes.{Appends, Keeps};
 ghost use Rattle.fw_script.specs.HexTexts.{IsHexOrNone};
-ghost use Rattle.fw_script.specs.Lines.{IsWritten, spelled};
-ghost use Rattle.fw_script.specs.Records.{node_words, nodes_text};
-ghost use Rattle.fw_script.specs.Scripts.{IsGoodScript};
-ghost use Rattle.fw_script.specs.Stops.{status_of};
+ghost use Rattle.fw_script.specs.Lines.{IsWritten, LineHasWords};
+ghost use Rattle.fw_script.specs.Outputs.{AppendsSome};
+ghost use Rattle.fw_script.specs.Records.{event_text, node_words, nodes_text};
+ghost use Rattle.fw_script.specs.Running.{InputEnds, LineEnds, LinesEnd, OverEnds, ReadingEnds, RunEnds, Say};
+ghost use Rattle.fw_script.specs.Running.{SessionEnds, UnreadEnds};
+ghost use Rattle.fw_script.specs.Scripts.{IsGoodScript, IsPut, IsRunOf, IsRunOver, PrintsAll, PrintsFirst};
+ghost use Rattle.fw_script.specs.Scripts.{PrintsSome, LineSaysEvent, SaysShow, lines_of};
+ghost use Rattle.fw_script.specs.Stops.{SaysFault, status_of};
+ghost use Rattle.fw_script.specs.Words.{words_of};
 
 use crate::hex_text::read_hex_or_none;
 use crate::line::Line;
@@ -18,9 +24,9 @@ use crate::short_text::ShortText;
 use crate::stop::Stop;
 use fw_link::Link;
 use fw_world::{Call, Event, Lists, Maps, Record, Session, Tables, WorldOf};
-use std::alloc::{Allocator, Global};
+use std::alloc::{AllocError, Allocator, Global};
 use std::io::{ErrorKind, Read, Write};
-use std::slice::from_ref;
+use std::marker::Model;
 
 /// The most records that one event comes to: its own, one of a lost link, and an answer for each
 /// of 64 calls.
@@ -41,11 +47,30 @@ fn frame_put<'m, A: Allocator + Copy, M: Machine<A>>(
     machine: &'m M,
     records: &[Record<A>],
     hex: bool,
-) -> Option<&'m [u8]> {
+) -> Option<&'m [u8]>
+    ensures { IsPut M.acts hex (M.state machine.now) records.now (option_map (λ bytes. bytes.now) result) }
+{
     match records.first() {
         Some(Record::Outcome(outcome)) if hex => machine.frame_of(outcome),
         _ => None,
     }
+}
+
+/// Writes what an event with these records came to.
+#[inline(always)]
+fn write_records<A: Allocator + Copy, M: Machine<A>, W: Write>(
+    machine: &M,
+    records: &[Record<A>],
+    hex: bool,
+    out: &mut W,
+) -> Result<(), OutputRefused>
+    ensures ok { OnOk result ((put : Option (List ℕ)) × IsPut M.acts hex (M.state machine.now) records.now put
+        × Appends (W.contents out.old) (W.contents out.new) (event_text records.now put)) }
+    ensures refused { OnErr result ((put : Option (List ℕ)) × IsPut M.acts hex (M.state machine.now) records.now put
+        × AppendsSome (W.contents out.old) (W.contents out.new) (event_text records.now put)) }
+{
+    let frame = frame_put(machine, records, hex);
+    write_event(out, records, frame)
 }
 
 /// Runs one event, and writes what it came to.
@@ -56,14 +81,17 @@ fn run_event<A: Allocator + Copy, M: Machine<A>, W: Write>(
     hex: bool,
     out: &mut W,
 ) -> Result<(), Stop<'static>>
-    ensures { IfErr result (λ stop. status_of stop ≢ 1) }
+    ensures { LineEnds M.acts hex (M.state machine.old) (λ line. LineSaysEvent line event.now) (M.state machine.new)
+        result (W.contents out.old) (W.contents out.new) }
 {
     records.clear();
-    if machine.run(from_ref(event), records).is_err() {
+    if machine.run(event, records).is_err() {
         return Err(Stop::NoMemory);
     }
-    let frame = frame_put(machine, records.as_slice(), hex);
-    write_event(out, records.as_slice(), frame).map_err(|_| Stop::OutputRefused)
+    match write_records(machine, records.as_slice(), hex, out) {
+        Ok(()) => Ok(()),
+        Err(_) => Err(Stop::OutputRefused),
+    }
 }
 
 /// The event that a call is which puts bytes into an open file. Its bytes are read from hex.
@@ -72,15 +100,12 @@ fn event_of_write<'a, A: Allocator>(
     handle: u64,
     offset: u64,
     hex: &[u8],
-) -> Result<Event<'a>, Stop<'static>>
+) -> Result<Event<'a>, AllocError>
     requires { IsHexOrNone hex.now }
-    ensures names { IfOk result (λ event. spelled (Line.Event event)
-        ≡ spelled (Line.CallWrite handle offset hex.entry)) }
-    ensures err { IfErr result (λ stop. status_of stop ≢ 1) }
+    ensures { IfOk result (λ event. (line : List ℕ) → LineHasWords (Line.CallWrite handle offset hex.entry) (words_of line)
+        → LineSaysEvent line event) }
 {
-    if read_hex_or_none(bytes, hex).is_err() {
-        return Err(Stop::NoMemory);
-    }
+    read_hex_or_none(bytes, hex)?;
     Ok(Event::Call(Call::Write {
         handle,
         offset,
@@ -90,7 +115,8 @@ fn event_of_write<'a, A: Allocator>(
 
 /// Writes a node: its id, its generation and its lookup count.
 fn write_node<W: Write>(out: &mut W, node: (u64, u64, u64)) -> Result<(), OutputRefused>
-    ensures { OnOk result (Appends (W.contents out.old) (W.contents out.new) (node_words node)) }
+    ensures ok { OnOk result (Appends (W.contents out.old) (W.contents out.new) (node_words node)) }
+    ensures refused { OnErr result (AppendsSome (W.contents out.old) (W.contents out.new) (node_words node)) }
 {
     let (id, generation, count) = node;
     let mut text = ShortText::new();
@@ -105,7 +131,8 @@ fn write_node<W: Write>(out: &mut W, node: (u64, u64, u64)) -> Result<(), Output
 
 /// Writes nodes one after another.
 fn write_list<W: Write>(out: &mut W, nodes: &[(u64, u64, u64)]) -> Result<(), OutputRefused>
-    ensures { OnOk result (Appends (W.contents out.old) (W.contents out.new) (flat_map node_words nodes.now)) }
+    ensures ok { OnOk result (Appends (W.contents out.old) (W.contents out.new) (flat_map node_words nodes.now)) }
+    ensures refused { OnErr result (AppendsSome (W.contents out.old) (W.contents out.new) (flat_map node_words nodes.now)) }
 {
     for node in nodes {
         write_node(out, *node)?;
@@ -116,14 +143,49 @@ fn write_list<W: Write>(out: &mut W, nodes: &[(u64, u64, u64)]) -> Result<(), Ou
 /// Writes the line of one side's nodes.
 fn write_nodes<W: Write>(
     out: &mut W,
-    side: &str,
+    side: &[u8],
     nodes: &[(u64, u64, u64)],
 ) -> Result<(), OutputRefused>
-    ensures { OnOk result (Appends (W.contents out.old) (W.contents out.new) (nodes_text side.now nodes.now)) }
+    ensures ok { OnOk result (Appends (W.contents out.old) (W.contents out.new) (nodes_text side.now nodes.now)) }
+    ensures refused { OnErr result (AppendsSome (W.contents out.old) (W.contents out.new) (nodes_text side.now nodes.now)) }
 {
-    write_text(out, side.as_bytes())?;
+    write_text(out, side)?;
     write_list(out, nodes)?;
     write_text(out, b"\n")
+}
+
+/// Writes the lines of both sides' nodes.
+fn write_tables<W: Write>(
+    out: &mut W,
+    kernel: &[(u64, u64, u64)],
+    server: &[(u64, u64, u64)],
+) -> Result<(), OutputRefused>
+    ensures ok { OnOk result (Appends (W.contents out.old) (W.contents out.new)
+        (nodes_text (codes "kernel") kernel.now ++ nodes_text (codes "server") server.now)) }
+    ensures refused { OnErr result (AppendsSome (W.contents out.old) (W.contents out.new)
+        (nodes_text (codes "kernel") kernel.now ++ nodes_text (codes "server") server.now)) }
+{
+    write_nodes(out, b"kernel", kernel)?;
+    write_nodes(out, b"server", server)
+}
+
+/// Writes these nodes, which the kernel counts and the server holds.
+fn show_nodes<A: Allocator + Copy, M: Machine<A>, W: Write>(
+    machine: &M,
+    kernel: &[(u64, u64, u64)],
+    server: &[(u64, u64, u64)],
+    out: &mut W,
+) -> Result<(), Stop<'static>>
+    requires counted { kernel.now ≡ M.acts.counted (M.state machine.now) }
+    requires held { server.now ≡ M.acts.held (M.state machine.now) }
+    ensures { (hex : Bool) → LineEnds M.acts hex (M.state machine.now) SaysShow (M.state machine.now)
+        result (W.contents out.old) (W.contents out.new) }
+{
+    let _ = machine;
+    match write_tables(out, kernel, server) {
+        Ok(()) => Ok(()),
+        Err(_) => Err(Stop::OutputRefused),
+    }
 }
 
 /// Writes the nodes that the kernel counts and those that the server holds.
@@ -131,15 +193,16 @@ fn show<A: Allocator + Copy, M: Machine<A>, W: Write>(
     machine: &M,
     out: &mut W,
 ) -> Result<(), Stop<'static>>
-    ensures { IfErr result (λ stop. status_of stop ≢ 1) }
+    ensures { (hex : Bool) → LineEnds M.acts hex (M.state machine.now) SaysShow (M.state machine.now)
+        result (W.contents out.old) (W.contents out.new) }
 {
-    let (Ok(kernel), Ok(server)) = (machine.kernel_nodes(), machine.server_nodes()) else {
+    let Ok(kernel) = machine.kernel_nodes() else {
         return Err(Stop::NoMemory);
     };
-    if write_nodes(out, "kernel", kernel.as_slice()).is_err() {
-        return Err(Stop::OutputRefused);
-    }
-    write_nodes(out, "server", server.as_slice()).map_err(|_| Stop::OutputRefused)
+    let Ok(server) = machine.server_nodes() else {
+        return Err(Stop::NoMemory);
+    };
+    show_nodes(machine, kernel.as_slice(), server.as_slice(), out)
 }
 
 /// Does what a line says, and writes what it came to.
@@ -151,7 +214,8 @@ fn run_line<A: Allocator + Copy, M: Machine<A>, W: Write>(
     out: &mut W,
 ) -> Result<(), Stop<'static>>
     requires { IsWritten line.now }
-    ensures { IfErr result (λ stop. status_of stop ≢ 1) }
+    ensures { LineEnds M.acts hex (M.state machine.old) (λ text. LineHasWords line.now (words_of text)) (M.state machine.new)
+        result (W.contents out.old) (W.contents out.new) }
 {
     match line {
         Line::Event(event) => run_event(machine, event, &mut room.records, hex, out),
@@ -159,10 +223,10 @@ fn run_line<A: Allocator + Copy, M: Machine<A>, W: Write>(
             handle,
             offset,
             hex: bytes,
-        } => {
-            let event = event_of_write(&mut room.bytes, *handle, *offset, bytes)?;
-            run_event(machine, &event, &mut room.records, hex, out)
-        }
+        } => match event_of_write(&mut room.bytes, *handle, *offset, bytes) {
+            Ok(event) => run_event(machine, &event, &mut room.records, hex, out),
+            Err(_) => Err(Stop::NoMemory),
+        },
         Line::Show => show(machine, out),
     }
 }
@@ -176,7 +240,8 @@ fn run_lines<A: Allocator + Copy, M: Machine<A>, W: Write>(
     out: &mut W,
 ) -> Result<(), Stop<'static>>
     requires { All IsWritten lines.now }
-    ensures { IfErr result (λ stop. status_of stop ≢ 1) }
+    ensures { (texts : List (List ℕ)) → Say texts lines.now → LinesEnd M.acts hex (M.state machine.old) texts
+        (M.state machine.new) result (W.contents out.old) (W.contents out.new) }
 {
     for line in lines {
         if let Err(stop) = run_line(machine, line, room, hex, out) {
@@ -187,12 +252,8 @@ fn run_lines<A: Allocator + Copy, M: Machine<A>, W: Write>(
 }
 
 /// Room for what one event comes to.
-fn make_room<A: Allocator + Copy>(alloc: A) -> Result<Room<A>, Stop<'static>>
-    ensures { IfErr result (λ stop. status_of stop ≢ 1) }
-{
-    let Ok(records) = Vec::with_capacity(alloc, MAX_RECORDS) else {
-        return Err(Stop::NoMemory);
-    };
+fn make_room<A: Allocator + Copy>(alloc: A) -> Result<Room<A>, AllocError> {
+    let records = Vec::with_capacity(alloc, MAX_RECORDS)?;
     Ok(Room {
         records,
         bytes: Vec::new(alloc),
@@ -207,19 +268,24 @@ fn run_events<T: Tables, W: Write>(
     out: &mut W,
 ) -> Result<(), Stop<'static>>
     requires { All IsWritten lines.now }
-    ensures { IfErr result (λ stop. status_of stop ≢ 1) }
+    ensures { (texts : List (List ℕ)) → Say texts lines.now → RunEnds (IsRunOf T.Heap hex) texts result
+        (W.contents out.old) (W.contents out.new) }
 {
-    let mut room = make_room(alloc)?;
+    let Ok(mut room) = make_room(alloc) else {
+        return Err(Stop::NoMemory);
+    };
     let Ok(mut world) = WorldOf::<T>::new(alloc) else {
         return Err(Stop::NoMemory);
     };
+    world.lemma_protocol();
     let ended = run_lines(&mut world, lines, &mut room, hex, out);
     // By a call, since at the end of a scope the whole drop is proved as part of this function.
     drop(world);
     ended
 }
 
-/// Runs them on a new session over a link, and says whether the link was lost.
+/// Runs them on a new session over a link, and says whether the link was lost, which is judged before want of memory
+/// and an output that refuses.
 fn run_session<A: Allocator + Copy, L: Link + Drop, W: Write>(
     alloc: A,
     link: L,
@@ -228,27 +294,37 @@ fn run_session<A: Allocator + Copy, L: Link + Drop, W: Write>(
     out: &mut W,
 ) -> Result<bool, Stop<'static>>
     requires { All IsWritten lines.now }
-    ensures { IfErr result (λ stop. status_of stop ≢ 1) }
+    ensures { (texts : List (List ℕ)) → Say texts lines.now → SessionEnds (IsRunOver A L.carries L.failed link hex)
+        texts result (W.contents out.old) (W.contents out.new) }
 {
-    let mut room = make_room(alloc)?;
+    let Ok(mut room) = make_room(alloc) else {
+        return Err(Stop::NoMemory);
+    };
     let Ok(mut session) = Session::new(alloc, link) else {
         return Err(Stop::NoMemory);
     };
+    session.lemma_protocol();
     let ended = run_lines(&mut session, lines, &mut room, hex, out);
     let is_lost = session.is_lost();
     drop(session);
-    // A lost link is judged before an output that refuses.
+    if is_lost {
+        return Ok(true);
+    }
     match ended {
-        Err(stop) if !is_lost => Err(stop),
-        _ => Ok(is_lost),
+        Ok(()) => Ok(false),
+        Err(stop) => Err(stop),
     }
 }
 
 /// Hands on all that was written.
 fn flush<W: Write>(out: &mut W) -> Result<(), Stop<'static>>
-    ensures { IfErr result (λ stop. status_of stop ≢ 1) }
+    ensures refused { IfErr result (λ stop. stop ≡ Stop.OutputRefused) }
+    ensures bytes { Keeps (W.contents out.old) (W.contents out.new) }
 {
-    out.flush().map_err(|_| Stop::OutputRefused)
+    match out.flush() {
+        Ok(()) => Ok(()),
+        Err(_) => Err(Stop::OutputRefused),
+    }
 }
 
 /// The bytes of a script.
@@ -258,7 +334,7 @@ fn read_script<'a, A: Allocator, R: Read>(
     input: &mut R,
 ) -> Result<Vec<u8, A>, Stop<'a>>
     ensures ok { IfOk result (λ script. IfSome (R.remaining input.old) (λ bytes. script.items ≡ bytes)) }
-    ensures err { IfErr result (λ stop. status_of stop ≢ 5) }
+    ensures err { IfErr result (ReadingEnds name.now) }
 {
     let mut script = Vec::new(alloc);
     match input.read_to_end(&mut script) {
@@ -277,7 +353,8 @@ fn run_text<A: Allocator + Copy, L: Link + Drop, W: Write>(
     hex: bool,
     out: &mut W,
 ) -> Result<bool, Stop<'static>>
-    ensures { IfErr result (λ stop. status_of stop ≢ 1) }
+    ensures { SessionEnds (IsRunOver A L.carries L.failed link hex) (lines_of text.now) result
+        (W.contents out.old) (W.contents out.new) }
 {
     let Ok(lines) = read_lines(alloc, text) else {
         return Err(Stop::NoMemory);
@@ -291,11 +368,20 @@ pub struct Script<A: Allocator = Global> {
     text: Vec<u8, A>,
 }
 
+impl<A: Allocator> Model for Script<A> {
+    ghost use Rattle.std.specs.Prelude.{ℕ, List};
+
+    ghost Value = { List ℕ };
+
+    ghost view = { λ script. script.text.items };
+}
+
 impl<A: Allocator + Copy> Script<A> {
     /// Reads a script, and judges its lines.
     fn read_from<'a, R: Read>(alloc: A, name: &'a str, input: &mut R) -> Result<Script<A>, Stop<'a>>
         ensures judged { OnOk result (IfSome (R.remaining input.old) IsGoodScript) }
-        ensures refused { IfErr result (λ stop. status_of stop ≢ 5) }
+        ensures text { IfOk result (λ script. IfSome (R.remaining input.old) (λ bytes. script ≡ bytes)) }
+        ensures refused { IfErr result (UnreadEnds name.now (R.remaining input.old)) }
     {
         let text = read_script(alloc, name, input)?;
         let lines = read_lines(alloc, text.as_slice())?;
@@ -312,7 +398,13 @@ impl<A: Allocator + Copy> Script<A> {
         faults: &mut F,
     ) -> Result<Script<A>, u8>
         ensures judged { OnOk result (IfSome (R.remaining input.old) IsGoodScript) }
+        ensures text { IfOk result (λ script. IfSome (R.remaining input.old) (λ bytes. script ≡ bytes)) }
         ensures statuses { IfErr result (Contains (1 ∷ 3 ∷ [])) }
+        ensures fault { IfErr result (λ status. status ≡ 1 → SaysFault name.now (R.remaining input.old)
+            (F.contents faults.old) (F.contents faults.new)) }
+        ensures no_memory { IfErr result (λ status. status ≡ 3 → AppendsSome
+            (F.contents faults.old) (F.contents faults.new) (codes "no memory\n")) }
+        ensures no_fault { OnOk result (faults.new ≡ faults.old) }
     {
         match Script::read_from(alloc, name, input) {
             Ok(script) => Ok(script),
@@ -331,7 +423,19 @@ impl<A: Allocator + Copy> Script<A> {
         out: &mut W,
         faults: &mut F,
     ) -> u8
-        ensures { Contains (0 ∷ 3 ∷ 4 ∷ 5 ∷ []) result }
+        ensures statuses { Contains (0 ∷ 3 ∷ 4 ∷ 5 ∷ []) result }
+        ensures printed { result ≡ 0 → PrintsAll (IsRunOver A L.carries L.failed link hex false) (Some self.now)
+            (W.contents out.old) (W.contents out.new) }
+        ensures stopped { result ≡ 3 → Keeps (W.contents out.old) (W.contents out.new)
+            ⊎ PrintsFirst (IsRunOver A L.carries L.failed link hex false) (Some self.now)
+            (W.contents out.old) (W.contents out.new) }
+        ensures lost { result ≡ 4 → PrintsSome (IsRunOver A L.carries L.failed link hex true) (Some self.now)
+            (W.contents out.old) (W.contents out.new) }
+        ensures refused { result ≡ 5 → PrintsSome (IsRunOver A L.carries L.failed link hex false) (Some self.now)
+            (W.contents out.old) (W.contents out.new) }
+        ensures no_memory { result ≡ 3 → AppendsSome (F.contents faults.old) (F.contents faults.new)
+            (codes "no memory\n") }
+        ensures no_fault { (result ≡ 0) ⊎ (result ≡ 4) ⊎ (result ≡ 5) → faults.new ≡ faults.old }
     {
         match run_text(alloc, link, self.text.as_slice(), hex, out) {
             Ok(false) => 0,
@@ -349,6 +453,8 @@ fn run_input<'a, T: Tables, R: Read, W: Write>(
     input: &mut R,
     out: &mut W,
 ) -> Result<(), Stop<'a>>
+    ensures ends { InputEnds (IsRunOf T.Heap hex) name.now (R.remaining input.old) result
+        (W.contents out.old) (W.contents out.new) }
     ensures judged { OnOk result (IfSome (R.remaining input.old) IsGoodScript) }
     ensures refused { IfErr result (λ stop. status_of stop ≡ 5 →
         IfSome (R.remaining input.old) IsGoodScript) }
@@ -368,6 +474,8 @@ fn run_input_over<'a, A: Allocator + Copy, L: Link + Drop, R: Read, W: Write>(
     input: &mut R,
     out: &mut W,
 ) -> Result<bool, Stop<'a>>
+    ensures ends { OverEnds (IsRunOver A L.carries L.failed link hex) name.now (R.remaining input.old) result
+        (W.contents out.old) (W.contents out.new) }
     ensures judged { OnOk result (IfSome (R.remaining input.old) IsGoodScript) }
     ensures refused { IfErr result (λ stop. status_of stop ≡ 5 →
         IfSome (R.remaining input.old) IsGoodScript) }
@@ -376,6 +484,40 @@ fn run_input_over<'a, A: Allocator + Copy, L: Link + Drop, R: Read, W: Write>(
     let script = read_script(alloc, name, input)?;
     let lines = read_lines(alloc, script.as_slice())?;
     run_session(alloc, link, lines.as_slice(), hex, out)
+}
+
+/// Runs a script on a new world over these tables, and gives the exit status, as `run_script` does.
+fn run_on<T: Tables, R: Read, W: Write, F: Write>(
+    alloc: T::Heap,
+    name: &str,
+    hex: bool,
+    input: &mut R,
+    out: &mut W,
+    faults: &mut F,
+) -> u8
+    ensures statuses { Contains (0 ∷ 1 ∷ 3 ∷ 5 ∷ []) result }
+    // Nothing is run of a script with a bad line.
+    ensures judged { (result ≡ 0) ⊎ (result ≡ 5) → IfSome (R.remaining input.old) IsGoodScript }
+    ensures silent { result ≡ 1 → out.new ≡ out.old }
+    // What is printed is the text of the records of one run of all events that the script says.
+    ensures printed { result ≡ 0 → PrintsAll (IsRunOf T.Heap hex) (R.remaining input.old)
+        (W.contents out.old) (W.contents out.new) }
+    // Where memory is wanting it is that of the script's first lines, or nothing.
+    ensures stopped { result ≡ 3 → Keeps (W.contents out.old) (W.contents out.new)
+        ⊎ PrintsFirst (IsRunOf T.Heap hex) (R.remaining input.old) (W.contents out.old) (W.contents out.new) }
+    // Where the output refuses it is a beginning of that.
+    ensures refused { result ≡ 5 → PrintsSome (IsRunOf T.Heap hex) (R.remaining input.old)
+        (W.contents out.old) (W.contents out.new) }
+    ensures fault { result ≡ 1 → SaysFault name.now (R.remaining input.old)
+        (F.contents faults.old) (F.contents faults.new) }
+    ensures no_memory { result ≡ 3 → AppendsSome (F.contents faults.old) (F.contents faults.new)
+        (codes "no memory\n") }
+    ensures no_fault { (result ≡ 0) ⊎ (result ≡ 5) → faults.new ≡ faults.old }
+{
+    match run_input::<T, R, W>(alloc, name, hex, input, out) {
+        Ok(()) => 0,
+        Err(stop) => stop.report(faults),
+    }
 }
 
 /// Runs a script on a new world, and prints the lines of its records, under `hex` also the frames
@@ -396,14 +538,25 @@ pub fn run_script<A: Allocator + Copy, R: Read, W: Write, F: Write>(
     // Nothing is run of a script with a bad line.
     ensures judged { (result ≡ 0) ⊎ (result ≡ 5) → IfSome (R.remaining input.old) IsGoodScript }
     ensures silent { result ≡ 1 → out.new ≡ out.old }
+    // What is printed is the text of the records of one run of all events that the script says.
+    ensures printed { result ≡ 0 → PrintsAll (IsRunOf A hex) (R.remaining input.old)
+        (W.contents out.old) (W.contents out.new) }
+    // Where memory is wanting it is that of the script's first lines, or nothing.
+    ensures stopped { result ≡ 3 → Keeps (W.contents out.old) (W.contents out.new)
+        ⊎ PrintsFirst (IsRunOf A hex) (R.remaining input.old) (W.contents out.old) (W.contents out.new) }
+    // Where the output refuses it is a beginning of that.
+    ensures refused { result ≡ 5 → PrintsSome (IsRunOf A hex) (R.remaining input.old)
+        (W.contents out.old) (W.contents out.new) }
+    ensures fault { result ≡ 1 → SaysFault name.now (R.remaining input.old)
+        (F.contents faults.old) (F.contents faults.new) }
+    ensures no_memory { result ≡ 3 → AppendsSome (F.contents faults.old) (F.contents faults.new)
+        (codes "no memory\n") }
+    ensures no_fault { (result ≡ 0) ⊎ (result ≡ 5) → faults.new ≡ faults.old }
 {
-    match run_input::<Maps<A>, R, W>(alloc, name, hex, input, out) {
-        Ok(()) => 0,
-        Err(stop) => stop.report(faults),
-    }
+    run_on::<Maps<A>, R, W, F>(alloc, name, hex, input, out, faults)
 }
 
-/// Runs a script on a new world over plain lists, as `run_script` does on one over maps and slabs. Both print the same.
+/// Runs a script on a new world over plain lists, as `run_script` does on one over maps and slabs.
 pub fn run_lists<A: Allocator + Copy, R: Read, W: Write, F: Write>(
     alloc: A,
     name: &str,
@@ -416,11 +569,22 @@ pub fn run_lists<A: Allocator + Copy, R: Read, W: Write, F: Write>(
     // Nothing is run of a script with a bad line.
     ensures judged { (result ≡ 0) ⊎ (result ≡ 5) → IfSome (R.remaining input.old) IsGoodScript }
     ensures silent { result ≡ 1 → out.new ≡ out.old }
+    // What is printed is the text of the records of one run of all events that the script says.
+    ensures printed { result ≡ 0 → PrintsAll (IsRunOf A hex) (R.remaining input.old)
+        (W.contents out.old) (W.contents out.new) }
+    // Where memory is wanting it is that of the script's first lines, or nothing.
+    ensures stopped { result ≡ 3 → Keeps (W.contents out.old) (W.contents out.new)
+        ⊎ PrintsFirst (IsRunOf A hex) (R.remaining input.old) (W.contents out.old) (W.contents out.new) }
+    // Where the output refuses it is a beginning of that.
+    ensures refused { result ≡ 5 → PrintsSome (IsRunOf A hex) (R.remaining input.old)
+        (W.contents out.old) (W.contents out.new) }
+    ensures fault { result ≡ 1 → SaysFault name.now (R.remaining input.old)
+        (F.contents faults.old) (F.contents faults.new) }
+    ensures no_memory { result ≡ 3 → AppendsSome (F.contents faults.old) (F.contents faults.new)
+        (codes "no memory\n") }
+    ensures no_fault { (result ≡ 0) ⊎ (result ≡ 5) → faults.new ≡ faults.old }
 {
-    match run_input::<Lists<A>, R, W>(alloc, name, hex, input, out) {
-        Ok(()) => 0,
-        Err(stop) => stop.report(faults),
-    }
+    run_on::<Lists<A>, R, W, F>(alloc, name, hex, input, out, faults)
 }
 
 /// Runs a script on a new session over a link on which nothing was put, as `run_script` does on a world. Where the link
@@ -438,6 +602,21 @@ pub fn run_over<A: Allocator + Copy, L: Link + Drop, R: Read, W: Write, F: Write
     // Nothing is run of a script with a bad line.
     ensures judged { (result ≡ 0) ⊎ (result ≡ 4) ⊎ (result ≡ 5) → IfSome (R.remaining input.old) IsGoodScript }
     ensures silent { result ≡ 1 → out.new ≡ out.old }
+    ensures printed { result ≡ 0 → PrintsAll (IsRunOver A L.carries L.failed link hex false) (R.remaining input.old)
+        (W.contents out.old) (W.contents out.new) }
+    ensures stopped { result ≡ 3 → Keeps (W.contents out.old) (W.contents out.new)
+        ⊎ PrintsFirst (IsRunOver A L.carries L.failed link hex false) (R.remaining input.old)
+        (W.contents out.old) (W.contents out.new) }
+    // Where the link is lost, a beginning of that up to a line after it was.
+    ensures lost { result ≡ 4 → PrintsSome (IsRunOver A L.carries L.failed link hex true) (R.remaining input.old)
+        (W.contents out.old) (W.contents out.new) }
+    ensures refused { result ≡ 5 → PrintsSome (IsRunOver A L.carries L.failed link hex false) (R.remaining input.old)
+        (W.contents out.old) (W.contents out.new) }
+    ensures fault { result ≡ 1 → SaysFault name.now (R.remaining input.old)
+        (F.contents faults.old) (F.contents faults.new) }
+    ensures no_memory { result ≡ 3 → AppendsSome (F.contents faults.old) (F.contents faults.new)
+        (codes "no memory\n") }
+    ensures no_fault { (result ≡ 0) ⊎ (result ≡ 4) ⊎ (result ≡ 5) → faults.new ≡ faults.old }
 {
     match run_input_over(alloc, link, name, hex, input, out) {
         Ok(false) => 0,

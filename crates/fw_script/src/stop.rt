@@ -1,9 +1,13 @@
 //! Why a run ends early: its line on standard error, and its exit status.
 
-ghost use Rattle.std.specs.Prelude.{◌≡◌, Some};
-ghost use Rattle.fw_script.specs.Stops.{line_fault_words, status_of, stop_line};
+ghost use Rattle.std.specs.Prelude.{◌≡◌, ◌≢◌, ◌≤◌, ◌++◌, OnErr, OnOk, Some, codes, length};
+ghost use Rattle.std.specs.Io.KnownBytes.{Appends};
+ghost use Rattle.fw_script.specs.Outputs.{AppendsSome};
+ghost use Rattle.fw_script.specs.Stops.{bad_line, line_fault_words, status_of, stop_line, unreadable};
 
 use crate::line::LineFault;
+use crate::output::{OutputRefused, write_text};
+use crate::short_text::ShortText;
 use std::error::Error;
 use std::fmt;
 use std::io::Write;
@@ -20,7 +24,8 @@ pub(crate) enum Stop<'a> {
 
 /// A line's fault, in words.
 fn words_of_fault(fault: LineFault) -> &'static str
-    ensures { result.now ≡ line_fault_words fault }
+    ensures words { result.now ≡ line_fault_words fault }
+    ensures short { length result.now ≤ 14 }
 {
     match fault {
         LineFault::UnknownEvent => "unknown event",
@@ -40,44 +45,79 @@ impl fmt::Display for LineFault {
 
 impl Error for LineFault {}
 
-impl fmt::Display for Stop<'_> {
-    ghost output = { λ stop. Some (stop_line stop) };
-
-    fn fmt<W: fmt::Write>(&self, f: &mut fmt::Formatter<W>) -> fmt::Result {
-        match *self {
-            Stop::CannotRead { name } => write!(f, "cannot read {name}"),
-            Stop::BadLine { number, fault } => write!(f, "line {number}: {fault}"),
-            Stop::BadHex => write!(f, "bad hex"),
-            Stop::NoMemory => write!(f, "no memory"),
-            Stop::OutputRefused => write!(f, "output refused"),
-        }
-    }
+/// Writes that a file cannot be read.
+fn write_unreadable<F: Write>(faults: &mut F, name: &str) -> Result<(), OutputRefused>
+    ensures ok { OnOk result (Appends (F.contents faults.old) (F.contents faults.new)
+        (unreadable name.now ++ codes "\n")) }
+    ensures refused { OnErr result (AppendsSome (F.contents faults.old) (F.contents faults.new)
+        (unreadable name.now ++ codes "\n")) }
+{
+    write_text(faults, b"cannot read ")?;
+    write_text(faults, name.as_bytes())?;
+    write_text(faults, b"\n")
 }
 
-impl Error for Stop<'_> {}
+/// Writes a line's number and its fault.
+fn write_bad_line<F: Write>(
+    faults: &mut F,
+    number: usize,
+    fault: LineFault,
+) -> Result<(), OutputRefused>
+    ensures ok { OnOk result (Appends (F.contents faults.old) (F.contents faults.new)
+        (bad_line number fault ++ codes "\n")) }
+    ensures refused { OnErr result (AppendsSome (F.contents faults.old) (F.contents faults.new)
+        (bad_line number fault ++ codes "\n")) }
+{
+    let mut text = ShortText::new();
+    text.put_byte(b'\n');
+    text.put(words_of_fault(fault).as_bytes());
+    text.put(b": ");
+    text.put_number(number as u64);
+    text.put(b"line ");
+    write_text(faults, text.bytes())
+}
 
 impl Stop<'_> {
-    /// Writes the line on standard error, and gives the exit status. Where standard output
-    /// refuses, nothing more is printed.
-    ///
-    /// What `faults` refuses is lost.
-    pub(crate) fn report<F: Write>(self, faults: &mut F) -> u8
-        ensures { result ≡ status_of self.entry }
-    {
-        if !matches!(self, Stop::OutputRefused) {
-            let _ = writeln!(faults, "{self}");
-        }
-        self.status()
-    }
-
-    /// The exit status: 1 where the input cannot be read, 3 where memory is wanting, 5 where
-    /// standard output refuses.
-    fn status(self) -> u8
-        ensures { result ≡ status_of self.entry }
+    /// Writes the line.
+    fn write_line<F: Write>(self, faults: &mut F) -> Result<(), OutputRefused>
+        ensures ok { OnOk result (Appends (F.contents faults.old) (F.contents faults.new)
+            (stop_line self.entry ++ codes "\n")) }
+        ensures refused { OnErr result (AppendsSome (F.contents faults.old) (F.contents faults.new)
+            (stop_line self.entry ++ codes "\n")) }
     {
         match self {
-            Stop::CannotRead { .. } | Stop::BadLine { .. } | Stop::BadHex => 1,
-            Stop::NoMemory => 3,
+            Stop::CannotRead { name } => write_unreadable(faults, name),
+            Stop::BadLine { number, fault } => write_bad_line(faults, number, fault),
+            Stop::BadHex => write_text(faults, b"bad hex\n"),
+            Stop::NoMemory => write_text(faults, b"no memory\n"),
+            Stop::OutputRefused => write_text(faults, b"output refused\n"),
+        }
+    }
+
+    /// Writes the line. What `faults` refuses is lost.
+    fn say<F: Write>(self, faults: &mut F)
+        ensures { AppendsSome (F.contents faults.old) (F.contents faults.new) (stop_line self.entry ++ codes "\n") }
+    {
+        let _ = self.write_line(faults);
+    }
+
+    /// Writes the line on standard error, and gives the exit status: 1 where the input cannot be read, 3 where memory is
+    /// wanting, 5 where standard output refuses, after which nothing more is printed.
+    pub(crate) fn report<F: Write>(self, faults: &mut F) -> u8
+        ensures status { result ≡ status_of self.entry }
+        ensures said { status_of self.entry ≢ 5 → AppendsSome (F.contents faults.old) (F.contents faults.new)
+            (stop_line self.entry ++ codes "\n") }
+        ensures silent { status_of self.entry ≡ 5 → faults.new ≡ faults.old }
+    {
+        match self {
+            Stop::CannotRead { .. } | Stop::BadLine { .. } | Stop::BadHex => {
+                self.say(faults);
+                1
+            }
+            Stop::NoMemory => {
+                self.say(faults);
+                3
+            }
             Stop::OutputRefused => 5,
         }
     }
@@ -85,22 +125,25 @@ impl Stop<'_> {
 
 /// Says on standard error that a file cannot be read, and gives the exit status, 1.
 pub fn cannot_read<F: Write>(name: &str, faults: &mut F) -> u8
-    ensures { result ≡ 1 }
+    ensures status { result ≡ 1 }
+    ensures said { AppendsSome (F.contents faults.old) (F.contents faults.new) (unreadable name.now ++ codes "\n") }
 {
     Stop::CannotRead { name }.report(faults)
 }
 
 /// Says on standard error that memory is wanting, and gives the exit status, 3.
 pub fn no_memory<F: Write>(faults: &mut F) -> u8
-    ensures { result ≡ 3 }
+    ensures status { result ≡ 3 }
+    ensures said { AppendsSome (F.contents faults.old) (F.contents faults.new) (codes "no memory\n") }
 {
     Stop::NoMemory.report(faults)
 }
 
 /// Says on standard error that a socket failed, and gives the exit status, 4.
 pub fn socket_failed<F: Write>(faults: &mut F) -> u8
-    ensures { result ≡ 4 }
+    ensures status { result ≡ 4 }
+    ensures said { AppendsSome (F.contents faults.old) (F.contents faults.new) (codes "socket failed\n") }
 {
-    let _ = writeln!(faults, "socket failed");
+    let _ = write_text(faults, b"socket failed\n");
     4
 }

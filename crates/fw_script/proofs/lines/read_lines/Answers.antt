@@ -1,10 +1,13 @@
-use Rattle.std.proofs.Common.{rules, ◌≡◌, ◌++◌, ◌∷◌, [], List, ℕ, Bor, map, ap, sym, arith, append_assoc, length-append, ◌∙◌}
+use Rattle.std.proofs.Common.{rules, ◌≡◌, ◌++◌, ◌∷◌, [], List, ℕ, Bor, map, ap, sym, subst, arith, append_assoc, length-append, ◌∙◌}
 use Rattle.std.specs.Prelude.{option_copied}
 use Rattle.std.proofs.lemmas.List.{length-map, map-append}
 use Rattle.std.proofs.lemmas.List.Elements.{All-push}
 use Rattle.fw_script.specs.Lines.{IsWritten}
+use Rattle.fw_script.specs.Running.{Say, no_more}
 use Rattle.fw_script.specs.Scripts.{IsGoodLine, lines_left}
 use Rattle.fw_script.proofs.Numbering.{line_number_fits}
+use Rattle.fw_script.specs.declared.line.Line.{Line}
+use Rattle.fw_script.proofs.Saying.{Say-more, Say-over}
 use Rattle.fw_script.proofs.lines.read_lines.Goals as goal
 
 abbrev text_of : Bor (List ℕ) → List ℕ
@@ -17,6 +20,17 @@ overflow_add-number g c =
     c.loop-line.invariant.split (omega (arith, c.well_formed.0.1)) in
     let same = length-map c.loop-line.yielded text_of in
     omega (arith, fits, same, c.loop-line.invariant.counted)
+
+pub loop-line-init : goal.loop-line-init
+loop-line-init g c =
+    let none : c.new-lines.result.items ≡ [] = search rules in
+    record {
+      counted = search rules;
+      split = search rules;
+      good = search rules;
+      written = search rules;
+      say = subst (λ (lines : List Line). Say [] lines) (sym none) no_more;
+    }
 
 pub loop-line-preserved-in-Ok-None : goal.loop-line-preserved-in-Ok-None
 loop-line-preserved-in-Ok-None g c =
@@ -34,6 +48,8 @@ loop-line-preserved-in-Ok-None g c =
       good = rw more (All-push IsGoodLine before c.in-Some.line.now c.loop-line.invariant.good
           c.in-Ok-None.ensures.judged);
       written = c.loop-line.invariant.written;
+      say = rw more (Say-over before c.loop-line.lines.items c.loop-line.invariant.say c.in-Some.line.now
+          (rw c.in-Ok-None.field-0-is at c.in-Ok-None.ensures.says));
     }
 
 pub loop-line-preserved : goal.loop-line-preserved
@@ -44,6 +60,7 @@ loop-line-preserved g c =
     let size = length-append c.loop-line.yielded (c.in-Some.line ∷ []) in
     let read = c.loop-line.lines.items in
     let said : IsWritten c.in-Ok-Some.said = rw c.in-Ok-Some.field-0-is at c.in-Ok-Some.ensures.written in
+    let names = rw c.in-Ok-Some.field-0-is at c.in-Ok-Some.ensures.says in
     let kept : c.push.new.self.items ≡ read ++ c.in-Ok-Some.said ∷ [] = search rules in
     record {
       counted = omega (arith, size, c.loop-line.invariant.counted);
@@ -55,4 +72,5 @@ loop-line-preserved g c =
       good = rw more (All-push IsGoodLine before c.in-Some.line.now c.loop-line.invariant.good
           c.in-Ok-Some.ensures.judged);
       written = rw kept (All-push IsWritten read c.in-Ok-Some.said c.loop-line.invariant.written said);
+      say = rw (more, kept) (Say-more before read c.loop-line.invariant.say c.in-Some.line.now c.in-Ok-Some.said names);
     }

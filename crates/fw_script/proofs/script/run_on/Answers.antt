@@ -1,0 +1,32 @@
+use Rattle.fw_script.specs.Scripts.{IsRunOf}
+use Rattle.fw_script.proofs.Ending.{ended_at_1, ended_at_3, ended_at_5, said_at_3}
+use Rattle.fw_script.proofs.Statuses.{status_is_one}
+use Rattle.fw_script.proofs.script.run_on.Goals as goal
+
+pub returns-in-Err-clause-statuses : goal.returns-in-Err-clause-statuses
+returns-in-Err-clause-statuses g c = rw c.report.ensures.status (status_is_one c.in-Err.stop)
+
+pub returns-in-Err-clause-stopped : goal.returns-in-Err-clause-stopped
+returns-in-Err-clause-stopped g c =
+    rw c.report.ensures.status
+    (ended_at_3 (Unit {0}) (IsRunOf _ c.args.hex) c.args.name.now (g.R.Read.remaining c.args.input.now) c.in-Err.stop
+    (g.W.Write.contents c.args.out.now) (g.W.Write.contents c.run_input.new.out) c.in-Err.ensures.ends)
+
+pub returns-in-Err-clause-refused : goal.returns-in-Err-clause-refused
+returns-in-Err-clause-refused g c =
+    rw c.report.ensures.status
+    (ended_at_5 (Unit {0}) (IsRunOf _ c.args.hex) c.args.name.now (g.R.Read.remaining c.args.input.now) c.in-Err.stop
+    (g.W.Write.contents c.args.out.now) (g.W.Write.contents c.run_input.new.out) c.in-Err.ensures.ends)
+
+pub returns-in-Err-clause-fault : goal.returns-in-Err-clause-fault
+returns-in-Err-clause-fault g c =
+    rw c.report.ensures.status
+    (ended_at_1 (Unit {0}) (IsRunOf _ c.args.hex) c.args.name.now (g.R.Read.remaining c.args.input.now) c.in-Err.stop
+    (g.W.Write.contents c.args.out.now) (g.W.Write.contents c.run_input.new.out) (g.F.Write.contents c.args.faults.now)
+    (g.F.Write.contents c.report.new.faults) c.in-Err.ensures.ends c.report.ensures.said)
+
+pub returns-in-Err-clause-no_memory : goal.returns-in-Err-clause-no_memory
+returns-in-Err-clause-no_memory g c =
+    rw c.report.ensures.status
+    (said_at_3 c.in-Err.stop (g.F.Write.contents c.args.faults.now) (g.F.Write.contents c.report.new.faults)
+    c.report.ensures.said)

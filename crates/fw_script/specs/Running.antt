@@ -1,0 +1,115 @@
+-- How lines that are read come to what is printed, and what ends that early.
+use Rattle.std.specs.Prelude.{◌≡◌, ◌++◌, ◌∷◌, [], ◌⊎◌, ℕ, Bool, true, false, List, Option, Result, Ok, Err, IfSome}
+use Rattle.std.specs.Io.KnownBytes.{Appends, Keeps}
+use Rattle.fw_script.specs.Lines.{LineHasWords}
+use Rattle.fw_script.specs.Outputs.{AppendsSome}
+use Rattle.fw_script.specs.Scripts.{FirstFaultIs, IsGoodScript, IsPassedOver, Machine, Prints, PrintsAll, PrintsFirst, PrintsLine, PrintsSome}
+use Rattle.fw_script.specs.Words.{words_of}
+use Rattle.fw_script.specs.declared.line.Line.{Line}
+use Rattle.fw_script.specs.declared.stop.Stop.{Stop}
+use Rattle.fw_script.specs.declared.stop.Stop.TheVariants as stop
+use Rattle.fw_world.specs.declared.event.Event.{Event}
+use Rattle.fw_world.specs.declared.record.Record.{Record}
+
+-- The lines say this, in their order; a line that is passed over says nothing.
+pub data Say : List (List ℕ) → List Line → Type 0 where
+  no_more : Say [] []
+  passed_over : (line : List ℕ) (lines : List (List ℕ)) (said : List Line) → IsPassedOver line → Say lines said
+      → Say (line ∷ lines) said
+  says : (line : List ℕ) (l : Line) (lines : List (List ℕ)) (said : List Line) → LineHasWords l (words_of line)
+      → Say lines said → Say (line ∷ lines) (l ∷ said)
+
+-- Each line of these comes to this text, and to the same events and records.
+pub record EachLinePrints {S A : Type 0} (m : Machine S A) (hex : Bool) (old : S) (IsLine : List ℕ → Type 0) (text : List ℕ)
+    (new : S) : Type 0 where
+  pub events : List Event
+  pub records : List (Record A)
+  pub prints : (line : List ℕ) → IsLine line → PrintsLine m hex old line events records text new
+
+-- One of these lines was done: its text was written; or memory was wanting before it began; or the output refused.
+abbrev pub LineEnds : {S A T : Type 0} → Machine S A → Bool → (old : S) → (List ℕ → Type 0) → (new : S)
+    → Result T Stop → (had has : Option (List ℕ)) → Type 0
+LineEnds m hex old IsLine new (Ok done) had has =
+    (text : List ℕ) × EachLinePrints m hex old IsLine text new × Appends had has text
+LineEnds m hex old IsLine new (Err stop.OutputRefused) had has =
+    (text : List ℕ) × EachLinePrints m hex old IsLine text new × AppendsSome had has text
+LineEnds m hex old IsLine new (Err stop.NoMemory) had has = (new ≡ old) × Appends had has []
+LineEnds m hex old IsLine new (Err other) had has = ⊥
+
+-- These lines were done, and this is their text.
+pub record HasPrinted {S A : Type 0} (m : Machine S A) (hex : Bool) (first : S) (lines : List (List ℕ))
+    (text : List ℕ) (last : S) : Type 0 where
+  pub events : List Event
+  pub records : List (Record A)
+  pub prints : Prints m hex first lines events records text last
+
+-- All lines were done; or memory was wanting after some of them; or the output refused in them.
+abbrev pub LinesEnd : {S A T : Type 0} → Machine S A → Bool → (first : S) → List (List ℕ) → (last : S)
+    → Result T Stop → (had has : Option (List ℕ)) → Type 0
+LinesEnd m hex first lines last (Ok done) had has =
+    (text : List ℕ) × HasPrinted m hex first lines text last × Appends had has text
+LinesEnd m hex first lines last (Err stop.OutputRefused) had has =
+    (done : List (List ℕ)) × (rest : List (List ℕ)) × (lines ≡ done ++ rest)
+    × (text : List ℕ) × HasPrinted m hex first done text last × AppendsSome had has text
+LinesEnd m hex first lines last (Err stop.NoMemory) had has =
+    (done : List (List ℕ)) × (rest : List (List ℕ)) × (lines ≡ done ++ rest)
+    × (text : List ℕ) × HasPrinted m hex first done text last × Appends had has text
+LinesEnd m hex first lines last (Err other) had has = ⊥
+
+-- A run of these lines ended: all of its text was written; or memory was wanting before or after some lines; or the
+-- output refused in them.
+abbrev pub RunEnds : {T : Type 0} → (List (List ℕ) → List ℕ → Type 0) → List (List ℕ) → Result T Stop
+    → (had has : Option (List ℕ)) → Type 0
+RunEnds IsRun lines (Ok done) had has = (text : List ℕ) × IsRun lines text × Appends had has text
+RunEnds IsRun lines (Err stop.OutputRefused) had has =
+    (done : List (List ℕ)) × (rest : List (List ℕ)) × (lines ≡ done ++ rest) × (text : List ℕ) × IsRun done text
+    × AppendsSome had has text
+RunEnds IsRun lines (Err stop.NoMemory) had has =
+    Keeps had has ⊎ ((done : List (List ℕ)) × (rest : List (List ℕ)) × (lines ≡ done ++ rest) × (text : List ℕ)
+    × IsRun done text × Appends had has text)
+RunEnds IsRun lines (Err other) had has = ⊥
+
+-- why a script is not read
+abbrev pub ReadingEnds : List ℕ → Stop → Type 0
+ReadingEnds name (stop.CannotRead n) = n.now ≡ name
+ReadingEnds name stop.NoMemory = Unit {0}
+ReadingEnds name other = ⊥
+
+-- The same of a script that was to be read, judged and run.
+abbrev pub InputEnds : {T : Type 0} → (List (List ℕ) → List ℕ → Type 0) → (name : List ℕ)
+    → (script : Option (List ℕ)) → Result T Stop → (had has : Option (List ℕ)) → Type 0
+InputEnds IsRun name script (Ok done) had has = PrintsAll IsRun script had has
+InputEnds IsRun name script (Err stop.OutputRefused) had has = PrintsSome IsRun script had has
+InputEnds IsRun name script (Err stop.NoMemory) had has = Keeps had has ⊎ PrintsFirst IsRun script had has
+InputEnds IsRun name script (Err (stop.CannotRead n)) had has = n.now ≡ name
+InputEnds IsRun name script (Err (stop.BadLine number fault)) had has =
+    IfSome script (λ s. FirstFaultIs s number fault)
+InputEnds IsRun name script (Err stop.BadHex) had has = ⊥
+
+-- why the lines of a script are not kept: its first bad line, or want of memory for good ones
+abbrev pub JudgingEnds : List ℕ → Stop → Type 0
+JudgingEnds script (stop.BadLine number fault) = FirstFaultIs script number fault
+JudgingEnds script stop.NoMemory = IsGoodScript script
+JudgingEnds script other = ⊥
+
+-- why a script is not read or not kept
+abbrev pub UnreadEnds : (name : List ℕ) → (script : Option (List ℕ)) → Stop → Type 0
+UnreadEnds name script (stop.CannotRead n) = n.now ≡ name
+UnreadEnds name script (stop.BadLine number fault) = IfSome script (λ s. FirstFaultIs s number fault)
+UnreadEnds name script stop.NoMemory = Unit {0}
+UnreadEnds name script other = ⊥
+
+-- A run over a link ended: the link was lost, and a beginning was written of what is printed until some line after that;
+-- or it was not, and the run ended as one of a world.
+abbrev pub SessionEnds : (Bool → List (List ℕ) → List ℕ → Type 0) → List (List ℕ) → Result Bool Stop
+    → (had has : Option (List ℕ)) → Type 0
+SessionEnds IsRun lines (Ok true) had has =
+    (done : List (List ℕ)) × (rest : List (List ℕ)) × (lines ≡ done ++ rest) × (text : List ℕ) × IsRun true done text
+    × AppendsSome had has text
+SessionEnds IsRun lines other had has = RunEnds (IsRun false) lines other had has
+
+-- The same of a script that was to be read, judged and run.
+abbrev pub OverEnds : (Bool → List (List ℕ) → List ℕ → Type 0) → (name : List ℕ) → (script : Option (List ℕ))
+    → Result Bool Stop → (had has : Option (List ℕ)) → Type 0
+OverEnds IsRun name script (Ok true) had has = PrintsSome (IsRun true) script had has
+OverEnds IsRun name script other had has = InputEnds (IsRun false) name script other had has
