@@ -1,5 +1,5 @@
 -- What the kernel makes of bytes that are written to it, and what it does without its server.
-use Rattle.std.specs.Prelude.{◌≡◌, ℕ, Bool, List, [], Some, None}
+use Rattle.std.specs.Prelude.{◌≡◌, ℕ, Bool, List, Some, None}
 use Rattle.fuse_spec.specs.declared.Counted.{Counted}
 use Rattle.fuse_spec.specs.declared.IntrEffect.{IntrEffect}
 use Rattle.fuse_spec.specs.declared.WriteResult.{WriteResult}
@@ -8,7 +8,7 @@ use Rattle.fuse_spec.specs.Calls.Calls.{Call}
 use Rattle.fuse_spec.specs.Calls.Paths.{Name}
 use Rattle.fuse_spec.specs.Calls.Vfs.{later}
 use Rattle.fuse_spec.specs.Kernel.Kernel.{Kernel, call_put, evicted, kernel_aborted, kernel_mounted}
-use Rattle.fuse_spec.specs.Values.Maps.{get, remove_name}
+use Rattle.fuse_spec.specs.Values.Maps.{get, remove, remove_name}
 use Rattle.fk_kernel.specs.AwaitedReplies.{HasReplyHead, IsReplyWritten, awaited, head_unique, nothing}
 use Rattle.fk_kernel.specs.Refused.{IsSignalled, abort_refusal, begin_refusal, drop_refusal, evict_refusal, mount_refusal, signal_refusal, tick_refusal}
 
@@ -19,8 +19,7 @@ pub record IsReplyTaken (old : Kernel) (bytes : List ℕ) (result : WriteResult)
   pub taken : HasReplyHead bytes
       → IsReplyWritten old (head_unique bytes) bytes (awaited old (head_unique bytes)) result new
 
--- What happens to the kernel without its server, each as the kernel's definitions have it. The answers of calls are
--- collected at once.
+-- What happens to the kernel without its server, each as the kernel's definitions have it.
 pub data ActsAlone (old : Kernel) : Kernel → Type 0 where
   mounts : mount_refusal old ≡ None → ActsAlone old (kernel_mounted old)
   begins : (call : Call) → begin_refusal old call ≡ None → ActsAlone old (call_put old call)
@@ -33,4 +32,6 @@ pub data ActsAlone (old : Kernel) : Kernel → Type 0 where
   evicts : (node : ℕ) (counted : Counted) → evict_refusal old node ≡ None → get old.nodes node ≡ Some counted
       → ActsAlone old (evicted old node counted)
   aborts : abort_refusal old ≡ None → ActsAlone old (kernel_aborted old)
-  gives_answers : ActsAlone old (record old { vfs = record old.vfs { answers = [] } })
+  gives_answer : (call : ℕ) → ActsAlone old (record old {
+    vfs = record old.vfs { answers = remove old.vfs.answers call };
+  })
