@@ -1,0 +1,11 @@
+pub mod Stable
+pub mod SameAnswers
+pub mod Taken
+pub mod CallsOver
+pub mod RunsAnswer
+pub mod NumbersGone
+pub mod RepliesCounted
+pub mod WrittenCounted
+pub mod RunsTally
+pub mod OneEach
+pub mod RunsTake

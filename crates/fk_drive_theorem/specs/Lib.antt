@@ -1,0 +1,3 @@
+pub mod AnsweredOnce
+pub mod TakenOnce
+pub mod Tallies
