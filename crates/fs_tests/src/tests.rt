@@ -1,4 +1,5 @@
 //! What no clause says: values from outside, that calls succeed, which free numbers are given, and refused growths.
+//! What is large goes by a call of `drop`: at the end of a scope each way out would prove the drop of all its parts anew.
 
 mod faults;
 mod frames;

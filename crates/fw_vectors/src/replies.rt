@@ -96,12 +96,29 @@ fn add_plain<A: Allocator + Copy>(list: &mut VectorList<A>) -> Result<(), AllocE
     Ok(())
 }
 
-/// Adds INIT replies whose length is that of the minor version they state, and such whose is not; and the longer one
-/// with each of its fields of two bytes at another value.
-fn add_init<A: Allocator + Copy>(list: &mut VectorList<A>) -> Result<(), AllocError> {
+/// Adds an INIT reply of a minor version and a length, and the same with each of its fields of two bytes at another
+/// value, as far as it reaches.
+fn add_init_at<A: Allocator + Copy>(
+    list: &mut VectorList<A>,
+    minor: u8,
+    size: usize,
+) -> Result<(), AllocError> {
     let direction = Direction::Reply {
         opcode: Opcode::Init,
     };
+    let start = [0, 0, 0, 0, 0, 0, 0, 0, 6, 0, 0, 0, 0, 0, 0, 0, 7, 0, 0, 0];
+    let mut frame = joined(list.alloc(), &start, &[0; 60], &[])?;
+    put(frame.as_mut_slice(), 20, &[minor]);
+    let frame = joined(list.alloc(), first(frame.as_slice(), size), &[], &[])?;
+    list.add(direction, frame.as_slice())?;
+    for place in [32, 34, 44, 46] {
+        add_with(list, direction, frame.as_slice(), place, &[0xff; 2])?;
+    }
+    Ok(())
+}
+
+/// Adds INIT replies whose length is that of the minor version they state, and such whose is not.
+fn add_init<A: Allocator + Copy>(list: &mut VectorList<A>) -> Result<(), AllocError> {
     for (minor, size) in [
         (15u8, 40),
         (15, 80),
@@ -111,15 +128,7 @@ fn add_init<A: Allocator + Copy>(list: &mut VectorList<A>) -> Result<(), AllocEr
         (14, 40),
         (16, 80),
     ] {
-        let zeros = [0; 60];
-        let start = [0, 0, 0, 0, 0, 0, 0, 0, 6, 0, 0, 0, 0, 0, 0, 0, 7, 0, 0, 0];
-        let mut frame = joined(list.alloc(), &start, &zeros, &[])?;
-        put(frame.as_mut_slice(), 20, &[minor]);
-        let frame = joined(list.alloc(), first(frame.as_slice(), size), &[], &[])?;
-        list.add(direction, frame.as_slice())?;
-        for place in [32, 34, 44, 46] {
-            add_with(list, direction, frame.as_slice(), place, &[0xff; 2])?;
-        }
+        add_init_at(list, minor, size)?;
     }
     Ok(())
 }
@@ -195,20 +204,37 @@ fn add_record_names<A: Allocator + Copy>(
     Ok(())
 }
 
+/// Adds the frame of two records with these names.
+fn add_two_records<A: Allocator + Copy>(
+    list: &mut VectorList<A>,
+    opcode: Opcode,
+    plus: bool,
+    first: &[u8],
+    second: &[u8],
+) -> Result<(), AllocError> {
+    let frame = two_records(list.alloc(), plus, first, second)?;
+    list.add(Direction::Reply { opcode }, frame.as_slice())
+}
+
+/// Adds the frames of no record, of records named `.` and `..`, and of one with the longest name.
+fn add_unusual_records<A: Allocator + Copy>(
+    list: &mut VectorList<A>,
+    opcode: Opcode,
+    plus: bool,
+) -> Result<(), AllocError> {
+    let none = joined(list.alloc(), &[0; HEADER], &[], &[])?;
+    list.add(Direction::Reply { opcode }, none.as_slice())?;
+    add_two_records(list, opcode, plus, b".", b"..")?;
+    add_two_records(list, opcode, plus, &[b'n'; 255], b"\xff")
+}
+
 /// Adds the vectors of the replies with records, with an entry in front of each under `plus`.
 fn add_records<A: Allocator + Copy>(
     list: &mut VectorList<A>,
     opcode: Opcode,
     plus: bool,
 ) -> Result<(), AllocError> {
-    let direction = Direction::Reply { opcode };
-    let longest = vec![in list.alloc(); b'n'; 255]?;
-    let none = joined(list.alloc(), &[0; HEADER], &[], &[])?;
-    list.add(direction, none.as_slice())?;
-    let dots = two_records(list.alloc(), plus, b".", b"..")?;
-    list.add(direction, dots.as_slice())?;
-    let long = two_records(list.alloc(), plus, longest.as_slice(), b"\xff")?;
-    list.add(direction, long.as_slice())?;
+    add_unusual_records(list, opcode, plus)?;
     let frame = two_records(list.alloc(), plus, b"ab", b"cdefghij")?;
     add_reply(list, opcode, frame.as_slice())?;
     if plus {

@@ -161,6 +161,7 @@ fn runs<A: Copy, T: CountTable<Heap = A> + Tried<Row, A> + Drop>(
     for n in refusing.each_growth(40) {
         let mut table = T::new(heap);
         let wrong = first_wrong(&mut table, heap, refusing, alloc, &[CALLS.as_slice()]);
+        drop(table);
         assert_right(rt, wrong, "calls");
         runs = n;
     }

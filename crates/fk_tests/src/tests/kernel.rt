@@ -378,6 +378,7 @@ fn run_over<Q: RequestQueues, C: LookupCounts<Heap = Q::Heap>>(
 ) {
     let mut kernel: KernelOf<Q, C> = KernelOf::new(heap);
     let wrong = first_wrong(&mut kernel, heap, refusing, alloc, lists);
+    drop(kernel);
     assert_right(rt, wrong, name);
 }
 
@@ -397,4 +398,9 @@ fn run_on<A: Allocator + Copy>(
 fn run_on_new(rt: &impl Abort, alloc: Global, first: &[Row], rows: &[Row], name: &str) {
     let refusing = FailAt::new(alloc);
     run_on(rt, alloc, &refusing, alloc, &[first, rows], name);
+}
+
+/// The same of the rows of one list on a kernel whose INIT is answered.
+fn run_mounted(rt: &impl Abort, alloc: Global, rows: &[Row], name: &str) {
+    run_on_new(rt, alloc, &START, rows, name);
 }

@@ -115,6 +115,7 @@ fn run_calls<A: Allocator + Copy>(
 ) {
     let mut names = Bindings::new(heap);
     let wrong = first_wrong(&mut names, heap, refusing, alloc, &[CALLS.as_slice()]);
+    drop(names);
     assert_right(rt, wrong, "calls");
 }
 

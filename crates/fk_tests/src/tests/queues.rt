@@ -278,6 +278,7 @@ fn runs<A: Copy, T: QueueTable<u64, Heap = A> + Tried<Row, A> + Drop>(
     for n in refusing.each_growth(60) {
         let mut table = T::new(heap);
         let wrong = first_wrong(&mut table, heap, refusing, alloc, &[CALLS.as_slice()]);
+        drop(table);
         assert_right(rt, wrong, "calls");
         runs = n;
     }

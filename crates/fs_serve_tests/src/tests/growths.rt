@@ -4,7 +4,7 @@ use crate::tests::session::{lent, serve_device, session};
 use crate::tests::told::{Told, told_by};
 use fail_at::FailAt;
 use fuse_device::ListDevice;
-use std::alloc::AllocError;
+use std::alloc::{AllocError, Global};
 use std::process::Abort;
 use std::test::Fail;
 
@@ -30,6 +30,29 @@ fn assert_counts(rt: &impl Abort, nodes: &[(u64, u64, u64)], told: &Told, turn: 
     assert_eq!(rt; counts, told.nodes.len() as u64, "turn {turn}");
 }
 
+/// Serves the session in a turn: how many requests are replied ENOMEM, or 1 where serving itself is refused memory.
+fn refused_in(
+    rt: &impl Abort,
+    heap: &FailAt<Global>,
+    alloc: Global,
+    slices: &[&[u8]],
+    turn: u64,
+) -> Result<u64, Fail> {
+    let mut device = ListDevice::new(alloc, slices);
+    let served = serve_device(heap, &mut device);
+    let told = told_by(alloc, device.sent())?.expect(rt, "replies");
+    match served {
+        Ok((_end, nodes)) => {
+            assert_counts(rt, &nodes, &told, turn);
+            Ok(refusals(&told) as u64)
+        }
+        Err(AllocError) => {
+            assert_eq!(rt; refusals(&told), 0, "turn {turn}");
+            Ok(1)
+        }
+    }
+}
+
 /// In each turn but the last one growth is refused: before the first frame or in the list of nodes, or one request is
 /// replied ENOMEM, and the others are served.
 #[test]
@@ -40,20 +63,8 @@ fn each_growth_is_refused(rt: HostRuntime) -> Result<(), Fail> {
     let mut turns = 0;
     let mut refused = 0u64;
     for turn in heap.each_growth(200) {
-        let mut device = ListDevice::new(rt.alloc(), &slices);
-        let served = serve_device(&heap, &mut device);
-        let told = told_by(rt.alloc(), device.sent())?.expect(&rt, "replies");
+        refused = refused.wrapping_add(refused_in(&rt, &heap, rt.alloc(), &slices, turn)?);
         turns = turn;
-        match served {
-            Ok((_end, nodes)) => {
-                assert_counts(&rt, &nodes, &told, turn);
-                refused = refused.wrapping_add(refusals(&told) as u64);
-            }
-            Err(AllocError) => {
-                assert_eq!(rt; refusals(&told), 0, "turn {turn}");
-                refused = refused.wrapping_add(1);
-            }
-        }
     }
     assert!(rt; turns < 200);
     assert_eq!(rt; refused.wrapping_add(1), turns);

@@ -6,6 +6,7 @@ use fs_server::Server;
 use fuse_device::{DeviceEnd, ListDevice};
 use fuse_spec::{Minor, WriteResult};
 use std::alloc::{AllocError, Allocator, Global};
+use std::process::Abort;
 use std::test::Fail;
 
 /// The nodes that a server holds: each nodeid with its generation and its lookup count.
@@ -120,9 +121,6 @@ fn serve_by<A: Allocator + Copy>(
     Ok((end, nodes))
 }
 
-/// Lets a server go.
-fn let_go<A: Allocator + Copy>(_server: Server<A>) {}
-
 /// Serves a device by a server of its own.
 pub fn serve_device<A: Allocator + Copy>(
     heap: A,
@@ -130,7 +128,7 @@ pub fn serve_device<A: Allocator + Copy>(
 ) -> Result<Served<A>, AllocError> {
     let mut server = mounted(heap)?;
     let served = serve_by(heap, &mut server, device);
-    let_go(server);
+    drop(server);
     served
 }
 
@@ -148,13 +146,24 @@ fn serve_session(
     Ok((end, device.sends(), nodes))
 }
 
+/// Asserts how serving the session ends, after how many sends, and with which nodes.
+fn check_session(
+    rt: &impl Abort,
+    alloc: Global,
+    (send, at_send): (u64, Result<WriteResult, DeviceEnd>),
+    wanted: (DeviceEnd, u64, Nodes),
+) -> Result<(), Fail> {
+    let (end, sends, nodes) = serve_session(alloc, send, at_send)?;
+    assert_eq!(rt; end, Some(wanted.0), "send {send}");
+    assert_eq!(rt; sends, wanted.1, "send {send}");
+    assert_eq!(rt; nodes.as_slice(), wanted.2, "send {send}");
+    Ok(())
+}
+
 #[test]
 fn all_replies_are_accepted(rt: HostRuntime) -> Result<(), Fail> {
-    let (end, sends, nodes) = serve_session(rt.alloc(), 0, Ok(WriteResult::Accepted))?;
-    assert_eq!(rt; end, Some(DeviceEnd::Ended));
-    assert_eq!(rt; sends, 7);
-    assert_eq!(rt; nodes.as_slice(), ACCEPTED);
-    Ok(())
+    let accepted = (0, Ok(WriteResult::Accepted));
+    check_session(&rt, rt.alloc(), accepted, (DeviceEnd::Ended, 7, ACCEPTED))
 }
 
 #[test]
@@ -163,10 +172,8 @@ fn each_send_is_refused(rt: HostRuntime) -> Result<(), Fail> {
         let mut send = 0u64;
         for wanted in REFUSED {
             send = send.wrapping_add(1);
-            let (end, sends, nodes) = serve_session(rt.alloc(), send, Ok(result_of_send))?;
-            assert_eq!(rt; end, Some(DeviceEnd::Ended), "send {send}");
-            assert_eq!(rt; sends, 7, "send {send}");
-            assert_eq!(rt; nodes.as_slice(), wanted, "send {send}");
+            let refused = (send, Ok(result_of_send));
+            check_session(&rt, rt.alloc(), refused, (DeviceEnd::Ended, 7, wanted))?;
         }
     }
     Ok(())
@@ -178,10 +185,8 @@ fn the_device_ends_at_each_send(rt: HostRuntime) -> Result<(), Fail> {
         let mut send = 0u64;
         for wanted in ENDED {
             send = send.wrapping_add(1);
-            let (end, sends, nodes) = serve_session(rt.alloc(), send, Err(end_at_send))?;
-            assert_eq!(rt; end, Some(end_at_send), "send {send}");
-            assert_eq!(rt; sends, send);
-            assert_eq!(rt; nodes.as_slice(), wanted, "send {send}");
+            let ended = (send, Err(end_at_send));
+            check_session(&rt, rt.alloc(), ended, (end_at_send, send, wanted))?;
         }
     }
     Ok(())

@@ -143,11 +143,29 @@ fn first_other<S: NodeStore>(
     Ok(None)
 }
 
+/// The places of the first rows of the two lists to which a server replies otherwise.
+fn first_others(
+    server: &Server,
+    alloc: Global,
+) -> Result<(Option<usize>, Option<usize>), AllocError> {
+    Ok((
+        first_other(server, alloc, &REPLIED)?,
+        first_other(server, alloc, &UNREPLIED)?,
+    ))
+}
+
+/// The same of a new server.
+fn first_others_of_new(alloc: Global) -> Result<(Option<usize>, Option<usize>), AllocError> {
+    let server: Server = ServerOf::new(alloc)?;
+    let others = first_others(&server, alloc);
+    drop(server);
+    others
+}
+
 #[test]
 fn replies_to_faulty_frames(rt: HostRuntime) -> Result<(), Fail> {
-    let alloc = rt.alloc();
-    let server: Server = ServerOf::new(alloc)?;
-    assert_eq!(rt; first_other(&server, alloc, &REPLIED)?, None, "replied");
-    assert_eq!(rt; first_other(&server, alloc, &UNREPLIED)?, None, "unreplied");
+    let (replied, unreplied) = first_others_of_new(rt.alloc())?;
+    assert_eq!(rt; replied, None, "replied");
+    assert_eq!(rt; unreplied, None, "unreplied");
     Ok(())
 }

@@ -34,13 +34,18 @@ fn opens<A: Allocator + Copy>(table: &mut HandleTable<A>, file: u64, number: u64
 /// Whether a number that was copied once is kept once.
 fn copy_keeps_number(alloc: Global) -> Result<bool, AllocError> {
     let mut table: HandleTable = HandleTable::new(alloc);
-    table.reserve()?;
+    if table.reserve().is_err() {
+        drop(table);
+        return Err(AllocError);
+    }
     let fh = table.open(7);
     table.again(fh);
     table.take_back(fh);
     let kept = table.file_of(fh) == Some(7);
     table.take_back(fh);
-    Ok(kept && table.file_of(fh).is_none())
+    let is_gone = table.file_of(fh).is_none();
+    drop(table);
+    Ok(kept && is_gone)
 }
 
 impl<A: Allocator + Copy> Tried<Row, A> for HandleTable<A> {
@@ -90,6 +95,7 @@ fn run_calls<A: Allocator + Copy>(
 ) {
     let mut table: HandleTable<A> = HandleTable::new(heap);
     let wrong = first_wrong(&mut table, heap, refusing, alloc, &[CALLS.as_slice()]);
+    drop(table);
     assert_right(rt, wrong, "calls");
 }
 

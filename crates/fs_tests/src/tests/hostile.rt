@@ -3,6 +3,8 @@
 use crate::tests::frames::{Asks, Row, run_on_new};
 use fs_server::ServerFault;
 use fuse_spec::{Taken, WriteResult};
+use std::alloc::{AllocError, Global};
+use std::process::Abort;
 use std::test::Fail;
 
 /// Mounts, answers INIT, and makes the directory `a`: node 2 of generation 1, with a count of 1.
@@ -197,12 +199,17 @@ static REFUSED_LATE: [Row; 6] = [
     Row::NoSettle(2),
 ];
 
+/// Tries the rows on new servers that are started so.
+fn run_started(rt: &impl Abort, alloc: Global, rows: &[Row], name: &str) -> Result<(), AllocError> {
+    run_on_new(rt, alloc, &START, rows, name)
+}
+
 #[test]
 fn frames_are_refused(rt: HostRuntime) -> Result<(), Fail> {
-    run_on_new(&rt, rt.alloc(), &START, &FAULTY, "faulty")?;
-    run_on_new(&rt, rt.alloc(), &START, &REPEATED, "repeated")?;
-    run_on_new(&rt, rt.alloc(), &START, &GONE, "gone")?;
-    run_on_new(&rt, rt.alloc(), &START, &NOT_OPEN, "not open")?;
-    run_on_new(&rt, rt.alloc(), &START, &REFUSED_LATE, "refused late")?;
+    run_started(&rt, rt.alloc(), &FAULTY, "faulty")?;
+    run_started(&rt, rt.alloc(), &REPEATED, "repeated")?;
+    run_started(&rt, rt.alloc(), &GONE, "gone")?;
+    run_started(&rt, rt.alloc(), &NOT_OPEN, "not open")?;
+    run_started(&rt, rt.alloc(), &REFUSED_LATE, "refused late")?;
     Ok(())
 }

@@ -3,6 +3,8 @@
 use crate::tests::frames::{Asks, Row, run_on_new};
 use fs_server::ServerFault;
 use fuse_spec::{Taken, WriteResult};
+use std::alloc::{AllocError, Global};
+use std::process::Abort;
 use std::test::Fail;
 
 /// Mounts, and answers INIT.
@@ -207,10 +209,15 @@ static ABORTED: [Row; 36] = [
     Row::Nodes(&[(2, 5, 1)]),
 ];
 
+/// Tries the rows on new servers that are started so.
+fn run_started(rt: &impl Abort, alloc: Global, rows: &[Row], name: &str) -> Result<(), AllocError> {
+    run_on_new(rt, alloc, &START, rows, name)
+}
+
 #[test]
 fn nodes_marks_and_mounts(rt: HostRuntime) -> Result<(), Fail> {
-    run_on_new(&rt, rt.alloc(), &START, &LAST_UNLINK, "last unlink")?;
-    run_on_new(&rt, rt.alloc(), &START, &INTERRUPTED, "interrupted")?;
-    run_on_new(&rt, rt.alloc(), &START, &ABORTED, "aborted")?;
+    run_started(&rt, rt.alloc(), &LAST_UNLINK, "last unlink")?;
+    run_started(&rt, rt.alloc(), &INTERRUPTED, "interrupted")?;
+    run_started(&rt, rt.alloc(), &ABORTED, "aborted")?;
     Ok(())
 }

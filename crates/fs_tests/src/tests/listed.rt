@@ -3,6 +3,8 @@
 use crate::tests::frames::{Asks, Row, run_on_new, runs_of_both};
 use fail_at::FailAt;
 use fuse_spec::{Taken, WriteResult};
+use std::alloc::{AllocError, Global};
+use std::process::Abort;
 use std::test::Fail;
 
 /// The directory `a`, node 2 of generation 1, and the file `bb`, node 3 of generation 2, in the reply under unique 8.
@@ -170,12 +172,17 @@ static LOST: [Row; 11] = [
     Row::Nodes(&[(2, 3, 1), (3, 4, 1)]),
 ];
 
+/// Tries the rows on new servers that are started so.
+fn run_started(rt: &impl Abort, alloc: Global, rows: &[Row], name: &str) -> Result<(), AllocError> {
+    run_on_new(rt, alloc, &START, rows, name)
+}
+
 #[test]
 fn files_are_counted(rt: HostRuntime) -> Result<(), Fail> {
-    run_on_new(&rt, rt.alloc(), &START, &FORGOTTEN, "forgotten")?;
+    run_started(&rt, rt.alloc(), &FORGOTTEN, "forgotten")?;
     run_on_new(&rt, rt.alloc(), &TWO_NAMES, &[], "two names")?;
-    run_on_new(&rt, rt.alloc(), &START, &PARTS, "parts")?;
-    run_on_new(&rt, rt.alloc(), &START, &LOST, "lost")?;
+    run_started(&rt, rt.alloc(), &PARTS, "parts")?;
+    run_started(&rt, rt.alloc(), &LOST, "lost")?;
     Ok(())
 }
 

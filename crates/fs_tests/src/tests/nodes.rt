@@ -158,6 +158,7 @@ fn runs<A: Copy, T: NodeStore<Heap = A> + Tried<Row, A> + Drop>(
     for n in refusing.each_growth(40) {
         let mut store = T::new(heap);
         let wrong = first_wrong(&mut store, heap, refusing, alloc, &[CALLS.as_slice()]);
+        drop(store);
         assert_right(rt, wrong, "calls");
         runs = n;
     }

@@ -2,7 +2,7 @@
 
 use fw_link::MemoryLink;
 use fw_world::{
-    Answer, Event, ListWorldIn, Outcome, Record, Refusal, Session, Tables, WorldIn, WorldOf, run,
+    Answer, Event, Lists, Maps, Outcome, Record, Refusal, Session, Tables, WorldOf, run,
 };
 use std::alloc::{AllocError, Allocator};
 
@@ -104,13 +104,20 @@ pub(super) trait MachineTest<A: Allocator + Copy> {
     fn try_on<W: Machine<A> + Drop>(&mut self, alloc: A) -> Result<(), AllocError>;
 }
 
-/// On a world over maps and slabs. Here alone its type is named, as in the next two: each function that names one costs
-/// some fifteen seconds to check.
+/// On a world over any tables. Its drop is proved here once, and not of each kind of tables.
+fn try_on_tables<T: Tables, M: MachineTest<T::Heap>>(
+    test: &mut M,
+    alloc: T::Heap,
+) -> Result<(), AllocError> {
+    test.try_on::<WorldOf<T>>(alloc)
+}
+
+/// On a world over maps and slabs.
 pub(super) fn try_on_world<A: Allocator + Copy, T: MachineTest<A>>(
     test: &mut T,
     alloc: A,
 ) -> Result<(), AllocError> {
-    test.try_on::<WorldIn<A>>(alloc)
+    try_on_tables::<Maps<A>, T>(test, alloc)
 }
 
 /// On a world over plain lists.
@@ -118,7 +125,7 @@ pub(super) fn try_on_list_world<A: Allocator + Copy, T: MachineTest<A>>(
     test: &mut T,
     alloc: A,
 ) -> Result<(), AllocError> {
-    test.try_on::<ListWorldIn<A>>(alloc)
+    try_on_tables::<Lists<A>, T>(test, alloc)
 }
 
 /// On a session over a link in memory.

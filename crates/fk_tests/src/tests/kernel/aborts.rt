@@ -1,6 +1,6 @@
 //! Aborts, and mounts after them and on a live mount.
 
-use super::{Expected, Reads, Row, START, Written, run_on_new};
+use super::{Expected, Reads, Row, Written, run_mounted};
 use fk_kernel::Call;
 use fk_wire::Opcode;
 use fuse_spec::{IntrEffect, Refusal, WriteResult};
@@ -106,14 +106,8 @@ static ABORTED_WHILE_OPEN: [Row; 11] = [
 
 #[test]
 fn aborts_and_mounts(rt: HostRuntime) -> Result<(), Fail> {
-    run_on_new(&rt, rt.alloc(), &START, &ABORTED, "aborted");
-    run_on_new(&rt, rt.alloc(), &START, &MOUNTED_ANEW, "mounted anew");
-    run_on_new(
-        &rt,
-        rt.alloc(),
-        &START,
-        &ABORTED_WHILE_OPEN,
-        "aborted while open",
-    );
+    run_mounted(&rt, rt.alloc(), &ABORTED, "aborted");
+    run_mounted(&rt, rt.alloc(), &MOUNTED_ANEW, "mounted anew");
+    run_mounted(&rt, rt.alloc(), &ABORTED_WHILE_OPEN, "aborted while open");
     Ok(())
 }

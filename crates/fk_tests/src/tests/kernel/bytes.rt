@@ -1,6 +1,6 @@
 //! Bytes that no server of this project sends.
 
-use super::{Expected, Reads, Row, START, Written, run_on_new};
+use super::{Expected, Reads, Row, Written, run_mounted};
 use fk_kernel::Call;
 use fk_wire::Opcode;
 use fuse_spec::{Kind, Refusal, WriteResult};
@@ -445,28 +445,22 @@ static RELEASED: [Row; 13] = [
 
 #[test]
 fn any_bytes(rt: HostRuntime) -> Result<(), Fail> {
-    run_on_new(&rt, rt.alloc(), &START, &WAITING, "waiting");
-    run_on_new(&rt, rt.alloc(), &START, &SHORT_ENTRY, "short entry");
-    run_on_new(&rt, rt.alloc(), &START, &ERROR_WITH_BODY, "error with body");
-    run_on_new(&rt, rt.alloc(), &START, &NANOSECONDS, "nanoseconds");
-    run_on_new(&rt, rt.alloc(), &START, &NAMES_THE_ROOT, "names the root");
-    run_on_new(
-        &rt,
-        rt.alloc(),
-        &START,
-        &ANOTHER_GENERATION,
-        "another generation",
-    );
-    run_on_new(&rt, rt.alloc(), &START, &NO_NODE, "no node");
-    run_on_new(&rt, rt.alloc(), &START, &UNUSUAL_NAMES, "unusual names");
-    run_on_new(&rt, rt.alloc(), &START, &SLASH_IN_NAME, "slash in name");
-    run_on_new(&rt, rt.alloc(), &START, &LONG_LIST, "long list");
-    run_on_new(&rt, rt.alloc(), &START, &WHOLE_LIST, "whole list");
-    run_on_new(&rt, rt.alloc(), &START, &LONG_READ, "long read");
-    run_on_new(&rt, rt.alloc(), &START, &LONG_WRITE, "long write");
-    run_on_new(&rt, rt.alloc(), &START, &CREATED_UNLIKE, "created unlike");
-    run_on_new(&rt, rt.alloc(), &START, &CREATED_ROOT, "created root");
-    run_on_new(&rt, rt.alloc(), &START, &CREATED_NOTHING, "created nothing");
-    run_on_new(&rt, rt.alloc(), &START, &RELEASED, "released");
+    run_mounted(&rt, rt.alloc(), &WAITING, "waiting");
+    run_mounted(&rt, rt.alloc(), &SHORT_ENTRY, "short entry");
+    run_mounted(&rt, rt.alloc(), &ERROR_WITH_BODY, "error with body");
+    run_mounted(&rt, rt.alloc(), &NANOSECONDS, "nanoseconds");
+    run_mounted(&rt, rt.alloc(), &NAMES_THE_ROOT, "names the root");
+    run_mounted(&rt, rt.alloc(), &ANOTHER_GENERATION, "another generation");
+    run_mounted(&rt, rt.alloc(), &NO_NODE, "no node");
+    run_mounted(&rt, rt.alloc(), &UNUSUAL_NAMES, "unusual names");
+    run_mounted(&rt, rt.alloc(), &SLASH_IN_NAME, "slash in name");
+    run_mounted(&rt, rt.alloc(), &LONG_LIST, "long list");
+    run_mounted(&rt, rt.alloc(), &WHOLE_LIST, "whole list");
+    run_mounted(&rt, rt.alloc(), &LONG_READ, "long read");
+    run_mounted(&rt, rt.alloc(), &LONG_WRITE, "long write");
+    run_mounted(&rt, rt.alloc(), &CREATED_UNLIKE, "created unlike");
+    run_mounted(&rt, rt.alloc(), &CREATED_ROOT, "created root");
+    run_mounted(&rt, rt.alloc(), &CREATED_NOTHING, "created nothing");
+    run_mounted(&rt, rt.alloc(), &RELEASED, "released");
     Ok(())
 }

@@ -1,6 +1,6 @@
 //! Open files: when they are released, and what is asked of none.
 
-use super::{Expected, Reads, Row, START, Written, run_on_new};
+use super::{Expected, Reads, Row, Written, run_mounted};
 use fk_kernel::Call;
 use fk_wire::Opcode;
 use fuse_spec::{IntrEffect, Refusal, WriteResult};
@@ -173,20 +173,8 @@ static ARGUMENTS: [Row; 22] = [
 
 #[test]
 fn open_files(rt: HostRuntime) -> Result<(), Fail> {
-    run_on_new(
-        &rt,
-        rt.alloc(),
-        &START,
-        &CLOSED_WHILE_READ,
-        "closed while read",
-    );
-    run_on_new(
-        &rt,
-        rt.alloc(),
-        &START,
-        &CLOSED_WHILE_UNREAD,
-        "closed while unread",
-    );
-    run_on_new(&rt, rt.alloc(), &START, &ARGUMENTS, "arguments");
+    run_mounted(&rt, rt.alloc(), &CLOSED_WHILE_READ, "closed while read");
+    run_mounted(&rt, rt.alloc(), &CLOSED_WHILE_UNREAD, "closed while unread");
+    run_mounted(&rt, rt.alloc(), &ARGUMENTS, "arguments");
     Ok(())
 }

@@ -1,6 +1,6 @@
 //! Path faults, judged alike for each call.
 
-use super::{Expected, Row, START, run_on_new};
+use super::{Expected, Row, run_mounted};
 use fk_kernel::Call;
 use std::test::Fail;
 
@@ -187,6 +187,6 @@ static PATHS: [Row; 73] = [
 
 #[test]
 fn the_first_fault_decides(rt: HostRuntime) -> Result<(), Fail> {
-    run_on_new(&rt, rt.alloc(), &START, &PATHS, "paths");
+    run_mounted(&rt, rt.alloc(), &PATHS, "paths");
     Ok(())
 }

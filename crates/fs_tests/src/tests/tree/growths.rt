@@ -40,6 +40,7 @@ fn run_calls<A: Allocator + Copy>(
 ) -> Result<(), AllocError> {
     let mut tree = made(heap)?;
     let wrong = first_wrong(&mut tree, heap, refusing, alloc, &[CALLS.as_slice()]);
+    drop(tree);
     assert_right(rt, wrong, "calls");
     Ok(())
 }

@@ -259,23 +259,23 @@ fn run_on_new(
     let refusing = FailAt::new(alloc);
     let mut tree = Tree::new(alloc)?;
     let wrong = first_wrong(&mut tree, alloc, &refusing, alloc, &[first, rows]);
+    drop(tree);
     assert_right(rt, wrong, name);
     Ok(())
 }
 
+/// The same of the rows of one list, behind those that make the files.
+fn run_started(rt: &impl Abort, alloc: Global, rows: &[Row], name: &str) -> Result<(), AllocError> {
+    run_on_new(rt, alloc, &START, rows, name)
+}
+
 #[test]
 fn the_table(rt: HostRuntime) -> Result<(), Fail> {
-    run_on_new(
-        &rt,
-        rt.alloc(),
-        &START,
-        &LOOKUPS_AND_MAKES,
-        "lookups and makes",
-    )?;
-    run_on_new(&rt, rt.alloc(), &START, &REMOVALS, "removals")?;
-    run_on_new(&rt, rt.alloc(), &START, &LINKS, "links")?;
-    run_on_new(&rt, rt.alloc(), &START, &REFUSED_RENAMES, "refused renames")?;
-    run_on_new(&rt, rt.alloc(), &START, &RENAMES, "renames")?;
+    run_started(&rt, rt.alloc(), &LOOKUPS_AND_MAKES, "lookups and makes")?;
+    run_started(&rt, rt.alloc(), &REMOVALS, "removals")?;
+    run_started(&rt, rt.alloc(), &LINKS, "links")?;
+    run_started(&rt, rt.alloc(), &REFUSED_RENAMES, "refused renames")?;
+    run_started(&rt, rt.alloc(), &RENAMES, "renames")?;
     run_on_new(&rt, rt.alloc(), &NAMES, &LISTS, "lists")?;
     run_on_new(&rt, rt.alloc(), &BYTES, &FULL_FILE, "full file")?;
     run_on_new(&rt, rt.alloc(), &BYTES, &DISCARDED, "discarded")?;
