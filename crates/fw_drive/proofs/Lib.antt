@@ -1,0 +1,2 @@
+pub mod ActsAlone
+pub mod Following

@@ -1,0 +1,137 @@
+//! Calls are carried to their answers.
+
+ghost use Rattle.fw_drive.specs.Runs.{GoesOn};
+
+use crate::driver::Driver;
+use crate::moves::{act, receive, send};
+use crate::notes::Notes;
+use crate::stop::Stop;
+use fuse_device::Device;
+use fw_world::{Event, Minor, Pick, Refusal};
+use std::alloc::Allocator;
+use std::io::Write;
+
+/// Whether what the kernel said of a frame ended a request.
+fn is_ended(received: Result<Option<u64>, Refusal>, unique: u64) -> Result<bool, Stop> {
+    match received {
+        Ok(ended) => Ok(ended == Some(unique)),
+        Err(refusal) => Err(Stop::Refused(refusal)),
+    }
+}
+
+/// A frame is received. Says whether it ended a request.
+fn receive_toward<A: Allocator + Copy, D: Device, W: Write>(
+    driver: &mut Driver<A>,
+    device: &mut D,
+    notes: &mut Notes<A>,
+    unique: u64,
+    out: &mut W,
+) -> Result<bool, Stop>
+    ensures { GoesOn D.logs device.old device.new driver.old driver.new result }
+{
+    match receive(driver, device, notes, out) {
+        Ok(received) => is_ended(received, unique),
+        Err(stop) => Err(stop),
+    }
+}
+
+/// Frames are received until the reply to a request.
+fn await_reply<A: Allocator + Copy, D: Device, W: Write>(
+    driver: &mut Driver<A>,
+    device: &mut D,
+    notes: &mut Notes<A>,
+    unique: u64,
+    out: &mut W,
+) -> Result<bool, Stop>
+    ensures { GoesOn D.logs device.old device.new driver.old driver.new result }
+{
+    for _frame in 0..u64::MAX {
+        match receive_toward(driver, device, notes, unique, out) {
+            Ok(true) => return Ok(true),
+            Ok(false) => {}
+            Err(stop) => return Err(stop),
+        }
+    }
+    Ok(true)
+}
+
+/// Whether a request was sent that has no reply. There is none where the kernel has no such request, or no mount.
+fn is_sent(sent: Result<Option<u64>, Refusal>) -> Result<bool, Stop> {
+    match sent {
+        Ok(_) => Ok(true),
+        Err(Refusal::NoSuch | Refusal::NotReady) => Ok(false),
+        Err(refusal) => Err(Stop::Refused(refusal)),
+    }
+}
+
+/// A request is sent, and its reply received. Says whether there was one.
+fn carry_one<A: Allocator + Copy, D: Device, W: Write>(
+    driver: &mut Driver<A>,
+    device: &mut D,
+    notes: &mut Notes<A>,
+    pick: Pick,
+    out: &mut W,
+) -> Result<bool, Stop>
+    ensures { GoesOn D.logs device.old device.new driver.old driver.new result }
+{
+    match send(driver, device, notes, pick, out) {
+        Ok(Ok(Some(unique))) => await_reply(driver, device, notes, unique, out),
+        Ok(sent) => is_sent(sent),
+        Err(stop) => Err(stop),
+    }
+}
+
+/// All requests of one kind are sent, the oldest first, each once the one before is answered.
+fn carry_all<A: Allocator + Copy, D: Device, W: Write>(
+    driver: &mut Driver<A>,
+    device: &mut D,
+    notes: &mut Notes<A>,
+    pick: Pick,
+    out: &mut W,
+) -> Result<(), Stop>
+    ensures { GoesOn D.logs device.old device.new driver.old driver.new result }
+{
+    for _request in 0..u64::MAX {
+        match carry_one(driver, device, notes, pick, out) {
+            Ok(true) => {}
+            Ok(false) => return Ok(()),
+            Err(stop) => return Err(stop),
+        }
+    }
+    Ok(())
+}
+
+/// All that waits is sent, the oldest request first, and then forgets.
+pub(crate) fn carry<A: Allocator + Copy, D: Device, W: Write>(
+    driver: &mut Driver<A>,
+    device: &mut D,
+    notes: &mut Notes<A>,
+    out: &mut W,
+) -> Result<(), Stop>
+    ensures { GoesOn D.logs device.old device.new driver.old driver.new result }
+{
+    match carry_all(driver, device, notes, Pick::Pending(0), out) {
+        Ok(()) => carry_all(driver, device, notes, Pick::Forgets(1), out),
+        Err(stop) => Err(stop),
+    }
+}
+
+/// The kernel mounts, and INIT is answered.
+pub(crate) fn mount<A: Allocator + Copy, D: Device, W: Write>(
+    driver: &mut Driver<A>,
+    device: &mut D,
+    notes: &mut Notes<A>,
+    out: &mut W,
+) -> Result<(), Stop>
+    ensures { GoesOn D.logs device.old device.new driver.old driver.new result }
+{
+    let event = Event::Mount {
+        found_ms: 0,
+        missing_ms: 0,
+        minor: Minor::M31,
+    };
+    match act(driver, notes, &event, out) {
+        Ok(()) => carry(driver, device, notes, out),
+        Err(stop) => Err(stop),
+    }
+}

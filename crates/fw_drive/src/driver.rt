@@ -1,0 +1,162 @@
+//! A kernel and its connection to a server.
+
+ghost use Rattle.std.specs.Prelude.{◌≡◌, IfNone, IfOk, IfSome, OnErr};
+ghost use Rattle.fuse_spec.specs.Values.Maps.{remove};
+ghost use Rattle.fk_drive.specs.Driving.{first_driven, idle};
+ghost use Rattle.fw_drive.specs.Acts.{Acts};
+ghost use Rattle.fw_drive.specs.Runs.{GoesOn, Keeps, at};
+
+use fk_drive::{Aside, Choices, Connection, DriveEnd, NotSent, Written, send_next, write_next};
+use fk_kernel::{Answer, Kernel, Pick};
+use fuse_device::Device;
+use fuse_frames::RequestFrame;
+use fuse_spec::Refusal;
+use fw_world::{Event, Outcome};
+use std::alloc::{AllocError, Allocator};
+
+/// A kernel, its connection to a server, and what is said in fields that are free.
+#[derive(Drop)]
+pub(crate) struct Driver<A: Allocator + Copy> {
+    alloc: A,
+    kernel: Kernel<A>,
+    connection: Connection<A>,
+    choices: Choices,
+}
+
+impl<A: Allocator + Copy> Driver<A> {
+    /// A kernel before its first mount. OPENDIR goes before what lists a directory if it `asks`.
+    pub(crate) fn new(alloc: A, asks: bool, choices: Choices) -> Self
+        ensures { at result idle ≡ first_driven asks }
+    {
+        Driver {
+            alloc,
+            kernel: Kernel::new(alloc),
+            connection: Connection::new(alloc, asks),
+            choices,
+        }
+    }
+
+    /// OPEN is sent with these flags from now on.
+    pub(crate) fn open_with(&mut self, flags: u32)
+        ensures { Keeps self.old self.new }
+    {
+        self.choices.open_flags = flags;
+    }
+
+    /// An event happens that moves the kernel without its server. Any other is refused.
+    ///
+    /// # Errors
+    ///
+    /// As the kernel refuses it. Nothing is then changed.
+    pub(crate) fn act(&mut self, event: &Event<'_>) -> Result<Outcome, Refusal>
+        ensures does { IfOk result (λ outcome. Acts self.old.kernel event.now outcome self.new.kernel) }
+        ensures err { OnErr result (self.new.kernel ≡ self.old.kernel) }
+        ensures same { self.new ≡ record self.old { kernel = self.new.kernel } }
+    {
+        match *event {
+            Event::Mount { .. } => {
+                self.kernel.mount()?;
+                Ok(Outcome::Mounted)
+            }
+            Event::Call(call) => {
+                let call = self.kernel.begin(&call)?;
+                Ok(Outcome::Begun { call })
+            }
+            Event::Interrupt { call, fatal } => {
+                let effect = self.kernel.interrupt(call, fatal)?;
+                Ok(Outcome::Interrupted { call, effect })
+            }
+            Event::Tick(ms) => {
+                let clock = self.kernel.tick(ms)?;
+                Ok(Outcome::Now { clock })
+            }
+            Event::DropName { directory, name } => {
+                self.kernel.drop_binding(directory, name)?;
+                Ok(Outcome::Dropped)
+            }
+            Event::Evict(node) => {
+                let count = self.kernel.evict(node)?;
+                Ok(Outcome::Evicted { node, count })
+            }
+            Event::Abort => {
+                self.kernel.abort()?;
+                Ok(Outcome::Aborted)
+            }
+            Event::Read(_)
+            | Event::Take(_)
+            | Event::Do(_)
+            | Event::Again(_)
+            | Event::Write(_)
+            | Event::Settle(_) => Err(Refusal::NoSuch),
+        }
+    }
+
+    /// The answer of the lowest call that has one. It is collected then.
+    pub(crate) fn collect(&mut self) -> Option<(u64, Answer<A>)>
+        ensures some { IfSome result (λ given. self.new.kernel ≡ record self.old.kernel {
+          vfs = record self.old.kernel.vfs { answers = remove self.old.kernel.vfs.answers given.0 };
+        }) }
+        ensures none { IfNone result (self.new.kernel ≡ self.old.kernel) }
+        ensures same { self.new ≡ record self.old { kernel = self.new.kernel } }
+    {
+        self.kernel.collect()
+    }
+
+    /// Reads a request from the kernel, and sends it. `Err` of the inner result is why the kernel refuses.
+    ///
+    /// # Errors
+    ///
+    /// The run came to its end.
+    pub(crate) fn send<D: Device>(
+        &mut self,
+        device: &mut D,
+        pick: Pick,
+    ) -> Result<Result<RequestFrame<A>, Refusal>, DriveEnd>
+        ensures { GoesOn D.logs device.old device.new self.old self.new result }
+    {
+        let choices = self.choices;
+        match send_next(
+            &mut self.kernel,
+            &mut self.connection,
+            device,
+            pick,
+            choices,
+        ) {
+            Ok(frame) => Ok(Ok(frame)),
+            Err(NotSent::Refused(refusal)) => Ok(Err(refusal)),
+            Err(NotSent::Ended(end)) => Err(end),
+        }
+    }
+
+    /// Writes the next frame of the server to the kernel. `Err` of the inner result is why the kernel refuses: the frame
+    /// then waits.
+    ///
+    /// # Errors
+    ///
+    /// The run came to its end before there was one.
+    pub(crate) fn receive<D: Device>(
+        &mut self,
+        device: &mut D,
+    ) -> Result<Result<Written<A>, Refusal>, DriveEnd>
+        ensures { GoesOn D.logs device.old device.new self.old self.new result }
+    {
+        write_next(&mut self.kernel, &mut self.connection, device)
+    }
+
+    /// The frames that were not for the kernel, since this was last asked.
+    pub(crate) fn take_asides(&mut self) -> Vec<Aside, A>
+        ensures { Keeps self.old self.new }
+    {
+        self.connection.take_asides()
+    }
+
+    /// Whether a call waits for its answer.
+    pub(crate) fn is_asking(&self) -> bool {
+        self.kernel.unanswered() != 0
+    }
+
+    /// The nodes that the kernel counts, each its id, its generation and its lookup count.
+    pub(crate) fn nodes(&self) -> Result<Vec<(u64, u64, u64), A>, AllocError> {
+        self.kernel.nodes(self.alloc)
+    }
+}

@@ -1,0 +1,19 @@
+//! What a script of `drive` has in its lines.
+
+/// What a script has in its lines.
+#[derive(Clone, Copy, Debug, PartialEq, Eq)]
+pub enum Form {
+    /// Each event of the kernel, and each frame that is sent and received.
+    Events,
+    /// Calls and what happens between them. Each call is carried to its answer, and a mount goes before the first.
+    Calls,
+    /// The same, and each call is also made in a world of this project's own.
+    CallsBeside,
+}
+
+impl Form {
+    /// Whether the script has calls alone.
+    pub(crate) fn is_of_calls(self) -> bool {
+        self != Form::Events
+    }
+}

@@ -1,0 +1,23 @@
+//! A script that drives a server that somebody else wrote, by the proved kernel.
+#![tactic(auto)]
+
+mod alike;
+mod beside;
+mod carrying;
+mod driver;
+mod fault;
+mod form;
+mod line;
+mod moves;
+mod notes;
+mod printing;
+mod run;
+mod script;
+mod stop;
+mod trace;
+mod watch;
+
+pub use fk_drive::Choices;
+pub use form::Form;
+pub use run::{Task, run_drive};
+pub use trace::DriveTrace;

@@ -1,0 +1,169 @@
+//! One move of a driven kernel, printed.
+
+ghost use Rattle.fw_drive.specs.Runs.{GoesOn, MovesAlone};
+
+use crate::driver::Driver;
+use crate::notes::Notes;
+use crate::printing::{print_nodes, print_refusal};
+use crate::stop::{Stop, stop_at};
+use fk_drive::Written;
+use fk_wire::{Opcode, ReplyHead};
+use fuse_device::Device;
+use fuse_frames::RequestFrame;
+use fuse_spec::WriteResult;
+use fw_world::{Event, Pick, Refusal};
+use std::alloc::Allocator;
+use std::io::Write;
+
+/// Collects the answers that wait, in rising number of their calls, and prints them.
+fn collect_answers<A: Allocator + Copy, W: Write>(
+    driver: &mut Driver<A>,
+    notes: &mut Notes<A>,
+    out: &mut W,
+) -> Result<(), Stop>
+    ensures { MovesAlone driver.old driver.new }
+{
+    for _answer in 0..u64::MAX {
+        match driver.collect() {
+            Some((call, answer)) => notes.note_answer(call, answer, out)?,
+            None => break,
+        }
+    }
+    Ok(())
+}
+
+/// An event happens that moves the kernel without its server.
+pub(crate) fn act<A: Allocator + Copy, W: Write>(
+    driver: &mut Driver<A>,
+    notes: &mut Notes<A>,
+    event: &Event<'_>,
+    out: &mut W,
+) -> Result<(), Stop>
+    ensures { MovesAlone driver.old driver.new }
+{
+    match driver.act(event) {
+        Ok(outcome) => {
+            notes.note_outcome(event, outcome, out)?;
+            collect_answers(driver, notes, out)
+        }
+        Err(refusal) => {
+            print_refusal::<A, W>(out, refusal)?;
+            Ok(())
+        }
+    }
+}
+
+/// The request that was sent, by its number, where a reply is to come.
+fn unique_awaited<A: Allocator + Copy>(
+    driver: &Driver<A>,
+    unique: u64,
+    opcode: Opcode,
+) -> Option<u64> {
+    match opcode {
+        Opcode::Forget | Opcode::BatchForget => None,
+        Opcode::Readdir | Opcode::Readdirplus if !driver.is_asking() => None,
+        _ => Some(unique),
+    }
+}
+
+/// Notes a request that was sent, and prints the answers that wait. Gives the number whose reply is to come, if one is.
+fn note_request<A: Allocator + Copy, W: Write>(
+    driver: &mut Driver<A>,
+    notes: &mut Notes<A>,
+    frame: &RequestFrame<A>,
+    out: &mut W,
+) -> Result<Result<Option<u64>, Refusal>, Stop>
+    ensures { MovesAlone driver.old driver.new }
+{
+    notes.note_sent(frame, out)?;
+    let (unique, opcode) = frame.head();
+    let awaited = unique_awaited(driver, unique, opcode);
+    collect_answers(driver, notes, out)?;
+    Ok(Ok(awaited))
+}
+
+/// Reads a request from the kernel, and sends it. Says why the kernel refuses, or the number whose reply is to come.
+pub(crate) fn send<A: Allocator + Copy, D: Device, W: Write>(
+    driver: &mut Driver<A>,
+    device: &mut D,
+    notes: &mut Notes<A>,
+    pick: Pick,
+    out: &mut W,
+) -> Result<Result<Option<u64>, Refusal>, Stop>
+    ensures { GoesOn D.logs device.old device.new driver.old driver.new result }
+{
+    if out.flush().is_err() {
+        return Err(Stop::OutputRefused);
+    }
+    let sent = driver.send(device, pick);
+    let asides = driver.take_asides();
+    if let Err(stop) = notes.note_asides(asides.as_slice(), out) {
+        return Err(stop);
+    }
+    match sent {
+        Ok(Ok(frame)) => note_request(driver, notes, &frame, out),
+        Ok(Err(refusal)) => Ok(Err(refusal)),
+        Err(end) => Err(stop_at(end)),
+    }
+}
+
+/// The request that a frame ended, by its number.
+fn ended_by<A: Allocator>(written: &Written<A>) -> Option<u64> {
+    match (written.result, ReplyHead::read(written.frame.as_slice())) {
+        (WriteResult::NoEntry, _) | (_, Err(_)) => None,
+        (_, Ok(head)) => Some(head.unique),
+    }
+}
+
+/// Notes a frame that was written to the kernel, and prints the answers that wait. Gives the request that it ended, if
+/// one.
+fn note_reply<A: Allocator + Copy, W: Write>(
+    driver: &mut Driver<A>,
+    notes: &mut Notes<A>,
+    written: &Written<A>,
+    out: &mut W,
+) -> Result<Result<Option<u64>, Refusal>, Stop>
+    ensures { MovesAlone driver.old driver.new }
+{
+    notes.note_written(written, out)?;
+    collect_answers(driver, notes, out)?;
+    Ok(Ok(ended_by(written)))
+}
+
+/// Writes the next frame of the server to the kernel. Says why the kernel refuses, or which request that ended, if one.
+pub(crate) fn receive<A: Allocator + Copy, D: Device, W: Write>(
+    driver: &mut Driver<A>,
+    device: &mut D,
+    notes: &mut Notes<A>,
+    out: &mut W,
+) -> Result<Result<Option<u64>, Refusal>, Stop>
+    ensures { GoesOn D.logs device.old device.new driver.old driver.new result }
+{
+    if out.flush().is_err() {
+        return Err(Stop::OutputRefused);
+    }
+    let received = driver.receive(device);
+    let asides = driver.take_asides();
+    if let Err(stop) = notes.note_asides(asides.as_slice(), out) {
+        return Err(stop);
+    }
+    match received {
+        Ok(Ok(written)) => note_reply(driver, notes, &written, out),
+        Ok(Err(refusal)) => Ok(Err(refusal)),
+        Err(end) => Err(stop_at(end)),
+    }
+}
+
+/// Prints the nodes that the kernel counts.
+pub(crate) fn show<A: Allocator + Copy, W: Write>(
+    driver: &Driver<A>,
+    out: &mut W,
+) -> Result<(), Stop> {
+    match driver.nodes() {
+        Ok(nodes) => {
+            print_nodes(out, nodes.as_slice())?;
+            Ok(())
+        }
+        Err(_) => Err(Stop::NoMemory),
+    }
+}

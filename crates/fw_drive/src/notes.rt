@@ -1,0 +1,155 @@
+//! What is kept and printed beside a driven kernel.
+
+use crate::beside::Beside;
+use crate::form::Form;
+use crate::printing::{
+    print_asides, print_fault, print_outcome, print_raised, print_sent, print_written,
+};
+use crate::stop::{Stop, stop_at};
+use crate::watch::Watch;
+use fk_drive::{Aside, Written};
+use fuse_frames::RequestFrame;
+use fuse_spec::WriteResult;
+use fw_script::write_record;
+use fw_world::{Answer, Event, Outcome, Record, Refusal};
+use std::alloc::Allocator;
+use std::io::Write;
+
+/// The stop at a refusal of a world beside: only want of memory is one.
+fn stop_beside(_refusal: Refusal) -> Stop {
+    Stop::NoMemory
+}
+
+/// What is kept beside a driven kernel: what its server is known by, the world beside it, and room for bytes.
+#[derive(Drop)]
+pub(crate) struct Notes<A: Allocator + Copy> {
+    pub(crate) form: Form,
+    watch: Watch<A>,
+    beside: Option<Beside<A>>,
+}
+
+impl<A: Allocator + Copy> Notes<A> {
+    /// Notes of a run whose script has this form.
+    ///
+    /// # Errors
+    ///
+    /// Memory is wanting.
+    pub(crate) fn new(alloc: A, form: Form) -> Result<Self, Stop> {
+        let beside = match form {
+            Form::CallsBeside => Some(Beside::new(alloc).map_err(stop_beside)?),
+            Form::Events | Form::Calls => None,
+        };
+        Ok(Notes {
+            form,
+            watch: Watch::new(alloc),
+            beside,
+        })
+    }
+
+    /// Whether each frame is printed.
+    fn prints_frames(&self) -> bool {
+        !self.form.is_of_calls()
+    }
+
+    /// Notes what the kernel counts and awaits anew after an event.
+    fn watch_outcome(&mut self, outcome: Outcome) -> Result<(), Stop> {
+        match outcome {
+            Outcome::Mounted => {
+                if self.watch.note_mount().is_err() {
+                    return Err(Stop::NoMemory);
+                }
+            }
+            Outcome::Aborted => self.watch.note_abort(),
+            Outcome::Evicted { node, .. } => self.watch.give_up(node),
+            _ => {}
+        }
+        Ok(())
+    }
+
+    /// Prints what an event came to, and notes it.
+    pub(crate) fn note_outcome<W: Write>(
+        &mut self,
+        event: &Event<'_>,
+        outcome: Outcome,
+        out: &mut W,
+    ) -> Result<(), Stop> {
+        self.watch_outcome(outcome)?;
+        print_outcome::<A, W>(out, outcome)?;
+        match &mut self.beside {
+            Some(beside) => beside.follow(event).map_err(stop_beside),
+            None => Ok(()),
+        }
+    }
+
+    /// Prints an answer, and compares it with that of the world beside.
+    pub(crate) fn note_answer<W: Write>(
+        &mut self,
+        call: u64,
+        answer: Answer<A>,
+        out: &mut W,
+    ) -> Result<(), Stop> {
+        let record = Record::Answered { call, answer };
+        write_record(out, &record)?;
+        match (&mut self.beside, record) {
+            (Some(beside), Record::Answered { call, answer }) => {
+                beside.compare(call, answer, out)?;
+                Ok(())
+            }
+            _ => Ok(()),
+        }
+    }
+
+    /// Prints a request that was sent, and notes it.
+    pub(crate) fn note_sent<W: Write>(
+        &mut self,
+        frame: &RequestFrame<A>,
+        out: &mut W,
+    ) -> Result<(), Stop> {
+        let (unique, opcode) = frame.head();
+        if self.watch.note_sent(unique, opcode, frame.bytes()).is_err() {
+            return Err(Stop::NoMemory);
+        }
+        if self.prints_frames() {
+            print_sent(out, frame)?;
+        }
+        Ok(())
+    }
+
+    /// Prints a frame that was written to the kernel, and what the server did wrong.
+    pub(crate) fn note_written<W: Write>(
+        &mut self,
+        written: &Written<A>,
+        out: &mut W,
+    ) -> Result<(), Stop> {
+        if self.prints_frames() {
+            print_written(out, written)?;
+        }
+        if written.is_raised && written.result == WriteResult::Accepted {
+            print_raised(out, written.frame.as_slice())?;
+        }
+        let Ok(fault) = self.watch.judge(written) else {
+            return Err(Stop::NoMemory);
+        };
+        if let Some(fault) = fault {
+            print_fault(out, fault)?;
+        }
+        match written.end {
+            Some(end) => Err(stop_at(end)),
+            None => Ok(()),
+        }
+    }
+
+    /// Prints the frames that were not for the kernel.
+    pub(crate) fn note_asides<W: Write>(&self, asides: &[Aside], out: &mut W) -> Result<(), Stop> {
+        print_asides(out, asides)?;
+        Ok(())
+    }
+
+    /// Prints how the answers of the world beside compare.
+    pub(crate) fn print_count<W: Write>(&self, out: &mut W) -> Result<(), Stop> {
+        if let Some(beside) = &self.beside {
+            beside.print_count(out)?;
+        }
+        Ok(())
+    }
+}

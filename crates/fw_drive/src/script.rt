@@ -1,0 +1,210 @@
+//! The lines of a script, one after another.
+
+ghost use Rattle.fw_drive.specs.Runs.{GoesOn, MovesAlone};
+
+use crate::carrying::{carry, mount};
+use crate::driver::Driver;
+use crate::form::Form;
+use crate::line::{DriveLine, first_line, is_passed_over, read_drive_line};
+use crate::moves::{act, receive, send, show};
+use crate::notes::Notes;
+use crate::printing::print_refusal;
+use crate::stop::Stop;
+use fuse_device::Device;
+use fw_script::{LineFault, is_hex_or_none, read_hex_or_none};
+use fw_world::{Call, Event, Refusal};
+use std::alloc::Allocator;
+use std::io::Write;
+
+/// The number of the first line with a fault, from 1, and the fault.
+pub(crate) fn first_fault(form: Form, text: &[u8]) -> Option<(u64, LineFault)> {
+    let mut rest = Some(text);
+    for number in 1..u64::MAX {
+        let (line, behind) = first_line(rest?);
+        rest = behind;
+        if is_passed_over(line) {
+            continue;
+        }
+        if let Err(fault) = read_drive_line(form, line) {
+            return Some((number, fault));
+        }
+    }
+    None
+}
+
+/// Prints why a request or a reply is refused, if it is.
+fn print_refused<A: Allocator, W: Write>(
+    moved: Result<Option<u64>, Refusal>,
+    out: &mut W,
+) -> Result<(), Stop> {
+    if let Err(refusal) = moved {
+        print_refusal::<A, W>(out, refusal)?;
+    }
+    Ok(())
+}
+
+/// A call that puts bytes into an open file begins.
+fn begin_write<A: Allocator + Copy, W: Write>(
+    alloc: A,
+    driver: &mut Driver<A>,
+    notes: &mut Notes<A>,
+    file: (u64, u64, &[u8]),
+    out: &mut W,
+) -> Result<(), Stop>
+    ensures { MovesAlone driver.old driver.new }
+{
+    let (handle, offset, hex) = file;
+    let mut bytes = Vec::new(alloc);
+    if !is_hex_or_none(hex) || read_hex_or_none(&mut bytes, hex).is_err() {
+        return Err(Stop::NoMemory);
+    }
+    let call = Call::Write {
+        handle,
+        offset,
+        bytes: bytes.as_slice(),
+    };
+    act(driver, notes, &Event::Call(call), out)
+}
+
+/// Does what a line says.
+fn run_line<A: Allocator + Copy, D: Device, W: Write>(
+    alloc: A,
+    driver: &mut Driver<A>,
+    device: &mut D,
+    notes: &mut Notes<A>,
+    line: DriveLine<'_>,
+    out: &mut W,
+) -> Result<(), Stop>
+    ensures { GoesOn D.logs device.old device.new driver.old driver.new result }
+{
+    match line {
+        DriveLine::Event(Event::Read(pick)) => match send(driver, device, notes, pick, out) {
+            Ok(sent) => print_refused::<A, W>(sent, out),
+            Err(stop) => Err(stop),
+        },
+        DriveLine::Event(event) => act(driver, notes, &event, out),
+        DriveLine::Open { path, flags } => {
+            driver.open_with(flags);
+            act(driver, notes, &Event::Call(Call::Open { path }), out)
+        }
+        DriveLine::CallWrite {
+            handle,
+            offset,
+            hex,
+        } => begin_write(alloc, driver, notes, (handle, offset, hex), out),
+        DriveLine::Write => match receive(driver, device, notes, out) {
+            Ok(received) => print_refused::<A, W>(received, out),
+            Err(stop) => Err(stop),
+        },
+        DriveLine::Show => show(driver, out),
+    }
+}
+
+/// Does what a line says, and carries a call to its answer where the script is of calls.
+fn run_carried<A: Allocator + Copy, D: Device, W: Write>(
+    alloc: A,
+    driver: &mut Driver<A>,
+    device: &mut D,
+    notes: &mut Notes<A>,
+    line: DriveLine<'_>,
+    out: &mut W,
+) -> Result<(), Stop>
+    ensures { GoesOn D.logs device.old device.new driver.old driver.new result }
+{
+    match run_line(alloc, driver, device, notes, line, out) {
+        Ok(()) if notes.form.is_of_calls() => carry(driver, device, notes, out),
+        ended => ended,
+    }
+}
+
+/// What a line says, if it says anything.
+fn said_by(form: Form, line: &[u8]) -> Option<DriveLine<'_>> {
+    if is_passed_over(line) {
+        return None;
+    }
+    read_drive_line(form, line).ok()
+}
+
+/// Does what a line says, if it says anything, and hands on what was printed.
+fn do_line<A: Allocator + Copy, D: Device, W: Write>(
+    alloc: A,
+    driver: &mut Driver<A>,
+    device: &mut D,
+    notes: &mut Notes<A>,
+    line: &[u8],
+    out: &mut W,
+) -> Result<(), Stop>
+    ensures { GoesOn D.logs device.old device.new driver.old driver.new result }
+{
+    match said_by(notes.form, line) {
+        Some(said) => match run_carried(alloc, driver, device, notes, said, out) {
+            Ok(()) => flush(out),
+            Err(stop) => Err(stop),
+        },
+        None => Ok(()),
+    }
+}
+
+/// Hands on what was printed.
+fn flush<W: Write>(out: &mut W) -> Result<(), Stop> {
+    match out.flush() {
+        Ok(()) => Ok(()),
+        Err(_) => Err(Stop::OutputRefused),
+    }
+}
+
+/// Does what the lines of a script say.
+fn run_lines<A: Allocator + Copy, D: Device, W: Write>(
+    alloc: A,
+    driver: &mut Driver<A>,
+    device: &mut D,
+    notes: &mut Notes<A>,
+    text: &[u8],
+    out: &mut W,
+) -> Result<(), Stop>
+    ensures { GoesOn D.logs device.old device.new driver.old driver.new result }
+{
+    let mut rest = Some(text);
+    for _line in 0..u64::MAX {
+        let Some(left) = rest else {
+            return Ok(());
+        };
+        let (line, behind) = first_line(left);
+        rest = behind;
+        if let Err(stop) = do_line(alloc, driver, device, notes, line, out) {
+            return Err(stop);
+        }
+    }
+    Ok(())
+}
+
+/// Does what a script says whose lines are good, behind a mount where it is one of calls.
+pub(crate) fn run_text<A: Allocator + Copy, D: Device, W: Write>(
+    alloc: A,
+    driver: &mut Driver<A>,
+    device: &mut D,
+    notes: &mut Notes<A>,
+    text: &[u8],
+    out: &mut W,
+) -> Result<(), Stop>
+    ensures { GoesOn D.logs device.old device.new driver.old driver.new result }
+{
+    if !notes.form.is_of_calls() {
+        return run_lines(alloc, driver, device, notes, text, out);
+    }
+    match mount(driver, device, notes, out) {
+        Ok(()) => run_lines(alloc, driver, device, notes, text, out),
+        Err(stop) => Err(stop),
+    }
+}
+
+/// Prints what is known at the end: the nodes that the kernel counts, and how the answers of a world beside compare.
+pub(crate) fn print_end<A: Allocator + Copy, W: Write>(
+    driver: &Driver<A>,
+    notes: &Notes<A>,
+    out: &mut W,
+) -> Result<(), Stop> {
+    show(driver, out)?;
+    notes.print_count(out)?;
+    flush(out)
+}
