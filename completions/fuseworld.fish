@@ -1,5 +1,5 @@
 # Completion of fuseworld's command line for fish.
-complete -c fuseworld -n 'not __fish_seen_subcommand_from run socket draw decode serve' -f
+complete -c fuseworld -n 'not __fish_seen_subcommand_from run socket draw decode serve drive' -f
 complete -c fuseworld -n __fish_use_subcommand -s h -l help -d 'Print help'
 complete -c fuseworld -n __fish_use_subcommand -s V -l version -d 'Print the version'
 
@@ -35,6 +35,15 @@ complete -c fuseworld -n '__fish_seen_subcommand_from serve' -l show -d 'Print t
 complete -c fuseworld -n '__fish_seen_subcommand_from serve' -l trace -d 'Print each frame in words'
 complete -c fuseworld -n '__fish_seen_subcommand_from serve' -l help -d 'Print help'
 
+complete -c fuseworld -n __fish_use_subcommand -a drive -d 'Drive a FUSE server by a script'
+complete -c fuseworld -n '__fish_seen_subcommand_from drive' -l calls -d 'Carry each call to its answer'
+complete -c fuseworld -n '__fish_seen_subcommand_from drive' -l beside -d 'Compare each answer with that of this server'
+complete -c fuseworld -n '__fish_seen_subcommand_from drive' -l no-opendir -d 'Do not open a directory before it is listed'
+complete -c fuseworld -n '__fish_seen_subcommand_from drive' -l trace -d 'Print each frame in words'
+complete -c fuseworld -n '__fish_seen_subcommand_from drive' -l wait -x -d 'How many milliseconds a reply is waited for'
+complete -c fuseworld -n '__fish_seen_subcommand_from drive' -l offer -x -d 'Further flags of INIT, in hex'
+complete -c fuseworld -n '__fish_seen_subcommand_from drive' -l help -d 'Print help'
+
 complete -c fuseworld -n __fish_use_subcommand -a kernel -d 'Be the kernel alone, a line at a time'
 complete -c fuseworld -n '__fish_seen_subcommand_from kernel' -l json -d 'Print one JSON object for each line'
 complete -c fuseworld -n '__fish_seen_subcommand_from kernel' -l help -d 'Print help'
@@ -44,4 +53,4 @@ complete -c fuseworld -n '__fish_seen_subcommand_from server' -l json -d 'Print 
 complete -c fuseworld -n '__fish_seen_subcommand_from server' -l help -d 'Print help'
 
 complete -c fuseworld -n __fish_use_subcommand -a help -d 'Print the help of the program or of a command'
-complete -c fuseworld -n '__fish_seen_subcommand_from help' -a 'run socket draw frame reply decode vectors serve kernel server'
+complete -c fuseworld -n '__fish_seen_subcommand_from help' -a 'run socket draw frame reply decode vectors serve drive kernel server'

@@ -24,7 +24,7 @@ def help_of(*words):
 
 
 def flags_of(text):
-    return set(re.findall(r"^ .*?(--[a-z]+)", text, re.M))
+    return set(re.findall(r"^ .*?(--[a-z-]+)", text, re.M))
 
 
 def from_help():
@@ -38,8 +38,8 @@ def from_man():
     commands, options = (re.search(rf"^\.SH {part}\n(.*?)^\.SH", text, re.M | re.S)[1] for part in ("COMMANDS", "OPTIONS"))
     named = dict(re.findall(r"^\.TP\n\.B (\w+)(.*)$", commands, re.M))
     # Each command has --help, which the page tells of once.
-    return {None: set(re.findall(r"^\.B .*?(--[a-z]+)", options, re.M))} | {
-        name: set(re.findall(r"--[a-z]+", rest)) | ({"--help"} if name != "help" else set()) for name, rest in named.items()}
+    return {None: set(re.findall(r"^\.B .*?(--[a-z-]+)", options, re.M))} | {
+        name: set(re.findall(r"--[a-z-]+", rest)) | ({"--help"} if name != "help" else set()) for name, rest in named.items()}
 
 
 def asked(*words):
@@ -58,7 +58,7 @@ def from_zsh():
     commands = re.findall(r"^        '(\w+):", text, re.M)
     lines = dict(re.findall(r"^        (\w+)\) (.*)$", text, re.M))
     top = re.search(r"CURRENT == 2.*?\n(.*)\n", text)[1]
-    return {None: set(re.findall(r"(--[a-z]+)\}", top))} | {name: set(re.findall(r"'(--[a-z]+)\[", lines[name])) for name in commands}
+    return {None: set(re.findall(r"(--[a-z-]+)\}", top))} | {name: set(re.findall(r"'(--[a-z-]+)\[", lines[name])) for name in commands}
 
 
 def from_fish():
@@ -66,7 +66,7 @@ def from_fish():
     top = set(re.findall(r"-n __fish_use_subcommand .*-l (\w+)", text))
     found = {None: {f"--{flag}" for flag in top}}
     for name in re.findall(r"-n __fish_use_subcommand -a (\w+)", text):
-        found[name] = {f"--{flag}" for flag in re.findall(rf"_from {name}' -l (\w+)", text)}
+        found[name] = {f"--{flag}" for flag in re.findall(rf"_from {name}' -l ([\w-]+)", text)}
     return found
 
 

@@ -1,6 +1,7 @@
 //! What the words of the command line ask for.
 
 use crate::draw::draw_command;
+use crate::drive::{DriveTask, drive_command, drive_task};
 use crate::frame_commands::{
     FrameTask, decode_command, frame_command, frame_task, reply_command, vectors_command,
 };
@@ -26,6 +27,8 @@ pub enum Task<'a> {
     OnFrame(FrameTask<'a>),
     /// The server before a kernel.
     Serve(ServeTask<'a>),
+    /// The kernel before a server that somebody else wrote.
+    Drive(DriveTask<'a>),
     /// The kernel or the server, by itself.
     Side(SideTask),
 }
@@ -75,6 +78,7 @@ fn program<'a>(alloc: Global) -> Result<Command<'a>, AllocError> {
         .subcommand(decode_command(alloc)?)?
         .subcommand(vectors_command(alloc))?
         .subcommand(serve_command(alloc)?)?
+        .subcommand(drive_command(alloc)?)?
         .subcommand(kernel_command(alloc)?)?
         .subcommand(server_command(alloc)?)
 }
@@ -101,6 +105,9 @@ pub fn read_task<'a>(alloc: Global, words: &'a [String]) -> Result<Task<'a>, Err
     }
     if name == "serve" {
         return Ok(Task::Serve(serve_task(inner)));
+    }
+    if name == "drive" {
+        return Ok(Task::Drive(drive_task(inner)));
     }
     if let Some(task) = side_task(name, inner) {
         return Ok(Task::Side(task));

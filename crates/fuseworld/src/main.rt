@@ -4,6 +4,7 @@
 mod command;
 mod decode;
 mod draw;
+mod drive;
 mod frame_commands;
 mod serve;
 mod sides;
@@ -12,6 +13,7 @@ mod version;
 
 use command::{Task, is_memory, read_task};
 use draw::run_draw;
+use drive::run_drive_task;
 use frame_commands::run_frame_task;
 use fw_script::{Script, cannot_read, no_memory, run_script};
 use serve::run_serve;
@@ -63,6 +65,7 @@ fn run_words(rt: &HostRuntime, words: &[String]) -> u8 {
         Ok(Task::Draw { file }) => run_draw(rt, file),
         Ok(Task::OnFrame(task)) => run_frame_task(rt, task),
         Ok(Task::Serve(task)) => run_serve(rt, task),
+        Ok(Task::Drive(task)) => run_drive_task(rt, task),
         Ok(Task::Side(task)) => run_side(rt, task),
         Err(error) if is_version(&error) => print_version(rt),
         Err(error) if is_memory(&error) => no_memory(&mut rt.stderr()),

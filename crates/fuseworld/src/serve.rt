@@ -28,7 +28,7 @@ pub struct ServeTask<'a> {
     ghost missing: { mount.validity.missing_ms ≤ max_validity },
 }
 
-/// The minors that are for_minor.
+/// The minors that are spoken.
 static MINORS: [&str; 2] = ["15", "31"];
 
 /// An option that takes milliseconds.
@@ -60,7 +60,7 @@ pub fn serve_command<'a>(alloc: Global) -> Result<Command<'a>, AllocError> {
         .value_name("MINOR")
         .value_parser(ValueParser::Names(&MINORS))
         .default_value("31")
-        .help("The minor version of FUSE 7 that is for_minor");
+        .help("The minor version of FUSE 7 that is spoken");
     let show = Arg::new(alloc, "show")
         .long("show")
         .action(ArgAction::SetTrue)

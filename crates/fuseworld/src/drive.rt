@@ -1,0 +1,196 @@
+//! The command `drive`: the kernel before a server that somebody else wrote.
+
+use clap::builder::ValueParser;
+use clap::{Arg, ArgAction, ArgMatches, Command};
+use fuse_device::{Device, PacketDevice, StreamDevice};
+use fw_drive::{Choices, DriveTrace, Form, Task, run_drive};
+use fw_script::{cannot_read, no_memory, socket_failed};
+use std::alloc::{AllocError, Global};
+use std::fs::File;
+use std::io;
+use std::io::{BufWriter, ErrorKind, Write};
+use std::os::unix::net::UnixStream;
+use std::time::Duration;
+
+/// The longest time for which a reply is waited, in milliseconds: a day.
+const LONGEST: u64 = 86_400_000;
+
+/// FUSE_DONT_MASK (linux/fuse.h), which is always offered.
+const DONT_MASK: u32 = 0x40;
+
+/// O_RDWR with O_LARGEFILE, of open(2).
+const OPEN_FLAGS: u32 = 0x8002;
+
+/// One run of `drive`.
+#[derive(Clone, Copy)]
+pub struct DriveTask<'a> {
+    file: &'a str,
+    /// The socket on which the server listens; without it the server is on standard input and output.
+    socket: Option<&'a str>,
+    form: Form,
+    opens_directories: bool,
+    is_traced: bool,
+    wait_ms: u64,
+    /// The further flags of INIT, in hex.
+    offer: &'a str,
+}
+
+/// An option without a value.
+fn flag<'a>(alloc: Global, name: &'a str, help: &'a str) -> Arg<'a> {
+    Arg::new(alloc, name)
+        .long(name)
+        .action(ArgAction::SetTrue)
+        .help(help)
+}
+
+/// The arguments.
+fn with_places<'a>(alloc: Global, command: Command<'a>) -> Result<Command<'a>, AllocError> {
+    let file = Arg::new(alloc, "FILE")
+        .required(true)
+        .help("The script: the kernel's events, or calls, one a line");
+    let socket = Arg::new(alloc, "SOCK").help(
+        "The socket on which the server listens, in the place of standard input and output",
+    );
+    command.arg(file)?.arg(socket)
+}
+
+/// The command `drive`.
+pub fn drive_command<'a>(alloc: Global) -> Result<Command<'a>, AllocError> {
+    let wait = Arg::new(alloc, "wait")
+        .long("wait")
+        .value_name("MS")
+        .value_parser(ValueParser::Unsigned(1, LONGEST))
+        .default_value("10000")
+        .help("For how many milliseconds a reply is waited for, over SOCK");
+    let offer = Arg::new(alloc, "offer")
+        .long("offer")
+        .value_name("HEX")
+        .default_value("0")
+        .help("Further flags that INIT offers");
+    let command = Command::new(alloc, "drive")
+        .about("Drive a FUSE server by a script of the kernel's events, and print what each comes to")
+        .arg(flag(alloc, "calls", "The script has calls, and each is carried to its answer"))?
+        .arg(flag(alloc, "beside", "The same, and compare each answer with that of the server of this program"))?
+        .arg(flag(alloc, "no-opendir", "Do not open a directory before it is listed"))?
+        .arg(flag(alloc, "trace", "Print each frame in words, on standard error"))?
+        .arg(wait)?
+        .arg(offer)?;
+    with_places(alloc, command)
+}
+
+/// What the words after `drive` ask for.
+pub fn drive_task<'a>(matches: &ArgMatches<'a>) -> DriveTask<'a> {
+    let form = match (matches.get_flag("calls"), matches.get_flag("beside")) {
+        (_, true) => Form::CallsBeside,
+        (true, false) => Form::Calls,
+        (false, false) => Form::Events,
+    };
+    DriveTask {
+        file: matches.get_str("FILE").unwrap_or(""),
+        socket: matches.get_str("SOCK"),
+        form,
+        opens_directories: !matches.get_flag("no-opendir"),
+        is_traced: matches.get_flag("trace"),
+        wait_ms: matches.get_one::<u64>("wait").unwrap_or(10_000),
+        offer: matches.get_str("offer").unwrap_or("0"),
+    }
+}
+
+/// The value of a hex digit.
+fn digit(byte: u8) -> Option<u32> {
+    match byte {
+        b'0'..=b'9' => Some(u32::from(byte - b'0')),
+        b'a'..=b'f' => Some(u32::from(byte - b'a') + 10),
+        _ => None,
+    }
+}
+
+/// The number of 1 to 8 lower-case hex digits.
+fn hex_number(text: &[u8]) -> Option<u32> {
+    if text.is_empty() || text.len() > 8 {
+        return None;
+    }
+    let mut number: u32 = 0;
+    for byte in text {
+        number = number.wrapping_mul(16) | digit(*byte)?;
+    }
+    Some(number)
+}
+
+/// Runs a script on a device, with the lines printed on a writer, and gives the exit status.
+fn drive_device<D: Device, W: Write + Drop>(
+    rt: &HostRuntime,
+    task: Task<'_>,
+    device: &mut D,
+    out: W,
+) -> u8 {
+    let alloc = rt.alloc();
+    let mut faults = rt.stderr();
+    let mut input = match File::open(rt, task.name) {
+        Ok(input) => input,
+        Err(error) if error.kind() == ErrorKind::OutOfMemory => return no_memory(&mut faults),
+        Err(_) => return cannot_read(task.name, &mut faults),
+    };
+    let Ok(mut out) = BufWriter::new(alloc, out) else {
+        return no_memory(&mut faults);
+    };
+    run_drive(alloc, task, device, &mut input, &mut out, &mut faults)
+}
+
+/// The same, with each frame printed on standard error where it is traced.
+fn drive_over<D: Device + Drop, W: Write + Drop>(
+    rt: &HostRuntime,
+    task: Task<'_>,
+    is_traced: bool,
+    mut device: D,
+    out: W,
+) -> u8 {
+    if !is_traced {
+        return drive_device(rt, task, &mut device, out);
+    }
+    let mut traced = DriveTrace::new(rt.alloc(), device, rt.stderr());
+    drive_device(rt, task, &mut traced, out)
+}
+
+/// A device over a socket on which a server listens, over which a reply is waited for so long.
+fn connect(
+    rt: &HostRuntime,
+    path: &str,
+    wait_ms: u64,
+) -> io::Result<StreamDevice<UnixStream, UnixStream>> {
+    let reader = UnixStream::connect(rt, path)?;
+    reader.set_read_timeout(Some(Duration::from_millis(wait_ms)))?;
+    let writer = reader.try_clone()?;
+    Ok(StreamDevice::of_replies(reader, writer))
+}
+
+/// Drives the server on standard input and output, or on a socket, and gives the exit status.
+fn drive_place(rt: &HostRuntime, asked: DriveTask<'_>, task: Task<'_>) -> u8 {
+    let Some(path) = asked.socket else {
+        let device = PacketDevice::giving_up(rt.reader(), io::writer(rt));
+        return drive_over(rt, task, asked.is_traced, device, rt.stderr());
+    };
+    match connect(rt, path, asked.wait_ms) {
+        Ok(device) => drive_over(rt, task, asked.is_traced, device, io::writer(rt)),
+        Err(error) if error.kind() == ErrorKind::OutOfMemory => no_memory(&mut rt.stderr()),
+        Err(_) => socket_failed(&mut rt.stderr()),
+    }
+}
+
+/// Drives a server, and gives the exit status.
+pub fn run_drive_task(rt: &HostRuntime, asked: DriveTask<'_>) -> u8 {
+    let Some(offer) = hex_number(asked.offer.as_bytes()) else {
+        let _ = eprintln!(rt; "error: --offer takes 1 to 8 lower-case hex digits");
+        return 2;
+    };
+    let task = Task {
+        name: asked.file,
+        form: asked.form,
+        opens_directories: asked.opens_directories,
+        choices: Choices {
+            open_flags: OPEN_FLAGS,
+            offer: offer | DONT_MASK,
+        },
+    };
+    drive_place(rt, asked, task)
+}
