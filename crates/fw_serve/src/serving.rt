@@ -17,7 +17,7 @@ use std::io::Write;
 pub struct Mount {
     /// For how many milliseconds found names and missing ones are valid, each at most 86,400,000.
     pub validity: Validity,
-    /// The minor that is for_minor.
+    /// The minor that is spoken.
     pub minor: Minor,
     /// Whether the nodes that are held at the end are printed.
     pub shows_nodes: bool,

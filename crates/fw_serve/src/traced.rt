@@ -29,7 +29,7 @@ pub struct TracedDevice<D: Device + Drop, W: Write + Drop> {
 }
 
 impl<D: Device + Drop, W: Write + Drop> TracedDevice<D, W> {
-    /// A device that prints what goes over another, at the minor that is for_minor.
+    /// A device that prints what goes over another, at the minor that is spoken.
     pub fn new(inner: D, out: W, minor: Minor) -> Self
         ensures { (result.inner ≡ inner) × (result.out ≡ out) }
     {
