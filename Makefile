@@ -6,7 +6,7 @@
 
 SCRIPT ?= tests/rows/stat-of-root.script
 
-.PHONY: run try test build mount vectors lib install uninstall bench wrong-bodies check rows docs fmt
+.PHONY: run try test build mount vectors lib install uninstall bench drive-tests wrong-bodies check rows docs fmt
 
 run: build
 	@crates/fuseworld/out/fuseworld run "$(SCRIPT)"
@@ -78,6 +78,10 @@ uninstall:
 bench: build
 	@python3 tests/bench.py
 
+# The scripts of examples/drive, on the servers of others whose packages are there.
+drive-tests: build
+	@python3 tests/drive_servers.py
+
 # Whether each wrong body of tests/wrong_bodies is refused; CRATES names the crates whose bodies are tried, or none for all.
 wrong-bodies:
 	@python3 tests/wrong_bodies.py $(CRATES)
@@ -109,5 +113,6 @@ test:
 		if [ $$status = 0 ]; then sh tests/codec_library.sh; status=$$?; fi; \
 		if [ $$status = 0 ]; then python3 tests/check_commands.py; status=$$?; fi; \
 		if [ $$status = 0 ]; then python3 tests/serve_frames.py; status=$$?; fi; \
+		if [ $$status = 0 ]; then python3 tests/run_drive.py; status=$$?; fi; \
 		if [ $$status = 0 ]; then sh tests/real_mount.sh; status=$$?; fi; \
 		tail -n 1 "$$log"; rm -f "$$log"; exit $$status

@@ -1,0 +1,173 @@
+"""A FUSE server in memory over a connected stream socket, with one bug or none; tests/run_drive.py drives it.
+
+A LOOKUP of the name `slow` is answered once another request has come, or EINTR once its INTERRUPT has.
+"""
+import errno
+import struct
+
+LOOKUP, FORGET, GETATTR, MKDIR, UNLINK, OPEN, READ, WRITE, RELEASE = 1, 2, 3, 9, 10, 14, 15, 16, 18
+INIT, OPENDIR, READDIR, RELEASEDIR, CREATE, INTERRUPT, BATCH_FORGET = 26, 27, 28, 29, 35, 36, 42
+BUGS = ["count lost", "node reused", "two generations", "reply twice", "reply after EINTR", "wrong length", "another file",
+        "root given", "reply to nothing"]
+
+
+def reply(unique, body=b"", error=0):
+    """struct fuse_out_header and a body."""
+    return struct.pack("<IiQ", 16 + len(body), -error, unique) + body
+
+
+def agreement(minor=31, flags=0x42001):
+    """struct fuse_init_out of 7.23 and later."""
+    return struct.pack("<IIIIHHII", 7, minor, 0, flags, 0, 0, 4096, 1) + bytes(36)
+
+
+class Server:
+    """Files by inode number, a dictionary of names or bytes; inode numbers and lookup counts by node id."""
+
+    def __init__(self, bug=None, opens=True):
+        self.bug, self.opens = bug, opens
+        self.files, self.nodes, self.counts = {1: {}}, {1: 1}, {1: 1}
+        self.unlinked = None
+        self.held = None
+
+    def attr(self, ino):
+        """struct fuse_attr."""
+        file = self.files[ino]
+        mode, size = (0o40755, 0) if isinstance(file, dict) else (0o100644, len(file))
+        return struct.pack("<QQQQQQIIIIIIIIII", ino, size, 0, 0, 0, 0, 0, 0, 0, mode, 1, 0, 0, 0, 4096, 0)
+
+    def entry(self, ino, is_counted=True):
+        """struct fuse_entry_out: the name is valid for a second, and the lookup is counted."""
+        node = next((node for node, of in self.nodes.items() if of == ino), ino)
+        if self.bug in ("node reused", "two generations") and self.unlinked:
+            node = self.unlinked
+        if self.bug == "root given":
+            node, is_counted = 1, False
+        if is_counted:
+            self.nodes[node] = ino
+            self.counts[node] = self.counts.get(node, 0) + 1
+        generation = 1 if self.bug == "two generations" and self.unlinked else 0
+        return struct.pack("<QQQQII", node, generation, 1, 0, 0, 0) + self.attr(ino)
+
+    def make(self, directory, name, file):
+        """A new file under a name; its inode number."""
+        if name in directory:
+            raise FileExistsError(errno.EEXIST, name)
+        ino = max(self.files) + 1
+        self.files[ino], directory[name] = file, ino
+        return ino
+
+    def forget(self, node, count):
+        self.counts[node] -= count
+        if self.counts[node] == 0:
+            del self.counts[node], self.nodes[node]
+
+    def perform(self, opcode, node, body):
+        """The body of a reply."""
+        if opcode == INIT:
+            return agreement()
+        if node not in self.nodes:
+            raise OSError(errno.ESTALE, "")
+        ino = self.nodes[node]
+        file = self.files[ino]
+        if opcode in (LOOKUP, MKDIR, CREATE, UNLINK):
+            return self.perform_on_name(opcode, file, body)
+        if opcode == GETATTR:
+            other = self.bug == "another file" and node == max(self.nodes) and node > 2
+            return bytes(16) + self.attr(2 if other else ino) + bytes(8 if self.bug == "wrong length" else 0)
+        if opcode == OPEN or (opcode == OPENDIR and self.opens):
+            return struct.pack("<QII", 7 if opcode == OPENDIR else ino, 0, 0)
+        if opcode == READ:
+            offset, size = struct.unpack_from("<QI", body, 8)
+            return bytes(file[offset:offset + size])
+        if opcode == WRITE:
+            offset, size = struct.unpack_from("<QI", body, 8)
+            file[offset:offset + size] = body[40:]
+            return struct.pack("<II", size, 0)
+        if opcode == READDIR:
+            return self.records(file, struct.unpack_from("<Q", body, 8)[0])
+        if opcode in (RELEASE, RELEASEDIR):
+            return b""
+        raise OSError(errno.ENOSYS, "")
+
+    def perform_on_name(self, opcode, directory, body):
+        if not isinstance(directory, dict):
+            raise OSError(errno.ENOTDIR, "")
+        if opcode == LOOKUP:
+            return self.entry(directory[body])
+        if opcode == MKDIR:
+            return self.entry(self.make(directory, body[8:], {}))
+        if opcode == UNLINK:
+            self.unlinked = directory.pop(body)
+            return b""
+        made = self.make(directory, body[16:], bytearray())
+        return self.entry(made, self.bug != "count lost") + struct.pack("<QII", made, 0, 0)
+
+    def records(self, names, after):
+        """struct fuse_dirent of each name behind an offset: the K-th name has offset K."""
+        said = b""
+        for offset, (name, ino) in enumerate(names.items(), 1):
+            if offset > after:
+                kind = 4 if isinstance(self.files[ino], dict) else 8
+                said += struct.pack("<QQII", ino, offset, len(name) - 1, kind) + name[:-1] + bytes(-(len(name) - 1) % 8)
+        return said
+
+    def answer(self, opcode, unique, node, body):
+        """The frame of the reply to a request that is performed now."""
+        try:
+            return reply(unique, self.perform(opcode, node, body))
+        except KeyError:
+            return reply(unique, error=errno.ENOENT)
+        except OSError as fault:
+            return reply(unique, error=fault.errno)
+
+    def frames(self, opcode, unique, node, body):
+        """The frames that are sent once a request has come."""
+        if opcode in (FORGET, BATCH_FORGET):
+            self.forget(node, struct.unpack("<Q", body)[0])
+            return []
+        held, self.held = self.held, None
+        if opcode == INTERRUPT:
+            if held is None or held[1] != struct.unpack("<Q", body)[0]:
+                self.held = held
+                return [reply(unique, error=errno.EAGAIN)]
+            self.held = held if self.bug == "reply after EINTR" else None
+            return [reply(held[1], error=errno.EINTR)]
+        said = [self.answer(*held)] if held else []
+        if opcode == LOOKUP and body == b"slow\0":
+            self.held = (opcode, unique, node, body)
+            return said
+        said.append(self.answer(opcode, unique, node, body))
+        if opcode == GETATTR and self.bug == "reply twice":
+            said.append(said[-1])
+        if opcode == GETATTR and self.bug == "reply to nothing":
+            said.append(reply(1000))
+        return said
+
+    def serve(self, connection):
+        """Answers each request until the end of the connection. Gives the requests, each its opcode, node and body."""
+        requests = []
+        for opcode, unique, node, body in received(connection):
+            requests.append((opcode, node, body))
+            send(connection, *self.frames(opcode, unique, node, body))
+        return requests
+
+
+def send(connection, *parts):
+    """Sends each part by a write of its own. What the other end does not take is lost."""
+    try:
+        for part in parts:
+            connection.sendall(part)
+    except OSError:
+        pass
+
+
+def received(connection):
+    """Each request that comes, cut by its length: its opcode, unique, node and body."""
+    stream = connection.makefile("rb")
+    try:
+        while len(head := stream.read(40)) == 40:
+            length, opcode, unique, node = struct.unpack_from("<IIQQ", head)
+            yield opcode, unique, node, stream.read(length - 40)
+    except ConnectionResetError:
+        return

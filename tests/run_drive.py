@@ -1,0 +1,294 @@
+#!/usr/bin/env python3
+"""Runs the built program's command `drive` on a server of tests/drive_server.py and on peers that send chosen bytes, and
+compares what it prints, its exit status and what it sent with what was worked out by hand.
+
+Takes the program's path, or takes crates/fuseworld/out/fuseworld. Prints a line for each run that differs, and ends with
+status 1 where there is one. Each run has 10 seconds.
+"""
+import re
+import socket
+import struct
+import subprocess
+import sys
+import tempfile
+import threading
+from pathlib import Path
+
+sys.dont_write_bytecode = True
+from drive_server import (BUGS, CREATE, FORGET, INIT, OPEN, OPENDIR, READDIR, RELEASEDIR, Server, agreement, received, reply, send)
+
+TOP = Path(__file__).resolve().parent.parent
+PROGRAM = Path(sys.argv[1] if len(sys.argv) > 1 else TOP / "crates/fuseworld/out/fuseworld").resolve()
+SECONDS = 10
+FAULTS = re.compile(r"reply to nothing|second reply|body is not|no reply's head|node \d+ (under|given)|the root given|differs: ")
+passed = failed = 0
+
+
+def judge(name, got, wanted):
+    global passed, failed
+    if got == wanted:
+        passed += 1
+        return
+    failed += 1
+    print(f"not ok: {name}\n  wanted {wanted}\n  got    {got}")
+
+
+def drive(words, script, peer):
+    """The lines that a run prints, its status, and what the peer gives, which has the other end of the connection."""
+    with tempfile.TemporaryDirectory() as folder:
+        path, file = f"{folder}/socket", Path(folder) / "script"
+        file.write_text("\n".join(script) + "\n")
+        listener = socket.socket(socket.AF_UNIX)
+        listener.bind(path)
+        listener.listen()
+        listener.settimeout(SECONDS)
+        gave = []
+
+        def serve():
+            connection, _ = listener.accept()
+            with connection:
+                connection.settimeout(SECONDS)
+                gave.append(peer(connection))
+
+        thread = threading.Thread(target=serve)
+        thread.start()
+        run = subprocess.run([PROGRAM, "drive", *words, file, path], stdin=subprocess.DEVNULL, capture_output=True, text=True, timeout=SECONDS)
+        thread.join()
+        listener.close()
+        return run.stdout.splitlines() + run.stderr.splitlines(), run.returncode, gave[0] if gave else None
+
+
+def on_server(words, script, **choices):
+    """The same on a server with a bug or none; the last is the requests that it was sent."""
+    return drive(words, script, Server(**choices).serve)
+
+
+CLOSE = object()
+
+
+def on_frames(words, script, *answers):
+    """The same on a peer that sends the parts of the K-th answer at the K-th request but FORGET, each by a write of its own,
+    and closes the connection at `CLOSE`. At other requests it sends nothing."""
+    def peer(connection):
+        left = list(answers)
+        for opcode, *_ in received(connection):
+            parts = left.pop(0) if left and opcode != FORGET else []
+            send(connection, *(part for part in parts if part is not CLOSE))
+            if CLOSE in parts:
+                return
+    return drive(words, script, peer)[:2]
+
+
+# --- a server with a bug or none
+
+CALLS = ["call mkdir /d", "call create /d/f", "call write 2 0 6869", "call stat /d/f", "call close 2", "call list /d 0",
+         "call unlink /d/f", "call create /g", "call close 8", "call stat /g", "call stat /", "call stat /none"]
+# The server's inode numbers and nodes rise from 2, and the K-th name of a directory has offset K.
+CALLED = ["mounted", "call 1", "answer 1 0", "call 2", "answer 2 0", "call 3", "answer 3 0 2", "call 4", "answer 4 0 file 3 2 1",
+          "call 5", "answer 5 0", "call 6", "answer 6 0 f:1:file", "call 7", "answer 7 0", "call 8", "answer 8 0",
+          "call 9", "answer 9 0", "call 10", "answer 10 0 file 4 0 1", "call 11", "answer 11 0 dir 1 0 1", "call 12", "answer 12 2",
+          "kernel 2:0:1 3:0:1 4:0:1"]
+# How many of those lines are printed before each request is answered: INIT, MKDIR, CREATE, WRITE, GETATTR, RELEASE, OPENDIR,
+# READDIR, UNLINK, CREATE, RELEASE, GETATTR, GETATTR and LOOKUP. RELEASEDIR's reply is not waited for.
+BEFORE = [1, 2, 4, 6, 8, 11, 12, 12, 14, 16, 19, 20, 22, 24]
+MOUNT = ["mount 0 0", "read p 0", "write"]
+MOUNTED = ["mounted", "read 2 INIT 56", "written 2 0"]
+SIGNAL = [*MOUNT, "call stat /slow", "read p 0", "intr 1 soft", "read i", "write", "call stat /", "read p 0", "write"]
+SIGNALLED = [*MOUNTED, "call 1", "read 4 LOOKUP 45", "interrupted 1 queued", "read 5 INTERRUPT 48", "written 4 0", "answer 1 4",
+             "call 2", "read 6 GETATTR 56", "written 6 0", "answer 2 0 dir 1 0 1", "kernel"]
+# Two lookups of a file, of which one is forgotten while the other's reply is on its way.
+LOSE = [*MOUNT, "call create /f", "read p 0", "write", "call close 1", "read p 0", "write", "drop 1 f", "call stat /f",
+        "read p 0", "evict 2", "read f 1", "write", "read p 0", "write"]
+LOST = [*MOUNTED, "call 1", "read 4 CREATE 58", "written 4 0", "answer 1 0", "call 2", "answer 2 0", "read 6 RELEASE 64",
+        "written 6 0", "dropped", "call 3", "read 8 LOOKUP 42", "evicted 2 1", "read 10 FORGET 48", "written 8 0",
+        "read 12 GETATTR 56", "written 12 0", "answer 3 0 file 2 0 1", "kernel 2:0:1"]
+FOUND = {
+    "count lost": (CALLS, "differs: answer 4 116, here 4 0 file 3 2 1"),
+    "node reused": (CALLS, "node 3 given for two files at once"),
+    "two generations": (CALLS, "node 3 under two generations"),
+    "reply twice": (CALLS, "second reply"),
+    "reply after EINTR": (SIGNAL, "second reply"),
+    "wrong length": (CALLS, "body is not its request's"),
+    "another file": (CALLS, "node 3 given for two files at once"),
+    "root given": (CALLS, "the root given for a name"),
+    "reply to nothing": (CALLS, "reply to nothing"),
+}
+
+
+def form_of(script):
+    return ["--beside"] if script is CALLS else []
+
+
+def run_bugs():
+    for opens in (True, False):
+        judge(f"no bug, OPENDIR {opens}", on_server(["--beside"], CALLS, opens=opens)[:2], ([*CALLED, "answers 12 differ 0"], 0))
+    judge("no bug, a signal", on_server([], SIGNAL)[:2], (SIGNALLED, 0))
+    lines, status, requests = on_server([], LOSE)
+    judge("no bug, a forget", (lines, status), (LOST, 0))
+    judge("the forget's count", [body for opcode, _, body in requests if opcode == FORGET], [struct.pack("<Q", 1)])
+    judge("count lost, by events", on_server([], LOSE, bug="count lost")[0][-2:], ["answer 3 116", "kernel 2:0:1"])
+    for bug in BUGS:
+        script, line = FOUND[bug]
+        lines, status, _ = on_server(form_of(script), script, bug=bug)
+        judge(f"{bug}: {line}", (line in lines, status), (True, 0))
+        first = next((line for line in lines if FAULTS.match(line)), None)
+        judge(f"{bug}: nothing else is said before", first in (line, "differs: answer 3 116, here 3 0 2"), True)
+
+
+# --- what is sent in fields that are free
+
+def run_fields():
+    script = ["call create /f", "call close 1", "call open /f", "call open /f r", "call open /f w", "call open /f", "call list / 0"]
+    for opens, offer, flags, sent in [(True, "0", 0x42041, (1, 7, 1)), (False, "4000100", 0x4042141, (1, 0, 0))]:
+        lines, status, requests = on_server(["--calls", "--offer", offer], script, opens=opens)
+        judge(f"fields: offer {offer}", (lines[-1], status), ("kernel 2:0:1", 0))
+        of = lambda code, form, place: [struct.unpack_from(form, body, place)[0] for opcode, _, body in requests if opcode == code]
+        judge("INIT's flags", of(INIT, "<I", 12), [flags])
+        judge("CREATE's flags", of(CREATE, "<I", 0), [0x8042])
+        judge("OPEN's flags", of(OPEN, "<I", 0), [0x8002, 0x8000, 0x8001, 0x8002])
+        asked, handle, released = sent
+        judge("OPENDIR's flags", of(OPENDIR, "<I", 0), [0x10000] * asked)
+        judge("READDIR's fh", of(READDIR, "<Q", 0), [handle])
+        judge("RELEASEDIR's fh", of(RELEASEDIR, "<Q", 0), [7] * released)
+    lines, status, requests = on_server(["--calls", "--no-opendir"], ["call list / 0", "call list / 0"])
+    judge("--no-opendir", [opcode for opcode, *_ in requests], [INIT, READDIR, READDIR])
+    lines, status, requests = on_server(["--calls"], ["call list / 0", "call list / 0"], opens=False)
+    judge("ENOSYS to OPENDIR counts for the connection", [opcode for opcode, *_ in requests], [INIT, OPENDIR, READDIR, READDIR])
+
+
+# --- frames of a peer
+
+AGREES = [reply(2, agreement())]
+STAT = [*MOUNT, "call stat /", "read p 0", "write"]
+STATED = [*MOUNTED, "call 1", "read 4 GETATTR 56"]
+ANSWERED = ["written 4 0", "answer 1 0 dir 1 0 1", "kernel"]
+ATTR = reply(4, bytes(16) + Server().attr(1))
+SHORT_WAIT = ["--wait", "500"]
+
+
+def run_frames():
+    whole = (STATED + ANSWERED, 0)
+    judge("whole frames", on_frames([], STAT, AGREES, [ATTR]), whole)
+    for cut in (1, 4, 15, 16, len(ATTR) - 1):
+        judge(f"a frame in two pieces, cut at {cut}", on_frames([], STAT, AGREES, [ATTR[:cut], ATTR[cut:]]), whole)
+    judge("two frames in one write", on_frames([], [*STAT, "write"], AGREES, [ATTR + reply(6)]),
+          ([*STATED, *ANSWERED[:2], "written 6 2", "reply to nothing", "kernel"], 0))
+    for error in (5, -512):
+        judge(f"an error of {error} in a reply", on_frames([], [*STAT, "write"], AGREES, [struct.pack("<IiQ", 16, error, 4), ATTR]),
+              ([*STATED, "written 0 22", "no reply's head", *ANSWERED], 0))
+    for length in (0, 15, 131073, 0xffffffff):
+        judge(f"a len of {length}", on_frames([], STAT, AGREES, [struct.pack("<IiQ", length, 0, 4)]), ([*STATED, "device failed"], 4))
+    judge("a frame is cut short by the end", on_frames([], STAT, AGREES, [ATTR[:20], CLOSE]), ([*STATED, "device failed"], 4))
+    judge("a frame is cut short by silence", on_frames(SHORT_WAIT, STAT, AGREES, [ATTR[:20]]), ([*STATED, "device failed"], 4))
+    notice = struct.pack("<IiQ", 40, 2, 0) + bytes(24)
+    judge("a notification", on_frames([], STAT, AGREES, [notice, ATTR]), ([*STATED, "notification 2 40", *ANSWERED], 0))
+    judge("no notification: number 0 without a code", on_frames([], [*STAT, "write"], AGREES, [reply(0), ATTR]),
+          ([*STATED, "written 0 2", "reply to nothing", *ANSWERED], 0))
+    judge("a body beside an error", on_frames([], STAT, AGREES, [reply(4, bytes(8), error=2)]),
+          ([*STATED, "written 4 22", "body is not its request's", "answer 1 5", "kernel"], 0))
+    judge("no reply", on_frames(SHORT_WAIT, STAT, AGREES), ([*STATED, "no reply"], 4))
+    judge("no reply to INIT", on_frames([*SHORT_WAIT, "--calls"], ["call stat /"]), (["mounted", "no reply"], 4))
+    judge("an end at once", drive(["--calls"], ["call stat /"], lambda connection: None)[:2], (["mounted", "server ended"], 4))
+
+
+def run_abort():
+    """A reply to a request that an abort ended is refused, and the server did nothing wrong."""
+    ended = [*STATED, "aborted", "answer 1 103"]
+    judge("a reply after an abort", on_frames([], [*STAT[:-1], "abort", "write"], AGREES, [ATTR]), ([*ended, "written 4 2", "kernel"], 0))
+
+
+def run_closings():
+    """The server closes in the place of its K-th reply that is waited for."""
+    for place, count in enumerate(BEFORE):
+        server = Server()
+
+        def peer(connection, left=place):
+            for opcode, unique, node, body in received(connection):
+                if opcode == RELEASEDIR:
+                    continue
+                if left == 0:
+                    return
+                left -= 1
+                send(connection, *server.frames(opcode, unique, node, body))
+        judge(f"the end at reply {place + 1}", drive(["--calls"], CALLS, peer)[:2], (CALLED[:count] + ["server ended"], 4))
+
+
+def run_agreements():
+    live = [*STATED, *ANSWERED]
+    ended = [*MOUNTED, "call 1", "answer 1 107", "refused 4 NotReady", "no reply"]
+    for minor, lines in [(31, live), (32, live), (22, ended)]:
+        wanted = (lines, 0 if lines is live else 4)
+        judge(f"7.{minor}", on_frames([] if lines is live else SHORT_WAIT, STAT, [reply(2, agreement(minor))], [ATTR]), wanted)
+    for minor in [23, 28, 30]:
+        wanted = ([*MOUNTED, f"7.{minor} taken as 7.31", *live[len(MOUNTED):]], 0)
+        judge(f"7.{minor}", on_frames([], STAT, [reply(2, agreement(minor))], [ATTR]), wanted)
+    # Each minor but 15 has a body of 64 bytes.
+    judge("7.28 of another length", on_frames(SHORT_WAIT, STAT, [reply(2, agreement(28)[:24])], [ATTR]),
+          ([*MOUNTED[:2], "written 2 22", "body is not its request's", *ended[3:]], 4))
+    judge("INIT fails", on_frames(SHORT_WAIT, STAT, [reply(2, error=5)], [ATTR]), (ended, 4))
+
+
+def run_opendir():
+    script = [*MOUNT, "call stat /", "read p 0", "call list / 0", "read p 0", "write", "write"]
+    own = 1 << 62
+    opened = reply(own, struct.pack("<QII", 7, 0, 0))
+    begun = [*MOUNTED, "call 1", "read 4 GETATTR 56", "call 2"]
+    judge("a reply that comes before OPENDIR's waits", on_frames([], script, AGREES, [], [ATTR, opened], [reply(6)]),
+          ([*begun, "read 6 READDIR 80", *ANSWERED[:2], "written 6 0", "answer 2 0", "kernel"], 0))
+    for said, error in [(reply(own, error=13), 13), (reply(own), 5), (reply(own, bytes(8)), 5)]:
+        judge(f"OPENDIR is {error}", on_frames([], ["mount 0 0", "read p 0", "write", "call list / 0", "read p 0"], AGREES, [said]),
+              ([*MOUNTED, "call 1", "read 4 READDIR 80", f"answer 1 {error}", "kernel"], 0))
+
+
+# --- the command line, and a socket of packets
+
+def run_words():
+    for words, script, line in [
+        ([], ["mount 0 0", "take 0"], "line 2: unknown event"), ([], ["# of calls", "", "settle 0"], "line 3: unknown event"),
+        ([], ["write 0"], "line 1: wrong words"), ([], ["call open / x"], "line 1: wrong words"),
+        ([], ["tick 01"], "line 1: bad number"), ([], ["call write 1 0 0"], "line 1: bad text"),
+        (["--calls"], ["mount 0 0"], "line 1: unknown event"), (["--calls"], ["call stat /", "write"], "line 2: unknown event"),
+        (["--beside"], ["read p 0"], "line 1: unknown event"), (["--beside"], ["intr 1 soft"], "line 1: unknown event"),
+    ]:
+        judge(f"{words} {script}", drive(words, script, lambda connection: list(received(connection))), ([line], 1, []))
+    for words, status in [(["--offer", "0x1", "x"], 2), (["--offer", "123456789", "x"], 2), (["--offer", "A", "x"], 2),
+                          (["--wait", "0", "x"], 2), (["--wait", "86400001", "x"], 2), ([], 2), (["x", "y", "z"], 2),
+                          (["/nowhere", "/nowhere"], 4), (["/nowhere"], 1)]:
+        run = subprocess.run([PROGRAM, "drive", *words], stdin=subprocess.DEVNULL, stdout=subprocess.PIPE, stderr=subprocess.PIPE, timeout=SECONDS)
+        judge(f"drive {words}", (run.returncode, run.stdout, run.stderr != b""), (status, b"", True))
+
+
+def run_packets():
+    """On a SOCK_SEQPACKET socket as standard input and output, the lines go to standard error."""
+    for answers, wanted, status in [([AGREES[0], ATTR], [*STATED, *ANSWERED], 0), (AGREES, [*STATED, "no reply"], 4)]:
+        ours, theirs = socket.socketpair(socket.AF_UNIX, socket.SOCK_SEQPACKET)
+        theirs.setsockopt(socket.SOL_SOCKET, socket.SO_RCVTIMEO, struct.pack("ll", 0, 300_000))
+        ours.settimeout(SECONDS)
+        with tempfile.NamedTemporaryFile("w", suffix=".script") as file:
+            file.write("\n".join(STAT) + "\n")
+            file.flush()
+            run = subprocess.Popen([PROGRAM, "drive", file.name], stdin=theirs, stdout=theirs, stderr=subprocess.PIPE, text=True)
+            theirs.close()
+            for answer in answers:
+                ours.recv(1 << 17)
+                ours.send(answer)
+            lines = run.communicate(timeout=SECONDS)[1].splitlines()
+        ours.close()
+        judge("packets", (lines, run.returncode), (wanted, status))
+
+
+def run_trace():
+    lines = drive(["--calls", "--trace"], ["call stat /", "call list / 0"], Server().serve)[0]
+    flags = "ASYNC_READ DO_READDIRPLUS PARALLEL_DIROPS"
+    judge("--trace", [line for line in lines if line[0] in "<>"][:9], [
+        f"> INIT 2 node 0 major 7 minor 31 flags {flags}", f"< 2 major 7 minor 31 flags {flags}",
+        "> GETATTR 4 node 1", "< 4 attr dir ino 1 size 0 nlink 1",
+        f"> OPENDIR {1 << 62} (of this command)", f"< {1 << 62} error 0 (to this command)",
+        "> READDIR 6 node 1 offset 0 size 4096", "< 6", f"> RELEASEDIR {(1 << 62) + 2} (of this command)",
+    ])
+
+
+for part in (run_bugs, run_fields, run_frames, run_abort, run_closings, run_agreements, run_opendir, run_words, run_packets, run_trace):
+    part()
+print(f"{passed} passed, {failed} failed")
+sys.exit(bool(failed))
