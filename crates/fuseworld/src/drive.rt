@@ -68,11 +68,29 @@ pub fn drive_command<'a>(alloc: Global) -> Result<Command<'a>, AllocError> {
         .default_value("0")
         .help("Further flags that INIT offers");
     let command = Command::new(alloc, "drive")
-        .about("Drive a FUSE server by a script of the kernel's events, and print what each comes to")
-        .arg(flag(alloc, "calls", "The script has calls, and each is carried to its answer"))?
-        .arg(flag(alloc, "beside", "The same, and compare each answer with that of the server of this program"))?
-        .arg(flag(alloc, "no-opendir", "Do not open a directory before it is listed"))?
-        .arg(flag(alloc, "trace", "Print each frame in words, on standard error"))?
+        .about(
+            "Drive a FUSE server by a script of the kernel's events, and print what each comes to",
+        )
+        .arg(flag(
+            alloc,
+            "calls",
+            "The script has calls, and each is carried to its answer",
+        ))?
+        .arg(flag(
+            alloc,
+            "beside",
+            "The same, and compare each answer with that of the server of this program",
+        ))?
+        .arg(flag(
+            alloc,
+            "no-opendir",
+            "Do not open a directory before it is listed",
+        ))?
+        .arg(flag(
+            alloc,
+            "trace",
+            "Print each frame in words, on standard error",
+        ))?
         .arg(wait)?
         .arg(offer)?;
     with_places(alloc, command)
