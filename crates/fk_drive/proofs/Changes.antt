@@ -77,6 +77,13 @@ first_of : {X : Type 0} (xs ys : List X) (x : X) → 0 < length xs → x ≡ get
 first_of [] ys x some first rest = absurd (omega (arith, some))
 first_of (a ∷ xs) ys x some first rest = ap (λ y. y ∷ xs) (sym first) ∙ ap (λ l. x ∷ l) (sym rest)
 
+-- the frame that waits first, before the others
+pub first_waits : {A : Type 0} (connection : Connection A) (first : Vec ℕ A) → 0 < length connection.waiting.items
+    → first ≡ get_or connection.waiting.items 0 first
+    → map bytes connection.waiting.items ≡ first.items ∷ map bytes (drop 1 connection.waiting.items)
+first_waits connection first some is =
+    ap (map bytes) (first_of connection.waiting.items (drop 1 connection.waiting.items) first some is refl)
+
 pub step_writes : {A : Type 0} (kernel after : Kernel) (old new : Connection A) (first : Vec ℕ A)
     → 0 < length old.waiting.items → first ≡ get_or old.waiting.items 0 first
     → new.waiting.items ≡ take 0 old.waiting.items ++ drop 1 old.waiting.items

@@ -5,3 +5,4 @@ pub mod Driven
 pub mod Rooms
 pub mod Openings
 pub mod Sending
+pub mod WriteRefusals

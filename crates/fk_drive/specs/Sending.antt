@@ -1,9 +1,13 @@
 -- How a request is sent.
 use Rattle.std.specs.Prelude.{◌≡◌, ℕ, List, Result, Ok, Err}
 use Rattle.fuse_spec.specs.Kernel.Messages.{Request}
+use Rattle.fuse_spec.specs.Kernel.Kernel.{Kernel}
+use Rattle.fuse_spec.specs.Kernel.Refusals.{or_no_memory}
 use Rattle.fk_wire.specs.Fields.{number_at}
 use Rattle.fuse_frames.specs.RequestTies.{SaysRequest}
 use Rattle.fuse_device.specs.Transfers.{Transfer}
+use Rattle.fk_kernel.specs.Picks.{pick_refusal}
+use Rattle.fk_kernel.specs.declared.pick.Pick.{Pick}
 use Rattle.fk_drive.specs.Driving.{SendsFrame, Turn, idle}
 use Rattle.fk_drive.specs.declared.end.DriveEnd.{DriveEnd}
 use Rattle.fk_drive.specs.declared.end.NotSent.{NotSent}
@@ -32,3 +36,8 @@ abbrev pub IsRequestSent : {T : Type 0} → Result T NotSent → Turn → Type 0
 IsRequestSent (Ok _) turn = turn ≡ idle
 IsRequestSent (Err (Refused refusal)) turn = turn ≡ idle
 IsRequestSent (Err (Ended end)) turn = Unit {0}
+
+-- The kernel refused to be read as the definitions refuse it, or for want of memory.
+abbrev pub IsReadRefused : Kernel → Pick → NotSent → Type 0
+IsReadRefused k pick (Refused refusal) = refusal ≡ or_no_memory (pick_refusal k pick)
+IsReadRefused k pick (Ended end) = Unit {0}

@@ -1,6 +1,6 @@
 //! What the kernel's read gives is sent.
 
-ghost use Rattle.std.specs.Prelude.{◌≡◌, ◌≤◌, ◌<◌, ◌^◌, ℕ, List, true, OnErr, OnOk, length};
+ghost use Rattle.std.specs.Prelude.{◌≡◌, ◌≤◌, ◌<◌, ◌^◌, ℕ, List, true, IfErr, IfOk, OnErr, OnOk, length};
 ghost use Rattle.fuse_spec.specs.Kernel.Messages.{Request};
 ghost use Rattle.fuse_spec.specs.declared.WriteResult.{WriteResult};
 ghost use Rattle.fk_wire.specs.Replies.{IsErrorNumber, WrittenReply, empty_reply};
@@ -12,7 +12,8 @@ ghost use Rattle.fk_drive_frames.specs.OwnRequests.{ListsNode};
 ghost use Rattle.fk_drive.specs.Driven.{driven};
 ghost use Rattle.fk_drive.specs.Driving.{DrivesOver, Turn, idle, picked};
 ghost use Rattle.fk_drive.specs.Exchanges.{WentOver};
-ghost use Rattle.fk_drive.specs.Sending.{IsDone, IsRequestSent, SendsListing, SendsSame};
+ghost use Rattle.fk_drive.specs.Sending.{IsDone, IsReadRefused, IsRequestSent, SendsListing, SendsSame};
+ghost use Rattle.fk_kernel.specs.Picks.{IsPicked};
 
 use crate::connection::Connection;
 use crate::end::{DriveEnd, NotSent};
@@ -141,8 +142,10 @@ pub fn send_next<A: Allocator + Copy, D: Device>(
     pick: Pick,
     choices: Choices,
 ) -> Result<RequestFrame<A>, NotSent>
-    ensures { (turn : Turn) × IsRequestSent result turn × DrivesOver D.logs device.old device.new
+    ensures drives { (turn : Turn) × IsRequestSent result turn × DrivesOver D.logs device.old device.new
         (driven kernel.old connection.old idle) (driven kernel.new connection.new turn) }
+    ensures picked { IfOk result (λ frame. IsPicked kernel.old pick frame) }
+    ensures refused { IfErr result (IsReadRefused kernel.old pick) }
 {
     written_is_spelled();
     let frame = match kernel.read(pick) {

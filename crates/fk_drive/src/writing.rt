@@ -1,11 +1,12 @@
 //! What was received is written to the kernel.
 
-ghost use Rattle.std.specs.Prelude.{◌≡◌, ◌<◌, ◌^◌, [], ℕ, List, IfOk, IfSome, OnErr, OnOk, length, vec_len};
+ghost use Rattle.std.specs.Prelude.{◌≡◌, ◌<◌, ◌^◌, [], ℕ, List, IfErr, IfOk, IfSome, OnErr, OnOk, length, vec_len};
 ghost use Rattle.fuse_spec.specs.Kernel.Kernel.{Kernel as KernelState};
 ghost use Rattle.fk_drive_frames.specs.Agreements.{IsHandedOn};
 ghost use Rattle.fk_drive.specs.Driven.{driven};
 ghost use Rattle.fk_drive.specs.Driving.{DrivesOver, DriveStep, Turn};
 ghost use Rattle.fk_drive.specs.KernelSteps.{IsReplyTaken};
+ghost use Rattle.fk_drive.specs.WriteRefusals.{IsFirstRefused, IsWriteRefused};
 
 use crate::connection::{Connection, Directory};
 use crate::end::DriveEnd;
@@ -39,6 +40,7 @@ fn hand_on<A: Allocator + Copy>(
     ensures ok { IfOk result (λ written. (handed : List ℕ) × IsHandedOn frame.now handed
         × IsReplyTaken kernel.old handed written kernel.new) }
     ensures err { OnErr result (kernel.new ≡ kernel.old) }
+    ensures refused { IfErr result (IsWriteRefused kernel.old frame.now) }
 {
     if is_older_agreement(frame) {
         return kernel.write(&raised_of(frame));
@@ -114,9 +116,13 @@ fn write_first<A: Allocator + Copy>(
     ensures ok { OnOk result ((turn : Turn) → DriveStep (driven kernel.old connection.old turn) []
         (driven kernel.new connection.new turn)) }
     ensures err { OnErr result ((kernel.new ≡ kernel.old) × (connection.new ≡ connection.old)) }
+    ensures refused { IfErr result (IsFirstRefused kernel.new connection.new) }
 {
     let is_raised = is_older_agreement(&connection.waiting[0]);
-    let result = hand_on(kernel, &connection.waiting[0])?;
+    let result = match hand_on(kernel, &connection.waiting[0]) {
+        Ok(result) => result,
+        Err(refusal) => return Err(refusal),
+    };
     let frame = connection.waiting.remove(0);
     Ok(Written {
         frame,
@@ -153,8 +159,9 @@ pub fn write_next<A: Allocator + Copy, D: Device>(
     connection: &mut Connection<A>,
     device: &mut D,
 ) -> Result<Result<Written<A>, Refusal>, DriveEnd>
-    ensures { (turn : Turn) → DrivesOver D.logs device.old device.new (driven kernel.old connection.old turn)
+    ensures drives { (turn : Turn) → DrivesOver D.logs device.old device.new (driven kernel.old connection.old turn)
         (driven kernel.new connection.new turn) }
+    ensures refused { IfOk result (λ written. IfErr written (IsFirstRefused kernel.new connection.new)) }
 {
     receive_one(connection, device)?;
     match write_first(kernel, connection) {

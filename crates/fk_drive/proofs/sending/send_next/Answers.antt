@@ -6,8 +6,8 @@ use Rattle.fk_drive.proofs.Drivings.{over_on, over_same, over_step}
 use Rattle.fk_drive.proofs.Requests.{says_of}
 use Rattle.fk_drive.proofs.sending.send_next.Goals as goal
 
-pub returns-in-Err : goal.returns-in-Err
-returns-in-Err g c = (
+pub returns-in-Err-clause-drives : goal.returns-in-Err-clause-drives
+returns-in-Err-clause-drives g c = (
   idle,
   refl,
   over_same g.D.Device.logs g.met.D.Device.goes_on g.met.D.Device.stays c.args.device.now
@@ -15,8 +15,8 @@ returns-in-Err g c = (
       (ap (λ (k : Kernel). driven k c.args.connection.now idle) c.in-Err.ensures.err),
 )
 
-pub returns-in-Ok-send_read : goal.returns-in-Ok-send_read
-returns-in-Ok-send_read g c =
+pub returns-in-Ok-send_read-clause-drives : goal.returns-in-Ok-send_read-clause-drives
+returns-in-Ok-send_read-clause-drives g c =
     let first = c.args.kernel.now in
     let connection = c.args.connection.now in
     let frame = c.in-Ok.frame in
@@ -34,8 +34,8 @@ returns-in-Ok-send_read g c =
           (g.met.D.Device.stays c.args.device.now) step) over,
     )
 
-pub returns-in-Err-send_read : goal.returns-in-Err-send_read
-returns-in-Err-send_read g c =
+pub returns-in-Err-send_read-clause-drives : goal.returns-in-Err-send_read-clause-drives
+returns-in-Err-send_read-clause-drives g c =
     let first = c.args.kernel.now in
     let connection = c.args.connection.now in
     let frame = c.in-Ok.frame in

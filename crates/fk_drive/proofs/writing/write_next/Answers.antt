@@ -6,8 +6,8 @@ use Rattle.fk_drive.specs.declared.connection.Connection.{Connection}
 use Rattle.fk_drive.proofs.Drivings.{over_on, over_quiet}
 use Rattle.fk_drive.proofs.writing.write_next.Goals as goal
 
-pub returns-in-Ok : goal.returns-in-Ok
-returns-in-Ok g c turn =
+pub returns-in-Ok-clause-drives : goal.returns-in-Ok-clause-drives
+returns-in-Ok-clause-drives g c turn =
     let kernel = c.args.kernel.now in
     let first = driven kernel c.args.connection.now turn in
     let waiting = driven kernel c.receive_one.new.connection turn in
@@ -18,8 +18,8 @@ returns-in-Ok g c turn =
     first waiting written (c.receive_one.ensures.drives kernel turn) (c.in-Ok.ensures.ok turn))
     (c.release_after.ensures c.write_first.new.kernel turn)
 
-pub returns-in-Err : goal.returns-in-Err
-returns-in-Err g c turn =
+pub returns-in-Err-clause-drives : goal.returns-in-Err-clause-drives
+returns-in-Err-clause-drives g c turn =
     let kernel = c.args.kernel.now in
     let first = driven kernel c.args.connection.now turn in
     let over = c.receive_one.ensures.drives kernel turn in
