@@ -1,2 +1,3 @@
 pub mod ActsAlone
 pub mod Following
+pub mod StopStatuses

@@ -1,5 +1,6 @@
 //! The run of a script that drives a server.
 
+ghost use Rattle.std.specs.Prelude.{◌≡◌, ◌∷◌, [], Contains, IfErr};
 ghost use Rattle.fk_drive.specs.Driving.{Driven, DrivesOver, first_driven};
 ghost use Rattle.fw_drive.specs.Runs.{GoesOn};
 
@@ -68,7 +69,9 @@ fn read_script<A: Allocator, R: Read, F: Write>(
     task: Task<'_>,
     input: &mut R,
     faults: &mut F,
-) -> Result<Vec<u8, A>, u8> {
+) -> Result<Vec<u8, A>, u8>
+    ensures { IfErr result (Contains (1 ∷ 3 ∷ [])) }
+{
     let mut text = Vec::new(alloc);
     match input.read_to_end(&mut text) {
         Ok(_) => {}
@@ -97,7 +100,9 @@ pub fn run_drive<A: Allocator + Copy, D: Device, R: Read, W: Write, F: Write>(
     out: &mut W,
     faults: &mut F,
 ) -> u8
-    ensures { (new : Driven) × DrivesOver D.logs device.old device.new (first_driven task.entry.opens_directories) new }
+    ensures statuses { Contains (0 ∷ 1 ∷ 3 ∷ 4 ∷ 5 ∷ []) result }
+    ensures unrun { result ≡ 1 → device.new ≡ device.old }
+    ensures drives { (new : Driven) × DrivesOver D.logs device.old device.new (first_driven task.entry.opens_directories) new }
 {
     let text = match read_script(alloc, task, input, faults) {
         Ok(text) => text,

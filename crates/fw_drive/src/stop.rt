@@ -1,5 +1,7 @@
 //! Why a driven run comes to its end before its script does.
 
+ghost use Rattle.std.specs.Prelude.{◌∷◌, [], Contains};
+
 use crate::printing::{print_refusal, taken};
 use fk_drive::DriveEnd;
 use fuse_device::DeviceEnd;
@@ -56,11 +58,9 @@ impl Stop {
     }
 
     /// Says it, want of memory on `faults` and all else on the output, and gives the exit status.
-    pub(crate) fn report<A: Allocator, W: Write, F: Write>(
-        self,
-        out: &mut W,
-        faults: &mut F,
-    ) -> u8 {
+    pub(crate) fn report<A: Allocator, W: Write, F: Write>(self, out: &mut W, faults: &mut F) -> u8
+        ensures { Contains (3 ∷ 4 ∷ 5 ∷ []) result }
+    {
         match (self, self.write_line::<A, W>(out)) {
             (Stop::NoMemory | Stop::Refused(Refusal::NoMemory), _) => no_memory(faults),
             (Stop::OutputRefused, _) | (_, Err(_)) => 5,
