@@ -1,15 +1,22 @@
 //! What the words of the command line ask for.
 
+ghost use Rattle.std.specs.Prelude.{◌≡◌, ◌↔◌, IfOk, IsTrue, codes, map, string_bytes};
+ghost use Rattle.clap.specs.Words.{found_of, kind_of, rows_of, subcommand_rows_of};
+ghost use Rattle.fuseworld.specs.Commands.{AreMinors, IsCommand, IsProgram, program_app, run_app, socket_app};
+ghost use Rattle.fuseworld.specs.Tasks.{AsksAt, AsksFor, ReadsTask};
+
 use crate::draw::draw_command;
 use crate::drive::{DriveTask, drive_command, drive_task};
 use crate::frame_commands::{
     FrameTask, decode_command, frame_command, frame_task, reply_command, vectors_command,
 };
-use crate::serve::{ServeTask, serve_command, serve_task};
+use crate::serve::ServeTask;
+use crate::serve_words::{serve_command, serve_task};
 use crate::sides::{SideTask, kernel_command, server_command, side_task};
+use crate::values::{is_set, text};
 use crate::version::VERSION;
 use clap::error::ErrorKind;
-use clap::{Arg, ArgAction, Command, Error};
+use clap::{Arg, ArgAction, ArgMatches, Command, Error};
 use std::alloc::{AllocError, Global};
 
 /// One run of the program.
@@ -34,11 +41,15 @@ pub enum Task<'a> {
 }
 
 /// Whether memory was wanting, and the words may be good.
-pub fn is_memory(error: &Error) -> bool {
+pub fn is_memory(error: &Error) -> bool
+    ensures { IsTrue result ↔ (kind_of error.now ≡ ErrorKind.OutOfMemory) }
+{
     error.kind() == ErrorKind::OutOfMemory
 }
 
-fn run_command<'a>(alloc: Global) -> Result<Command<'a>, AllocError> {
+fn run_command<'a>(alloc: Global) -> Result<Command<'a>, AllocError>
+    ensures { IfOk result (IsCommand run_app) }
+{
     let hex = Arg::new(alloc, "hex")
         .long("hex")
         .action(ArgAction::SetTrue)
@@ -52,7 +63,9 @@ fn run_command<'a>(alloc: Global) -> Result<Command<'a>, AllocError> {
         .arg(file)
 }
 
-fn socket_command<'a>(alloc: Global) -> Result<Command<'a>, AllocError> {
+fn socket_command<'a>(alloc: Global) -> Result<Command<'a>, AllocError>
+    ensures { IfOk result (IsCommand socket_app) }
+{
     let file = Arg::new(alloc, "FILE")
         .required(true)
         .help("The script: one event a line");
@@ -65,7 +78,9 @@ fn socket_command<'a>(alloc: Global) -> Result<Command<'a>, AllocError> {
         .arg(path)
 }
 
-fn program<'a>(alloc: Global) -> Result<Command<'a>, AllocError> {
+fn program<'a>(alloc: Global) -> Result<Command<'a>, AllocError>
+    ensures { IfOk result IsProgram }
+{
     Command::new(alloc, "fuseworld")
         .version(VERSION)
         .about("A FUSE 7.31 kernel and its server, run by a script or before others")
@@ -83,34 +98,58 @@ fn program<'a>(alloc: Global) -> Result<Command<'a>, AllocError> {
         .subcommand(server_command(alloc)?)
 }
 
-/// What the words ask for: the program's name, and then a command or nothing.
-pub fn read_task<'a>(alloc: Global, words: &'a [String]) -> Result<Task<'a>, Error> {
-    let matches = program(alloc)?.try_get_matches_from(words)?;
-    let Some((name, inner)) = matches.subcommand() else {
-        return Ok(Task::Input);
-    };
+/// What a command of this name asks for.
+fn named_task<'a>(name: &str, matches: &ArgMatches<'a>) -> Task<'a>
+    ensures { AsksAt name.now (rows_of (found_of matches.now)) result }
+{
     if name == "run" {
-        let file = inner.get_str("FILE").unwrap_or("");
-        let hex = inner.get_flag("hex");
-        return Ok(Task::Run { file, hex });
+        let file = text(matches, "FILE");
+        let hex = is_set(matches, "hex");
+        return Task::Run { file, hex };
     }
     if name == "socket" {
-        let file = inner.get_str("FILE").unwrap_or("");
-        let path = inner.get_str("SOCK").unwrap_or("");
-        return Ok(Task::Socket { file, path });
+        let file = text(matches, "FILE");
+        let path = text(matches, "SOCK");
+        return Task::Socket { file, path };
     }
     if name == "draw" {
-        let file = inner.get_str("FILE").unwrap_or("");
-        return Ok(Task::Draw { file });
+        let file = text(matches, "FILE");
+        return Task::Draw { file };
     }
     if name == "serve" {
-        return Ok(Task::Serve(serve_task(inner)));
+        return Task::Serve(serve_task(matches));
     }
     if name == "drive" {
-        return Ok(Task::Drive(drive_task(inner)));
+        return Task::Drive(drive_task(matches));
     }
-    if let Some(task) = side_task(name, inner) {
-        return Ok(Task::Side(task));
+    if let Some(task) = side_task(name, matches) {
+        return Task::Side(task);
     }
-    Ok(frame_task(name, inner).map_or(Task::Input, Task::OnFrame))
+    match frame_task(name, matches) {
+        Some(task) => Task::OnFrame(task),
+        None => Task::Input,
+    }
+}
+
+/// What the matches of the program ask for.
+fn asked_task<'a>(matches: &ArgMatches<'a>) -> Task<'a>
+    ensures { AsksFor (subcommand_rows_of matches.now) result }
+{
+    match matches.subcommand() {
+        Some((name, inner)) => named_task(name, inner),
+        None => Task::Input,
+    }
+}
+
+/// What the words ask for: the program's name, and then a command or nothing.
+///
+/// # Errors
+///
+/// Where the words are no command line, or ask for help or the version; or where memory is wanting.
+pub fn read_task<'a>(alloc: Global, words: &'a [String]) -> Result<Task<'a>, Error>
+    ensures { (minors : _) × AreMinors minors
+        × ReadsTask (program_app minors) (map string_bytes words.entry.now) result }
+{
+    let matches = program(alloc)?.try_get_matches_from(words)?;
+    Ok(asked_task(&matches))
 }

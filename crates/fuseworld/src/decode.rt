@@ -1,5 +1,7 @@
 //! The command `decode`: a capture in words.
 
+ghost use Rattle.std.specs.Prelude.{◌∷◌, [], Contains};
+
 use fw_frames::{decode_capture, judge_capture};
 use fw_script::{cannot_read, no_memory};
 use std::fs::File;
@@ -7,7 +9,9 @@ use std::io;
 use std::io::{BufRead, BufReader, BufWriter, ErrorKind, Read};
 
 /// Says why a capture is not read, and gives the exit status.
-fn not_read(rt: &HostRuntime, name: &str, error: &io::Error) -> u8 {
+fn not_read(rt: &HostRuntime, name: &str, error: &io::Error) -> u8
+    ensures { Contains (1 ∷ 3 ∷ []) result }
+{
     if error.kind() == ErrorKind::OutOfMemory {
         return no_memory(&mut rt.stderr());
     }
@@ -21,7 +25,9 @@ fn open(rt: &HostRuntime, path: &str) -> io::Result<BufReader<File>> {
 }
 
 /// Prints a capture whose lines were judged, and gives the exit status.
-fn print<R: BufRead>(rt: &HostRuntime, name: &str, input: &mut R) -> u8 {
+fn print<R: BufRead>(rt: &HostRuntime, name: &str, input: &mut R) -> u8
+    ensures { Contains (0 ∷ 1 ∷ 3 ∷ 5 ∷ []) result }
+{
     let alloc = rt.alloc();
     let mut faults = rt.stderr();
     let Ok(mut out) = BufWriter::new(alloc, io::writer(rt)) else {
@@ -31,7 +37,9 @@ fn print<R: BufRead>(rt: &HostRuntime, name: &str, input: &mut R) -> u8 {
 }
 
 /// Decodes the capture in a file, which is read twice: its lines are judged before the first is printed.
-fn decode_file(rt: &HostRuntime, path: &str) -> u8 {
+fn decode_file(rt: &HostRuntime, path: &str) -> u8
+    ensures { Contains (0 ∷ 1 ∷ 3 ∷ 5 ∷ []) result }
+{
     let mut judged = match open(rt, path) {
         Ok(input) => input,
         Err(error) => return not_read(rt, path, &error),
@@ -46,7 +54,9 @@ fn decode_file(rt: &HostRuntime, path: &str) -> u8 {
 }
 
 /// Decodes the capture on standard input, which is kept, since it can be read once only.
-fn decode_input(rt: &HostRuntime) -> u8 {
+fn decode_input(rt: &HostRuntime) -> u8
+    ensures { Contains (0 ∷ 1 ∷ 3 ∷ 5 ∷ []) result }
+{
     let mut text = Vec::new(rt.alloc());
     if let Err(error) = rt.reader().read_to_end(&mut text) {
         return not_read(rt, "-", &error);
@@ -60,7 +70,9 @@ fn decode_input(rt: &HostRuntime) -> u8 {
 }
 
 /// Decodes the capture in a file, or on standard input, and gives the exit status.
-pub fn run_decode(rt: &HostRuntime, file: Option<&str>) -> u8 {
+pub fn run_decode(rt: &HostRuntime, file: Option<&str>) -> u8
+    ensures { Contains (0 ∷ 1 ∷ 3 ∷ 5 ∷ []) result }
+{
     match file {
         Some(path) => decode_file(rt, path),
         None => decode_input(rt),

@@ -1,5 +1,8 @@
 //! The command `draw`: a run as a picture.
 
+ghost use Rattle.std.specs.Prelude.{◌∷◌, [], Contains, IfOk};
+ghost use Rattle.fuseworld.specs.Commands.{IsCommand, draw_app};
+
 use clap::{Arg, Command};
 use fw_draw::draw_script;
 use fw_script::{cannot_read, no_memory};
@@ -9,7 +12,9 @@ use std::io;
 use std::io::{BufWriter, ErrorKind};
 
 /// The command `draw`.
-pub fn draw_command<'a>(alloc: Global) -> Result<Command<'a>, AllocError> {
+pub fn draw_command<'a>(alloc: Global) -> Result<Command<'a>, AllocError>
+    ensures { IfOk result (IsCommand draw_app) }
+{
     let file = Arg::new(alloc, "FILE")
         .required(true)
         .help("The script: one event a line, or - for standard input");
@@ -19,7 +24,9 @@ pub fn draw_command<'a>(alloc: Global) -> Result<Command<'a>, AllocError> {
 }
 
 /// Draws the run of the script in a file, or on standard input, and gives the exit status.
-pub fn run_draw(rt: &HostRuntime, path: &str) -> u8 {
+pub fn run_draw(rt: &HostRuntime, path: &str) -> u8
+    ensures { Contains (0 ∷ 1 ∷ 3 ∷ 5 ∷ []) result }
+{
     let alloc = rt.alloc();
     let mut faults = rt.stderr();
     let Ok(mut out) = BufWriter::new(alloc, io::writer(rt)) else {

@@ -1,7 +1,16 @@
 //! The command `drive`: the kernel before a server that somebody else wrote.
 
-use clap::builder::ValueParser;
-use clap::{Arg, ArgAction, ArgMatches, Command};
+ghost use Rattle.std.specs.Prelude.{◌↔◌, IsTrue, ◌≡◌, IfOk, codes, false, unwrap_or};
+ghost use Rattle.clap.specs.Words.{app_of, first_of, found_of, rows_of, with_rule, new_rule};
+ghost use Rattle.clap.specs.declared.builder.command.Command.TheViews.{out-Command as fields_of};
+ghost use Rattle.fuseworld.specs.Arguments.{IsArgument, needed, option};
+ghost use Rattle.fuseworld.specs.Commands.{IsCommand, drive_app};
+ghost use Rattle.fuseworld.specs.Values.{IsOffer, is_set};
+ghost use Rattle.fuseworld.specs.Tasks.{AsksDrive, form_of};
+
+use crate::arguments::{flag, time_argument};
+use crate::values::{is_set, number, text, text_or_none};
+use clap::{Arg, ArgMatches, Command};
 use fuse_device::{Device, PacketDevice, StreamDevice};
 use fw_drive::{Choices, DriveTrace, Form, Task, run_drive};
 use fw_script::{cannot_read, no_memory, socket_failed};
@@ -11,9 +20,6 @@ use std::io;
 use std::io::{BufWriter, ErrorKind, Write};
 use std::os::unix::net::UnixStream;
 use std::time::Duration;
-
-/// The longest time for which a reply is waited, in milliseconds: a day.
-const LONGEST: u64 = 86_400_000;
 
 /// FUSE_DONT_MASK (linux/fuse.h), which is always offered.
 const DONT_MASK: u32 = 0x40;
@@ -35,16 +41,22 @@ pub struct DriveTask<'a> {
     offer: &'a str,
 }
 
-/// An option without a value.
-fn flag<'a>(alloc: Global, name: &'a str, help: &'a str) -> Arg<'a> {
-    Arg::new(alloc, name)
-        .long(name)
-        .action(ArgAction::SetTrue)
-        .help(help)
+/// The option for further flags of INIT.
+fn offer_argument<'a>(alloc: Global) -> Arg<'a>
+    ensures { IsArgument (option (codes "offer") (codes "0")) result }
+{
+    Arg::new(alloc, "offer")
+        .long("offer")
+        .value_name("HEX")
+        .default_value("0")
+        .help("Further flags that INIT offers")
 }
 
 /// The arguments.
-fn with_places<'a>(alloc: Global, command: Command<'a>) -> Result<Command<'a>, AllocError> {
+fn with_places<'a>(alloc: Global, command: Command<'a>) -> Result<Command<'a>, AllocError>
+    ensures { IfOk result (λ both. (fields_of command.entry).has_globals ≡ false
+        → IsCommand (with_rule (with_rule (app_of command.entry) (needed (codes "FILE"))) (new_rule (codes "SOCK"))) both) }
+{
     let file = Arg::new(alloc, "FILE")
         .required(true)
         .help("The script: the kernel's events, or calls, one a line");
@@ -55,18 +67,16 @@ fn with_places<'a>(alloc: Global, command: Command<'a>) -> Result<Command<'a>, A
 }
 
 /// The command `drive`.
-pub fn drive_command<'a>(alloc: Global) -> Result<Command<'a>, AllocError> {
-    let wait = Arg::new(alloc, "wait")
-        .long("wait")
-        .value_name("MS")
-        .value_parser(ValueParser::Unsigned(1, LONGEST))
-        .default_value("10000")
-        .help("For how many milliseconds a reply is waited for, over SOCK");
-    let offer = Arg::new(alloc, "offer")
-        .long("offer")
-        .value_name("HEX")
-        .default_value("0")
-        .help("Further flags that INIT offers");
+pub fn drive_command<'a>(alloc: Global) -> Result<Command<'a>, AllocError>
+    ensures { IfOk result (IsCommand drive_app) }
+{
+    let wait = time_argument(
+        alloc,
+        "wait",
+        1,
+        "10000",
+        "For how many milliseconds a reply is waited for, over SOCK",
+    );
     let command = Command::new(alloc, "drive")
         .about(
             "Drive a FUSE server by a script of the kernel's events, and print what each comes to",
@@ -92,47 +102,74 @@ pub fn drive_command<'a>(alloc: Global) -> Result<Command<'a>, AllocError> {
             "Print each frame in words, on standard error",
         ))?
         .arg(wait)?
-        .arg(offer)?;
+        .arg(offer_argument(alloc))?;
     with_places(alloc, command)
 }
 
-/// What the words after `drive` ask for.
-pub fn drive_task<'a>(matches: &ArgMatches<'a>) -> DriveTask<'a> {
-    let form = match (matches.get_flag("calls"), matches.get_flag("beside")) {
+/// What the script has in its lines.
+fn form(matches: &ArgMatches<'_>) -> Form
+    ensures { let rows = rows_of (found_of matches.now) in
+        result ≡ form_of (is_set (codes "calls") rows) (is_set (codes "beside") rows) }
+{
+    match (is_set(matches, "calls"), is_set(matches, "beside")) {
         (_, true) => Form::CallsBeside,
         (true, false) => Form::Calls,
         (false, false) => Form::Events,
-    };
-    DriveTask {
-        file: matches.get_str("FILE").unwrap_or(""),
-        socket: matches.get_str("SOCK"),
-        form,
-        opens_directories: !matches.get_flag("no-opendir"),
-        is_traced: matches.get_flag("trace"),
-        wait_ms: matches.get_one::<u64>("wait").unwrap_or(10_000),
-        offer: matches.get_str("offer").unwrap_or("0"),
     }
+}
+
+/// The further flags of INIT.
+fn offer<'a>(matches: &ArgMatches<'a>) -> &'a str
+    ensures { result.now ≡ unwrap_or (first_of (codes "offer") (rows_of (found_of matches.now))) (codes "0") }
+{
+    match text_or_none(matches, "offer") {
+        Some(text) => text,
+        None => "0",
+    }
+}
+
+/// What the words after `drive` ask for.
+pub fn drive_task<'a>(matches: &ArgMatches<'a>) -> DriveTask<'a>
+    ensures { AsksDrive (rows_of (found_of matches.now)) result }
+{
+    DriveTask {
+        file: text(matches, "FILE"),
+        socket: text_or_none(matches, "SOCK"),
+        form: form(matches),
+        opens_directories: !is_set(matches, "no-opendir"),
+        is_traced: is_set(matches, "trace"),
+        wait_ms: number(matches, "wait", 10_000),
+        offer: offer(matches),
+    }
+}
+
+/// Whether the text is 1 to 8 lower-case hex digits.
+fn is_offer(text: &[u8]) -> bool
+    ensures { IsTrue result ↔ IsOffer text.now }
+{
+    !text.is_empty()
+        && text.len() <= 8
+        && text.iter().all(|byte| {
+            (*byte >= b'0' && *byte <= b'9') || (*byte >= b'a' && *byte <= b'f')
+        })
 }
 
 /// The value of a hex digit.
-fn digit(byte: u8) -> Option<u32> {
+fn digit(byte: u8) -> u32 {
     match byte {
-        b'0'..=b'9' => Some(u32::from(byte - b'0')),
-        b'a'..=b'f' => Some(u32::from(byte - b'a') + 10),
-        _ => None,
+        b'0'..=b'9' => u32::from(byte - b'0'),
+        b'a'..=b'f' => u32::from(byte - b'a') + 10,
+        _ => 0,
     }
 }
 
-/// The number of 1 to 8 lower-case hex digits.
-fn hex_number(text: &[u8]) -> Option<u32> {
-    if text.is_empty() || text.len() > 8 {
-        return None;
-    }
+/// The number of up to 8 hex digits.
+fn hex_number(text: &[u8]) -> u32 {
     let mut number: u32 = 0;
     for byte in text {
-        number = number.wrapping_mul(16) | digit(*byte)?;
+        number = number.wrapping_mul(16) | digit(*byte);
     }
-    Some(number)
+    number
 }
 
 /// Runs a script on a device, with the lines printed on a writer, and gives the exit status.
@@ -196,18 +233,20 @@ fn drive_place(rt: &HostRuntime, asked: DriveTask<'_>, task: Task<'_>) -> u8 {
 }
 
 /// Drives a server, and gives the exit status.
-pub fn run_drive_task(rt: &HostRuntime, asked: DriveTask<'_>) -> u8 {
-    let Some(offer) = hex_number(asked.offer.as_bytes()) else {
+pub fn run_drive_task(rt: &HostRuntime, asked: DriveTask<'_>) -> u8
+    ensures { ¬ IsOffer asked.entry.offer.now → result ≡ 2 }
+{
+    if !is_offer(asked.offer.as_bytes()) {
         let _ = eprintln!(rt; "error: --offer takes 1 to 8 lower-case hex digits");
         return 2;
-    };
+    }
     let task = Task {
         name: asked.file,
         form: asked.form,
         opens_directories: asked.opens_directories,
         choices: Choices {
             open_flags: OPEN_FLAGS,
-            offer: offer | DONT_MASK,
+            offer: hex_number(asked.offer.as_bytes()) | DONT_MASK,
         },
     };
     drive_place(rt, asked, task)

@@ -1,6 +1,14 @@
 //! The commands on frames: `frame`, `reply`, `decode` and `vectors`.
 
+ghost use Rattle.std.specs.Prelude.{◌≡◌, ◌∷◌, [], Contains, IfOk, IfNone, IfSome, codes, false};
+ghost use Rattle.clap.specs.Words.{found_of, rows_of};
+ghost use Rattle.fuseworld.specs.Arguments.{IsArgument, needed};
+ghost use Rattle.fuseworld.specs.Commands.{IsCommand, frame_app, reply_app, decode_app, vectors_app};
+ghost use Rattle.fuseworld.specs.Statuses.{frame_statuses};
+ghost use Rattle.fuseworld.specs.Tasks.{AsksFrame, is_frame_command};
+
 use crate::decode::run_decode;
+use crate::values::{is_set, text, text_or_none};
 use clap::{Arg, ArgAction, ArgMatches, Command};
 use fw_frames::{run_frame, run_reply};
 use fw_vectors::print_vectors;
@@ -22,14 +30,18 @@ pub enum FrameTask<'a> {
 }
 
 /// The argument that is a frame.
-fn hex_argument<'a>(alloc: Global) -> Arg<'a> {
+fn hex_argument<'a>(alloc: Global) -> Arg<'a>
+    ensures { IsArgument (needed (codes "HEX")) result }
+{
     Arg::new(alloc, "HEX")
         .required(true)
         .help("The frame's bytes, two lower-case hex digits each")
 }
 
 /// The command `frame`.
-pub fn frame_command<'a>(alloc: Global) -> Result<Command<'a>, AllocError> {
+pub fn frame_command<'a>(alloc: Global) -> Result<Command<'a>, AllocError>
+    ensures { IfOk result (IsCommand frame_app) }
+{
     let words = Arg::new(alloc, "words")
         .long("words")
         .action(ArgAction::SetTrue)
@@ -41,7 +53,9 @@ pub fn frame_command<'a>(alloc: Global) -> Result<Command<'a>, AllocError> {
 }
 
 /// The command `reply`.
-pub fn reply_command<'a>(alloc: Global) -> Result<Command<'a>, AllocError> {
+pub fn reply_command<'a>(alloc: Global) -> Result<Command<'a>, AllocError>
+    ensures { IfOk result (IsCommand reply_app) }
+{
     let name = Arg::new(alloc, "OPNAME")
         .required(true)
         .help("The opcode of the request, as LOOKUP");
@@ -54,7 +68,9 @@ pub fn reply_command<'a>(alloc: Global) -> Result<Command<'a>, AllocError> {
 }
 
 /// The command `decode`.
-pub fn decode_command<'a>(alloc: Global) -> Result<Command<'a>, AllocError> {
+pub fn decode_command<'a>(alloc: Global) -> Result<Command<'a>, AllocError>
+    ensures { IfOk result (IsCommand decode_app) }
+{
     let file = Arg::new(alloc, "FILE").help(
         "The capture: `>` and a request, or `<` and a reply, in hex, a line each",
     );
@@ -64,35 +80,42 @@ pub fn decode_command<'a>(alloc: Global) -> Result<Command<'a>, AllocError> {
 }
 
 /// The command `vectors`.
-pub fn vectors_command<'a>(alloc: Global) -> Command<'a> {
+pub fn vectors_command<'a>(alloc: Global) -> Command<'a>
+    ensures { IsCommand vectors_app result }
+{
     Command::new(alloc, "vectors").about(
         "Print frames of each kind with what the codec says of them, a JSON object a line",
     )
 }
 
 /// What the words after the name of a command on frames ask for, if it is one.
-pub fn frame_task<'a>(name: &str, matches: &ArgMatches<'a>) -> Option<FrameTask<'a>> {
+pub fn frame_task<'a>(name: &str, matches: &ArgMatches<'a>) -> Option<FrameTask<'a>>
+    ensures asked { IfSome result (AsksFrame name.now (rows_of (found_of matches.now))) }
+    ensures other { IfNone result (is_frame_command name.now ≡ false) }
+{
     if name == "vectors" {
         return Some(FrameTask::Vectors);
     }
     if name == "decode" {
-        let file = matches.get_str("FILE");
+        let file = text_or_none(matches, "FILE");
         return Some(FrameTask::Decode { file });
     }
-    let hex = matches.get_str("HEX").unwrap_or("");
+    let hex = text(matches, "HEX");
     if name == "frame" {
-        let words = matches.get_flag("words");
+        let words = is_set(matches, "words");
         return Some(FrameTask::Frame { hex, words });
     }
     if name == "reply" {
-        let name = matches.get_str("OPNAME").unwrap_or("");
+        let name = text(matches, "OPNAME");
         return Some(FrameTask::Reply { name, hex });
     }
     None
 }
 
 /// Prints the vectors, and gives the exit status.
-fn run_vectors(rt: &HostRuntime) -> u8 {
+fn run_vectors(rt: &HostRuntime) -> u8
+    ensures { Contains (0 ∷ 3 ∷ 5 ∷ []) result }
+{
     let mut faults = rt.stderr();
     let Ok(mut out) = BufWriter::new(rt.alloc(), io::writer(rt)) else {
         let _ = writeln!(faults, "no memory");
@@ -102,7 +125,9 @@ fn run_vectors(rt: &HostRuntime) -> u8 {
 }
 
 /// Runs a command on frames, and gives the exit status.
-pub fn run_frame_task(rt: &HostRuntime, task: FrameTask<'_>) -> u8 {
+pub fn run_frame_task(rt: &HostRuntime, task: FrameTask<'_>) -> u8
+    ensures { Contains (frame_statuses task.entry) result }
+{
     let alloc = rt.alloc();
     let mut out = io::writer(rt);
     let mut faults = rt.stderr();

@@ -1,16 +1,25 @@
 //! Runs scripts of events on a FUSE kernel and its server, reads frames, and serves a kernel.
 #![tactic(auto)]
 
+mod arguments;
 mod command;
 mod decode;
 mod draw;
 mod drive;
 mod frame_commands;
 mod serve;
+mod serve_words;
 mod sides;
 mod socket;
+mod values;
 mod version;
 
+ghost use Rattle.std.specs.Prelude.{◌∷◌, [], Contains, map, string_bytes};
+ghost use Rattle.clap.specs.Words.{kind_of};
+ghost use Rattle.fuseworld.specs.Commands.{AreMinors, program_app};
+ghost use Rattle.fuseworld.specs.Statuses.{EndsWith, ExitsAt, RefusesWith};
+
+use clap::Error;
 use command::{Task, is_memory, read_task};
 use draw::run_draw;
 use drive::run_drive_task;
@@ -26,7 +35,9 @@ use std::process::ExitCode;
 use version::{is_version, print_version};
 
 /// Runs the script on standard input, or in a file, and gives the exit status.
-fn run_file(rt: &HostRuntime, file: Option<&str>, hex: bool) -> u8 {
+fn run_file(rt: &HostRuntime, file: Option<&str>, hex: bool) -> u8
+    ensures { Contains (0 ∷ 1 ∷ 3 ∷ 5 ∷ []) result }
+{
     let alloc = rt.alloc();
     let mut faults = rt.stderr();
     let Ok(mut out) = BufWriter::new(alloc, io::writer(rt)) else {
@@ -43,7 +54,9 @@ fn run_file(rt: &HostRuntime, file: Option<&str>, hex: bool) -> u8 {
 }
 
 /// Runs the script in a file over a socket at a path, and gives the exit status.
-fn run_over_socket(rt: &HostRuntime, file: &str, path: &str) -> u8 {
+fn run_over_socket(rt: &HostRuntime, file: &str, path: &str) -> u8
+    ensures { Contains (0 ∷ 1 ∷ 3 ∷ 4 ∷ 5 ∷ []) result }
+{
     let mut faults = rt.stderr();
     let mut input = match File::open(rt, file) {
         Ok(input) => input,
@@ -56,23 +69,44 @@ fn run_over_socket(rt: &HostRuntime, file: &str, path: &str) -> u8 {
     }
 }
 
+/// Runs a task, and gives the exit status.
+fn run_task(rt: &HostRuntime, task: Task<'_>) -> u8
+    ensures { EndsWith task.entry result }
+{
+    match task {
+        Task::Input => run_file(rt, None, false),
+        Task::Run { file, hex } => run_file(rt, Some(file), hex),
+        Task::Socket { file, path } => run_over_socket(rt, file, path),
+        Task::Draw { file } => run_draw(rt, file),
+        Task::OnFrame(task) => run_frame_task(rt, task),
+        Task::Serve(task) => run_serve(rt, task),
+        Task::Drive(task) => run_drive_task(rt, task),
+        Task::Side(task) => run_side(rt, task),
+    }
+}
+
+/// Says why the words ask for no task, or prints the version, and gives the exit status.
+fn refuse(rt: &HostRuntime, error: &Error) -> u8
+    ensures { RefusesWith (kind_of error.now) result }
+{
+    if is_version(error) {
+        return print_version(rt);
+    }
+    if is_memory(error) {
+        return no_memory(&mut rt.stderr());
+    }
+    let _ = eprint!(rt; "{error}");
+    2
+}
+
 /// Does what the words of the command line ask for, and gives the exit status.
-fn run_words(rt: &HostRuntime, words: &[String]) -> u8 {
+fn run_words(rt: &HostRuntime, words: &[String]) -> u8
+    ensures { (minors : _) × AreMinors minors
+        × ExitsAt (program_app minors) (map string_bytes words.now) result }
+{
     match read_task(rt.alloc(), words) {
-        Ok(Task::Input) => run_file(rt, None, false),
-        Ok(Task::Run { file, hex }) => run_file(rt, Some(file), hex),
-        Ok(Task::Socket { file, path }) => run_over_socket(rt, file, path),
-        Ok(Task::Draw { file }) => run_draw(rt, file),
-        Ok(Task::OnFrame(task)) => run_frame_task(rt, task),
-        Ok(Task::Serve(task)) => run_serve(rt, task),
-        Ok(Task::Drive(task)) => run_drive_task(rt, task),
-        Ok(Task::Side(task)) => run_side(rt, task),
-        Err(error) if is_version(&error) => print_version(rt),
-        Err(error) if is_memory(&error) => no_memory(&mut rt.stderr()),
-        Err(error) => {
-            let _ = eprint!(rt; "{error}");
-            2
-        }
+        Ok(task) => run_task(rt, task),
+        Err(error) => refuse(rt, &error),
     }
 }
 

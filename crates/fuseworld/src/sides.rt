@@ -1,5 +1,11 @@
 //! The commands `kernel` and `server`: each side by itself, given one line after another.
 
+ghost use Rattle.std.specs.Prelude.{◌≡◌, ◌∷◌, [], Contains, IfOk, IfNone, IfSome, codes, false};
+ghost use Rattle.clap.specs.Words.{found_of, rows_of};
+ghost use Rattle.fuseworld.specs.Commands.{IsCommand, side_app};
+ghost use Rattle.fuseworld.specs.Tasks.{AsksSide, is_side};
+
+use crate::values::is_set;
 use clap::{Arg, ArgAction, ArgMatches, Command};
 use fw_script::{cannot_read, no_memory};
 use fw_sides::{End, Form, run_kernel, run_server};
@@ -15,11 +21,9 @@ pub enum SideTask {
 }
 
 /// The command of one side.
-fn side_command<'a>(
-    alloc: Global,
-    name: &'a str,
-    about: &'a str,
-) -> Result<Command<'a>, AllocError> {
+fn side_command<'a>(alloc: Global, name: &'a str, about: &'a str) -> Result<Command<'a>, AllocError>
+    ensures { IfOk result (IsCommand (side_app name.entry.now)) }
+{
     let json = Arg::new(alloc, "json")
         .long("json")
         .action(ArgAction::SetTrue)
@@ -28,7 +32,9 @@ fn side_command<'a>(
 }
 
 /// The command `kernel`.
-pub fn kernel_command<'a>(alloc: Global) -> Result<Command<'a>, AllocError> {
+pub fn kernel_command<'a>(alloc: Global) -> Result<Command<'a>, AllocError>
+    ensures { IfOk result (IsCommand (side_app (codes "kernel"))) }
+{
     side_command(
         alloc,
         "kernel",
@@ -37,7 +43,9 @@ pub fn kernel_command<'a>(alloc: Global) -> Result<Command<'a>, AllocError> {
 }
 
 /// The command `server`.
-pub fn server_command<'a>(alloc: Global) -> Result<Command<'a>, AllocError> {
+pub fn server_command<'a>(alloc: Global) -> Result<Command<'a>, AllocError>
+    ensures { IfOk result (IsCommand (side_app (codes "server"))) }
+{
     side_command(
         alloc,
         "server",
@@ -46,11 +54,14 @@ pub fn server_command<'a>(alloc: Global) -> Result<Command<'a>, AllocError> {
 }
 
 /// What the words after `kernel` or `server` ask for, if the name is one of these.
-pub fn side_task(name: &str, matches: &ArgMatches<'_>) -> Option<SideTask> {
+pub fn side_task(name: &str, matches: &ArgMatches<'_>) -> Option<SideTask>
+    ensures asked { IfSome result (AsksSide name.now (rows_of (found_of matches.now))) }
+    ensures other { IfNone result (is_side name.now ≡ false) }
+{
     if name != "kernel" && name != "server" {
         return None;
     }
-    let form = if matches.get_flag("json") {
+    let form = if is_set(matches, "json") {
         Form::Json
     } else {
         Form::Words
@@ -63,7 +74,9 @@ pub fn side_task(name: &str, matches: &ArgMatches<'_>) -> Option<SideTask> {
 }
 
 /// The exit status at an end, once it is said on standard error.
-fn status_at(rt: &HostRuntime, end: End) -> u8 {
+fn status_at(rt: &HostRuntime, end: End) -> u8
+    ensures { Contains (1 ∷ 3 ∷ 5 ∷ []) result }
+{
     match end {
         End::CannotRead => cannot_read("-", &mut rt.stderr()),
         End::NoMemory => no_memory(&mut rt.stderr()),
@@ -72,7 +85,9 @@ fn status_at(rt: &HostRuntime, end: End) -> u8 {
 }
 
 /// Is one side by itself until standard input ends, and gives the exit status.
-pub fn run_side(rt: &HostRuntime, task: SideTask) -> u8 {
+pub fn run_side(rt: &HostRuntime, task: SideTask) -> u8
+    ensures { Contains (0 ∷ 1 ∷ 3 ∷ 5 ∷ []) result }
+{
     let alloc = rt.alloc();
     let Ok(mut input) = BufReader::new(alloc, rt.reader()) else {
         return no_memory(&mut rt.stderr());

@@ -1,5 +1,7 @@
 //! A script over a Unix socket, both ends of which are in this process, in turn.
 
+ghost use Rattle.std.specs.Prelude.{◌∷◌, [], Contains};
+
 use fw_link::StreamLink;
 use fw_script::{Script, no_memory, socket_failed};
 use std::io::{BufWriter, ErrorKind};
@@ -19,7 +21,9 @@ fn connect(rt: &HostRuntime, listener: &UnixListener, path: &str) -> io::Result<
 }
 
 /// Says why there is no socket, and gives the exit status.
-fn no_socket(rt: &HostRuntime, error: &io::Error) -> u8 {
+fn no_socket(rt: &HostRuntime, error: &io::Error) -> u8
+    ensures { Contains (3 ∷ 4 ∷ []) result }
+{
     if error.kind() == ErrorKind::OutOfMemory {
         return no_memory(&mut rt.stderr());
     }
@@ -27,7 +31,9 @@ fn no_socket(rt: &HostRuntime, error: &io::Error) -> u8 {
 }
 
 /// Runs the script over a link, and gives the exit status.
-fn run_on(rt: &HostRuntime, script: &Script, link: SocketLink) -> u8 {
+fn run_on(rt: &HostRuntime, script: &Script, link: SocketLink) -> u8
+    ensures { Contains (0 ∷ 3 ∷ 4 ∷ 5 ∷ []) result }
+{
     let alloc = rt.alloc();
     let mut faults = rt.stderr();
     let Ok(mut out) = BufWriter::new(alloc, io::writer(rt)) else {
@@ -37,7 +43,9 @@ fn run_on(rt: &HostRuntime, script: &Script, link: SocketLink) -> u8 {
 }
 
 /// Runs the script over a socket that is made at a path, removes the socket, and gives the exit status.
-pub fn run_socket(rt: &HostRuntime, script: &Script, path: &str) -> u8 {
+pub fn run_socket(rt: &HostRuntime, script: &Script, path: &str) -> u8
+    ensures { Contains (0 ∷ 3 ∷ 4 ∷ 5 ∷ []) result }
+{
     let listener = match UnixListener::bind(rt, path) {
         Ok(listener) => listener,
         Err(error) => return no_socket(rt, &error),

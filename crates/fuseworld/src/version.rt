@@ -1,5 +1,8 @@
 //! The program's version.
 
+ghost use Rattle.std.specs.Prelude.{◌≡◌, ◌↔◌, ◌∷◌, [], Contains, IsTrue};
+ghost use Rattle.clap.specs.Words.{kind_of};
+
 use clap::Error;
 use clap::error::ErrorKind;
 use std::io;
@@ -9,12 +12,16 @@ use std::io::Write;
 pub const VERSION: &str = "1.0.0 (rattle-kit-13f logic dac8208d650f15bf)";
 
 /// Whether the command line asks for the version.
-pub fn is_version(error: &Error) -> bool {
+pub fn is_version(error: &Error) -> bool
+    ensures { IsTrue result ↔ (kind_of error.now ≡ ErrorKind.DisplayVersion) }
+{
     error.kind() == ErrorKind::DisplayVersion
 }
 
 /// Prints the name and the version, and gives the exit status: 0, or 5 where standard output refuses.
-pub fn print_version(rt: &HostRuntime) -> u8 {
+pub fn print_version(rt: &HostRuntime) -> u8
+    ensures { Contains (0 ∷ 5 ∷ []) result }
+{
     let mut out = io::writer(rt);
     match writeln!(out, "fuseworld {VERSION}") {
         Ok(()) => 0,

@@ -1,0 +1,5 @@
+mod Adding
+mod Names
+mod Parsing
+mod Reading
+mod Statuses

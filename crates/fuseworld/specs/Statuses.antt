@@ -1,0 +1,41 @@
+-- The exit statuses of the program.
+use Rattle.std.specs.Prelude.{◌≡◌, ◌⊎◌, ℕ, List, [], ◌∷◌, Contains}
+use Rattle.clap.specs.Words.{App, IsAmong, Text, fault_of, subcommand_of}
+use Rattle.clap.specs.declared.error.kind.ErrorKind.{ErrorKind}
+use Rattle.clap.specs.declared.error.kind.ErrorKind.TheVariants.{DisplayVersion, OutOfMemory}
+use Rattle.fuseworld.specs.Tasks.{AsksFor}
+use Rattle.fuseworld.specs.Values.{IsOffer}
+use Rattle.fuseworld.specs.declared.command.Task.{Task}
+use Rattle.fuseworld.specs.declared.command.Task.TheVariants as task
+use Rattle.fuseworld.specs.declared.frame_commands.FrameTask.{FrameTask}
+use Rattle.fuseworld.specs.declared.frame_commands.FrameTask.TheVariants as frame
+
+-- the exit statuses of a command on frames
+abbrev pub frame_statuses : FrameTask → List ℕ
+frame_statuses (frame.Frame hex words) = 0 ∷ 1 ∷ 3 ∷ 5 ∷ []
+frame_statuses (frame.Reply name hex) = 0 ∷ 1 ∷ 2 ∷ 3 ∷ 5 ∷ []
+frame_statuses (frame.Decode file) = 0 ∷ 1 ∷ 3 ∷ 5 ∷ []
+frame_statuses frame.Vectors = 0 ∷ 3 ∷ 5 ∷ []
+
+-- a run of the task may end with this exit status; of `drive` only that it is 2 at flags that are no hex
+abbrev pub EndsWith : Task → ℕ → Type 0
+EndsWith task.Input = Contains (0 ∷ 1 ∷ 3 ∷ 5 ∷ [])
+EndsWith (task.Run file hex) = Contains (0 ∷ 1 ∷ 3 ∷ 5 ∷ [])
+EndsWith (task.Socket file path) = Contains (0 ∷ 1 ∷ 3 ∷ 4 ∷ 5 ∷ [])
+EndsWith (task.Draw file) = Contains (0 ∷ 1 ∷ 3 ∷ 5 ∷ [])
+EndsWith (task.OnFrame t) = Contains (frame_statuses t)
+EndsWith (task.Serve t) = Contains (0 ∷ 3 ∷ 4 ∷ [])
+EndsWith (task.Drive t) = λ status. ¬ IsOffer t.offer.now → status ≡ 2
+EndsWith (task.Side t) = Contains (0 ∷ 1 ∷ 3 ∷ 5 ∷ [])
+
+-- words that are refused with this kind of error end with this exit status
+abbrev pub RefusesWith : ErrorKind → ℕ → Type 0
+RefusesWith DisplayVersion status = Contains (0 ∷ 5 ∷ []) status
+RefusesWith OutOfMemory status = status ≡ 3
+RefusesWith _ status = status ≡ 2
+
+-- the exit status at these words: that of the task for which they ask, or of a kind of error that they give
+abbrev pub ExitsAt : App → List Text → ℕ → Type 0
+ExitsAt app words status =
+    ((fault_of app words ≡ []) × (t : Task) × AsksFor (subcommand_of app words) t × EndsWith t status)
+    ⊎ ((kind : ErrorKind) × ((kind ≡ OutOfMemory) ⊎ IsAmong kind (fault_of app words)) × RefusesWith kind status)
