@@ -17,7 +17,7 @@ frame_statuses (frame.Reply name hex) = 0 ∷ 1 ∷ 2 ∷ 3 ∷ 5 ∷ []
 frame_statuses (frame.Decode file) = 0 ∷ 1 ∷ 3 ∷ 5 ∷ []
 frame_statuses frame.Vectors = 0 ∷ 3 ∷ 5 ∷ []
 
--- a run of the task may end with this exit status; of `drive` only that it is 2 at flags that are no hex
+-- a run of the task may end with this exit status
 abbrev pub EndsWith : Task → ℕ → Type 0
 EndsWith task.Input = Contains (0 ∷ 1 ∷ 3 ∷ 5 ∷ [])
 EndsWith (task.Run file hex) = Contains (0 ∷ 1 ∷ 3 ∷ 5 ∷ [])
@@ -25,7 +25,8 @@ EndsWith (task.Socket file path) = Contains (0 ∷ 1 ∷ 3 ∷ 4 ∷ 5 ∷ [])
 EndsWith (task.Draw file) = Contains (0 ∷ 1 ∷ 3 ∷ 5 ∷ [])
 EndsWith (task.OnFrame t) = Contains (frame_statuses t)
 EndsWith (task.Serve t) = Contains (0 ∷ 3 ∷ 4 ∷ [])
-EndsWith (task.Drive t) = λ status. ¬ IsOffer t.offer.now → status ≡ 2
+EndsWith (task.Drive t) = λ status. (IsOffer t.offer.now → Contains (0 ∷ 1 ∷ 3 ∷ 4 ∷ 5 ∷ []) status)
+    × (¬ IsOffer t.offer.now → status ≡ 2)
 EndsWith (task.Side t) = Contains (0 ∷ 1 ∷ 3 ∷ 5 ∷ [])
 
 -- words that are refused with this kind of error end with this exit status

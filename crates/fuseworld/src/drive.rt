@@ -1,6 +1,6 @@
 //! The command `drive`: the kernel before a server that somebody else wrote.
 
-ghost use Rattle.std.specs.Prelude.{◌↔◌, IsTrue, ◌≡◌, IfOk, codes, false, unwrap_or};
+ghost use Rattle.std.specs.Prelude.{◌↔◌, ◌∷◌, [], Contains, IsTrue, ◌≡◌, IfOk, codes, false, unwrap_or};
 ghost use Rattle.clap.specs.Words.{app_of, first_of, found_of, rows_of, with_rule, new_rule};
 ghost use Rattle.clap.specs.declared.builder.command.Command.TheViews.{out-Command as fields_of};
 ghost use Rattle.fuseworld.specs.Arguments.{IsArgument, needed, option};
@@ -178,7 +178,9 @@ fn drive_device<D: Device, W: Write + Drop>(
     task: Task<'_>,
     device: &mut D,
     out: W,
-) -> u8 {
+) -> u8
+    ensures { Contains (0 ∷ 1 ∷ 3 ∷ 4 ∷ 5 ∷ []) result }
+{
     let alloc = rt.alloc();
     let mut faults = rt.stderr();
     let mut input = match File::open(rt, task.name) {
@@ -199,7 +201,9 @@ fn drive_over<D: Device + Drop, W: Write + Drop>(
     is_traced: bool,
     mut device: D,
     out: W,
-) -> u8 {
+) -> u8
+    ensures { Contains (0 ∷ 1 ∷ 3 ∷ 4 ∷ 5 ∷ []) result }
+{
     if !is_traced {
         return drive_device(rt, task, &mut device, out);
     }
@@ -220,7 +224,9 @@ fn connect(
 }
 
 /// Drives the server on standard input and output, or on a socket, and gives the exit status.
-fn drive_place(rt: &HostRuntime, asked: DriveTask<'_>, task: Task<'_>) -> u8 {
+fn drive_place(rt: &HostRuntime, asked: DriveTask<'_>, task: Task<'_>) -> u8
+    ensures { Contains (0 ∷ 1 ∷ 3 ∷ 4 ∷ 5 ∷ []) result }
+{
     let Some(path) = asked.socket else {
         let device = PacketDevice::giving_up(rt.reader(), io::writer(rt));
         return drive_over(rt, task, asked.is_traced, device, rt.stderr());
@@ -234,7 +240,8 @@ fn drive_place(rt: &HostRuntime, asked: DriveTask<'_>, task: Task<'_>) -> u8 {
 
 /// Drives a server, and gives the exit status.
 pub fn run_drive_task(rt: &HostRuntime, asked: DriveTask<'_>) -> u8
-    ensures { ¬ IsOffer asked.entry.offer.now → result ≡ 2 }
+    ensures statuses { IsOffer asked.entry.offer.now → Contains (0 ∷ 1 ∷ 3 ∷ 4 ∷ 5 ∷ []) result }
+    ensures refused { ¬ IsOffer asked.entry.offer.now → result ≡ 2 }
 {
     if !is_offer(asked.offer.as_bytes()) {
         let _ = eprintln!(rt; "error: --offer takes 1 to 8 lower-case hex digits");
