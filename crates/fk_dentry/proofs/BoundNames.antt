@@ -8,7 +8,7 @@ use Rattle.std.specs.FinMap.Entries.{below_all, is_sorted-put, is_sorted-where_k
 use Rattle.std.specs.Cmp.{tied_itself}
 use Rattle.std.proofs.lemmas.Bool.{cases_eq, ltb-true, ltb-false, lt-ltb}
 use Rattle.std.proofs.lemmas.List.Sums.{sum_by-cons}
-use Rattle.fuse_spec.specs.declared.Binding.{Binding}
+use Rattle.fuse_spec.specs.declared.Dentry.{Dentry}
 use Rattle.fuse_spec.specs.Kernel.Kernel.{leads_to}
 use Rattle.fuse_spec.specs.Values.Maps.{Place, NameMap, place_cmp, get_name, put_name, remove_name}
 use Rattle.fk_dentry.specs.Named.{times, named, nodes_of_name, uses}
@@ -19,17 +19,17 @@ use Rattle.fk_dentry.proofs.NamedIds.{times_cons}
 use Rattle.fk_dentry.proofs.SortedEntries.{both, both_first, both_second, tied_all, none_below}
 
 abbrev pub Slots : Type 0
-Slots = NameMap (Option Binding)
+Slots = NameMap (Option Dentry)
 
 below-names : (x : Place) (slots : Slots) → T (below_all place_cmp x slots) → T (below_all place_cmp x (bound_names slots))
 below-names x [] h = tt
 below-names x ((place, None) ∷ slots) h = below-names x slots (both_second _ _ h)
-below-names x ((place, Some binding) ∷ slots) h = both _ _ (both_first _ _ h) (below-names x slots (both_second _ _ h))
+below-names x ((place, Some dentry) ∷ slots) h = both _ _ (both_first _ _ h) (below-names x slots (both_second _ _ h))
 
 pub sorted_names : (slots : Slots) → T (is_sorted place_cmp slots) → T (is_sorted place_cmp (bound_names slots))
 sorted_names [] h = tt
 sorted_names ((place, None) ∷ slots) h = sorted_names slots (both_second _ _ h)
-sorted_names ((place, Some binding) ∷ slots) h =
+sorted_names ((place, Some dentry) ∷ slots) h =
     both _ _ (below-names place slots (both_first _ _ h)) (sorted_names slots (both_second _ _ h))
 
 equal : (r : Ordering) → is_eq r ≡ true → r ≡ Equal
@@ -48,19 +48,19 @@ get-names ((place, None) ∷ slots) h q =
           (both_first _ _ h)))
       | false ↦ λ t. get-names slots (both_second _ _ h) q
     ] refl
-get-names ((place, Some binding) ∷ slots) h q =
-    elim (eq_by_cmp place_cmp q place) as (λ t. cond t (Some binding) (get_name (bound_names slots) q)
-    ≡ bound_in (cond t (Some (Some binding)) (get_name slots q))) [
+get-names ((place, Some dentry) ∷ slots) h q =
+    elim (eq_by_cmp place_cmp q place) as (λ t. cond t (Some dentry) (get_name (bound_names slots) q)
+    ≡ bound_in (cond t (Some (Some dentry)) (get_name slots q))) [
       | true ↦ refl
       | false ↦ get-names slots (both_second _ _ h) q
     ]
 
-alike : (slots : Slots) (names : NameMap Binding) → T (is_sorted place_cmp slots) → T (is_sorted place_cmp names)
+alike : (slots : Slots) (names : NameMap Dentry) → T (is_sorted place_cmp slots) → T (is_sorted place_cmp names)
     → ((q : Place) → bound_in (get_name slots q) ≡ get_name names q) → bound_names slots ≡ names
 alike slots names h g is = same_entries place_cmp place_total place_same (bound_names slots) names
     (sorted_names slots h) g (λ q. get-names slots h q ∙ is q)
 
-pub sorted-put : (slots : Slots) (place : Place) (slot : Option Binding) → T (is_sorted place_cmp slots)
+pub sorted-put : (slots : Slots) (place : Place) (slot : Option Dentry) → T (is_sorted place_cmp slots)
     → T (is_sorted place_cmp (put_name slots place slot))
 sorted-put slots place slot h = is_sorted-put place_cmp place_total place slot slots h
 
@@ -69,16 +69,16 @@ pub sorted-remove : (slots : Slots) (place : Place) → T (is_sorted place_cmp s
 sorted-remove slots place h = is_sorted-where_key place_cmp (λ other. not (eq_by_cmp place_cmp place other)) slots h
 
 -- a name is bound
-pub names-put : (slots : Slots) (place : Place) (binding : Binding) → T (is_sorted place_cmp slots)
-    → bound_names (put_name slots place (Some binding)) ≡ put_name (bound_names slots) place binding
-names-put slots place binding h = alike _ _ (sorted-put slots place (Some binding) h)
-    (is_sorted-put place_cmp place_total place binding (bound_names slots) (sorted_names slots h)) (λ q.
-    ap bound_in (find-put place_cmp place_total q place (Some binding) slots) ∙ by (eq_by_cmp place_cmp q place) q ∙ ap
-    (cond (eq_by_cmp place_cmp q place) (Some binding)) (sym (get-names slots h q))
-    ∙ sym (find-put place_cmp place_total q place binding (bound_names slots)))
+pub names-put : (slots : Slots) (place : Place) (dentry : Dentry) → T (is_sorted place_cmp slots)
+    → bound_names (put_name slots place (Some dentry)) ≡ put_name (bound_names slots) place dentry
+names-put slots place dentry h = alike _ _ (sorted-put slots place (Some dentry) h)
+    (is_sorted-put place_cmp place_total place dentry (bound_names slots) (sorted_names slots h)) (λ q.
+    ap bound_in (find-put place_cmp place_total q place (Some dentry) slots) ∙ by (eq_by_cmp place_cmp q place) q ∙ ap
+    (cond (eq_by_cmp place_cmp q place) (Some dentry)) (sym (get-names slots h q))
+    ∙ sym (find-put place_cmp place_total q place dentry (bound_names slots)))
   where
-    by : (b : Bool) (q : Place) → bound_in (cond b (Some (Some binding)) (get_name slots q))
-        ≡ cond b (Some binding) (bound_in (get_name slots q))
+    by : (b : Bool) (q : Place) → bound_in (cond b (Some (Some dentry)) (get_name slots q))
+        ≡ cond b (Some dentry) (bound_in (get_name slots q))
     by true q = refl
     by false q = refl
 
@@ -105,17 +105,17 @@ names-remove ((key, None) ∷ slots) place =
       | true ↦ names-remove slots place
       | false ↦ names-remove slots place
     ]
-names-remove ((key, Some binding) ∷ slots) place =
+names-remove ((key, Some dentry) ∷ slots) place =
     elim (eq_by_cmp place_cmp place key) as (λ b. bound_names
-    (cond (not b) ((key, Some binding) ∷ remove_name slots place) (remove_name slots place))
-    ≡ cond (not b) ((key, binding) ∷ remove_name (bound_names slots) place) (remove_name (bound_names slots) place)) [
+    (cond (not b) ((key, Some dentry) ∷ remove_name slots place) (remove_name slots place))
+    ≡ cond (not b) ((key, dentry) ∷ remove_name (bound_names slots) place) (remove_name (bound_names slots) place)) [
       | true ↦ names-remove slots place
-      | false ↦ ap (λ names. (key, binding) ∷ names) (names-remove slots place)
+      | false ↦ ap (λ names. (key, dentry) ∷ names) (names-remove slots place)
     ]
 
 -- ---- room
 
-pub room-put : (slots : Slots) (place : Place) (slot : Option Binding) (other : Place) → IsSome (get_name slots other)
+pub room-put : (slots : Slots) (place : Place) (slot : Option Dentry) (other : Place) → IsSome (get_name slots other)
     → IsSome (get_name (put_name slots place slot) other)
 room-put slots place slot other some = ap is_some (find-put place_cmp place_total other place slot slots) ∙ by
     (eq_by_cmp place_cmp other place)
@@ -124,7 +124,7 @@ room-put slots place slot other some = ap is_some (find-put place_cmp place_tota
     by true = refl
     by false = some
 
-pub room_there : (slots : Slots) (place : Place) (slot : Option Binding)
+pub room_there : (slots : Slots) (place : Place) (slot : Option Dentry)
     → IsSome (get_name (put_name slots place slot) place)
 room_there slots place slot = ap is_some (find-put place_cmp place_total place place slot slots) ∙ by
     (eq_by_cmp place_cmp place place) refl
@@ -178,8 +178,8 @@ named_is id [] = refl
 named_is id ((place, None) ∷ slots) =
     let zero_add : 0 + uses id slots ≡ uses id slots = omega arith in
     ap (nat_lt 0) (sum_by-cons (λ slot. times id (nodes_of_name slot)) (place, None) slots ∙ zero_add) ∙ named_is id slots
-named_is id ((place, Some binding) ∷ slots) =
-    ap (nat_lt 0) (sum_by-cons (λ slot. times id (nodes_of_name slot)) (place, Some binding) slots) ∙ more_or
-    (times id (named place.0 binding.target)) (uses id slots)
-    ∙ ap (λ b. b || nat_lt 0 (uses id slots)) (named_or id place.0 binding.target) ∙ ap
-    (λ b. (nat_eq place.0 id || leads_to id binding.target) || b) (named_is id slots)
+named_is id ((place, Some dentry) ∷ slots) =
+    ap (nat_lt 0) (sum_by-cons (λ slot. times id (nodes_of_name slot)) (place, Some dentry) slots) ∙ more_or
+    (times id (named place.0 dentry.target)) (uses id slots)
+    ∙ ap (λ b. b || nat_lt 0 (uses id slots)) (named_or id place.0 dentry.target) ∙ ap
+    (λ b. (nat_eq place.0 id || leads_to id dentry.target) || b) (named_is id slots)

@@ -8,7 +8,7 @@ use Rattle.std.specs.Cmp.{unsigned_tied, eq_by_cmp_equiv}
 use Rattle.std.specs.Cmp.Lexicographic.{slice_cmp, texts_ties}
 use Rattle.std.specs.FinMap.{is_sorted}
 use Rattle.std.specs.FinMap.Entries.{is_sorted-put, is_sorted-where_key, find-put, find-where_key, same_entries, length-put}
-use Rattle.fuse_spec.specs.declared.Binding.{Binding}
+use Rattle.fuse_spec.specs.declared.Dentry.{Dentry}
 use Rattle.fuse_spec.specs.Values.Maps.{Place, place_cmp, get_name, put_name, remove_name}
 use Rattle.fk_dentry.specs.declared.key.NameKey.{NameKey}
 use Rattle.fk_dentry.specs.Keys.{same_place, same_place_equiv, place_of_key, is_of}
@@ -31,13 +31,13 @@ pub one_place : (a b : Place) → same_place a b ≡ true → a ≡ b
 one_place a b e = place_same a b (tied _ (same_is a b ∙ e))
 
 abbrev pub Entries : Type 0 → Type 0
-Entries A = List (NameKey A × Option Binding)
+Entries A = List (NameKey A × Option Dentry)
 
 one_more : (b : Bool) (n m : ℕ) → n ≤ m → cond b n (n + 1) ≤ m + 1
 one_more true n m le = omega arith
 one_more false n m le = omega arith
 
-turned : (b : Bool) (x : Option (Option Binding)) → cond b None x ≡ cond (not b) x None
+turned : (b : Bool) (x : Option (Option Dentry)) → cond b None x ≡ cond (not b) x None
 turned true x = refl
 turned false x = refl
 
@@ -61,7 +61,7 @@ module _ {A : Type 0} where
       omega arith
 
   -- what is found under any name, where only what stands under one changed
-  changed : (old new : Entries A) (key : Place) (slot : Option (Option Binding)) → lookup (is_of key) new ≡ slot
+  changed : (old new : Entries A) (key : Place) (slot : Option (Option Dentry)) → lookup (is_of key) new ≡ slot
       → KeepsOthers (λ (x y : NameKey A). is_of (place_of_key x) y) (is_of key) old new
       → (q : Place) → get_name (slots_of new) q ≡ cond (eq_by_cmp place_cmp q key) slot (get_name (slots_of old) q)
   unfolding KeepsOthers
@@ -76,7 +76,7 @@ module _ {A : Type 0} where
           (λ k h. ap (λ (p : Place). same_place q p) (sym (one_place key (place_of_key k) h)) ∙ sym (same_is q key) ∙ e)
           ∙ sym (get-slots old q)
 
-  pub slots-put : (old new : Entries A) (key : Place) (slot : Option Binding) → lookup (is_of key) new ≡ Some slot
+  pub slots-put : (old new : Entries A) (key : Place) (slot : Option Dentry) → lookup (is_of key) new ≡ Some slot
       → KeepsOthers (λ (x y : NameKey A). is_of (place_of_key x) y) (is_of key) old new
       → slots_of new ≡ put_name (slots_of old) key slot
   slots-put old new key slot at others =

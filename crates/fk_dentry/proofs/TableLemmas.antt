@@ -9,7 +9,7 @@ use Rattle.std.proofs.lemmas.List.Edits.{length-insert, length-remove}
 use Rattle.std.proofs.lemmas.List.Sums.{sum_by-cons, sum_by-set, sum_by-insert, sum_by-remove}
 use Rattle.std.proofs.lemmas.Bool.{cases_lt}
 use Rattle.std.proofs.lemmas.Option.{same_Some, slice_get_past, get_or_from_slice_get, none-some}
-use Rattle.fuse_spec.specs.declared.Binding.{Binding}
+use Rattle.fuse_spec.specs.declared.Dentry.{Dentry}
 use Rattle.fuse_spec.specs.Values.Maps.{Place, place_cmp, get_name, put_name, remove_name}
 use Rattle.fk_dentry.specs.Named.{times, named, named_by, nodes_of_name, uses, mentions}
 use Rattle.fk_dentry.proofs.Places.{place_among, IsEntryOf}
@@ -23,15 +23,15 @@ use Rattle.fk_dentry.proofs.BoundNames.{Slots, sorted-put, sorted-remove}
 abbrev pub EntryOf : Slots → Place → ℕ → Type 0
 EntryOf slots key place = IsEntryOf place_cmp slots key place
 
-named_most : (directory : ℕ) (binding : Option Binding) → length (named_by directory binding) ≤ 2
+named_most : (directory : ℕ) (dentry : Option Dentry) → length (named_by directory dentry) ≤ 2
 named_most directory None = omega arith
-named_most directory (Some binding) = by binding.target
+named_most directory (Some dentry) = by dentry.target
   where
     by : (target : Option ℕ) → length (named directory target) ≤ 2
     by None = omega arith
     by (Some id) = omega arith
 
-mentions_cons : (slot : Place × Option Binding) (slots : Slots)
+mentions_cons : (slot : Place × Option Dentry) (slots : Slots)
     → mentions (slot ∷ slots) ≡ length (nodes_of_name slot) + mentions slots
 mentions_cons slot slots = sum_by-cons (λ s. length (nodes_of_name s)) slot slots
 
@@ -44,7 +44,7 @@ mentions_most (slot ∷ slots) =
     omega arith
 
 -- besides what a slot names there is room for two ids
-mentions_room : (slots : Slots) (i : ℕ) (d : Place × Option Binding) → i < length slots
+mentions_room : (slots : Slots) (i : ℕ) (d : Place × Option Dentry) → i < length slots
     → mentions slots + 2 ≤ length (nodes_of_name (get_or slots i d)) + (length slots + length slots)
 mentions_room [] i d lt = absurd (omega arith)
 mentions_room (slot ∷ slots) zero d lt =
@@ -77,7 +77,7 @@ module _ {slots : Slots} {key : Place} {place : ℕ} (r : EntryOf slots key plac
       (sym r.at) ∙ ap (found place_cmp place_total key) r.there
       ∙ ap (λ o. cond (is_eq o) (Some r.entry.1) None) r.same
 
-  pub put_there : (slot : Option Binding) → set slots place (r.entry.0, slot) ≡ put_name slots key slot
+  pub put_there : (slot : Option Dentry) → set slots place (r.entry.0, slot) ≡ put_name slots key slot
   put_there slot = ap (λ i. set slots i (r.entry.0, slot)) r.at ∙ set_is place_cmp place_total key slot slots r.entry
       (ap (slice_get slots) (sym r.at) ∙ r.there) r.same
 
@@ -103,32 +103,32 @@ module _ {slots : Slots} {key : Place} {place : ℕ} (r : EntryOf slots key plac
         let fits = t.room in
         omega arith
 
-    pub table-put : (binding : Binding) (after : ℕ → ℕ) (total_after most : ℕ)
-        → ((q : ℕ) → after q + times q held ≡ count q + times q (named key.0 binding.target))
-        → total_after + length held ≡ total + length (named key.0 binding.target) → capacity ≤ most
-        → IsNameTable (put_name slots key (Some binding)) after total_after most
-    table-put binding after total_after most swapped as_many fits = record {
-      sorted = sorted-put slots key (Some binding) t.sorted;
+    pub table-put : (dentry : Dentry) (after : ℕ → ℕ) (total_after most : ℕ)
+        → ((q : ℕ) → after q + times q held ≡ count q + times q (named key.0 dentry.target))
+        → total_after + length held ≡ total + length (named key.0 dentry.target) → capacity ≤ most
+        → IsNameTable (put_name slots key (Some dentry)) after total_after most
+    table-put dentry after total_after most swapped as_many fits = record {
+      sorted = sorted-put slots key (Some dentry) t.sorted;
       named = λ q.
-          let new : times q (nodes_of_name (r.entry.0, Some binding)) ≡ times q (named key.0 binding.target) =
-          ap (λ (p : Place). times q (named p.0 binding.target)) (sym key_is) in
-          let set_at = sum_by-set (λ s. times q (nodes_of_name s)) slots place (r.entry.0, Some binding) r.entry r.bound in
+          let new : times q (nodes_of_name (r.entry.0, Some dentry)) ≡ times q (named key.0 dentry.target) =
+          ap (λ (p : Place). times q (named p.0 dentry.target)) (sym key_is) in
+          let set_at = sum_by-set (λ s. times q (nodes_of_name s)) slots place (r.entry.0, Some dentry) r.entry r.bound in
           let here = ap (times q) held_is in
           let was = t.named q in
           let now = swapped q in
-          let is = ap (uses q) (put_there (Some binding)) in
+          let is = ap (uses q) (put_there (Some dentry)) in
           omega arith;
       many =
-          let new : length (nodes_of_name (r.entry.0, Some binding)) ≡ length (named key.0 binding.target) =
-          ap (λ (p : Place). length (named p.0 binding.target)) (sym key_is) in
-          let set_at = sum_by-set (λ s. length (nodes_of_name s)) slots place (r.entry.0, Some binding) r.entry r.bound in
+          let new : length (nodes_of_name (r.entry.0, Some dentry)) ≡ length (named key.0 dentry.target) =
+          ap (λ (p : Place). length (named p.0 dentry.target)) (sym key_is) in
+          let set_at = sum_by-set (λ s. length (nodes_of_name s)) slots place (r.entry.0, Some dentry) r.entry r.bound in
           let here = ap length held_is in
           let was = t.many in
-          let is = ap mentions (put_there (Some binding)) in
+          let is = ap mentions (put_there (Some dentry)) in
           omega arith;
       room =
-          let same : length (put_name slots key (Some binding)) ≡ length slots =
-          ap length (sym (put_there (Some binding))) ∙ length-set slots place (r.entry.0, Some binding) in
+          let same : length (put_name slots key (Some dentry)) ≡ length slots =
+          ap length (sym (put_there (Some dentry))) ∙ length-set slots place (r.entry.0, Some dentry) in
           let room = t.room in
           omega arith;
     }
@@ -159,7 +159,7 @@ module _ {slots : Slots} {key : Place} {place : ℕ} (r : EntryOf slots key plac
       }
 
 -- a name that is found has its entry
-module _ (slots : Slots) (key : Place) (slot : Option Binding) (h : T (is_sorted place_cmp slots))
+module _ (slots : Slots) (key : Place) (slot : Option Dentry) (h : T (is_sorted place_cmp slots))
     (is : get_name slots key ≡ Some slot) where
   abbrev its_place : ℕ
   its_place = place_among place_cmp key slots
@@ -167,13 +167,13 @@ module _ (slots : Slots) (key : Place) (slot : Option Binding) (h : T (is_sorted
   pub entry_there : (r : EntryOf slots key its_place) × (r.entry.1 ≡ slot)
   entry_there = by (slice_get slots its_place) refl (sym (found_is place_cmp place_total key slots h) ∙ is)
     where
-      within : (e : Place × Option Binding) → slice_get slots its_place ≡ Some e → its_place < length slots
+      within : (e : Place × Option Dentry) → slice_get slots its_place ≡ Some e → its_place < length slots
       within e at = elim (cases_lt its_place (length slots)) as (λ _. its_place < length slots) [
         | inl lt ↦ lt
         | inr le ↦ absurd (none-some e (sym (slice_get_past slots its_place le) ∙ at))
       ]
 
-      at_entry : (e : Place × Option Binding) → slice_get slots its_place ≡ Some e → (b : Bool)
+      at_entry : (e : Place × Option Dentry) → slice_get slots its_place ≡ Some e → (b : Bool)
           → is_eq (place_cmp key e.0) ≡ b → cond b (Some e.1) None ≡ Some slot
           → (r : EntryOf slots key its_place) × (r.entry.1 ≡ slot)
       at_entry e at true t f = (
@@ -182,7 +182,7 @@ module _ (slots : Slots) (key : Place) (slot : Option Binding) (h : T (is_sorted
       )
       at_entry e at false t f = absurd (none-some slot f)
 
-      by : (o : Option (Place × Option Binding)) → slice_get slots its_place ≡ o
+      by : (o : Option (Place × Option Dentry)) → slice_get slots its_place ≡ o
           → found place_cmp place_total key o ≡ Some slot → (r : EntryOf slots key its_place) × (r.entry.1 ≡ slot)
       by None at f = absurd (none-some slot f)
       by (Some e) at f = at_entry e at (is_eq (place_cmp key e.0)) refl f
@@ -190,7 +190,7 @@ module _ (slots : Slots) (key : Place) (slot : Option Binding) (h : T (is_sorted
 -- ---- through a write and a removal under a name
 
 module _ {slots : Slots} {count : ℕ → ℕ} {total capacity : ℕ} (key : Place) where
-  module _ (slot : Option Binding) (t : IsNameTable slots count total capacity) (is : get_name slots key ≡ Some slot) where
+  module _ (slot : Option Dentry) (t : IsNameTable slots count total capacity) (is : get_name slots key ≡ Some slot) where
     r : EntryOf slots key (its_place slots key slot t.sorted is)
     r = (entry_there slots key slot t.sorted is).0
 
@@ -199,28 +199,28 @@ module _ {slots : Slots} {count : ℕ → ℕ} {total capacity : ℕ} (key : Pla
     slot_is = (entry_there slots key slot t.sorted is).1
 
     slot_among : (q : ℕ) → times q (named_by key.0 slot) ≤ count q
-    slot_among q = subst (λ (b : Option Binding). times q (named_by key.0 b) ≤ count q) slot_is (held_among r t q)
+    slot_among q = subst (λ (b : Option Dentry). times q (named_by key.0 b) ≤ count q) slot_is (held_among r t q)
 
     slot_room : total + 2 ≤ capacity + length (named_by key.0 slot)
-    slot_room = subst (λ (b : Option Binding). total + 2 ≤ capacity + length (named_by key.0 b)) slot_is (room_held r t)
+    slot_room = subst (λ (b : Option Dentry). total + 2 ≤ capacity + length (named_by key.0 b)) slot_is (room_held r t)
 
-    slot-with : (binding : Binding) (after : ℕ → ℕ) (total_after most : ℕ)
-        → ((q : ℕ) → after q + times q (named_by key.0 slot) ≡ count q + times q (named key.0 binding.target))
-        → total_after + length (named_by key.0 slot) ≡ total + length (named key.0 binding.target) → capacity ≤ most
-        → IsNameTable (put_name slots key (Some binding)) after total_after most
-    slot-with binding after total_after most swapped as_many fits =
-        table-put r t binding after total_after most
-        (subst (λ (b : Option Binding). (q : ℕ) → after q + times q (named_by key.0 b)
-        ≡ count q + times q (named key.0 binding.target)) (sym slot_is) swapped)
-        (subst (λ (b : Option Binding). total_after + length (named_by key.0 b)
-        ≡ total + length (named key.0 binding.target)) (sym slot_is) as_many)
+    slot-with : (dentry : Dentry) (after : ℕ → ℕ) (total_after most : ℕ)
+        → ((q : ℕ) → after q + times q (named_by key.0 slot) ≡ count q + times q (named key.0 dentry.target))
+        → total_after + length (named_by key.0 slot) ≡ total + length (named key.0 dentry.target) → capacity ≤ most
+        → IsNameTable (put_name slots key (Some dentry)) after total_after most
+    slot-with dentry after total_after most swapped as_many fits =
+        table-put r t dentry after total_after most
+        (subst (λ (b : Option Dentry). (q : ℕ) → after q + times q (named_by key.0 b)
+        ≡ count q + times q (named key.0 dentry.target)) (sym slot_is) swapped)
+        (subst (λ (b : Option Dentry). total_after + length (named_by key.0 b)
+        ≡ total + length (named key.0 dentry.target)) (sym slot_is) as_many)
         fits
 
   module _ (t : IsNameTable slots count total capacity) where
     pub bound_among : (q : ℕ) → times q (named_by key.0 (bound_in (get_name slots key))) ≤ count q
     bound_among q = by (get_name slots key) refl
       where
-        by : (o : Option (Option Binding)) → get_name slots key ≡ o → times q (named_by key.0 (bound_in o)) ≤ count q
+        by : (o : Option (Option Dentry)) → get_name slots key ≡ o → times q (named_by key.0 (bound_in o)) ≤ count q
         by None e = omega arith
         by (Some slot) e = slot_among slot t e q
 
@@ -229,26 +229,26 @@ module _ {slots : Slots} {count : ℕ → ℕ} {total capacity : ℕ} (key : Pla
       pub room_bound : total + 2 ≤ capacity + length (named_by key.0 (bound_in (get_name slots key)))
       room_bound = by (get_name slots key) refl
         where
-          by : (o : Option (Option Binding)) → get_name slots key ≡ o
+          by : (o : Option (Option Dentry)) → get_name slots key ≡ o
               → total + 2 ≤ capacity + length (named_by key.0 (bound_in o))
           by None e = absurd (subst T (sym there ∙ ap is_some e) tt)
           by (Some slot) e = slot_room slot t e
 
-      pub table-with : (binding : Binding) (after : ℕ → ℕ) (total_after most : ℕ)
+      pub table-with : (dentry : Dentry) (after : ℕ → ℕ) (total_after most : ℕ)
           → ((q : ℕ) → after q + times q (named_by key.0 (bound_in (get_name slots key)))
-          ≡ count q + times q (named key.0 binding.target))
+          ≡ count q + times q (named key.0 dentry.target))
           → total_after + length (named_by key.0 (bound_in (get_name slots key)))
-          ≡ total + length (named key.0 binding.target) → capacity ≤ most
-          → IsNameTable (put_name slots key (Some binding)) after total_after most
-      table-with binding after total_after most swapped as_many fits = by (get_name slots key) refl swapped as_many
+          ≡ total + length (named key.0 dentry.target) → capacity ≤ most
+          → IsNameTable (put_name slots key (Some dentry)) after total_after most
+      table-with dentry after total_after most swapped as_many fits = by (get_name slots key) refl swapped as_many
         where
-          by : (o : Option (Option Binding)) → get_name slots key ≡ o
+          by : (o : Option (Option Dentry)) → get_name slots key ≡ o
               → ((q : ℕ) → after q + times q (named_by key.0 (bound_in o))
-              ≡ count q + times q (named key.0 binding.target))
-              → total_after + length (named_by key.0 (bound_in o)) ≡ total + length (named key.0 binding.target)
-              → IsNameTable (put_name slots key (Some binding)) after total_after most
+              ≡ count q + times q (named key.0 dentry.target))
+              → total_after + length (named_by key.0 (bound_in o)) ≡ total + length (named key.0 dentry.target)
+              → IsNameTable (put_name slots key (Some dentry)) after total_after most
           by None e swapped as_many = absurd (subst T (sym there ∙ ap is_some e) tt)
-          by (Some slot) e swapped as_many = slot-with slot t e binding after total_after most swapped as_many fits
+          by (Some slot) e swapped as_many = slot-with slot t e dentry after total_after most swapped as_many fits
 
     pub table-without : (left : ℕ → ℕ) (total_left most : ℕ)
         → ((q : ℕ) → left q + times q (named_by key.0 (bound_in (get_name slots key))) ≡ count q)
@@ -256,7 +256,7 @@ module _ {slots : Slots} {count : ℕ → ℕ} {total capacity : ℕ} (key : Pla
         → IsNameTable (remove_name slots key) left total_left most
     table-without left total_left most gone fewer fits = by (get_name slots key) refl gone fewer
       where
-        by : (o : Option (Option Binding)) → get_name slots key ≡ o
+        by : (o : Option (Option Dentry)) → get_name slots key ≡ o
             → ((q : ℕ) → left q + times q (named_by key.0 (bound_in o)) ≡ count q)
             → total_left + length (named_by key.0 (bound_in o)) ≡ total
             → IsNameTable (remove_name slots key) left total_left most
@@ -269,9 +269,9 @@ module _ {slots : Slots} {count : ℕ → ℕ} {total capacity : ℕ} (key : Pla
             })
         by (Some slot) e gone fewer =
             table-remove (r slot t e) t left total_left most
-            (subst (λ (b : Option Binding). (q : ℕ) → left q + times q (named_by key.0 b) ≡ count q)
+            (subst (λ (b : Option Dentry). (q : ℕ) → left q + times q (named_by key.0 b) ≡ count q)
             (sym (slot_is slot t e)) gone)
-            (subst (λ (b : Option Binding). total_left + length (named_by key.0 b) ≡ total)
+            (subst (λ (b : Option Dentry). total_left + length (named_by key.0 b) ≡ total)
             (sym (slot_is slot t e)) fewer)
             fits
 

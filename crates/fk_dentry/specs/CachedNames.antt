@@ -2,8 +2,8 @@
 use Rattle.std.specs.Prelude.{ℕ, Bool, ◌||◌, Option, Some, None, IsSome, nat_eq, refl}
 use Rattle.std.specs.Coded.{Coded, code_by, coded×, coded_ℕ, coded_list, coded_option}
 use Rattle.std.specs.List.{list_any}
-use Rattle.fuse_spec.specs.declared.Binding.{Binding}
-use Rattle.fuse_spec.specs.contracts.Binding.{the_row}
+use Rattle.fuse_spec.specs.declared.Dentry.{Dentry}
+use Rattle.fuse_spec.specs.contracts.Dentry.{the_row}
 use Rattle.fuse_spec.specs.Values.Maps.{Place, NameMap, get_name}
 use Rattle.fuse_spec.specs.Kernel.Kernel.{leads_to}
 use Rattle.fk_dentry.specs.declared.found.Found.{Found}
@@ -11,21 +11,21 @@ use Rattle.fk_dentry.specs.declared.found.Found.TheVariants.{Node, Missing, Unkn
 
 -- The names that are bound; and each name that has room, with its binding if it has one.
 pub record NamesInForce : Type 0 where
-  pub names : NameMap Binding
-  pub slots : NameMap (Option Binding)
+  pub names : NameMap Dentry
+  pub slots : NameMap (Option Dentry)
 
 abbrev place_code : Coded Place
 place_code = coded× coded_ℕ (coded_list coded_ℕ)
 
-abbrev binding_code : Coded Binding
-binding_code = the_row.coded
+abbrev dentry_code : Coded Dentry
+dentry_code = the_row.coded
 
 -- the names are stored as the pair of these fields
 abbrev pub names_code : Coded NamesInForce
 names_code =
     code_by
-    (NameMap Binding × NameMap (Option Binding))
-    (coded× (coded_list (coded× place_code binding_code)) (coded_list (coded× place_code (coded_option binding_code))))
+    (NameMap Dentry × NameMap (Option Dentry))
+    (coded× (coded_list (coded× place_code dentry_code)) (coded_list (coded× place_code (coded_option dentry_code))))
     (λ n. (n.names, n.slots))
     (λ p. record { names = p.0; slots = p.1 })
     (λ _. refl)
@@ -41,5 +41,5 @@ found_by (Some None) = Missing
 found_by (Some (Some node)) = Node node
 
 -- A binding stands in the node or leads to it.
-abbrev pub names_the_node : ℕ → NameMap Binding → Bool
-names_the_node node names = list_any (λ (e : Place × Binding). nat_eq e.0.0 node || leads_to node e.1.target) names
+abbrev pub names_the_node : ℕ → NameMap Dentry → Bool
+names_the_node node names = list_any (λ (e : Place × Dentry). nat_eq e.0.0 node || leads_to node e.1.target) names

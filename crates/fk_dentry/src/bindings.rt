@@ -8,7 +8,7 @@ use crate::found::Found;
 use crate::key::NameKey;
 use crate::node_counts::NodeCounts;
 use crate::rows::{Rows, add, bind, slot, take_out};
-use fuse_spec::Binding;
+use fuse_spec::Dentry;
 use indexmap::IndexMap;
 use std::alloc::{AllocError, Allocator, Global};
 use std::marker::Model;
@@ -71,7 +71,7 @@ impl<A: Allocator + Copy> Bindings<A> {
         ensures { result ≡ found_by (valid_at now (get_name self.now.names (directory, name.now))) }
     {
         match self.bound(directory, name) {
-            Some(binding) if now < binding.until => match binding.target {
+            Some(dentry) if now < dentry.until => match dentry.target {
                 None => Found::Missing,
                 Some(node) => Found::Node(node),
             },
@@ -80,7 +80,7 @@ impl<A: Allocator + Copy> Bindings<A> {
     }
 
     /// What a name is bound to, also after its end.
-    fn bound(&self, directory: u64, name: &[u8]) -> Option<Binding>
+    fn bound(&self, directory: u64, name: &[u8]) -> Option<Dentry>
         ensures { result ≡ get_name self.now.names (directory, name.now) }
     {
         slot(&self.rows, directory, name)?
@@ -119,16 +119,16 @@ impl<A: Allocator + Copy> Bindings<A> {
             (record { target = target; until = until }) }
         ensures kept { (other : Place) → HasRoom self.old other → HasRoom self.new other }
     {
-        self.set(directory, name, Binding { target, until });
+        self.set(directory, name, Dentry { target, until });
     }
 
-    fn set(&mut self, directory: u64, name: &[u8], binding: Binding)
+    fn set(&mut self, directory: u64, name: &[u8], dentry: Dentry)
         requires { HasRoom self.old (directory, name.now) }
-        ensures names { self.new.names ≡ put_name self.old.names (directory, name.now) binding }
+        ensures names { self.new.names ≡ put_name self.old.names (directory, name.now) dentry }
         ensures kept { (other : Place) → HasRoom self.old other → HasRoom self.new other }
     {
-        let old = bind(&mut self.rows, directory, name, binding);
-        self.nodes.replace(directory, old, binding.target);
+        let old = bind(&mut self.rows, directory, name, dentry);
+        self.nodes.replace(directory, old, dentry.target);
     }
 
     /// Removes the binding of a name and its room. Says whether it was bound, also after its end.
@@ -141,15 +141,15 @@ impl<A: Allocator + Copy> Bindings<A> {
         self.take_out(directory, name).is_some()
     }
 
-    fn take_out(&mut self, directory: u64, name: &[u8]) -> Option<Binding>
+    fn take_out(&mut self, directory: u64, name: &[u8]) -> Option<Dentry>
         ensures bound { result ≡ get_name self.old.names (directory, name.now) }
         ensures names { self.new.names ≡ remove_name self.old.names (directory, name.now) }
         ensures kept { (other : Place) → other ≢ (directory, name.now) → HasRoom self.old other
             → HasRoom self.new other }
     {
-        let binding = take_out(&mut self.rows, directory, name);
-        self.nodes.leave(directory, binding);
-        binding
+        let dentry = take_out(&mut self.rows, directory, name);
+        self.nodes.leave(directory, dentry);
+        dentry
     }
 
     /// Removes all bindings, and their room.

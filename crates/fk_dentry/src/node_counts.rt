@@ -4,7 +4,7 @@ ghost use Rattle.indexmap.specs.IndexMap.{spare};
 ghost use Rattle.fk_dentry.specs.Counts.{weight, mentions_of, total_in};
 ghost use Rattle.fk_dentry.specs.Named.{times, named, named_by};
 
-use fuse_spec::Binding;
+use fuse_spec::Dentry;
 use indexmap::IndexMap;
 use std::alloc::{AllocError, Allocator};
 use std::hash::{BuildHasherDefault, FoldHasher};
@@ -106,7 +106,7 @@ impl<A: Allocator + Copy> NodeCounts<A> {
     }
 
     /// A binding replaces another, if there was one.
-    pub fn replace(&mut self, directory: u64, old: Option<Binding>, target: Option<u64>)
+    pub fn replace(&mut self, directory: u64, old: Option<Dentry>, target: Option<u64>)
         requires named { (q : ℕ) → times q (named_by directory old) ≤ mentions_of self.old.counts.entries q }
         requires room { total_in self.old.counts.entries + 2 ≤ self.old.most + length (named_by directory old) }
         ensures count { (q : ℕ) → mentions_of self.new.counts.entries q + times q (named_by directory old)
@@ -139,19 +139,19 @@ impl<A: Allocator + Copy> NodeCounts<A> {
     }
 
     /// A binding is gone, if there was one.
-    pub fn leave(&mut self, directory: u64, binding: Option<Binding>)
-        requires { (q : ℕ) → times q (named_by directory binding) ≤ mentions_of self.old.counts.entries q }
-        ensures count { (q : ℕ) → mentions_of self.new.counts.entries q + times q (named_by directory binding)
+    pub fn leave(&mut self, directory: u64, dentry: Option<Dentry>)
+        requires { (q : ℕ) → times q (named_by directory dentry) ≤ mentions_of self.old.counts.entries q }
+        ensures count { (q : ℕ) → mentions_of self.new.counts.entries q + times q (named_by directory dentry)
             ≡ mentions_of self.old.counts.entries q }
-        ensures total { total_in self.new.counts.entries + length (named_by directory binding)
+        ensures total { total_in self.new.counts.entries + length (named_by directory dentry)
             ≡ total_in self.old.counts.entries }
         ensures most { self.new.most ≡ self.old.most }
     {
-        let Some(binding) = binding else {
+        let Some(dentry) = dentry else {
             return;
         };
         self.remove(directory);
-        let Some(id) = binding.target else {
+        let Some(id) = dentry.target else {
             return;
         };
         self.remove(id);
@@ -199,11 +199,11 @@ fn copy_used<A: Allocator + Copy>(counts: &Counts<A>, copy: &mut Counts<A>)
 }
 
 /// Whether there is a binding, with this target.
-fn names_the_same(binding: Option<Binding>, target: Option<u64>) -> bool
-    ensures { IsTrue result → (directory : ℕ) → named_by directory binding ≡ named directory target }
+fn names_the_same(dentry: Option<Dentry>, target: Option<u64>) -> bool
+    ensures { IsTrue result → (directory : ℕ) → named_by directory dentry ≡ named directory target }
 {
-    let Some(binding) = binding else {
+    let Some(dentry) = dentry else {
         return false;
     };
-    binding.target == target
+    dentry.target == target
 }

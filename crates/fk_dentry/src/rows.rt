@@ -6,20 +6,20 @@ ghost use Rattle.fk_dentry.specs.Keys.{place_of_key};
 ghost use Rattle.fk_dentry.specs.Rows.{slots_of, bound_in};
 
 use crate::key::{LentKey, NameKey};
-use fuse_spec::Binding;
+use fuse_spec::Dentry;
 use indexmap::IndexMap;
 use std::alloc::Allocator;
 use std::hash::{BuildHasherDefault, FoldHasher};
 
 /// Each name that has room, with its binding if it has one.
-pub(crate) type Rows<A> = IndexMap<NameKey<A>, Option<Binding>, BuildHasherDefault<FoldHasher>, A>;
+pub(crate) type Rows<A> = IndexMap<NameKey<A>, Option<Dentry>, BuildHasherDefault<FoldHasher>, A>;
 
 /// What stands under a name that has room.
 pub(crate) fn slot<A: Allocator>(
     rows: &Rows<A>,
     directory: u64,
     name: &[u8],
-) -> Option<Option<Binding>>
+) -> Option<Option<Dentry>>
     ensures { result ≡ get_name (slots_of rows.now.entries) (directory, name.now) }
 {
     rows.get(LentKey { directory, name }).copied()
@@ -38,15 +38,15 @@ pub(crate) fn bind<A: Allocator>(
     rows: &mut Rows<A>,
     directory: u64,
     name: &[u8],
-    binding: Binding,
-) -> Option<Binding>
+    dentry: Dentry,
+) -> Option<Dentry>
     requires { IsSome (get_name (slots_of rows.old.entries) (directory, name.now)) }
     ensures old { result ≡ bound_in (get_name (slots_of rows.old.entries) (directory, name.now)) }
     ensures slots { slots_of rows.new.entries ≡ put_name (slots_of rows.old.entries) (directory, name.now)
-        (Some binding) }
+        (Some dentry) }
 {
     match rows.get_mut(LentKey { directory, name }) {
-        Some(slot) => slot.replace(binding),
+        Some(slot) => slot.replace(dentry),
         // Ruled out: the name has room.
         None => None,
     }
@@ -57,12 +57,12 @@ pub(crate) fn take_out<A: Allocator>(
     rows: &mut Rows<A>,
     directory: u64,
     name: &[u8],
-) -> Option<Binding>
-    ensures binding { result ≡ bound_in (get_name (slots_of rows.old.entries) (directory, name.now)) }
+) -> Option<Dentry>
+    ensures dentry { result ≡ bound_in (get_name (slots_of rows.old.entries) (directory, name.now)) }
     ensures slots { slots_of rows.new.entries ≡ remove_name (slots_of rows.old.entries) (directory, name.now) }
 {
     match rows.swap_remove(LentKey { directory, name }) {
-        Some(binding) => binding,
+        Some(dentry) => dentry,
         None => None,
     }
 }

@@ -97,8 +97,8 @@ refused_alike (Ok t) same is = tt
 refused_alike (Err e) same is = is ∙ sym same
 
 -- a call that is no close
-pub no_close : (made : Call) → ((handle : ℕ) → made ≡ Close handle → ⊥) → ClosesNone made
-no_close (Close handle) other = other handle refl
+pub no_close : (made : Call) → ((open_call : ℕ) → made ≡ Close open_call → ⊥) → ClosesNone made
+no_close (Close open_call) other = other open_call refl
 no_close (Stat path) other = tt
 no_close (Lists path after) other = tt
 no_close (ListPlus path after) other = tt
@@ -109,5 +109,5 @@ no_close (Unlink path) other = tt
 no_close (Rmdir path) other = tt
 no_close (Rename old new) other = tt
 no_close (Link old new) other = tt
-no_close (Read handle offset size) other = tt
-no_close (Write handle offset bytes) other = tt
+no_close (Read open_call offset size) other = tt
+no_close (Write open_call offset bytes) other = tt

@@ -83,8 +83,8 @@ none_agreed major minor flags operation goes = true≢false (sym goes)
 pub stays : (k : Kernel) (state : CallState Opened) → used_by state ≡ None → after_use k state ≡ k
 stays k (walking d w ws p) none = refl
 stays k (doing operation) none = refl
-stays k (using handle operation) none =
-    let no : ◌≡◌ {A = Option ℕ} (Some handle) None = none in
+stays k (using open_call operation) none =
+    let no : ◌≡◌ {A = Option ℕ} (Some open_call) None = none in
     cc
 
 unused : (operation : Operation ℕ Opened) (state : CallState Opened) → state ≡ doing operation → used_by state ≡ None
@@ -116,25 +116,25 @@ closes_none opens (Unlink path) is = refl
 closes_none opens (Rmdir path) is = refl
 closes_none opens (Rename old new) is = refl
 closes_none opens (Link old new) is = refl
-closes_none opens (Read handle offset size) is = refl
-closes_none opens (Write handle offset bytes) is = refl
-closes_none opens (Close handle) is = absurd is
+closes_none opens (Read open_call offset size) is = refl
+closes_none opens (Write open_call offset bytes) is = refl
+closes_none opens (Close open_call) is = absurd is
 
 -- What an unanswered call is, and what it uses.
 pub some_state : (o : Option (CallState Opened)) → is_some o ≡ true → (state : CallState Opened) × (o ≡ Some state)
 some_state None is = absurd (true≢false (sym is))
 some_state (Some state) is = (state, refl)
 
-pub using_of : (state : CallState Opened) (handle : ℕ) → used_by state ≡ Some handle
-    → (operation : Operation ℕ Opened) × (state ≡ using handle operation)
-using_of (walking d w ws p) handle is =
-    let no : ◌≡◌ {A = Option ℕ} None (Some handle) = is in
+pub using_of : (state : CallState Opened) (open_call : ℕ) → used_by state ≡ Some open_call
+    → (operation : Operation ℕ Opened) × (state ≡ using open_call operation)
+using_of (walking d w ws p) open_call is =
+    let no : ◌≡◌ {A = Option ℕ} None (Some open_call) = is in
     cc
-using_of (doing operation) handle is =
-    let no : ◌≡◌ {A = Option ℕ} None (Some handle) = is in
+using_of (doing operation) open_call is =
+    let no : ◌≡◌ {A = Option ℕ} None (Some open_call) = is in
     cc
-using_of (using other operation) handle is =
-    let same : other ≡ handle = cc is in
+using_of (using other operation) open_call is =
+    let same : other ≡ open_call = cc is in
     (operation, ap (λ (h : ℕ). using h operation) same)
 
 pub makes_place : (operation : Operation ℕ Opened) (place : Place) → MakesName operation place
@@ -142,14 +142,14 @@ pub makes_place : (operation : Operation ℕ Opened) (place : Place) → MakesNa
 makes_place operation place (mkdirs d n) = refl
 makes_place operation place (links x d n) = refl
 
-pub uses_there : (o : Option (CallState Opened)) (r : Option ℕ) (handle : ℕ) → r ≡ Some handle → (o ≡ None → r ≡ None)
+pub uses_there : (o : Option (CallState Opened)) (r : Option ℕ) (open_call : ℕ) → r ≡ Some open_call → (o ≡ None → r ≡ None)
     → ((state : CallState Opened) → o ≡ Some state → r ≡ used_by state)
-    → (operation : Operation ℕ Opened) × (o ≡ Some (using handle operation))
-uses_there None r handle is none used =
-    let no : ◌≡◌ {A = Option ℕ} (Some handle) None = sym is ∙ none refl in
+    → (operation : Operation ℕ Opened) × (o ≡ Some (using open_call operation))
+uses_there None r open_call is none used =
+    let no : ◌≡◌ {A = Option ℕ} (Some open_call) None = sym is ∙ none refl in
     cc
-uses_there (Some state) r handle is none used =
-    let u = using_of state handle (sym (used state refl) ∙ is) in
+uses_there (Some state) r open_call is none used =
+    let u = using_of state open_call (sym (used state refl) ∙ is) in
     (u.0, ap Some u.1)
 
 pub not_true : (b : Bool) → not b ≡ true → b ≡ false

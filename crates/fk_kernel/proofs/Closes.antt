@@ -55,37 +55,37 @@ gone_put {V} (e ∷ m) k v none = by (λ rest. gone_put m k v rest) (nat_cmp k e
 
 -- The side of the system calls once the file is closed.
 abbrev pub shut : Vfs Opened → ℕ → Vfs Opened
-shut c handle = answered (record (numbered c) { opens = remove c.opens handle }) c.next_call answer.done
+shut c open_call = answered (record (numbered c) { opens = remove c.opens open_call }) c.next_call answer.done
 
-module _ (k : Kernel) (handle : ℕ) (file : Opened) (going : is_aborted k.phase ≡ false)
-    (is_open : get k.vfs.opens handle ≡ Some file) (none : get k.closing handle ≡ None)
+module _ (k : Kernel) (open_call : ℕ) (file : Opened) (going : is_aborted k.phase ≡ false)
+    (is_open : get k.vfs.opens open_call ≡ Some file) (none : get k.closing open_call ≡ None)
     (fresh : get k.vfs.calls k.vfs.next_call ≡ None) where
   abbrev after : Kernel
-  after = record k { vfs = shut k.vfs handle; closing = put k.closing handle file }
+  after = record k { vfs = shut k.vfs open_call; closing = put k.closing open_call file }
 
-  closes : call_begun k (call.close handle) ≡ closed (record k { vfs = shut k.vfs handle }) handle (Some file)
+  closes : call_begun k (call.close open_call) ≡ closed (record k { vfs = shut k.vfs open_call }) open_call (Some file)
   closes = rw (going, is_open) refl
 
-  lets_go : closed (record k { vfs = shut k.vfs handle }) handle (Some file) ≡ released after handle (Some file)
-  lets_go = ap (released after handle) (get_put_here k.closing handle file)
+  lets_go : closed (record k { vfs = shut k.vfs open_call }) open_call (Some file) ≡ released after open_call (Some file)
+  lets_go = ap (released after open_call) (get_put_here k.closing open_call file)
 
-  same_use : is_used after handle ≡ is_used k handle
-  same_use = ap (λ calls. list_any (is_using handle) (values calls)) (gone_absent k.vfs.calls k.vfs.next_call fresh)
+  same_use : is_used after open_call ≡ is_used k open_call
+  same_use = ap (λ calls. list_any (is_using open_call) (values calls)) (gone_absent k.vfs.calls k.vfs.next_call fresh)
 
-  pub closes_idle : is_used k handle ≡ false → call_begun k (call.close handle)
-      ≡ record k { vfs = shut k.vfs handle; queues = after_enqueue k.queues (Release file) }
+  pub closes_idle : is_used k open_call ≡ false → call_begun k (call.close open_call)
+      ≡ record k { vfs = shut k.vfs open_call; queues = after_enqueue k.queues (Release file) }
   closes_idle idle =
       closes ∙ lets_go ∙ ap (λ (b : Bool). record after {
-        closing = cond b after.closing (remove after.closing handle);
+        closing = cond b after.closing (remove after.closing open_call);
         queues = cond b k.queues (after_enqueue k.queues (Release file));
       }) (same_use ∙ idle)
       ∙ ap (λ (m : Map Opened). record after { closing = m; queues = after_enqueue k.queues (Release file) })
-      (gone_put k.closing handle file none)
+      (gone_put k.closing open_call file none)
 
-  pub closes_in_use : is_used k handle ≡ true → call_begun k (call.close handle) ≡ after
+  pub closes_in_use : is_used k open_call ≡ true → call_begun k (call.close open_call) ≡ after
   closes_in_use used =
       closes ∙ lets_go ∙ ap (λ (b : Bool). record after {
-        closing = cond b after.closing (remove after.closing handle);
+        closing = cond b after.closing (remove after.closing open_call);
         queues = cond b k.queues (after_enqueue k.queues (Release file));
       }) (same_use ∙ used)
 
@@ -94,36 +94,36 @@ module _ (k : Kernel) (handle : ℕ) (file : Opened) (going : is_aborted k.phase
     full : nat_le 64 (length k.vfs.calls) ≡ false
     full = grind (arith, nat_tests, few)
 
-    pub idle_refusal : is_used k handle ≡ false → or_no_memory (begun_refusal k (call.close handle))
+    pub idle_refusal : is_used k open_call ≡ false → or_no_memory (begun_refusal k (call.close open_call))
         ≡ cond (nat_eq (numbers_left_from k.queues.next) 0) Exhausted NoMemory
     idle_refusal idle = by_tests _ _ _ _ ready full (ap is_kernel_past_end
         (closes_idle idle) ∙ past_end k.queues.next k.vfs.next_call low)
 
-    pub used_unrefused : is_used k handle ≡ true → k.queues.next ≤ 2 ^ 62 → begun_refusal k (call.close handle) ≡ None
+    pub used_unrefused : is_used k open_call ≡ true → k.queues.next ≤ 2 ^ 62 → begun_refusal k (call.close open_call) ≡ None
     used_unrefused used high = unrefused _ _ _ ready full
         (ap is_kernel_past_end (closes_in_use used) ∙ none_past_end k.queues.next (k.vfs.next_call + 1) high (omega arith))
 
 -- a closed file that is used waits, and one that is not is let go
-module _ (k : Kernel) (handle : ℕ) where
+module _ (k : Kernel) (open_call : ℕ) where
   abbrev by_use : Bool → Opened → Kernel
   by_use b opened = record k {
-    closing = cond b k.closing (remove k.closing handle);
+    closing = cond b k.closing (remove k.closing open_call);
     queues = cond b k.queues (after_enqueue k.queues (Release opened));
   }
 
-  pub released_used : is_used k handle ≡ true → released_if_idle k handle ≡ k
-  released_used used = by (get k.closing handle)
+  pub released_used : is_used k open_call ≡ true → released_if_idle k open_call ≡ k
+  released_used used = by (get k.closing open_call)
     where
-      by : (o : Option Opened) → released k handle o ≡ k
+      by : (o : Option Opened) → released k open_call o ≡ k
       by None = refl
       by (Some opened) = ap (λ (b : Bool). by_use b opened) used
 
-  pub released_none : get k.closing handle ≡ None → released_if_idle k handle ≡ k
-  released_none none = ap (released k handle) none
+  pub released_none : get k.closing open_call ≡ None → released_if_idle k open_call ≡ k
+  released_none none = ap (released k open_call) none
 
-  pub released_some : (opened : Opened) → get k.closing handle ≡ Some opened → is_used k handle ≡ false
-      → released_if_idle k handle ≡ record k {
-        closing = remove k.closing handle;
+  pub released_some : (opened : Opened) → get k.closing open_call ≡ Some opened → is_used k open_call ≡ false
+      → released_if_idle k open_call ≡ record k {
+        closing = remove k.closing open_call;
         queues = after_enqueue k.queues (Release opened);
       }
-  released_some opened at idle = ap (released k handle) at ∙ ap (λ (b : Bool). by_use b opened) idle
+  released_some opened at idle = ap (released k open_call) at ∙ ap (λ (b : Bool). by_use b opened) idle

@@ -22,7 +22,7 @@ use Rattle.fk_syscalls.specs.States.{StandsAt}
 use Rattle.fk_kernel.specs.Entries.{Awaits, EndsWithin, mkdirs, links}
 use Rattle.fuse_spec.specs.Kernel.Refusals.{is_kernel_past_end}
 use Rattle.fuse_frames.specs.declared.reply.Reply.TheVariants as said
-use Rattle.fuse_frames.specs.ReplySaid.{LentReply, lent_wire_of}
+use Rattle.fuse_frames.specs.ReplyDecoding.{LentReply, lent_wire_of}
 use Rattle.fk_kernel.proofs.Phases.{none_past_end, within_ends}
 use Rattle.fk_kernel.proofs.CallStates.{LooksNone, makes_found, none_agreed}
 use Rattle.fk_kernel.proofs.Walking.{asks_within, walk_numbers}
@@ -39,21 +39,21 @@ Keeps r = is_kernel_past_end r.1 ≡ false
 module _ (k : Kernel) (unique call : ℕ) (even : nat_eq (unique % 2) 1 ≡ false)
     (waits : waiting k.queues unique ≡ Some (Call call)) (same : is_kernel_past_end k ≡ false) where
   module _ (ends : EndsWithin k call) where
-    let_go : (handle : ℕ) (operation : Operation ℕ Opened) (a : answer.Answer)
-        → get k.vfs.calls call ≡ Some (using handle operation) → (o : Option Opened) → get k.closing handle ≡ o
-        → is_kernel_past_end (released (ended k unique k.vfs call a) handle o) ≡ false
-    let_go handle operation a at None closed = same
-    let_go handle operation a at (Some file) closed = by (is_used (ended k unique k.vfs call a) handle) refl
+    let_go : (open_call : ℕ) (operation : Operation ℕ Opened) (a : answer.Answer)
+        → get k.vfs.calls call ≡ Some (using open_call operation) → (o : Option Opened) → get k.closing open_call ≡ o
+        → is_kernel_past_end (released (ended k unique k.vfs call a) open_call o) ≡ false
+    let_go open_call operation a at None closed = same
+    let_go open_call operation a at (Some file) closed = by (is_used (ended k unique k.vfs call a) open_call) refl
       where
-        by : (b : Bool) → is_used (ended k unique k.vfs call a) handle ≡ b
+        by : (b : Bool) → is_used (ended k unique k.vfs call a) open_call ≡ b
             → is_kernel_past_end (record (ended k unique k.vfs call a) {
-              closing = cond b k.closing (remove k.closing handle);
+              closing = cond b k.closing (remove k.closing open_call);
               queues = cond b (ended k unique k.vfs call a).queues
                   (after_enqueue (ended k unique k.vfs call a).queues (Release file));
             }) ≡ false
         by true used = same
         by false idle =
-            let left : 0 < numbers_left_from k.queues.next = ends handle operation at (ap is_some closed) idle in
+            let left : 0 < numbers_left_from k.queues.next = ends open_call operation at (ap is_some closed) idle in
             none_past_end (k.queues.next + 2) k.vfs.next_call (omega (arith, left))
             (within_ends k.queues.next k.vfs.next_call same).1
 
@@ -61,7 +61,7 @@ module _ (k : Kernel) (unique call : ℕ) (even : nat_eq (unique % 2) 1 ≡ fals
         → is_kernel_past_end (after_use (ended k unique k.vfs call a) state) ≡ false
     use_within (walking d w ws p) a at = same
     use_within (doing operation) a at = same
-    use_within (using handle operation) a at = let_go handle operation a at (get k.closing handle) refl
+    use_within (using open_call operation) a at = let_go open_call operation a at (get k.closing open_call) refl
 
     -- a body that does not go with what was asked
     pub wrong_within : (state : CallState Opened) → get k.vfs.calls call ≡ Some state → (wire : WireReply)
@@ -157,10 +157,10 @@ module _ (k : Kernel) (unique call : ℕ) (even : nat_eq (unique % 2) 1 ≡ fals
         (made_found k unique call even waits m.operation m.place m.makes (aw.at ∙ m.is) g valid is) ∙ same
 
 -- What was made of a reply that is no entry alone.
-pub no_entry_said : (s : LentReply) → ((g : Entry) (valid : ℕ) → s ≡ said.Found g valid → ⊥) → IsNoEntry (lent_wire_of s)
+pub no_entry_said : (s : LentReply) → ((g : Entry) (valid : ℕ) → s ≡ said.Entry g valid → ⊥) → IsNoEntry (lent_wire_of s)
 no_entry_said (said.Failed errno) other = tt
-no_entry_said (said.Missing valid) other = tt
-no_entry_said (said.Found g valid) other = absurd (other g valid refl)
+no_entry_said (said.Negative valid) other = tt
+no_entry_said (said.Entry g valid) other = absurd (other g valid refl)
 no_entry_said (said.Created g valid fh) other = tt
 no_entry_said (said.Opened fh) other = tt
 no_entry_said (said.Attributes a) other = tt

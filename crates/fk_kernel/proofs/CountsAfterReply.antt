@@ -29,14 +29,14 @@ use Rattle.fk_kernel.proofs.Replied.{goes_is, wrong_is, ended}
 
 -- ---- what leaves the counts as they are
 
-released_nodes : (k : Kernel) (handle : ℕ) (o : Option Opened) → (released k handle o).nodes ≡ k.nodes
-released_nodes k handle None = refl
-released_nodes k handle (Some opened) = refl
+released_nodes : (k : Kernel) (open_call : ℕ) (o : Option Opened) → (released k open_call o).nodes ≡ k.nodes
+released_nodes k open_call None = refl
+released_nodes k open_call (Some opened) = refl
 
 pub use_nodes : (k : Kernel) (state : CallState Opened) → (after_use k state).nodes ≡ k.nodes
 use_nodes k (walking d w ws p) = refl
 use_nodes k (doing operation) = refl
-use_nodes k (using handle operation) = released_nodes k handle (get k.closing handle)
+use_nodes k (using open_call operation) = released_nodes k open_call (get k.closing open_call)
 
 asking_nodes : (k : Kernel) (call : ℕ) (o : Option (Operation ℕ Opened)) → (asking_for k call o).nodes ≡ k.nodes
 asking_nodes k call None = refl

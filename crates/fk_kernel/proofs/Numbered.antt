@@ -23,18 +23,18 @@ begun_numbers false c call = by (beginning c.opens call)
     by : (b : Beginning ℕ Opened) → (after_beginning (numbered c) c.next_call b).vfs.next_call ≡ c.next_call + 1
     by (faulty errno) = refl
     by (sets_out words plan) = walk_numbers (numbered c) c.next_call c.root words plan
-    by (uses handle operation) = refl
-    by (closes handle opened) = refl
+    by (uses open_call operation) = refl
+    by (closes open_call opened) = refl
 
 asked_numbers : (k : Kernel) (call : ℕ) (operation : Option (Operation ℕ Opened))
     → (asking_for k call operation).vfs.next_call ≡ k.vfs.next_call
 asked_numbers k call None = refl
 asked_numbers k call (Some operation) = refl
 
-released_numbers : (k : Kernel) (handle : ℕ) (file : Option Opened)
-    → (released k handle file).vfs.next_call ≡ k.vfs.next_call
-released_numbers k handle None = refl
-released_numbers k handle (Some file) = refl
+released_numbers : (k : Kernel) (open_call : ℕ) (file : Option Opened)
+    → (released k open_call file).vfs.next_call ≡ k.vfs.next_call
+released_numbers k open_call None = refl
+released_numbers k open_call (Some file) = refl
 
 closed_numbers : (k : Kernel) (file : Option (ℕ × Opened)) → (closing_of k file).vfs.next_call ≡ k.vfs.next_call
 closed_numbers k None = refl

@@ -100,41 +100,41 @@ module _ {V : Type 0} (calls : Map V) (opens closing : Map Opened) (coming : ℕ
   }
 
   -- a file is open no longer
-  pub shut_files : (handle : ℕ) → AreFiles calls (remove opens handle) closing coming
-  shut_files handle = record {
-    opens_below = λ n le. gone_none opens handle n (old.opens_below n le);
+  pub shut_files : (open_call : ℕ) → AreFiles calls (remove opens open_call) closing coming
+  shut_files open_call = record {
+    opens_below = λ n le. gone_none opens open_call n (old.opens_below n le);
     closing_below = old.closing_below;
-    opens_apart = λ n there. gone_none opens handle n (old.opens_apart n there);
+    opens_apart = λ n there. gone_none opens open_call n (old.opens_apart n there);
     closing_apart = old.closing_apart;
-    closed_once = λ n there. old.closed_once n (λ none. there (gone_none opens handle n none));
+    closed_once = λ n there. old.closed_once n (λ none. there (gone_none opens open_call n none));
   }
 
   -- it is closed while it is used
-  pub closed_files : (handle : ℕ) (file : Opened) → get opens handle ≢ None
-      → AreFiles calls (remove opens handle) (put closing handle file) coming
-  closed_files handle file is_open = record {
-    opens_below = λ n le. gone_none opens handle n (old.opens_below n le);
-    closing_below = λ n le. get_put_there closing handle file n
+  pub closed_files : (open_call : ℕ) (file : Opened) → get opens open_call ≢ None
+      → AreFiles calls (remove opens open_call) (put closing open_call file) coming
+  closed_files open_call file is_open = record {
+    opens_below = λ n le. gone_none opens open_call n (old.opens_below n le);
+    closing_below = λ n le. get_put_there closing open_call file n
         (λ e. is_open (ap (λ (i : ℕ). get opens i) (sym e) ∙ old.opens_below n le)) ∙ old.closing_below n le;
-    opens_apart = λ n there. gone_none opens handle n (old.opens_apart n there);
-    closing_apart = λ n there. get_put_there closing handle file n
+    opens_apart = λ n there. gone_none opens open_call n (old.opens_apart n there);
+    closing_apart = λ n there. get_put_there closing open_call file n
         (λ e. is_open (ap (λ (i : ℕ). get opens i) (sym e) ∙ old.opens_apart n there)) ∙ old.closing_apart n there;
-    closed_once = λ n there. elim (cases_eq n handle) [
-      | inl e ↦ absurd (there (subst (λ (i : ℕ). get (remove opens handle) i ≡ None) (sym e)
-          (get_gone_here opens handle)))
-      | inr ne ↦ get_put_there closing handle file n ne ∙ old.closed_once n
-          (λ none. there (gone_none opens handle n none))
+    closed_once = λ n there. elim (cases_eq n open_call) [
+      | inl e ↦ absurd (there (subst (λ (i : ℕ). get (remove opens open_call) i ≡ None) (sym e)
+          (get_gone_here opens open_call)))
+      | inr ne ↦ get_put_there closing open_call file n ne ∙ old.closed_once n
+          (λ none. there (gone_none opens open_call n none))
     ];
   }
 
   -- a closed file is let go
-  pub released_files : (handle : ℕ) → AreFiles calls opens (remove closing handle) coming
-  released_files handle = record {
+  pub released_files : (open_call : ℕ) → AreFiles calls opens (remove closing open_call) coming
+  released_files open_call = record {
     opens_below = old.opens_below;
-    closing_below = λ n le. gone_none closing handle n (old.closing_below n le);
+    closing_below = λ n le. gone_none closing open_call n (old.closing_below n le);
     opens_apart = old.opens_apart;
-    closing_apart = λ n there. gone_none closing handle n (old.closing_apart n there);
-    closed_once = λ n there. gone_none closing handle n (old.closed_once n there);
+    closing_apart = λ n there. gone_none closing open_call n (old.closing_apart n there);
+    closed_once = λ n there. gone_none closing open_call n (old.closed_once n there);
   }
 
 -- No file is open.

@@ -64,7 +64,7 @@ module _ (c : Vfs Opened) (call : ℕ) where
   failed_answers : (errno : ℕ) (state : CallState Opened) → Answers (reply.failed errno) state
   failed_answers errno (walking d w ws p) = refl
   failed_answers errno (doing operation) = refl
-  failed_answers errno (using handle operation) = refl
+  failed_answers errno (using open_call operation) = refl
 
   attributes_answers : (a : Attributes) (operation : Operation ℕ Opened) (state : CallState Opened)
       → StandsAt operation state → goes_with operation (reply.attributes a) ≡ true → Answers (reply.attributes a) state
@@ -447,17 +447,17 @@ judged_op (write o f b) = tt
 -- The end of a call that lets a closed file go needs a number.
 module _ (k : Kernel) (unique call : ℕ) (even : nat_eq (unique % 2) 1 ≡ false)
     (waits : waiting k.queues unique ≡ Some (Call call)) (p : EndsPast k call)
-    (s : StandsAt p.operation (using p.handle p.operation)) where
+    (s : StandsAt p.operation (using p.open_call p.operation)) where
   abbrev over : answer.Answer → Kernel
   over a = ended k unique k.vfs call a
 
-  let_go : (a : answer.Answer) → is_kernel_past_end (after_use (over a) (using p.handle p.operation)) ≡ true
-  let_go a = closed_some (get k.closing p.handle) refl p.closed
+  let_go : (a : answer.Answer) → is_kernel_past_end (after_use (over a) (using p.open_call p.operation)) ≡ true
+  let_go a = closed_some (get k.closing p.open_call) refl p.closed
     where
-      closed_some : (o : Option Opened) → get k.closing p.handle ≡ o → is_some o ≡ true
-          → is_kernel_past_end (released_if_idle (over a) p.handle) ≡ true
+      closed_some : (o : Option Opened) → get k.closing p.open_call ≡ o → is_some o ≡ true
+          → is_kernel_past_end (released_if_idle (over a) p.open_call) ≡ true
       closed_some None at is = absurd (true≢false (sym is))
-      closed_some (Some file) at is = ap is_kernel_past_end (released_some (over a) p.handle file at p.idle) ∙ asks_past
+      closed_some (Some file) at is = ap is_kernel_past_end (released_some (over a) p.open_call file at p.idle) ∙ asks_past
           (over a) call (Some p.operation) refl p.none_left
 
   ends_past_end : (wire : WireReply) → is_kernel_past_end (reply_written k unique wire).1 ≡ true
@@ -466,17 +466,17 @@ module _ (k : Kernel) (unique call : ℕ) (even : nat_eq (unique % 2) 1 ≡ fals
       by : (b : Bool) → goes_with p.operation wire ≡ b → is_kernel_past_end (reply_written k unique wire).1 ≡ true
       by true goes =
           ap (λ (r : WriteResult × Kernel). is_kernel_past_end r.1)
-          (plain_is k unique call even waits wire (uses_plain p.operation p.handle s wire goes)
+          (plain_is k unique call even waits wire (uses_plain p.operation p.open_call s wire goes)
           (record {
             operation = p.operation;
-            state = using p.handle p.operation;
+            state = using p.open_call p.operation;
             at = p.is;
             stands = s;
             goes = goes;
           }))
           ∙ let_go (answer_by wire)
       by false goes = ap (λ (r : WriteResult × Kernel). is_kernel_past_end r.1)
-          (wrong_is k unique call even waits (using p.handle p.operation) p.is wire goes) ∙ let_go (answer.failed 5)
+          (wrong_is k unique call even waits (using p.open_call p.operation) p.is wire goes) ∙ let_go (answer.failed 5)
 
   pub ends_over : (wire : WireReply) → is_kernel_past (reply_written k unique wire).1 ≡ true
   ends_over wire = ap (λ (b : Bool). b || is_counted_out (reply_written k unique wire).1.nodes) (ends_past_end wire)

@@ -12,7 +12,7 @@ use Rattle.fuse_spec.specs.Kernel.Messages.{WireReply}
 use Rattle.fuse_spec.specs.Kernel.QueueCalls.{waiting, without}
 use Rattle.fuse_spec.specs.Kernel.Replies.{reply_written, request_reply_written, interrupt_reply_written, interrupt_replied, is_empty_reply}
 use Rattle.fuse_frames.specs.declared.reply.Reply.TheVariants as said
-use Rattle.fuse_frames.specs.ReplySaid.{LentReply, lent_wire_of}
+use Rattle.fuse_frames.specs.ReplyDecoding.{LentReply, lent_wire_of}
 use Rattle.fk_kernel.specs.AwaitedReplies.{Says, IsNoReply, Awaited, nothing, gone, reply_to, awaited, awaited_by, awaited_by_interrupt, wrong_body, wrong_body_to, IsJudged, IsReplyWritten}
 
 abbrev pub opcode_in : Awaited → Opcode

@@ -136,21 +136,21 @@ module _ (k : Kernel) (call unique : ℕ) (fatal : Bool) (current : request_of k
   abbrev over : Kernel
   over = record k { vfs = answered k.vfs call (failed eintr); queues = after_dequeue k.queues unique }
 
-  let_go : is_kernel_past_end (after_use over (using p.handle p.operation)) ≡ true
-  let_go = closed_some (get k.closing p.handle) refl p.closed
+  let_go : is_kernel_past_end (after_use over (using p.open_call p.operation)) ≡ true
+  let_go = closed_some (get k.closing p.open_call) refl p.closed
     where
-      closed_some : (o : Option Opened) → get k.closing p.handle ≡ o → is_some o ≡ true
-          → is_kernel_past_end (released_if_idle over p.handle) ≡ true
+      closed_some : (o : Option Opened) → get k.closing p.open_call ≡ o → is_some o ≡ true
+          → is_kernel_past_end (released_if_idle over p.open_call) ≡ true
       closed_some None at is = absurd (true≢false (sym is))
-      closed_some (Some file) at is = ap is_kernel_past_end (released_some over p.handle file at p.idle) ∙ asks_past over call
+      closed_some (Some file) at is = ap is_kernel_past_end (released_some over p.open_call file at p.idle) ∙ asks_past over call
           (Some p.operation) refl p.none_left
 
-  past : is_kernel_past_end (call_signalled k call (using p.handle p.operation) fatal).1 ≡ true
+  past : is_kernel_past_end (call_signalled k call (using p.open_call p.operation) fatal).1 ≡ true
   past =
       ap (λ (r : IntrEffect × Kernel). is_kernel_past_end r.1)
-      (requested k call (using p.handle p.operation) fatal unique current)
+      (requested k call (using p.open_call p.operation) fatal unique current)
       ∙ ap (λ (e : IntrEffect). is_kernel_past_end (after_signal (record k { queues = after_effect k.queues unique e }) call
-      (using p.handle p.operation) e)) effect ∙ let_go
+      (using p.open_call p.operation) e)) effect ∙ let_go
 
   pub exhausted : is_live k.phase ≡ true → signal_refusal k call fatal ≡ Some Exhausted
   exhausted live =

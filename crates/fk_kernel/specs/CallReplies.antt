@@ -8,7 +8,7 @@ use Rattle.fuse_spec.specs.Values.Maps.{get}
 use Rattle.fuse_spec.specs.declared.Opened.{Opened}
 use Rattle.fuse_frames.specs.RequestTies.{asked_opcode}
 use Rattle.fuse_spec.specs.Kernel.Refusals.{is_counted_out, is_kernel_past_end}
-use Rattle.fuse_frames.specs.ReplySaid.{LentReply, lent_wire_of, LastsADay}
+use Rattle.fuse_frames.specs.ReplyDecoding.{LentReply, lent_wire_of, LastsADay}
 use Rattle.fk_kernel.specs.Entries.{Awaits, nodes_after_reply}
 use Rattle.fk_kernel.specs.AwaitedReplies.{Says}
 

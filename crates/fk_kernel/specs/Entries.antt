@@ -57,17 +57,17 @@ pub record IsOpening (standing : Option (CallState Opened)) : Type 0 where
 -- Where the end of this call lets a closed file go, a number is left for its RELEASE.
 abbrev pub EndsWithin : Kernel → ℕ → Type 0
 EndsWithin k call =
-    (handle : ℕ) (operation : Operation ℕ Opened) → get k.vfs.calls call ≡ Some (using handle operation)
-    → is_some (get k.closing handle) ≡ true
-    → list_any (is_using handle) (values (remove k.vfs.calls call)) ≡ false → 0 < numbers_left_from k.queues.next
+    (open_call : ℕ) (operation : Operation ℕ Opened) → get k.vfs.calls call ≡ Some (using open_call operation)
+    → is_some (get k.closing open_call) ≡ true
+    → list_any (is_using open_call) (values (remove k.vfs.calls call)) ≡ false → 0 < numbers_left_from k.queues.next
 
 -- The end of this call lets a closed file go, and no number is left for its RELEASE.
 pub record EndsPast (k : Kernel) (call : ℕ) : Type 0 where
-  pub handle : ℕ
+  pub open_call : ℕ
   pub operation : Operation ℕ Opened
-  pub is : get k.vfs.calls call ≡ Some (using handle operation)
-  pub closed : is_some (get k.closing handle) ≡ true
-  pub idle : list_any (is_using handle) (values (remove k.vfs.calls call)) ≡ false
+  pub is : get k.vfs.calls call ≡ Some (using open_call operation)
+  pub closed : is_some (get k.closing open_call) ≡ true
+  pub idle : list_any (is_using open_call) (values (remove k.vfs.calls call)) ≡ false
   pub none_left : numbers_left_from k.queues.next ≡ 0
 
 -- The call lists the names of a directory with their files.

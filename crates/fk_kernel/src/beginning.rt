@@ -64,8 +64,8 @@ impl<Q: QueueTable<Purpose> + Drop, C: CountTable<Heap = Q::Heap> + Drop> Kernel
         if self.is_aborted() {
             return self.begin_answered(Answer::Failed { errno: ENOTCONN });
         }
-        if let Call::Close { handle } = call {
-            return self.begin_close(*handle);
+        if let Call::Close { open_call } = call {
+            return self.begin_close(*open_call);
         }
         match self.start_walk(call)? {
             Next::Answer { errno } => self.begin_answered(Answer::Failed { errno }),

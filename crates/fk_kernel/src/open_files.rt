@@ -28,44 +28,44 @@ use fuse_spec::{Opened, Purpose, Refusal};
 impl<Q: QueueTable<Purpose> + Drop, C: CountTable<Heap = Q::Heap> + Drop> KernelOf<Q, C> {
     /// A call of the next number closes an open file: it is answered at once. The RELEASE is queued unless a read or
     /// write of the file is unanswered.
-    pub(crate) fn begin_close(&mut self, handle: u64) -> Result<u64, Refusal>
+    pub(crate) fn begin_close(&mut self, open_call: u64) -> Result<u64, Refusal>
         requires number { self.old.vfs.next_call < counter_end }
         requires few { length self.old.vfs.calls < max_calls }
         requires ready { is_ready self.old.phase ≡ true }
         requires not_aborted { is_aborted self.old.phase ≡ false }
         ensures err { OnErr result (self.new ≡ self.old) }
         ensures refusal { IfErr result (λ refusal. refusal
-            ≡ or_no_memory (begun_refusal self.old (call.close handle))) }
-        ensures judged { OnOk result (begun_refusal self.old (call.close handle) ≡ None) }
+            ≡ or_no_memory (begun_refusal self.old (call.close open_call))) }
+        ensures judged { OnOk result (begun_refusal self.old (call.close open_call) ≡ None) }
         ensures number { IfOk result (λ n. n ≡ self.old.vfs.next_call) }
-        ensures begun { OnOk result (self.new ≡ call_begun self.old (call.close handle)) }
+        ensures begun { OnOk result (self.new ≡ call_begun self.old (call.close open_call)) }
     {
         self.queues.lemma_sound();
-        let Some(opened) = self.opens.get(handle) else {
+        let Some(opened) = self.opens.get(open_call) else {
             return self.begin_answered(Answer::Failed { errno: EBADF });
         };
         let opened = *opened;
-        if is_in_use(self.calls.rows(), handle) {
-            self.close_in_use(handle, opened)
+        if is_in_use(self.calls.rows(), open_call) {
+            self.close_in_use(open_call, opened)
         } else {
-            self.close_idle(handle, opened)
+            self.close_idle(open_call, opened)
         }
     }
 
     /// A close of an open file of which no read or write is unanswered.
-    fn close_idle(&mut self, handle: u64, opened: Opened) -> Result<u64, Refusal>
+    fn close_idle(&mut self, open_call: u64, opened: Opened) -> Result<u64, Refusal>
         requires number { self.old.vfs.next_call < counter_end }
         requires few { length self.old.vfs.calls < max_calls }
         requires ready { is_ready self.old.phase ≡ true }
         requires not_aborted { is_aborted self.old.phase ≡ false }
-        requires open { get self.old.vfs.opens handle ≡ Some opened }
-        requires idle { is_used self.old handle ≡ false }
+        requires open { get self.old.vfs.opens open_call ≡ Some opened }
+        requires idle { is_used self.old open_call ≡ false }
         ensures err { OnErr result (self.new ≡ self.old) }
         ensures refusal { IfErr result (λ refusal. refusal
-            ≡ or_no_memory (begun_refusal self.old (call.close handle))) }
-        ensures judged { OnOk result (begun_refusal self.old (call.close handle) ≡ None) }
+            ≡ or_no_memory (begun_refusal self.old (call.close open_call))) }
+        ensures judged { OnOk result (begun_refusal self.old (call.close open_call) ≡ None) }
         ensures number { IfOk result (λ n. n ≡ self.old.vfs.next_call) }
-        ensures begun { OnOk result (self.new ≡ call_begun self.old (call.close handle)) }
+        ensures begun { OnOk result (self.new ≡ call_begun self.old (call.close open_call)) }
     {
         if self.queues.numbers_left() == 0 {
             return Err(Refusal::Exhausted);
@@ -75,7 +75,7 @@ impl<Q: QueueTable<Purpose> + Drop, C: CountTable<Heap = Q::Heap> + Drop> Kernel
         };
         reserve_request(&mut self.queues, &self.closing)?;
         let call = self.next_call;
-        let _file = self.opens.remove(handle);
+        let _file = self.opens.remove(open_call);
         let _unique = self.queues.enqueue(Purpose::Release(opened));
         self.answers.put(call, StoredAnswer::new(Answer::Done));
         self.next_call = call + 1;
@@ -83,19 +83,19 @@ impl<Q: QueueTable<Purpose> + Drop, C: CountTable<Heap = Q::Heap> + Drop> Kernel
     }
 
     /// A close of an open file of which a read or write is unanswered.
-    fn close_in_use(&mut self, handle: u64, opened: Opened) -> Result<u64, Refusal>
+    fn close_in_use(&mut self, open_call: u64, opened: Opened) -> Result<u64, Refusal>
         requires number { self.old.vfs.next_call < counter_end }
         requires few { length self.old.vfs.calls < max_calls }
         requires ready { is_ready self.old.phase ≡ true }
         requires not_aborted { is_aborted self.old.phase ≡ false }
-        requires open { get self.old.vfs.opens handle ≡ Some opened }
-        requires used { is_used self.old handle ≡ true }
+        requires open { get self.old.vfs.opens open_call ≡ Some opened }
+        requires used { is_used self.old open_call ≡ true }
         ensures err { OnErr result (self.new ≡ self.old) }
         ensures refusal { IfErr result (λ refusal. refusal
-            ≡ or_no_memory (begun_refusal self.old (call.close handle))) }
-        ensures judged { OnOk result (begun_refusal self.old (call.close handle) ≡ None) }
+            ≡ or_no_memory (begun_refusal self.old (call.close open_call))) }
+        ensures judged { OnOk result (begun_refusal self.old (call.close open_call) ≡ None) }
         ensures number { IfOk result (λ n. n ≡ self.old.vfs.next_call) }
-        ensures begun { OnOk result (self.new ≡ call_begun self.old (call.close handle)) }
+        ensures begun { OnOk result (self.new ≡ call_begun self.old (call.close open_call)) }
     {
         self.queues.lemma_sound();
         let Ok(()) = self.answers.reserve(MAX_CALLS) else {
@@ -106,23 +106,23 @@ impl<Q: QueueTable<Purpose> + Drop, C: CountTable<Heap = Q::Heap> + Drop> Kernel
         };
         reserve_request(&mut self.queues, &self.closing)?;
         let call = self.next_call;
-        let _file = self.opens.remove(handle);
-        self.closing.put(handle, opened);
+        let _file = self.opens.remove(open_call);
+        self.closing.put(open_call, opened);
         self.answers.put(call, StoredAnswer::new(Answer::Done));
         self.next_call = call + 1;
         Ok(call)
     }
 
     /// Queues the RELEASE of a closed file of which no read or write is unanswered. Takes no memory.
-    fn release_if_idle(&mut self, handle: u64)
-        requires { is_some (get self.old.closing handle) ≡ true → is_used self.old handle ≡ false
+    fn release_if_idle(&mut self, open_call: u64)
+        requires { is_some (get self.old.closing open_call) ≡ true → is_used self.old open_call ≡ false
             → 0 < numbers_left_from self.old.queues.next }
-        ensures { self.new ≡ released_if_idle self.old handle }
+        ensures { self.new ≡ released_if_idle self.old open_call }
     {
-        if is_in_use(self.calls.rows(), handle) {
+        if is_in_use(self.calls.rows(), open_call) {
             return;
         }
-        let Some(opened) = self.closing.remove(handle) else {
+        let Some(opened) = self.closing.remove(open_call) else {
             return;
         };
         let _unique = self.queues.enqueue(Purpose::Release(opened));
@@ -152,10 +152,10 @@ impl<Q: QueueTable<Purpose> + Drop, C: CountTable<Heap = Q::Heap> + Drop> Kernel
         ensures { (state : State OpenedFile) → get self.old.vfs.calls call ≡ Some state
             → self.new ≡ after_use (record self.old { vfs = answered self.old.vfs call (answer_of answer) }) state }
     {
-        let handle = self.used_by(call);
+        let open_call = self.used_by(call);
         self.finish(call, answer);
-        if let Some(handle) = handle {
-            self.release_if_idle(handle);
+        if let Some(open_call) = open_call {
+            self.release_if_idle(open_call);
         }
     }
 
@@ -167,7 +167,7 @@ impl<Q: QueueTable<Purpose> + Drop, C: CountTable<Heap = Q::Heap> + Drop> Kernel
         let Some(waiting) = self.calls.get(call) else {
             return None;
         };
-        waiting.handle()
+        waiting.open_call()
     }
 
     /// Whether the end of a call would let a closed file go, for whose RELEASE no number is left.
@@ -179,12 +179,12 @@ impl<Q: QueueTable<Purpose> + Drop, C: CountTable<Heap = Q::Heap> + Drop> Kernel
         if self.queues.numbers_left() != 0 {
             return false;
         }
-        let Some(handle) = self.used_by(call) else {
+        let Some(open_call) = self.used_by(call) else {
             return false;
         };
-        if self.closing.get(handle).is_none() {
+        if self.closing.get(open_call).is_none() {
             return false;
         }
-        !is_in_other_use(self.calls.rows(), call, handle)
+        !is_in_other_use(self.calls.rows(), call, open_call)
     }
 }

@@ -14,7 +14,7 @@ ghost use Rattle.fk_kernel.specs.Entries.{Awaits, EndsWithin, StandsAtLookup, lo
 ghost use Rattle.fuse_spec.specs.Kernel.Refusals.{is_counted_out, is_kernel_past, is_kernel_past_end};
 ghost use Rattle.fk_kernel.specs.CallReplies.{IsCallReply, SaysNone};
 ghost use Rattle.fk_kernel.specs.Refused.{PassesEnd, WritePasses};
-ghost use Rattle.fuse_frames.specs.ReplySaid.{lent_wire_of, LastsADay};
+ghost use Rattle.fuse_frames.specs.ReplyDecoding.{lent_wire_of, LastsADay};
 ghost use Rattle.fk_kernel.specs.AwaitedReplies.{awaited_by_call};
 
 use crate::entries::looks_up;
@@ -24,7 +24,7 @@ use fk_nodes::EntryUse;
 use fk_queues::QueueTable;
 use fk_syscalls::{CallState, NewName};
 use fk_wire::ReplyHead;
-use fuse_frames::{Reply, ReplySaid, said_to_call};
+use fuse_frames::{DecodedReply, Reply, reply_to_call};
 use fuse_spec::{Entry, Operation, Purpose, Refusal};
 
 impl<Q: QueueTable<Purpose> + Drop, C: CountTable<Heap = Q::Heap> + Drop> KernelOf<Q, C> {
@@ -72,7 +72,7 @@ impl<Q: QueueTable<Purpose> + Drop, C: CountTable<Heap = Q::Heap> + Drop> Kernel
         let Some(state) = self.calls.get(call) else {
             return false;
         };
-        self.said_to_call(head, call, state, bytes).is_err()
+        self.reply_to_call(head, call, state, bytes).is_err()
     }
 
     /// What the bytes say to an unanswered call that stands so, if it goes with what the call asked.
@@ -81,13 +81,13 @@ impl<Q: QueueTable<Purpose> + Drop, C: CountTable<Heap = Q::Heap> + Drop> Kernel
     ///
     /// `Exhausted` where they would have a request queued for which no number is left, or bring a node's count to the
     /// end of counters.
-    pub(crate) fn said_to_call<'a>(
+    pub(crate) fn reply_to_call<'a>(
         &self,
         head: ReplyHead,
         call: u64,
         state: &CallState<Q::Heap>,
         bytes: &'a [u8],
-    ) -> Result<Option<ReplySaid<'a>>, Refusal>
+    ) -> Result<Option<DecodedReply<'a>>, Refusal>
         requires head { IsReplyHead bytes.now head }
         requires even { nat_eq (head.unique % 2) 1 ≡ false }
         requires waits { waiting self.now.queues head.unique ≡ Some (Purpose.Call call) }
@@ -104,7 +104,7 @@ impl<Q: QueueTable<Purpose> + Drop, C: CountTable<Heap = Q::Heap> + Drop> Kernel
     {
         self.lemma_in_range();
         self.lemma_counts_in_range();
-        let said = said_to_call(&state.asks(), head, bytes);
+        let said = reply_to_call(&state.asks(), head, bytes);
         if self.unique_overflows(call) {
             return Err(Refusal::Exhausted);
         }
@@ -127,7 +127,7 @@ impl<Q: QueueTable<Purpose> + Drop, C: CountTable<Heap = Q::Heap> + Drop> Kernel
         unique: u64,
         call: u64,
         state: &CallState<Q::Heap>,
-        said: &ReplySaid<'_>,
+        said: &DecodedReply<'_>,
     ) -> bool
         requires even { nat_eq (unique % 2) 1 ≡ false }
         requires waits { waiting self.now.queues unique ≡ Some (Purpose.Call call) }
@@ -147,12 +147,12 @@ impl<Q: QueueTable<Purpose> + Drop, C: CountTable<Heap = Q::Heap> + Drop> Kernel
     }
 
     /// Whether what is said to a call would bring a node's count to the end of counters.
-    fn counts_past(&self, said: &ReplySaid<'_>) -> bool
+    fn counts_past(&self, said: &DecodedReply<'_>) -> bool
         ensures { result ≡ is_counted_out (nodes_after_reply self.now.nodes (lent_wire_of said.now)) }
     {
         self.lemma_counts_in_range();
         match said {
-            Reply::Found { file, .. } => self.entry_past(file),
+            Reply::Entry { file, .. } => self.entry_past(file),
             Reply::Created { file, .. } => self.entry_past(file),
             Reply::ListedPlus(pairs) => self.nodes.listed_count_out(*pairs),
             _ => false,
@@ -179,7 +179,7 @@ impl<Q: QueueTable<Purpose> + Drop, C: CountTable<Heap = Q::Heap> + Drop> Kernel
         unique: u64,
         call: u64,
         state: &CallState<Q::Heap>,
-        said: &ReplySaid<'_>,
+        said: &DecodedReply<'_>,
     ) -> bool
         requires even { nat_eq (unique % 2) 1 ≡ false }
         requires waits { waiting self.now.queues unique ≡ Some (Purpose.Call call) }
@@ -192,7 +192,7 @@ impl<Q: QueueTable<Purpose> + Drop, C: CountTable<Heap = Q::Heap> + Drop> Kernel
     {
         self.lemma_in_range();
         match said {
-            Reply::Found { file, valid_ms } => {
+            Reply::Entry { file, valid_ms } => {
                 self.found_past(unique, call, state, file, *valid_ms)
             }
             _ => false,

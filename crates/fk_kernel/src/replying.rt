@@ -10,7 +10,7 @@ ghost use Rattle.fuse_spec.specs.declared.Opened.{Opened as OpenedFile};
 ghost use Rattle.fk_kernel.specs.Entries.{Awaits, EndsWithin, nodes_after_reply};
 ghost use Rattle.fuse_spec.specs.Kernel.Refusals.{is_counted_out, is_kernel_past_end};
 ghost use Rattle.fk_kernel.specs.Refused.{IsWriteRefusal, PassesEnd};
-ghost use Rattle.fuse_frames.specs.ReplySaid.{lent_wire_of, LastsADay};
+ghost use Rattle.fuse_frames.specs.ReplyDecoding.{lent_wire_of, LastsADay};
 ghost use Rattle.fk_kernel.specs.AwaitedReplies.{Says, IsNoReply, awaited_by_call, wrong_body, IsReplyWritten};
 ghost use Rattle.fk_wire.specs.Records.{records_in};
 ghost use Rattle.fuse_frames.specs.ReplyTies.{dirent_read};
@@ -24,7 +24,7 @@ use fk_nodes::names_of_dirents;
 use fk_queues::QueueTable;
 use fk_syscalls::Answer;
 use fk_wire::{Opcode, Records, ReplyHead, read_reply_body};
-use fuse_frames::{Reply, ReplySaid};
+use fuse_frames::{DecodedReply, Reply};
 use fuse_spec::errno::EIO;
 use fuse_spec::{Purpose, Refusal, WriteResult};
 
@@ -52,7 +52,7 @@ impl<Q: QueueTable<Purpose> + Drop, C: CountTable<Heap = Q::Heap> + Drop> Kernel
             let _kept = self.queues.answer(head.unique);
             return Ok(WriteResult::Accepted);
         };
-        let said = match self.said_to_call(head, call, waiting, bytes) {
+        let said = match self.reply_to_call(head, call, waiting, bytes) {
             Ok(said) => said,
             Err(refusal) => return Err(refusal),
         };
@@ -68,7 +68,7 @@ impl<Q: QueueTable<Purpose> + Drop, C: CountTable<Heap = Q::Heap> + Drop> Kernel
     }
 
     /// What a reply says that goes with what a call asked reaches the call.
-    fn replied(&mut self, unique: u64, call: u64, said: ReplySaid<'_>) -> Result<(), Refusal>
+    fn replied(&mut self, unique: u64, call: u64, said: DecodedReply<'_>) -> Result<(), Refusal>
         requires even { nat_eq (unique % 2) 1 ≡ false }
         requires waits { waiting self.old.queues unique ≡ Some (Purpose.Call call) }
         requires awaits { Awaits (get self.old.vfs.calls call) (lent_wire_of said) }
@@ -101,8 +101,8 @@ impl<Q: QueueTable<Purpose> + Drop, C: CountTable<Heap = Q::Heap> + Drop> Kernel
                 self.names_go(unique, call);
                 Ok(())
             }
-            Reply::Missing { valid_ms } => self.name_missing(unique, call, valid_ms),
-            Reply::Found { file, valid_ms } => self.entry_found(unique, call, &file, valid_ms),
+            Reply::Negative { valid_ms } => self.name_missing(unique, call, valid_ms),
+            Reply::Entry { file, valid_ms } => self.entry_found(unique, call, &file, valid_ms),
             Reply::Created { file, valid_ms, fh } => {
                 self.file_created(unique, call, &file, valid_ms, fh)
             }

@@ -1,7 +1,7 @@
 -- The names of a list with their files, as a frame has them, and what they make of the kernel's tables.
 use Rattle.std.specs.Prelude.{ℕ, List, [], ◌∷◌, Option, Some, None, map}
 use Rattle.fuse_frames.specs.ReplyTies.{pair_in}
-use Rattle.fuse_spec.specs.declared.Binding.{Binding}
+use Rattle.fuse_spec.specs.declared.Dentry.{Dentry}
 use Rattle.fuse_spec.specs.declared.Entry.{Entry}
 use Rattle.fuse_spec.specs.Values.Maps.{NameMap, Map}
 use Rattle.fuse_spec.specs.declared.Counted.{Counted}
@@ -28,7 +28,7 @@ HaveNameRoom names directory (pair ∷ pairs) = HasNameRoom names directory pair
     × HaveNameRoom names directory pairs
 
 -- The names in force once those of a list are, each judged by these counts.
-abbrev pub names_judged : (now directory : ℕ) → Map Counted → NameMap Binding → List (DirentPlus Entry)
-    → NameMap Binding
+abbrev pub names_judged : (now directory : ℕ) → Map Counted → NameMap Dentry → List (DirentPlus Entry)
+    → NameMap Dentry
 names_judged now directory nodes names pairs = names_listed now directory names
     (map (pair_with (λ (g : Entry). g.nodeid)) (map (judged_in nodes) pairs))

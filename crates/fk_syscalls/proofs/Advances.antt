@@ -17,7 +17,7 @@ use Rattle.std.specs.List.{list_any}
 use Rattle.fuse_spec.specs.Calls.Paths.{Name, split}
 use Rattle.fuse_spec.specs.Calls.Vfs.{CallState, walking, Vfs, Advance, look, asking, no_more, answered, after_walk, after_beginning, walks_on, begun, numbered}
 use Rattle.fuse_spec.specs.Calls.Walks.{WalkPlan, WalkStop, FinalOperation, operation_at, last, rename, link, go, after_stop, after_last, files_of_plan, unknown, missing, arrived}
-use Rattle.fuse_spec.specs.declared.Binding.{Binding}
+use Rattle.fuse_spec.specs.declared.Dentry.{Dentry}
 use Rattle.fuse_spec.specs.declared.Opened.{Opened}
 use Rattle.fk_syscalls.specs.Walks.{known, stop_at}
 use Rattle.fk_syscalls.specs.Words.{words_from, behind_first}
@@ -29,7 +29,7 @@ use Rattle.fk_syscalls.specs.declared.state.Aim.{Aim}
 use Rattle.fk_syscalls.specs.declared.state.Aim.TheVariants.{Walks, Reads, Writes}
 use Rattle.std.proofs.lemmas.Bool.Decides.{nat_tests}
 
-module _ (c : Vfs Opened) (names : NameMap Binding) (clock : ℕ) (has : HasCachedNames c names clock) (call : ℕ) where
+module _ (c : Vfs Opened) (names : NameMap Dentry) (clock : ℕ) (has : HasCachedNames c names clock) (call : ℕ) where
   module _ (words : List Name) (plan : WalkPlan ℕ) where
     abbrev after : WalkStop ℕ → Advance Opened
     after stop = after_walk c call (after_stop (look c) c.root plan stop)
@@ -161,7 +161,7 @@ on_err (Ok t) then x = tt
 on_err (Err e) then x = then x
 
 -- Beginnings that leave a call alike.
-module _ {A : Type 0} (names : NameMap Binding) (clock : ℕ) (one other : Beginning ℕ Opened)
+module _ {A : Type 0} (names : NameMap Dentry) (clock : ℕ) (one other : Beginning ℕ Opened)
     (same : (c : Vfs Opened) (call : ℕ) → HasCachedNames c names clock
     → after_beginning c call one ≡ after_beginning c call other) where
   pub begun_so : (r : Result (Next A) AllocError) → IfOk r (IsBegun names clock other)
@@ -174,7 +174,7 @@ module _ {A : Type 0} (names : NameMap Binding) (clock : ℕ) (one other : Begin
   asks_so (Err e) asks = λ c call has. ((asks c call has).0, same c call has ∙ (asks c call has).1)
 
 -- What the first step of a call asks.
-module _ {A : Type 0} (names : NameMap Binding) (clock : ℕ) (opens : Map Opened) (made : Call)
+module _ {A : Type 0} (names : NameMap Dentry) (clock : ℕ) (opens : Map Opened) (made : Call)
     (begins : Beginning ℕ Opened) where
   abbrev AsksFirst : Result (Next A) AllocError → Type 0
   AsksFirst r = OnErr r ((c : Vfs Opened) → HasCachedNames c names clock → c.opens ≡ opens
@@ -268,5 +268,5 @@ pub names_self : {A : Type 0} (node at : ℕ) (words : List Name) (place : Optio
 names_self node at words place (Walks plan) sound same =
     names_walked node at words (plan_of (λ s. s.items) plan) (plan_ends plan sound.0) ∙ ap
     (λ (b : Bool). b || list_any (nat_eq node) (files_of_plan (plan_of (λ s. s.items) plan))) (itself node at same)
-names_self node at words place (Reads handle fh offset size) sound same = ap (λ (b : Bool). b || false) (itself node at same)
-names_self node at words place (Writes handle fh offset bytes) sound same = ap (λ (b : Bool). b || false) (itself node at same)
+names_self node at words place (Reads open_call fh offset size) sound same = ap (λ (b : Bool). b || false) (itself node at same)
+names_self node at words place (Writes open_call fh offset bytes) sound same = ap (λ (b : Bool). b || false) (itself node at same)

@@ -8,7 +8,7 @@ use Rattle.fuse_spec.specs.Files.Operations.{Operation}
 use Rattle.fuse_spec.specs.Calls.Paths.{Name}
 use Rattle.fuse_spec.specs.Calls.Vfs.{CallState, walking, doing, using, Vfs, asking, after_beginning}
 use Rattle.fuse_spec.specs.Calls.Walks.{WalkPlan, last, rename, link, operation_at}
-use Rattle.fuse_spec.specs.declared.Binding.{Binding}
+use Rattle.fuse_spec.specs.declared.Dentry.{Dentry}
 use Rattle.fuse_spec.specs.declared.Opened.{Opened}
 use Rattle.fk_syscalls.specs.Words.{AreWords}
 use Rattle.fk_syscalls.specs.Plans.{plan_of, IsSoundPlan, IsLast}
@@ -30,15 +30,15 @@ walking_at node (word ∷ words) plan = walking node word words plan
 -- A call at a node: it walks, or waits for a read or write of an open file of that node.
 abbrev pub state_of : {A : Type 0} → ℕ → List Name → Aim A → CallState Opened
 state_of node words (Walks plan) = walking_at node words (plan_of (λ s. s.items) plan)
-state_of node words (Reads handle fh offset size) =
-    using handle (op.read (record { nodeid = node; fh = fh }) offset size)
-state_of node words (Writes handle fh offset bytes) =
-    using handle (op.write (record { nodeid = node; fh = fh }) offset bytes.items)
+state_of node words (Reads open_call fh offset size) =
+    using open_call (op.read (record { nodeid = node; fh = fh }) offset size)
+state_of node words (Writes open_call fh offset bytes) =
+    using open_call (op.write (record { nodeid = node; fh = fh }) offset bytes.items)
 
 abbrev pub IsSoundAim : {A : Type 0} → Option ℕ → Aim A → Type 0
 IsSoundAim at (Walks plan) = IsSoundPlan (λ s. s.items) plan × (at ≡ None → IsLast (plan_of (λ s. s.items) plan))
-IsSoundAim at (Reads handle fh offset size) = Unit {0}
-IsSoundAim at (Writes handle fh offset bytes) = Unit {0}
+IsSoundAim at (Reads open_call fh offset size) = Unit {0}
+IsSoundAim at (Writes open_call fh offset bytes) = Unit {0}
 
 -- Only words without a fault are asked for, and a second walk follows the first at once.
 pub record IsSoundCall {A : Type 0} (bytes : List ℕ) (at : Option ℕ) (aim : Aim A) : Type 0 where
@@ -55,7 +55,7 @@ pub record IsSoundLentCall (bytes : List ℕ) (at : Option ℕ) (plan : Plan (Bo
 abbrev pub IsWalking : CallState Opened → Type 0
 IsWalking (walking directory word words plan) = Unit {0}
 IsWalking (doing operation) = ⊥
-IsWalking (using handle operation) = ⊥
+IsWalking (using open_call operation) = ⊥
 
 -- What a call has asked tells where it stands.
 pub record LooksUp (directory : ℕ) (word : Name) (state : CallState Opened) : Type 0 where
@@ -64,8 +64,8 @@ pub record LooksUp (directory : ℕ) (word : Name) (state : CallState Opened) : 
   pub is : state ≡ walking directory word words plan
 
 pub record Uses (operation : Operation ℕ Opened) (state : CallState Opened) : Type 0 where
-  pub handle : ℕ
-  pub is : state ≡ using handle operation
+  pub open_call : ℕ
+  pub is : state ≡ using open_call operation
 
 abbrev pub StandsAt : Operation ℕ Opened → CallState Opened → Type 0
 StandsAt (op.lookup directory word) state = LooksUp directory word state
@@ -77,15 +77,15 @@ StandsAt operation state = state ≡ doing operation
 abbrev pub used_by : CallState Opened → Option ℕ
 used_by (walking directory word words plan) = None
 used_by (doing operation) = None
-used_by (using handle operation) = Some handle
+used_by (using open_call operation) = Some open_call
 
 -- These are the names in force and the time, and the root is node 1.
-pub record HasCachedNames (c : Vfs Opened) (in_force : NameMap Binding) (time : ℕ) : Type 0 where
+pub record HasCachedNames (c : Vfs Opened) (in_force : NameMap Dentry) (time : ℕ) : Type 0 where
   pub names : c.names ≡ in_force
   pub clock : c.clock ≡ time
   pub root : c.root ≡ 1
 
 -- A call that begins so asks an operation.
-abbrev pub BeginsAsking : NameMap Binding → ℕ → Beginning ℕ Opened → Type 0
+abbrev pub BeginsAsking : NameMap Dentry → ℕ → Beginning ℕ Opened → Type 0
 BeginsAsking names clock begins = (c : Vfs Opened) (call : ℕ) → HasCachedNames c names clock
     → (state : CallState Opened) × (after_beginning c call begins ≡ asking c call state)

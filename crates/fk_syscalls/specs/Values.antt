@@ -11,7 +11,7 @@ use Rattle.fuse_spec.specs.Calls.Walks.{FinalOperation}
 use Rattle.fuse_spec.specs.Files.Operations as op
 use Rattle.fuse_spec.specs.Calls.Vfs.{Vfs, Advance, asking, no_more, answered, after_beginning}
 use Rattle.fuse_spec.specs.Files.Operations.{Asked}
-use Rattle.fuse_spec.specs.declared.Binding.{Binding}
+use Rattle.fuse_spec.specs.declared.Dentry.{Dentry}
 use Rattle.fuse_spec.specs.declared.Opened.{Opened}
 use Rattle.fk_syscalls.specs.Words.{IsWord}
 use Rattle.fk_syscalls.specs.States.{HasCachedNames}
@@ -37,9 +37,9 @@ call_of (Unlink path) = call.unlink path.now
 call_of (Rmdir path) = call.rmdir path.now
 call_of (Rename old new) = call.rename old.now new.now
 call_of (Link old new) = call.link old.now new.now
-call_of (Read handle offset size) = call.read handle offset size
-call_of (Write handle offset bytes) = call.write handle offset bytes.now
-call_of (Close handle) = call.close handle
+call_of (Read open_call offset size) = call.read open_call offset size
+call_of (Write open_call offset bytes) = call.write open_call offset bytes.now
+call_of (Close open_call) = call.close open_call
 
 -- A change of the directory to which the walk leads, by this name.
 abbrev pub changes : Change → Name → FinalOperation ℕ
@@ -50,7 +50,7 @@ changes change.Rmdir name = op.rmdir None name
 
 -- The call closes no file.
 abbrev pub ClosesNone : Call → Type 0
-ClosesNone (Close handle) = ⊥
+ClosesNone (Close open_call) = ⊥
 ClosesNone other = Unit {0}
 
 -- The name that is listed.
@@ -76,6 +76,6 @@ comes_to c call (step.Ask state) = asking c call state
 comes_to c call (step.Answer errno) = no_more (answered c call (failed errno))
 
 -- Where its beginning leaves a call.
-abbrev pub IsBegun : {A : Type 0} → NameMap Binding → ℕ → Beginning ℕ Opened → Next A → Type 0
+abbrev pub IsBegun : {A : Type 0} → NameMap Dentry → ℕ → Beginning ℕ Opened → Next A → Type 0
 IsBegun names clock begins next = (c : Vfs Opened) (call : ℕ) → HasCachedNames c names clock
     → after_beginning c call begins ≡ comes_to c call next

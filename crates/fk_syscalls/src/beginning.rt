@@ -68,15 +68,15 @@ pub fn begin<A: Allocator + Copy>(
         Call::Rename { old, new } => begin_rename(alloc, names, clock, old, new),
         Call::Link { old, new } => begin_link(alloc, names, clock, old, new),
         Call::Read {
-            handle,
+            open_call,
             offset,
             size,
-        } => Ok(begin_read(alloc, opens, *handle, *offset, *size)),
+        } => Ok(begin_read(alloc, opens, *open_call, *offset, *size)),
         Call::Write {
-            handle,
+            open_call,
             offset,
             bytes,
-        } => begin_write(alloc, opens, *handle, *offset, bytes),
+        } => begin_write(alloc, opens, *open_call, *offset, bytes),
         // Ruled out: it is no close.
         Call::Close { .. } => Ok(Next::Answer { errno: EBADF }),
     }
@@ -317,45 +317,45 @@ fn set_out_again<A: Allocator + Copy>(
 fn begin_read<A: Allocator + Copy>(
     alloc: A,
     opens: &OpenFiles<A>,
-    handle: u64,
+    open_call: u64,
     offset: u64,
     size: u64,
 ) -> Next<A>
     ensures { (c : Vfs Opened) (call : ℕ) → after_beginning c call
-        (using_file handle (get opens.now.entries handle) offset size (λ opened. op.read opened offset size))
+        (using_file open_call (get opens.now.entries open_call) offset size (λ opened. op.read opened offset size))
         ≡ comes_to c call result }
 {
-    let Some(opened) = opens.get(handle) else {
+    let Some(opened) = opens.get(open_call) else {
         return Next::Answer { errno: EBADF };
     };
     if offset > MAX_FILE || size > MAX_TRANSFER {
         return Next::Answer { errno: EINVAL };
     }
-    Next::Ask(CallState::reads(alloc, handle, *opened, offset, size as u32))
+    Next::Ask(CallState::reads(alloc, open_call, *opened, offset, size as u32))
 }
 
 /// A call that puts bytes into an open file.
 fn begin_write<A: Allocator + Copy>(
     alloc: A,
     opens: &OpenFiles<A>,
-    handle: u64,
+    open_call: u64,
     offset: u64,
     bytes: &[u8],
 ) -> Result<Next<A>, AllocError>
     ensures begun { IfOk result (λ next. (c : Vfs Opened) (call : ℕ)
-        → after_beginning c call (using_file handle (get opens.now.entries handle) offset (length bytes.now)
+        → after_beginning c call (using_file open_call (get opens.now.entries open_call) offset (length bytes.now)
         (λ opened. op.write opened offset bytes.now)) ≡ comes_to c call next) }
     ensures wanting { OnErr result ((c : Vfs Opened) (call : ℕ)
         → (state : State Opened) × (after_beginning c call
-        (using_file handle (get opens.now.entries handle) offset (length bytes.now)
+        (using_file open_call (get opens.now.entries open_call) offset (length bytes.now)
         (λ opened. op.write opened offset bytes.now)) ≡ asking c call state)) }
 {
-    let Some(opened) = opens.get(handle) else {
+    let Some(opened) = opens.get(open_call) else {
         return Ok(Next::Answer { errno: EBADF });
     };
     if offset > MAX_FILE || bytes.len() as u64 > MAX_TRANSFER {
         return Ok(Next::Answer { errno: EINVAL });
     }
-    let state = CallState::writes(alloc, handle, *opened, offset, bytes)?;
+    let state = CallState::writes(alloc, open_call, *opened, offset, bytes)?;
     Ok(Next::Ask(state))
 }

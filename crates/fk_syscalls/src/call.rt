@@ -56,19 +56,19 @@ pub enum Call<'a> {
     },
     /// Bytes of an open file.
     Read {
-        handle: u64,
+        open_call: u64,
         offset: u64,
         size: u64,
     },
     /// Puts bytes into an open file.
     Write {
-        handle: u64,
+        open_call: u64,
         offset: u64,
         bytes: &'a [u8],
     },
     /// Closes an open file.
     Close {
-        handle: u64,
+        open_call: u64,
     },
 }
 

@@ -33,13 +33,13 @@ pub(crate) const ROOT: u64 = 1;
 pub(crate) enum Aim<A: Allocator> {
     Walks(Plan<Vec<u8, A>>),
     Reads {
-        handle: u64,
+        open_call: u64,
         fh: u64,
         offset: u64,
         size: u32,
     },
     Writes {
-        handle: u64,
+        open_call: u64,
         fh: u64,
         offset: u64,
         bytes: Vec<u8, A>,
@@ -191,8 +191,8 @@ impl<A: Allocator + Copy> CallState<A> {
     }
 
     /// A call that reads bytes of an open file.
-    pub(crate) fn reads(alloc: A, handle: u64, opened: Opened, offset: u64, size: u32) -> Self
-        ensures { result ≡ using handle (op.read opened offset size) }
+    pub(crate) fn reads(alloc: A, open_call: u64, opened: Opened, offset: u64, size: u32) -> Self
+        ensures { result ≡ using open_call (op.read opened offset size) }
     {
         let Opened { nodeid, fh } = opened;
         CallState {
@@ -200,7 +200,7 @@ impl<A: Allocator + Copy> CallState<A> {
             words: Vec::new(alloc),
             at: None,
             aim: Aim::Reads {
-                handle,
+                open_call,
                 fh,
                 offset,
                 size,
@@ -211,12 +211,12 @@ impl<A: Allocator + Copy> CallState<A> {
     /// A call that puts a copy of these bytes into an open file.
     pub(crate) fn writes(
         alloc: A,
-        handle: u64,
+        open_call: u64,
         opened: Opened,
         offset: u64,
         bytes: &[u8],
     ) -> Result<Self, AllocError>
-        ensures { IfOk result (λ state. state ≡ using handle (op.write opened offset bytes.now)) }
+        ensures { IfOk result (λ state. state ≡ using open_call (op.write opened offset bytes.now)) }
     {
         let Opened { nodeid, fh } = opened;
         let bytes = bytes.to_vec(alloc)?;
@@ -225,7 +225,7 @@ impl<A: Allocator + Copy> CallState<A> {
             words: Vec::new(alloc),
             at: None,
             aim: Aim::Writes {
-                handle,
+                open_call,
                 fh,
                 offset,
                 bytes,
@@ -354,12 +354,12 @@ impl<A: Allocator + Copy> CallState<A> {
     }
 
     /// The open file that it reads or writes, by its number.
-    pub fn handle(&self) -> Option<u64>
+    pub fn open_call(&self) -> Option<u64>
         ensures { result ≡ used_by self.now }
     {
         match &self.aim {
             Aim::Walks(_) => None,
-            Aim::Reads { handle, .. } | Aim::Writes { handle, .. } => Some(*handle),
+            Aim::Reads { open_call, .. } | Aim::Writes { open_call, .. } => Some(*open_call),
         }
     }
 }

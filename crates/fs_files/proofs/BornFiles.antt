@@ -10,11 +10,11 @@ use Rattle.fuse_spec.specs.Server.Nodes.{NodeTable, HeldNode, file_of, file_in, 
 use Rattle.fuse_spec.specs.Values.Numbers.{eisdir, max_transfer}
 use Rattle.fuse_spec.specs.Files.Operations.{Reply, content, create, created, found, lookup, mkdir, opening, read}
 use Rattle.fuse_spec.specs.declared.Validity.{Validity}
-use Rattle.fuse_spec.specs.Files.Trees.{Tree, Named, a_directory, a_file, file_bytes, file_at, is_at, is_directory, with_birth}
+use Rattle.fuse_spec.specs.Files.Trees.{Tree, Named, a_directory, a_file, file_bytes, file_at, is_at, is_directory, with_inode}
 use Rattle.fuse_spec.specs.Files.TreeShape.{IsShaped, IsInTree}
 use Rattle.fuse_spec.specs.Files.FileOperations.{lookup_reply, refusal, reply_unrefused}
 use Rattle.fs_tree.proofs.Counting.{found_there}
-use Rattle.fs_files.specs.declared.replies.Outcome.TheVariants.{Found, Created, Opened, Said}
+use Rattle.fs_files.specs.declared.replies.Outcome.TheVariants as outcome
 use Rattle.fuse_frames.specs.declared.reply.Reply.TheVariants as said
 use Rattle.fs_files.specs.Bounds.{AreLow, IsThere}
 use Rattle.fs_files.specs.Performing.{Operates}
@@ -22,19 +22,19 @@ use Rattle.fs_files.proofs.StaysKnown.{put_regular, put_there, regular_file}
 use Rattle.fs_tree.specs.Outcomes.{is_regular}
 
 found_file : (tree : Tree) → IsShaped tree → (o : Option Named) → ((n : Named) → o ≡ Some n → IsInTree tree n)
-    → (file : ℕ) → option_map (λ n. n.file) o ≡ Some file → file < tree.next_birth
+    → (file : ℕ) → option_map (λ n. n.file) o ≡ Some file → file < tree.next_inode
 found_file tree shaped None stands file is = absurd (none-some file is)
 found_file tree shaped (Some n) stands file is =
-    subst (λ (x : ℕ). x < tree.next_birth) (same_Some n.file file is) (by (nat_lt n.file tree.next_birth) refl)
+    subst (λ (x : ℕ). x < tree.next_inode) (same_Some n.file file is) (by (nat_lt n.file tree.next_inode) refl)
   where
-    by : (b : Bool) → nat_lt n.file tree.next_birth ≡ b → n.file < tree.next_birth
-    by true e = ltb-true n.file tree.next_birth e
-    by false e = let le = ltb-false n.file tree.next_birth e in
+    by : (b : Bool) → nat_lt n.file tree.next_inode ≡ b → n.file < tree.next_inode
+    by true e = ltb-true n.file tree.next_inode e
+    by false e = let le = ltb-false n.file tree.next_inode e in
         absurd (true≢false (sym (stands n refl).file ∙ ap is_some (shaped.unborn n.file le)))
 
 -- the file to which a name leads was born
 pub is_born : (tree : Tree) → IsShaped tree → (d : ℕ) (name : List ℕ) (file : ℕ) → file_at tree d name ≡ Some file
-    → file < tree.next_birth
+    → file < tree.next_inode
 is_born tree shaped d name file at =
     found_file tree shaped (find (is_at d name) tree.names)
     (λ n there. All-contains (IsInTree tree) tree.names n shaped.names
@@ -54,21 +54,21 @@ is_there tree shaped d name file at =
     (λ n there. All-contains (IsInTree tree) tree.names n shaped.names
     (found_there (is_at d name) tree.names n there)) file at
 
-pub looks_up : {A : Type 0} (valid : Validity) (tree : Tree) → IsShaped tree → tree.next_birth ≤ 2 ^ 62
+pub looks_up : {A : Type 0} (valid : Validity) (tree : Tree) → IsShaped tree → tree.next_inode ≤ 2 ^ 62
     → (d : ℕ) (name : List ℕ) (file : ℕ) → file_at tree d name ≡ Some file
-    → Operates {A = A} valid tree (lookup d name) (Found file) tree
-looks_up valid tree shaped births d name file at = record {
+    → Operates {A = A} valid tree (lookup d name) (outcome.Entry file) tree
+looks_up valid tree shaped inodes d name file at = record {
   says = sym (ap (lookup_reply valid) at);
   tree_is = refl;
   repliable = (
     let low = is_born tree shaped d name file at in
-        omega (arith, low, births),
+        omega (arith, low, inodes),
     is_there tree shaped d name file at,
   );
   short = omega arith;
 }
 
--- the file of a node is below the end of births
+-- the file of a node is below the end of inodes
 pub file_low : (nodes : NodeTable) → AreLow nodes → (id : ℕ) → file_of nodes id < 2 ^ 62
 file_low nodes low id = by (nat_eq id 1) (get nodes.rows id) refl
   where
@@ -84,7 +84,7 @@ bytes_in reply = []
 
 pub reads_bytes : {A : Type 0} (valid : Validity) (tree : Tree) (file offset size : ℕ) (bytes : Vec ℕ A)
     (read_now : List ℕ) → bytes.items ≡ read_now → reply_unrefused valid tree (read file offset size) ≡ content read_now
-    → Operates valid tree (read file offset size) (Said (said.Content bytes)) tree
+    → Operates valid tree (read file offset size) (outcome.Reply (said.Content bytes)) tree
 reads_bytes valid tree file offset size bytes read_now same is = record {
   says = ap content same ∙ sym is;
   tree_is = refl;
@@ -103,33 +103,33 @@ reads_bytes valid tree file offset size bytes read_now same is = record {
 -- ---- files that are born, and files that are opened
 
 module _ (valid : Validity) (tree : Tree) (d : ℕ) (name : List ℕ) (file : ℕ) (new : Tree)
-    (low : tree.next_birth < 2 ^ 62) (born : file ≡ tree.next_birth) where
+    (low : tree.next_inode < 2 ^ 62) (born : file ≡ tree.next_inode) where
   file_is_low : file < 2 ^ 62
   file_is_low = omega (arith, low, born)
 
-  pub makes_directory : {A : Type 0} → new ≡ with_birth tree d name a_directory
-      → Operates {A = A} valid tree (mkdir d name) (Found file) new
+  pub makes_directory : {A : Type 0} → new ≡ with_inode tree d name a_directory
+      → Operates {A = A} valid tree (mkdir d name) (outcome.Entry file) new
   makes_directory is = record {
     says = ap (λ (f : ℕ). found f valid.found_ms) born;
     tree_is = is;
     repliable = (
       file_is_low,
       subst (λ (t : Tree). IsThere t file) (sym is)
-          (subst (λ (f : ℕ). IsThere (with_birth tree d name a_directory) f) (sym born)
-          (put_there tree tree.next_birth a_directory)),
+          (subst (λ (f : ℕ). IsThere (with_inode tree d name a_directory) f) (sym born)
+          (put_there tree tree.next_inode a_directory)),
     );
     short = omega arith;
   }
 
-  pub makes_file : {A : Type 0} → new ≡ with_birth tree d name (a_file [])
-      → Operates {A = A} valid tree (create d name) (Created file) new
+  pub makes_file : {A : Type 0} → new ≡ with_inode tree d name (a_file [])
+      → Operates {A = A} valid tree (create d name) (outcome.Created file) new
   makes_file is =
       let there = subst (λ (t : Tree). IsThere t file) (sym is)
-      (subst (λ (f : ℕ). IsThere (with_birth tree d name (a_file [])) f) (sym born)
-      (put_there tree tree.next_birth (a_file []))) in
+      (subst (λ (f : ℕ). IsThere (with_inode tree d name (a_file [])) f) (sym born)
+      (put_there tree tree.next_inode (a_file []))) in
       let regular = subst (λ (t : Tree). IsTrue (is_regular t file)) (sym is)
-      (subst (λ (f : ℕ). IsTrue (is_regular (with_birth tree d name (a_file [])) f)) (sym born)
-      (put_regular tree tree.next_birth [])) in
+      (subst (λ (f : ℕ). IsTrue (is_regular (with_inode tree d name (a_file [])) f)) (sym born)
+      (put_regular tree tree.next_inode [])) in
       record {
         says = ap (λ (f : ℕ). created f valid.found_ms f) born;
         tree_is = is;
@@ -143,7 +143,7 @@ unrefused true e = absurd (none-some eisdir (sym e))
 unrefused false e = refl
 
 pub opens : {A : Type 0} (valid : Validity) (tree : Tree) (file : ℕ) → IsThere tree file
-    → refusal tree (opening file) ≡ None → Operates {A = A} valid tree (opening file) (Opened file) tree
+    → refusal tree (opening file) ≡ None → Operates {A = A} valid tree (opening file) (outcome.Opened file) tree
 opens valid tree file there none = record {
   says = refl;
   tree_is = refl;

@@ -1,4 +1,4 @@
--- No request draws more than one birth, one serial and one open number, and no reply names more than 32 files.
+-- No request draws more than one inode, one cookie and one open number, and no reply names more than 32 files.
 use Rattle.std.proofs.Common.{◌≡◌, ℕ, ◌+◌, ◌-◌, ◌*◌, ◌≤◌, ◌<◌, ◌^◌, Bool, true, false, cond, ◌||◌, List, [], ◌∷◌, length, Option, Some, None, nat_eq, T, arith, ap, refl}
 use Rattle.std.specs.Prelude.{count_by, min, nat_le}
 use Rattle.std.specs.List.{list_any}
@@ -19,26 +19,26 @@ use Rattle.fuse_spec.specs.Server.Server.{Server, HeldRequest}
 use Rattle.fs_nodes.proofs.Maps.{there_any}
 use Rattle.fs_files.specs.Bounds.{HaveCountsUpTo}
 use Rattle.fs_files.specs.Giving.{generations_after, has_node_already, new_among}
-use Rattle.fs_files.specs.Performing.{said, said_by, tree_said, tree_by}
+use Rattle.fs_files.specs.Performing.{said, body_reply, tree_said, tree_by}
 use Rattle.fs_files.proofs.FilesListed.{first_few}
 
 -- what a request draws at most whose reply and whose tree are these
 pub record DrawsFew (tree new : Tree) (reply : Reply ℕ ℕ) : Type 0 where
-  pub births : new.next_birth ≤ tree.next_birth + 1
-  pub serials : new.next_serial ≤ tree.next_serial + 1
+  pub inodes : new.next_inode ≤ tree.next_inode + 1
+  pub cookies : new.next_cookie ≤ tree.next_cookie + 1
   pub files : length (files_in_reply reply) ≤ 32
   pub opens : length (opens_in_reply reply) ≤ 1
 
 -- a reply that names no file and no open number, where the counters of the tree stay
-none_drawn : (tree new : Tree) (reply : Reply ℕ ℕ) → new.next_birth ≡ tree.next_birth
-    → new.next_serial ≡ tree.next_serial → files_in_reply reply ≡ [] → opens_in_reply reply ≡ []
+none_drawn : (tree new : Tree) (reply : Reply ℕ ℕ) → new.next_inode ≡ tree.next_inode
+    → new.next_cookie ≡ tree.next_cookie → files_in_reply reply ≡ [] → opens_in_reply reply ≡ []
     → DrawsFew tree new reply
-none_drawn tree new reply births serials files opens =
+none_drawn tree new reply inodes cookies files opens =
     let no_files = ap (λ (xs : List ℕ). length xs) files in
     let no_opens = ap (λ (xs : List ℕ). length xs) opens in
     record {
-      births = omega (arith, births);
-      serials = omega (arith, serials);
+      inodes = omega (arith, inodes);
+      cookies = omega (arith, cookies);
       files = omega (arith, no_files);
       opens = omega (arith, no_opens);
     }
@@ -73,8 +73,8 @@ pairs_few room (p ∷ ps) = by (nat_le (pair_length p) room) refl (pairs_few (ro
 looked_up_few : (v : Validity) (tree : Tree) (o : Option ℕ) → DrawsFew tree tree (lookup_reply v o)
 looked_up_few v tree None = none_drawn _ _ _ refl refl refl refl
 looked_up_few v tree (Some file) = record {
-  births = omega arith;
-  serials = omega arith;
+  inodes = omega arith;
+  cookies = omega arith;
   files = omega arith;
   opens = omega arith;
 }
@@ -84,8 +84,8 @@ renamed_few : (v : Validity) (tree : Tree) (d : ℕ) (old : List ℕ) (e : ℕ) 
 renamed_few v tree d old e new true o = none_drawn _ _ _ refl refl refl refl
 renamed_few v tree d old e new false None = none_drawn _ _ _ refl refl refl refl
 renamed_few v tree d old e new false (Some file) = record {
-  births = omega arith;
-  serials = omega arith;
+  inodes = omega arith;
+  cookies = omega arith;
   files = omega arith;
   opens = omega arith;
 }
@@ -100,35 +100,35 @@ unrefused_few v tree (readdirplus d after size) =
     let told = told_few pairs in
     let few = pairs_few (min size max_transfer) (pairs_after v.found_ms tree d after) in
     record {
-      births = omega arith;
-      serials = omega arith;
+      inodes = omega arith;
+      cookies = omega arith;
       files = omega (arith, told, few);
       opens = omega arith;
     }
 unrefused_few v tree (getattr file) = none_drawn _ _ _ refl refl refl refl
 unrefused_few v tree (mkdir d name) = record {
-  births = omega arith;
-  serials = omega arith;
+  inodes = omega arith;
+  cookies = omega arith;
   files = omega arith;
   opens = omega arith;
 }
 unrefused_few v tree (create d name) = record {
-  births = omega arith;
-  serials = omega arith;
+  inodes = omega arith;
+  cookies = omega arith;
   files = omega arith;
   opens = omega arith;
 }
 unrefused_few v tree (unlink d name) = none_drawn _ _ _ refl refl refl refl
 unrefused_few v tree (rmdir d name) = none_drawn _ _ _ refl refl refl refl
 unrefused_few v tree (link file d name) = record {
-  births = omega arith;
-  serials = omega arith;
+  inodes = omega arith;
+  cookies = omega arith;
   files = omega arith;
   opens = omega arith;
 }
 unrefused_few v tree (opening file) = record {
-  births = omega arith;
-  serials = omega arith;
+  inodes = omega arith;
+  cookies = omega arith;
   files = omega arith;
   opens = omega arith;
 }
@@ -148,7 +148,7 @@ operation_few v tree operation = by (refusal tree operation)
 
 -- ---- requests
 
-body_few : (s : Server) (body : RequestBody) → DrawsFew s.tree (tree_by s body) (said_by s body)
+body_few : (s : Server) (body : RequestBody) → DrawsFew s.tree (tree_by s body) (body_reply s body)
 body_few s (asks operation) = by (is_open_for s operation)
   where
     by : (b : Bool) → DrawsFew s.tree (cond b (tree_after s.tree (file_operation_of s.nodes operation)) s.tree)
@@ -170,7 +170,7 @@ pub draws_few : (s : Server) (h : HeldRequest) → DrawsFew s.tree (tree_said s 
 draws_few s h = by h.marked (is_still_held s.nodes h.generations)
   where
     by : (m b : Bool) → DrawsFew s.tree (cond m s.tree (cond b (tree_by s h.body) s.tree))
-        (cond m (failed eintr) (cond b (said_by s h.body) (failed eio)))
+        (cond m (failed eintr) (cond b (body_reply s h.body) (failed eio)))
     by true b = refused_few s.tree eintr
     by false true = body_few s h.body
     by false false = refused_few s.tree eio

@@ -16,7 +16,7 @@ use Rattle.fs_files.specs.Bounds.{AreHeldBelow}
 use Rattle.fs_files.specs.Listed.{dirents_in_bytes, pair_listed}
 use Rattle.fs_files.specs.Replies.{IsRepliable, outcome_reply}
 use Rattle.fs_files.specs.declared.replies.Outcome.{Outcome}
-use Rattle.fs_files.specs.declared.replies.Outcome.TheVariants.{Found, Created, Opened, ListedPlus, Said}
+use Rattle.fs_files.specs.declared.replies.Outcome.TheVariants as outcome
 use Rattle.fuse_frames.specs.declared.reply.Reply.TheVariants as said
 use Rattle.fs_files.proofs.Bounds.{each_put}
 
@@ -94,20 +94,20 @@ few_files ms (d ∷ ds) = by (is_dots d.name) (few_files ms ds)
 
 pub few_given : {A : Type 0} (tree : Tree) (ms : ℕ) (o : Outcome A) → IsRepliable tree o
     → length (files_in_reply (outcome_reply ms o)) ≤ 32
-few_given tree ms (Found file) repliable = omega arith
-few_given tree ms (Created file) repliable = omega arith
-few_given tree ms (Opened file) repliable = omega arith
-few_given tree ms (ListedPlus records) repliable = let most = repliable.1 in let few =
+few_given tree ms (outcome.Entry file) repliable = omega arith
+few_given tree ms (outcome.Created file) repliable = omega arith
+few_given tree ms (outcome.Opened file) repliable = omega arith
+few_given tree ms (outcome.ListedPlus records) repliable = let most = repliable.1 in let few =
     few_files ms (dirents_in_bytes records.items) in omega (arith, most, few)
-few_given tree ms (Said (said.Found entry valid)) repliable = absurd repliable.0
-few_given tree ms (Said (said.Missing valid)) repliable = omega arith
-few_given tree ms (Said (said.Created entry valid fh)) repliable = absurd repliable.0
-few_given tree ms (Said (said.Opened fh)) repliable = absurd repliable.0
-few_given tree ms (Said (said.Attributes attributes)) repliable = omega arith
-few_given tree ms (Said (said.Listed records)) repliable = omega arith
-few_given tree ms (Said (said.ListedPlus names)) repliable = absurd repliable.0
-few_given tree ms (Said (said.Content bytes)) repliable = omega arith
-few_given tree ms (Said (said.Written size)) repliable = omega arith
-few_given tree ms (Said (said.Agreed major minor flags)) repliable = omega arith
-few_given tree ms (Said said.Done) repliable = omega arith
-few_given tree ms (Said (said.Failed errno)) repliable = omega arith
+few_given tree ms (outcome.Reply (said.Entry entry valid)) repliable = absurd repliable.0
+few_given tree ms (outcome.Reply (said.Negative valid)) repliable = omega arith
+few_given tree ms (outcome.Reply (said.Created entry valid fh)) repliable = absurd repliable.0
+few_given tree ms (outcome.Reply (said.Opened fh)) repliable = absurd repliable.0
+few_given tree ms (outcome.Reply (said.Attributes attributes)) repliable = omega arith
+few_given tree ms (outcome.Reply (said.Listed records)) repliable = omega arith
+few_given tree ms (outcome.Reply (said.ListedPlus names)) repliable = absurd repliable.0
+few_given tree ms (outcome.Reply (said.Content bytes)) repliable = omega arith
+few_given tree ms (outcome.Reply (said.Written size)) repliable = omega arith
+few_given tree ms (outcome.Reply (said.Agreed major minor flags)) repliable = omega arith
+few_given tree ms (outcome.Reply said.Done) repliable = omega arith
+few_given tree ms (outcome.Reply (said.Failed errno)) repliable = omega arith

@@ -159,13 +159,13 @@ listed_same ds es e = ap records_said e
 
 -- ---- which files are listed
 
-pub low_born : (tree : Tree) → IsShaped tree → tree.next_birth ≤ 2 ^ 62 → (file : ℕ) → IsSome (get tree.files file)
+pub low_born : (tree : Tree) → IsShaped tree → tree.next_inode ≤ 2 ^ 62 → (file : ℕ) → IsSome (get tree.files file)
     → file < 2 ^ 62
-low_born tree shaped births file there = by (nat_lt file tree.next_birth) refl
+low_born tree shaped inodes file there = by (nat_lt file tree.next_inode) refl
   where
-    by : (b : Bool) → nat_lt file tree.next_birth ≡ b → file < 2 ^ 62
-    by true e = let lt = ltb-true file tree.next_birth e in omega (arith, lt, births)
-    by false e = let le = ltb-false file tree.next_birth e in
+    by : (b : Bool) → nat_lt file tree.next_inode ≡ b → file < 2 ^ 62
+    by true e = let lt = ltb-true file tree.next_inode e in omega (arith, lt, inodes)
+    by false e = let le = ltb-false file tree.next_inode e in
         absurd (true≢false (sym there ∙ ap is_some (shaped.unborn file le)))
 
 -- a record of a file that was born
@@ -189,15 +189,15 @@ low_files (r ∷ rs) low =
     All-cons (λ (q : Record). q.file < 2 ^ 62) r rs (omega (arith, first))
     (low_files rs (All-tail IsLow (viewed_dirent r) (map viewed_dirent rs) low))
 
--- the files of the names in a directory are below the end of births
-pub low_records : (tree : Tree) → IsShaped tree → tree.next_birth ≤ 2 ^ 62
+-- the files of the names in a directory are below the end of inodes
+pub low_records : (tree : Tree) → IsShaped tree → tree.next_inode ≤ 2 ^ 62
     → (directory after room : ℕ) (rs : List Record) → fitting room (records_after tree directory after)
     ≡ map viewed_dirent rs → All (λ (r : Record). r.file < 2 ^ 62) rs
-low_records tree shaped births directory after room rs some =
+low_records tree shaped inodes directory after room rs some =
     let named : All (λ (n : Named). IsLow (spec_record_of tree n)) tree.names = λ i d lt. let low =
-    low_born tree shaped births _ (shaped.names i d lt).file in omega (arith, low) in
-    let here = All-filter (λ n. nat_lt after n.serial) (λ n. IsLow (spec_record_of tree n)) (directory_names tree directory)
+    low_born tree shaped inodes _ (shaped.names i d lt).file in omega (arith, low) in
+    let here = All-filter (λ n. nat_lt after n.cookie) (λ n. IsLow (spec_record_of tree n)) (directory_names tree directory)
     (All-filter (λ n. nat_eq n.directory directory) (λ n. IsLow (spec_record_of tree n)) tree.names named) in
     low_files rs (subst (λ (ds : List SpecDirent). All IsLow ds) some
     (low_fitting room (records_after tree directory after)
-    (All-map IsLow (spec_record_of tree) (filter (λ n. nat_lt after n.serial) (directory_names tree directory)) here)))
+    (All-map IsLow (spec_record_of tree) (filter (λ n. nat_lt after n.cookie) (directory_names tree directory)) here)))

@@ -14,7 +14,7 @@ use Rattle.fs_files.specs.Listing.{Lists, listing, written_record_of}
 use Rattle.fs_files.specs.Listed.{dirents_in_bytes}
 use Rattle.fs_files.specs.Performing.{Operates}
 use Rattle.fs_files.specs.Replies.{IsListable}
-use Rattle.fs_files.specs.declared.replies.Outcome.TheVariants.{ListedPlus, Said}
+use Rattle.fs_files.specs.declared.replies.Outcome.TheVariants as outcome
 use Rattle.fuse_frames.specs.declared.reply.Reply.TheVariants as said
 use Rattle.fs_files.proofs.Listing.{few_bytes, listed_are, listed_same, low_records, names_are_records}
 use Rattle.fs_files.proofs.PairListing.{few_pairs, listable_records, low_listed, pairs_are, pairs_same}
@@ -26,13 +26,13 @@ module _ (tree : Tree) (directory after size : ℕ) where
   abbrev room : ℕ
   room = min size max_transfer
 
-  module _ (shaped : IsShaped tree) (births : tree.next_birth ≤ 2 ^ 62) where
+  module _ (shaped : IsShaped tree) (inodes : tree.next_inode ≤ 2 ^ 62) where
     -- the files that are listed were born
     pub low_names : (with_files : Bool) (rs : List Record) → Lists with_files tree directory after size rs
         → All (λ (r : Record). r.file < 2 ^ 62) rs
-    low_names true rs is = low_listed tree rs (listable_records tree shaped births 0 directory after room rs
+    low_names true rs is = low_listed tree rs (listable_records tree shaped inodes 0 directory after room rs
         (pairs_same _ _ (is some_validity)))
-    low_names false rs is = low_records tree shaped births directory after room rs
+    low_names false rs is = low_records tree shaped inodes directory after room rs
         (listed_same _ _ (is some_validity))
 
     module _ {A : Type 0} (rs : List Record) (bytes : Vec ℕ A) (named : HaveRecordNames (map written_record_of rs))
@@ -40,7 +40,7 @@ module _ (tree : Tree) (directory after size : ℕ) where
         (v : Validity) where
       -- what a READDIRPLUS comes to
       pub lists_files : (with_files : Bool) → with_files ≡ true → Lists with_files tree directory after size rs
-          → Operates {A = A} v tree (listing with_files directory after size) (ListedPlus bytes) tree
+          → Operates {A = A} v tree (listing with_files directory after size) (outcome.ListedPlus bytes) tree
       lists_files true e says =
           let same : fitting_pairs room (pairs_after v.found_ms tree directory after) ≡ map (viewed_pair v.found_ms) rs =
           pairs_same _ _ (says v) in
@@ -54,7 +54,7 @@ module _ (tree : Tree) (directory after size : ℕ) where
               names_are_records rs bytes.items named fits is,
               few,
               subst (λ (ds : List Dirent). All (IsListable tree) ds) (sym (listed_are rs bytes.items fits is))
-                  (listable_records tree shaped births v.found_ms directory after room rs same),
+                  (listable_records tree shaped inodes v.found_ms directory after room rs same),
             );
             short = few;
           }
@@ -62,7 +62,7 @@ module _ (tree : Tree) (directory after size : ℕ) where
 
       -- what a READDIR comes to
       pub lists_names : (with_files : Bool) → with_files ≡ false → Lists with_files tree directory after size rs
-          → Operates {A = A} v tree (listing with_files directory after size) (Said (said.Listed bytes)) tree
+          → Operates {A = A} v tree (listing with_files directory after size) (outcome.Reply (said.Listed bytes)) tree
       lists_names false e says =
           let same : fitting room (records_after tree directory after) ≡ map viewed_dirent rs =
           listed_same _ _ (says v) in

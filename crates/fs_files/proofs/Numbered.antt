@@ -8,11 +8,11 @@ use Rattle.fs_files.specs.Numbering.{GivesEntry, GivesNumbers}
 use Rattle.fs_files.specs.Values.{FilesState}
 use Rattle.fuse_frames.specs.declared.reply.Reply.TheVariants as said
 use Rattle.fs_files.specs.Replies.{NamesNoFile, SentReply, outcome_reply}
-use Rattle.fs_files.specs.declared.replies.Outcome.TheVariants.{Said}
+use Rattle.fs_files.specs.declared.replies.Outcome.TheVariants as outcome
 
 pub gives_found : {A : Type 0} (one two : FilesState) (file ms : ℕ) (entry : Entry)
     → GivesEntry one.tree one.nodes file two.nodes entry → two.tree ≡ one.tree → two.handles ≡ one.handles
-    → GivesNumbers {A = A} one (operation.found file ms) (said.Found entry ms) two
+    → GivesNumbers {A = A} one (operation.found file ms) (said.Entry entry ms) two
 gives_found one two file ms entry g tree handles = record {
   choice = λ n. g.id;
   may = (g.may, tt);
@@ -51,9 +51,9 @@ gives_opened one two file fh fh_is tree nodes handles = record {
 
 -- nothing is given for a reply that names nothing
 pub gives_said : {A : Type 0} (one : FilesState) (ms : ℕ) (reply : SentReply A) → NamesNoFile reply
-    → GivesNumbers {A = A} one (outcome_reply ms (Said reply)) reply one
-gives_said one ms (said.Found entry valid) nothing = absurd nothing
-gives_said one ms (said.Missing valid) nothing = record {
+    → GivesNumbers {A = A} one (outcome_reply ms (outcome.Reply reply)) reply one
+gives_said one ms (said.Entry entry valid) nothing = absurd nothing
+gives_said one ms (said.Negative valid) nothing = record {
   choice = λ n. n;
   may = tt;
   tree_is = refl;

@@ -39,10 +39,10 @@ less_one n = omega arith
 one_or_more : (n : ℕ) → 1 ≤ n + 1
 one_or_more n = omega arith
 
-listable_file : (tree : Tree) → IsShaped tree → tree.next_birth ≤ 2 ^ 62 → (file : ℕ) → IsThere tree file
+listable_file : (tree : Tree) → IsShaped tree → tree.next_inode ≤ 2 ^ 62 → (file : ℕ) → IsThere tree file
     → (1 ≤ file + 1) × (file + 1 - 1 < 2 ^ 62) × IsThere tree (file + 1 - 1)
-listable_file tree shaped births file there =
-    let low = low_born tree shaped births file there in (
+listable_file tree shaped inodes file there =
+    let low = low_born tree shaped inodes file there in (
       one_or_more file,
       subst (λ (f : ℕ). f < 2 ^ 62) (sym (less_one file)) low,
       subst (IsThere tree) (sym (less_one file)) there,
@@ -69,22 +69,22 @@ listable_names tree valid (r ∷ rs) low =
     (listable_names tree valid rs (All-tail (IsListed tree) (viewed_pair valid r) (map (viewed_pair valid) rs) low))
 
 -- the names of the pairs that fit some room are of files of the tree
-pub listable_records : (tree : Tree) → IsShaped tree → tree.next_birth ≤ 2 ^ 62
+pub listable_records : (tree : Tree) → IsShaped tree → tree.next_inode ≤ 2 ^ 62
     → (valid directory after room : ℕ) (rs : List Record)
     → fitting_pairs room (pairs_after valid tree directory after) ≡ map (viewed_pair valid) rs
     → All (IsListable tree) (map viewed_dirent rs)
-listable_records tree shaped births valid directory after room rs some =
+listable_records tree shaped inodes valid directory after room rs some =
     let named : All (λ (n : Named). IsListed tree (spec_pair_of valid tree n)) tree.names =
-    λ i d lt. listable_file tree shaped births _ (shaped.names i d lt).file in
-    let here = All-filter (λ n. nat_lt after n.serial) (λ n. IsListed tree (spec_pair_of valid tree n))
+    λ i d lt. listable_file tree shaped inodes _ (shaped.names i d lt).file in
+    let here = All-filter (λ n. nat_lt after n.cookie) (λ n. IsListed tree (spec_pair_of valid tree n))
     (directory_names tree directory) (All-filter (λ n. nat_eq n.directory directory)
     (λ n. IsListed tree (spec_pair_of valid tree n)) tree.names named) in
     listable_names tree valid rs (subst (λ (ps : List (DirentPlus ℕ)). All (IsListed tree) ps) some
     (listed_fitting tree room (pairs_after valid tree directory after)
     (All-map (IsListed tree) (spec_pair_of valid tree)
-    (filter (λ n. nat_lt after n.serial) (directory_names tree directory)) here)))
+    (filter (λ n. nat_lt after n.cookie) (directory_names tree directory)) here)))
 
--- their files are below the end of births
+-- their files are below the end of inodes
 pub low_listed : (tree : Tree) (rs : List Record) → All (IsListable tree) (map viewed_dirent rs)
     → All (λ (r : Record). r.file < 2 ^ 62) rs
 low_listed tree [] low = All-nil (λ (r : Record). r.file < 2 ^ 62)

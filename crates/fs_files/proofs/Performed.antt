@@ -11,7 +11,7 @@ use Rattle.fuse_spec.specs.Server.Nodes.{HandleTable, file_of, is_open, handle_b
 use Rattle.fuse_spec.specs.Server.Server.{Server, HeldRequest, Kept, Copy}
 use Rattle.fuse_spec.specs.Files.Trees.{Tree}
 use Rattle.fuse_spec.specs.Server.Performs.{PerformResult, performed, performing, refusing, doing, file_operation_of, is_open_for, is_still_held, files_by, files_given, wire_of}
-use Rattle.fs_files.specs.Performing.{said, said_by, tree_said, tree_by, handles_said, handles_by, numbering}
+use Rattle.fs_files.specs.Performing.{said, body_reply, tree_said, tree_by, handles_said, handles_by, numbering}
 
 -- the server after a request is answered on the tree
 abbrev pub answered : Server → HeldRequest → Server
@@ -50,7 +50,7 @@ module _ (choice : ℕ → ℕ) (s : Server) (up : s.aborted ≡ false) where
   released_so o false = refl
 
   of_body : (body : RequestBody) → performing choice s body
-      ≡ numbering choice (record s { tree = tree_by s body; handles = handles_by s body }) (said_by s body)
+      ≡ numbering choice (record s { tree = tree_by s body; handles = handles_by s body }) (body_reply s body)
   of_body (init flags) = refl
   of_body (asks operation) = asked_so operation (is_open_for s operation)
   of_body (release o) = released_so o (is_open s.handles o.fh (file_of s.nodes o.nodeid))
@@ -67,7 +67,7 @@ module _ (choice : ℕ → ℕ) (s : Server) (up : s.aborted ≡ false) where
             tree = cond m s.tree (cond b (tree_by s h.body) s.tree);
             handles = cond m s.handles (cond b (handles_by s h.body) s.handles);
           })
-          (cond m (failed eintr) (cond b (said_by s h.body) (failed eio)))
+          (cond m (failed eintr) (cond b (body_reply s h.body) (failed eio)))
       by true b = refl
       by false true = of_body h.body
       by false false = refl
@@ -107,7 +107,7 @@ module _ (choice : ℕ → ℕ) (s : Server) (gone : s.aborted ≡ true) where
   released_lost o false = (refl, refl)
 
   body_lost : (body : RequestBody) → IsLost (record s { tree = tree_by s body; handles = handles_by s body })
-      (said_by s body) (performing choice s body)
+      (body_reply s body) (performing choice s body)
   body_lost (init flags) = (refl, refl)
   body_lost (asks operation) = asked_lost operation (is_open_for s operation)
   body_lost (release o) = released_lost o (is_open s.handles o.fh (file_of s.nodes o.nodeid))
@@ -122,7 +122,7 @@ module _ (choice : ℕ → ℕ) (s : Server) (gone : s.aborted ≡ true) where
         tree = cond m s.tree (cond b (tree_by s h.body) s.tree);
         handles = cond m s.handles (cond b (handles_by s h.body) s.handles);
       })
-          (cond m (failed eintr) (cond b (said_by s h.body) (failed eio)))
+          (cond m (failed eintr) (cond b (body_reply s h.body) (failed eio)))
           (cond m (refusing s eintr) (cond b (performing choice s h.body) (refusing s eio)))
       by true b = (refl, refl)
       by false true = body_lost h.body
@@ -130,7 +130,7 @@ module _ (choice : ℕ → ℕ) (s : Server) (gone : s.aborted ≡ true) where
 
 -- ---- the files that get nodes
 
-files_said : (s : Server) (body : RequestBody) → files_by s body ≡ files_in_reply (said_by s body)
+files_said : (s : Server) (body : RequestBody) → files_by s body ≡ files_in_reply (body_reply s body)
 files_said s (init flags) = refl
 files_said s (asks operation) = by (is_open_for s operation)
   where
@@ -152,7 +152,7 @@ files_are s h up = ap (λ (a : Bool). cond (a || (h.marked || not (is_still_held
     (files_by s h.body)) up ∙ by h.marked (is_still_held s.nodes h.generations)
   where
     by : (m b : Bool) → cond (m || not b) [] (files_by s h.body)
-        ≡ files_in_reply (cond m (failed eintr) (cond b (said_by s h.body) (failed eio)))
+        ≡ files_in_reply (cond m (failed eintr) (cond b (body_reply s h.body) (failed eio)))
     by true b = refl
     by false true = files_said s h.body
     by false false = refl
@@ -182,7 +182,7 @@ module _ (s : Server) (held : Map HeldRequest) (kept : Map Kept) (copies : Map C
   same_open (operation.read o offset size) = refl
   same_open (operation.write o offset bytes) = refl
 
-  same_by : (body : RequestBody) → said_by other body ≡ said_by s body
+  same_by : (body : RequestBody) → body_reply other body ≡ body_reply s body
   same_by (init flags) = refl
   same_by (asks operation) = ap (λ (b : Bool). cond b
       (reply_by s.validity s.tree (file_operation_of s.nodes operation)) (failed ebadf)) (same_open operation)

@@ -14,7 +14,7 @@ use Rattle.fuse_spec.specs.Server.Server.{is_file_held}
 use Rattle.fuse_spec.specs.declared.Opened.{Opened}
 use Rattle.fuse_spec.specs.Files.FileOperations.{FileOperation, is_same, renamed, tree_unrefused}
 use Rattle.fuse_spec.specs.Files.Operations as operation
-use Rattle.fuse_spec.specs.Files.Trees.{Content, Tree, a_directory, a_file, file_bytes, file_at, is_directory, is_kind_directory, is_nameless, kind_of, overwritten, with_birth}
+use Rattle.fuse_spec.specs.Files.Trees.{Content, Tree, a_directory, a_file, file_bytes, file_at, is_directory, is_kind_directory, is_nameless, kind_of, overwritten, with_inode}
 use Rattle.fuse_spec.specs.Files.TreeShape.{IsShaped, WritesRegular}
 use Rattle.fuse_spec.proofs.Tables.{get_gone_there, get_put_here, get_put_there}
 use Rattle.fs_tree.specs.Outcomes.{is_kind_regular, discarded, is_regular}
@@ -176,13 +176,13 @@ not_there None e there = absurd (cc)
 not_there (Some c) e there = absurd (cc)
 
 module _ (tree : Tree) (shaped : IsShaped tree) where
-  is_old : (file : ℕ) → IsThere tree file → file ≢ tree.next_birth
+  is_old : (file : ℕ) → IsThere tree file → file ≢ tree.next_inode
   is_old file there e = not_there (get tree.files file) (shaped.unborn file (omega (arith, e))) there
 
-  keeps_birth : (directory : ℕ) (name : List ℕ) (c : Content) → KeepsFiles tree (with_birth tree directory name c)
-  keeps_birth directory name c = record {
-    there = λ file is. ap is_some (get_put_there tree.files tree.next_birth c file (is_old file is)) ∙ is;
-    kind = λ file is. ap kind_of (get_put_there tree.files tree.next_birth c file (is_old file is));
+  keeps_inode : (directory : ℕ) (name : List ℕ) (c : Content) → KeepsFiles tree (with_inode tree directory name c)
+  keeps_inode directory name c = record {
+    there = λ file is. ap is_some (get_put_there tree.files tree.next_inode c file (is_old file is)) ∙ is;
+    kind = λ file is. ap kind_of (get_put_there tree.files tree.next_inode c file (is_old file is));
   }
 
   keeps_written : (file : ℕ) (bytes : List ℕ) → kind_of (get tree.files file) ≡ Regular
@@ -206,8 +206,8 @@ module _ (tree : Tree) (shaped : IsShaped tree) where
   pub keeps_files : (o : FileOperation) → WritesRegular tree o → KeepsFiles tree (tree_unrefused tree o)
   keeps_files (operation.lookup d name) regular = same_files tree tree refl
   keeps_files (operation.getattr file) regular = same_files tree tree refl
-  keeps_files (operation.mkdir d name) regular = keeps_birth d name a_directory
-  keeps_files (operation.create d name) regular = keeps_birth d name (a_file [])
+  keeps_files (operation.mkdir d name) regular = keeps_inode d name a_directory
+  keeps_files (operation.create d name) regular = keeps_inode d name (a_file [])
   keeps_files (operation.unlink d name) regular = same_files tree (tree_unrefused tree (operation.unlink d name)) refl
   keeps_files (operation.rmdir d name) regular = same_files tree (tree_unrefused tree (operation.rmdir d name)) refl
   keeps_files (operation.link file d name) regular =

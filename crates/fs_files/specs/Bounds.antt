@@ -1,4 +1,4 @@
--- How far counts and births go, and what is known of the files that have nodes and open numbers.
+-- How far counts and inodes go, and what is known of the files that have nodes and open numbers.
 use Rattle.std.specs.Prelude.{◌≡◌, ◌≢◌, ◌<◌, ◌≤◌, ℕ, false, Option, None, Some, IsSome, IsTrue, T}
 use Rattle.std.specs.FinMap.{is_sorted}
 use Rattle.std.specs.Ordering.{nat_cmp}
@@ -20,7 +20,7 @@ AreHeldBelow nodes = (id : ℕ) (row : HeldNode) → get nodes.rows id ≡ Some 
 abbrev pub AreUsed : ℕ → HandleTable → Type 0
 AreUsed most handles = (fh : ℕ) (handle : OpenNumber) → get handles.handles fh ≡ Some handle → handle.count ≤ most
 
--- every node's file is below the end of births
+-- every node's file is below the end of inodes
 abbrev pub AreLow : NodeTable → Type 0
 AreLow nodes = (id : ℕ) (row : HeldNode) → get nodes.rows id ≡ Some row → row.file < counter_end
 

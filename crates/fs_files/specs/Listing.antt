@@ -10,7 +10,7 @@ use Rattle.fs_tree.specs.Views.{viewed_dirent, viewed_pair}
 use Rattle.fs_tree.specs.declared.listing.Record.{Record}
 
 abbrev pub written_record_of : Record → DirentContent
-written_record_of r = record { ino = r.file + 1; off = r.serial; kind = type_of r.kind; name = r.name.now }
+written_record_of r = record { ino = r.file + 1; off = r.cookie; kind = type_of r.kind; name = r.name.now }
 
 -- the operation that lists names of a directory, with their files or without
 abbrev pub listing : (with_files : Bool) (directory after size : ℕ) → FileOperation

@@ -16,15 +16,15 @@ use Rattle.fs_files.specs.declared.replies.Outcome.{Outcome}
 use Rattle.fs_files.specs.Replies.{IsRepliable, outcome_len, outcome_reply}
 use Rattle.fs_files.specs.Values.{reply_room_of, reply_room_for}
 
--- What a request is answered whose nodes are still held, with files named by their births.
-abbrev pub said_by : Server → RequestBody → Reply ℕ ℕ
-said_by s (init flags) = agreed 7 (minor_number s.minor) (bit_and flags (flags_known s.minor))
-said_by s (asks operation) = cond (is_open_for s operation)
+-- What a request is answered whose nodes are still held, with files named by their inodes.
+abbrev pub body_reply : Server → RequestBody → Reply ℕ ℕ
+body_reply s (init flags) = agreed 7 (minor_number s.minor) (bit_and flags (flags_known s.minor))
+body_reply s (asks operation) = cond (is_open_for s operation)
     (reply_by s.validity s.tree (file_operation_of s.nodes operation)) (failed ebadf)
-said_by s (release o) = cond (is_open s.handles o.fh (file_of s.nodes o.nodeid)) done (failed ebadf)
-said_by s (forget f) = failed eio
-said_by s (batch_forget fs) = failed eio
-said_by s (interrupt original) = failed eio
+body_reply s (release o) = cond (is_open s.handles o.fh (file_of s.nodes o.nodeid)) done (failed ebadf)
+body_reply s (forget f) = failed eio
+body_reply s (batch_forget fs) = failed eio
+body_reply s (interrupt original) = failed eio
 
 -- the tree after it
 abbrev pub tree_by : Server → RequestBody → Tree
@@ -48,7 +48,7 @@ handles_by s (interrupt original) = s.handles
 
 -- The same of any held request: EINTR of a marked one, and EIO of one whose node is gone.
 abbrev pub said : Server → HeldRequest → Reply ℕ ℕ
-said s held = cond held.marked (failed eintr) (cond (is_still_held s.nodes held.generations) (said_by s held.body)
+said s held = cond held.marked (failed eintr) (cond (is_still_held s.nodes held.generations) (body_reply s held.body)
     (failed eio))
 
 abbrev pub tree_said : Server → HeldRequest → Tree
@@ -88,7 +88,7 @@ pub record Operates {A : Type 0} (valid : Validity) (tree : Tree) (operation : F
 
 -- A request comes to this on the tree, if its nodes are still held.
 pub record ComesTo {A : Type 0} (s : Server) (body : RequestBody) (outcome : Outcome A) (new : Tree) : Type 0 where
-  pub says : outcome_reply s.validity.found_ms outcome ≡ said_by s body
+  pub says : outcome_reply s.validity.found_ms outcome ≡ body_reply s body
   pub tree_is : new ≡ tree_by s body
   pub repliable : IsRepliable new outcome
   pub short : outcome_len outcome ≤ reply_room_for body

@@ -7,10 +7,10 @@ use Rattle.fuse_spec.specs.Values.Numbers.{counter_end}
 use Rattle.fs_files.specs.Giving.{generations_after}
 use Rattle.fs_files.specs.declared.plan.Plan.{Plan}
 
--- What a request draws whose reply and whose tree are these: births, serials, nodes for files, and open numbers.
+-- What a request draws whose reply and whose tree are these: inodes, cookies, nodes for files, and open numbers.
 pub record DrawsNumbers (tree new : Tree) (reply : Reply ℕ ℕ) (plan : Plan) : Type 0 where
-  pub births : new.next_birth ≡ tree.next_birth + plan.births
-  pub serials : new.next_serial ≡ tree.next_serial + plan.serials
+  pub inodes : new.next_inode ≡ tree.next_inode + plan.inodes
+  pub cookies : new.next_cookie ≡ tree.next_cookie + plan.cookies
   pub files : files_in_reply reply ≡ plan.files.items
   pub opens : length (opens_in_reply reply) ≡ plan.opens
 
@@ -18,8 +18,8 @@ pub record DrawsNumbers (tree new : Tree) (reply : Reply ℕ ℕ) (plan : Plan) 
 -- end of counters. Where it is lost, no node and no open number is given.
 pub record HasNumbers (new : Tree) (nodes : NodeTable) (handles : HandleTable) (lost : Bool)
     (reply : Reply ℕ ℕ) : Type 0 where
-  pub births : new.next_birth ≤ counter_end
-  pub serials : new.next_serial ≤ counter_end
+  pub inodes : new.next_inode ≤ counter_end
+  pub cookies : new.next_cookie ≤ counter_end
   pub generations : lost ≡ false → generations_after nodes (files_in_reply reply) ≤ counter_end
   pub counts : lost ≡ false → count_overflows nodes (files_in_reply reply) ≡ false
   pub numbers : lost ≡ false → handles.next_fh + length (opens_in_reply reply) ≤ counter_end
@@ -28,7 +28,7 @@ pub record HasNumbers (new : Tree) (nodes : NodeTable) (handles : HandleTable) (
 abbrev pub LacksNumber : (new : Tree) (nodes : NodeTable) (handles : HandleTable) (lost : Bool) (reply : Reply ℕ ℕ)
     → Type 0
 LacksNumber new nodes handles lost reply =
-    (counter_end < new.next_birth) ⊎ ((counter_end < new.next_serial) ⊎ ((lost ≡ false)
+    (counter_end < new.next_inode) ⊎ ((counter_end < new.next_cookie) ⊎ ((lost ≡ false)
     × ((counter_end < generations_after nodes (files_in_reply reply))
     ⊎ ((count_overflows nodes (files_in_reply reply) ≡ true)
     ⊎ (counter_end < handles.next_fh + length (opens_in_reply reply))))))

@@ -6,7 +6,7 @@ ghost use Rattle.fuse_spec.specs.Server.Nodes.{is_open, file_of};
 ghost use Rattle.fuse_spec.specs.Values.Numbers.{counter_end, max_validity};
 ghost use Rattle.fuse_spec.specs.Server.Performs.{is_open_for, is_still_held};
 ghost use Rattle.fuse_spec.specs.declared.Validity.{Validity as ValidityValue};
-ghost use Rattle.fs_files.specs.Performing.{ComesTo, handles_by, handles_said, said, said_by, tree_said, tree_by};
+ghost use Rattle.fs_files.specs.Performing.{ComesTo, handles_by, handles_said, said, body_reply, tree_said, tree_by};
 ghost use Rattle.fs_files.specs.Replies.{IsRepliable, outcome_len, outcome_reply};
 ghost use Rattle.fs_files.specs.Values.{held_operation_of, reply_room_for, server_at, server_of, nodes_named};
 
@@ -35,8 +35,8 @@ impl<S: NodeStore> Files<S> {
         validity: Validity,
         minor: Minor,
     ) -> Result<Outcome<S::Heap>, AllocError>
-        requires births { (tree_said (server_at minor self.old validity) held.now).next_birth ≤ counter_end }
-        requires serials { (tree_said (server_at minor self.old validity) held.now).next_serial ≤ counter_end }
+        requires inodes { (tree_said (server_at minor self.old validity) held.now).next_inode ≤ counter_end }
+        requires cookies { (tree_said (server_at minor self.old validity) held.now).next_cookie ≤ counter_end }
         requires day { validity.missing_ms ≤ max_validity }
         ensures err { OnErr result (self.new ≡ self.old) }
         ensures says { IfOk result (λ outcome. outcome_reply validity.found_ms outcome
@@ -56,7 +56,7 @@ impl<S: NodeStore> Files<S> {
             return Ok(failure(EIO));
         }
         match held.body() {
-            HeldBody::Init { flags } => Ok(Outcome::Said {
+            HeldBody::Init { flags } => Ok(Outcome::Reply {
                 reply: agreement(minor, *flags),
             }),
             HeldBody::Asks { operation } => self.ask(operation, validity),
@@ -71,10 +71,10 @@ impl<S: NodeStore> Files<S> {
         operation: &HeldOperation<S::Heap>,
         validity: Validity,
     ) -> Result<Outcome<S::Heap>, AllocError>
-        requires births { (tree_by (server_of self.old validity)
-            (asks (held_operation_of operation.now))).next_birth ≤ counter_end }
-        requires serials { (tree_by (server_of self.old validity)
-            (asks (held_operation_of operation.now))).next_serial ≤ counter_end }
+        requires inodes { (tree_by (server_of self.old validity)
+            (asks (held_operation_of operation.now))).next_inode ≤ counter_end }
+        requires cookies { (tree_by (server_of self.old validity)
+            (asks (held_operation_of operation.now))).next_cookie ≤ counter_end }
         requires day { validity.missing_ms ≤ max_validity }
         ensures err { OnErr result (self.new ≡ self.old) }
         ensures ok { IfOk result (λ outcome. ComesTo (server_of self.old validity)
@@ -126,7 +126,7 @@ impl<S: NodeStore> Files<S> {
     /// A RELEASE.
     fn release(&mut self, opened: Opened) -> Outcome<S::Heap>
         ensures says { (v : ValidityValue) → outcome_reply v.found_ms result
-            ≡ said_by (server_of self.old v) (release opened) }
+            ≡ body_reply (server_of self.old v) (release opened) }
         ensures repliable { IsRepliable self.new.tree result }
         ensures short { outcome_len result ≤ 0 }
         ensures handles { (v : ValidityValue) → self.new.handles ≡ handles_by (server_of self.old v) (release opened) }
@@ -139,7 +139,7 @@ impl<S: NodeStore> Files<S> {
             return failure(EBADF);
         }
         self.known.handles.take_back(opened.fh);
-        Outcome::Said { reply: Reply::Done }
+        Outcome::Reply { reply: Reply::Done }
     }
 }
 
@@ -157,9 +157,9 @@ pub(crate) fn are_held<S: NodeStore>(nodes: &Nodes<S>, named: Named) -> bool
 
 /// An error, from 1 to 511, in place of an outcome.
 fn failure<A: Allocator>(errno: u32) -> Outcome<A>
-    ensures { result ≡ Outcome.Said (Reply.Failed errno) }
+    ensures { result ≡ Outcome.Reply (Reply.Failed errno) }
 {
-    Outcome::Said {
+    Outcome::Reply {
         reply: Reply::Failed { errno },
     }
 }

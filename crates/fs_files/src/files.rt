@@ -87,13 +87,13 @@ impl<S: NodeStore> Files<S> {
 
     /// No counter has given a number past its end, 2^62.
     pub fn lemma_in_range(&self)
-        ensures births { nat_lt counter_end self.now.tree.next_birth ≡ false }
-        ensures serials { nat_lt counter_end self.now.tree.next_serial ≡ false }
+        ensures inodes { nat_lt counter_end self.now.tree.next_inode ≡ false }
+        ensures cookies { nat_lt counter_end self.now.tree.next_cookie ≡ false }
         ensures generations { nat_lt counter_end self.now.nodes.next_generation ≡ false }
         ensures numbers { nat_lt counter_end self.now.handles.next_fh ≡ false }
     {
-        let _births = self.tree.births_left();
-        let _serials = self.tree.serials_left();
+        let _inodes = self.tree.inodes_left();
+        let _cookies = self.tree.cookies_left();
         let _generations = self.known.nodes.generations_left();
         let _numbers = self.known.handles.numbers_left();
     }

@@ -51,7 +51,7 @@ impl<S: NodeStore> Files<S> {
     {
         self.lemma_sound();
         match outcome {
-            Outcome::Found { file } => Reply::Found {
+            Outcome::Entry { file } => Reply::Entry {
                 file: self.give(file),
                 valid_ms: found_ms,
             },
@@ -69,7 +69,7 @@ impl<S: NodeStore> Files<S> {
             Outcome::ListedPlus { records } => {
                 Reply::ListedPlus(self.list(records, found_ms, spare))
             }
-            Outcome::Said { reply } => reply,
+            Outcome::Reply { reply } => reply,
         }
     }
 

@@ -8,7 +8,7 @@ ghost use Rattle.fuse_spec.specs.declared.Minor.{Minor as MinorValue};
 ghost use Rattle.fuse_spec.specs.declared.Validity.{Validity as ValidityValue};
 ghost use Rattle.fs_files.specs.Bounds.{AreHeldBelow};
 ghost use Rattle.fs_files.specs.Giving.{generations_after};
-ghost use Rattle.fs_files.specs.Performing.{said, said_by, tree_by, tree_said};
+ghost use Rattle.fs_files.specs.Performing.{said, body_reply, tree_by, tree_said};
 ghost use Rattle.fs_files.specs.Plans.{DrawsNumbers, HasNumbers, LacksNumber};
 ghost use Rattle.fs_files.specs.Values.{held_operation_of, server_at};
 
@@ -45,22 +45,22 @@ impl<S: NodeStore> Files<S> {
             (said (server_at m self.now v) held.now) }
     {
         let plan = self.plan_for(held);
-        plan.births <= self.tree.births_left()
-            && plan.serials <= self.tree.serials_left()
+        plan.inodes <= self.tree.inodes_left()
+            && plan.cookies <= self.tree.cookies_left()
             && (is_lost || (self.can_give_nodes(&plan.files) && self.can_open(plan.opens)))
     }
 
     /// Whether each counter has as many numbers left as any request draws, so that none need be planned.
     #[inline(always)]
     fn has_numbers_for_any(&self) -> bool
-        ensures births { result ≡ true → self.now.tree.next_birth < counter_end }
-        ensures serials { result ≡ true → self.now.tree.next_serial < counter_end }
+        ensures inodes { result ≡ true → self.now.tree.next_inode < counter_end }
+        ensures cookies { result ≡ true → self.now.tree.next_cookie < counter_end }
         ensures numbers { result ≡ true → self.now.handles.next_fh < counter_end }
         ensures nodes { result ≡ true → (files : List ℕ) → length files ≤ 32
             → (generations_after self.now.nodes files ≤ counter_end) × (count_overflows self.now.nodes files ≡ false) }
     {
-        self.tree.births_left() > 0
-            && self.tree.serials_left() > 0
+        self.tree.inodes_left() > 0
+            && self.tree.cookies_left() > 0
             && self.known.handles.numbers_left() > 0
             && self.known.nodes.can_give_any()
     }
@@ -84,7 +84,7 @@ impl<S: NodeStore> Files<S> {
     fn plan_asked(&self, operation: &HeldOperation<S::Heap>) -> Plan
         ensures { (v : ValidityValue) (m : MinorValue) → DrawsNumbers self.now.tree
             (tree_by (server_at m self.now v) (asks (held_operation_of operation.now)))
-            (said_by (server_at m self.now v) (asks (held_operation_of operation.now))) result }
+            (body_reply (server_at m self.now v) (asks (held_operation_of operation.now))) result }
     {
         if !self.is_open_for(operation) {
             return no_numbers();

@@ -31,8 +31,8 @@ pub(crate) fn operate<A: Allocator + Copy, S: NodeStore>(
     alloc: A,
 ) -> Result<Outcome<A>, AllocError>
     requires unrefused { refusal tree.old (on_files nodes.now.table operation.now) ≡ None }
-    requires births { (tree_unrefused tree.old (on_files nodes.now.table operation.now)).next_birth ≤ counter_end }
-    requires serials { (tree_unrefused tree.old (on_files nodes.now.table operation.now)).next_serial ≤ counter_end }
+    requires inodes { (tree_unrefused tree.old (on_files nodes.now.table operation.now)).next_inode ≤ counter_end }
+    requires cookies { (tree_unrefused tree.old (on_files nodes.now.table operation.now)).next_cookie ≤ counter_end }
     requires low { AreLow nodes.now.table }
     requires there { AreThere tree.old nodes.now.table }
     requires regular { WritesRegular tree.old (on_files nodes.now.table operation.now) }
@@ -80,11 +80,11 @@ fn look_up<A: Allocator + Copy>(
     ensures { Operates validity tree.now (lookup directory name.now) result tree.now }
 {
     tree.lemma_shaped();
-    let _births = tree.births_left();
+    let _inodes = tree.inodes_left();
     match tree.file_at(directory, name) {
-        Some(file) => Outcome::Found { file },
-        None => Outcome::Said {
-            reply: Reply::Missing {
+        Some(file) => Outcome::Entry { file },
+        None => Outcome::Reply {
+            reply: Reply::Negative {
                 valid_ms: validity.missing_ms,
             },
         },
@@ -98,7 +98,7 @@ fn attributes<A: Allocator + Copy>(tree: &Tree<A>, file: u64) -> Outcome<A>
     ensures { (v : ValidityValue) → Operates v tree.now (getattr file) result tree.now }
 {
     let attributes = tree.getattr(file);
-    Outcome::Said {
+    Outcome::Reply {
         reply: Reply::Attributes(attributes),
     }
 }
@@ -109,14 +109,14 @@ fn make_directory<A: Allocator + Copy>(
     directory: u64,
     name: &[u8],
 ) -> Result<Outcome<A>, AllocError>
-    requires births { tree.old.next_birth < counter_end }
-    requires serials { tree.old.next_serial < counter_end }
+    requires inodes { tree.old.next_inode < counter_end }
+    requires cookies { tree.old.next_cookie < counter_end }
     ensures ok { IfOk result (λ outcome. (v : ValidityValue)
         → Operates v tree.old (mkdir directory name.now) outcome tree.new) }
     ensures err { OnErr result (tree.new ≡ tree.old) }
 {
     match tree.mkdir(directory, name) {
-        Ok(file) => Ok(Outcome::Found { file }),
+        Ok(file) => Ok(Outcome::Entry { file }),
         Err(_) => Err(AllocError),
     }
 }
@@ -127,8 +127,8 @@ fn make_file<A: Allocator + Copy>(
     directory: u64,
     name: &[u8],
 ) -> Result<Outcome<A>, AllocError>
-    requires births { tree.old.next_birth < counter_end }
-    requires serials { tree.old.next_serial < counter_end }
+    requires inodes { tree.old.next_inode < counter_end }
+    requires cookies { tree.old.next_cookie < counter_end }
     ensures ok { IfOk result (λ outcome. (v : ValidityValue)
         → Operates v tree.old (create directory name.now) outcome tree.new) }
     ensures err { OnErr result (tree.new ≡ tree.old) }
@@ -174,7 +174,7 @@ fn move_file<A: Allocator + Copy>(
     new: &[u8],
 ) -> Result<Outcome<A>, AllocError>
     requires unrefused { refusal tree.old (rename directory old.now new_directory new.now) ≡ None }
-    requires serials { (tree_unrefused tree.old (rename directory old.now new_directory new.now)).next_serial
+    requires cookies { (tree_unrefused tree.old (rename directory old.now new_directory new.now)).next_cookie
         ≤ counter_end }
     ensures ok { IfOk result (λ outcome. (v : ValidityValue)
         → Operates v tree.old (rename directory old.now new_directory new.now) outcome tree.new) }
@@ -196,7 +196,7 @@ fn link_file<A: Allocator + Copy>(
     directory: u64,
     name: &[u8],
 ) -> Result<Outcome<A>, AllocError>
-    requires serials { tree.old.next_serial < counter_end }
+    requires cookies { tree.old.next_cookie < counter_end }
     requires low { file < counter_end }
     requires there { IsThere tree.old file }
     ensures ok { IfOk result (λ outcome. (v : ValidityValue)
@@ -204,7 +204,7 @@ fn link_file<A: Allocator + Copy>(
     ensures err { OnErr result (tree.new ≡ tree.old) }
 {
     match tree.link(file, directory, name) {
-        Ok(()) => Ok(Outcome::Found { file }),
+        Ok(()) => Ok(Outcome::Entry { file }),
         Err(_) => Err(AllocError),
     }
 }
@@ -222,7 +222,7 @@ fn list<A: Allocator + Copy>(
         → Operates v tree.now (listing with_files directory after size) outcome tree.now) }
 {
     tree.lemma_shaped();
-    let _births = tree.births_left();
+    let _inodes = tree.inodes_left();
     let Ok(records) = records_listed(tree, directory, after, size, with_files) else {
         return Err(AllocError);
     };
@@ -230,7 +230,7 @@ fn list<A: Allocator + Copy>(
     if with_files {
         return Ok(Outcome::ListedPlus { records });
     }
-    Ok(Outcome::Said {
+    Ok(Outcome::Reply {
         reply: Reply::Listed(records),
     })
 }
@@ -263,7 +263,7 @@ fn read_bytes<A: Allocator + Copy>(
         → Operates v tree.now (read file offset size) outcome tree.now) }
 {
     let bytes = tree.read(file, offset, size).to_vec(alloc)?;
-    Ok(Outcome::Said {
+    Ok(Outcome::Reply {
         reply: Reply::Content(bytes),
     })
 }
@@ -281,7 +281,7 @@ fn write_bytes<A: Allocator + Copy>(
     ensures err { OnErr result (tree.new ≡ tree.old) }
 {
     match tree.write(file, offset, bytes) {
-        Ok(()) => Ok(Outcome::Said {
+        Ok(()) => Ok(Outcome::Reply {
             reply: Reply::Written {
                 size: bytes.len() as u32,
             },
@@ -292,7 +292,7 @@ fn write_bytes<A: Allocator + Copy>(
 
 /// The outcome of an operation with no more to say.
 fn done<A: Allocator>() -> Outcome<A>
-    ensures { result ≡ Outcome.Said Reply.Done }
+    ensures { result ≡ Outcome.Reply Reply.Done }
 {
-    Outcome::Said { reply: Reply::Done }
+    Outcome::Reply { reply: Reply::Done }
 }

@@ -17,23 +17,23 @@ use fs_tree::{MOST_LISTED, Tree, TreeError};
 use fuse_spec::Operation;
 use std::alloc::Allocator;
 
-/// How many births, serials and open numbers an operation draws, and the files to which its reply gives nodes, in
+/// How many inodes, cookies and open numbers an operation draws, and the files to which its reply gives nodes, in
 /// order.
 #[derive(Drop)]
 pub(crate) struct Plan {
-    pub(crate) births: u64,
-    pub(crate) serials: u64,
+    pub(crate) inodes: u64,
+    pub(crate) cookies: u64,
     pub(crate) opens: u64,
     pub(crate) files: ArrayVec<u64, MOST_LISTED>,
 }
 
 /// No number.
 pub(crate) fn no_numbers() -> Plan
-    ensures { result ≡ record { births = 0; serials = 0; opens = 0; files = record { items = [] } } }
+    ensures { result ≡ record { inodes = 0; cookies = 0; opens = 0; files = record { items = [] } } }
 {
     Plan {
-        births: 0,
-        serials: 0,
+        inodes: 0,
+        cookies: 0,
         opens: 0,
         files: ArrayVec::new(),
     }
@@ -124,8 +124,8 @@ fn unrefused_plan<A: Allocator + Copy, S: NodeStore>(
         Operation::Lookup { directory, name } => {
             plan_of_lookup(tree, nodes.file_of(*directory), name)
         }
-        Operation::Mkdir { .. } => plan_of_birth(tree.next_birth(), 0),
-        Operation::Create { .. } => plan_of_birth(tree.next_birth(), 1),
+        Operation::Mkdir { .. } => plan_of_inode(tree.next_inode(), 0),
+        Operation::Create { .. } => plan_of_inode(tree.next_inode(), 1),
         Operation::Rename {
             directory,
             old,
@@ -160,8 +160,8 @@ fn unrefused_plan<A: Allocator + Copy, S: NodeStore>(
 fn plan_of_lookup<A: Allocator + Copy>(tree: &Tree<A>, directory: u64, name: &[u8]) -> Plan
     requires { refusal tree.now (lookup directory name.now) ≡ None }
     ensures { result ≡ record {
-      births = 0;
-      serials = 0;
+      inodes = 0;
+      cookies = 0;
       opens = 0;
       files = record { items = option_to_list (file_at tree.now directory name.now) };
     } }
@@ -176,23 +176,23 @@ fn plan_of_lookup<A: Allocator + Copy>(tree: &Tree<A>, directory: u64, name: &[u
 }
 
 /// What a MKDIR or a CREATE draws.
-fn plan_of_birth(birth: u64, opens: u64) -> Plan
-    ensures { result ≡ record { births = 1; serials = 1; opens = opens; files = record { items = birth ∷ [] } } }
+fn plan_of_inode(inode: u64, opens: u64) -> Plan
+    ensures { result ≡ record { inodes = 1; cookies = 1; opens = opens; files = record { items = inode ∷ [] } } }
 {
     Plan {
-        births: 1,
-        serials: 1,
+        inodes: 1,
+        cookies: 1,
         opens,
-        files: one_file(birth),
+        files: one_file(inode),
     }
 }
 
 /// What a LINK draws.
 fn plan_of_link(file: u64) -> Plan
-    ensures { result ≡ record { births = 0; serials = 1; opens = 0; files = record { items = file ∷ [] } } }
+    ensures { result ≡ record { inodes = 0; cookies = 1; opens = 0; files = record { items = file ∷ [] } } }
 {
     Plan {
-        serials: 1,
+        cookies: 1,
         files: one_file(file),
         ..no_numbers()
     }
@@ -215,7 +215,7 @@ fn plan_of_rename<A: Allocator + Copy>(
         return no_numbers();
     }
     Plan {
-        serials: 1,
+        cookies: 1,
         ..no_numbers()
     }
 }

@@ -27,7 +27,7 @@ pub(crate) fn record_bytes<A: Allocator>(
     for record in records {
         let dirent = Dirent {
             ino: record.file + 1,
-            off: record.serial,
+            off: record.cookie,
             kind: type_of(record.kind),
             name: record.name,
         };

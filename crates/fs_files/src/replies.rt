@@ -27,12 +27,12 @@ pub type SentReply<A> = Reply<Entry, Vec<u8, A>, ListedNames<A>, Vec<u8, A>>;
 /// no file and no open number.
 #[derive(Drop)]
 pub enum Outcome<A: Allocator> {
-    Found { file: u64 },
+    Entry { file: u64 },
     Created { file: u64 },
     Opened { file: u64 },
     /// Records, as their frame has them: each is of the file of its inode number.
     ListedPlus { records: Vec<u8, A> },
-    Said { reply: SentReply<A> },
+    Reply { reply: SentReply<A> },
 }
 
 impl<A: Allocator> Outcome<A> {
@@ -44,7 +44,7 @@ impl<A: Allocator> Outcome<A> {
         ensures { result ≡ outcome_errno self.now }
     {
         match self {
-            Outcome::Said { reply } => errno(reply),
+            Outcome::Reply { reply } => errno(reply),
             _ => 0,
         }
     }
@@ -65,7 +65,7 @@ pub fn file_entries<A: Allocator>(reply: &SentReply<A>) -> &[Entry]
     ensures { result.now ≡ files_in_reply (sent_wire reply.now) }
 {
     match reply {
-        Reply::Found { file, .. } | Reply::Created { file, .. } => from_ref(file),
+        Reply::Entry { file, .. } | Reply::Created { file, .. } => from_ref(file),
         Reply::ListedPlus(names) => names.file_entries(),
         _ => &[],
     }
@@ -110,11 +110,11 @@ pub fn copied<A: Allocator>(reply: &SentReply<A>, spare: ReplySpare<A>) -> SentR
     ensures sendable { IsSendable reply.now → IsSendable result }
 {
     match reply {
-        Reply::Found { file, valid_ms } => Reply::Found {
+        Reply::Entry { file, valid_ms } => Reply::Entry {
             file: *file,
             valid_ms: *valid_ms,
         },
-        Reply::Missing { valid_ms } => Reply::Missing {
+        Reply::Negative { valid_ms } => Reply::Negative {
             valid_ms: *valid_ms,
         },
         Reply::Created { file, valid_ms, fh } => Reply::Created {
@@ -150,8 +150,8 @@ pub fn framed<A: Allocator>(reply: &SentReply<A>, room: ReplyRoom<A>, unique: u6
     ensures { result ≡ record { unique = unique; wire = sent_wire reply.now } }
 {
     match reply {
-        Reply::Found { file, valid_ms } => room.found(unique, file, *valid_ms),
-        Reply::Missing { valid_ms } => room.missing(unique, *valid_ms),
+        Reply::Entry { file, valid_ms } => room.found(unique, file, *valid_ms),
+        Reply::Negative { valid_ms } => room.missing(unique, *valid_ms),
         Reply::Created { file, valid_ms, fh } => room.created(unique, file, *valid_ms, *fh),
         Reply::Opened { fh } => room.opened(unique, *fh),
         Reply::Attributes(attributes) => room.attributes(unique, attributes),

@@ -20,7 +20,7 @@ pub record IsBetween (minor : Minor) (s : Server) : Type 0 where
 pub fresh_between : (s : Server) → IsFresh s → IsBetween s.minor s
 fresh_between s (fresh validity minor) = record {
   sound = record {
-    tree = record { root = refl; names = All-nil (λ (n : Named). n.file ≢ 0); births = first_sound.tree.births };
+    tree = record { root = refl; names = All-nil (λ (n : Named). n.file ≢ 0); inodes = first_sound.tree.inodes };
     nodes = first_sound.nodes;
     handles = first_sound.handles;
     copies = λ number later. refl;

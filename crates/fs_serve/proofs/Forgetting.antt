@@ -131,6 +131,6 @@ same_generation (f ∷ fs) t = same_generation fs (taken_back t f.0 f.1)
 
 pub within_still : (s : Server) (fs : List Forget) → is_server_past_end s ≡ false → is_server_past_end (forgetting s fs) ≡ false
 within_still s fs low =
-    ap (λ (n : ℕ). nat_lt counter_end s.tree.next_birth || nat_lt counter_end s.tree.next_serial
+    ap (λ (n : ℕ). nat_lt counter_end s.tree.next_inode || nat_lt counter_end s.tree.next_cookie
     || nat_lt counter_end n || nat_lt counter_end s.handles.next_fh
     || nat_lt counter_end s.next_copy) (same_generation fs s.nodes) ∙ low

@@ -192,8 +192,8 @@ as_forgets old new fs t = forgets old (record new { tree = old.tree }) new fs re
 
 numbers_listed : {A : Type 0} (reply : SentReply A)
     → option_to_list (opened_in reply) ≡ opens_in_reply (sent_wire reply)
-numbers_listed (said.Found entry valid) = refl
-numbers_listed (said.Missing valid) = refl
+numbers_listed (said.Entry entry valid) = refl
+numbers_listed (said.Negative valid) = refl
 numbers_listed (said.Created entry valid fh) = refl
 numbers_listed (said.Opened fh) = refl
 numbers_listed (said.Attributes attributes) = refl

@@ -112,11 +112,11 @@ or_false false false false true e p q r x y = x
 or_false false false false false e p q r x y = y
 
 -- no counter is past its end
-pub within : (s : Server) → nat_lt (2 ^ 62) s.tree.next_birth ≡ false → nat_lt (2 ^ 62) s.tree.next_serial ≡ false
+pub within : (s : Server) → nat_lt (2 ^ 62) s.tree.next_inode ≡ false → nat_lt (2 ^ 62) s.tree.next_cookie ≡ false
     → nat_lt (2 ^ 62) s.nodes.next_generation ≡ false → nat_lt (2 ^ 62) s.handles.next_fh ≡ false → s.next_copy ≤ 2 ^ 62
     → is_server_past_end s ≡ false
-within s births serials generations numbers copies =
-    or_false (nat_lt counter_end s.tree.next_birth) (nat_lt counter_end s.tree.next_serial)
+within s inodes cookies generations numbers copies =
+    or_false (nat_lt counter_end s.tree.next_inode) (nat_lt counter_end s.tree.next_cookie)
     (nat_lt counter_end s.nodes.next_generation) (nat_lt counter_end s.handles.next_fh)
-    (nat_lt counter_end s.next_copy) births serials generations numbers
+    (nat_lt counter_end s.next_copy) inodes cookies generations numbers
     (le-ltb counter_end s.next_copy copies)

@@ -13,7 +13,7 @@ use Rattle.fuse_spec.specs.Server.Server.{Server, HeldRequest}
 use Rattle.fuse_spec.specs.Files.Trees.{Tree, file_at}
 use Rattle.fuse_spec.specs.declared.Opened.{Opened}
 use Rattle.fs_files.specs.Listed.{dirents_in_bytes, pair_listed}
-use Rattle.fs_files.specs.Performing.{said, said_by}
+use Rattle.fs_files.specs.Performing.{said, body_reply}
 use Rattle.fs_files.specs.Replies.{HasSpare, IsRepliable, outcome_errno, outcome_names, outcome_reply}
 use Rattle.fs_files.specs.Values.{names_for, most_names_of}
 use Rattle.fs_files.specs.declared.replies.Outcome.{Outcome}
@@ -22,22 +22,22 @@ use Rattle.fuse_frames.specs.declared.reply.Reply.TheVariants as said
 use Rattle.fs_files.specs.declared.spare.ReplySpare.{ReplySpare}
 
 pub errno_said : {A : Type 0} (ms : ℕ) (o : Outcome A) → outcome_errno o ≡ errno_of (outcome_reply ms o)
-errno_said ms (outcome.Found file) = refl
+errno_said ms (outcome.Entry file) = refl
 errno_said ms (outcome.Created file) = refl
 errno_said ms (outcome.Opened file) = refl
 errno_said ms (outcome.ListedPlus records) = refl
-errno_said ms (outcome.Said (said.Found entry valid)) = refl
-errno_said ms (outcome.Said (said.Missing valid)) = refl
-errno_said ms (outcome.Said (said.Created entry valid fh)) = refl
-errno_said ms (outcome.Said (said.Opened fh)) = refl
-errno_said ms (outcome.Said (said.Attributes attributes)) = refl
-errno_said ms (outcome.Said (said.Listed records)) = refl
-errno_said ms (outcome.Said (said.ListedPlus names)) = refl
-errno_said ms (outcome.Said (said.Content bytes)) = refl
-errno_said ms (outcome.Said (said.Written size)) = refl
-errno_said ms (outcome.Said (said.Agreed major minor flags)) = refl
-errno_said ms (outcome.Said said.Done) = refl
-errno_said ms (outcome.Said (said.Failed errno)) = refl
+errno_said ms (outcome.Reply (said.Entry entry valid)) = refl
+errno_said ms (outcome.Reply (said.Negative valid)) = refl
+errno_said ms (outcome.Reply (said.Created entry valid fh)) = refl
+errno_said ms (outcome.Reply (said.Opened fh)) = refl
+errno_said ms (outcome.Reply (said.Attributes attributes)) = refl
+errno_said ms (outcome.Reply (said.Listed records)) = refl
+errno_said ms (outcome.Reply (said.ListedPlus names)) = refl
+errno_said ms (outcome.Reply (said.Content bytes)) = refl
+errno_said ms (outcome.Reply (said.Written size)) = refl
+errno_said ms (outcome.Reply (said.Agreed major minor flags)) = refl
+errno_said ms (outcome.Reply said.Done) = refl
+errno_said ms (outcome.Reply (said.Failed errno)) = refl
 
 -- ---- names together with their files
 
@@ -47,40 +47,40 @@ names_listed reply = 0
 
 names_are : {A : Type 0} (ms : ℕ) (tree : Tree) (o : Outcome A) → IsRepliable tree o
     → outcome_names o ≡ names_listed (outcome_reply ms o)
-names_are ms tree (outcome.Found file) repliable = refl
+names_are ms tree (outcome.Entry file) repliable = refl
 names_are ms tree (outcome.Created file) repliable = refl
 names_are ms tree (outcome.Opened file) repliable = refl
 names_are ms tree (outcome.ListedPlus records) repliable = sym (length-map (dirents_in_bytes records.items) (pair_listed ms))
-names_are ms tree (outcome.Said (said.Found entry valid)) repliable = absurd repliable.0
-names_are ms tree (outcome.Said (said.Missing valid)) repliable = refl
-names_are ms tree (outcome.Said (said.Created entry valid fh)) repliable = absurd repliable.0
-names_are ms tree (outcome.Said (said.Opened fh)) repliable = absurd repliable.0
-names_are ms tree (outcome.Said (said.Attributes attributes)) repliable = refl
-names_are ms tree (outcome.Said (said.Listed records)) repliable = refl
-names_are ms tree (outcome.Said (said.ListedPlus names)) repliable = absurd repliable.0
-names_are ms tree (outcome.Said (said.Content bytes)) repliable = refl
-names_are ms tree (outcome.Said (said.Written size)) repliable = refl
-names_are ms tree (outcome.Said (said.Agreed major minor flags)) repliable = refl
-names_are ms tree (outcome.Said said.Done) repliable = refl
-names_are ms tree (outcome.Said (said.Failed errno)) repliable = refl
+names_are ms tree (outcome.Reply (said.Entry entry valid)) repliable = absurd repliable.0
+names_are ms tree (outcome.Reply (said.Negative valid)) repliable = refl
+names_are ms tree (outcome.Reply (said.Created entry valid fh)) repliable = absurd repliable.0
+names_are ms tree (outcome.Reply (said.Opened fh)) repliable = absurd repliable.0
+names_are ms tree (outcome.Reply (said.Attributes attributes)) repliable = refl
+names_are ms tree (outcome.Reply (said.Listed records)) repliable = refl
+names_are ms tree (outcome.Reply (said.ListedPlus names)) repliable = absurd repliable.0
+names_are ms tree (outcome.Reply (said.Content bytes)) repliable = refl
+names_are ms tree (outcome.Reply (said.Written size)) repliable = refl
+names_are ms tree (outcome.Reply (said.Agreed major minor flags)) repliable = refl
+names_are ms tree (outcome.Reply said.Done) repliable = refl
+names_are ms tree (outcome.Reply (said.Failed errno)) repliable = refl
 
 most_names : {A : Type 0} (tree : Tree) (o : Outcome A) → IsRepliable tree o → outcome_names o ≤ 32
-most_names tree (outcome.Found file) repliable = omega arith
+most_names tree (outcome.Entry file) repliable = omega arith
 most_names tree (outcome.Created file) repliable = omega arith
 most_names tree (outcome.Opened file) repliable = omega arith
 most_names tree (outcome.ListedPlus records) repliable = let most = repliable.1 in omega (arith, most)
-most_names tree (outcome.Said (said.Found entry valid)) repliable = absurd repliable.0
-most_names tree (outcome.Said (said.Missing valid)) repliable = omega arith
-most_names tree (outcome.Said (said.Created entry valid fh)) repliable = absurd repliable.0
-most_names tree (outcome.Said (said.Opened fh)) repliable = absurd repliable.0
-most_names tree (outcome.Said (said.Attributes attributes)) repliable = omega arith
-most_names tree (outcome.Said (said.Listed records)) repliable = omega arith
-most_names tree (outcome.Said (said.ListedPlus names)) repliable = absurd repliable.0
-most_names tree (outcome.Said (said.Content bytes)) repliable = omega arith
-most_names tree (outcome.Said (said.Written size)) repliable = omega arith
-most_names tree (outcome.Said (said.Agreed major minor flags)) repliable = omega arith
-most_names tree (outcome.Said said.Done) repliable = omega arith
-most_names tree (outcome.Said (said.Failed errno)) repliable = omega arith
+most_names tree (outcome.Reply (said.Entry entry valid)) repliable = absurd repliable.0
+most_names tree (outcome.Reply (said.Negative valid)) repliable = omega arith
+most_names tree (outcome.Reply (said.Created entry valid fh)) repliable = absurd repliable.0
+most_names tree (outcome.Reply (said.Opened fh)) repliable = absurd repliable.0
+most_names tree (outcome.Reply (said.Attributes attributes)) repliable = omega arith
+most_names tree (outcome.Reply (said.Listed records)) repliable = omega arith
+most_names tree (outcome.Reply (said.ListedPlus names)) repliable = absurd repliable.0
+most_names tree (outcome.Reply (said.Content bytes)) repliable = omega arith
+most_names tree (outcome.Reply (said.Written size)) repliable = omega arith
+most_names tree (outcome.Reply (said.Agreed major minor flags)) repliable = omega arith
+most_names tree (outcome.Reply said.Done) repliable = omega arith
+most_names tree (outcome.Reply (said.Failed errno)) repliable = omega arith
 
 module _ (s : Server) where
   refused : (b : Bool) (r : Option ℕ) (reply : Reply ℕ ℕ) → names_listed reply ≡ 0
@@ -94,11 +94,11 @@ module _ (s : Server) where
   found_none (Some file) = refl
 
   said_none : (o : Operation ℕ Opened) → names_listed (reply_unrefused s.validity s.tree (file_operation_of s.nodes o))
-      ≡ 0 → (most_names_of o ≡ 32) ⊎ (names_listed (said_by s (asks o)) ≡ 0)
+      ≡ 0 → (most_names_of o ≡ 32) ⊎ (names_listed (body_reply s (asks o)) ≡ 0)
   said_none o none = inr (refused (is_open_for s o) (refusal s.tree (file_operation_of s.nodes o))
       (reply_unrefused s.validity s.tree (file_operation_of s.nodes o)) none)
 
-  asked_names : (o : Operation ℕ Opened) → (most_names_of o ≡ 32) ⊎ (names_listed (said_by s (asks o)) ≡ 0)
+  asked_names : (o : Operation ℕ Opened) → (most_names_of o ≡ 32) ⊎ (names_listed (body_reply s (asks o)) ≡ 0)
   asked_names (operation.lookup d name) = said_none (operation.lookup d name)
       (found_none (file_at s.tree (file_of s.nodes d) name))
   asked_names (operation.getattr x) = said_none (operation.getattr x) refl
@@ -114,7 +114,7 @@ module _ (s : Server) where
   asked_names (operation.read o offset size) = said_none (operation.read o offset size) refl
   asked_names (operation.write o offset bytes) = said_none (operation.write o offset bytes) refl
 
-  body_names : (body : RequestBody) → (names_for body ≡ 32) ⊎ (names_listed (said_by s body) ≡ 0)
+  body_names : (body : RequestBody) → (names_for body ≡ 32) ⊎ (names_listed (body_reply s body) ≡ 0)
   body_names (init flags) = inr refl
   body_names (asks o) = asked_names o
   body_names (release o) = inr (by (is_open s.handles o.fh (file_of s.nodes o.nodeid)))
@@ -129,9 +129,9 @@ module _ (s : Server) where
   held_names : (h : HeldRequest) → (names_for h.body ≡ 32) ⊎ (names_listed (said s h) ≡ 0)
   held_names h = by h.marked (is_still_held s.nodes h.generations) (body_names h.body)
     where
-      by : (m b : Bool) → (names_for h.body ≡ 32) ⊎ (names_listed (said_by s h.body) ≡ 0)
+      by : (m b : Bool) → (names_for h.body ≡ 32) ⊎ (names_listed (body_reply s h.body) ≡ 0)
           → (names_for h.body ≡ 32) ⊎ (names_listed (cond m (operation.failed eintr)
-          (cond b (said_by s h.body) (operation.failed eio))) ≡ 0)
+          (cond b (body_reply s h.body) (operation.failed eio))) ≡ 0)
       by true b each = inr refl
       by false true each = each
       by false false each = inr refl

@@ -26,8 +26,8 @@ none_past a b c d e fa fb fc fd fe = λ i. fa i || fb i || fc i || fd i || fe i
 
 -- that no counter is past its end, counter by counter
 record EachWithin (s : Server) : Type 0 where
-  pub births : s.tree.next_birth ≤ 2 ^ 62
-  pub serials : s.tree.next_serial ≤ 2 ^ 62
+  pub inodes : s.tree.next_inode ≤ 2 ^ 62
+  pub cookies : s.tree.next_cookie ≤ 2 ^ 62
   pub generations : s.nodes.next_generation ≤ 2 ^ 62
   pub numbers : s.handles.next_fh ≤ 2 ^ 62
   pub copies : s.next_copy ≤ 2 ^ 62
@@ -45,8 +45,8 @@ low n e = ltb-false counter_end n e
 
 each_within : (s : Server) → is_server_past_end s ≡ false → EachWithin s
 each_within s e =
-    let a = nat_lt counter_end s.tree.next_birth in
-    let b = nat_lt counter_end s.tree.next_serial in
+    let a = nat_lt counter_end s.tree.next_inode in
+    let b = nat_lt counter_end s.tree.next_cookie in
     let c = nat_lt counter_end s.nodes.next_generation in
     let d = nat_lt counter_end s.handles.next_fh in
     let f = nat_lt counter_end s.next_copy in
@@ -54,8 +54,8 @@ each_within s e =
     let three = first_or (a || b || c) d four in
     let two = first_or (a || b) c three in
     record {
-      births = low s.tree.next_birth (first_or a b two);
-      serials = low s.tree.next_serial (second_or a b two);
+      inodes = low s.tree.next_inode (first_or a b two);
+      cookies = low s.tree.next_cookie (second_or a b two);
       generations = low s.nodes.next_generation (second_or (a || b) c three);
       numbers = low s.handles.next_fh (second_or (a || b || c) d four);
       copies = low s.next_copy (second_or (a || b || c || d) f e);
@@ -66,9 +66,9 @@ within n le = le-ltb counter_end n (omega (arith, le))
 
 all_within : (s : Server) → EachWithin s → is_server_past_end s ≡ false
 all_within s each =
-    none_past (nat_lt counter_end s.tree.next_birth) (nat_lt counter_end s.tree.next_serial)
+    none_past (nat_lt counter_end s.tree.next_inode) (nat_lt counter_end s.tree.next_cookie)
     (nat_lt counter_end s.nodes.next_generation) (nat_lt counter_end s.handles.next_fh) (nat_lt counter_end s.next_copy)
-    (within s.tree.next_birth each.births) (within s.tree.next_serial each.serials)
+    (within s.tree.next_inode each.inodes) (within s.tree.next_cookie each.cookies)
     (within s.nodes.next_generation each.generations) (within s.handles.next_fh each.numbers)
     (within s.next_copy each.copies)
 
@@ -98,8 +98,8 @@ module _ (files : FilesState) (held : Map HeldRequest) (kept : Map Kept) (copies
       let numbers = has.numbers refl in
       ap is_server_past_end (ends_live files held kept copies next v m unique h there choice)
       ∙ all_within (end_live files held kept copies next v m unique h there choice) (record {
-        births = has.births;
-        serials = has.serials;
+        inodes = has.inodes;
+        cookies = has.cookies;
         generations = omega (arith, generations, most);
         numbers = omega (arith, opens, start, numbers);
         copies = omega (arith, next_low);
@@ -118,8 +118,8 @@ module _ (files : FilesState) (held : Map HeldRequest) (kept : Map Kept) (copies
       (performed choice (server_with files (remove held unique) kept copies next v m true) h).wire))
       (lost_is files held kept copies next v m unique h there choice)
       ∙ all_within (end_lost files held kept copies next v m unique h there choice) (record {
-        births = has.births;
-        serials = has.serials;
+        inodes = has.inodes;
+        cookies = has.cookies;
         generations = each.generations;
         numbers = omega (arith, start, old_numbers);
         copies = each.copies;
@@ -163,8 +163,8 @@ copies_within s unique kept low before =
     let old_generations = each.generations in
     let old_numbers = each.numbers in
     all_within (sent_again s unique kept) (record {
-      births = each.births;
-      serials = each.serials;
+      inodes = each.inodes;
+      cookies = each.cookies;
       generations = omega (arith, rows, old_generations);
       numbers = omega (arith, numbers, old_numbers);
       copies = omega (arith, low);

@@ -223,17 +223,17 @@ pub over : (n : ℕ) → 2 ^ 62 < n → nat_lt counter_end n ≡ true
 over n lt = lt-ltb counter_end n (omega (arith, lt))
 
 abbrev Past : Server → Type 0
-Past s = (2 ^ 62 < s.tree.next_birth) ⊎ ((2 ^ 62 < s.tree.next_serial)
+Past s = (2 ^ 62 < s.tree.next_inode) ⊎ ((2 ^ 62 < s.tree.next_cookie)
     ⊎ ((2 ^ 62 < s.nodes.next_generation) ⊎ ((2 ^ 62 < s.handles.next_fh) ⊎ (2 ^ 62 < s.next_copy))))
 
 pub past : (s : Server) → Past s → is_server_past_end s ≡ true
 past s p =
-    any_past (nat_lt counter_end s.tree.next_birth) (nat_lt counter_end s.tree.next_serial)
+    any_past (nat_lt counter_end s.tree.next_inode) (nat_lt counter_end s.tree.next_cookie)
     (nat_lt counter_end s.nodes.next_generation) (nat_lt counter_end s.handles.next_fh) (nat_lt counter_end s.next_copy)
     (elim p [
-      | inl a ↦ inl (over s.tree.next_birth a)
+      | inl a ↦ inl (over s.tree.next_inode a)
       | inr q ↦ inr (elim q [
-        | inl a ↦ inl (over s.tree.next_serial a)
+        | inl a ↦ inl (over s.tree.next_cookie a)
         | inr r ↦ inr (elim r [
           | inl a ↦ inl (over s.nodes.next_generation a)
           | inr t ↦ inr
@@ -327,11 +327,11 @@ module _ (files : FilesState) (held : Map HeldRequest) (kept : Map Kept) (copies
       → LacksNumber (tree_said bare h) files.nodes files.handles false (said bare h)
       → RefusesHeld (server_with files held kept copies next v m false) unique Exhausted
   lacking_live rising lacks = elim lacks [
-    | inl births ↦ exhausted h there (λ choice may. ap is_server_past_end (ends_live choice) ∙ past (end_live choice)
-        (inl births))
+    | inl inodes ↦ exhausted h there (λ choice may. ap is_server_past_end (ends_live choice) ∙ past (end_live choice)
+        (inl inodes))
     | inr other ↦ elim other [
-      | inl serials ↦ exhausted h there (λ choice may. ap is_server_past_end (ends_live choice) ∙ past (end_live choice)
-          (inr (inl serials)))
+      | inl cookies ↦ exhausted h there (λ choice may. ap is_server_past_end (ends_live choice) ∙ past (end_live choice)
+          (inr (inl cookies)))
       | inr numbered ↦ lacking_given rising numbered.1
     ]
   ]
@@ -355,10 +355,10 @@ module _ (files : FilesState) (held : Map HeldRequest) (kept : Map Kept) (copies
       (performed choice (server_with files (remove held unique) kept copies next v m true) h).wire))
       (lost_is choice)
       ∙ past (end_lost choice) (elim lacks [
-        | inl births ↦ inl births
+        | inl inodes ↦ inl inodes
         | inr q ↦ elim q [
-          | inl serials ↦ inr
-              (inl serials)
+          | inl cookies ↦ inr
+              (inl cookies)
           | inr r ↦ absurd (true≢false r.0)
         ]
       ]))

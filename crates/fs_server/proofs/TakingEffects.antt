@@ -43,7 +43,7 @@ last_or false e f before last = last
 module _ (s : Server) (unique : ℕ) (inside : is_server_past_end s ≡ false) where
   past_forgotten : (fs : List Forget) → is_server_past_end (forgetting s fs) ≡ false
   past_forgotten fs =
-      ap (λ (g : ℕ). nat_lt counter_end s.tree.next_birth || nat_lt counter_end s.tree.next_serial
+      ap (λ (g : ℕ). nat_lt counter_end s.tree.next_inode || nat_lt counter_end s.tree.next_cookie
       || nat_lt counter_end g || nat_lt counter_end s.handles.next_fh || nat_lt counter_end s.next_copy)
       (same_generations s.nodes fs)
       ∙ inside
@@ -54,7 +54,7 @@ module _ (s : Server) (unique : ℕ) (inside : is_server_past_end s ≡ false) w
   past_interrupting original (Some h) k number = inside
   past_interrupting original None (Some k) number = inside
   past_interrupting original None None number =
-      last_or (nat_lt counter_end s.tree.next_birth || nat_lt counter_end s.tree.next_serial
+      last_or (nat_lt counter_end s.tree.next_inode || nat_lt counter_end s.tree.next_cookie
       || nat_lt counter_end s.nodes.next_generation || nat_lt counter_end s.handles.next_fh)
       (nat_lt counter_end s.next_copy)
       (nat_lt counter_end (s.next_copy + 1)) inside (le-ltb counter_end (s.next_copy + 1)

@@ -9,7 +9,7 @@ use Rattle.fuse_spec.specs.Files.Trees.{Tree, Named, file_at, is_directory, is_n
 use Rattle.fuse_spec.specs.Files.FileOperations.{Check, first_refusal, refusal, is_dir, is_file, is_filled, replaces}
 use Rattle.fuse_spec.specs.Files.TreeShape.{IsBelow, is_top, is_in, IsShaped, IsInTree}
 use Rattle.fs_tree.proofs.Keeping.{length-without}
-use Rattle.fs_tree.proofs.BySerial.{find-gone}
+use Rattle.fs_tree.proofs.ByCookie.{find-gone}
 use Rattle.fs_tree.proofs.NameLinks.{find-kept}
 use Rattle.fs_tree.proofs.Counting.{found_passes, found_there, none_passes, only_one}
 

@@ -64,17 +64,17 @@ find-mapped dir name (e ∷ es) = by (same_name e.name name) (find-mapped dir na
     by true rest = refl
     by false rest = rest
 
-serial-mapped : (dir : ℕ) (name : List ℕ) (es : List Entry)
-    → option_map (λ n. n.serial) (find (λ n. same_name n.name name) (map (in_directory dir) es))
-    ≡ option_map (λ e. e.serial) (find (λ e. same_name e.name name) es)
-serial-mapped dir name [] = refl
-serial-mapped dir name (e ∷ es) = by (same_name e.name name) (serial-mapped dir name es)
+cookie-mapped : (dir : ℕ) (name : List ℕ) (es : List Entry)
+    → option_map (λ n. n.cookie) (find (λ n. same_name n.name name) (map (in_directory dir) es))
+    ≡ option_map (λ e. e.cookie) (find (λ e. same_name e.name name) es)
+cookie-mapped dir name [] = refl
+cookie-mapped dir name (e ∷ es) = by (same_name e.name name) (cookie-mapped dir name es)
   where
-    by : (b : Bool) → option_map (λ n. n.serial) (find (λ n. same_name n.name name) (map (in_directory dir) es))
-        ≡ option_map (λ e. e.serial) (find (λ e. same_name e.name name) es)
-        → option_map (λ n. n.serial) (cond b (Some (in_directory dir e))
+    by : (b : Bool) → option_map (λ n. n.cookie) (find (λ n. same_name n.name name) (map (in_directory dir) es))
+        ≡ option_map (λ e. e.cookie) (find (λ e. same_name e.name name) es)
+        → option_map (λ n. n.cookie) (cond b (Some (in_directory dir e))
         (find (λ n. same_name n.name name) (map (in_directory dir) es)))
-        ≡ option_map (λ e. e.serial) (cond b (Some e) (find (λ e. same_name e.name name) es))
+        ≡ option_map (λ e. e.cookie) (cond b (Some e) (find (λ e. same_name e.name name) es))
     by true rest = refl
     by false rest = rest
 
@@ -102,12 +102,12 @@ module _ (entries : ℕ → List Entry) (names : List Named) (by_dir : AreByDire
       ∙ ap (option_map (λ n. n.file)) (sym (find-filter (λ n. nat_eq n.directory dir)
       (λ n. same_name n.name name) names))
 
-  pub serial-in : (dir : ℕ) (name : List ℕ) → option_map (λ e. e.serial)
-      (find (λ e. same_name e.name name) (entries dir)) ≡ option_map (λ n. n.serial) (find (is_at dir name) names)
-  serial-in dir name =
-      sym (serial-mapped dir name (entries dir)) ∙ ap (λ l. option_map (λ n. n.serial)
+  pub cookie-in : (dir : ℕ) (name : List ℕ) → option_map (λ e. e.cookie)
+      (find (λ e. same_name e.name name) (entries dir)) ≡ option_map (λ n. n.cookie) (find (is_at dir name) names)
+  cookie-in dir name =
+      sym (cookie-mapped dir name (entries dir)) ∙ ap (λ l. option_map (λ n. n.cookie)
       (find (λ n. same_name n.name name) l)) (by_dir dir)
-      ∙ ap (option_map (λ n. n.serial)) (sym (find-filter (λ n. nat_eq n.directory dir)
+      ∙ ap (option_map (λ n. n.cookie)) (sym (find-filter (λ n. nat_eq n.directory dir)
       (λ n. same_name n.name name) names))
 
   pub length-in : (dir : ℕ) → length (entries dir) ≡ length (filter (λ n. nat_eq n.directory dir) names)
@@ -115,26 +115,26 @@ module _ (entries : ℕ → List Entry) (names : List Named) (by_dir : AreByDire
 
 -- which directory it is does not matter to the records
 records-in : (files : Map Content) (after d e : ℕ) (es : List Entry)
-    → map (lead_in files) (filter (λ n. nat_lt after n.serial) (map (in_directory d) es))
-    ≡ map (lead_in files) (filter (λ n. nat_lt after n.serial) (map (in_directory e) es))
+    → map (lead_in files) (filter (λ n. nat_lt after n.cookie) (map (in_directory d) es))
+    ≡ map (lead_in files) (filter (λ n. nat_lt after n.cookie) (map (in_directory e) es))
 records-in files after d e [] = refl
-records-in files after d e (x ∷ es) = by (nat_lt after x.serial) (records-in files after d e es)
+records-in files after d e (x ∷ es) = by (nat_lt after x.cookie) (records-in files after d e es)
   where
-    by : (b : Bool) → map (lead_in files) (filter (λ n. nat_lt after n.serial) (map (in_directory d) es))
-        ≡ map (lead_in files) (filter (λ n. nat_lt after n.serial) (map (in_directory e) es))
-        → map (lead_in files) (cond b (in_directory d x ∷ filter (λ n. nat_lt after n.serial)
-        (map (in_directory d) es)) (filter (λ n. nat_lt after n.serial) (map (in_directory d) es)))
-        ≡ map (lead_in files) (cond b (in_directory e x ∷ filter (λ n. nat_lt after n.serial)
-        (map (in_directory e) es)) (filter (λ n. nat_lt after n.serial) (map (in_directory e) es)))
+    by : (b : Bool) → map (lead_in files) (filter (λ n. nat_lt after n.cookie) (map (in_directory d) es))
+        ≡ map (lead_in files) (filter (λ n. nat_lt after n.cookie) (map (in_directory e) es))
+        → map (lead_in files) (cond b (in_directory d x ∷ filter (λ n. nat_lt after n.cookie)
+        (map (in_directory d) es)) (filter (λ n. nat_lt after n.cookie) (map (in_directory d) es)))
+        ≡ map (lead_in files) (cond b (in_directory e x ∷ filter (λ n. nat_lt after n.cookie)
+        (map (in_directory e) es)) (filter (λ n. nat_lt after n.cookie) (map (in_directory e) es)))
     by true rest = ap (λ l. lead_in files (in_directory e x) ∷ l) rest
     by false rest = rest
 
 pub listed-in : (entries : ℕ → List Entry) (names : List Named) → AreByDirectory entries names
     → (files : Map Content) (dir after : ℕ)
-    → map (lead_in files) (filter (λ n. nat_lt after n.serial) (map (in_directory 0) (entries dir)))
+    → map (lead_in files) (filter (λ n. nat_lt after n.cookie) (map (in_directory 0) (entries dir)))
     ≡ listed_names files dir after names
 listed-in entries names by_dir files dir after =
-    records-in files after 0 dir (entries dir) ∙ ap (λ l. map (lead_in files) (filter (λ n. nat_lt after n.serial) l))
+    records-in files after 0 dir (entries dir) ∙ ap (λ l. map (lead_in files) (filter (λ n. nat_lt after n.cookie) l))
     (by_dir dir)
 
 -- ---- what changes
@@ -171,21 +171,21 @@ module _ (dir : ℕ) (name : List ℕ) where
       by k true e = here k e (entries k)
       by k false e = sym (elsewhere k e (entries k))
 
-  pub AreByDirectory-more : (file serial : ℕ) (entries : ℕ → List Entry) (names : List Named)
+  pub AreByDirectory-more : (file cookie : ℕ) (entries : ℕ → List Entry) (names : List Named)
       → AreByDirectory entries names
-      → AreByDirectory (more dir (record { name = name; file = file; serial = serial }) entries)
-      (names ++ record { directory = dir; name = name; file = file; serial = serial } ∷ [])
-  AreByDirectory-more file serial entries names by_dir =
+      → AreByDirectory (more dir (record { name = name; file = file; cookie = cookie }) entries)
+      (names ++ record { directory = dir; name = name; file = file; cookie = cookie } ∷ [])
+  AreByDirectory-more file cookie entries names by_dir =
       λ k. by k (nat_eq dir k) refl ∙ sym (filter-append (λ n. nat_eq n.directory k) names _)
     where
       by : (k : ℕ) (b : Bool) → nat_eq dir k ≡ b
-          → map (in_directory k) (cond b (entries k ++ record { name = name; file = file; serial = serial } ∷ [])
+          → map (in_directory k) (cond b (entries k ++ record { name = name; file = file; cookie = cookie } ∷ [])
           (entries k))
           ≡ filter (λ n. nat_eq n.directory k) names ++ cond b
-          (record { directory = dir; name = name; file = file; serial = serial } ∷ []) []
+          (record { directory = dir; name = name; file = file; cookie = cookie } ∷ []) []
       by k true e = let same = same_number dir k e in rw same
           (map-append (in_directory k) (entries k) _ ∙ ap (λ l. l
-          ++ record { directory = k; name = name; file = file; serial = serial } ∷ []) (by_dir k))
+          ++ record { directory = k; name = name; file = file; cookie = cookie } ∷ []) (by_dir k))
       by k false e = by_dir k ∙ sym (append-nil (filter (λ n. nat_eq n.directory k) names))
 
 -- the same entries
@@ -213,43 +213,43 @@ put_is true es kept e = refl
 put_is false es kept e = refl
 
 -- a name put anew, last
-pub AreByDirectory-put : (dir : ℕ) (name : List ℕ) (file serial : ℕ) (entries after : ℕ → List Entry)
+pub AreByDirectory-put : (dir : ℕ) (name : List ℕ) (file cookie : ℕ) (entries after : ℕ → List Entry)
     (names : List Named)
     → ((k : ℕ) → after k ≡ cond (nat_eq dir k) (filter (λ e. not (same_name e.name name)) (entries k)
-    ++ record { name = name; file = file; serial = serial } ∷ []) (entries k))
+    ++ record { name = name; file = file; cookie = cookie } ∷ []) (entries k))
     → AreByDirectory entries names
     → AreByDirectory after (filter (λ n. not (is_at dir name n)) names
-    ++ record { directory = dir; name = name; file = file; serial = serial } ∷ [])
-AreByDirectory-put dir name file serial entries after names is by_dir =
-    AreByDirectory-same (more dir (record { name = name; file = file; serial = serial })
+    ++ record { directory = dir; name = name; file = file; cookie = cookie } ∷ [])
+AreByDirectory-put dir name file cookie entries after names is by_dir =
+    AreByDirectory-same (more dir (record { name = name; file = file; cookie = cookie })
     (less dir name entries)) after _
     (λ k. is k ∙ put_is (nat_eq dir k) (entries k) (filter (λ e. not (same_name e.name name)) (entries k))
-    (record { name = name; file = file; serial = serial }))
-    (AreByDirectory-more dir name file serial (less dir name entries) (filter (λ n. not (is_at dir name n)) names)
+    (record { name = name; file = file; cookie = cookie }))
+    (AreByDirectory-more dir name file cookie (less dir name entries) (filter (λ n. not (is_at dir name n)) names)
     (AreByDirectory-less dir name entries names by_dir))
 
 -- a name put that is not there
-pub AreByDirectory-added : (dir : ℕ) (name : List ℕ) (file serial : ℕ) (entries after : ℕ → List Entry)
+pub AreByDirectory-added : (dir : ℕ) (name : List ℕ) (file cookie : ℕ) (entries after : ℕ → List Entry)
     (names : List Named)
     → ((k : ℕ) → after k ≡ cond (nat_eq dir k) (filter (λ e. not (same_name e.name name)) (entries k)
-    ++ record { name = name; file = file; serial = serial } ∷ []) (entries k))
+    ++ record { name = name; file = file; cookie = cookie } ∷ []) (entries k))
     → AreByDirectory entries names → find (is_at dir name) names ≡ None
-    → AreByDirectory after (names ++ record { directory = dir; name = name; file = file; serial = serial } ∷ [])
-AreByDirectory-added dir name file serial entries after names is by_dir absent =
-    subst (λ l. AreByDirectory after (l ++ record { directory = dir; name = name; file = file; serial = serial } ∷ []))
+    → AreByDirectory after (names ++ record { directory = dir; name = name; file = file; cookie = cookie } ∷ [])
+AreByDirectory-added dir name file cookie entries after names is by_dir absent =
+    subst (λ l. AreByDirectory after (l ++ record { directory = dir; name = name; file = file; cookie = cookie } ∷ []))
     (filter-none (is_at dir name) names absent)
-    (AreByDirectory-put dir name file serial entries after names is by_dir)
+    (AreByDirectory-put dir name file cookie entries after names is by_dir)
 
 -- a file moved from one name to another
-pub AreByDirectory-moved : (d : ℕ) (old : List ℕ) (e : ℕ) (new : List ℕ) (file serial : ℕ)
+pub AreByDirectory-moved : (d : ℕ) (old : List ℕ) (e : ℕ) (new : List ℕ) (file cookie : ℕ)
     (entries put after : ℕ → List Entry) (names : List Named)
     → ((k : ℕ) → put k ≡ cond (nat_eq e k) (filter (λ x. not (same_name x.name new)) (entries k)
-    ++ record { name = new; file = file; serial = serial } ∷ []) (entries k))
+    ++ record { name = new; file = file; cookie = cookie } ∷ []) (entries k))
     → ((k : ℕ) → after k ≡ less d old put k)
     → AreByDirectory entries names → (nat_eq e d && same_name new old) ≡ false
     → AreByDirectory after (filter (λ n. not (is_at e new n)) (filter (λ n. not (is_at d old n)) names)
-    ++ record { directory = e; name = new; file = file; serial = serial } ∷ [])
-AreByDirectory-moved d old e new file serial entries put after names is_put is by_dir other =
+    ++ record { directory = e; name = new; file = file; cookie = cookie } ∷ [])
+AreByDirectory-moved d old e new file cookie entries put after names is_put is by_dir other =
     subst (AreByDirectory after) (moved-filter (λ n. not (is_at d old n)) (λ n. not (is_at e new n)) names
-    (record { directory = e; name = new; file = file; serial = serial }) (ap not other))
-    (AreByDirectory-removed d old put after _ is (AreByDirectory-put e new file serial entries put names is_put by_dir))
+    (record { directory = e; name = new; file = file; cookie = cookie }) (ap not other))
+    (AreByDirectory-removed d old put after _ is (AreByDirectory-put e new file cookie entries put names is_put by_dir))

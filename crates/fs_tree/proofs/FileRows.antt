@@ -1,4 +1,4 @@
--- Files by birth, kept in a map in rising birth.
+-- Files by inode, kept in a map in rising inode.
 use Rattle.std.proofs.Common.{◌≡◌, ℕ, ◌<◌, Bool, true, false, cond, List, [], ◌∷◌, map, Option, Some, None, refl, sym, ap, ◌∙◌, arith, Less, Equal, Greater, Result, Ok, Err, IsSome, IsOk, OnErr, nat_eq, nat_lt}
 use Rattle.std.specs.Option.{option_map}
 use Rattle.std.specs.declared.cmp.Ordering.{Ordering}

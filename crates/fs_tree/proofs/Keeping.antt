@@ -15,7 +15,7 @@ use Rattle.fs_tree.specs.Outcomes.{is_kind_regular}
 use Rattle.fs_tree.specs.Stored.{AreKeysBelow, IsRising, IsTreeKept}
 use Rattle.fs_tree.proofs.FileRows.{there-content}
 
--- ---- births
+-- ---- inodes
 
 module _ {V : Type 0} where
   pub AreBelow-more : (next more : ℕ) (es : List (ℕ × V)) → next ≤ more → AreKeysBelow next es → AreKeysBelow more es
@@ -52,30 +52,30 @@ module _ {V : Type 0} where
       by Equal q there rest = let same = ranked key e.0 Equal (sym q) in omega (arith, below.0)
       by Greater q there rest = rest there
 
--- ---- serials
+-- ---- cookies
 
 pub IsRising-lower : (low lower next : ℕ) (names : List Named) → lower ≤ low → IsRising low names next
     → IsRising lower names next
 IsRising-lower low lower next [] le rising = omega arith
 IsRising-lower low lower next (n ∷ names) le rising = (omega (arith, rising.0), rising.1)
 
--- one more name, under the next serial
-pub IsRising-push : (low next : ℕ) (names : List Named) (n : Named) → n.serial ≡ next → IsRising low names next
+-- one more name, under the next cookie
+pub IsRising-push : (low next : ℕ) (names : List Named) (n : Named) → n.cookie ≡ next → IsRising low names next
     → IsRising low (names ++ n ∷ []) (next + 1)
 IsRising-push low next [] n is rising = (omega arith, omega arith)
-IsRising-push low next (m ∷ names) n is rising = (rising.0, IsRising-push (m.serial + 1) next names n is rising.1)
+IsRising-push low next (m ∷ names) n is rising = (rising.0, IsRising-push (m.cookie + 1) next names n is rising.1)
 
 -- some names less
 pub IsRising-where : (p : Named → Bool) (low next : ℕ) (names : List Named) → IsRising low names next
     → IsRising low (filter p names) next
 IsRising-where p low next [] rising = rising
 IsRising-where p low next (n ∷ names) rising =
-    by (p n) (IsRising-where p (n.serial + 1) next names rising.1)
+    by (p n) (IsRising-where p (n.cookie + 1) next names rising.1)
   where
-    by : (b : Bool) → IsRising (n.serial + 1) (filter p names) next
+    by : (b : Bool) → IsRising (n.cookie + 1) (filter p names) next
         → IsRising low (cond b (n ∷ filter p names) (filter p names)) next
     by true rest = (rising.0, rest)
-    by false rest = IsRising-lower (n.serial + 1) low next (filter p names) (omega (arith, rising.0)) rest
+    by false rest = IsRising-lower (n.cookie + 1) low next (filter p names) (omega (arith, rising.0)) rest
 
 -- ---- how many names there are
 
@@ -99,65 +99,65 @@ module _ {E : Type 0} (p : E → Bool) where
 
 -- ---- the whole
 
-module _ (files : Map Content) (names : List Named) (births serials : ℕ)
-    (kept : IsTreeKept files names births serials) where
+module _ (files : Map Content) (names : List Named) (inodes cookies : ℕ)
+    (kept : IsTreeKept files names inodes cookies) where
   -- one more name
-  pub kept-named : (n : Named) → n.serial ≡ serials → length names < 4096 → serials < 2 ^ 62
-      → IsTreeKept files (names ++ n ∷ []) births (serials + 1)
+  pub kept-named : (n : Named) → n.cookie ≡ cookies → length names < 4096 → cookies < 2 ^ 62
+      → IsTreeKept files (names ++ n ∷ []) inodes (cookies + 1)
   kept-named n is few fits =
       record {
         born = kept.born;
-        rising = IsRising-push 1 serials names n is kept.rising;
+        rising = IsRising-push 1 cookies names n is kept.rising;
         few = rw length-append (omega arith);
-        births_fit = kept.births_fit;
-        serials_fit = omega arith;
+        inodes_fit = kept.inodes_fit;
+        cookies_fit = omega arith;
       }
 
   -- some names less
-  pub kept-where : (p : Named → Bool) → IsTreeKept files (filter p names) births serials
+  pub kept-where : (p : Named → Bool) → IsTreeKept files (filter p names) inodes cookies
   kept-where p =
       record {
         born = kept.born;
-        rising = IsRising-where p 1 serials names kept.rising;
+        rising = IsRising-where p 1 cookies names kept.rising;
         few = let less = length-where p names in let few = kept.few in omega arith;
-        births_fit = kept.births_fit;
-        serials_fit = kept.serials_fit;
+        inodes_fit = kept.inodes_fit;
+        cookies_fit = kept.cookies_fit;
       }
 
   -- one more file
-  pub kept-born : (c : Content) → births < 2 ^ 62 → IsTreeKept (put files births c) names (births + 1) serials
+  pub kept-born : (c : Content) → inodes < 2 ^ 62 → IsTreeKept (put files inodes c) names (inodes + 1) cookies
   kept-born c fits =
       record {
-        born = AreBelow-put (births + 1) births c files (omega arith)
-            (AreBelow-more births (births + 1) files (omega arith) kept.born);
+        born = AreBelow-put (inodes + 1) inodes c files (omega arith)
+            (AreBelow-more inodes (inodes + 1) files (omega arith) kept.born);
         rising = kept.rising;
         few = kept.few;
-        births_fit = omega arith;
-        serials_fit = kept.serials_fit;
+        inodes_fit = omega arith;
+        cookies_fit = kept.cookies_fit;
       }
 
   -- some files less
-  pub kept-less : (p : ℕ × Content → Bool) → IsTreeKept (filter p files) names births serials
+  pub kept-less : (p : ℕ × Content → Bool) → IsTreeKept (filter p files) names inodes cookies
   kept-less p =
       record {
-        born = AreBelow-where births p files kept.born;
+        born = AreBelow-where inodes p files kept.born;
         rising = kept.rising;
         few = kept.few;
-        births_fit = kept.births_fit;
-        serials_fit = kept.serials_fit;
+        inodes_fit = kept.inodes_fit;
+        cookies_fit = kept.cookies_fit;
       }
 
   -- other bytes in a regular file
   pub kept-written : (file : ℕ) (c : Content) → kind_of (get files file) ≡ Regular
-      → IsTreeKept (put files file c) names births serials
+      → IsTreeKept (put files file c) names inodes cookies
   kept-written file c regular =
       record {
-        born = AreBelow-put births file c files (key_below births file files kept.born
+        born = AreBelow-put inodes file c files (key_below inodes file files kept.born
             (there-content (get files file) regular)) kept.born;
         rising = kept.rising;
         few = kept.few;
-        births_fit = kept.births_fit;
-        serials_fit = kept.serials_fit;
+        inodes_fit = kept.inodes_fit;
+        cookies_fit = kept.cookies_fit;
       }
 
 -- a name that leads to a file is one less
@@ -167,17 +167,17 @@ fewer-found p names file None found at = cc
 fewer-found p names file (Some n) found at = length-without p names n found
 
 -- a file moved from one name to another
-pub kept-moved : (files : Map Content) (names : List Named) (births serials : ℕ) → IsTreeKept files names births serials
-    → (p q : Named → Bool) (n : Named) (file : ℕ) → n.serial ≡ serials
-    → option_map (λ m. m.file) (find p names) ≡ Some file → serials < 2 ^ 62
-    → IsTreeKept files (filter (λ m. not (q m)) (filter (λ m. not (p m)) names) ++ n ∷ []) births (serials + 1)
-kept-moved files names births serials kept p q n file is at fits =
+pub kept-moved : (files : Map Content) (names : List Named) (inodes cookies : ℕ) → IsTreeKept files names inodes cookies
+    → (p q : Named → Bool) (n : Named) (file : ℕ) → n.cookie ≡ cookies
+    → option_map (λ m. m.file) (find p names) ≡ Some file → cookies < 2 ^ 62
+    → IsTreeKept files (filter (λ m. not (q m)) (filter (λ m. not (p m)) names) ++ n ∷ []) inodes (cookies + 1)
+kept-moved files names inodes cookies kept p q n file is at fits =
     let fewer = fewer-found p names file (find p names) refl at in
     let few = kept.few in
     let less = length-where (λ m. not (q m)) (filter (λ m. not (p m)) names) in
-    let one = kept-where files names births serials kept (λ m. not (p m)) in
-    let both = kept-where files (filter (λ m. not (p m)) names) births serials one (λ m. not (q m)) in
-    kept-named files (filter (λ m. not (q m)) (filter (λ m. not (p m)) names)) births serials both n is
+    let one = kept-where files names inodes cookies kept (λ m. not (p m)) in
+    let both = kept-where files (filter (λ m. not (p m)) names) inodes cookies one (λ m. not (q m)) in
+    kept-named files (filter (λ m. not (q m)) (filter (λ m. not (p m)) names)) inodes cookies both n is
     (omega arith) fits
 
 -- a file that is tested to be regular is

@@ -5,7 +5,7 @@ use Rattle.std.proofs.lemmas.List.Elements.{All-filter}
 use Rattle.fuse_spec.specs.Values.Maps.{get, put}
 use Rattle.fuse_spec.specs.Calls.Paths.{Name}
 use Rattle.fuse_spec.specs.Files.Operations.{lookup, getattr, mkdir, create, unlink, rmdir, rename, link, opening, readdir, readdirplus, read, write}
-use Rattle.fuse_spec.specs.Files.Trees.{Tree, Named, Content, a_directory, a_file, file_bytes, file_at, is_at, is_nameless, overwritten, with_birth, with_name, without_name}
+use Rattle.fuse_spec.specs.Files.Trees.{Tree, Named, Content, a_directory, a_file, file_bytes, file_at, is_at, is_nameless, overwritten, with_inode, with_name, without_name}
 use Rattle.fuse_spec.specs.Files.FileOperations.{FileOperation, is_same, renamed, tree_unrefused}
 use Rattle.fuse_spec.specs.Files.TreeShape.{IsShaped, WritesRegular}
 use Rattle.fuse_spec.proofs.Tables.{get_put_there}
@@ -25,7 +25,7 @@ KeepsName old new x = (is_nameless new x ≡ false)
 
 module _ (tree : Tree) (d : ℕ) (name : Name) (file : ℕ) where
   abbrev row : Named
-  row = record { directory = d; name = name; file = file; serial = tree.next_serial }
+  row = record { directory = d; name = name; file = file; cookie = tree.next_cookie }
 
   named_more : (x : ℕ) → is_nameless tree x ≡ false → is_nameless (with_name tree d name file) x ≡ false
   named_more x named = let counted = count_by-push (λ n. nat_eq n.file x) tree.names row in
@@ -36,18 +36,18 @@ module _ (tree : Tree) (d : ℕ) (name : Name) (file : ℕ) where
       has_name (with_name tree d name file) file (rw (counted, eq-eqb file file refl) (omega arith))
 
 born : (tree : Tree) (d : ℕ) (name : Name) (content : Content) (x : ℕ)
-    → IsSome (get (with_birth tree d name content).files x) → KeepsName tree (with_birth tree d name content) x
-born tree d name content x there = elim (cases_eq x tree.next_birth) [
-  | inl e ↦ inl (subst (λ (y : ℕ). is_nameless (with_birth tree d name content) y ≡ false) (sym e)
-      (now_named grown d name tree.next_birth))
+    → IsSome (get (with_inode tree d name content).files x) → KeepsName tree (with_inode tree d name content) x
+born tree d name content x there = elim (cases_eq x tree.next_inode) [
+  | inl e ↦ inl (subst (λ (y : ℕ). is_nameless (with_inode tree d name content) y ≡ false) (sym e)
+      (now_named grown d name tree.next_inode))
   | inr ne ↦ inr (
-    sym (ap is_some (get_put_there tree.files tree.next_birth content x ne)) ∙ there,
-    named_more grown d name tree.next_birth x,
+    sym (ap is_some (get_put_there tree.files tree.next_inode content x ne)) ∙ there,
+    named_more grown d name tree.next_inode x,
   )
 ]
   where
     grown : Tree
-    grown = record tree { files = put tree.files tree.next_birth content; next_birth = tree.next_birth + 1 }
+    grown = record tree { files = put tree.files tree.next_inode content; next_inode = tree.next_inode + 1 }
 
 -- ---- a name less
 

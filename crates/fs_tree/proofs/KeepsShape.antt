@@ -6,7 +6,7 @@ use Rattle.fuse_spec.specs.Values.Maps.{get, put}
 use Rattle.fuse_spec.specs.Values.Numbers.{eperm, enoent, eexist, enotdir, eisdir, einval, enospc, enotempty, max_names}
 use Rattle.fuse_spec.specs.Calls.Paths.{Name}
 use Rattle.fuse_spec.specs.Files.Operations.{lookup, getattr, mkdir, create, unlink, rmdir, rename, link, opening, readdir, readdirplus, read, write}
-use Rattle.fuse_spec.specs.Files.Trees.{Tree, Named, Content, a_directory, a_file, is_at, file_at, file_bytes, overwritten, is_directory, is_nameless, is_empty, with_name, without_name, with_birth}
+use Rattle.fuse_spec.specs.Files.Trees.{Tree, Named, Content, a_directory, a_file, is_at, file_at, file_bytes, overwritten, is_directory, is_nameless, is_empty, with_name, without_name, with_inode}
 use Rattle.fuse_spec.specs.Files.FileOperations.{FileOperation, Check, first_refusal, refusal, making, is_dir, is_file, is_filled, is_same, is_moved_below, replaces, renamed, tree_or, tree_unrefused, tree_after}
 use Rattle.fuse_spec.specs.Files.TreeShape.{IsShaped, IsInTree, WritesRegular, names_leading_to}
 use Rattle.fuse_spec.proofs.Tables.{get_put_here}
@@ -62,7 +62,7 @@ module _ (tree : Tree) (shaped : IsShaped tree) (d : ℕ) (name : Name) (is_dir 
       after = with_name tree d name file
 
       new : Named
-      new = record { directory = d; name = name; file = file; serial = tree.next_serial }
+      new = record { directory = d; name = name; file = file; cookie = tree.next_cookie }
 
       still : (x : ℕ) → is_nameless tree x ≡ false → is_nameless after x ≡ false
       still x h = let counted = count_by-push (λ n. nat_eq n.file x) tree.names new in
@@ -73,16 +73,16 @@ module _ (tree : Tree) (shaped : IsShaped tree) (d : ℕ) (name : Name) (is_dir 
 
 -- a file more
 made : (tree : Tree) → IsShaped tree → (d : ℕ) (name : Name) (content : Content) → is_directory tree d ≡ true
-    → is_nameless tree d ≡ false → is_some (file_at tree d name) ≡ false → IsShaped (with_birth tree d name content)
+    → is_nameless tree d ≡ false → is_some (file_at tree d name) ≡ false → IsShaped (with_inode tree d name content)
 made tree shaped d name content is_dir named absent =
-    named_once grown kept d name is_dir_still named absent tree.next_birth
-    (rw (get_put_here tree.files tree.next_birth content) refl)
+    named_once grown kept d name is_dir_still named absent tree.next_inode
+    (rw (get_put_here tree.files tree.next_inode content) refl)
     (λ e. true≢false (sym (is_some_root (get tree.files 0)
     (directory_there (get tree.files 0) shaped.root)) ∙ ap is_some (shaped.unborn 0 (omega (arith, e)))))
     (λ is. coming_nameless tree shaped)
   where
     grown : Tree
-    grown = record tree { files = put tree.files tree.next_birth content; next_birth = tree.next_birth + 1 }
+    grown = record tree { files = put tree.files tree.next_inode content; next_inode = tree.next_inode + 1 }
 
     kept : IsShaped grown
     kept = with_file tree shaped content
@@ -156,7 +156,7 @@ module _ (tree : Tree) (shaped : IsShaped tree) (d : ℕ) (old : Name) (e : ℕ)
   after = with_name gone e new file
 
   abbrev row : Named
-  row = record { directory = e; name = new; file = file; serial = tree.next_serial }
+  row = record { directory = e; name = new; file = file; cookie = tree.next_cookie }
 
   moved_name : (n : Named) × (find (is_at d old) tree.names ≡ Some n) × (n.file ≡ file)
   moved_name = name_at (find (is_at d old) tree.names) file at
@@ -233,7 +233,7 @@ module _ (tree : Tree) (shaped : IsShaped tree) where
   -- a file more, by mkdir or create
   pub make : (d : ℕ) (name : Name) (content : Content)
       → first_refusal ((not (is_directory tree d), enotdir) ∷ (is_nameless tree d, enoent) ∷ making tree d name) ≡ None
-      → IsShaped (with_birth tree d name content)
+      → IsShaped (with_inode tree d name content)
   make d name content free =
       let first = passes (not (is_directory tree d), enotdir)
       ((is_nameless tree d, enoent) ∷ making tree d name) free in
@@ -352,7 +352,7 @@ module _ (tree : Tree) (shaped : IsShaped tree) where
 pub renamed_is : (tree : Tree) (d : ℕ) (old : Name) (e : ℕ) (new : Name) (file : ℕ) (names : List Named)
     → file_at tree d old ≡ Some file → is_same (file_at tree d old) (file_at tree e new) ≡ false
     → names ≡ (renamed tree d old e new (Some file)).names
-    → record { files = tree.files; names = names; next_birth = tree.next_birth; next_serial = tree.next_serial + 1 }
+    → record { files = tree.files; names = names; next_inode = tree.next_inode; next_cookie = tree.next_cookie + 1 }
     ≡ tree_unrefused tree (rename d old e new)
 renamed_is tree d old e new file names at apart are = rw (apart, at, are) refl
 

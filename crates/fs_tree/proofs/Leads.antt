@@ -56,12 +56,12 @@ map_map f g (x ∷ xs) = ap (λ l. g (f x) ∷ l) (map_map f g xs)
 pub names-listed : (files : Map Content) (dir after room : ℕ) (names : List Named) (records : List Record)
     → map lead_of records ≡ fitting_with 0 room (listed_names files dir after names)
     → map viewed_dirent records ≡ fitting room (map (stored_dirent files)
-    (filter (λ n. nat_lt after n.serial) (filter (λ n. nat_eq n.directory dir) names)))
+    (filter (λ n. nat_lt after n.cookie) (filter (λ n. nat_eq n.directory dir) names)))
 names-listed files dir after room names records are =
     sym (map_map lead_of (λ r. r.1) records) ∙ ap (map (λ r. r.1)) are ∙ fitting-records room
     (listed_names files dir after names)
     ∙ ap (fitting room) (map_map (lead_in files) (λ r. r.1)
-    (filter (λ n. nat_lt after n.serial) (filter (λ n. nat_eq n.directory dir) names)))
+    (filter (λ n. nat_lt after n.cookie) (filter (λ n. nat_eq n.directory dir) names)))
 
 abbrev pair_in : ℕ → Map Content → Named → DirentPlus ℕ
 pair_in valid files n = record { file = Some n.file; valid = valid; dirent = stored_dirent files n }
@@ -70,20 +70,20 @@ pair_in valid files n = record { file = Some n.file; valid = valid; dirent = sto
 pub pairs-listed : (valid : ℕ) (files : Map Content) (dir after room : ℕ) (names : List Named) (records : List Record)
     → map lead_of records ≡ fitting_with 128 room (listed_names files dir after names)
     → map (viewed_pair valid) records ≡ fitting_pairs room
-    (map (pair_in valid files) (filter (λ n. nat_lt after n.serial) (filter (λ n. nat_eq n.directory dir) names)))
+    (map (pair_in valid files) (filter (λ n. nat_lt after n.cookie) (filter (λ n. nat_eq n.directory dir) names)))
 pairs-listed valid files dir after room names records are =
     sym (map_map lead_of (lead_pair valid) records) ∙ ap (map (lead_pair valid)) are ∙ fitting-pairs valid room
     (listed_names files dir after names)
     ∙ ap (fitting_pairs room) (map_map (lead_in files) (lead_pair valid)
-    (filter (λ n. nat_lt after n.serial) (filter (λ n. nat_eq n.directory dir) names)))
+    (filter (λ n. nat_lt after n.cookie) (filter (λ n. nat_eq n.directory dir) names)))
 
 -- the files that they tell
 pub files-listed : (valid : ℕ) (files : Map Content) (dir after room : ℕ) (names : List Named)
     → files_led (fitting_with 128 room (listed_names files dir after names))
     ≡ files_listed (fitting_pairs room (map (pair_in valid files)
-    (filter (λ n. nat_lt after n.serial) (filter (λ n. nat_eq n.directory dir) names))))
+    (filter (λ n. nat_lt after n.cookie) (filter (λ n. nat_eq n.directory dir) names))))
 files-listed valid files dir after room names =
     files-either valid (fitting_with 128 room (listed_names files dir after names)) ∙ ap files_listed
     (fitting-pairs valid room (listed_names files dir after names)
     ∙ ap (fitting_pairs room) (map_map (lead_in files) (lead_pair valid)
-    (filter (λ n. nat_lt after n.serial) (filter (λ n. nat_eq n.directory dir) names))))
+    (filter (λ n. nat_lt after n.cookie) (filter (λ n. nat_eq n.directory dir) names))))

@@ -5,8 +5,8 @@ pub mod Climbing
 pub mod EntryRows
 pub mod ByDirectory
 pub mod OpenDirectories
-pub mod SerialRows
-pub mod BySerial
+pub mod CookieRows
+pub mod ByCookie
 pub mod ByFile
 pub mod NameLinks
 pub mod Counting

@@ -1,4 +1,4 @@
--- The names in one directory by serial, and their links by name.
+-- The names in one directory by cookie, and their links by name.
 use Rattle.std.proofs.Common.{◌≡◌, ℕ, ◌+◌, ◌<◌, ◌≤◌, Bool, true, false, not, cond, ◌&&◌, List, [], ◌∷◌, ◌++◌, map, filter, find, Option, Some, None, refl, sym, ap, subst, ◌∙◌, nat_eq, nat_lt, nat_le, ◌-◌, arith, Vec, Less, Equal, Greater}
 use Rattle.std.specs.Option.{option_map}
 use Rattle.std.specs.Ordering.{nat_cmp, is_lt}
@@ -19,8 +19,8 @@ use Rattle.fs_tree.specs.declared.entries.Link.{Link}
 use Rattle.fs_tree.proofs.ListLemmas.{filter-map}
 use Rattle.fs_tree.proofs.ByDirectory.{filter-append, filter-none}
 use Rattle.fs_tree.proofs.EntryRows.{same_name-swap}
-use Rattle.fs_tree.proofs.BySerial.{same_name-equal, find-where-none, find-append-none, find-gone}
-use Rattle.fs_tree.proofs.SerialRows.{put-last}
+use Rattle.fs_tree.proofs.ByCookie.{same_name-equal, find-where-none, find-append-none, find-gone}
+use Rattle.fs_tree.proofs.CookieRows.{put-last}
 
 some_entry : (x y : Entry) → Some x ≡ Some y → x ≡ y
 some_entry x y e = cc
@@ -29,8 +29,8 @@ same_itself : (a : List ℕ) → same_name a a ≡ true
 same_itself [] = refl
 same_itself (x ∷ xs) = let itself : nat_eq x x ≡ true = grind (arith, common_steps) in rw (itself, same_itself xs) refl
 
-other_serial : (a b : ℕ) → a < b → nat_eq a b ≡ false
-other_serial a b lower = grind (arith, common_steps)
+other_cookie : (a b : ℕ) → a < b → nat_eq a b ≡ false
+other_cookie a b lower = grind (arith, common_steps)
 
 other_back : (a b : ℕ) → a < b → nat_eq b a ≡ false
 other_back a b lower = grind (arith, common_steps)
@@ -44,12 +44,12 @@ file-of None (Some e) same = cc
 file-of (Some l) None same = cc
 file-of (Some l) (Some e) same = ap (λ o. option_map (λ p. p.0) o) same
 
-pub serial-of : (o : Option Link) (f : Option Entry) → option_map link_of o ≡ option_map entry_link f
-    → option_map (λ l. l.serial) o ≡ option_map (λ e. e.serial) f
-serial-of None None same = refl
-serial-of None (Some e) same = cc
-serial-of (Some l) None same = cc
-serial-of (Some l) (Some e) same = ap (λ o. option_map (λ p. p.1) o) same
+pub cookie-of : (o : Option Link) (f : Option Entry) → option_map link_of o ≡ option_map entry_link f
+    → option_map (λ l. l.cookie) o ≡ option_map (λ e. e.cookie) f
+cookie-of None None same = refl
+cookie-of None (Some e) same = cc
+cookie-of (Some l) None same = cc
+cookie-of (Some l) (Some e) same = ap (λ o. option_map (λ p. p.1) o) same
 
 -- ---- searches
 
@@ -116,44 +116,44 @@ AreNamedOnce-put es x once =
     AreNamedOnce-push (filter (λ e. not (same_name e.name x.name)) es) x
     (AreNamedOnce-where (λ e. not (same_name e.name x.name)) es once) (find-gone (λ e. same_name e.name x.name) es)
 
--- ---- serials
+-- ---- cookies
 
 module _ {A : Type 0} where
-  kept-above : (serial : ℕ) (es : List (ℕ × Leaf A)) → AllByRecursion (λ y. nat_cmp serial y ≡ Less) (keys_of es)
-      → filter (λ e. not (nat_eq e.serial serial)) (map leaf_entry es) ≡ map leaf_entry es
-  kept-above serial [] above = refl
-  kept-above serial (e ∷ es) above =
-      let lower : serial < e.0 = ranked serial e.0 Less (sym above.0) in
-      rw (other_back serial e.0 lower) (ap (λ l. leaf_entry e ∷ l) (kept-above serial es above.1))
+  kept-above : (cookie : ℕ) (es : List (ℕ × Leaf A)) → AllByRecursion (λ y. nat_cmp cookie y ≡ Less) (keys_of es)
+      → filter (λ e. not (nat_eq e.cookie cookie)) (map leaf_entry es) ≡ map leaf_entry es
+  kept-above cookie [] above = refl
+  kept-above cookie (e ∷ es) above =
+      let lower : cookie < e.0 = ranked cookie e.0 Less (sym above.0) in
+      rw (other_back cookie e.0 lower) (ap (λ l. leaf_entry e ∷ l) (kept-above cookie es above.1))
 
-  above-found : (p : Entry → Bool) (serial : ℕ) (es : List (ℕ × Leaf A)) (x : Entry)
-      → AllByRecursion (λ y. nat_cmp serial y ≡ Less) (keys_of es) → find p (map leaf_entry es) ≡ Some x
-      → serial < x.serial
-  above-found p serial [] x above found = cc
-  above-found p serial (e ∷ es) x above found = by (p (leaf_entry e)) found (above-found p serial es x above.1)
+  above-found : (p : Entry → Bool) (cookie : ℕ) (es : List (ℕ × Leaf A)) (x : Entry)
+      → AllByRecursion (λ y. nat_cmp cookie y ≡ Less) (keys_of es) → find p (map leaf_entry es) ≡ Some x
+      → cookie < x.cookie
+  above-found p cookie [] x above found = cc
+  above-found p cookie (e ∷ es) x above found = by (p (leaf_entry e)) found (above-found p cookie es x above.1)
     where
       by : (b : Bool) → cond b (Some (leaf_entry e)) (find p (map leaf_entry es)) ≡ Some x
-          → (find p (map leaf_entry es) ≡ Some x → serial < x.serial) → serial < x.serial
+          → (find p (map leaf_entry es) ≡ Some x → cookie < x.cookie) → cookie < x.cookie
       by true found rest = let one : leaf_entry e ≡ x = some_entry (leaf_entry e) x found in
-          subst (λ d. serial < d.serial) one (ranked serial e.0 Less (sym above.0))
+          subst (λ d. cookie < d.cookie) one (ranked cookie e.0 Less (sym above.0))
       by false found rest = rest found
 
-  -- a name is left out by its serial
-  pub name-serial : (name : List ℕ) (es : List (ℕ × Leaf A)) (x : Entry) → IsStrictlySortedBy nat_cmp (keys_of es)
+  -- a name is left out by its cookie
+  pub name-cookie : (name : List ℕ) (es : List (ℕ × Leaf A)) (x : Entry) → IsStrictlySortedBy nat_cmp (keys_of es)
       → AreNamedOnce (map leaf_entry es) → find (λ e. same_name e.name name) (map leaf_entry es) ≡ Some x
-      → filter (λ e. not (nat_eq e.serial x.serial)) (map leaf_entry es)
+      → filter (λ e. not (nat_eq e.cookie x.cookie)) (map leaf_entry es)
       ≡ filter (λ e. not (same_name e.name name)) (map leaf_entry es)
   unfolding IsStrictlySortedBy
-  name-serial name [] x sorted once found = cc
-  name-serial name (e ∷ es) x sorted once found = by (same_name e.1.name.items name) refl found
-      (name-serial name es x sorted.1 once.1)
+  name-cookie name [] x sorted once found = cc
+  name-cookie name (e ∷ es) x sorted once found = by (same_name e.1.name.items name) refl found
+      (name-cookie name es x sorted.1 once.1)
     where
       by : (b : Bool) → same_name e.1.name.items name ≡ b
           → cond b (Some (leaf_entry e)) (find (λ e. same_name e.name name) (map leaf_entry es)) ≡ Some x
           → (find (λ e. same_name e.name name) (map leaf_entry es) ≡ Some x
-          → filter (λ e. not (nat_eq e.serial x.serial)) (map leaf_entry es)
+          → filter (λ e. not (nat_eq e.cookie x.cookie)) (map leaf_entry es)
           ≡ filter (λ e. not (same_name e.name name)) (map leaf_entry es))
-          → filter (λ e. not (nat_eq e.serial x.serial)) (map leaf_entry (e ∷ es))
+          → filter (λ e. not (nat_eq e.cookie x.cookie)) (map leaf_entry (e ∷ es))
           ≡ cond (not b) (leaf_entry e ∷ filter (λ e. not (same_name e.name name)) (map leaf_entry es))
           (filter (λ e. not (same_name e.name name)) (map leaf_entry es))
       by true s found rest =
@@ -162,13 +162,13 @@ module _ {A : Type 0} where
           let none : find (λ d. same_name d.name name) (map leaf_entry es) ≡ None =
           subst (λ n. find (λ d. same_name d.name n) (map leaf_entry es) ≡ None) at_name once.0 in
           let itself : nat_eq e.0 e.0 ≡ true = grind (arith, common_steps) in
-          let gone : filter (λ d. not (nat_eq d.serial e.0)) (map leaf_entry (e ∷ es)) ≡ map leaf_entry es =
+          let gone : filter (λ d. not (nat_eq d.cookie e.0)) (map leaf_entry (e ∷ es)) ≡ map leaf_entry es =
           rw itself (kept-above e.0 es sorted.0) in
-          subst (λ y. filter (λ d. not (nat_eq d.serial y.serial)) (map leaf_entry (e ∷ es))
+          subst (λ y. filter (λ d. not (nat_eq d.cookie y.cookie)) (map leaf_entry (e ∷ es))
           ≡ filter (λ d. not (same_name d.name name)) (map leaf_entry es)) one
           (gone ∙ sym (filter-none (λ d. same_name d.name name) (map leaf_entry es) none))
       by false s found rest =
-          let other : nat_eq e.0 x.serial ≡ false = other_serial e.0 x.serial
+          let other : nat_eq e.0 x.cookie ≡ false = other_cookie e.0 x.cookie
           (above-found (λ d. same_name d.name name) e.0 es x sorted.0 found) in
           rw other (ap (λ l. leaf_entry e ∷ l) (rest found))
 
@@ -177,26 +177,26 @@ module _ {A : Type 0} where
   below-entries next (e ∷ es) before = (before.0, below-entries next es before.1)
 
 before-found : (p : Entry → Bool) (next : ℕ) (es : List Entry) (x : Entry) → AreBefore next es → find p es ≡ Some x
-    → x.serial < next
+    → x.cookie < next
 before-found p next [] x before found = cc
 before-found p next (e ∷ es) x before found = by (p e) found (before-found p next es x before.1)
   where
-    by : (b : Bool) → cond b (Some e) (find p es) ≡ Some x → (find p es ≡ Some x → x.serial < next) → x.serial < next
-    by true found rest = let one : e ≡ x = some_entry e x found in subst (λ d. d.serial < next) one before.0
+    by : (b : Bool) → cond b (Some e) (find p es) ≡ Some x → (find p es ≡ Some x → x.cookie < next) → x.cookie < next
+    by true found rest = let one : e ≡ x = some_entry e x found in subst (λ d. d.cookie < next) one before.0
     by false found rest = rest found
 
--- in a directory the serials are below the next
+-- in a directory the cookies are below the next
 pub before-rising : (dir low next : ℕ) (es : List Entry) → IsRising low (map (in_directory dir) es) next
     → AreBefore next es
 before-rising dir low next [] rising = tt
 before-rising dir low next (e ∷ es) rising = (
-  first e.serial es rising.1,
-  before-rising dir (e.serial + 1) next es rising.1,
+  first e.cookie es rising.1,
+  before-rising dir (e.cookie + 1) next es rising.1,
 )
   where
     first : (s : ℕ) (es : List Entry) → IsRising (s + 1) (map (in_directory dir) es) next → s < next
     first s [] rising = omega (arith, rising)
-    first s (d ∷ es) rising = let rest = first d.serial es rising.1 in omega (arith, rising.0)
+    first s (d ∷ es) rising = let rest = first d.cookie es rising.1 in omega (arith, rising.0)
 
 apart_names : (name other : List ℕ) → same_name name other ≡ false → (e : Entry) → same_name e.name other ≡ true
     → same_name e.name name ≡ false
@@ -239,9 +239,9 @@ module _ {A : Type 0} where
           (apart_names name n apart) es))
 
   pub AreLinked-put : (x : Entry) (l : Link) (old new : List (Vec ℕ A × Link)) (es : List Entry) → l.file ≡ x.file
-      → l.serial ≡ x.serial → KeepsOthers key_eq (sought x.name) old new → lookup (sought x.name) new ≡ Some l
+      → l.cookie ≡ x.cookie → KeepsOthers key_eq (sought x.name) old new → lookup (sought x.name) new ≡ Some l
       → AreLinked old es → AreLinked new (filter (λ e. not (same_name e.name x.name)) es ++ x ∷ [])
-  AreLinked-put x l old new es same_file same_serial kept here linked = λ n. by n (same_name x.name n) refl
+  AreLinked-put x l old new es same_file same_cookie kept here linked = λ n. by n (same_name x.name n) refl
     where
       by : (n : List ℕ) (b : Bool) → same_name x.name n ≡ b
           → link_in new n ≡ option_map entry_link (find (λ e. same_name e.name n)
@@ -252,7 +252,7 @@ module _ {A : Type 0} where
           (find-gone (λ e. same_name e.name x.name) es) (same_itself x.name) in
           subst (λ m. link_in new m ≡ option_map entry_link
           (find (λ e. same_name e.name m) (filter (λ e. not (same_name e.name x.name)) es ++ x ∷ []))) one
-          (ap (option_map link_of) here ∙ rw (same_file, same_serial) refl ∙ sym (ap (option_map entry_link) last))
+          (ap (option_map link_of) here ∙ rw (same_file, same_cookie) refl ∙ sym (ap (option_map entry_link) last))
       by n false apart =
           ap (option_map link_of) (others-kept x.name n old new kept apart) ∙ linked n
           ∙ sym (ap (option_map entry_link) (find-append-other (λ e. same_name e.name n)
@@ -262,42 +262,42 @@ module _ {A : Type 0} where
 module _ {A : Type 0} (name : List ℕ) (es : List (ℕ × Leaf A)) (once : AreNamedOnce (map leaf_entry es))
     (sorted : IsStrictlySortedBy nat_cmp (keys_of es)) where
   gone-by : (o : Option Entry) → find (λ e. same_name e.name name) (map leaf_entry es) ≡ o
-      → map leaf_entry (without_key (option_map (λ e. e.serial) o) es)
+      → map leaf_entry (without_key (option_map (λ e. e.cookie) o) es)
       ≡ filter (λ e. not (same_name e.name name)) (map leaf_entry es)
   gone-by None found = sym (filter-none (λ e. same_name e.name name) (map leaf_entry es) found)
-  gone-by (Some x) found = filter-map leaf_entry (λ e. not (nat_eq e.0 x.serial)) (λ e. not (nat_eq e.serial x.serial))
-      (λ e. refl) es ∙ name-serial name es x sorted once found
+  gone-by (Some x) found = filter-map leaf_entry (λ e. not (nat_eq e.0 x.cookie)) (λ e. not (nat_eq e.cookie x.cookie))
+      (λ e. refl) es ∙ name-cookie name es x sorted once found
 
-  -- a name goes by its serial
-  pub removed-entries : map leaf_entry (without_key (option_map (λ e. e.serial)
+  -- a name goes by its cookie
+  pub removed-entries : map leaf_entry (without_key (option_map (λ e. e.cookie)
       (find (λ e. same_name e.name name) (map leaf_entry es))) es)
       ≡ filter (λ e. not (same_name e.name name)) (map leaf_entry es)
   removed-entries = gone-by (find (λ e. same_name e.name name) (map leaf_entry es)) refl
 
-  put-by : (serial : ℕ) (leaf : Leaf A) → AreBefore serial (map leaf_entry es) → (o : Option Entry)
+  put-by : (cookie : ℕ) (leaf : Leaf A) → AreBefore cookie (map leaf_entry es) → (o : Option Entry)
       → find (λ e. same_name e.name name) (map leaf_entry es) ≡ o
-      → without_key (option_map (λ e. e.serial) o) (es ++ (serial, leaf) ∷ [])
-      ≡ without_key (option_map (λ e. e.serial) o) es ++ (serial, leaf) ∷ []
-  put-by serial leaf before None found = refl
-  put-by serial leaf before (Some x) found =
-      let lower : x.serial < serial = before-found (λ e. same_name e.name name) serial
+      → without_key (option_map (λ e. e.cookie) o) (es ++ (cookie, leaf) ∷ [])
+      ≡ without_key (option_map (λ e. e.cookie) o) es ++ (cookie, leaf) ∷ []
+  put-by cookie leaf before None found = refl
+  put-by cookie leaf before (Some x) found =
+      let lower : x.cookie < cookie = before-found (λ e. same_name e.name name) cookie
       (map leaf_entry es) x before found in
-      let other : nat_eq serial x.serial ≡ false = other_back x.serial serial lower in
-      filter-append (λ e. not (nat_eq e.0 x.serial)) es ((serial, leaf) ∷ []) ∙ rw other refl
+      let other : nat_eq cookie x.cookie ≡ false = other_back x.cookie cookie lower in
+      filter-append (λ e. not (nat_eq e.0 x.cookie)) es ((cookie, leaf) ∷ []) ∙ rw other refl
 
   -- a name put last, and the one before it taken away
-  pub put-entries : (serial : ℕ) (leaf : Leaf A) → AreBefore serial (map leaf_entry es)
-      → map leaf_entry (without_key (option_map (λ e. e.serial) (find (λ e. same_name e.name name) (map leaf_entry es)))
-      (insert_entry nat_cmp es serial leaf)) ≡ filter (λ e. not (same_name e.name name)) (map leaf_entry es)
-      ++ leaf_entry (serial, leaf) ∷ []
-  put-entries serial leaf before =
-      ap (λ l. map leaf_entry (without_key (option_map (λ e. e.serial)
+  pub put-entries : (cookie : ℕ) (leaf : Leaf A) → AreBefore cookie (map leaf_entry es)
+      → map leaf_entry (without_key (option_map (λ e. e.cookie) (find (λ e. same_name e.name name) (map leaf_entry es)))
+      (insert_entry nat_cmp es cookie leaf)) ≡ filter (λ e. not (same_name e.name name)) (map leaf_entry es)
+      ++ leaf_entry (cookie, leaf) ∷ []
+  put-entries cookie leaf before =
+      ap (λ l. map leaf_entry (without_key (option_map (λ e. e.cookie)
       (find (λ e. same_name e.name name) (map leaf_entry es))) l))
-      (put-last es serial leaf (below-entries serial es before))
-      ∙ ap (map leaf_entry) (put-by serial leaf before (find (λ e. same_name e.name name) (map leaf_entry es)) refl)
-      ∙ map-append leaf_entry (without_key (option_map (λ e. e.serial)
-      (find (λ e. same_name e.name name) (map leaf_entry es))) es) ((serial, leaf) ∷ [])
-      ∙ ap (λ l. l ++ leaf_entry (serial, leaf) ∷ []) removed-entries
+      (put-last es cookie leaf (below-entries cookie es before))
+      ∙ ap (map leaf_entry) (put-by cookie leaf before (find (λ e. same_name e.name name) (map leaf_entry es)) refl)
+      ∙ map-append leaf_entry (without_key (option_map (λ e. e.cookie)
+      (find (λ e. same_name e.name name) (map leaf_entry es))) es) ((cookie, leaf) ∷ [])
+      ∙ ap (λ l. l ++ leaf_entry (cookie, leaf) ∷ []) removed-entries
 
 -- ---- listing
 
@@ -314,20 +314,20 @@ and_true true = refl
 and_true false = refl
 
 module _ {A : Type 0} where
-  -- the names over a serial
+  -- the names over a cookie
   pub names-after : (after : ℕ) (es : List (ℕ × Leaf A))
       → map (in_directory 0) (map leaf_entry (filter (λ e. is_lt (nat_cmp after e.0) && true) es))
-      ≡ filter (λ n. nat_lt after n.serial) (map (in_directory 0) (map leaf_entry es))
+      ≡ filter (λ n. nat_lt after n.cookie) (map (in_directory 0) (map leaf_entry es))
   names-after after [] = refl
   names-after after (e ∷ es) = rw (and_true (is_lt (nat_cmp after e.0)), is_lt-nat_cmp after e.0)
       (by (nat_lt after e.0) (names-after after es))
     where
       by : (b : Bool) → map (in_directory 0) (map leaf_entry (filter (λ e. is_lt (nat_cmp after e.0) && true) es))
-          ≡ filter (λ n. nat_lt after n.serial) (map (in_directory 0) (map leaf_entry es))
+          ≡ filter (λ n. nat_lt after n.cookie) (map (in_directory 0) (map leaf_entry es))
           → map (in_directory 0) (map leaf_entry (cond b (e ∷ filter (λ e. is_lt (nat_cmp after e.0) && true) es)
           (filter (λ e. is_lt (nat_cmp after e.0) && true) es)))
-          ≡ cond b (in_directory 0 (leaf_entry e) ∷ filter (λ n. nat_lt after n.serial)
-          (map (in_directory 0) (map leaf_entry es))) (filter (λ n. nat_lt after n.serial)
+          ≡ cond b (in_directory 0 (leaf_entry e) ∷ filter (λ n. nat_lt after n.cookie)
+          (map (in_directory 0) (map leaf_entry es))) (filter (λ n. nat_lt after n.cookie)
           (map (in_directory 0) (map leaf_entry es)))
       by true rest = ap (λ l. in_directory 0 (leaf_entry e) ∷ l) rest
       by false rest = rest

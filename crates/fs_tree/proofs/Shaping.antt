@@ -15,7 +15,7 @@ use Rattle.fuse_spec.specs.Files.TreeShape.{IsShaped, IsInTree, names_leading_to
 use Rattle.fuse_spec.proofs.Tables.{tie_no, get_put_here, get_put_there, get_gone_there, get_gone}
 use Rattle.fuse_spec.proofs.QueueCounts.{count_by-push}
 use Rattle.fs_tree.specs.Outcomes.{discarded, only_root, without_nameless}
-use Rattle.fs_tree.proofs.BySerial.{same_name-equal}
+use Rattle.fs_tree.proofs.ByCookie.{same_name-equal}
 use Rattle.fs_tree.proofs.Counting.{found_passes, found_there, none_counted, each_counted, one_found, count_where}
 
 pub same_number : (a b : ℕ) → nat_eq a b ≡ true → a ≡ b
@@ -44,7 +44,7 @@ pub record Sound (tree : Tree) : Type 0 where
   pub one_name : (file : ℕ) → is_directory tree file ≡ true → names_leading_to tree file ≤ 1
   pub names : All (Lies tree) tree.names
   pub once : (directory : ℕ) (name : Name) → count_by (is_at directory name) tree.names ≤ 1
-  pub unborn : (file : ℕ) → tree.next_birth ≤ file → get tree.files file ≡ None
+  pub unborn : (file : ℕ) → tree.next_inode ≤ file → get tree.files file ≡ None
 
 pub sound : (tree : Tree) → IsShaped tree → Sound tree
 sound tree shaped = record {
@@ -95,7 +95,7 @@ module _ (tree : Tree) (s : Sound tree) (d : ℕ) (name : Name) (file : ℕ) (is
     where
       counted : names_leading_to (with_name tree d name file) x ≡ names_leading_to tree x + cond (nat_eq file x) 1 0
       counted = count_by-push (λ n. nat_eq n.file x) tree.names
-          (record { directory = d; name = name; file = file; serial = tree.next_serial })
+          (record { directory = d; name = name; file = file; cookie = tree.next_cookie })
 
       by : (b : Bool) → nat_eq file x ≡ b → names_leading_to (with_name tree d name file) x ≤ 1
       by true e =
@@ -111,7 +111,7 @@ module _ (tree : Tree) (s : Sound tree) (d : ℕ) (name : Name) (file : ℕ) (is
       counted : count_by (is_at e other_name) (with_name tree d name file).names
           ≡ count_by (is_at e other_name) tree.names + cond (nat_eq d e && same_name name other_name) 1 0
       counted = count_by-push (is_at e other_name) tree.names
-          (record { directory = d; name = name; file = file; serial = tree.next_serial })
+          (record { directory = d; name = name; file = file; cookie = tree.next_cookie })
 
       by : (b : Bool) → (nat_eq d e && same_name name other_name) ≡ b
           → count_by (is_at e other_name) (with_name tree d name file).names ≤ 1
@@ -133,7 +133,7 @@ module _ (tree : Tree) (s : Sound tree) (d : ℕ) (name : Name) (file : ℕ) (is
       directory = d;
       name = name;
       file = file;
-      serial = tree.next_serial;
+      cookie = tree.next_cookie;
     }) s.names (is_dir, there, other);
     once = once_more;
     unborn = s.unborn;
@@ -183,11 +183,11 @@ module _ (tree : Tree) (shaped : IsShaped tree) where
 -- ---- other files
 
 -- the files change, and those that are named are directories as before
-module _ (tree : Tree) (shaped : IsShaped tree) (files : Map Content) (births : ℕ)
+module _ (tree : Tree) (shaped : IsShaped tree) (files : Map Content) (inodes : ℕ)
     (same : (x : ℕ) → is_nameless tree x ≡ false → (is_some (get files x) ≡ is_some (get tree.files x))
     × (is_kind_directory (kind_of (get files x)) ≡ is_directory tree x))
-    (free : (x : ℕ) → births ≤ x → get files x ≡ None) where
-  pub refiled : IsShaped (record tree { files = files; next_birth = births })
+    (free : (x : ℕ) → inodes ≤ x → get files x ≡ None) where
+  pub refiled : IsShaped (record tree { files = files; next_inode = inodes })
   refiled = record {
     root = (same 0 refl).1 ∙ shaped.root;
     one_name = λ x is. by x is (is_nameless tree x) refl;
@@ -229,7 +229,7 @@ directory_there (Some c) is = refl
 
 module _ (tree : Tree) (shaped : IsShaped tree) where
   -- a file that is there was born
-  born : (x : ℕ) → IsSome (get tree.files x) → x ≢ tree.next_birth
+  born : (x : ℕ) → IsSome (get tree.files x) → x ≢ tree.next_inode
   born x there e = none_some (get tree.files x) (shaped.unborn x (omega (arith, e))) there
 
   -- a file that is named is there
@@ -248,32 +248,32 @@ module _ (tree : Tree) (shaped : IsShaped tree) where
           (found_passes (λ n. nat_eq n.file x) tree.names found.0 found.1)) stands.file
 
   -- the coming file has no name
-  pub coming_nameless : names_leading_to tree tree.next_birth ≡ 0
-  coming_nameless = none_counted (λ n. nat_eq n.file tree.next_birth) tree.names
-      (λ i d lt. other_number _ tree.next_birth (born _ (shaped.names i d lt).file))
+  pub coming_nameless : names_leading_to tree tree.next_inode ≡ 0
+  coming_nameless = none_counted (λ n. nat_eq n.file tree.next_inode) tree.names
+      (λ i d lt. other_number _ tree.next_inode (born _ (shaped.names i d lt).file))
 
   -- one file more
   pub with_file : (content : Content) → IsShaped (record tree {
-    files = put tree.files tree.next_birth content;
-    next_birth = tree.next_birth + 1;
+    files = put tree.files tree.next_inode content;
+    next_inode = tree.next_inode + 1;
   })
   with_file content =
-      refiled tree shaped (put tree.files tree.next_birth content) (tree.next_birth + 1)
-      (λ x named. same_here (put tree.files tree.next_birth content) tree.files x
-      (get_put_there tree.files tree.next_birth content x (born x (named_there x named))))
-      (λ x le. get_put_there tree.files tree.next_birth content x
+      refiled tree shaped (put tree.files tree.next_inode content) (tree.next_inode + 1)
+      (λ x named. same_here (put tree.files tree.next_inode content) tree.files x
+      (get_put_there tree.files tree.next_inode content x (born x (named_there x named))))
+      (λ x le. get_put_there tree.files tree.next_inode content x
       (λ e. absurd (omega (arith, le, e))) ∙ shaped.unborn x (omega (arith, le)))
 
   -- a named file is a directory as before
   pub still_directory : (content : Content) (x : ℕ) → is_nameless tree x ≡ false
-      → is_kind_directory (kind_of (get (put tree.files tree.next_birth content) x)) ≡ is_directory tree x
-  still_directory content x named = (same_here (put tree.files tree.next_birth content) tree.files x
-      (get_put_there tree.files tree.next_birth content x (born x (named_there x named)))).1
+      → is_kind_directory (kind_of (get (put tree.files tree.next_inode content) x)) ≡ is_directory tree x
+  still_directory content x named = (same_here (put tree.files tree.next_inode content) tree.files x
+      (get_put_there tree.files tree.next_inode content x (born x (named_there x named)))).1
 
   -- other bytes in a regular file
   pub with_bytes : (file : ℕ) (bytes : List ℕ) → kind_of (get tree.files file) ≡ Regular
       → IsShaped (record tree { files = put tree.files file (a_file bytes) })
-  with_bytes file bytes regular = refiled tree shaped (put tree.files file (a_file bytes)) tree.next_birth
+  with_bytes file bytes regular = refiled tree shaped (put tree.files file (a_file bytes)) tree.next_inode
       (λ x named. same x) free
     where
       there : (o : Option Content) → kind_of o ≡ Regular → (true ≡ is_some o) × (false ≡ is_kind_directory (kind_of o))
@@ -291,7 +291,7 @@ module _ (tree : Tree) (shaped : IsShaped tree) where
             (get_put_there tree.files file (a_file bytes) x ne)
       ]
 
-      free : (x : ℕ) → tree.next_birth ≤ x → get (put tree.files file (a_file bytes)) x ≡ None
+      free : (x : ℕ) → tree.next_inode ≤ x → get (put tree.files file (a_file bytes)) x ≡ None
       free x le = elim (cases_eq x file) [
         | inl e ↦ let none = shaped.unborn x le in absurd
             (none_some (get tree.files x) none (sym (there (get tree.files x)
@@ -303,7 +303,7 @@ module _ (tree : Tree) (shaped : IsShaped tree) where
   pub without_nameless_file : (file : ℕ) → is_nameless tree file ≡ true
       → IsShaped (record tree { files = remove tree.files file })
   without_nameless_file file nameless =
-      refiled tree shaped (remove tree.files file) tree.next_birth
+      refiled tree shaped (remove tree.files file) tree.next_inode
       (λ x named. same_here (remove tree.files file) tree.files x
       (get_gone_there tree.files file x (λ same. true≢false
       (sym nameless ∙ subst (λ y. is_nameless tree y ≡ false) same named))))
@@ -319,7 +319,7 @@ module _ (tree : Tree) (shaped : IsShaped tree) where
 
   -- all nameless files less
   pub without_files : IsShaped (without_nameless tree)
-  without_files = refiled tree shaped left tree.next_birth
+  without_files = refiled tree shaped left tree.next_inode
       (λ x named. same_here left tree.files x (left_is x ∙ ap (λ b. cond (not b) (get tree.files x) None) named))
       (λ x le. left_is x ∙ none_left (not (is_nameless tree x)) (get tree.files x) (shaped.unborn x le))
     where

@@ -9,7 +9,7 @@ use Rattle.fuse_spec.specs.Files.Trees.{Content, a_file, file_bytes, overwritten
 use Rattle.fs_tree.specs.Views.{content_in, viewed_file}
 use Rattle.fs_tree.specs.declared.files.Content.{Content as Stored}
 use Rattle.fs_tree.proofs.FileRows.{get-seen, put-seen, same-seen}
-use Rattle.fs_tree.proofs.SerialRows.{written-key}
+use Rattle.fs_tree.proofs.CookieRows.{written-key}
 
 module _ {A : Type 0} (es : List (ℕ × Stored A)) (files : Map Content) (file : ℕ) (old : Stored A)
     (same : map viewed_file es ≡ files) (there : Some old ≡ lookup (λ k. is_eq (nat_cmp file k)) es) where

@@ -8,18 +8,18 @@ use Rattle.fs_tree.specs.Stored.{Entry}
 use Rattle.fs_tree.specs.declared.entries.Leaf.{Leaf}
 use Rattle.fs_tree.specs.declared.entries.Link.{Link}
 
--- The file to which a name leads, and its serial.
+-- The file to which a name leads, and its cookie.
 abbrev pub link_of : Link → ℕ × ℕ
-link_of l = (l.file, l.serial)
+link_of l = (l.file, l.cookie)
 
 abbrev pub entry_link : Entry → ℕ × ℕ
-entry_link e = (e.file, e.serial)
+entry_link e = (e.file, e.cookie)
 
 module _ {A : Type 0} where
   abbrev pub leaf_entry : ℕ × Leaf A → Entry
-  leaf_entry e = record { name = e.1.name.items; file = e.1.file; serial = e.0 }
+  leaf_entry e = record { name = e.1.name.items; file = e.1.file; cookie = e.0 }
 
-  -- The file to which a name leads, and its serial, among links by name.
+  -- The file to which a name leads, and its cookie, among links by name.
   abbrev pub link_in : List (Vec ℕ A × Link) → List ℕ → Option (ℕ × ℕ)
   link_in links name = option_map link_of (lookup (λ k. pointwise nat_eq name k.items) links)
 

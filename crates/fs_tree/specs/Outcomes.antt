@@ -57,7 +57,7 @@ IsOperationReply tree operation reply = (refusal tree operation ≡ None)
 
 -- The tree with the root alone.
 abbrev pub only_root : Tree
-only_root = record { files = (0, a_directory) ∷ []; names = []; next_birth = 1; next_serial = 1 }
+only_root = record { files = (0, a_directory) ∷ []; names = []; next_inode = 1; next_cookie = 1 }
 
 abbrev pub is_kind_regular : Kind → Bool
 is_kind_regular Directory = false

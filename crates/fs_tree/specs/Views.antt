@@ -10,7 +10,7 @@ use Rattle.fs_tree.specs.declared.listing.Record.{Record}
 
 module _ {A : Type 0} where
   abbrev pub named_of : ℕ × Row A → Named
-  named_of e = record { directory = e.1.directory; name = e.1.name.items; file = e.1.file; serial = e.0 }
+  named_of e = record { directory = e.1.directory; name = e.1.name.items; file = e.1.file; cookie = e.0 }
 
   abbrev pub content_in : Content A → plain.Content
   content_in Directory = a_directory
@@ -19,9 +19,9 @@ module _ {A : Type 0} where
   abbrev pub viewed_file : ℕ × Content A → ℕ × plain.Content
   viewed_file e = (e.0, content_in e.1)
 
--- The record of READDIR for a name. An inode number is one more than the file's birth.
+-- The record of READDIR for a name. An inode number is one more than the file's inode.
 abbrev pub viewed_dirent : Record → Dirent
-viewed_dirent r = record { ino = r.file + 1; offset = r.serial; kind = r.kind; name = r.name.now }
+viewed_dirent r = record { ino = r.file + 1; offset = r.cookie; kind = r.kind; name = r.name.now }
 
 -- The same with the file to which the name leads.
 abbrev pub lead_of : Record → ℕ × Dirent

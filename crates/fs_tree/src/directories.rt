@@ -1,4 +1,4 @@
-//! The directories that have names, by birth.
+//! The directories that have names, by inode.
 
 ghost use Rattle.std.specs.Prelude.{◌≡◌, ℕ, ◌++◌, ◌∷◌, [], not, filter, nat_eq, cond, IsSome, OnErr, OnOk};
 ghost use Rattle.std.specs.Map.{lookup};
@@ -36,13 +36,13 @@ pub(crate) fn put_last_in<A: Allocator + Copy>(
     link: Link,
 ) -> Result<(), AllocError>
     requires there { IsSome (lookup (nat_eq directory) directories.old.entries) }
-    requires last { AreBefore link.serial (entries_in directories.old.entries directory) }
+    requires last { AreBefore link.cookie (entries_in directories.old.entries directory) }
     ensures ok { OnOk result ((k : ℕ) → entries_in directories.new.entries k
         ≡ cond (nat_eq directory k) (filter (λ e. not (same_name e.name name.items))
         (entries_in directories.old.entries k) ++ record {
           name = name.items;
           file = link.file;
-          serial = link.serial;
+          cookie = link.cookie;
         } ∷ []) (entries_in directories.old.entries k)) }
     ensures unchanged { OnErr result ((k : ℕ) → entries_in directories.new.entries k
         ≡ entries_in directories.old.entries k) }

@@ -23,11 +23,11 @@ use std::hash::{BuildHasherDefault, FoldHasher};
 use std::marker::Model;
 use std::ops::Bound;
 
-/// The file to which a name leads, and the name's serial.
+/// The file to which a name leads, and the name's cookie.
 #[derive(Clone, Copy)]
 pub(crate) struct Link {
     pub(crate) file: u64,
-    pub(crate) serial: u64,
+    pub(crate) cookie: u64,
 }
 
 /// A name, and the file to which it leads.
@@ -37,7 +37,7 @@ pub(crate) struct Leaf<A: Allocator> {
     pub(crate) file: u64,
 }
 
-/// The names in a directory by serial, and their links by name.
+/// The names in a directory by cookie, and their links by name.
 #[derive(Drop)]
 pub(crate) struct Entries<A: Allocator> {
     names: BTreeMap<u64, Leaf<A>, A>,
@@ -86,12 +86,12 @@ impl<A: Allocator + Copy> Entries<A> {
         }
     }
 
-    /// The serial of a name.
-    pub(crate) fn serial_at(&self, name: &[u8]) -> Option<u64>
-        ensures { result ≡ option_map (λ e. e.serial) (find (λ e. same_name e.name name.now) self.now) }
+    /// The cookie of a name.
+    pub(crate) fn cookie_at(&self, name: &[u8]) -> Option<u64>
+        ensures { result ≡ option_map (λ e. e.cookie) (find (λ e. same_name e.name name.now) self.now) }
     {
         match self.links.get(name) {
-            Some(link) => Some(link.serial),
+            Some(link) => Some(link.cookie),
             None => None,
         }
     }
@@ -100,33 +100,33 @@ impl<A: Allocator + Copy> Entries<A> {
     pub(crate) fn remove(&mut self, name: &[u8])
         ensures { self.new ≡ filter (λ e. not (same_name e.name name.now)) self.old }
     {
-        let serial = self.serial_at(name);
+        let cookie = self.cookie_at(name);
         let _link = self.links.swap_remove(name);
-        take_away(&mut self.names, serial);
+        take_away(&mut self.names, cookie);
     }
 
-    /// Takes a name away and puts it anew, last, under a serial over all others. Where memory is refused nothing
+    /// Takes a name away and puts it anew, last, under a cookie over all others. Where memory is refused nothing
     /// changes.
     pub(crate) fn put_last(&mut self, name: Vec<u8, A>, link: Link) -> Result<(), AllocError>
-        requires { AreBefore link.serial self.old }
+        requires { AreBefore link.cookie self.old }
         ensures ok { OnOk result (self.new ≡ filter (λ e. not (same_name e.name name.items)) self.old
-            ++ record { name = name.items; file = link.file; serial = link.serial } ∷ []) }
+            ++ record { name = name.items; file = link.file; cookie = link.cookie } ∷ []) }
         ensures unchanged { OnErr result (self.new ≡ self.old) }
     {
-        let replaced = self.serial_at(&name);
+        let replaced = self.cookie_at(&name);
         let copy = copy_of(&name, *self.links.allocator())?;
         self.links.reserve(1)?;
         let leaf = Leaf {
             name: copy,
             file: link.file,
         };
-        let _none = self.names.insert(link.serial, leaf)?;
+        let _none = self.names.insert(link.cookie, leaf)?;
         let _old = self.links.insert(name, link).unwrap();
         take_away(&mut self.names, replaced);
         Ok(())
     }
 
-    /// The records of the names with a serial over `after`, as many as fit so many bytes with so many bytes more each.
+    /// The records of the names with a cookie over `after`, as many as fit so many bytes with so many bytes more each.
     pub(crate) fn list(
         &self,
         files: &Files<A>,
@@ -137,18 +137,18 @@ impl<A: Allocator + Copy> Entries<A> {
         requires { more ≤ 128 }
         ensures { IfOk result (λ records. map lead_of records.items
             ≡ fitting_with more size (map (lead_in files.now)
-            (filter (λ n. nat_lt after n.serial) (map (in_directory 0) self.now)))) }
+            (filter (λ n. nat_lt after n.cookie) (map (in_directory 0) self.now)))) }
     {
         let mut records = Vec::new(*self.links.allocator());
         let mut room = size;
-        for (serial, leaf) in self.names.range((Bound::Excluded(after), Bound::Unbounded)) {
+        for (cookie, leaf) in self.names.range((Bound::Excluded(after), Bound::Unbounded)) {
             let len = more + record_len(&leaf.name);
             if len > room {
                 break;
             }
             records.push(Record {
                 name: &leaf.name,
-                serial: *serial,
+                cookie: *cookie,
                 kind: files.kind(leaf.file),
                 file: leaf.file,
             })?;
@@ -157,11 +157,11 @@ impl<A: Allocator + Copy> Entries<A> {
         Ok(records)
     }
 
-    /// The files that the names with a serial over `after` tell, as many names as fit so many bytes with their entries.
+    /// The files that the names with a cookie over `after` tell, as many names as fit so many bytes with their entries.
     pub(crate) fn files_listed(&self, after: u64, size: usize) -> ArrayVec<u64, MOST_LISTED>
         requires { size ≤ max_transfer }
         ensures { (files : Map Content) → result.items ≡ files_led
-            (fitting_with 128 size (map (lead_in files) (filter (λ n. nat_lt after n.serial)
+            (fitting_with 128 size (map (lead_in files) (filter (λ n. nat_lt after n.cookie)
             (map (in_directory 0) self.now)))) }
     {
         let mut listed = ArrayVec::new();
@@ -189,14 +189,14 @@ fn list_file(listed: &mut ArrayVec<u64, MOST_LISTED>, name: &[u8], file: u64)
     }
 }
 
-/// Takes the name with this serial away, if there is one.
-fn take_away<A: Allocator>(names: &mut BTreeMap<u64, Leaf<A>, A>, serial: Option<u64>)
-    ensures entries { names.new.entries ≡ without_key serial names.old.entries }
+/// Takes the name with this cookie away, if there is one.
+fn take_away<A: Allocator>(names: &mut BTreeMap<u64, Leaf<A>, A>, cookie: Option<u64>)
+    ensures entries { names.new.entries ≡ without_key cookie names.old.entries }
     ensures was_ordered { IsOrdered nat_cmp names.old }
 {
     let _len = names.len();
-    if let Some(serial) = serial {
-        let _leaf = names.remove(&serial);
+    if let Some(cookie) = cookie {
+        let _leaf = names.remove(&cookie);
     }
 }
 

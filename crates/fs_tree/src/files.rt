@@ -58,7 +58,7 @@ impl<A: Allocator> Content<A> {
     }
 }
 
-/// The files by birth.
+/// The files by inode.
 #[derive(Drop)]
 pub(crate) struct Files<A: Allocator> {
     contents: BTreeMap<u64, Content<A>, A>,
@@ -117,11 +117,11 @@ impl<A: Allocator + Copy> Files<A> {
     }
 
     /// Puts a file. Where memory is refused nothing changes.
-    pub(crate) fn push(&mut self, birth: u64, content: Content<A>) -> Result<(), AllocError>
-        ensures ok { OnOk result (self.new ≡ put self.old birth (content_in content)) }
+    pub(crate) fn push(&mut self, inode: u64, content: Content<A>) -> Result<(), AllocError>
+        ensures ok { OnOk result (self.new ≡ put self.old inode (content_in content)) }
         ensures unchanged { OnErr result (self.new ≡ self.old) }
     {
-        let _old = self.contents.insert(birth, content)?;
+        let _old = self.contents.insert(inode, content)?;
         Ok(())
     }
 

@@ -25,13 +25,13 @@ pub const MOST_LISTED: usize = 26;
 pub struct Record<'a> {
     pub name: &'a [u8],
     /// The offset from which to read on behind this name.
-    pub serial: u64,
+    pub cookie: u64,
     pub kind: Kind,
     pub file: u64,
 }
 
 impl<A: Allocator + Copy> Tree<A> {
-    /// The names in a directory with a serial over the offset, in rising serial: as many whole records as fit `size`
+    /// The names in a directory with a cookie over the offset, in rising cookie: as many whole records as fit `size`
     /// and 4,096 bytes. The first that does not fit ends the list (`struct fuse_dirent`).
     ///
     /// # Errors

@@ -5,7 +5,7 @@ ghost use Rattle.fuse_spec.specs.Values.Maps.{Map};
 ghost use Rattle.fuse_spec.specs.Files.Trees.{Content, is_at, is_within, same_name};
 ghost use Rattle.fuse_spec.specs.Values.Numbers.{max_transfer};
 ghost use Rattle.fs_tree.specs.Views.{lead_of};
-ghost use Rattle.fs_tree.specs.Stored.{files_led, fitting_with, listed_names, AreSerialsRising, IsRising};
+ghost use Rattle.fs_tree.specs.Stored.{files_led, fitting_with, listed_names, AreCookiesRising, IsRising};
 
 use crate::directories::{Directories, close, close_empty, open, put_last_in, remove_from};
 use crate::entries::{Link, copy_of};
@@ -17,7 +17,7 @@ use indexmap::IndexMap;
 use std::alloc::{AllocError, Allocator};
 use std::marker::Model;
 
-/// The names, in rising serial, and again by directory.
+/// The names, in rising cookie, and again by directory.
 #[derive(Drop)]
 pub(crate) struct Names<A: Allocator> {
     rows: Rows<A>,
@@ -66,12 +66,12 @@ impl<A: Allocator + Copy> Names<A> {
         }
     }
 
-    /// The serial of a name in a directory.
-    fn serial_at(&self, directory: u64, name: &[u8]) -> Option<u64>
-        ensures { result ≡ option_map (λ n. n.serial) (find (is_at directory name.now) self.now) }
+    /// The cookie of a name in a directory.
+    fn cookie_at(&self, directory: u64, name: &[u8]) -> Option<u64>
+        ensures { result ≡ option_map (λ n. n.cookie) (find (is_at directory name.now) self.now) }
     {
         match self.directories.get(&directory) {
-            Some(entries) => entries.serial_at(name),
+            Some(entries) => entries.cookie_at(name),
             None => None,
         }
     }
@@ -106,27 +106,27 @@ impl<A: Allocator + Copy> Names<A> {
         directory: u64,
         name: &[u8],
         file: u64,
-        serial: u64,
+        cookie: u64,
     ) -> Result<(), AllocError>
         requires absent { find (is_at directory name.now) self.old ≡ None }
-        requires last { IsRising 1 self.old serial }
+        requires last { IsRising 1 self.old cookie }
         ensures ok { OnOk result (self.new ≡ self.old ++ record {
           directory = directory;
           name = name.now;
           file = file;
-          serial = serial;
+          cookie = cookie;
         } ∷ []) }
         ensures unchanged { OnErr result (self.new ≡ self.old) }
     {
         let key = copy_of(name, self.alloc)?;
         let name = copy_of(name, self.alloc)?;
         open(&mut self.directories, directory, self.alloc)?;
-        self.rows.push(directory, name, file, serial)?;
-        let link = Link { file, serial };
+        self.rows.push(directory, name, file, cookie)?;
+        let link = Link { file, cookie };
         match put_last_in(&mut self.directories, directory, key, link) {
             Ok(()) => Ok(()),
             Err(error) => {
-                self.rows.remove(Some(serial));
+                self.rows.remove(Some(cookie));
                 Err(error)
             }
         }
@@ -134,12 +134,12 @@ impl<A: Allocator + Copy> Names<A> {
 
     /// Takes the name in a directory away.
     pub(crate) fn remove(&mut self, directory: u64, name: &[u8])
-        requires { AreSerialsRising self.old }
+        requires { AreCookiesRising self.old }
         ensures { self.new ≡ filter (λ n. not (is_at directory name.now n)) self.old }
     {
-        let serial = self.serial_at(directory, name);
+        let cookie = self.cookie_at(directory, name);
         remove_from(&mut self.directories, directory, name);
-        self.rows.remove(serial);
+        self.rows.remove(cookie);
     }
 
     /// Lets go what is kept for a directory, if no name is in it.
@@ -164,24 +164,24 @@ impl<A: Allocator + Copy> Names<A> {
         new_directory: u64,
         new: &[u8],
         file: u64,
-        serial: u64,
+        cookie: u64,
     ) -> Result<(), AllocError>
         requires other { (nat_eq new_directory directory && same_name new.now old.now) ≡ false }
-        requires last { IsRising 1 self.old serial }
+        requires last { IsRising 1 self.old cookie }
         ensures ok { OnOk result (self.new ≡ filter (λ n. not (is_at new_directory new.now n))
             (filter (λ n. not (is_at directory old.now n)) self.old)
-            ++ record { directory = new_directory; name = new.now; file = file; serial = serial } ∷ []) }
+            ++ record { directory = new_directory; name = new.now; file = file; cookie = cookie } ∷ []) }
         ensures unchanged { OnErr result (self.new ≡ self.old) }
     {
-        let moved = self.serial_at(directory, old);
-        let replaced = self.serial_at(new_directory, new);
+        let moved = self.cookie_at(directory, old);
+        let replaced = self.cookie_at(new_directory, new);
         let key = copy_of(new, self.alloc)?;
         let name = copy_of(new, self.alloc)?;
         open(&mut self.directories, new_directory, self.alloc)?;
-        self.rows.push(new_directory, name, file, serial)?;
-        let link = Link { file, serial };
+        self.rows.push(new_directory, name, file, cookie)?;
+        let link = Link { file, cookie };
         if let Err(error) = put_last_in(&mut self.directories, new_directory, key, link) {
-            self.rows.remove(Some(serial));
+            self.rows.remove(Some(cookie));
             return Err(error);
         }
         remove_from(&mut self.directories, directory, old);
@@ -207,7 +207,7 @@ impl<A: Allocator + Copy> Names<A> {
         at == top
     }
 
-    /// The records of the names in a directory with a serial over `after`, as many as fit so many bytes with so many
+    /// The records of the names in a directory with a cookie over `after`, as many as fit so many bytes with so many
     /// bytes more each.
     pub(crate) fn list(
         &self,
@@ -227,7 +227,7 @@ impl<A: Allocator + Copy> Names<A> {
         }
     }
 
-    /// The files that the names in a directory with a serial over `after` tell, as many names as fit so many bytes with
+    /// The files that the names in a directory with a cookie over `after` tell, as many names as fit so many bytes with
     /// their entries.
     pub(crate) fn files_listed(
         &self,

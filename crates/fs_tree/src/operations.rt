@@ -2,7 +2,7 @@
 
 ghost use Rattle.std.specs.Prelude.{◌≡◌, ◌≢◌, ◌+◌, ◌<◌, ◌≤◌, IfOk, IfErr, OnOk, OnErr, Some, None, cond, find, length};
 ghost use Rattle.fuse_spec.specs.Files.Operations.{mkdir, create, unlink, rmdir, link, rename};
-ghost use Rattle.fuse_spec.specs.Files.Trees.{file_at, is_at, with_birth};
+ghost use Rattle.fuse_spec.specs.Files.Trees.{file_at, is_at, with_inode};
 ghost use Rattle.fuse_spec.specs.Files.FileOperations.{refusal, first_refusal, making, tree_unrefused, is_same};
 ghost use Rattle.fuse_spec.specs.Values.Numbers.{counter_end, max_names};
 ghost use Rattle.fs_tree.specs.Outcomes.{IsOperationRefused, IsRefusedBy, RefusesWith, discarded, replacing, without_nameless};
@@ -50,33 +50,33 @@ impl<A: Allocator + Copy> Tree<A> {
         }
     }
 
-    /// Makes a directory, and gives its birth.
+    /// Makes a directory, and gives its inode.
     ///
     /// # Errors
     ///
     /// `NotADirectory` (ENOTDIR), `NotFound` in a nameless directory (ENOENT), `AlreadyExists` (EEXIST), `NoSpace` at
     /// 4,096 names (ENOSPC; this project's rule), then `NoMemory`. The tree is as before.
     pub fn mkdir(&mut self, directory: u64, name: &[u8]) -> Result<u64, TreeError>
-        requires births { self.old.next_birth < counter_end }
-        requires serials { self.old.next_serial < counter_end }
+        requires inodes { self.old.next_inode < counter_end }
+        requires cookies { self.old.next_cookie < counter_end }
         ensures ok { IfOk result (λ file. (refusal self.old (mkdir directory name.now) ≡ None)
-            × ((file ≡ self.old.next_birth) × (self.new ≡ tree_unrefused self.old (mkdir directory name.now)))) }
+            × ((file ≡ self.old.next_inode) × (self.new ≡ tree_unrefused self.old (mkdir directory name.now)))) }
         ensures refused { IfErr result (IsOperationRefused self.old (mkdir directory name.now)) }
         ensures unchanged { OnErr result (self.new ≡ self.old) }
     {
         self.make(directory, name, Content::Directory)
     }
 
-    /// Makes a regular file without bytes, and gives its birth.
+    /// Makes a regular file without bytes, and gives its inode.
     ///
     /// # Errors
     ///
     /// As of `mkdir`.
     pub fn create(&mut self, directory: u64, name: &[u8]) -> Result<u64, TreeError>
-        requires births { self.old.next_birth < counter_end }
-        requires serials { self.old.next_serial < counter_end }
+        requires inodes { self.old.next_inode < counter_end }
+        requires cookies { self.old.next_cookie < counter_end }
         ensures ok { IfOk result (λ file. (refusal self.old (create directory name.now) ≡ None)
-            × ((file ≡ self.old.next_birth) × (self.new ≡ tree_unrefused self.old (create directory name.now)))) }
+            × ((file ≡ self.old.next_inode) × (self.new ≡ tree_unrefused self.old (create directory name.now)))) }
         ensures refused { IfErr result (IsOperationRefused self.old (create directory name.now)) }
         ensures unchanged { OnErr result (self.new ≡ self.old) }
     {
@@ -85,24 +85,24 @@ impl<A: Allocator + Copy> Tree<A> {
     }
 
     fn make(&mut self, directory: u64, name: &[u8], content: Content<A>) -> Result<u64, TreeError>
-        requires births { self.old.next_birth < counter_end }
-        requires serials { self.old.next_serial < counter_end }
+        requires inodes { self.old.next_inode < counter_end }
+        requires cookies { self.old.next_cookie < counter_end }
         ensures ok { IfOk result (λ file. (refusal self.old (mkdir directory name.now) ≡ None)
-            × ((file ≡ self.old.next_birth) × (self.new ≡ with_birth self.old directory name.now
+            × ((file ≡ self.old.next_inode) × (self.new ≡ with_inode self.old directory name.now
             (content_in content)))) }
         ensures refused { IfErr result (IsOperationRefused self.old (mkdir directory name.now)) }
         ensures unchanged { OnErr result (self.new ≡ self.old) }
     {
         self.may_create(directory, name)?;
-        let file = self.next_birth;
-        let serial = self.next_serial;
+        let file = self.next_inode;
+        let cookie = self.next_cookie;
         self.files.push(file, content)?;
-        if let Err(error) = self.names.add(directory, name, file, serial) {
+        if let Err(error) = self.names.add(directory, name, file, cookie) {
             self.files.remove(file);
             return Err(error.into());
         }
-        self.next_birth = file + 1;
-        self.next_serial = serial + 1;
+        self.next_inode = file + 1;
+        self.next_cookie = cookie + 1;
         Ok(file)
     }
 
@@ -209,16 +209,16 @@ impl<A: Allocator + Copy> Tree<A> {
     ///
     /// As of `may_link`, then `NoMemory`. The tree is as before.
     pub fn link(&mut self, file: u64, directory: u64, name: &[u8]) -> Result<(), TreeError>
-        requires serials { self.old.next_serial < counter_end }
+        requires cookies { self.old.next_cookie < counter_end }
         ensures ok { OnOk result ((refusal self.old (link file directory name.now) ≡ None)
             × (self.new ≡ tree_unrefused self.old (link file directory name.now))) }
         ensures refused { IfErr result (IsOperationRefused self.old (link file directory name.now)) }
         ensures unchanged { OnErr result (self.new ≡ self.old) }
     {
         self.may_link(file, directory, name)?;
-        let serial = self.next_serial;
-        self.names.add(directory, name, file, serial)?;
-        self.next_serial = serial + 1;
+        let cookie = self.next_cookie;
+        self.names.add(directory, name, file, cookie)?;
+        self.next_cookie = cookie + 1;
         Ok(())
     }
 
@@ -276,7 +276,7 @@ impl<A: Allocator + Copy> Tree<A> {
         }
     }
 
-    /// Moves a file from one name to another, under a fresh serial, and replaces what stands there. Nothing changes if
+    /// Moves a file from one name to another, under a fresh cookie, and replaces what stands there. Nothing changes if
     /// the same file stands there.
     ///
     /// # Errors
@@ -289,7 +289,7 @@ impl<A: Allocator + Copy> Tree<A> {
         new_directory: u64,
         new: &[u8],
     ) -> Result<(), TreeError>
-        requires serials { self.old.next_serial < counter_end }
+        requires cookies { self.old.next_cookie < counter_end }
         ensures ok { OnOk result ((refusal self.old (rename directory old.now new_directory new.now) ≡ None)
             × (self.new ≡ tree_unrefused self.old (rename directory old.now new_directory new.now))) }
         ensures refused { IfErr result (IsOperationRefused self.old (rename directory old.now new_directory new.now)) }
@@ -298,10 +298,10 @@ impl<A: Allocator + Copy> Tree<A> {
         let Some(file) = self.may_rename(directory, old, new_directory, new)? else {
             return Ok(());
         };
-        let serial = self.next_serial;
+        let cookie = self.next_cookie;
         self.names
-            .rename(directory, old, new_directory, new, file, serial)?;
-        self.next_serial = serial + 1;
+            .rename(directory, old, new_directory, new, file, cookie)?;
+        self.next_cookie = cookie + 1;
         Ok(())
     }
 

@@ -10,7 +10,7 @@ use std::collections::BTreeMap;
 use std::hash::{BuildHasherDefault, FoldHasher};
 use std::marker::Model;
 
-/// The directories of the names that lead to a file, by the serials of the names.
+/// The directories of the names that lead to a file, by the cookies of the names.
 #[derive(Drop)]
 pub(crate) struct Parents<A: Allocator> {
     directories: BTreeMap<u64, u64, A>,
@@ -53,21 +53,21 @@ impl<A: Allocator + Copy> Parents<A> {
     }
 
     /// Puts a name last.
-    fn put_last(&mut self, serial: u64, directory: u64) -> Result<(), AllocError>
-        requires { AreKeysBelow serial self.old }
-        ensures ok { OnOk result (self.new ≡ self.old ++ (serial, directory) ∷ []) }
+    fn put_last(&mut self, cookie: u64, directory: u64) -> Result<(), AllocError>
+        requires { AreKeysBelow cookie self.old }
+        ensures ok { OnOk result (self.new ≡ self.old ++ (cookie, directory) ∷ []) }
         ensures unchanged { OnErr result (self.new ≡ self.old) }
     {
-        let _none = self.directories.insert(serial, directory)?;
+        let _none = self.directories.insert(cookie, directory)?;
         Ok(())
     }
 
     /// Takes a name away.
-    fn remove(&mut self, serial: u64)
-        ensures { self.new ≡ filter (λ e. not (nat_eq e.0 serial)) self.old }
+    fn remove(&mut self, cookie: u64)
+        ensures { self.new ≡ filter (λ e. not (nat_eq e.0 cookie)) self.old }
     {
         let _len = self.directories.len();
-        let _directory = self.directories.remove(&serial);
+        let _directory = self.directories.remove(&cookie);
     }
 }
 
@@ -91,18 +91,18 @@ pub(crate) fn open<A: Allocator + Copy>(
 pub(crate) fn put_last_in<A: Allocator + Copy>(
     parents: &mut ParentsByFile<A>,
     file: u64,
-    serial: u64,
+    cookie: u64,
     directory: u64,
 ) -> Result<(), AllocError>
     requires there { IsSome (lookup (nat_eq file) parents.old.entries) }
-    requires last { AreKeysBelow serial (parents_in parents.old.entries file) }
+    requires last { AreKeysBelow cookie (parents_in parents.old.entries file) }
     ensures ok { OnOk result ((k : ℕ) → parents_in parents.new.entries k
-        ≡ cond (nat_eq file k) (parents_in parents.old.entries k ++ (serial, directory) ∷ [])
+        ≡ cond (nat_eq file k) (parents_in parents.old.entries k ++ (cookie, directory) ∷ [])
         (parents_in parents.old.entries k)) }
     ensures unchanged { OnErr result ((k : ℕ) → parents_in parents.new.entries k ≡ parents_in parents.old.entries k) }
 {
     match parents.get_mut(&file) {
-        Some(of_file) => of_file.put_last(serial, directory),
+        Some(of_file) => of_file.put_last(cookie, directory),
         None => Err(AllocError),
     }
 }
@@ -111,14 +111,14 @@ pub(crate) fn put_last_in<A: Allocator + Copy>(
 pub(crate) fn remove_from<A: Allocator + Copy>(
     parents: &mut ParentsByFile<A>,
     file: u64,
-    serial: u64,
+    cookie: u64,
 )
     ensures { (k : ℕ) → parents_in parents.new.entries k
-        ≡ cond (nat_eq file k) (filter (λ e. not (nat_eq e.0 serial)) (parents_in parents.old.entries k))
+        ≡ cond (nat_eq file k) (filter (λ e. not (nat_eq e.0 cookie)) (parents_in parents.old.entries k))
         (parents_in parents.old.entries k) }
 {
     if let Some(of_file) = parents.get_mut(&file) {
-        of_file.remove(serial);
+        of_file.remove(cookie);
     }
 }
 

@@ -1,7 +1,7 @@
-//! The names of a tree by serial, and how many lead to a file.
+//! The names of a tree by cookie, and how many lead to a file.
 
 ghost use Rattle.std.specs.Prelude.{◌≡◌, ℕ, ◌++◌, ◌∷◌, [], find, length, count_by, nat_eq, option_map, OnOk, OnErr, Option};
-ghost use Rattle.fs_tree.specs.Stored.{AreSerialsRising, IsRising, without_serial};
+ghost use Rattle.fs_tree.specs.Stored.{AreCookiesRising, IsRising, without_cookie};
 
 use crate::parents::{ParentsByFile, close, open, put_last_in, remove_from};
 use indexmap::IndexMap;
@@ -17,7 +17,7 @@ pub(crate) struct Row<A: Allocator> {
     pub(crate) file: u64,
 }
 
-/// The names by serial, and for each file the directories of its names.
+/// The names by cookie, and for each file the directories of its names.
 #[derive(Drop)]
 pub(crate) struct Rows<A: Allocator> {
     names: BTreeMap<u64, Row<A>, A>,
@@ -77,52 +77,52 @@ impl<A: Allocator + Copy> Rows<A> {
         }
     }
 
-    /// Puts a name last, under a serial over all others. Where memory is refused nothing changes.
+    /// Puts a name last, under a cookie over all others. Where memory is refused nothing changes.
     pub(crate) fn push(
         &mut self,
         directory: u64,
         name: Vec<u8, A>,
         file: u64,
-        serial: u64,
+        cookie: u64,
     ) -> Result<(), AllocError>
-        requires { IsRising 1 self.old serial }
+        requires { IsRising 1 self.old cookie }
         ensures ok { OnOk result (self.new ≡ self.old ++ record {
           directory = directory;
           name = name.items;
           file = file;
-          serial = serial;
+          cookie = cookie;
         } ∷ []) }
         ensures unchanged { OnErr result (self.new ≡ self.old) }
     {
         open(&mut self.parents, file, self.alloc)?;
-        put_last_in(&mut self.parents, file, serial, directory)?;
+        put_last_in(&mut self.parents, file, cookie, directory)?;
         let row = Row {
             directory,
             name,
             file,
         };
-        match self.names.insert(serial, row) {
+        match self.names.insert(cookie, row) {
             Ok(_) => Ok(()),
             Err(_) => {
-                remove_from(&mut self.parents, file, serial);
+                remove_from(&mut self.parents, file, cookie);
                 Err(AllocError)
             }
         }
     }
 
-    /// Takes the name with this serial away, if there is one.
-    pub(crate) fn remove(&mut self, serial: Option<u64>)
-        requires { AreSerialsRising self.old }
-        ensures { self.new ≡ without_serial serial self.old }
+    /// Takes the name with this cookie away, if there is one.
+    pub(crate) fn remove(&mut self, cookie: Option<u64>)
+        requires { AreCookiesRising self.old }
+        ensures { self.new ≡ without_cookie cookie self.old }
     {
-        let Some(serial) = serial else {
+        let Some(cookie) = cookie else {
             return;
         };
         let _len = self.names.len();
-        let Some(row) = self.names.remove(&serial) else {
+        let Some(row) = self.names.remove(&cookie) else {
             return;
         };
-        remove_from(&mut self.parents, row.file, serial);
+        remove_from(&mut self.parents, row.file, cookie);
         close(&mut self.parents, row.file);
     }
 }

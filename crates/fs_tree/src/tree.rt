@@ -17,7 +17,7 @@ use fuse_spec::limits::COUNTER_END;
 use std::alloc::{AllocError, Allocator, Global};
 use std::marker::Model;
 
-/// The birth of the root.
+/// The inode of the root.
 pub const ROOT: u64 = 0;
 
 /// A tree of files.
@@ -25,8 +25,8 @@ pub const ROOT: u64 = 0;
 pub struct Tree<A: Allocator = Global> {
     pub(crate) names: Names<A>,
     pub(crate) files: Files<A>,
-    pub(crate) next_birth: u64,
-    pub(crate) next_serial: u64,
+    pub(crate) next_inode: u64,
+    pub(crate) next_cookie: u64,
     pub(crate) alloc: A,
 }
 
@@ -41,16 +41,16 @@ impl<A: Allocator> Model for Tree<A> {
     ghost view = { λ t. record {
       files = t.files;
       names = t.names;
-      next_birth = t.next_birth;
-      next_serial = t.next_serial;
+      next_inode = t.next_inode;
+      next_cookie = t.next_cookie;
     } };
 
-    ghost invariant = { λ t. IsTreeKept t.files t.names t.next_birth t.next_serial
+    ghost invariant = { λ t. IsTreeKept t.files t.names t.next_inode t.next_cookie
         × IsShaped (record {
           files = t.files;
           names = t.names;
-          next_birth = t.next_birth;
-          next_serial = t.next_serial;
+          next_inode = t.next_inode;
+          next_cookie = t.next_cookie;
         }) };
 }
 
@@ -68,8 +68,8 @@ impl<A: Allocator + Copy> Tree<A> {
         Ok(Tree {
             names: Names::new(alloc),
             files,
-            next_birth: 1,
-            next_serial: 1,
+            next_inode: 1,
+            next_cookie: 1,
             alloc,
         })
     }
@@ -79,28 +79,28 @@ impl<A: Allocator + Copy> Tree<A> {
         ensures { IsShaped self.now }
     {
         // A field is touched so that the type's invariant is at hand.
-        let _births = self.next_birth;
+        let _inodes = self.next_inode;
     }
 
-    /// The birth that the next file gets.
-    pub fn next_birth(&self) -> u64
-        ensures { result ≡ self.now.next_birth }
+    /// The inode that the next file gets.
+    pub fn next_inode(&self) -> u64
+        ensures { result ≡ self.now.next_inode }
     {
-        self.next_birth
+        self.next_inode
     }
 
-    /// How many births are left below 2^62.
-    pub fn births_left(&self) -> u64
-        ensures { self.now.next_birth + result ≡ counter_end }
+    /// How many inodes are left below 2^62.
+    pub fn inodes_left(&self) -> u64
+        ensures { self.now.next_inode + result ≡ counter_end }
     {
-        COUNTER_END - self.next_birth
+        COUNTER_END - self.next_inode
     }
 
-    /// How many serials are left below 2^62.
-    pub fn serials_left(&self) -> u64
-        ensures { self.now.next_serial + result ≡ counter_end }
+    /// How many cookies are left below 2^62.
+    pub fn cookies_left(&self) -> u64
+        ensures { self.now.next_cookie + result ≡ counter_end }
     {
-        COUNTER_END - self.next_serial
+        COUNTER_END - self.next_cookie
     }
 
     /// Whether a file is a directory. A file that is not in the tree is none.

@@ -16,7 +16,7 @@ use Rattle.fuse_spec.specs.Kernel.Replies.{goes_with}
 use Rattle.fuse_spec.specs.Files.Trees.{record_length, pair_length}
 use Rattle.fuse_frames.specs.ReplyTies.{wire_body, dirent_read, pair_in}
 use Rattle.fuse_frames.specs.RequestTies.{asked_opcode}
-use Rattle.fuse_frames.specs.ReplySaid.{is_within_request}
+use Rattle.fuse_frames.specs.ReplyDecoding.{is_within_request}
 
 -- a record with its padding
 pad_is : (n : ℕ) → 24 + n + padding n ≡ (31 + n) / 8 * 8

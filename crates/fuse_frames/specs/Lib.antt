@@ -2,4 +2,4 @@ pub mod RequestTies
 pub mod ReplyTies
 pub mod Replies
 pub mod DecodedReplies
-pub mod ReplySaid
+pub mod ReplyDecoding

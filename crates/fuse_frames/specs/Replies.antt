@@ -11,8 +11,8 @@ use Rattle.fuse_frames.specs.declared.reply.Reply.TheVariants as said
 module _ {F L P S G : Type 0} (file_of : F → G) (names_of : L → List Dirent)
     (pairs_of : P → List (DirentPlus G)) (bytes_of : S → List ℕ) where
   abbrev pub reply_of : Reply F L P S → reply.Reply G ℕ
-  reply_of (said.Found file valid) = reply.found (file_of file) valid
-  reply_of (said.Missing valid) = reply.missing valid
+  reply_of (said.Entry file valid) = reply.found (file_of file) valid
+  reply_of (said.Negative valid) = reply.missing valid
   reply_of (said.Created file valid fh) = reply.created (file_of file) valid fh
   reply_of (said.Opened fh) = reply.opened fh
   reply_of (said.Attributes attributes) = reply.attributes attributes

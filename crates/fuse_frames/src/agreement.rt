@@ -3,16 +3,16 @@
 ghost use Rattle.std.specs.Prelude.{◌≡◌};
 ghost use Rattle.fuse_spec.specs.Kernel.Replies.{is_agreement};
 ghost use Rattle.fuse_spec.specs.Kernel.Replies.{minor_agreed as minor_said, files_agreed as files_said};
-ghost use Rattle.fuse_frames.specs.ReplySaid.{lent_wire_of};
+ghost use Rattle.fuse_frames.specs.ReplyDecoding.{lent_wire_of};
 
 use crate::reply::Reply;
-use crate::reply_said::ReplySaid;
+use crate::reply_decoding::DecodedReply;
 use bitflags::Flags;
 use fk_wire::InitFlags;
 use fuse_spec::Minor;
 
 /// Whether a reply agrees on major 7, and on minor 15 or one from 31 up (this project's rule).
-pub fn agrees(said: &ReplySaid<'_>) -> bool
+pub fn agrees(said: &DecodedReply<'_>) -> bool
     ensures { result ≡ is_agreement (lent_wire_of said.now) }
 {
     match said {
@@ -22,7 +22,7 @@ pub fn agrees(said: &ReplySaid<'_>) -> bool
 }
 
 /// The minor that is agreed on: one from 31 up is taken as 31 (this project's rule).
-pub fn minor_agreed(said: &ReplySaid<'_>) -> Minor
+pub fn minor_agreed(said: &DecodedReply<'_>) -> Minor
     ensures { result ≡ minor_said (lent_wire_of said.now) }
 {
     match said {
@@ -34,7 +34,7 @@ pub fn minor_agreed(said: &ReplySaid<'_>) -> Minor
 /// Whether files may be listed with their names: the server takes up FUSE_DO_READDIRPLUS, and the minor is not 15,
 /// which has no READDIRPLUS (linux/fuse.h).
 #[tactic(auto, using(crate::proofs::Agreements::readdirplus_known))]
-pub fn files_agreed(said: &ReplySaid<'_>) -> bool
+pub fn files_agreed(said: &DecodedReply<'_>) -> bool
     ensures { result ≡ files_said (lent_wire_of said.now) }
 {
     match said {

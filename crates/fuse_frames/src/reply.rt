@@ -9,12 +9,12 @@ use fuse_spec::Attributes;
 #[derive(Drop)]
 pub enum Reply<F, L, P, S> {
     /// The name leads to a file.
-    Found {
+    Entry {
         file: F,
         valid_ms: u64,
     },
     /// The name leads to no file.
-    Missing {
+    Negative {
         valid_ms: u64,
     },
     /// The name leads to a new file, which is open.

@@ -117,7 +117,7 @@ pub struct Counted {
 
 /// A name in force: the node to which it leads, if any, and the time in milliseconds from which it is valid no more.
 #[derive(Clone, Copy, Debug, PartialEq, Eq)]
-pub struct Binding {
+pub struct Dentry {
     pub target: Option<u64>,
     pub until: u64,
 }

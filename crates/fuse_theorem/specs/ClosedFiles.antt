@@ -16,10 +16,10 @@ pub record WasAnswered (c : Vfs Opened) (call : ℕ) : Type 0 where
   pub not_waiting : get c.calls call ≡ None
 
 -- The operation is one on the open file of this number, be it closed by now or not.
-pub record UsesFile (c : Vfs Opened) (closing : Map Opened) (handle : ℕ) (operation : Operation ℕ Opened) : Type 0 where
-  pub opener : WasAnswered c handle
-  pub of_open : (o : Opened) → get c.opens handle ≡ Some o → opens_of operation ≡ o ∷ []
-  pub of_closed : (o : Opened) → get closing handle ≡ Some o → opens_of operation ≡ o ∷ []
+pub record UsesFile (c : Vfs Opened) (closing : Map Opened) (open_call : ℕ) (operation : Operation ℕ Opened) : Type 0 where
+  pub opener : WasAnswered c open_call
+  pub of_open : (o : Opened) → get c.opens open_call ≡ Some o → opens_of operation ≡ o ∷ []
+  pub of_closed : (o : Opened) → get closing open_call ≡ Some o → opens_of operation ≡ o ∷ []
 
 -- An open file bears the number of the answered call that opened it. A call that uses one names it, and a closed file
 -- whose RELEASE is not queued is used.
@@ -27,9 +27,9 @@ pub record ClosedFiles (c : Vfs Opened) (closing : Map Opened) : Type 0 where
   pub calls_in_order : T (is_sorted nat_cmp c.calls)
   pub closing_in_order : T (is_sorted nat_cmp closing)
   pub calls_below : (call : ℕ) → c.next_call ≤ call → get c.calls call ≡ None
-  pub opens : (handle : ℕ) (o : Opened) → get c.opens handle ≡ Some o → WasAnswered c handle
-  pub users : (call handle : ℕ) (operation : Operation ℕ Opened) → get c.calls call ≡ Some (using handle operation)
-      → UsesFile c closing handle operation
-  pub not_open : (handle : ℕ) (o : Opened) → get closing handle ≡ Some o → get c.opens handle ≡ None
-  pub used : (handle : ℕ) (o : Opened) → get closing handle ≡ Some o
-      → list_any (is_using handle) (values c.calls) ≡ true
+  pub opens : (open_call : ℕ) (o : Opened) → get c.opens open_call ≡ Some o → WasAnswered c open_call
+  pub users : (call open_call : ℕ) (operation : Operation ℕ Opened) → get c.calls call ≡ Some (using open_call operation)
+      → UsesFile c closing open_call operation
+  pub not_open : (open_call : ℕ) (o : Opened) → get closing open_call ≡ Some o → get c.opens open_call ≡ None
+  pub used : (open_call : ℕ) (o : Opened) → get closing open_call ≡ Some o
+      → list_any (is_using open_call) (values c.calls) ≡ true

@@ -156,7 +156,7 @@ IsOpenNumber h fh = get h.handles fh ≢ None
 -- With this table the server holds the open numbers of the kernel's open files and calls, of the requests on the link
 -- and of those that it holds, and those that copies and kept replies to unanswered requests name.
 pub record HoldsOpens (w : World) (h : HandleTable) : Type 0 where
-  pub opens : (handle : ℕ) (o : Opened) → get w.kernel.vfs.opens handle ≡ Some o → IsOpenNumber h o.fh
+  pub opens : (open_call : ℕ) (o : Opened) → get w.kernel.vfs.opens open_call ≡ Some o → IsOpenNumber h o.fh
   pub calls : (call : ℕ) (state : CallState Opened) → get w.kernel.vfs.calls call ≡ Some state → (o : Opened)
       → Contains (opens_of (asked state)) o → IsOpenNumber h o.fh
   pub sent : All (λ (r : Request). (o : Opened) → Contains (opens_of_body r.body) o → IsOpenNumber h o.fh) w.requests

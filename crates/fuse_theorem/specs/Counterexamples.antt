@@ -84,9 +84,9 @@ with_no_generation =
       server = record first_world.server {
         tree = record {
           files = (0, a_directory) ∷ (1, a_directory) ∷ [];
-          names = record { directory = 0; name = 97 ∷ []; file = 1; serial = 1 } ∷ [];
-          next_birth = 2;
-          next_serial = 2;
+          names = record { directory = 0; name = 97 ∷ []; file = 1; cookie = 1 } ∷ [];
+          next_inode = 2;
+          next_cookie = 2;
         };
         nodes = record {
           rows = (2, record { file = 5; generation = 1; count = 1 }) ∷ [];

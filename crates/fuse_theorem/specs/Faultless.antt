@@ -23,7 +23,7 @@ OldPlan plan = Unit {0}
 abbrev pub OldState : CallState Opened → Type 0
 OldState (walking directory word words plan) = OldPlan plan
 OldState (doing operation) = knows M15 (asks operation) ≡ true
-OldState (using handle operation) = knows M15 (asks operation) ≡ true
+OldState (using open_call operation) = knows M15 (asks operation) ≡ true
 
 abbrev pub OldRequest : Request → Type 0
 OldRequest r = knows M15 r.body ≡ true

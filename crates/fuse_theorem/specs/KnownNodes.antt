@@ -1,6 +1,6 @@
 -- Which nodes the kernel uses, each of which it knows.
 use Rattle.std.specs.Prelude.{◌≡◌, ◌≢◌, ℕ, List, Some, None, All}
-use Rattle.fuse_spec.specs.declared.Binding.{Binding}
+use Rattle.fuse_spec.specs.declared.Dentry.{Dentry}
 use Rattle.fuse_spec.specs.declared.Counted.{Counted}
 use Rattle.fuse_spec.specs.declared.Opened.{Opened}
 use Rattle.fuse_spec.specs.Values.Maps.{Map, NameMap, get_name, values}
@@ -13,10 +13,10 @@ abbrev pub IsKnown : Map Counted → ℕ → Type 0
 IsKnown nodes id = generation_known nodes id ≢ None
 
 -- Each name in force stands in a known node, and leads to a known one or to none.
-pub record NamesKnown (nodes : Map Counted) (names : NameMap Binding) : Type 0 where
-  pub directories : (id : ℕ) (name : List ℕ) (bound : Binding) → get_name names (id, name) ≡ Some bound
+pub record NamesKnown (nodes : Map Counted) (names : NameMap Dentry) : Type 0 where
+  pub directories : (id : ℕ) (name : List ℕ) (bound : Dentry) → get_name names (id, name) ≡ Some bound
       → IsKnown nodes id
-  pub targets : (id : ℕ) (name : List ℕ) (bound : Binding) → get_name names (id, name) ≡ Some bound → (target : ℕ)
+  pub targets : (id : ℕ) (name : List ℕ) (bound : Dentry) → get_name names (id, name) ≡ Some bound → (target : ℕ)
       → bound.target ≡ Some target → IsKnown nodes target
 
 -- What an unanswered call stands on or names is known, what an open file is of, and what a name binds.

@@ -3,7 +3,7 @@
 use Rattle.std.specs.Prelude.{T, ◌≡◌, ℕ, List, true, Some, All, is_some, MatchOption}
 use Rattle.std.specs.Ordering.{nat_cmp}
 use Rattle.std.specs.FinMap.{is_sorted}
-use Rattle.fuse_spec.specs.declared.Binding.{Binding}
+use Rattle.fuse_spec.specs.declared.Dentry.{Dentry}
 use Rattle.fuse_spec.specs.declared.Counted.{Counted}
 use Rattle.fuse_spec.specs.declared.Opened.{Opened}
 use Rattle.fuse_spec.specs.declared.Purpose.{Purpose}
@@ -23,9 +23,9 @@ use Rattle.fuse_spec.specs.World.Worlds.{World, Sent}
 -- entry on the reply link.
 pub record NodesHeldLive (w : World) : Type 0 where
   pub nodes : (id : ℕ) (node : Counted) → get w.kernel.nodes id ≡ Some node → IsMeant w id
-  pub names : (directory : ℕ) (name : List ℕ) (bound : Binding)
+  pub names : (directory : ℕ) (name : List ℕ) (bound : Dentry)
       → get_name w.kernel.vfs.names (directory, name) ≡ Some bound → IsMeant w directory
-  pub targets : (directory : ℕ) (name : List ℕ) (bound : Binding) (id : ℕ)
+  pub targets : (directory : ℕ) (name : List ℕ) (bound : Dentry) (id : ℕ)
       → get_name w.kernel.vfs.names (directory, name) ≡ Some bound → bound.target ≡ Some id → IsMeant w id
   pub calls : All (λ (state : CallState Opened). All (IsMeant w) (nodes_of_state state)) (values w.kernel.vfs.calls)
   pub opens : All (λ (o : Opened). IsMeant w o.nodeid) (values w.kernel.vfs.opens)

@@ -26,8 +26,8 @@ stands o = cond (is_some o) 1 0
 abbrev pub UsesOpen : (opens closing : Map Opened) → CallState Opened → Type 0
 UsesOpen opens closing (walking directory word words plan) = Unit {0}
 UsesOpen opens closing (doing operation) = opens_of operation ≡ []
-UsesOpen opens closing (using handle operation) =
-    All (λ (o : Opened). (get opens handle ≡ Some o) ⊎ (get closing handle ≡ Some o)) (opens_of operation)
+UsesOpen opens closing (using open_call operation) =
+    All (λ (o : Opened). (get opens open_call ≡ Some o) ⊎ (get closing open_call ≡ Some o)) (opens_of operation)
 
 -- A number is that of an unanswered call, of an open file or of a closing one, and of one alone; the coming numbers are
 -- of none. What a call reads or writes is open or closing.

@@ -9,7 +9,7 @@ use Rattle.fuse_spec.specs.Server.Server.{Server}
 pub record TreeSound (tree : Tree) : Type 0 where
   pub root : get tree.files 0 ≡ Some a_directory
   pub names : All (λ (n : Named). n.file ≢ 0) tree.names
-  pub births : 1 ≤ tree.next_birth
+  pub inodes : 1 ≤ tree.next_inode
 
 -- A node has an id from 2 up, a file that is not the root and that no other node has, a generation below the next, and
 -- a lookup.
@@ -23,8 +23,8 @@ pub record NodesSound (t : NodeTable) : Type 0 where
 -- No number from the next on is open. An open one is of a file that is not the root, and counted.
 pub record HandlesSound (h : HandleTable) : Type 0 where
   pub numbers : (fh : ℕ) → h.next_fh ≤ fh → get h.handles fh ≡ None
-  pub files : (fh : ℕ) (handle : OpenNumber) → get h.handles fh ≡ Some handle → handle.file ≢ 0
-  pub counts : (fh : ℕ) (handle : OpenNumber) → get h.handles fh ≡ Some handle → 1 ≤ handle.count
+  pub files : (fh : ℕ) (open_call : OpenNumber) → get h.handles fh ≡ Some open_call → open_call.file ≢ 0
+  pub counts : (fh : ℕ) (open_call : OpenNumber) → get h.handles fh ≡ Some open_call → 1 ≤ open_call.count
 
 -- The tree and the tables are sound, and no number from the next on is that of a copy.
 pub record ServerSound (s : Server) : Type 0 where

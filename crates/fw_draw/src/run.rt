@@ -112,13 +112,13 @@ fn draw_write<A: Allocator + Copy>(
     picture: &mut Picture<A>,
     room: &mut Room<A>,
 ) -> Result<(), AllocError> {
-    let (handle, offset, hex) = write;
+    let (open_call, offset, hex) = write;
     // The lines were judged, so only memory can be wanting.
     let Ok(bytes) = read_hex(room.alloc, digits_of(hex)) else {
         return Err(AllocError);
     };
     let event = Event::Call(Call::Write {
-        handle,
+        open_call,
         offset,
         bytes: bytes.as_slice(),
     });
@@ -136,11 +136,11 @@ fn draw_line<A: Allocator + Copy>(
         Ok(Line::Event(event)) => draw_step(world, &event, line, picture, room),
         Ok(
             Line::CallWrite {
-                handle,
+                open_call,
                 offset,
                 hex,
             },
-        ) => draw_write(world, (handle, offset, hex), line, picture, room),
+        ) => draw_write(world, (open_call, offset, hex), line, picture, room),
         // `show` is no event, and the lines were judged.
         Ok(Line::Show) | Err(_) => Ok(()),
     }

@@ -23,7 +23,7 @@ pub(crate) enum DriveLine<'a> {
     },
     /// A call that puts bytes into an open file. They are in hex, `-` for none.
     CallWrite {
-        handle: u64,
+        open_call: u64,
         offset: u64,
         hex: &'a [u8],
     },
@@ -101,7 +101,7 @@ fn read_script_line(form: Form, line: &[u8]) -> Result<DriveLine<'_>, LineFault>
             Ok(DriveLine::Event(event))
         }
         Line::CallWrite {
-            handle,
+            open_call,
             offset,
             hex,
         } => {
@@ -109,7 +109,7 @@ fn read_script_line(form: Form, line: &[u8]) -> Result<DriveLine<'_>, LineFault>
                 return Err(LineFault::BadText);
             }
             Ok(DriveLine::CallWrite {
-                handle,
+                open_call,
                 offset,
                 hex,
             })

@@ -53,13 +53,13 @@ fn begin_write<A: Allocator + Copy, W: Write>(
 ) -> Result<(), Stop>
     ensures { MovesAlone driver.old driver.new }
 {
-    let (handle, offset, hex) = file;
+    let (open_call, offset, hex) = file;
     let mut bytes = Vec::new(alloc);
     if !is_hex_or_none(hex) || read_hex_or_none(&mut bytes, hex).is_err() {
         return Err(Stop::NoMemory);
     }
     let call = Call::Write {
-        handle,
+        open_call,
         offset,
         bytes: bytes.as_slice(),
     };
@@ -88,10 +88,10 @@ fn run_line<A: Allocator + Copy, D: Device, W: Write>(
             act(driver, notes, &Event::Call(Call::Open { path }), out)
         }
         DriveLine::CallWrite {
-            handle,
+            open_call,
             offset,
             hex,
-        } => begin_write(alloc, driver, notes, (handle, offset, hex), out),
+        } => begin_write(alloc, driver, notes, (open_call, offset, hex), out),
         DriveLine::Write => match receive(driver, device, notes, out) {
             Ok(received) => print_refused::<A, W>(received, out),
             Err(stop) => Err(stop),
@@ -118,7 +118,7 @@ fn run_carried<A: Allocator + Copy, D: Device, W: Write>(
 }
 
 /// What a line says, if it says anything.
-fn said_by(form: Form, line: &[u8]) -> Option<DriveLine<'_>> {
+fn good_line(form: Form, line: &[u8]) -> Option<DriveLine<'_>> {
     if is_passed_over(line) {
         return None;
     }
@@ -136,7 +136,7 @@ fn do_line<A: Allocator + Copy, D: Device, W: Write>(
 ) -> Result<(), Stop>
     ensures { GoesOn D.logs device.old device.new driver.old driver.new result }
 {
-    match said_by(notes.form, line) {
+    match good_line(notes.form, line) {
         Some(said) => match run_carried(alloc, driver, device, notes, said, out) {
             Ok(()) => flush(out),
             Err(stop) => Err(stop),

@@ -51,10 +51,10 @@ spelled_call (call.Unlink path) = codes "unlink" ∷ path.now ∷ []
 spelled_call (call.Rmdir path) = codes "rmdir" ∷ path.now ∷ []
 spelled_call (call.Rename old new) = codes "rename" ∷ old.now ∷ new.now ∷ []
 spelled_call (call.Link old new) = codes "link" ∷ old.now ∷ new.now ∷ []
-spelled_call (call.Read handle offset size) = codes "read" ∷ decimal handle ∷ decimal offset ∷ decimal size ∷ []
-spelled_call (call.Write handle offset content) =
-    codes "write" ∷ decimal handle ∷ decimal offset ∷ hex_or_none content.now ∷ []
-spelled_call (call.Close handle) = codes "close" ∷ decimal handle ∷ []
+spelled_call (call.Read open_call offset size) = codes "read" ∷ decimal open_call ∷ decimal offset ∷ decimal size ∷ []
+spelled_call (call.Write open_call offset content) =
+    codes "write" ∷ decimal open_call ∷ decimal offset ∷ hex_or_none content.now ∷ []
+spelled_call (call.Close open_call) = codes "close" ∷ decimal open_call ∷ []
 
 -- the paths of a call are texts
 abbrev pub HasTexts : Call → Type 0

@@ -41,15 +41,15 @@ spelled_event event.Abort = codes "abort" ∷ []
 -- the words of any line
 abbrev pub spelled : Line → List (List ℕ)
 spelled (line.Event e) = spelled_event e
-spelled (line.CallWrite handle offset hex) =
-    codes "call" ∷ codes "write" ∷ decimal handle ∷ decimal offset ∷ hex.now ∷ []
+spelled (line.CallWrite open_call offset hex) =
+    codes "call" ∷ codes "write" ∷ decimal open_call ∷ decimal offset ∷ hex.now ∷ []
 spelled line.Show = codes "show" ∷ []
 
 -- the paths, the name and the hex of a line are texts and hex
 abbrev pub IsWritten : Line → Type 0
 IsWritten (line.Event (event.Call c)) = HasTexts c
 IsWritten (line.Event (event.DropName directory name)) = IsText name.now
-IsWritten (line.CallWrite handle offset hex) = IsHexOrNone hex.now
+IsWritten (line.CallWrite open_call offset hex) = IsHexOrNone hex.now
 IsWritten other = Unit {0}
 
 -- the last words of a mount at this minor: 31 may be left out

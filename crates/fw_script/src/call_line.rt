@@ -101,23 +101,23 @@ pub(crate) fn line_of_call(form: CallForm, rest: Option<&[u8]>) -> Result<Line<'
             Call::Link { old, new }
         }
         CallForm::Read => {
-            let (handle, offset, size) = three_numbers(rest)?;
+            let (open_call, offset, size) = three_numbers(rest)?;
             Call::Read {
-                handle,
+                open_call,
                 offset,
                 size,
             }
         }
         CallForm::Write => {
-            let (handle, offset, hex) = two_numbers_and_hex(rest)?;
+            let (open_call, offset, hex) = two_numbers_and_hex(rest)?;
             return Ok(Line::CallWrite {
-                handle,
+                open_call,
                 offset,
                 hex,
             });
         }
         CallForm::Close => Call::Close {
-            handle: one_number(rest)?,
+            open_call: one_number(rest)?,
         },
     };
     Ok(Line::Event(Event::Call(call)))

@@ -33,7 +33,7 @@ pub enum Line<'a> {
     Event(Event<'a>),
     /// A call that puts bytes into an open file. They are in hex, `-` for none.
     CallWrite {
-        handle: u64,
+        open_call: u64,
         offset: u64,
         hex: &'a [u8],
     },

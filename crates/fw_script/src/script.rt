@@ -97,17 +97,17 @@ fn run_event<A: Allocator + Copy, M: Machine<A>, W: Write>(
 /// The event that a call is which puts bytes into an open file. Its bytes are read from hex.
 fn event_of_write<'a, A: Allocator>(
     bytes: &'a mut Vec<u8, A>,
-    handle: u64,
+    open_call: u64,
     offset: u64,
     hex: &[u8],
 ) -> Result<Event<'a>, AllocError>
     requires { IsHexOrNone hex.now }
-    ensures { IfOk result (λ event. (line : List ℕ) → LineHasWords (Line.CallWrite handle offset hex.entry) (words_of line)
+    ensures { IfOk result (λ event. (line : List ℕ) → LineHasWords (Line.CallWrite open_call offset hex.entry) (words_of line)
         → LineSaysEvent line event) }
 {
     read_hex_or_none(bytes, hex)?;
     Ok(Event::Call(Call::Write {
-        handle,
+        open_call,
         offset,
         bytes: bytes.as_slice(),
     }))
@@ -220,10 +220,10 @@ fn run_line<A: Allocator + Copy, M: Machine<A>, W: Write>(
     match line {
         Line::Event(event) => run_event(machine, event, &mut room.records, hex, out),
         Line::CallWrite {
-            handle,
+            open_call,
             offset,
             hex: bytes,
-        } => match event_of_write(&mut room.bytes, *handle, *offset, bytes) {
+        } => match event_of_write(&mut room.bytes, *open_call, *offset, bytes) {
             Ok(event) => run_event(machine, &event, &mut room.records, hex, out),
             Err(_) => Err(Stop::NoMemory),
         },

@@ -26,8 +26,8 @@ SaysEvent text event.Abort = words_of text ≡ codes "abort" ∷ []
 -- A text says this line to the kernel. What is in hex is hex.
 abbrev pub SaysLine : List ℕ → KernelLine → Type 0
 SaysLine text (line.Event e) = SaysEvent text e
-SaysLine text (line.CallWrite handle offset hex) =
-    (words_of text ≡ codes "call" ∷ codes "write" ∷ decimal handle ∷ decimal offset ∷ hex.now ∷ [])
+SaysLine text (line.CallWrite open_call offset hex) =
+    (words_of text ≡ codes "call" ∷ codes "write" ∷ decimal open_call ∷ decimal offset ∷ hex.now ∷ [])
     × IsHexOrNone hex.now
 SaysLine text (line.Write hex) = (text ≡ codes "write " ++ hex.now) × IsHexOrNone hex.now
 SaysLine text line.Show = words_of text ≡ codes "show" ∷ []

@@ -16,7 +16,7 @@ pub enum KernelLine<'a> {
     Event(KernelEvent<'a>),
     /// A call that puts bytes into an open file. They are in hex, `-` for none.
     CallWrite {
-        handle: u64,
+        open_call: u64,
         offset: u64,
         hex: &'a [u8],
     },
@@ -59,11 +59,11 @@ fn read_script_line(line: &[u8]) -> Result<KernelLine<'_>, LineFault>
             None => Err(LineFault::UnknownEvent),
         },
         Line::CallWrite {
-            handle,
+            open_call,
             offset,
             hex,
         } => Ok(KernelLine::CallWrite {
-            handle,
+            open_call,
             offset,
             hex,
         }),

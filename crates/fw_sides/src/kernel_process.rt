@@ -65,12 +65,12 @@ fn begin_write<A: Allocator + Copy, W: Write>(
     ensures { OnOk result ((text : List ℕ) → SaysLine text (KernelLine.CallWrite place.0 place.1 hex.entry)
         → DoesKernelLine A kernel.old text kernel.new) }
 {
-    let (handle, offset) = place;
+    let (open_call, offset) = place;
     match read_hex_or_none(bytes, hex) {
         Ok(()) => {
             let bytes = bytes.as_slice();
             let call = Call::Write {
-                handle,
+                open_call,
                 offset,
                 bytes,
             };
@@ -109,11 +109,11 @@ fn run_line<A: Allocator + Copy, W: Write>(
         Ok(KernelLine::Write { hex }) => write_reply(kernel, bytes, hex, form, out),
         Ok(
             KernelLine::CallWrite {
-                handle,
+                open_call,
                 offset,
                 hex,
             },
-        ) => begin_write(kernel, bytes, (handle, offset), hex, form, out),
+        ) => begin_write(kernel, bytes, (open_call, offset), hex, form, out),
         Ok(KernelLine::Show) => show(alloc, kernel, form, out),
         Err(fault) => print_line_fault(out, form, fault),
     }

@@ -2,7 +2,7 @@
 use Rattle.std.proofs.Common.{◌≡◌, ℕ, ◌+◌, ◌||◌, List, Bool, true, false, not, cond, Option, Some, None, Ok, Err, nat_eq, nat_lt, nat_le, max, length, slice_get, refl, ap, sym, ◌∙◌}
 use Rattle.std.specs.Prelude.{Result}
 use Rattle.fuse_spec.specs.declared.Minor.{Minor}
-use Rattle.fuse_spec.specs.declared.Binding.{Binding}
+use Rattle.fuse_spec.specs.declared.Dentry.{Dentry}
 use Rattle.fuse_spec.specs.declared.Counted.{Counted}
 use Rattle.fuse_spec.specs.declared.Refusal.{Refusal}
 use Rattle.fuse_spec.specs.declared.Refusal.TheVariants as refusal
@@ -183,13 +183,13 @@ drops w directory name judged =
     let bound = get_name w.kernel.vfs.names (directory, name) in
     let dropped : Outcome × World = (event.dropped, after_drop w directory name) in
     let not_live = not (is_live w.kernel.phase) in
-    let finds_it = finds bound (λ (b : Binding). accepted)
-    (passed not_live refusal.NotReady (found bound (λ (b : Binding). accepted)) judged).1 in (
+    let finds_it = finds bound (λ (b : Dentry). accepted)
+    (passed not_live refusal.NotReady (found bound (λ (b : Dentry). accepted)) judged).1 in (
       any_id,
       tt,
-      unless_ok not_live refusal.NotReady (found bound (λ (b : Binding). accepted))
+      unless_ok not_live refusal.NotReady (found bound (λ (b : Dentry). accepted))
           (found bound (dropping (after_drop w directory name))) dropped judged
-          (ap (λ (o : Option Binding). found o (dropping (after_drop w directory name))) finds_it.there),
+          (ap (λ (o : Option Dentry). found o (dropping (after_drop w directory name))) finds_it.there),
     )
 
 pub evicts : (w : World) (node : ℕ) (counted : Counted) → evict_refusal w.kernel node ≡ None

@@ -102,10 +102,10 @@ begun_counts k call = ends (cond (is_aborted k.phase) None (closed_by k.vfs.open
     asks None = refl
     asks (Some operation) = refl
 
-    freed : (q : Kernel) (handle : ℕ) (o : Option Opened)
-        → is_counted_out (released q handle o).nodes ≡ is_counted_out q.nodes
-    freed q handle None = refl
-    freed q handle (Some opened) = refl
+    freed : (q : Kernel) (open_call : ℕ) (o : Option Opened)
+        → is_counted_out (released q open_call o).nodes ≡ is_counted_out q.nodes
+    freed q open_call None = refl
+    freed q open_call (Some opened) = refl
 
     ends : (o : Option (ℕ × Opened)) → is_counted_out (closing_of next o).nodes ≡ is_counted_out next.nodes
     ends None = refl

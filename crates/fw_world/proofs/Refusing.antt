@@ -1,7 +1,7 @@
 -- An event that kernel or server refused is refused so in the machine, or memory was wanting.
 use Rattle.std.proofs.Common.{◌≡◌, ◌≢◌, ℕ, ◌+◌, ◌||◌, Bool, true, false, cond, not, List, Option, Some, None, Ok, Err, inl, nat_eq, nat_lt, nat_le, max, length, slice_get, refl, ap, subst, ◌∙◌}
 use Rattle.fuse_spec.specs.declared.Minor.{Minor}
-use Rattle.fuse_spec.specs.declared.Binding.{Binding}
+use Rattle.fuse_spec.specs.declared.Dentry.{Dentry}
 use Rattle.fuse_spec.specs.declared.Counted.{Counted}
 use Rattle.fuse_spec.specs.declared.Refusal.{Refusal}
 use Rattle.fuse_spec.specs.declared.Refusal.TheVariants as refusal
@@ -121,9 +121,9 @@ pub drop_refused : (w : World) (directory : ℕ) (name : List ℕ) (r : Refusal)
 drop_refused w directory name r judged choice may =
     let bound = get_name w.kernel.vfs.names (directory, name) in
     let drops = dropping (after_drop w directory name) in
-    unless_refused (not (is_live w.kernel.phase)) refusal.NotReady (found bound (λ (b : Binding). accepted))
+    unless_refused (not (is_live w.kernel.phase)) refusal.NotReady (found bound (λ (b : Dentry). accepted))
     (found bound drops) r judged
-    (λ e. found_refused bound (λ (b : Binding). accepted) drops r e (λ b. not_refused (drops b) r))
+    (λ e. found_refused bound (λ (b : Dentry). accepted) drops r e (λ b. not_refused (drops b) r))
 
 pub evict_refused : (w : World) (node : ℕ) (r : Refusal) → evict_refusal w.kernel node ≡ Some r
     → IsRefused w (event.evict node) r

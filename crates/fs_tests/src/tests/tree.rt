@@ -7,7 +7,7 @@ use std::alloc::{Allocator, Global};
 mod growths;
 mod table;
 
-/// An operation, with the names as text. Files are named by their births.
+/// An operation, with the names as text. Files are named by their inodes.
 #[derive(Clone, Copy)]
 enum Operation {
     Lookup(u64, &'static str),
@@ -30,7 +30,7 @@ enum Answer {
     Done,
 }
 
-/// The serial, the file, the kind and the bytes of a name that is listed.
+/// The cookie, the file, the kind and the bytes of a name that is listed.
 type Listed = (u64, u64, Kind, &'static str);
 
 #[derive(Clone, Copy)]
@@ -50,7 +50,7 @@ enum Row {
     Is(u64, [bool; 3], usize),
     /// Whether two names lead to one file.
     AreSame(u64, &'static str, u64, &'static str, bool),
-    /// The next birth, and how many births and serials are left.
+    /// The next inode, and how many inodes and cookies are left.
     Numbers(u64, u64, u64),
     Discard(u64),
     DiscardNameless,
@@ -75,7 +75,7 @@ fn perform<A: Allocator + Copy>(
     tree: &mut Tree<A>,
     operation: Operation,
 ) -> Result<Answer, TreeError> {
-    if tree.births_left() == 0 || tree.serials_left() == 0 {
+    if tree.inodes_left() == 0 || tree.cookies_left() == 0 {
         return Err(TreeError::Invalid);
     }
     match operation {
@@ -97,7 +97,7 @@ fn move_name<A: Allocator + Copy>(
     tree: &mut Tree<A>,
     operation: Operation,
 ) -> Result<Answer, TreeError> {
-    if tree.serials_left() == 0 {
+    if tree.cookies_left() == 0 {
         return Err(TreeError::Invalid);
     }
     match operation {
@@ -124,7 +124,7 @@ fn gives<A: Allocator + Copy>(
 }
 
 fn is_name(record: &Record<'_>, name: &Listed) -> bool {
-    record.serial == name.0
+    record.cookie == name.0
         && record.file == name.1
         && record.kind == name.2
         && record.name == name.3.as_bytes()
@@ -192,7 +192,7 @@ fn are_same<A: Allocator + Copy>(
 /// Gives a file all names but one that a tree can have. Says whether none was refused.
 fn links_often<A: Allocator + Copy>(tree: &mut Tree<A>, file: u64) -> bool {
     for n in 1..4096u32 {
-        if tree.serials_left() == 0 || tree.link(file, 0, &n.to_le_bytes()).is_err() {
+        if tree.cookies_left() == 0 || tree.link(file, 0, &n.to_le_bytes()).is_err() {
             return false;
         }
     }
@@ -228,10 +228,10 @@ fn sees<A: Allocator + Copy>(tree: &Tree<A>, row: Row) -> bool {
         Row::AreSame(directory, name, other_directory, other, wanted) => {
             are_same(tree, directory, name, other_directory, other) == wanted
         }
-        Row::Numbers(birth, births, serials) => {
-            tree.next_birth() == birth
-                && tree.births_left() == births
-                && tree.serials_left() == serials
+        Row::Numbers(inode, inodes, cookies) => {
+            tree.next_inode() == inode
+                && tree.inodes_left() == inodes
+                && tree.cookies_left() == cookies
         }
         _ => false,
     }

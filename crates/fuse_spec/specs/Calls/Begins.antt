@@ -13,8 +13,8 @@ use Rattle.fuse_spec.specs.Calls.Calls as call
 pub data Beginning (F O : Type 0) : Type 0 where
   faulty : (errno : ℕ) → Beginning F O
   sets_out : (words : List Name) (plan : WalkPlan F) → Beginning F O
-  uses : (handle : ℕ) (operation : Operation F O) → Beginning F O
-  closes : (handle : ℕ) (opened : O) → Beginning F O
+  uses : (open_call : ℕ) (operation : Operation F O) → Beginning F O
+  closes : (open_call : ℕ) (opened : O) → Beginning F O
 
 -- A path whose words are all walked, or its fault.
 abbrev pub whole_path : {F O : Type 0} → List ℕ → (List Name → Beginning F O) → Beginning F O
@@ -28,14 +28,14 @@ parent_path path then = whole_path path (λ words. elim
 -- A read or write of an open file: EBADF for a number that isn't open, and EINVAL past the largest offset or length.
 -- (this project's rule)
 abbrev pub using : {F O : Type 0} → ℕ → Option O → (offset size : ℕ) → (O → Operation F O) → Beginning F O
-using handle None offset size then = faulty ebadf
-using handle (Some opened) offset size then = cond (nat_lt max_file offset || nat_lt max_transfer size) (faulty einval)
-    (uses handle (then opened))
+using open_call None offset size then = faulty ebadf
+using open_call (Some opened) offset size then = cond (nat_lt max_file offset || nat_lt max_transfer size) (faulty einval)
+    (uses open_call (then opened))
 
 -- A close of an open file, or EBADF. (POSIX, close)
 abbrev pub closing : {F O : Type 0} → ℕ → Option O → Beginning F O
-closing handle None = faulty ebadf
-closing handle (Some opened) = closes handle opened
+closing open_call None = faulty ebadf
+closing open_call (Some opened) = closes open_call opened
 
 -- How each call begins; of two paths the first is judged first. (this project's rule)
 abbrev pub beginning : {F O : Type 0} → Map O → Call → Beginning F O
@@ -53,8 +53,8 @@ beginning opens (call.rename old new) = parent_path old
     (λ words from. parent_path new (λ more to. sets_out words (rename from more to)))
 beginning opens (call.link old new) = whole_path old
     (λ words. parent_path new (λ more name. sets_out words (link more name)))
-beginning opens (call.read handle offset size) =
-    using handle (get opens handle) offset size (λ opened. op.read opened offset size)
-beginning opens (call.write handle offset bytes) =
-    using handle (get opens handle) offset (length bytes) (λ opened. op.write opened offset bytes)
-beginning opens (call.close handle) = closing handle (get opens handle)
+beginning opens (call.read open_call offset size) =
+    using open_call (get opens open_call) offset size (λ opened. op.read opened offset size)
+beginning opens (call.write open_call offset bytes) =
+    using open_call (get opens open_call) offset (length bytes) (λ opened. op.write opened offset bytes)
+beginning opens (call.close open_call) = closing open_call (get opens open_call)

@@ -1,7 +1,7 @@
 -- A reply reaches the call that asked: names come into force or leave it, files are open, the call is answered or walks
 -- on.
 use Rattle.std.specs.Prelude.{ℕ, ◌+◌, List, [], ◌∷◌, Option, Some, None, map}
-use Rattle.fuse_spec.specs.declared.Binding.{Binding}
+use Rattle.fuse_spec.specs.declared.Dentry.{Dentry}
 use Rattle.fuse_spec.specs.Values.Maps.{NameMap, put_name}
 use Rattle.fuse_spec.specs.Values.Numbers.{enoent, eio}
 use Rattle.fuse_spec.specs.Files.Operations.{Operation, getattr, mkdir, create, unlink, rmdir, rename, link, opening, readdir, readdirplus, read, write, DirentPlus, listed_by, Reply, found, missing, created, opened, attributes, listed, listed_plus, content, written, done, failed}
@@ -10,12 +10,12 @@ use Rattle.fuse_spec.specs.Calls.Vfs.{CallState, walking, doing, using, Vfs, Adv
 
 -- The next three put the names of a list in force, in order, each that has its file. (linux/fuse.h, struct
 -- fuse_direntplus)
-abbrev pub name_listed : (now directory : ℕ) → NameMap Binding → DirentPlus ℕ → Option ℕ → NameMap Binding
+abbrev pub name_listed : (now directory : ℕ) → NameMap Dentry → DirentPlus ℕ → Option ℕ → NameMap Dentry
 name_listed now directory names pair None = names
 name_listed now directory names pair (Some file) =
     put_name names (directory, pair.dirent.name) (record { target = Some file; until = now + pair.valid })
 
-abbrev pub names_listed : (now directory : ℕ) → NameMap Binding → List (DirentPlus ℕ) → NameMap Binding
+abbrev pub names_listed : (now directory : ℕ) → NameMap Dentry → List (DirentPlus ℕ) → NameMap Dentry
 names_listed now directory names [] = names
 names_listed now directory names (pair ∷ pairs) = names_listed now directory
     (name_listed now directory names pair (listed_by pair)) pairs
@@ -55,4 +55,4 @@ call_replied c call (walking d word words plan) (missing valid) =
 call_replied c call (walking d word words plan) (failed errno) = no_more (answered c call (answer.failed errno))
 call_replied c call (walking d word words plan) reply = no_more (answered c call (answer.failed eio))
 call_replied c call (doing operation) reply = no_more (operation_replied c call operation reply)
-call_replied c call (using handle operation) reply = no_more (operation_replied c call operation reply)
+call_replied c call (using open_call operation) reply = no_more (operation_replied c call operation reply)

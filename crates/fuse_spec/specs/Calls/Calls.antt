@@ -12,9 +12,9 @@ pub data Call : Type 0 where
   mkdir : (path : List ℕ) → Call
   create : (path : List ℕ) → Call
   opening : (path : List ℕ) → Call
-  read : (handle offset size : ℕ) → Call
-  write : (handle offset : ℕ) (bytes : List ℕ) → Call
-  close : (handle : ℕ) → Call
+  read : (open_call offset size : ℕ) → Call
+  write : (open_call offset : ℕ) (bytes : List ℕ) → Call
+  close : (open_call : ℕ) → Call
   unlink : (path : List ℕ) → Call
   rmdir : (path : List ℕ) → Call
   rename : (old new : List ℕ) → Call

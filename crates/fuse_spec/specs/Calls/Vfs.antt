@@ -1,7 +1,7 @@
 -- The side of the system calls, which the kernel and the plain world keep alike: the calls, the names in force and the
--- open files. A file is known by a number (the kernel's node id, the plain world's birth), an open file as O says.
+-- open files. A file is known by a number (the kernel's node id, the plain world's inode), an open file as O says.
 use Rattle.std.specs.Prelude.{ℕ, ◌+◌, Bool, cond, List, [], ◌∷◌, Option, Some, None, nat_lt}
-use Rattle.fuse_spec.specs.declared.Binding.{Binding}
+use Rattle.fuse_spec.specs.declared.Dentry.{Dentry}
 use Rattle.fuse_spec.specs.Values.Maps.{Map, put, remove, NameMap, get_name, put_name, remove_name}
 use Rattle.fuse_spec.specs.Values.Numbers.{enoent, econnaborted, enotconn}
 use Rattle.fuse_spec.specs.Calls.Paths.{Name}
@@ -15,19 +15,19 @@ use Rattle.fuse_spec.specs.Calls.Begins.{Beginning, faulty, sets_out, uses, clos
 pub data CallState (O : Type 0) : Type 0 where
   walking : (directory : ℕ) (word : Name) (words : List Name) (plan : WalkPlan ℕ) → CallState O
   doing : (operation : Operation ℕ O) → CallState O
-  using : (handle : ℕ) (operation : Operation ℕ O) → CallState O
+  using : (open_call : ℕ) (operation : Operation ℕ O) → CallState O
 
 -- The operation that an unanswered call has asked; for a word of its path it is LOOKUP. (Linux VFS)
 abbrev pub asked : {O : Type 0} → CallState O → Operation ℕ O
 asked (walking directory word words plan) = lookup directory word
 asked (doing operation) = operation
-asked (using handle operation) = operation
+asked (using open_call operation) = operation
 
 -- The unanswered calls, the names in force, the open files by the numbers of the calls that opened them, the answers
 -- that are not yet collected, the next call's number, the time in milliseconds, and how the root is named.
 pub record Vfs (O : Type 0) : Type 0 where
   pub calls : Map (CallState O)
-  pub names : NameMap Binding
+  pub names : NameMap Dentry
   pub opens : Map O
   pub answers : Map Answer
   pub next_call : ℕ
@@ -53,7 +53,7 @@ asking c call state = record { vfs = record c { calls = put c.calls call state }
 
 -- What a name in force leads to while the time is before its end; after that it has to be looked up anew.
 -- (linux/fuse.h, struct fuse_entry_out)
-abbrev pub valid_at : ℕ → Option Binding → Option (Option ℕ)
+abbrev pub valid_at : ℕ → Option Dentry → Option (Option ℕ)
 valid_at now None = None
 valid_at now (Some bound) = cond (nat_lt now bound.until) (Some bound.target) None
 
@@ -90,9 +90,9 @@ walks_on c call file words plan = after_walk c call (walk (look c) c.root file w
 abbrev pub after_beginning : {O : Type 0} → Vfs O → ℕ → Beginning ℕ O → Advance O
 after_beginning c call (faulty errno) = no_more (answered c call (failed errno))
 after_beginning c call (sets_out words plan) = walks_on c call c.root words plan
-after_beginning c call (uses handle operation) = asking c call (using handle operation)
-after_beginning c call (closes handle opened) = no_more
-    (answered (record c { opens = remove c.opens handle }) call done)
+after_beginning c call (uses open_call operation) = asking c call (using open_call operation)
+after_beginning c call (closes open_call opened) = no_more
+    (answered (record c { opens = remove c.opens open_call }) call done)
 
 -- The next call's number is drawn.
 abbrev pub numbered : {O : Type 0} → Vfs O → Vfs O

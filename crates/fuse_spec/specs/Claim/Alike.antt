@@ -17,13 +17,13 @@ use Rattle.fuse_spec.specs.Server.Nodes.{NodeTable, HandleTable, is_open}
 use Rattle.fuse_spec.specs.Server.Server.{Server, HeldRequest, Kept, is_file_held}
 use Rattle.fuse_spec.specs.World.Worlds.{World, Sent}
 use Rattle.fuse_spec.specs.Reference.Plain.{Plain, Ask, Stage, waiting, performed, declined}
-use Rattle.fuse_spec.specs.Claim.Denotes.{Denotes, MeansIn, MeansOpenIn, Names, Opens, StateAlike, BindingAlike}
+use Rattle.fuse_spec.specs.Claim.Denotes.{Denotes, MeansIn, MeansOpenIn, Names, Opens, StateAlike, DentryAlike}
 
 -- The server's tree is the plain tree, less the nameless files that no node and no open number holds.
 pub record TreeAlike (s : Server) (tree : Tree) : Type 0 where
   pub names : s.tree.names ≡ tree.names
-  pub next_birth : s.tree.next_birth ≡ tree.next_birth
-  pub next_serial : s.tree.next_serial ≡ tree.next_serial
+  pub next_inode : s.tree.next_inode ≡ tree.next_inode
+  pub next_cookie : s.tree.next_cookie ≡ tree.next_cookie
   pub files : (file : ℕ) → get s.tree.files file ≡ cond (not (is_nameless tree file) || is_file_held s file)
       (get tree.files file) None
 
@@ -31,10 +31,10 @@ pub record TreeAlike (s : Server) (tree : Tree) : Type 0 where
 -- calls and the answers that aren't collected are the same.
 pub record VfsAlike {O P : Type 0} (R : ℕ → ℕ → Type 0) (S : O → P → Type 0) (c : Vfs O) (d : Vfs P) : Type 0 where
   pub names : (id file : ℕ) (name : List ℕ) → R id file
-      → OptionAlike (BindingAlike R) (get_name c.names (id, name)) (get_name d.names (file, name))
+      → OptionAlike (DentryAlike R) (get_name c.names (id, name)) (get_name d.names (file, name))
   pub names_meant : (id : ℕ) (name : List ℕ) → get_name c.names (id, name) ≢ None → (file : ℕ) × R id file
   pub names_reached : (file : ℕ) (name : List ℕ) → get_name d.names (file, name) ≢ None → (id : ℕ) × R id file
-  pub opens : (handle : ℕ) → OptionAlike S (get c.opens handle) (get d.opens handle)
+  pub opens : (open_call : ℕ) → OptionAlike S (get c.opens open_call) (get d.opens open_call)
   pub calls : (call : ℕ) → OptionAlike (StateAlike R S) (get c.calls call) (get d.calls call)
   pub answers : c.answers ≡ d.answers
   pub next_call : c.next_call ≡ d.next_call

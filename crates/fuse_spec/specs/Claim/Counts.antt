@@ -2,7 +2,7 @@
 use Rattle.std.specs.Prelude.{◌≡◌, ◌≢◌, ◌≤◌, ℕ, ◌+◌, true, cond, List, [], ◌∷◌, ◌++◌, Option, Some, None, nat_eq, sum_by, count_by, All, is_some, MatchOption}
 use Rattle.fuse_spec.specs.Values.Maps.{get, values, get_name}
 use Rattle.fuse_spec.specs.Files.Operations.{Operation, read, write, files_in_reply, opens_in_reply, OptionAlike}
-use Rattle.fuse_spec.specs.declared.Binding.{Binding}
+use Rattle.fuse_spec.specs.declared.Dentry.{Dentry}
 use Rattle.fuse_spec.specs.declared.Opened.{Opened}
 use Rattle.fuse_spec.specs.declared.Entry.{Entry}
 use Rattle.fuse_spec.specs.declared.Counted.{Counted}
@@ -121,9 +121,9 @@ ReleaseMeant w (purpose.Call call) = Unit {0}
 -- entry on the reply link under its own.
 pub record HeldLive (w : World) : Type 0 where
   pub nodes : (id : ℕ) (node : Counted) → get w.kernel.nodes id ≡ Some node → IsMeant w id
-  pub names : (directory : ℕ) (name : List ℕ) (bound : Binding)
+  pub names : (directory : ℕ) (name : List ℕ) (bound : Dentry)
       → get_name w.kernel.vfs.names (directory, name) ≡ Some bound → IsMeant w directory
-  pub targets : (directory : ℕ) (name : List ℕ) (bound : Binding) (id : ℕ)
+  pub targets : (directory : ℕ) (name : List ℕ) (bound : Dentry) (id : ℕ)
       → get_name w.kernel.vfs.names (directory, name) ≡ Some bound → bound.target ≡ Some id → IsMeant w id
   pub calls : All (λ state. All (IsMeant w) (nodes_of_state state)) (values w.kernel.vfs.calls)
   pub opens : All (IsOpenMeant w) (values w.kernel.vfs.opens)

@@ -7,7 +7,7 @@ use Rattle.fuse_spec.specs.Calls.Vfs.{CallState, walking, doing, using}
 use Rattle.fuse_spec.specs.declared.Counted.{Counted}
 use Rattle.fuse_spec.specs.declared.Opened.{Opened}
 use Rattle.fuse_spec.specs.declared.Entry.{Entry}
-use Rattle.fuse_spec.specs.declared.Binding.{Binding}
+use Rattle.fuse_spec.specs.declared.Dentry.{Dentry}
 use Rattle.fuse_spec.specs.World.Worlds.{World}
 use Rattle.fuse_spec.specs.Server.Nodes.{NodeTable, HandleTable, HeldNode, row_of, is_open}
 
@@ -68,9 +68,9 @@ abbrev pub StateAlike : {O P : Type 0} → (ℕ → ℕ → Type 0) → (O → P
 StateAlike R S (walking d word words plan) (walking e word' words' plan') =
     R d e × (word ≡ word') × (words ≡ words') × WalkPlanAlike R plan plan'
 StateAlike R S (doing a) (doing b) = OperationAlike R S a b
-StateAlike R S (using handle a) (using handle' b) = (handle ≡ handle') × OperationAlike R S a b
+StateAlike R S (using open_call a) (using open_call' b) = (open_call ≡ open_call') × OperationAlike R S a b
 StateAlike R S a b = ⊥
 
 -- Two names in force that lead to the same file, or both to none, for as long.
-abbrev pub BindingAlike : (ℕ → ℕ → Type 0) → Binding → Binding → Type 0
-BindingAlike R a b = OptionAlike R a.target b.target × (a.until ≡ b.until)
+abbrev pub DentryAlike : (ℕ → ℕ → Type 0) → Dentry → Dentry → Type 0
+DentryAlike R a b = OptionAlike R a.target b.target × (a.until ≡ b.until)

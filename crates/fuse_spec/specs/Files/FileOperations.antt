@@ -5,9 +5,9 @@ use Rattle.fuse_spec.specs.Values.Maps.{get, put}
 use Rattle.fuse_spec.specs.Values.Numbers.{eperm, enoent, eexist, enotdir, eisdir, einval, efbig, enospc, enotempty, max_names, max_file, max_transfer}
 use Rattle.fuse_spec.specs.Calls.Paths.{Name}
 use Rattle.fuse_spec.specs.Files.Operations.{Operation, lookup, getattr, mkdir, create, unlink, rmdir, rename, link, opening, readdir, readdirplus, read, write, Reply, found, missing, created, opened, attributes, listed, listed_plus, content, written, done, failed}
-use Rattle.fuse_spec.specs.Files.Trees.{Tree, a_directory, a_file, file_at, is_directory, is_nameless, is_empty, is_below, attributes_of, with_name, without_name, with_birth, overwritten, file_bytes, fitting, records_after, fitting_pairs, pairs_after}
+use Rattle.fuse_spec.specs.Files.Trees.{Tree, a_directory, a_file, file_at, is_directory, is_nameless, is_empty, is_below, attributes_of, with_name, without_name, with_inode, overwritten, file_bytes, fitting, records_after, fitting_pairs, pairs_after}
 
--- An operation on files: a file and an open file are both named by the file's birth.
+-- An operation on files: a file and an open file are both named by the file's inode.
 abbrev pub FileOperation : Type 0
 FileOperation = Operation ℕ ℕ
 
@@ -109,8 +109,8 @@ lookup_reply valid (Some file) = found file valid.found_ms
 abbrev pub reply_unrefused : Validity → Tree → FileOperation → Reply ℕ ℕ
 reply_unrefused valid tree (lookup d name) = lookup_reply valid (file_at tree d name)
 reply_unrefused valid tree (getattr file) = attributes (attributes_of tree file)
-reply_unrefused valid tree (mkdir d name) = found tree.next_birth valid.found_ms
-reply_unrefused valid tree (create d name) = created tree.next_birth valid.found_ms tree.next_birth
+reply_unrefused valid tree (mkdir d name) = found tree.next_inode valid.found_ms
+reply_unrefused valid tree (create d name) = created tree.next_inode valid.found_ms tree.next_inode
 reply_unrefused valid tree (unlink d name) = done
 reply_unrefused valid tree (rmdir d name) = done
 reply_unrefused valid tree (link file d name) = found file valid.found_ms
@@ -133,8 +133,8 @@ renamed tree d old e new (Some file) = with_name (without_name (without_name tre
 -- The tree after an operation that nothing refuses; a rename onto another name of the same file changes nothing. (this
 -- project's rule)
 abbrev pub tree_unrefused : Tree → FileOperation → Tree
-tree_unrefused tree (mkdir d name) = with_birth tree d name a_directory
-tree_unrefused tree (create d name) = with_birth tree d name (a_file [])
+tree_unrefused tree (mkdir d name) = with_inode tree d name a_directory
+tree_unrefused tree (create d name) = with_inode tree d name (a_file [])
 tree_unrefused tree (unlink d name) = without_name tree d name
 tree_unrefused tree (rmdir d name) = without_name tree d name
 tree_unrefused tree (link file d name) = with_name tree d name file

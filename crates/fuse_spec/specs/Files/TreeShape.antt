@@ -26,13 +26,13 @@ pub record IsInTree (tree : Tree) (n : Named) : Type 0 where
   pub not_root : n.file ≢ 0
 
 -- The root is a directory, a directory has one name at most, each name stands, no two names stand at one place, and no
--- file has a birth from the next on.
+-- file has a inode from the next on.
 pub record IsShaped (tree : Tree) : Type 0 where
   pub root : is_directory tree 0 ≡ true
   pub one_name : (file : ℕ) → is_directory tree file ≡ true → names_leading_to tree file ≤ 1
   pub names : All (IsInTree tree) tree.names
   pub once : (directory : ℕ) (name : Name) → count_by (is_at directory name) tree.names ≤ 1
-  pub unborn : (file : ℕ) → tree.next_birth ≤ file → get tree.files file ≡ None
+  pub unborn : (file : ℕ) → tree.next_inode ≤ file → get tree.files file ≡ None
 
 -- What is written is a regular file. The operations do not judge that: a file that is open for writing is regular.
 -- (this project's rule)

@@ -1,4 +1,4 @@
--- The file tree: files known by their birth numbers, and the names that lead to them.
+-- The file tree: files known by their inode numbers, and the names that lead to them.
 use Rattle.std.specs.Prelude.{ℕ, zero, suc, map, ◌+◌, ◌-◌, ◌*◌, ◌/◌, Bool, true, false, ◌&&◌, cond, not, List, [], ◌∷◌, ◌++◌, Option, Some, None, length, nat_eq, nat_lt, nat_le, filter, find, count_by, option_map, replicate, take, drop}
 use Rattle.std.specs.Cmp.Lexicographic.{pointwise}
 use Rattle.fuse_spec.specs.Values.Maps.{Map, get, put}
@@ -13,20 +13,20 @@ pub data Content : Type 0 where
   a_directory : Content
   a_file : (bytes : List ℕ) → Content
 
--- A name of a file in a directory, with its serial; serials rise with each name that is made. (this project's rule)
+-- A name of a file in a directory, with its cookie; cookies rise with each name that is made. (this project's rule)
 pub record Named : Type 0 where
   pub directory : ℕ
   pub name : Name
   pub file : ℕ
-  pub serial : ℕ
+  pub cookie : ℕ
 
--- The file tree: the files by birth, of which the root is 0, the names in rising serial, and the next birth and serial.
+-- The file tree: the files by inode, of which the root is 0, the names in rising cookie, and the next inode and cookie.
 -- (this project's rule)
 pub record Tree : Type 0 where
   pub files : Map Content
   pub names : List Named
-  pub next_birth : ℕ
-  pub next_serial : ℕ
+  pub next_inode : ℕ
+  pub next_cookie : ℕ
 
 -- Whether two names are the same bytes. (POSIX, pathname)
 abbrev pub same_name : Name → Name → Bool
@@ -69,7 +69,7 @@ links tree file = cond (nat_eq file 0) 1 (count_by (λ n. nat_eq n.file file) tr
 abbrev pub is_nameless : Tree → ℕ → Bool
 is_nameless tree file = nat_eq (links tree file) 0
 
--- The names in a directory, in rising serial.
+-- The names in a directory, in rising cookie.
 abbrev pub directory_names : Tree → ℕ → List Named
 directory_names tree dir = filter (λ n. nat_eq n.directory dir) tree.names
 
@@ -88,7 +88,7 @@ is_within (suc steps) names top dir =
 abbrev pub is_below : Tree → ℕ → ℕ → Bool
 is_below tree top dir = is_within (length tree.names) tree.names top dir
 
--- The attributes of a file: its inode number is its birth and 1, its size the number of its bytes, its link count the
+-- The attributes of a file: its inode number is its inode and 1, its size the number of its bytes, its link count the
 -- number of its names. (this project's rule)
 abbrev pub attributes_of : Tree → ℕ → Attributes
 attributes_of tree file =
@@ -99,12 +99,12 @@ attributes_of tree file =
       nlink = links tree file;
     }
 
--- The tree with one more name, under the next serial.
+-- The tree with one more name, under the next cookie.
 abbrev pub with_name : Tree → ℕ → Name → ℕ → Tree
 with_name tree dir name file =
     record tree {
-      names = tree.names ++ record { directory = dir; name = name; file = file; serial = tree.next_serial } ∷ [];
-      next_serial = tree.next_serial + 1;
+      names = tree.names ++ record { directory = dir; name = name; file = file; cookie = tree.next_cookie } ∷ [];
+      next_cookie = tree.next_cookie + 1;
     }
 
 -- The tree without a name; its file stays. (POSIX, unlink)
@@ -112,12 +112,12 @@ abbrev pub without_name : Tree → ℕ → Name → Tree
 without_name tree dir name = record tree { names = filter (λ n. not (is_at dir name n)) tree.names }
 
 -- The tree with a new file under a new name.
-abbrev pub with_birth : Tree → ℕ → Name → Content → Tree
-with_birth tree dir name content =
+abbrev pub with_inode : Tree → ℕ → Name → Content → Tree
+with_inode tree dir name content =
     with_name (record tree {
-      files = put tree.files tree.next_birth content;
-      next_birth = tree.next_birth + 1;
-    }) dir name tree.next_birth
+      files = put tree.files tree.next_inode content;
+      next_inode = tree.next_inode + 1;
+    }) dir name tree.next_inode
 
 -- The bytes with others written over them from an offset on; a gap is zeros. (POSIX, write)
 abbrev pub overwritten : List ℕ → ℕ → List ℕ → List ℕ
@@ -129,20 +129,20 @@ overwritten old offset (b ∷ bytes) =
 abbrev pub record_length : Dirent → ℕ
 record_length r = (31 + length r.name) / 8 * 8
 
--- A name as READDIR lists it: the inode number, the serial as the offset from which to read on, the kind and the name.
+-- A name as READDIR lists it: the inode number, the cookie as the offset from which to read on, the kind and the name.
 -- (this project's rule)
 abbrev pub record_of : Tree → Named → Dirent
-record_of tree n = record { ino = n.file + 1; offset = n.serial; kind = kind_of (get tree.files n.file); name = n.name }
+record_of tree n = record { ino = n.file + 1; offset = n.cookie; kind = kind_of (get tree.files n.file); name = n.name }
 
 -- As many of the records as fit so many bytes, from the first on. (libfuse, low-level: readdir)
 abbrev pub fitting : ℕ → List Dirent → List Dirent
 fitting room [] = []
 fitting room (r ∷ records) = cond (nat_le (record_length r) room) (r ∷ fitting (room - record_length r) records) []
 
--- The records of the names in a directory whose serial is over `after`, which is the offset from which to read on.
+-- The records of the names in a directory whose cookie is over `after`, which is the offset from which to read on.
 -- (libfuse, low-level: readdir)
 abbrev pub records_after : Tree → ℕ → ℕ → List Dirent
-records_after tree dir after = map (record_of tree) (filter (λ n. nat_lt after n.serial) (directory_names tree dir))
+records_after tree dir after = map (record_of tree) (filter (λ n. nat_lt after n.cookie) (directory_names tree dir))
 
 -- How long a name of READDIRPLUS is: an entry of 128 bytes, and the record. (linux/fuse.h, struct fuse_direntplus)
 abbrev pub pair_length : {F : Type 0} → DirentPlus F → ℕ
@@ -160,4 +160,4 @@ fitting_pairs room (r ∷ pairs) = cond (nat_le (pair_length r) room) (r ∷ fit
 
 -- The same of the names in a directory as READDIRPLUS lists them. (libfuse, low-level: readdirplus)
 abbrev pub pairs_after : (valid : ℕ) → Tree → ℕ → ℕ → List (DirentPlus ℕ)
-pairs_after valid tree dir after = map (pair_of valid tree) (filter (λ n. nat_lt after n.serial) (directory_names tree dir))
+pairs_after valid tree dir after = map (pair_of valid tree) (filter (λ n. nat_lt after n.cookie) (directory_names tree dir))

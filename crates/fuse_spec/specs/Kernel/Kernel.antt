@@ -4,7 +4,7 @@ use Rattle.std.specs.List.{list_any}
 use Rattle.fuse_spec.specs.declared.Phase.{Phase}
 use Rattle.fuse_spec.specs.declared.Phase.TheVariants.{Down, Starting, Ready, Aborted}
 use Rattle.fuse_spec.specs.declared.Counted.{Counted}
-use Rattle.fuse_spec.specs.declared.Binding.{Binding}
+use Rattle.fuse_spec.specs.declared.Dentry.{Dentry}
 use Rattle.fuse_spec.specs.declared.Opened.{Opened}
 use Rattle.fuse_spec.specs.declared.Purpose.{Purpose}
 use Rattle.fuse_spec.specs.declared.Purpose.TheVariants as purpose
@@ -92,43 +92,43 @@ advanced k call next = asking_for (record k { vfs = next.vfs }) call next.operat
 
 -- Whether a call waits for a read or write of the open file of this number. (libfuse, low-level: release)
 abbrev pub is_using : ℕ → CallState Opened → Bool
-is_using handle (walking directory word words plan) = false
-is_using handle (doing operation) = false
-is_using handle (using other operation) = nat_eq other handle
+is_using open_call (walking directory word words plan) = false
+is_using open_call (doing operation) = false
+is_using open_call (using other operation) = nat_eq other open_call
 
 -- Whether a read or write of the open file is unanswered. (libfuse, low-level: release)
 abbrev pub is_used : Kernel → ℕ → Bool
-is_used k handle = list_any (is_using handle) (values k.vfs.calls)
+is_used k open_call = list_any (is_using open_call) (values k.vfs.calls)
 
 -- A closed file is released once no read or write of it is unanswered: its RELEASE is queued. (libfuse, low-level:
 -- release)
 abbrev pub released : Kernel → ℕ → Option Opened → Kernel
-released k handle None = k
-released k handle (Some opened) =
+released k open_call None = k
+released k open_call (Some opened) =
     record k {
-      closing = cond (is_used k handle) k.closing (remove k.closing handle);
-      queues = cond (is_used k handle) k.queues (after_enqueue k.queues (purpose.Release opened));
+      closing = cond (is_used k open_call) k.closing (remove k.closing open_call);
+      queues = cond (is_used k open_call) k.queues (after_enqueue k.queues (purpose.Release opened));
     }
 
 -- The same for the closed file of this number, if there is one. (libfuse, low-level: release)
 abbrev pub released_if_idle : Kernel → ℕ → Kernel
-released_if_idle k handle = released k handle (get k.closing handle)
+released_if_idle k open_call = released k open_call (get k.closing open_call)
 
 -- After the call that stood here is answered, the file that it read or wrote may be released. (libfuse, low-level:
 -- release)
 abbrev pub after_use : Kernel → CallState Opened → Kernel
 after_use k (walking directory word words plan) = k
 after_use k (doing operation) = k
-after_use k (using handle operation) = released_if_idle k handle
+after_use k (using open_call operation) = released_if_idle k open_call
 
 -- An open file is closed: it is released at once, or after its last read or write. (libfuse, low-level: release)
 abbrev pub closed : Kernel → ℕ → Option Opened → Kernel
-closed k handle None = k
-closed k handle (Some opened) = released_if_idle (record k { closing = put k.closing handle opened }) handle
+closed k open_call None = k
+closed k open_call (Some opened) = released_if_idle (record k { closing = put k.closing open_call opened }) open_call
 
 -- Which open file a call closes, if it closes one. (POSIX, close)
 abbrev pub closed_by : Map Opened → Call → Option (ℕ × Opened)
-closed_by opens (call.close handle) = option_map (λ opened. (handle, opened)) (get opens handle)
+closed_by opens (call.close open_call) = option_map (λ opened. (open_call, opened)) (get opens open_call)
 closed_by opens other = None
 
 -- The kernel once that file is closed, or as it was where the call closes none. (libfuse, low-level: release)
@@ -210,7 +210,7 @@ call_signalled k call state fatal = signalled_at k call state fatal (request_of 
 abbrev pub nodes_of_state : CallState Opened → List ℕ
 nodes_of_state (walking directory word words plan) = directory ∷ files_of_plan plan
 nodes_of_state (doing operation) = files_in opened_nodes operation
-nodes_of_state (using handle operation) = files_in opened_nodes operation
+nodes_of_state (using open_call operation) = files_in opened_nodes operation
 
 -- Whether the request is a RELEASE of a file of this node. (linux/fuse.h, struct fuse_release_in)
 abbrev pub is_released_by : ℕ → Purpose → Bool
@@ -232,7 +232,7 @@ leads_to node (Some target) = nat_eq target node
 
 -- Whether a name in force stands in the node or leads to it, valid or not. (this project's rule)
 abbrev pub is_bound : Kernel → ℕ → Bool
-is_bound k node = list_any (λ (e : (ℕ × List ℕ) × Binding). nat_eq e.0.0 node || leads_to node e.1.target) k.vfs.names
+is_bound k node = list_any (λ (e : (ℕ × List ℕ) × Dentry). nat_eq e.0.0 node || leads_to node e.1.target) k.vfs.names
 
 -- The node is given up, and its whole count is to be forgotten. (libfuse, low-level: forget)
 abbrev pub evicted : Kernel → ℕ → Counted → Kernel

@@ -9,7 +9,7 @@ use Rattle.fuse_spec.specs.Calls.Paths.{Name}
 use Rattle.fuse_spec.specs.Calls.Vfs.{CallState}
 use Rattle.fuse_spec.specs.declared.Phase.{Phase}
 use Rattle.fuse_spec.specs.declared.Phase.TheVariants.{Down, Starting, Ready, Aborted}
-use Rattle.fuse_spec.specs.declared.Binding.{Binding}
+use Rattle.fuse_spec.specs.declared.Dentry.{Dentry}
 use Rattle.fuse_spec.specs.declared.Counted.{Counted}
 use Rattle.fuse_spec.specs.declared.Opened.{Opened}
 use Rattle.fuse_spec.specs.declared.Purpose.{Purpose}
@@ -112,7 +112,7 @@ module _ {A : Type 0} (k : Kernel) where
   to_signal call next = when_live (found (get k.vfs.calls call) next)
 
   -- A name in force that is to be dropped.
-  abbrev pub to_drop : ℕ → Name → (Binding → Result A Refusal) → Result A Refusal
+  abbrev pub to_drop : ℕ → Name → (Dentry → Result A Refusal) → Result A Refusal
   to_drop directory name next = when_live (found (get_name k.vfs.names (directory, name)) next)
 
   -- A counted node that is to be given up, unless it is in use or a name in force names it.

@@ -116,7 +116,7 @@ plain_mounted p validity minor = record p {
 abbrev pub first_plain : Plain
 first_plain =
     record {
-      tree = record { files = (0, a_directory) ∷ []; names = []; next_birth = 1; next_serial = 1 };
+      tree = record { files = (0, a_directory) ∷ []; names = []; next_inode = 1; next_cookie = 1 };
       vfs = record { calls = []; names = []; opens = []; answers = []; next_call = 1; clock = 0; root = 0 };
       asks = [];
       validity = record { found_ms = 0; missing_ms = 0 };

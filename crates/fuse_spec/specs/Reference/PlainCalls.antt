@@ -2,7 +2,7 @@
 -- text of a path is read.
 use Rattle.std.specs.Prelude.{◌≡◌, ◌⊎◌, ◌≤◌, ◌<◌, ℕ, ◌+◌, Bool, true, false, List, [], ◌∷◌, ◌++◌, Option, Some, None, Ok, Err, length, map, sum_by}
 use Rattle.fuse_spec.specs.declared.Attributes.{Attributes}
-use Rattle.fuse_spec.specs.declared.Binding.{Binding}
+use Rattle.fuse_spec.specs.declared.Dentry.{Dentry}
 use Rattle.fuse_spec.specs.Values.Maps.{Map, get, put, remove, get_name, put_name, remove_name}
 use Rattle.fuse_spec.specs.Values.Numbers.{ebadf, einval, enoent, eio, max_file, max_transfer}
 use Rattle.fuse_spec.specs.Calls.Paths.{Name, is_dots, path_words_of}
@@ -20,14 +20,14 @@ use Rattle.fuse_spec.specs.Calls.Vfs.{CallState, walking, doing, using, Vfs}
 
 -- While the time is before its end, a name in force leads to a file, or to none. (linux/fuse.h, struct fuse_entry_out)
 pub record LeadsTo (c : Vfs ℕ) (directory : ℕ) (name : Name) (target : Option ℕ) : Type 0 where
-  pub bound : Binding
+  pub bound : Dentry
   pub there : get_name c.names (directory, name) ≡ Some bound
   pub in_time : c.clock < bound.until
   pub target_is : bound.target ≡ target
 
 -- No name is in force there, or its time is over. (linux/fuse.h, struct fuse_entry_out)
 abbrev pub IsNotInForce : Vfs ℕ → ℕ → Name → Type 0
-IsNotInForce c directory name = (bound : Binding) → get_name c.names (directory, name) ≡ Some bound
+IsNotInForce c directory name = (bound : Dentry) → get_name c.names (directory, name) ≡ Some bound
     → bound.until ≤ c.clock
 
 -- A name comes into force for so many milliseconds from now on. (linux/fuse.h, struct fuse_entry_out)
@@ -139,14 +139,14 @@ pub data Fails (opens : Map ℕ) : Call → ℕ → Type 0 where
   of_linked : (old new : List ℕ) (errno : ℕ) → path_words_of old ≡ Err errno → Fails opens (call.link old new) errno
   of_link : (old new : List ℕ) (words : List Name) (errno : ℕ) → path_words_of old ≡ Ok words → HasNoName new errno
       → Fails opens (call.link old new) errno
-  read_of_none : (handle offset size : ℕ) → get opens handle ≡ None → Fails opens (call.read handle offset size) ebadf
-  read_too_far : (handle offset size file : ℕ) → get opens handle ≡ Some file
-      → (max_file < offset) ⊎ (max_transfer < size) → Fails opens (call.read handle offset size) einval
-  write_to_none : (handle offset : ℕ) (bytes : List ℕ) → get opens handle ≡ None
-      → Fails opens (call.write handle offset bytes) ebadf
-  write_too_far : (handle offset file : ℕ) (bytes : List ℕ) → get opens handle ≡ Some file
-      → (max_file < offset) ⊎ (max_transfer < length bytes) → Fails opens (call.write handle offset bytes) einval
-  close_of_none : (handle : ℕ) → get opens handle ≡ None → Fails opens (call.close handle) ebadf
+  read_of_none : (open_call offset size : ℕ) → get opens open_call ≡ None → Fails opens (call.read open_call offset size) ebadf
+  read_too_far : (open_call offset size file : ℕ) → get opens open_call ≡ Some file
+      → (max_file < offset) ⊎ (max_transfer < size) → Fails opens (call.read open_call offset size) einval
+  write_to_none : (open_call offset : ℕ) (bytes : List ℕ) → get opens open_call ≡ None
+      → Fails opens (call.write open_call offset bytes) ebadf
+  write_too_far : (open_call offset file : ℕ) (bytes : List ℕ) → get opens open_call ≡ Some file
+      → (max_file < offset) ⊎ (max_transfer < length bytes) → Fails opens (call.write open_call offset bytes) einval
+  close_of_none : (open_call : ℕ) → get opens open_call ≡ None → Fails opens (call.close open_call) ebadf
 
 -- A call begins under a number: it fails at once, sets out from the root, asks of an open file, or closes one. (Linux
 -- VFS)
@@ -155,16 +155,16 @@ pub data Begins (c : Vfs ℕ) (number : ℕ) : Call → Vfs ℕ → Option (Oper
       → Begins c number x (is_answered c number (answer.failed errno)) None
   sets_out : (x : Call) (words : List Name) (plan : WalkPlan ℕ) (after : Vfs ℕ) (asked : Option (Operation ℕ ℕ))
       → TakesWalk x words plan → GoesOn c number c.root words plan after asked → Begins c number x after asked
-  reads : (handle offset size file : ℕ) → get c.opens handle ≡ Some file → offset ≤ max_file → size ≤ max_transfer
-      → Begins c number (call.read handle offset size) (is_waiting c number (using handle (op.read file offset size)))
+  reads : (open_call offset size file : ℕ) → get c.opens open_call ≡ Some file → offset ≤ max_file → size ≤ max_transfer
+      → Begins c number (call.read open_call offset size) (is_waiting c number (using open_call (op.read file offset size)))
       (Some (op.read file offset size))
-  writes : (handle offset : ℕ) (bytes : List ℕ) (file : ℕ) → get c.opens handle ≡ Some file → offset ≤ max_file
+  writes : (open_call offset : ℕ) (bytes : List ℕ) (file : ℕ) → get c.opens open_call ≡ Some file → offset ≤ max_file
       → length bytes ≤ max_transfer
-      → Begins c number (call.write handle offset bytes)
-      (is_waiting c number (using handle (op.write file offset bytes))) (Some (op.write file offset bytes))
-  closes : (handle file : ℕ) → get c.opens handle ≡ Some file
-      → Begins c number (call.close handle) (is_answered
-      (record c { opens = remove c.opens handle }) number answer.done) None
+      → Begins c number (call.write open_call offset bytes)
+      (is_waiting c number (using open_call (op.write file offset bytes))) (Some (op.write file offset bytes))
+  closes : (open_call file : ℕ) → get c.opens open_call ≡ Some file
+      → Begins c number (call.close open_call) (is_answered
+      (record c { opens = remove c.opens open_call }) number answer.done) None
 
 -- ---- a reply reaches a call
 
@@ -288,5 +288,5 @@ pub data ReceivesReply (c : Vfs ℕ) (number : ℕ) : CallState ℕ → Reply �
       (is_answered c number (answer.failed eio)) None
   of_operation : (operation : Operation ℕ ℕ) (reply : Reply ℕ ℕ) (after : Vfs ℕ)
       → Answers c number operation reply after → ReceivesReply c number (doing operation) reply after None
-  of_open_file : (handle : ℕ) (operation : Operation ℕ ℕ) (reply : Reply ℕ ℕ) (after : Vfs ℕ)
-      → Answers c number operation reply after → ReceivesReply c number (using handle operation) reply after None
+  of_open_file : (open_call : ℕ) (operation : Operation ℕ ℕ) (reply : Reply ℕ ℕ) (after : Vfs ℕ)
+      → Answers c number operation reply after → ReceivesReply c number (using open_call operation) reply after None

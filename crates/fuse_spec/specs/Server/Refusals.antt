@@ -14,7 +14,7 @@ use Rattle.fuse_spec.specs.Server.Copies.{is_current, files_named}
 -- Whether a counter of the server would have given a number past its end.
 abbrev pub is_server_past_end : Server → Bool
 is_server_past_end s =
-    nat_lt counter_end s.tree.next_birth || nat_lt counter_end s.tree.next_serial
+    nat_lt counter_end s.tree.next_inode || nat_lt counter_end s.tree.next_cookie
     || nat_lt counter_end s.nodes.next_generation || nat_lt counter_end s.handles.next_fh
     || nat_lt counter_end s.next_copy
 

@@ -8,7 +8,7 @@ use Rattle.fuse_spec.specs.Calls.Calls.{Call}
 use Rattle.fuse_spec.specs.Calls.Vfs.{CallState}
 use Rattle.fuse_spec.specs.declared.Counted.{Counted}
 use Rattle.fuse_spec.specs.declared.Minor.{Minor}
-use Rattle.fuse_spec.specs.declared.Binding.{Binding}
+use Rattle.fuse_spec.specs.declared.Dentry.{Dentry}
 use Rattle.fuse_spec.specs.declared.Opened.{Opened}
 use Rattle.fuse_spec.specs.declared.Purpose.{Purpose}
 use Rattle.fuse_spec.specs.declared.ReplyResult.{ReplyResult}
@@ -83,7 +83,7 @@ pub data Leads (choice : ℕ → ℕ) (w : World) : Event → Outcome → World 
       (record w { kernel = (call_signalled w.kernel call state fatal).1 })
   passes : (ms : ℕ) → w.kernel.vfs.clock + ms < clock_end
       → Leads choice w (event.tick ms) (event.now (w.kernel.vfs.clock + ms)) (after_tick w ms)
-  drops : (directory : ℕ) (name : Name) (bound : Binding) → is_live w.kernel.phase ≡ true
+  drops : (directory : ℕ) (name : Name) (bound : Dentry) → is_live w.kernel.phase ≡ true
       → get_name w.kernel.vfs.names (directory, name) ≡ Some bound
       → Leads choice w (event.drop_name directory name) event.dropped (after_drop w directory name)
   evicts : (node : ℕ) (counted : Counted) → is_live w.kernel.phase ≡ true → get w.kernel.nodes node ≡ Some counted

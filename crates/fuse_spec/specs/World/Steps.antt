@@ -6,7 +6,7 @@ use Rattle.fuse_spec.specs.Values.Numbers.{max_validity}
 use Rattle.fuse_spec.specs.Files.Operations.{errno_of}
 use Rattle.fuse_spec.specs.Calls.Vfs.{CallState}
 use Rattle.fuse_spec.specs.declared.Counted.{Counted}
-use Rattle.fuse_spec.specs.declared.Binding.{Binding}
+use Rattle.fuse_spec.specs.declared.Dentry.{Dentry}
 use Rattle.fuse_spec.specs.declared.Opened.{Opened}
 use Rattle.fuse_spec.specs.declared.IntrEffect.{IntrEffect}
 use Rattle.fuse_spec.specs.declared.WriteResult.{WriteResult}
@@ -99,7 +99,7 @@ abbrev pub signalling : World → ℕ → Bool → CallState Opened → Stepped
 signalling w call fatal state = signalled_as w call (call_signalled w.kernel call state fatal)
 
 -- A name in force is dropped.
-abbrev pub dropping : World → Binding → Stepped
+abbrev pub dropping : World → Dentry → Stepped
 dropping after bound = Ok (event.dropped, after)
 
 -- A counted node is given up.

@@ -179,7 +179,7 @@ first_kernel =
 abbrev pub first_server : Server
 first_server =
     record {
-      tree = record { files = (0, a_directory) ∷ []; names = []; next_birth = 1; next_serial = 1 };
+      tree = record { files = (0, a_directory) ∷ []; names = []; next_inode = 1; next_cookie = 1 };
       nodes = record { rows = []; next_generation = 1 };
       handles = record { handles = []; next_fh = 1 };
       held = [];

@@ -163,17 +163,17 @@ advanced_vfs k call next = by next.operation
     by None = refl
     by (Some operation) = refl
 
-idle_vfs : (k : Kernel) (handle : ℕ) → (released_if_idle k handle).vfs ≡ k.vfs
-idle_vfs k handle = by (get k.closing handle)
+idle_vfs : (k : Kernel) (open_call : ℕ) → (released_if_idle k open_call).vfs ≡ k.vfs
+idle_vfs k open_call = by (get k.closing open_call)
   where
-    by : (o : Option Opened) → (released k handle o).vfs ≡ k.vfs
+    by : (o : Option Opened) → (released k open_call o).vfs ≡ k.vfs
     by None = refl
     by (Some x) = refl
 
 pub used_vfs : (k : Kernel) (state : CallState Opened) → (after_use k state).vfs ≡ k.vfs
 used_vfs k (walking d word words plan) = refl
 used_vfs k (doing operation) = refl
-used_vfs k (using handle operation) = idle_vfs k handle
+used_vfs k (using open_call operation) = idle_vfs k open_call
 
 pub closing_vfs : (k : Kernel) (file : Option (ℕ × Opened)) → (closing_of k file).vfs ≡ k.vfs
 closing_vfs k None = refl

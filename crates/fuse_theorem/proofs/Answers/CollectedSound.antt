@@ -137,10 +137,10 @@ module _ (w : World) (answers : Map Answer) (sorted : T (is_sorted nat_cmp answe
           calls_in_order = files.calls_in_order;
           closing_in_order = files.closing_in_order;
           calls_below = files.calls_below;
-          opens = λ handle o at. let was = files.opens handle o at in
+          opens = λ open_call o at. let was = files.opens open_call o at in
               record { begun = was.begun; not_waiting = was.not_waiting };
-          users = λ call handle operation at.
-              let uses = files.users call handle operation at in
+          users = λ call open_call operation at.
+              let uses = files.users call open_call operation at in
               let opener = uses.opener in
               record {
                 opener = record { begun = opener.begun; not_waiting = opener.not_waiting };

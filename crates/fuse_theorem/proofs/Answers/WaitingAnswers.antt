@@ -88,8 +88,8 @@ walked_more c call (asks operation) = asking_more c call (doing operation)
 beginning_more : (c : Vfs Opened) (call : ℕ) (b : Beginning ℕ Opened) → OneMore c (after_beginning c call b).vfs
 beginning_more c call (faulty errno) = answered_more c call _
 beginning_more c call (sets_out words plan) = walked_more c call (walk (look c) c.root c.root words plan)
-beginning_more c call (uses handle operation) = asking_more c call (using handle operation)
-beginning_more c call (closes handle o) = answered_more c call _
+beginning_more c call (uses open_call operation) = asking_more c call (using open_call operation)
+beginning_more c call (closes open_call o) = answered_more c call _
 
 begun_more : (aborted : Bool) (c : Vfs Opened) (call : Call) → OneMore c (begun aborted c call).vfs
 begun_more true c call = answered_more c c.next_call _
@@ -120,7 +120,7 @@ replied_more c call (walking d word words plan) (missing valid) = answered_more 
 replied_more c call (walking d word words plan) (failed errno) = answered_more c call _
 replied_more c call (walking d word words plan) reply = answered_more c call _
 replied_more c call (doing operation) reply = operation_more c call operation reply
-replied_more c call (using handle operation) reply = operation_more c call operation reply
+replied_more c call (using open_call operation) reply = operation_more c call operation reply
 
 -- ---- the kernel beside its calls
 

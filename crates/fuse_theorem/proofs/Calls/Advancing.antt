@@ -53,8 +53,8 @@ module _ {O : Type 0} where
       → StepsAlone c.calls c.next_call call (after_beginning c call b)
   after_beginning_alone c call (faulty errno) = answered_alone c call _
   after_beginning_alone c call (sets_out words plan) = walks_on_alone c call c.root words plan
-  after_beginning_alone c call (uses handle operation) = asking_alone c call (using handle operation)
-  after_beginning_alone c call (closes handle o) = answered_alone (record c { opens = remove c.opens handle }) call _
+  after_beginning_alone c call (uses open_call operation) = asking_alone c call (using open_call operation)
+  after_beginning_alone c call (closes open_call o) = answered_alone (record c { opens = remove c.opens open_call }) call _
 
   pub begun_alone : (aborted : Bool) (c : Vfs O) (call : Call)
       → StepsAlone c.calls (c.next_call + 1) c.next_call (begun aborted c call)
@@ -100,4 +100,4 @@ module _ {O : Type 0} where
   call_replied_alone c call (walking d word words plan) (failed errno) = answered_alone c call _
   call_replied_alone c call (walking d word words plan) reply = answered_alone c call _
   call_replied_alone c call (doing operation) reply = replied_alone c call operation reply
-  call_replied_alone c call (using handle operation) reply = replied_alone c call operation reply
+  call_replied_alone c call (using open_call operation) reply = replied_alone c call operation reply

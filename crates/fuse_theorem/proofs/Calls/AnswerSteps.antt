@@ -49,8 +49,8 @@ beginning_changes : (c : Vfs Opened) (call : ℕ) (b : Beginning ℕ Opened)
     → ChangesCall c call (after_beginning c call b).vfs
 beginning_changes c call (faulty errno) = answered_changes c call _
 beginning_changes c call (sets_out words plan) = walked_changes c call (walk (look c) c.root c.root words plan)
-beginning_changes c call (uses handle operation) = asking_changes c call (using handle operation)
-beginning_changes c call (closes handle o) = answered_changes (record c { opens = remove c.opens handle }) call _
+beginning_changes c call (uses open_call operation) = asking_changes c call (using open_call operation)
+beginning_changes c call (closes open_call o) = answered_changes (record c { opens = remove c.opens open_call }) call _
 
 -- A call begins, and draws its number.
 pub begun_changes : (aborted : Bool) (c : Vfs Opened) (call : Call)
@@ -86,4 +86,4 @@ replied_changes c call (walking d word words plan) (missing valid) = answered_ch
 replied_changes c call (walking d word words plan) (failed errno) = answered_changes c call _
 replied_changes c call (walking d word words plan) reply = answered_changes c call _
 replied_changes c call (doing operation) reply = operation_changes c call operation reply
-replied_changes c call (using handle operation) reply = operation_changes c call operation reply
+replied_changes c call (using open_call operation) reply = operation_changes c call operation reply

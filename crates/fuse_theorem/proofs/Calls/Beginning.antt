@@ -39,29 +39,29 @@ module _ {F O G P : Type 0} (R : F → G → Type 0) (S : O → P → Type 0) wh
       by None = refl
       by (Some parts) = on parts.0 parts.1
 
-  using_alike : (handle : ℕ) (a : Option O) (b : Option P) (offset size : ℕ) (f : O → Operation F O)
+  using_alike : (open_call : ℕ) (a : Option O) (b : Option P) (offset size : ℕ) (f : O → Operation F O)
       (g : P → Operation G P) → OptionAlike S a b
       → ((o : O) (p : P) → S o p → OperationAlike R S (f o) (g p))
-      → BeginningAlike (using handle a offset size f) (using handle b offset size g)
-  using_alike handle None None offset size f g h on = refl
-  using_alike handle (Some o) (Some p) offset size f g h on = by (nat_lt max_file offset || nat_lt max_transfer size)
+      → BeginningAlike (using open_call a offset size f) (using open_call b offset size g)
+  using_alike open_call None None offset size f g h on = refl
+  using_alike open_call (Some o) (Some p) offset size f g h on = by (nat_lt max_file offset || nat_lt max_transfer size)
     where
-      by : (t : Bool) → BeginningAlike (cond t (faulty 22) (uses handle (f o))) (cond t (faulty 22) (uses handle (g p)))
+      by : (t : Bool) → BeginningAlike (cond t (faulty 22) (uses open_call (f o))) (cond t (faulty 22) (uses open_call (g p)))
       by true = refl
       by false = (refl, on o p h)
-  using_alike handle None (Some p) offset size f g h on = absurd h
-  using_alike handle (Some o) None offset size f g h on = absurd h
+  using_alike open_call None (Some p) offset size f g h on = absurd h
+  using_alike open_call (Some o) None offset size f g h on = absurd h
 
-  closing_alike : (handle : ℕ) (a : Option O) (b : Option P) → OptionAlike S a b
-      → BeginningAlike (closing handle a) (closing handle b)
-  closing_alike handle None None h = refl
-  closing_alike handle (Some o) (Some p) h = (refl, h)
-  closing_alike handle None (Some p) h = absurd h
-  closing_alike handle (Some o) None h = absurd h
+  closing_alike : (open_call : ℕ) (a : Option O) (b : Option P) → OptionAlike S a b
+      → BeginningAlike (closing open_call a) (closing open_call b)
+  closing_alike open_call None None h = refl
+  closing_alike open_call (Some o) (Some p) h = (refl, h)
+  closing_alike open_call None (Some p) h = absurd h
+  closing_alike open_call (Some o) None h = absurd h
 
   -- Every call begins alike.
   pub beginning_alike : (opens : Map O) (others : Map P)
-      → ((handle : ℕ) → OptionAlike S (get opens handle) (get others handle)) → (c : Call)
+      → ((open_call : ℕ) → OptionAlike S (get opens open_call) (get others open_call)) → (c : Call)
       → BeginningAlike (beginning opens c) (beginning others c)
   beginning_alike opens others same (call.stat path) = whole_alike path _ _ (λ words. (refl, tt))
   beginning_alike opens others same (call.list path after) = whole_alike path _ _ (λ words. (refl, (tt, refl, refl)))
@@ -76,10 +76,10 @@ module _ {F O G P : Type 0} (R : F → G → Type 0) (S : O → P → Type 0) wh
       parent_alike old _ _ (λ words from. parent_alike new _ _ (λ more to. (refl, (refl, refl, refl))))
   beginning_alike opens others same (call.link old new) =
       whole_alike old _ _ (λ words. parent_alike new _ _ (λ more name. (refl, (refl, refl))))
-  beginning_alike opens others same (call.read handle offset size) =
-      using_alike handle (get opens handle) (get others handle) offset size _ _ (same handle) (λ o p s. (s, refl, refl))
-  beginning_alike opens others same (call.write handle offset bytes) =
-      using_alike handle (get opens handle) (get others handle) offset (length bytes) _ _ (same handle)
+  beginning_alike opens others same (call.read open_call offset size) =
+      using_alike open_call (get opens open_call) (get others open_call) offset size _ _ (same open_call) (λ o p s. (s, refl, refl))
+  beginning_alike opens others same (call.write open_call offset bytes) =
+      using_alike open_call (get opens open_call) (get others open_call) offset (length bytes) _ _ (same open_call)
       (λ o p s. (s, refl, refl))
-  beginning_alike opens others same (call.close handle) =
-      closing_alike handle (get opens handle) (get others handle) (same handle)
+  beginning_alike opens others same (call.close open_call) =
+      closing_alike open_call (get opens open_call) (get others open_call) (same open_call)

@@ -117,20 +117,20 @@ interrupt_replied_numbered k numbered unique reply = by (mark_under k.queues uni
 
 -- ---- open files
 
-idle_numbered : (k : Kernel) → CallsNumbered k → (handle : ℕ) → CallsNumbered (released_if_idle k handle)
-idle_numbered k numbered handle = by (get k.closing handle)
+idle_numbered : (k : Kernel) → CallsNumbered k → (open_call : ℕ) → CallsNumbered (released_if_idle k open_call)
+idle_numbered k numbered open_call = by (get k.closing open_call)
   where
     unless_used : (b : Bool) (o : Opened) (c : ℕ) → requests_for c
         (cond b k.queues (after_enqueue k.queues (purpose.Release o))) ≤ requests_for c k.queues
     unless_used true o c = omega arith
     unless_used false o c = released_for k.queues o c
 
-    by : (o : Option Opened) → CallsNumbered (released k handle o)
+    by : (o : Option Opened) → CallsNumbered (released k open_call o)
     by None = numbered
     by (Some o) = record {
       calls_below = numbered.calls_below;
       one_request = λ c.
-          let few = unless_used (is_used k handle) o c in
+          let few = unless_used (is_used k open_call) o c in
           let one = numbered.one_request c in
           omega (arith, few, one);
     }
@@ -138,7 +138,7 @@ idle_numbered k numbered handle = by (get k.closing handle)
 used_numbered : (k : Kernel) → CallsNumbered k → (state : CallState Opened) → CallsNumbered (after_use k state)
 used_numbered k numbered (walking d word words plan) = numbered
 used_numbered k numbered (doing operation) = numbered
-used_numbered k numbered (using handle operation) = idle_numbered k numbered handle
+used_numbered k numbered (using open_call operation) = idle_numbered k numbered open_call
 
 -- ---- calls
 

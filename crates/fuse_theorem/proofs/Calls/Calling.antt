@@ -30,9 +30,9 @@ use Rattle.fuse_theorem.proofs.Refining.Releasing.{next_unasked, closing_alike, 
 -- a call that closes an open file asks nothing
 closing_asks_nothing : (c : Vfs Opened) (call : Call) (f : ℕ × Opened) → closed_by c.opens call ≡ Some f
     → (begun false c call).operation ≡ None
-closing_asks_nothing c (call.close handle) f e = by (get c.opens handle)
+closing_asks_nothing c (call.close open_call) f e = by (get c.opens open_call)
   where
-    by : (o : Option Opened) → (after_beginning (numbered c) c.next_call (closing handle o)).operation ≡ None
+    by : (o : Option Opened) → (after_beginning (numbered c) c.next_call (closing open_call o)).operation ≡ None
     by None = refl
     by (Some o) = refl
 closing_asks_nothing c other f e = absurd (cc)

@@ -39,17 +39,17 @@ advanced_goes_on k call next = by next.operation
     by None = record { phase = refl; minor = refl; lists_files = refl; rises = omega arith }
     by (Some operation) = record { phase = refl; minor = refl; lists_files = refl; rises = omega arith }
 
-idle_goes_on : (k : Kernel) (handle : ℕ) → GoesOn k (released_if_idle k handle)
-idle_goes_on k handle = by (get k.closing handle)
+idle_goes_on : (k : Kernel) (open_call : ℕ) → GoesOn k (released_if_idle k open_call)
+idle_goes_on k open_call = by (get k.closing open_call)
   where
     unless_used : (b : Bool) (o : Opened) → k.queues.next ≤
         (cond b k.queues (after_enqueue k.queues (purpose.Release o))).next
     unless_used true o = omega arith
     unless_used false o = omega arith
 
-    by : (o : Option Opened) → GoesOn k (released k handle o)
+    by : (o : Option Opened) → GoesOn k (released k open_call o)
     by None = record { phase = refl; minor = refl; lists_files = refl; rises = omega arith }
-    by (Some o) = record { phase = refl; minor = refl; lists_files = refl; rises = unless_used (is_used k handle) o }
+    by (Some o) = record { phase = refl; minor = refl; lists_files = refl; rises = unless_used (is_used k open_call) o }
 
 pub used_goes_on : (k : Kernel) (state : CallState Opened) → GoesOn k (after_use k state)
 used_goes_on k (walking d word words plan) = record {
@@ -59,7 +59,7 @@ used_goes_on k (walking d word words plan) = record {
   rises = omega arith;
 }
 used_goes_on k (doing operation) = record { phase = refl; minor = refl; lists_files = refl; rises = omega arith }
-used_goes_on k (using handle operation) = idle_goes_on k handle
+used_goes_on k (using open_call operation) = idle_goes_on k open_call
 
 -- A call begins.
 pub begun_goes_on : (k : Kernel) (call : Call) → GoesOn k (call_begun k call)

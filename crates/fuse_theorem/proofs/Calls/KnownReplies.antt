@@ -31,8 +31,8 @@ module _ (nodes : Map Counted) where
   abbrev BeginsKnown : Beginning ℕ Opened → Type 0
   BeginsKnown (faulty errno) = Unit {0}
   BeginsKnown (sets_out words plan) = All (IsKnown nodes) (files_of_plan plan)
-  BeginsKnown (uses handle operation) = All (IsKnown nodes) (files_in opened_nodes operation)
-  BeginsKnown (closes handle opened) = Unit {0}
+  BeginsKnown (uses open_call operation) = All (IsKnown nodes) (files_in opened_nodes operation)
+  BeginsKnown (closes open_call opened) = Unit {0}
 
   whole : (path : List ℕ) (then : List Name → Beginning ℕ Opened) → ((words : List Name) → BeginsKnown (then words))
       → BeginsKnown (whole_path path then)
@@ -55,19 +55,19 @@ module _ (nodes : Map Counted) where
   nothing : All (IsKnown nodes) []
   nothing = All-nil (IsKnown nodes)
 
-  used : (handle : ℕ) (o : Option Opened) (offset size : ℕ) (then : Opened → Operation ℕ Opened)
+  used : (open_call : ℕ) (o : Option Opened) (offset size : ℕ) (then : Opened → Operation ℕ Opened)
       → ((x : Opened) → o ≡ Some x → All (IsKnown nodes) (files_in opened_nodes (then x)))
-      → BeginsKnown (begins.using handle o offset size then)
-  used handle None offset size then each = tt
-  used handle (Some x) offset size then each = by (nat_lt 65536 offset || nat_lt 4096 size)
+      → BeginsKnown (begins.using open_call o offset size then)
+  used open_call None offset size then each = tt
+  used open_call (Some x) offset size then each = by (nat_lt 65536 offset || nat_lt 4096 size)
     where
-      by : (b : Bool) → BeginsKnown (cond b (faulty 22) (uses handle (then x)))
+      by : (b : Bool) → BeginsKnown (cond b (faulty 22) (uses open_call (then x)))
       by true = tt
       by false = each x refl
 
-  closing_known : (handle : ℕ) (o : Option Opened) → BeginsKnown (begins.closing handle o)
-  closing_known handle None = tt
-  closing_known handle (Some x) = tt
+  closing_known : (open_call : ℕ) (o : Option Opened) → BeginsKnown (begins.closing open_call o)
+  closing_known open_call None = tt
+  closing_known open_call (Some x) = tt
 
   beginning_known : (c : Vfs Opened) → VfsKnown nodes c → (x : Call) → BeginsKnown (beginning c.opens x)
   beginning_known c old (call.stat path) = whole path _ (λ words. nothing)
@@ -80,13 +80,13 @@ module _ (nodes : Map Counted) where
   beginning_known c old (call.rmdir path) = parent path _ (λ words name. nothing)
   beginning_known c old (call.rename from to) = parent from _ (λ words name. parent to _ (λ more other. nothing))
   beginning_known c old (call.link from to) = whole from _ (λ words. parent to _ (λ more name. nothing))
-  beginning_known c old (call.read handle offset size) =
-      used handle (get c.opens handle) offset size (λ o. op.read o offset size)
-      (λ x at. All-cons (IsKnown nodes) x.nodeid [] (All-get (OpenKnown nodes) c.opens handle x old.opens at) nothing)
-  beginning_known c old (call.write handle offset bytes) =
-      used handle (get c.opens handle) offset (length bytes) (λ o. op.write o offset bytes)
-      (λ x at. All-cons (IsKnown nodes) x.nodeid [] (All-get (OpenKnown nodes) c.opens handle x old.opens at) nothing)
-  beginning_known c old (call.close handle) = closing_known handle (get c.opens handle)
+  beginning_known c old (call.read open_call offset size) =
+      used open_call (get c.opens open_call) offset size (λ o. op.read o offset size)
+      (λ x at. All-cons (IsKnown nodes) x.nodeid [] (All-get (OpenKnown nodes) c.opens open_call x old.opens at) nothing)
+  beginning_known c old (call.write open_call offset bytes) =
+      used open_call (get c.opens open_call) offset (length bytes) (λ o. op.write o offset bytes)
+      (λ x at. All-cons (IsKnown nodes) x.nodeid [] (All-get (OpenKnown nodes) c.opens open_call x old.opens at) nothing)
+  beginning_known c old (call.close open_call) = closing_known open_call (get c.opens open_call)
 
   pub begun_known : (aborted : Bool) (c : Vfs Opened) → VfsKnown nodes c → (x : Call)
       → VfsKnown nodes (begun aborted c x).vfs
@@ -102,16 +102,16 @@ module _ (nodes : Map Counted) where
       by : (b : Beginning ℕ Opened) → BeginsKnown b → VfsKnown nodes (after_beginning (numbered c) c.next_call b).vfs
       by (faulty errno) h = answered_known nodes (numbered c) next c.next_call _
       by (sets_out words plan) h = walks_on_known nodes (numbered c) next c.next_call c.root old.root words plan h
-      by (uses handle operation) h = asking_known nodes (numbered c) next c.next_call (using handle operation) h
-      by (closes handle o) h =
-          let closed : VfsKnown nodes (record (numbered c) { opens = remove c.opens handle }) =
+      by (uses open_call operation) h = asking_known nodes (numbered c) next c.next_call (using open_call operation) h
+      by (closes open_call o) h =
+          let closed : VfsKnown nodes (record (numbered c) { opens = remove c.opens open_call }) =
           record {
             root = old.root;
             names = old.names;
             calls = old.calls;
-            opens = All-gone (OpenKnown nodes) c.opens handle old.opens;
+            opens = All-gone (OpenKnown nodes) c.opens open_call old.opens;
           } in
-          answered_known nodes (record (numbered c) { opens = remove c.opens handle }) closed c.next_call _
+          answered_known nodes (record (numbered c) { opens = remove c.opens open_call }) closed c.next_call _
 
   -- ---- a call receives a reply
 
@@ -189,4 +189,4 @@ module _ (nodes : Map Counted) where
     replied_known (walking d word words plan) (op.failed errno) h k = answered_known nodes c old call _
     replied_known (walking d word words plan) wire h k = answered_known nodes c old call _
     replied_known (doing operation) wire h k = operation_known operation wire h k
-    replied_known (using handle operation) wire h k = operation_known operation wire h k
+    replied_known (using open_call operation) wire h k = operation_known operation wire h k

@@ -4,7 +4,7 @@ use Rattle.std.specs.Prelude.{nat_lt, ◌++◌, option_to_list, unwrap_or}
 use Rattle.std.specs.Ordering.{eq_by_cmp}
 use Rattle.std.proofs.lemmas.Bool.{cases_eq}
 use Rattle.std.proofs.lemmas.List.Elements.{All-nil, All-cons, All-head, All-tail}
-use Rattle.fuse_spec.specs.declared.Binding.{Binding}
+use Rattle.fuse_spec.specs.declared.Dentry.{Dentry}
 use Rattle.fuse_spec.specs.declared.Counted.{Counted}
 use Rattle.fuse_spec.specs.declared.Opened.{Opened}
 use Rattle.fuse_spec.specs.Calls.Answers.{Answer}
@@ -170,14 +170,14 @@ module _ (nodes : Map Counted) where
     opens = old.opens;
   }
     where
-      new : Binding
+      new : Dentry
       new = record { target = target; until = c.clock + valid }
 
-      which : (id : ℕ) (other : List ℕ) (b : Binding) (tie : Bool)
+      which : (id : ℕ) (other : List ℕ) (b : Dentry) (tie : Bool)
           → cond tie (Some (record { target = target; until = c.clock + valid })) (get_name c.names (id, other))
           ≡ Some b → (file : ℕ) → b.target ≡ Some file → K file
       which id other b true at file is = let same : record { target = target; until = c.clock + valid } ≡ b =
-          cc in to file (ap (λ (x : Binding). x.target) same ∙ is)
+          cc in to file (ap (λ (x : Dentry). x.target) same ∙ is)
       which id other b false at file is = old.names.targets id other b at file is
 
   pub unbound_known : (c : Vfs Opened) → VfsKnown nodes c → (d : ℕ) (name : Name) → VfsKnown nodes (unbound c d name)
@@ -195,7 +195,7 @@ module _ (nodes : Map Counted) where
     opens = old.opens;
   }
     where
-      was : (id : ℕ) (other : List ℕ) (b : Binding) (left : Bool)
+      was : (id : ℕ) (other : List ℕ) (b : Dentry) (left : Bool)
           → cond left (get_name c.names (id, other)) None ≡ Some b → get_name c.names (id, other) ≡ Some b
       was id other b true at = at
       was id other b false at = absurd (cc)
@@ -205,12 +205,12 @@ module _ (nodes : Map Counted) where
       → look c d name ≡ Some (Some file) → K file
   look_known c old d name file e = by (get_name c.names (d, name)) refl e
     where
-      valid : (b : Binding) → get_name c.names (d, name) ≡ Some b → (t : Bool)
+      valid : (b : Dentry) → get_name c.names (d, name) ≡ Some b → (t : Bool)
           → cond t (Some b.target) None ≡ Some (Some file) → K file
       valid b at true f = let is : b.target ≡ Some file = cc in old.names.targets d name b at file is
       valid b at false f = absurd (cc)
 
-      by : (o : Option Binding) → get_name c.names (d, name) ≡ o → valid_at c.clock o ≡ Some (Some file) → K file
+      by : (o : Option Dentry) → get_name c.names (d, name) ≡ o → valid_at c.clock o ≡ Some (Some file) → K file
       by None at f = absurd (cc)
       by (Some b) at f = valid b at (nat_lt c.clock b.until) f
 

@@ -92,8 +92,8 @@ walks_on_old c old call file words plan h = walked_old c old call (walk (look c)
 abbrev OldBeginning : Beginning ℕ Opened → Type 0
 OldBeginning (faulty errno) = Unit {0}
 OldBeginning (sets_out words plan) = OldPlan plan
-OldBeginning (uses handle operation) = knows M15 (asks operation) ≡ true
-OldBeginning (closes handle opened) = Unit {0}
+OldBeginning (uses open_call operation) = knows M15 (asks operation) ≡ true
+OldBeginning (closes open_call opened) = Unit {0}
 
 whole : (path : List ℕ) (then : List Name → Beginning ℕ Opened) → ((words : List Name) → OldBeginning (then words))
     → OldBeginning (whole_path path then)
@@ -113,18 +113,18 @@ parent path then each = whole path _ (λ words. by words (parent_and_last words)
     by words None = tt
     by words (Some parts) = each parts.0 parts.1
 
-used : (handle : ℕ) (o : Option Opened) (offset size : ℕ) (then : Opened → Operation ℕ Opened)
-    → ((x : Opened) → knows M15 (asks (then x)) ≡ true) → OldBeginning (begins.using handle o offset size then)
-used handle None offset size then each = tt
-used handle (Some x) offset size then each = by (nat_lt 65536 offset || nat_lt 4096 size)
+used : (open_call : ℕ) (o : Option Opened) (offset size : ℕ) (then : Opened → Operation ℕ Opened)
+    → ((x : Opened) → knows M15 (asks (then x)) ≡ true) → OldBeginning (begins.using open_call o offset size then)
+used open_call None offset size then each = tt
+used open_call (Some x) offset size then each = by (nat_lt 65536 offset || nat_lt 4096 size)
   where
-    by : (b : Bool) → OldBeginning (cond b (faulty 22) (uses handle (then x)))
+    by : (b : Bool) → OldBeginning (cond b (faulty 22) (uses open_call (then x)))
     by true = tt
     by false = each x
 
-closing_old : (handle : ℕ) (o : Option Opened) → OldBeginning (begins.closing handle o)
-closing_old handle None = tt
-closing_old handle (Some x) = tt
+closing_old : (open_call : ℕ) (o : Option Opened) → OldBeginning (begins.closing open_call o)
+closing_old open_call None = tt
+closing_old open_call (Some x) = tt
 
 -- A call that is put without files sets out for nothing that 7.15 doesn't know.
 beginning_old : (opens : Map Opened) (x : Call) → OldBeginning (beginning opens (for_minor false x))
@@ -138,10 +138,10 @@ beginning_old opens (call.unlink path) = parent path _ (λ words name. tt)
 beginning_old opens (call.rmdir path) = parent path _ (λ words name. tt)
 beginning_old opens (call.rename from to) = parent from _ (λ words name. parent to _ (λ more other. tt))
 beginning_old opens (call.link from to) = whole from _ (λ words. parent to _ (λ more name. tt))
-beginning_old opens (call.read handle offset size) = used handle (get opens handle) offset size _ (λ x. refl)
-beginning_old opens (call.write handle offset bytes) =
-    used handle (get opens handle) offset (length bytes) _ (λ x. refl)
-beginning_old opens (call.close handle) = closing_old handle (get opens handle)
+beginning_old opens (call.read open_call offset size) = used open_call (get opens open_call) offset size _ (λ x. refl)
+beginning_old opens (call.write open_call offset bytes) =
+    used open_call (get opens open_call) offset (length bytes) _ (λ x. refl)
+beginning_old opens (call.close open_call) = closing_old open_call (get opens open_call)
 
 begun_old : (aborted : Bool) (c : Vfs Opened) → OldCalls c → (x : Call)
     → OldCalls (begun aborted c (for_minor false x)).vfs
@@ -151,8 +151,8 @@ begun_old false c old x = by (beginning c.opens (for_minor false x)) (beginning_
     by : (b : Beginning ℕ Opened) → OldBeginning b → OldCalls (after_beginning (numbered c) c.next_call b).vfs
     by (faulty errno) h = All-gone OldState c.calls c.next_call old
     by (sets_out words plan) h = walks_on_old (numbered c) old c.next_call c.root words plan h
-    by (uses handle operation) h = All-put OldState c.calls c.next_call (using handle operation) old h
-    by (closes handle o) h = All-gone OldState c.calls c.next_call old
+    by (uses open_call operation) h = All-put OldState c.calls c.next_call (using open_call operation) old h
+    by (closes open_call o) h = All-gone OldState c.calls c.next_call old
 
 -- ---- a call receives a reply
 
@@ -181,7 +181,7 @@ replied_old c old call (walking d word words plan) h (op.missing valid) = All-go
 replied_old c old call (walking d word words plan) h (op.failed errno) = All-gone OldState c.calls call old
 replied_old c old call (walking d word words plan) h reply = All-gone OldState c.calls call old
 replied_old c old call (doing operation) h reply = operation_old c old call operation reply
-replied_old c old call (using handle operation) h reply = operation_old c old call operation reply
+replied_old c old call (using open_call operation) h reply = operation_old c old call operation reply
 
 -- ---- the kernel
 

@@ -110,9 +110,9 @@ walked_steps c call (asks operation) h = asking_steps c call (doing operation) (
 pub data BeginsAs (opens : Map Opened) : Beginning ℕ Opened → Option (ℕ × Opened) → Type 0 where
   faults : (errno : ℕ) → BeginsAs opens (faulty errno) None
   leads : (words : List Name) (plan : WalkPlan ℕ) → BeginsAs opens (sets_out words plan) None
-  reads : (handle : ℕ) (operation : Operation ℕ Opened) (o : Opened) → get opens handle ≡ Some o
-      → opens_of operation ≡ o ∷ [] → BeginsAs opens (uses handle operation) None
-  ends : (handle : ℕ) (o : Opened) → get opens handle ≡ Some o → BeginsAs opens (closes handle o) (Some (handle, o))
+  reads : (open_call : ℕ) (operation : Operation ℕ Opened) (o : Opened) → get opens open_call ≡ Some o
+      → opens_of operation ≡ o ∷ [] → BeginsAs opens (uses open_call operation) None
+  ends : (open_call : ℕ) (o : Opened) → get opens open_call ≡ Some o → BeginsAs opens (closes open_call o) (Some (open_call, o))
 
 module _ (opens : Map Opened) where
   whole : (path : List ℕ) (then : List Name → Beginning ℕ Opened)
@@ -135,15 +135,15 @@ module _ (opens : Map Opened) where
       by words None = faults 22
       by words (Some parts) = each parts.0 parts.1
 
-  used : (handle : ℕ) (o : Option Opened) → get opens handle ≡ o
+  used : (open_call : ℕ) (o : Option Opened) → get opens open_call ≡ o
       → (offset size : ℕ) (then : Opened → Operation ℕ Opened) → ((x : Opened) → opens_of (then x) ≡ x ∷ [])
-      → BeginsAs opens (begins.using handle o offset size then) None
-  used handle None at offset size then each = faults 9
-  used handle (Some x) at offset size then each = by (nat_lt 65536 offset || nat_lt 4096 size)
+      → BeginsAs opens (begins.using open_call o offset size then) None
+  used open_call None at offset size then each = faults 9
+  used open_call (Some x) at offset size then each = by (nat_lt 65536 offset || nat_lt 4096 size)
     where
-      by : (b : Bool) → BeginsAs opens (cond b (faulty 22) (uses handle (then x))) None
+      by : (b : Bool) → BeginsAs opens (cond b (faulty 22) (uses open_call (then x))) None
       by true = faults 22
-      by false = reads handle (then x) x at (each x)
+      by false = reads open_call (then x) x at (each x)
 
   pub begins_as : (x : Call) → BeginsAs opens (beginning opens x) (closed_by opens x)
   begins_as (call.stat path) = whole path _ (λ words. leads words _)
@@ -156,14 +156,14 @@ module _ (opens : Map Opened) where
   begins_as (call.rmdir path) = parent path _ (λ words name. leads words _)
   begins_as (call.rename from to) = parent from _ (λ words name. parent to _ (λ more other. leads words _))
   begins_as (call.link from to) = whole from _ (λ words. parent to _ (λ more name. leads words _))
-  begins_as (call.read handle offset size) = used handle (get opens handle) refl offset size _ (λ x. refl)
-  begins_as (call.write handle offset bytes) = used handle (get opens handle) refl offset (length bytes) _ (λ x. refl)
-  begins_as (call.close handle) = by (get opens handle) refl
+  begins_as (call.read open_call offset size) = used open_call (get opens open_call) refl offset size _ (λ x. refl)
+  begins_as (call.write open_call offset bytes) = used open_call (get opens open_call) refl offset (length bytes) _ (λ x. refl)
+  begins_as (call.close open_call) = by (get opens open_call) refl
     where
-      by : (o : Option Opened) → get opens handle ≡ o → BeginsAs opens (begins.closing handle o)
-          (elim o as (λ x. Option (ℕ × Opened)) [ None ↦ None | Some x ↦ Some (handle, x) ])
+      by : (o : Option Opened) → get opens open_call ≡ o → BeginsAs opens (begins.closing open_call o)
+          (elim o as (λ x. Option (ℕ × Opened)) [ None ↦ None | Some x ↦ Some (open_call, x) ])
       by None at = faults 9
-      by (Some x) at = ends handle x at
+      by (Some x) at = ends open_call x at
 
 -- A call that closes nothing begins.
 pub begun_steps : (c : Vfs Opened) (call : ℕ) (b : Beginning ℕ Opened) → BeginsAs c.opens b None
@@ -171,12 +171,12 @@ pub begun_steps : (c : Vfs Opened) (call : ℕ) (b : Beginning ℕ Opened) → B
 begun_steps c call b (faults errno) = answered_steps c call _
 begun_steps c call b (leads words plan) = walked_steps c call (walk (look c) c.root c.root words plan)
     (walk_plain (look c) c.root c.root words plan)
-begun_steps c call b (reads handle operation o at is) =
-    asking_steps c call (using handle operation) (λ closing. subst (λ (os : List Opened). All (IsThere closing) os)
+begun_steps c call b (reads open_call operation o at is) =
+    asking_steps c call (using open_call operation) (λ closing. subst (λ (os : List Opened). All (IsThere closing) os)
     (sym is) (All-cons (IsThere closing) o [] (inl at) (All-nil (IsThere closing))))
   where
     IsThere : Map Opened → Opened → Type 0
-    IsThere closing x = (get c.opens handle ≡ Some x) ⊎ (get closing handle ≡ Some x)
+    IsThere closing x = (get c.opens open_call ≡ Some x) ⊎ (get closing open_call ≡ Some x)
 
 -- ---- a call receives a reply
 
@@ -190,7 +190,7 @@ gained_by operation reply = None
 abbrev pub gained : CallState Opened → Reply ℕ Opened → Option Opened
 gained (walking d word words plan) reply = None
 gained (doing operation) reply = gained_by operation reply
-gained (using handle operation) reply = gained_by operation reply
+gained (using open_call operation) reply = gained_by operation reply
 
 operation_steps : (c : Vfs Opened) (call : ℕ) (operation : Operation ℕ Opened) (reply : Reply ℕ Opened)
     → CallSteps c (operation_replied c call operation reply) call (gained_by operation reply)
@@ -220,7 +220,7 @@ replied_steps c call (walking d word words plan) (missing valid) = answered_step
 replied_steps c call (walking d word words plan) (failed errno) = answered_steps c call _
 replied_steps c call (walking d word words plan) reply = answered_steps c call _
 replied_steps c call (doing operation) reply = operation_steps c call operation reply
-replied_steps c call (using handle operation) reply = operation_steps c call operation reply
+replied_steps c call (using open_call operation) reply = operation_steps c call operation reply
 
 -- ---- what it opens is what the copy carries
 

@@ -7,10 +7,10 @@ use Rattle.fuse_spec.specs.Calls.Paths.{Name}
 use Rattle.fuse_spec.specs.Files.Operations.{Operation, Dirent, DirentPlus, listed_by, Reply, OptionAlike, OperationAlike, ReplyAlike, PairsAlike}
 use Rattle.fuse_spec.specs.Calls.Walks.{WalkPlan, Walked, looks_up, finds_none, asks, walk}
 use Rattle.fuse_spec.specs.Calls.Answers as answer
-use Rattle.fuse_spec.specs.declared.Binding.{Binding}
+use Rattle.fuse_spec.specs.declared.Dentry.{Dentry}
 use Rattle.fuse_spec.specs.Calls.Vfs.{CallState, walking, doing, using, Vfs, Advance, answered, bound, unbound, opened_by, asking, no_more, valid_at, look, after_walk, walks_on, asked}
 use Rattle.fuse_spec.specs.Calls.CallReplies.{name_listed, names_listed, all_bound, operation_replied, call_replied}
-use Rattle.fuse_spec.specs.Claim.Denotes.{StateAlike, BindingAlike, WalkPlanAlike}
+use Rattle.fuse_spec.specs.Claim.Denotes.{StateAlike, DentryAlike, WalkPlanAlike}
 use Rattle.fuse_spec.specs.Claim.Alike.{VfsAlike}
 use Rattle.fuse_spec.proofs.Tables.{put_alike}
 use Rattle.fuse_theorem.specs.Numbering.{IsOneToOne}
@@ -100,13 +100,13 @@ module _ {O P : Type 0} (R : ℕ → ℕ → Type 0) (S : O → P → Type 0) (o
       → OperationAlike R S (asked st) (asked st')
   asked_alike (walking d word words plan) (walking e word' words' plan') h = (h.0, h.1)
   asked_alike (doing a) (doing b) h = h
-  asked_alike (using handle a) (using handle' b) h = h.1
+  asked_alike (using open_call a) (using open_call' b) h = h.1
   asked_alike (walking d word words plan) (doing b) h = absurd h
-  asked_alike (walking d word words plan) (using handle' b) h = absurd h
+  asked_alike (walking d word words plan) (using open_call' b) h = absurd h
   asked_alike (doing a) (walking e word' words' plan') h = absurd h
-  asked_alike (doing a) (using handle' b) h = absurd h
-  asked_alike (using handle a) (walking e word' words' plan') h = absurd h
-  asked_alike (using handle a) (doing b) h = absurd h
+  asked_alike (doing a) (using open_call' b) h = absurd h
+  asked_alike (using open_call a) (walking e word' words' plan') h = absurd h
+  asked_alike (using open_call a) (doing b) h = absurd h
 
   module _ (c : Vfs O) (d : Vfs P) (same : VfsAlike R S c d) where
     pub no_more_alike : AdvanceAlike (no_more c) (no_more d)
@@ -129,7 +129,7 @@ module _ {O P : Type 0} (R : ℕ → ℕ → Type 0) (S : O → P → Type 0) (o
       operation = asked_alike st st' h;
     }
 
-    valid_alike : (n m : ℕ) → n ≡ m → (a b : Option Binding) → OptionAlike (BindingAlike R) a b
+    valid_alike : (n m : ℕ) → n ≡ m → (a b : Option Dentry) → OptionAlike (DentryAlike R) a b
         → OptionAlike (OptionAlike R) (valid_at n a) (valid_at m b)
     valid_alike n m e None None h = tt
     valid_alike n m e (Some a) (Some b) h = by (nat_lt n a.until) (nat_lt m b.until) (λ i. nat_lt (e i) (h.1 i))

@@ -4,9 +4,9 @@ use Rattle.std.specs.Ordering.{eq_by_cmp}
 use Rattle.std.proofs.lemmas.Bool.{cases_eq}
 use Rattle.fuse_spec.specs.Values.Maps.{Map, put, place_cmp, get_name, put_name, remove_name}
 use Rattle.fuse_spec.specs.Calls.Answers.{Answer}
-use Rattle.fuse_spec.specs.declared.Binding.{Binding}
+use Rattle.fuse_spec.specs.declared.Dentry.{Dentry}
 use Rattle.fuse_spec.specs.Calls.Vfs.{Vfs, answered, bound, unbound, opened_by}
-use Rattle.fuse_spec.specs.Claim.Denotes.{StateAlike, BindingAlike}
+use Rattle.fuse_spec.specs.Claim.Denotes.{StateAlike, DentryAlike}
 use Rattle.fuse_spec.specs.Files.Operations.{OptionAlike}
 use Rattle.fuse_spec.specs.Claim.Alike.{VfsAlike}
 use Rattle.fuse_theorem.specs.Numbering.{IsOneToOne}
@@ -55,31 +55,31 @@ module _ {O P : Type 0} (R : ℕ → ℕ → Type 0) (S : O → P → Type 0) (o
       → eq_by_cmp place_cmp (id, name) (x, other) ≡ eq_by_cmp place_cmp (file, name) (y, other)
   tie_same id file x y name other r s = let both = one id x file y r s in tie_alike id x file y name other both.0 both.1
 
-  put_names : (x y : ℕ) (name : List ℕ) (t u : Binding) → R x y → BindingAlike R t u → (id file : ℕ) (other : List ℕ)
+  put_names : (x y : ℕ) (name : List ℕ) (t u : Dentry) → R x y → DentryAlike R t u → (id file : ℕ) (other : List ℕ)
       → R id file
-      → OptionAlike (BindingAlike R) (get_name (put_name c.names (x, name) t) (id, other))
+      → OptionAlike (DentryAlike R) (get_name (put_name c.names (x, name) t) (id, other))
       (get_name (put_name d.names (y, name) u) (file, other))
   put_names x y name t u r b id file other s =
-      subst (λ (v : Option Binding). OptionAlike (BindingAlike R) v
+      subst (λ (v : Option Dentry). OptionAlike (DentryAlike R) v
       (get_name (put_name d.names (y, name) u) (file, other))) (sym (name_put c.names (x, name) t (id, other)))
-      (subst (λ (v : Option Binding). OptionAlike (BindingAlike R)
+      (subst (λ (v : Option Dentry). OptionAlike (DentryAlike R)
       (cond (eq_by_cmp place_cmp (id, other) (x, name)) (Some t) (get_name c.names (id, other))) v)
       (sym (name_put d.names (y, name) u (file, other)))
-      (cond_alike (OptionAlike (BindingAlike R)) (eq_by_cmp place_cmp (id, other) (x, name))
+      (cond_alike (OptionAlike (DentryAlike R)) (eq_by_cmp place_cmp (id, other) (x, name))
       (eq_by_cmp place_cmp (file, other) (y, name)) (Some t) (get_name c.names (id, other)) (Some u)
       (get_name d.names (file, other))
       (tie_same id file x y other name s r) b (same.names id file other s)))
 
   gone_names : (x y : ℕ) (name : List ℕ) → R x y → (id file : ℕ) (other : List ℕ) → R id file
-      → OptionAlike (BindingAlike R) (get_name (remove_name c.names (x, name)) (id, other))
+      → OptionAlike (DentryAlike R) (get_name (remove_name c.names (x, name)) (id, other))
       (get_name (remove_name d.names (y, name)) (file, other))
   gone_names x y name r id file other s =
-      subst (λ (v : Option Binding). OptionAlike (BindingAlike R) v
+      subst (λ (v : Option Dentry). OptionAlike (DentryAlike R) v
       (get_name (remove_name d.names (y, name)) (file, other))) (sym (name_gone c.names (x, name) (id, other)))
-      (subst (λ (v : Option Binding). OptionAlike (BindingAlike R)
+      (subst (λ (v : Option Dentry). OptionAlike (DentryAlike R)
       (cond (not (eq_by_cmp place_cmp (x, name) (id, other))) (get_name c.names (id, other)) None) v)
       (sym (name_gone d.names (y, name) (file, other)))
-      (cond_alike (OptionAlike (BindingAlike R)) (not (eq_by_cmp place_cmp (x, name) (id, other)))
+      (cond_alike (OptionAlike (DentryAlike R)) (not (eq_by_cmp place_cmp (x, name) (id, other)))
       (not (eq_by_cmp place_cmp (y, name) (file, other))) (get_name c.names (id, other)) None
       (get_name d.names (file, other)) None
       (ap not (tie_same x y id file name other r s)) (same.names id file other s) tt))

@@ -29,13 +29,13 @@ module _ {O P : Type 0} (R : ℕ → ℕ → Type 0) (S : O → P → Type 0) (c
     roots = same.roots;
   }
 
-  closed_alike : (handle : ℕ) → VfsAlike R S (record c { opens = remove c.opens handle })
-      (record d { opens = remove d.opens handle })
-  closed_alike handle = record {
+  closed_alike : (open_call : ℕ) → VfsAlike R S (record c { opens = remove c.opens open_call })
+      (record d { opens = remove d.opens open_call })
+  closed_alike open_call = record {
     names = same.names;
     names_meant = same.names_meant;
     names_reached = same.names_reached;
-    opens = gone_alike (OptionAlike S) c.opens d.opens handle same.opens tt;
+    opens = gone_alike (OptionAlike S) c.opens d.opens open_call same.opens tt;
     calls = same.calls;
     answers = same.answers;
     next_call = same.next_call;

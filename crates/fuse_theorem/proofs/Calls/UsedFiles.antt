@@ -7,7 +7,7 @@ use Rattle.std.specs.Cmp.{nat_cmp_total}
 use Rattle.std.specs.FinMap.{is_sorted}
 use Rattle.std.specs.FinMap.Entries.{is_sorted-put, is_sorted-where_key}
 use Rattle.std.proofs.lemmas.Bool.{cases_eq}
-use Rattle.fuse_spec.specs.declared.Binding.{Binding}
+use Rattle.fuse_spec.specs.declared.Dentry.{Dentry}
 use Rattle.fuse_spec.specs.declared.Opened.{Opened}
 use Rattle.fuse_spec.specs.Calls.Answers.{Answer}
 use Rattle.fuse_spec.specs.Claim.Counts.{opens_of}
@@ -27,12 +27,12 @@ pub record ClosedBut (except : ℕ → Bool) (c : Vfs Opened) (closing : Map Ope
   pub calls_in_order : T (is_sorted nat_cmp c.calls)
   pub closing_in_order : T (is_sorted nat_cmp closing)
   pub calls_below : (call : ℕ) → c.next_call ≤ call → get c.calls call ≡ None
-  pub opens : (handle : ℕ) (o : Opened) → get c.opens handle ≡ Some o → WasAnswered c handle
-  pub users : (call handle : ℕ) (operation : Operation ℕ Opened) → get c.calls call ≡ Some (using handle operation)
-      → UsesFile c closing handle operation
-  pub not_open : (handle : ℕ) (o : Opened) → get closing handle ≡ Some o → get c.opens handle ≡ None
-  pub used : (handle : ℕ) (o : Opened) → get closing handle ≡ Some o → except handle ≡ false
-      → list_any (is_using handle) (values c.calls) ≡ true
+  pub opens : (open_call : ℕ) (o : Opened) → get c.opens open_call ≡ Some o → WasAnswered c open_call
+  pub users : (call open_call : ℕ) (operation : Operation ℕ Opened) → get c.calls call ≡ Some (using open_call operation)
+      → UsesFile c closing open_call operation
+  pub not_open : (open_call : ℕ) (o : Opened) → get closing open_call ≡ Some o → get c.opens open_call ≡ None
+  pub used : (open_call : ℕ) (o : Opened) → get closing open_call ≡ Some o → except open_call ≡ false
+      → list_any (is_using open_call) (values c.calls) ≡ true
 
 -- no number is excepted
 pub all_used : (except : ℕ → Bool) (c : Vfs Opened) (closing : Map Opened) → ClosedBut except c closing
@@ -50,22 +50,22 @@ all_used except c closing b none = record {
 same_number : (a b : ℕ) → nat_eq a b ≡ true → a ≡ b
 same_number a b e = elim (cases_eq a b) [ inl same ↦ same | inr ne ↦ absurd (true≢false (sym e ∙ other_is a b ne)) ]
 
-is_user : (state : CallState Opened) (handle : ℕ) → is_using handle state ≡ true
-    → (operation : Operation ℕ Opened) × (state ≡ using handle operation)
-is_user (walking d word words plan) handle e = absurd (true≢false (sym e))
-is_user (doing operation) handle e = absurd (true≢false (sym e))
-is_user (using other operation) handle e = (operation, ap (λ (h : ℕ). using h operation) (same_number other handle e))
+is_user : (state : CallState Opened) (open_call : ℕ) → is_using open_call state ≡ true
+    → (operation : Operation ℕ Opened) × (state ≡ using open_call operation)
+is_user (walking d word words plan) open_call e = absurd (true≢false (sym e))
+is_user (doing operation) open_call e = absurd (true≢false (sym e))
+is_user (using other operation) open_call e = (operation, ap (λ (h : ℕ). using h operation) (same_number other open_call e))
 
 -- The call that uses a closed file.
-pub user_of : (c : Vfs Opened) (closing : Map Opened) → ClosedFiles c closing → (handle : ℕ) (o : Opened)
-    → get closing handle ≡ Some o
-    → (call : ℕ) × (operation : Operation ℕ Opened) × (get c.calls call ≡ Some (using handle operation))
+pub user_of : (c : Vfs Opened) (closing : Map Opened) → ClosedFiles c closing → (open_call : ℕ) (o : Opened)
+    → get closing open_call ≡ Some o
+    → (call : ℕ) × (operation : Operation ℕ Opened) × (get c.calls call ≡ Some (using open_call operation))
     × (opens_of operation ≡ o ∷ [])
-user_of c closing old handle o at =
-    let found = any_found (is_using handle) c.calls old.calls_in_order (old.used handle o at) in
-    let is = is_user found.1 handle found.3 in
-    let there : get c.calls found.0 ≡ Some (using handle is.0) = found.2 ∙ ap (λ (s : CallState Opened). Some s) is.1 in
-    (found.0, is.0, there, (old.users found.0 handle is.0 there).of_closed o at)
+user_of c closing old open_call o at =
+    let found = any_found (is_using open_call) c.calls old.calls_in_order (old.used open_call o at) in
+    let is = is_user found.1 open_call found.3 in
+    let there : get c.calls found.0 ≡ Some (using open_call is.0) = found.2 ∙ ap (λ (s : CallState Opened). Some s) is.1 in
+    (found.0, is.0, there, (old.users found.0 open_call is.0 there).of_closed o at)
 
 -- ---- a step of a call
 
@@ -74,10 +74,10 @@ module _ (c : Vfs Opened) (closing : Map Opened) (old : ClosedFiles c closing) (
     (except : ℕ → Bool) (mine : (h : ℕ) (operation : Operation ℕ Opened) → get c.calls call ≡ Some (using h operation)
     → except h ≡ true) where
   -- its calls are these, and its open files these
-  abbrev Then : Map (CallState Opened) → Map Opened → NameMap Binding → Map Answer → Vfs Opened
+  abbrev Then : Map (CallState Opened) → Map Opened → NameMap Dentry → Map Answer → Vfs Opened
   Then m os names answers = record c { calls = m; opens = os; names = names; answers = answers; next_call = n }
 
-  module _ (m : Map (CallState Opened)) (os : Map Opened) (names : NameMap Binding) (answers : Map Answer)
+  module _ (m : Map (CallState Opened)) (os : Map Opened) (names : NameMap Dentry) (answers : Map Answer)
       (others : (q : ℕ) → q ≢ call → get m q ≡ get c.calls q) where
     answered_still : (h : ℕ) → WasAnswered c h → WasAnswered (Then m os names answers) h
     answered_still h was = record {
@@ -126,7 +126,7 @@ module _ (c : Vfs Opened) (closing : Map Opened) (old : ClosedFiles c closing) (
   gone_in_order = is_sorted-where_key nat_cmp (λ (x : ℕ). not (nat_eq x call)) c.calls old.calls_in_order
 
   -- The call is answered.
-  pub ends_but : (names : NameMap Binding) (answers : Map Answer)
+  pub ends_but : (names : NameMap Dentry) (answers : Map Answer)
       → ClosedBut except (Then (remove c.calls call) c.opens names answers) closing
   ends_but names answers =
       stepped (remove c.calls call) c.opens names answers gone gone_in_order
@@ -134,7 +134,7 @@ module _ (c : Vfs Opened) (closing : Map Opened) (old : ClosedFiles c closing) (
       (λ h o at. answered_still (remove c.calls call) c.opens names answers gone h (old.opens h o at)) (λ h was. refl)
 
   -- The call is answered, and a file is open under its number.
-  pub opens_but : (o : Opened) (names : NameMap Binding) (answers : Map Answer)
+  pub opens_but : (o : Opened) (names : NameMap Dentry) (answers : Map Answer)
       → ClosedBut except (Then (remove c.calls call) (put c.opens call o) names answers) closing
   opens_but o names answers =
       let m = remove c.calls call in
@@ -148,7 +148,7 @@ module _ (c : Vfs Opened) (closing : Map Opened) (old : ClosedFiles c closing) (
 
   -- The call asks an operation, on an open file or on none.
   pub asks_but : (state : CallState Opened) → ((h : ℕ) (operation : Operation ℕ Opened) → state ≡ using h operation
-      → (o : Opened) × (get c.opens h ≡ Some o) × (opens_of operation ≡ o ∷ [])) → (names : NameMap Binding)
+      → (o : Opened) × (get c.opens h ≡ Some o) × (opens_of operation ≡ o ∷ [])) → (names : NameMap Dentry)
       → ClosedBut except (Then (put c.calls call state) c.opens names c.answers) closing
   asks_but state is_open names =
       let m = put c.calls call state in
@@ -173,34 +173,34 @@ module _ (c : Vfs Opened) (closing : Map Opened) (old : ClosedFiles c closing) (
           }
 
 -- A file is closed: it may be used no more.
-pub closed_but : (c : Vfs Opened) (closing : Map Opened) → ClosedFiles c closing → (handle : ℕ) (o : Opened)
-    → get c.opens handle ≡ Some o → ClosedBut (nat_eq handle) (record c { opens = remove c.opens handle })
-    (put closing handle o)
-closed_but c closing old handle o there = record {
+pub closed_but : (c : Vfs Opened) (closing : Map Opened) → ClosedFiles c closing → (open_call : ℕ) (o : Opened)
+    → get c.opens open_call ≡ Some o → ClosedBut (nat_eq open_call) (record c { opens = remove c.opens open_call })
+    (put closing open_call o)
+closed_but c closing old open_call o there = record {
   calls_in_order = old.calls_in_order;
-  closing_in_order = is_sorted-put nat_cmp nat_cmp_total handle o closing old.closing_in_order;
+  closing_in_order = is_sorted-put nat_cmp nat_cmp_total open_call o closing old.closing_in_order;
   calls_below = old.calls_below;
-  opens = λ h x at. again h (old.opens h x (left_found c.opens handle h x at));
+  opens = λ h x at. again h (old.opens h x (left_found c.opens open_call h x at));
   users = λ q h operation at.
       let was = old.users q h operation at in
       record {
         opener = again h was.opener;
-        of_open = λ x here. was.of_open x (left_found c.opens handle h x here);
-        of_closed = λ x closed. elim (put_found closing handle o h x closed) [
+        of_open = λ x here. was.of_open x (left_found c.opens open_call h x here);
+        of_closed = λ x closed. elim (put_found closing open_call o h x closed) [
           | inl e ↦ subst (λ (y : Opened). opens_of operation ≡ y ∷ []) e.1
               (was.of_open o (subst (λ (y : ℕ). get c.opens y ≡ Some o) (sym e.0) there))
           | inr before ↦ was.of_closed x before
         ];
       };
-  not_open = λ h x at. elim (put_found closing handle o h x at) [
-    | inl e ↦ subst (λ (y : ℕ). get (remove c.opens handle) y ≡ None) (sym e.0) (get_gone_here c.opens handle)
-    | inr before ↦ left_none c.opens handle h (old.not_open h x before)
+  not_open = λ h x at. elim (put_found closing open_call o h x at) [
+    | inl e ↦ subst (λ (y : ℕ). get (remove c.opens open_call) y ≡ None) (sym e.0) (get_gone_here c.opens open_call)
+    | inr before ↦ left_none c.opens open_call h (old.not_open h x before)
   ];
-  used = λ h x at free. elim (put_found closing handle o h x at) [
-    | inl e ↦ absurd (true≢false (sym (subst (λ (y : ℕ). nat_eq handle y ≡ true) (sym e.0) (same_is handle)) ∙ free))
+  used = λ h x at free. elim (put_found closing open_call o h x at) [
+    | inl e ↦ absurd (true≢false (sym (subst (λ (y : ℕ). nat_eq open_call y ≡ true) (sym e.0) (same_is open_call)) ∙ free))
     | inr before ↦ old.used h x before
   ];
 }
   where
-    again : (h : ℕ) → WasAnswered c h → WasAnswered (record c { opens = remove c.opens handle }) h
+    again : (h : ℕ) → WasAnswered c h → WasAnswered (record c { opens = remove c.opens open_call }) h
     again h was = record { begun = was.begun; not_waiting = was.not_waiting }

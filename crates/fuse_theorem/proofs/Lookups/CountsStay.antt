@@ -38,22 +38,22 @@ advanced_same k call next = by next.operation
     by None = record { nodes = refl; forgets = refl }
     by (Some operation) = record { nodes = refl; forgets = refl }
 
-idle_same : (k : Kernel) (handle : ℕ) → SameCounts k (released_if_idle k handle)
-idle_same k handle = by (get k.closing handle)
+idle_same : (k : Kernel) (open_call : ℕ) → SameCounts k (released_if_idle k open_call)
+idle_same k open_call = by (get k.closing open_call)
   where
     unless_used : (b : Bool) (o : Opened) → (cond b k.queues (after_enqueue k.queues (purpose.Release o))).forgets
         ≡ k.queues.forgets
     unless_used true o = refl
     unless_used false o = refl
 
-    by : (o : Option Opened) → SameCounts k (released k handle o)
+    by : (o : Option Opened) → SameCounts k (released k open_call o)
     by None = record { nodes = refl; forgets = refl }
-    by (Some o) = record { nodes = refl; forgets = unless_used (is_used k handle) o }
+    by (Some o) = record { nodes = refl; forgets = unless_used (is_used k open_call) o }
 
 pub used_same : (k : Kernel) (state : CallState Opened) → SameCounts k (after_use k state)
 used_same k (walking d word words plan) = record { nodes = refl; forgets = refl }
 used_same k (doing operation) = record { nodes = refl; forgets = refl }
-used_same k (using handle operation) = idle_same k handle
+used_same k (using open_call operation) = idle_same k open_call
 
 -- A call begins.
 pub begun_same : (k : Kernel) (call : Call) → SameCounts k (call_begun k call)

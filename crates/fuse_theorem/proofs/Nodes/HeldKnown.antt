@@ -31,7 +31,7 @@ pub state_names : (nodes : Map Counted) (state : CallState Opened) → All (IsKn
 state_names nodes (walking d word words plan) h =
     All-cons (IsKnown nodes) d [] (All-head (IsKnown nodes) d _ h) (All-nil (IsKnown nodes))
 state_names nodes (doing operation) h = h
-state_names nodes (using handle operation) h = h
+state_names nodes (using open_call operation) h = h
 
 pub names_known : (k : Kernel) → NodesKnown k → (unique : ℕ) (operation : Operation ℕ Opened)
     → IsAsked k unique (asks operation) → All (IsKnown k.nodes) (files_in opened_nodes operation)

@@ -105,17 +105,17 @@ advanced_known k call next new = by next.operation
     by None = new
     by (Some operation) = new
 
-idle_known : (k : Kernel) (handle : ℕ) → NodesKnown k → NodesKnown (released_if_idle k handle)
-idle_known k handle old = by (get k.closing handle)
+idle_known : (k : Kernel) (open_call : ℕ) → NodesKnown k → NodesKnown (released_if_idle k open_call)
+idle_known k open_call old = by (get k.closing open_call)
   where
-    by : (o : Option Opened) → NodesKnown (released k handle o)
+    by : (o : Option Opened) → NodesKnown (released k open_call o)
     by None = old
     by (Some o) = old
 
 used_known : (k : Kernel) (state : CallState Opened) → NodesKnown k → NodesKnown (after_use k state)
 used_known k (walking d word words plan) old = old
 used_known k (doing operation) old = old
-used_known k (using handle operation) old = idle_known k handle old
+used_known k (using open_call operation) old = idle_known k open_call old
 
 pub call_known : (k : Kernel) → NodesKnown k → (call : Call) → NodesKnown (call_begun k call)
 call_known k old call =

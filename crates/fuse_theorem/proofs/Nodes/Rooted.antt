@@ -57,9 +57,9 @@ begun_rooted aborted c call r = by aborted
     begins (faulty errno) = answered_rooted (numbered c) c.next_call (answer.failed errno) next
     begins (sets_out words plan) = after_walk_rooted (numbered c) c.next_call
         (walk (look (numbered c)) c.root c.root words plan) next
-    begins (uses handle operation) = record { root = r.root; answers = r.answers }
-    begins (closes handle o) = answered_rooted (record
-        (numbered c) { opens = remove c.opens handle }) c.next_call answer.done
+    begins (uses open_call operation) = record { root = r.root; answers = r.answers }
+    begins (closes open_call o) = answered_rooted (record
+        (numbered c) { opens = remove c.opens open_call }) c.next_call answer.done
         (record { root = r.root; answers = r.answers })
 
     by : (b : Bool) → IsRooted (cond b (no_more (answered (numbered c) c.next_call (answer.failed 107)))
@@ -103,7 +103,7 @@ replied_rooted c call (walking d word words plan) (missing valid) r =
 replied_rooted c call (walking d word words plan) (failed errno) r = answered_rooted c call (answer.failed errno) r
 replied_rooted c call (walking d word words plan) reply r = answered_rooted c call (answer.failed 5) r
 replied_rooted c call (doing operation) reply r = operation_rooted c call operation reply r
-replied_rooted c call (using handle operation) reply r = operation_rooted c call operation reply r
+replied_rooted c call (using open_call operation) reply r = operation_rooted c call operation reply r
 
 -- ---- what the kernel does beside it
 
@@ -115,17 +115,17 @@ advanced_rooted k call next r = by next.operation
     by None = r
     by (Some operation) = r
 
-idle_rooted : (k : Kernel) (handle : ℕ) → IsRooted k.vfs → IsRooted (released_if_idle k handle).vfs
-idle_rooted k handle r = by (get k.closing handle)
+idle_rooted : (k : Kernel) (open_call : ℕ) → IsRooted k.vfs → IsRooted (released_if_idle k open_call).vfs
+idle_rooted k open_call r = by (get k.closing open_call)
   where
-    by : (o : Option Opened) → IsRooted (released k handle o).vfs
+    by : (o : Option Opened) → IsRooted (released k open_call o).vfs
     by None = r
     by (Some x) = r
 
 used_rooted : (k : Kernel) (state : CallState Opened) → IsRooted k.vfs → IsRooted (after_use k state).vfs
 used_rooted k (walking d word words plan) r = r
 used_rooted k (doing operation) r = r
-used_rooted k (using handle operation) r = idle_rooted k handle r
+used_rooted k (using open_call operation) r = idle_rooted k open_call r
 
 closing_rooted : (k : Kernel) (file : Option (ℕ × Opened)) → IsRooted k.vfs → IsRooted (closing_of k file).vfs
 closing_rooted k None r = r

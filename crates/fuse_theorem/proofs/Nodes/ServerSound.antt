@@ -40,7 +40,7 @@ discarded_unheld_sound s sound =
       tree = record {
         root = get_kept (λ f. not (is_nameless s.tree f) || is_file_held s f) s.tree.files 0 ∙ tree.root;
         names = tree.names;
-        births = tree.births;
+        inodes = tree.inodes;
       };
       nodes = sound.nodes;
       handles = sound.handles;
@@ -283,7 +283,7 @@ settled_sound s sound result (Some copy) =
 
 pub first_sound : ServerSound first_server
 first_sound = record {
-  tree = record { root = refl; names = All-nil (λ (n : Named). n.file ≢ 0); births = omega arith };
+  tree = record { root = refl; names = All-nil (λ (n : Named). n.file ≢ 0); inodes = omega arith };
   nodes = emptied_sound first_server.nodes;
   handles = emptied_handles_sound first_server.handles;
   copies = λ number later. refl;

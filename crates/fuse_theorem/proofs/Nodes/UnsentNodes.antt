@@ -40,7 +40,7 @@ asked_fewer : (node : ℕ) (state : CallState Opened) → list_any (nat_eq node)
     → list_any (nat_eq node) (files_in opened_nodes (asked state)) ≡ false
 asked_fewer node (walking d word words plan) none = ap (λ (b : Bool). b || false) (or_false (nat_eq node d) _ none).0
 asked_fewer node (doing operation) none = none
-asked_fewer node (using handle operation) none = none
+asked_fewer node (using open_call operation) none = none
 
 module _ (k : Kernel) (node : ℕ) (unpinned : is_pinned k node ≡ false) where
   abbrev OfCalls : CallState Opened → Bool

@@ -7,7 +7,7 @@ use Rattle.std.specs.Ordering.{nat_cmp}
 use Rattle.std.specs.FinMap.{is_sorted}
 use Rattle.std.specs.FinMap.Entries.{is_sorted-where_key}
 use Rattle.std.proofs.lemmas.Bool.Decides.{nat_tests}
-use Rattle.fuse_spec.specs.declared.Binding.{Binding}
+use Rattle.fuse_spec.specs.declared.Dentry.{Dentry}
 use Rattle.fuse_spec.specs.declared.IntrEffect.{IntrEffect}
 use Rattle.fuse_spec.specs.declared.IntrEffect.TheVariants.{Dequeued, Flagged, Queued, None as NoEffect}
 use Rattle.fuse_spec.specs.declared.Opened.{Opened}
@@ -45,13 +45,13 @@ use Rattle.fuse_theorem.proofs.Calls.UsedFiles.{ClosedBut, all_used, ends_but, o
 
 -- ---- the kernel releases a closed file that is used no more
 
-idle_closes : (k : Kernel) (handle : ℕ) → ClosedBut (nat_eq handle) k.vfs k.closing
-    → ClosedFiles (released_if_idle k handle).vfs (released_if_idle k handle).closing
-idle_closes k handle b = by (get k.closing handle) refl
+idle_closes : (k : Kernel) (open_call : ℕ) → ClosedBut (nat_eq open_call) k.vfs k.closing
+    → ClosedFiles (released_if_idle k open_call).vfs (released_if_idle k open_call).closing
+idle_closes k open_call b = by (get k.closing open_call) refl
   where
     -- only that file is judged
-    rest : (closing : Map Opened) → ClosedBut (nat_eq handle) k.vfs closing
-        → ((o : Opened) → get closing handle ≡ Some o → list_any (is_using handle) (values k.vfs.calls) ≡ true)
+    rest : (closing : Map Opened) → ClosedBut (nat_eq open_call) k.vfs closing
+        → ((o : Opened) → get closing open_call ≡ Some o → list_any (is_using open_call) (values k.vfs.calls) ≡ true)
         → ClosedFiles k.vfs closing
     rest closing c mine = record {
       calls_in_order = c.calls_in_order;
@@ -60,43 +60,43 @@ idle_closes k handle b = by (get k.closing handle) refl
       opens = c.opens;
       users = c.users;
       not_open = c.not_open;
-      used = λ h o at. elim (cases_eq h handle) [
+      used = λ h o at. elim (cases_eq h open_call) [
         | inl e ↦ subst (λ (n : ℕ). list_any (is_using n) (values k.vfs.calls) ≡ true) (sym e)
             (mine o (subst (λ (n : ℕ). get closing n ≡ Some o) e at))
-        | inr ne ↦ c.used h o at (other_is handle h (λ e. ne (sym e)))
+        | inr ne ↦ c.used h o at (other_is open_call h (λ e. ne (sym e)))
       ];
     }
 
-    left : ClosedBut (nat_eq handle) k.vfs (remove k.closing handle)
+    left : ClosedBut (nat_eq open_call) k.vfs (remove k.closing open_call)
     left = record {
       calls_in_order = b.calls_in_order;
-      closing_in_order = is_sorted-where_key nat_cmp (λ (x : ℕ). not (nat_eq x handle)) k.closing b.closing_in_order;
+      closing_in_order = is_sorted-where_key nat_cmp (λ (x : ℕ). not (nat_eq x open_call)) k.closing b.closing_in_order;
       calls_below = b.calls_below;
       opens = b.opens;
       users = λ q h operation at.
           let was = b.users q h operation at in record {
             opener = was.opener;
             of_open = was.of_open;
-            of_closed = λ o there. was.of_closed o (left_found k.closing handle h o there);
+            of_closed = λ o there. was.of_closed o (left_found k.closing open_call h o there);
           };
-      not_open = λ h o at. b.not_open h o (left_found k.closing handle h o at);
-      used = λ h o at free. b.used h o (left_found k.closing handle h o at) free;
+      not_open = λ h o at. b.not_open h o (left_found k.closing open_call h o at);
+      used = λ h o at free. b.used h o (left_found k.closing open_call h o at) free;
     }
 
-    judged_used : (b1 : Bool) → is_used k handle ≡ b1 → ClosedFiles k.vfs (cond b1 k.closing (remove k.closing handle))
+    judged_used : (b1 : Bool) → is_used k open_call ≡ b1 → ClosedFiles k.vfs (cond b1 k.closing (remove k.closing open_call))
     judged_used true e = rest k.closing b (λ o at. e)
-    judged_used false e = rest (remove k.closing handle) left (λ o at. absurd (cc (at, get_gone_here k.closing handle)))
+    judged_used false e = rest (remove k.closing open_call) left (λ o at. absurd (cc (at, get_gone_here k.closing open_call)))
 
-    by : (o : Option Opened) → get k.closing handle ≡ o
-        → ClosedFiles (released k handle o).vfs (released k handle o).closing
+    by : (o : Option Opened) → get k.closing open_call ≡ o
+        → ClosedFiles (released k open_call o).vfs (released k open_call o).closing
     by None none = rest k.closing b (λ o at. absurd (cc (at, none)))
-    by (Some o) at = judged_used (is_used k handle) refl
+    by (Some o) at = judged_used (is_used k open_call) refl
 
 used_closes : (k : Kernel) (state : CallState Opened) → ClosedBut (λ h. is_using h state) k.vfs k.closing
     → ClosedFiles (after_use k state).vfs (after_use k state).closing
 used_closes k (walking d word words plan) b = all_used (λ h. false) k.vfs k.closing b (λ h. refl)
 used_closes k (doing operation) b = all_used (λ h. false) k.vfs k.closing b (λ h. refl)
-used_closes k (using handle operation) b = idle_closes k handle b
+used_closes k (using open_call operation) b = idle_closes k open_call b
 
 advanced_but : (except : ℕ → Bool) (k : Kernel) (call : ℕ) (next : Advance Opened)
     → ClosedBut except next.vfs k.closing → ClosedBut except (advanced k call next).vfs (advanced k call next).closing
@@ -127,11 +127,11 @@ module _ (c : Vfs Opened) (closing : Map Opened) (old : ClosedFiles c closing) (
   mine : (h : ℕ) (operation : Operation ℕ Opened) → get c.calls call ≡ Some (using h operation) → Mine h ≡ true
   mine h operation at = let same : state ≡ using h operation = cc (there, at) in ap (is_using h) same ∙ same_is h
 
-  ends_so : (names : NameMap Binding) (answers : Map answer.Answer)
+  ends_so : (names : NameMap Dentry) (answers : Map answer.Answer)
       → ClosedBut Mine (record c { calls = remove c.calls call; names = names; answers = answers }) closing
   ends_so names answers = ends_but c closing old c.next_call call (omega arith) low apart Mine mine names answers
 
-  opens_so : (o : Opened) (names : NameMap Binding) (answers : Map answer.Answer)
+  opens_so : (o : Opened) (names : NameMap Dentry) (answers : Map answer.Answer)
       → ClosedBut Mine (record c {
         calls = remove c.calls call;
         opens = put c.opens call o;
@@ -143,7 +143,7 @@ module _ (c : Vfs Opened) (closing : Map Opened) (old : ClosedFiles c closing) (
   pub answered_so : (a : answer.Answer) → ClosedBut Mine (answered c call a) closing
   answered_so a = ends_so c.names _
 
-  walks_so : (names : NameMap Binding) (went : Walked ℕ Opened)
+  walks_so : (names : NameMap Dentry) (went : Walked ℕ Opened)
       → ClosedBut Mine (after_walk (record c { names = names }) call went).vfs closing
   walks_so names (looks_up d word words plan) = asks_but c closing old c.next_call call
       (omega arith) low apart Mine mine (walking d word words plan) (λ h operation e. absurd (cc (e))) names
@@ -176,7 +176,7 @@ module _ (c : Vfs Opened) (closing : Map Opened) (old : ClosedFiles c closing) (
   replied_so (failed errno) (walking d word words plan) = ends_so _ _
   replied_so reply (walking d word words plan) = ends_so _ _
   replied_so reply (doing operation) = operation_so operation reply
-  replied_so reply (using handle operation) = operation_so operation reply
+  replied_so reply (using open_call operation) = operation_so operation reply
 
 -- ---- a call begins
 
@@ -184,8 +184,8 @@ module _ (opens : Map Opened) where
   abbrev BeginsOn : Beginning ℕ Opened → Type 0
   BeginsOn (faulty errno) = Unit {0}
   BeginsOn (sets_out words plan) = Unit {0}
-  BeginsOn (uses handle operation) = (o : Opened) × (get opens handle ≡ Some o) × (opens_of operation ≡ o ∷ [])
-  BeginsOn (closes handle o) = ⊥
+  BeginsOn (uses open_call operation) = (o : Opened) × (get opens open_call ≡ Some o) × (opens_of operation ≡ o ∷ [])
+  BeginsOn (closes open_call o) = ⊥
 
   whole_on : (path : List ℕ) (then : List Name → Beginning ℕ Opened) → ((words : List Name) → BeginsOn (then words))
       → BeginsOn (whole_path path then)
@@ -205,13 +205,13 @@ module _ (opens : Map Opened) where
       by None = tt
       by (Some parts) = each parts.0 parts.1
 
-  using_on : (handle : ℕ) (o : Option Opened) → get opens handle ≡ o
+  using_on : (open_call : ℕ) (o : Option Opened) → get opens open_call ≡ o
       → (offset size : ℕ) (then : Opened → Operation ℕ Opened) → ((x : Opened) → opens_of (then x) ≡ x ∷ [])
-      → BeginsOn (begins.using handle o offset size then)
-  using_on handle None at offset size then each = tt
-  using_on handle (Some x) at offset size then each = by (nat_lt 65536 offset || nat_lt 4096 size)
+      → BeginsOn (begins.using open_call o offset size then)
+  using_on open_call None at offset size then each = tt
+  using_on open_call (Some x) at offset size then each = by (nat_lt 65536 offset || nat_lt 4096 size)
     where
-      by : (b : Bool) → BeginsOn (cond b (faulty 22) (uses handle (then x)))
+      by : (b : Bool) → BeginsOn (cond b (faulty 22) (uses open_call (then x)))
       by true = tt
       by false = (x, at, each x)
 
@@ -226,7 +226,7 @@ module _ (c : Vfs Opened) (closing : Map Opened) (old : ClosedFiles c closing) w
       → no_call h ≡ true
   not_begun h operation at = absurd (cc (at, old.calls_below c.next_call (omega arith)))
 
-  at_once : (names : NameMap Binding) (answers : Map answer.Answer)
+  at_once : (names : NameMap Dentry) (answers : Map answer.Answer)
       → ClosedFiles (record c {
         calls = remove c.calls c.next_call;
         names = names;
@@ -253,18 +253,18 @@ module _ (c : Vfs Opened) (closing : Map Opened) (old : ClosedFiles c closing) w
       → ClosedFiles (after_beginning (numbered c) c.next_call b).vfs closing
   begins_so (faulty errno) h = at_once c.names _
   begins_so (sets_out words plan) h = walked_off (walk (look (numbered c)) c.root c.root words plan)
-  begins_so (uses handle operation) h = sets_off (using handle operation) (λ q other e. file q other e)
+  begins_so (uses open_call operation) h = sets_off (using open_call operation) (λ q other e. file q other e)
     where
-      file : (q : ℕ) (other : Operation ℕ Opened) → using handle operation ≡ using q other
+      file : (q : ℕ) (other : Operation ℕ Opened) → using open_call operation ≡ using q other
           → (o : Opened) × (get c.opens q ≡ Some o) × (opens_of other ≡ o ∷ [])
       file q other e =
-          let same : handle ≡ q = cc (e) in
+          let same : open_call ≡ q = cc (e) in
           let alike : operation ≡ other = cc (e) in (
             h.0,
             subst (λ (n : ℕ). get c.opens n ≡ Some h.0) same h.1,
             subst (λ (x : Operation ℕ Opened). opens_of x ≡ h.0 ∷ []) alike h.2,
           )
-  begins_so (closes handle o) h = absurd h
+  begins_so (closes open_call o) h = absurd h
 
   -- a call that closes nothing
   unaborted : (x : Call) → BeginsOn c.opens (beginning c.opens x) → ClosedFiles (begun false c x).vfs closing
@@ -300,11 +300,11 @@ module _ (k : Kernel) (old : ClosedFiles k.vfs k.closing) where
       (closing_of (advanced k k.vfs.next_call (begun false k.vfs x)) f)) (sym none)
       (advances x false (unaborted k.vfs k.closing old x on))
 
-  closes_one : (handle : ℕ) (o : Option Opened) → get k.vfs.opens handle ≡ o
+  closes_one : (open_call : ℕ) (o : Option Opened) → get k.vfs.opens open_call ≡ o
       → After (closing_of (advanced k k.vfs.next_call (after_beginning (numbered k.vfs) k.vfs.next_call
-      (begins.closing handle o))) (option_map (λ (opened : Opened). (handle, opened)) o))
-  closes_one handle None at = at_once k.vfs k.closing old k.vfs.names _
-  closes_one handle (Some o) at =
+      (begins.closing open_call o))) (option_map (λ (opened : Opened). (open_call, opened)) o))
+  closes_one open_call None at = at_once k.vfs k.closing old k.vfs.names _
+  closes_one open_call (Some o) at =
       let done_at_once = at_once k.vfs k.closing old k.vfs.names (put k.vfs.answers k.vfs.next_call answer.done) in
       idle_closes (record k {
         vfs = record k.vfs {
@@ -312,16 +312,16 @@ module _ (k : Kernel) (old : ClosedFiles k.vfs k.closing) where
           answers = put k.vfs.answers k.vfs.next_call answer.done;
           next_call = k.vfs.next_call + 1;
           opens =
-              remove k.vfs.opens handle;
+              remove k.vfs.opens open_call;
         };
-        closing = put k.closing handle o;
-      }) handle
+        closing = put k.closing open_call o;
+      }) open_call
       (closed_but (record k.vfs {
         calls = remove k.vfs.calls k.vfs.next_call;
         answers = put k.vfs.answers k.vfs.next_call answer.done;
         next_call =
             k.vfs.next_call + 1;
-      }) k.closing done_at_once handle o at)
+      }) k.closing done_at_once open_call o at)
 
   by_call_of : (x : Call) → Begun false x
   by_call_of (call.stat path) = others (call.stat path) refl (whole_on k.vfs.opens path _ (λ words. tt))
@@ -337,13 +337,13 @@ module _ (k : Kernel) (old : ClosedFiles k.vfs k.closing) where
       (parent_on k.vfs.opens from _ (λ words name. parent_on k.vfs.opens to _ (λ more other. tt)))
   by_call_of (call.link from to) = others (call.link from to) refl
       (whole_on k.vfs.opens from _ (λ words. parent_on k.vfs.opens to _ (λ more name. tt)))
-  by_call_of (call.read handle offset size) =
-      others (call.read handle offset size) refl (using_on k.vfs.opens handle (get k.vfs.opens handle) refl offset size
+  by_call_of (call.read open_call offset size) =
+      others (call.read open_call offset size) refl (using_on k.vfs.opens open_call (get k.vfs.opens open_call) refl offset size
       (λ o. read o offset size) (λ o. refl))
-  by_call_of (call.write handle offset bytes) =
-      others (call.write handle offset bytes) refl (using_on k.vfs.opens handle (get k.vfs.opens handle) refl offset
+  by_call_of (call.write open_call offset bytes) =
+      others (call.write open_call offset bytes) refl (using_on k.vfs.opens open_call (get k.vfs.opens open_call) refl offset
       (length bytes) (λ o. write o offset bytes) (λ o. refl))
-  by_call_of (call.close handle) = closes_one handle (get k.vfs.opens handle) refl
+  by_call_of (call.close open_call) = closes_one open_call (get k.vfs.opens open_call) refl
 
   pub call_closes : (x : Call) → After (call_begun k x)
   call_closes x = by (is_aborted k.phase)

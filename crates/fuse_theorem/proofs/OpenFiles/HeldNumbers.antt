@@ -40,7 +40,7 @@ module _ (w : World) (links : LinksSound w) (old : OpensAfterAbort w) (dead : is
       let now : NumbersStillOpen w.server.nodes back (remove w.server.held unique) =
       released_open w.server.nodes w.server.handles w.server.held left.numbers unique t there o body_is in
       record {
-        opens = λ handle x at. none_in w.kernel.vfs.opens handle x left.opens at;
+        opens = λ open_call x at. none_in w.kernel.vfs.opens open_call x left.opens at;
         calls = λ call state at x among. none_in w.kernel.vfs.calls call state left.calls at;
         sent = subst (All (λ (r : Request). (x : Opened) → Contains (opens_of_body r.body) x → IsOpenNumber back x.fh))
             (sym idle.requests) (All-nil (λ (r : Request). (x : Opened) → Contains (opens_of_body r.body) x

@@ -56,11 +56,11 @@ module _ (w : World) (h : HandleTable) (apart : OpensApart w.kernel.vfs w.kernel
       (All-left Held (opened ++ closed ++ released_pending w.kernel.queues ++ released_sent w.requests)
       (released_held w.server.held) numbers))
 
-  of_opens : (handle : ℕ) (o : Opened) → get w.kernel.vfs.opens handle ≡ Some o → Held o
-  of_opens handle o at = All-get Held w.kernel.vfs.opens handle o (All-left Held opened closed kernel_files) at
+  of_opens : (open_call : ℕ) (o : Opened) → get w.kernel.vfs.opens open_call ≡ Some o → Held o
+  of_opens open_call o at = All-get Held w.kernel.vfs.opens open_call o (All-left Held opened closed kernel_files) at
 
-  of_closing : (handle : ℕ) (o : Opened) → get w.kernel.closing handle ≡ Some o → Held o
-  of_closing handle o at = All-get Held w.kernel.closing handle o (All-right Held opened closed kernel_files) at
+  of_closing : (open_call : ℕ) (o : Opened) → get w.kernel.closing open_call ≡ Some o → Held o
+  of_closing open_call o at = All-get Held w.kernel.closing open_call o (All-right Held opened closed kernel_files) at
 
   of_calls : (call : ℕ) (state : CallState Opened) → get w.kernel.vfs.calls call ≡ Some state
       → All Held (opens_of (asked state))
@@ -69,8 +69,8 @@ module _ (w : World) (h : HandleTable) (apart : OpensApart w.kernel.vfs w.kernel
       by : (s : CallState Opened) → UsesOpen w.kernel.vfs.opens w.kernel.closing s → All Held (opens_of (asked s))
       by (walking d word words plan) u = All-nil Held
       by (doing operation) u = subst (λ (os : List Opened). All Held os) (sym u) (All-nil Held)
-      by (using handle operation) u =
-          λ i d lt. elim (u i d lt) [ inl e ↦ of_opens handle _ e | inr e ↦ of_closing handle _ e ]
+      by (using open_call operation) u =
+          λ i d lt. elim (u i d lt) [ inl e ↦ of_opens open_call _ e | inr e ↦ of_closing open_call _ e ]
 
   of_asked : (unique : ℕ) (operation : Operation ℕ Opened) → IsAsked w.kernel unique (asks operation)
       → All Held (opens_of operation)

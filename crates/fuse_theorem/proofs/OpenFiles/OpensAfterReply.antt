@@ -152,7 +152,7 @@ module _ (P : Opened → Type 0) where
         by (opened n) e = absurd (true≢false (sym e))
         by x e = refl
     state_counts fh (doing operation) goes = gained_counts fh operation wire goes
-    state_counts fh (using handle operation) goes = gained_counts fh operation wire goes
+    state_counts fh (using open_call operation) goes = gained_counts fh operation wire goes
 
     state_fits : ((o : Opened) → gained_by (asked state) (kernel_reply (asked state) wire) ≡ Some o → P o)
         → (o : Opened) → gained state (kernel_reply (asked state) wire) ≡ Some o → P o
@@ -162,7 +162,7 @@ module _ (P : Opened → Type 0) where
             → gained s (kernel_reply (asked s) wire) ≡ Some o → P o
         by (walking d word words plan) all e = absurd (cc (e))
         by (doing operation) all e = all o e
-        by (using handle operation) all e = all o e
+        by (using open_call operation) all e = all o e
 
     goes_received : IsUsable k.nodes wire → goes_with (asked state) wire ≡ true
         → ((o : Opened) → gained_by (asked state) (kernel_reply (asked state) wire) ≡ Some o → P o)

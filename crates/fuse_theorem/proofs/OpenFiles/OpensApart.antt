@@ -37,12 +37,12 @@ CallSteps c d call gained = StepsFrom c.calls c.opens c.next_call d call gained
 
 -- What is used is still there where no open or closing file is another one.
 pub uses_still : (opens closing opens' closing' : Map Opened)
-    → ((handle : ℕ) (o : Opened) → (get opens handle ≡ Some o) ⊎ (get closing handle ≡ Some o)
-    → (get opens' handle ≡ Some o) ⊎ (get closing' handle ≡ Some o))
+    → ((open_call : ℕ) (o : Opened) → (get opens open_call ≡ Some o) ⊎ (get closing open_call ≡ Some o)
+    → (get opens' open_call ≡ Some o) ⊎ (get closing' open_call ≡ Some o))
     → (state : CallState Opened) → UsesOpen opens closing state → UsesOpen opens' closing' state
 uses_still opens closing opens' closing' still (walking d word words plan) h = tt
 uses_still opens closing opens' closing' still (doing operation) h = h
-uses_still opens closing opens' closing' still (using handle operation) h = λ i d lt. still handle _ (h i d lt)
+uses_still opens closing opens' closing' still (using open_call operation) h = λ i d lt. still open_call _ (h i d lt)
 
 module _ (c : Vfs Opened) (closing : Map Opened) (old : OpensApart c closing) where
   -- the number of an unanswered call is of no open or closing file
@@ -102,10 +102,10 @@ module _ (c : Vfs Opened) (closing : Map Opened) (old : OpensApart c closing) wh
               let no = ap stands none in
               omega (arith, no)
 
-      still_there : (handle : ℕ) (o : Opened) → (get c.opens handle ≡ Some o) ⊎ (get closing handle ≡ Some o)
-          → (get d.opens handle ≡ Some o) ⊎ (get closing handle ≡ Some o)
-      still_there handle o (inr h) = inr h
-      still_there handle o (inl h) = inl (other_opens handle
+      still_there : (open_call : ℕ) (o : Opened) → (get c.opens open_call ≡ Some o) ⊎ (get closing open_call ≡ Some o)
+          → (get d.opens open_call ≡ Some o) ⊎ (get closing open_call ≡ Some o)
+      still_there open_call o (inr h) = inr h
+      still_there open_call o (inl h) = inl (other_opens open_call
           (λ e. absurd (cc (h, subst (λ (n : ℕ). get c.opens n ≡ None) (sym e) free))) ∙ h)
 
       pub stepped_apart : OpensApart d closing

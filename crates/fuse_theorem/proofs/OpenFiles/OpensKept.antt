@@ -75,49 +75,49 @@ advanced_keeps k old call free unclosed low next gained steps = by next.operatio
 
 -- ---- closed files are released
 
-module _ (k : Kernel) (old : OpensApart k.vfs k.closing) (handle : ℕ) where
-  module _ (o : Opened) (at : get k.closing handle ≡ Some o) (unused : is_used k handle ≡ false) where
+module _ (k : Kernel) (old : OpensApart k.vfs k.closing) (open_call : ℕ) where
+  module _ (o : Opened) (at : get k.closing open_call ≡ Some o) (unused : is_used k open_call ≡ false) where
     -- no call uses the closed file
-    uses_others : (state : CallState Opened) → is_using handle state ≡ false → UsesOpen k.vfs.opens k.closing state
-        → UsesOpen k.vfs.opens (remove k.closing handle) state
+    uses_others : (state : CallState Opened) → is_using open_call state ≡ false → UsesOpen k.vfs.opens k.closing state
+        → UsesOpen k.vfs.opens (remove k.closing open_call) state
     uses_others (walking d word words plan) other_one h = tt
     uses_others (doing operation) other_one h = h
     uses_others (using other operation) other_one h =
-        λ i d lt. elim (h i d lt) [ inl e ↦ inl e | inr e ↦ inr (get_gone_there k.closing handle other apart ∙ e) ]
+        λ i d lt. elim (h i d lt) [ inl e ↦ inl e | inr e ↦ inr (get_gone_there k.closing open_call other apart ∙ e) ]
       where
-        apart : other ≢ handle
-        apart e = true≢false (sym (same_is handle) ∙ ap (λ (n : ℕ). nat_eq n handle) (sym e) ∙ other_one)
+        apart : other ≢ open_call
+        apart e = true≢false (sym (same_is open_call) ∙ ap (λ (n : ℕ). nat_eq n open_call) (sym e) ∙ other_one)
 
-    fewer : (n : ℕ) → stands (get (remove k.closing handle) n) ≤ stands (get k.closing n)
-    fewer n = elim (cases_eq n handle) [
-      | inl e ↦ let none = ap stands (subst (λ (m : ℕ). get (remove k.closing handle) m ≡ None) (sym e)
-          (get_gone_here k.closing handle)) in omega (arith, none)
-      | inr ne ↦ let same = ap stands (get_gone_there k.closing handle n ne) in omega (arith, same)
+    fewer : (n : ℕ) → stands (get (remove k.closing open_call) n) ≤ stands (get k.closing n)
+    fewer n = elim (cases_eq n open_call) [
+      | inl e ↦ let none = ap stands (subst (λ (m : ℕ). get (remove k.closing open_call) m ≡ None) (sym e)
+          (get_gone_here k.closing open_call)) in omega (arith, none)
+      | inr ne ↦ let same = ap stands (get_gone_there k.closing open_call n ne) in omega (arith, same)
     ]
 
-    left_apart : OpensApart k.vfs (remove k.closing handle)
+    left_apart : OpensApart k.vfs (remove k.closing open_call)
     left_apart = record {
       once = λ n. let was = old.once n in let less = fewer n in omega (arith, was, less);
       below = λ n high. let was = old.below n high in let less = fewer n in omega (arith, was, less);
       opens = old.opens;
-      closing = gone_rises k.closing handle old.closing;
-      uses = λ call state there. uses_others state (found_fails (is_using handle) k.vfs.calls call state unused there)
+      closing = gone_rises k.closing open_call old.closing;
+      uses = λ call state there. uses_others state (found_fails (is_using open_call) k.vfs.calls call state unused there)
           (old.uses call state there);
     }
 
   -- A closed file is released once nothing uses it.
-  pub idle_keeps : KeepsOpen k (released_if_idle k handle) None
-  idle_keeps = by (get k.closing handle) refl
+  pub idle_keeps : KeepsOpen k (released_if_idle k open_call) None
+  idle_keeps = by (get k.closing open_call) refl
     where
-      unless_used : (o : Opened) → get k.closing handle ≡ Some o → (b : Bool) → is_used k handle ≡ b
+      unless_used : (o : Opened) → get k.closing open_call ≡ Some o → (b : Bool) → is_used k open_call ≡ b
           → KeepsOpen k (record k {
-            closing = cond b k.closing (remove k.closing handle);
+            closing = cond b k.closing (remove k.closing open_call);
             queues = cond b k.queues (after_enqueue k.queues (purpose.Release o));
           }) None
       unless_used o at true used = unmoved k old
       unless_used o at false unused = record {
         sums = λ f.
-            let gone = sum_gone f k.closing handle old.closing in
+            let gone = sum_gone f k.closing open_call old.closing in
             let mine = ap (worth f) at in
             let queued = queued_sum f k.queues (purpose.Release o) in
             let one = sum_by-cons f o [] in
@@ -125,76 +125,76 @@ module _ (k : Kernel) (old : OpensApart k.vfs k.closing) (handle : ℕ) where
         apart = left_apart o at unused;
       }
 
-      by : (x : Option Opened) → get k.closing handle ≡ x → KeepsOpen k (released k handle x) None
+      by : (x : Option Opened) → get k.closing open_call ≡ x → KeepsOpen k (released k open_call x) None
       by None at = unmoved k old
-      by (Some o) at = unless_used o at (is_used k handle) refl
+      by (Some o) at = unless_used o at (is_used k open_call) refl
 
 pub used_keeps : (k : Kernel) → OpensApart k.vfs k.closing → (state : CallState Opened)
     → KeepsOpen k (after_use k state) None
 used_keeps k old (walking d word words plan) = unmoved k old
 used_keeps k old (doing operation) = unmoved k old
-used_keeps k old (using handle operation) = idle_keeps k old handle
+used_keeps k old (using open_call operation) = idle_keeps k old open_call
 
 -- ---- an open file is closed
 
-module _ (c : Vfs Opened) (closing : Map Opened) (old : OpensApart c closing) (handle : ℕ) (o : Opened)
-    (at : get c.opens handle ≡ Some o) where
-  unclosed : get closing handle ≡ None
+module _ (c : Vfs Opened) (closing : Map Opened) (old : OpensApart c closing) (open_call : ℕ) (o : Opened)
+    (at : get c.opens open_call ≡ Some o) where
+  unclosed : get closing open_call ≡ None
   unclosed =
-      let once = old.once handle in
-      let here = some_stands (get c.opens handle) o at in
-      stands_none (get closing handle) (omega (arith, once, here))
+      let once = old.once open_call in
+      let here = some_stands (get c.opens open_call) o at in
+      stands_none (get closing open_call) (omega (arith, once, here))
 
   moved_there : (n : ℕ) (x : Opened) → (get c.opens n ≡ Some x) ⊎ (get closing n ≡ Some x)
-      → (get (remove c.opens handle) n ≡ Some x) ⊎ (get (put closing handle o) n ≡ Some x)
-  moved_there n x there = elim (cases_eq n handle) [
+      → (get (remove c.opens open_call) n ≡ Some x) ⊎ (get (put closing open_call o) n ≡ Some x)
+  moved_there n x there = elim (cases_eq n open_call) [
     | inl e ↦
-        let here : get (put closing handle o) n ≡ Some o =
-        subst (λ (m : ℕ). get (put closing handle o) m ≡ Some o) (sym e) (get_put_here closing handle o) in
+        let here : get (put closing open_call o) n ≡ Some o =
+        subst (λ (m : ℕ). get (put closing open_call o) m ≡ Some o) (sym e) (get_put_here closing open_call o) in
         inr (here ∙ is_it e there)
     | inr ne ↦ elim there [
-      | inl h ↦ inl (get_gone_there c.opens handle n ne ∙ h)
+      | inl h ↦ inl (get_gone_there c.opens open_call n ne ∙ h)
       | inr h ↦ inr
-          (get_put_there closing handle o n ne ∙ h)
+          (get_put_there closing open_call o n ne ∙ h)
     ]
   ]
     where
-      is_it : n ≡ handle → (get c.opens n ≡ Some x) ⊎ (get closing n ≡ Some x) → Some o ≡ Some x
+      is_it : n ≡ open_call → (get c.opens n ≡ Some x) ⊎ (get closing n ≡ Some x) → Some o ≡ Some x
       is_it e (inl h) = sym at ∙ ap (get c.opens) (sym e) ∙ h
       is_it e (inr h) = absurd (cc (ap (get closing) e, unclosed, h))
 
-  same_standing : (n : ℕ) → stands (get (remove c.opens handle) n) + stands (get (put closing handle o) n)
+  same_standing : (n : ℕ) → stands (get (remove c.opens open_call) n) + stands (get (put closing open_call o) n)
       ≡ stands (get c.opens n) + stands (get closing n)
-  same_standing n = elim (cases_eq n handle) [
+  same_standing n = elim (cases_eq n open_call) [
     | inl e ↦
-        let gone = ap stands (get_gone_here c.opens handle) in
-        let new = ap stands (get_put_here closing handle o) in
+        let gone = ap stands (get_gone_here c.opens open_call) in
+        let new = ap stands (get_put_here closing open_call o) in
         let was = ap stands at in
         let none = ap stands unclosed in
-        subst (λ (m : ℕ). stands (get (remove c.opens handle) m) + stands (get (put closing handle o) m)
+        subst (λ (m : ℕ). stands (get (remove c.opens open_call) m) + stands (get (put closing open_call o) m)
         ≡ stands (get c.opens m) + stands (get closing m)) (sym e) (omega (arith, gone, new, was, none))
     | inr ne ↦
-        let a = ap stands (get_gone_there c.opens handle n ne) in
-        let b = ap stands (get_put_there closing handle o n ne) in
+        let a = ap stands (get_gone_there c.opens open_call n ne) in
+        let b = ap stands (get_put_there closing open_call o n ne) in
         omega (arith, a, b)
   ]
 
-  pub closed_apart : OpensApart (record c { opens = remove c.opens handle }) (put closing handle o)
+  pub closed_apart : OpensApart (record c { opens = remove c.opens open_call }) (put closing open_call o)
   closed_apart = record {
     once = λ n. let was = old.once n in let same = same_standing n in omega (arith, was, same);
     below = λ n high. let was = old.below n high in let same = same_standing n in omega (arith, was, same);
-    opens = gone_rises c.opens handle old.opens;
-    closing = put_rises closing handle o old.closing;
-    uses = λ call state there. uses_still c.opens closing (remove c.opens handle)
-        (put closing handle o) moved_there state (old.uses call state there);
+    opens = gone_rises c.opens open_call old.opens;
+    closing = put_rises closing open_call o old.closing;
+    uses = λ call state there. uses_still c.opens closing (remove c.opens open_call)
+        (put closing open_call o) moved_there state (old.uses call state there);
   }
 
-  pub closed_sum : (f : Opened → ℕ) → values_sum f (remove c.opens handle) + values_sum f (put closing handle o)
+  pub closed_sum : (f : Opened → ℕ) → values_sum f (remove c.opens open_call) + values_sum f (put closing open_call o)
       ≡ values_sum f c.opens + values_sum f closing
   closed_sum f =
-      let gone = sum_gone f c.opens handle old.opens in
+      let gone = sum_gone f c.opens open_call old.opens in
       let mine = ap (worth f) at in
-      let more = sum_put f closing handle o old.closing in
+      let more = sum_put f closing open_call o old.closing in
       let none = ap (worth f) unclosed in
       omega (arith, gone, mine, more, none)
 
@@ -240,17 +240,17 @@ begun_keeps k old call = by (is_aborted k.phase)
         (begun_steps c k.vfs.next_call b (faults errno))
     begins b file (leads words plan) = stepped (after_beginning c k.vfs.next_call b)
         (begun_steps c k.vfs.next_call b (leads words plan))
-    begins b file (reads handle operation o at is) =
-        stepped (after_beginning c k.vfs.next_call b) (begun_steps c k.vfs.next_call b (reads handle operation o at is))
-    begins b file (ends handle o at) =
+    begins b file (reads open_call operation o at is) =
+        stepped (after_beginning c k.vfs.next_call b) (begun_steps c k.vfs.next_call b (reads open_call operation o at is))
+    begins b file (ends open_call o at) =
         let d = answered c k.vfs.next_call answer.done in
         let before = stepped (record { vfs = d; operation = None }) (answered_steps c k.vfs.next_call answer.done) in
-        let k1 = record k { vfs = record d { opens = remove d.opens handle }; closing = put k.closing handle o } in
+        let k1 = record k { vfs = record d { opens = remove d.opens open_call }; closing = put k.closing open_call o } in
         let closes : KeepsOpen k k1 None = record {
-          sums = λ f. let same = closed_sum d k.closing before.apart handle o at f in omega (arith, same);
-          apart = closed_apart d k.closing before.apart handle o at;
+          sums = λ f. let same = closed_sum d k.closing before.apart open_call o at f in omega (arith, same);
+          apart = closed_apart d k.closing before.apart open_call o at;
         } in
-        then_keeps k k1 (released_if_idle k1 handle) None closes (idle_keeps k1 closes.apart handle)
+        then_keeps k k1 (released_if_idle k1 open_call) None closes (idle_keeps k1 closes.apart open_call)
 
     by : (b : Bool) → KeepsOpen k (closing_of (advanced k k.vfs.next_call (begun b k.vfs call))
         (cond b None (closed_by k.vfs.opens call))) None

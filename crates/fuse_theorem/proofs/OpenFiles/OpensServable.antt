@@ -69,10 +69,10 @@ module _ (w : World) (files : All (IsOfItsNode w.server) (open_files w)) where
         → All Fits (opens_of (asked state))
     used_fit call (walking d word words plan) at = All-nil Fits
     used_fit call (doing operation) at = subst (All Fits) (sym (apart.uses call (doing operation) at)) (All-nil Fits)
-    used_fit call (using handle operation) at = λ i d lt.
-        elim (apart.uses call (using handle operation) at i d lt) [
-          | inl there ↦ All-get Fits w.kernel.vfs.opens handle _ opens_fit there
-          | inr closed ↦ All-get Fits w.kernel.closing handle _ closing_fit closed
+    used_fit call (using open_call operation) at = λ i d lt.
+        elim (apart.uses call (using open_call operation) at i d lt) [
+          | inl there ↦ All-get Fits w.kernel.vfs.opens open_call _ opens_fit there
+          | inr closed ↦ All-get Fits w.kernel.closing open_call _ closing_fit closed
         ]
 
     -- what an unanswered call asks

@@ -35,15 +35,15 @@ module _ (c : Vfs Opened) (closing : Map Opened) (apart : OpensApart c closing) 
       same_number : (o : Opened) → has_number o.fh o ≡ 1
       same_number o = ap {B = ℕ} (λ (b : Bool). cond b 1 0) (same_is o.fh)
 
-      counted : (handle : ℕ) (o : Opened) → (get c.opens handle ≡ Some o) ⊎ (get closing handle ≡ Some o)
+      counted : (open_call : ℕ) (o : Opened) → (get c.opens open_call ≡ Some o) ⊎ (get closing open_call ≡ Some o)
           → 1 ≤ values_sum (has_number o.fh) c.opens + values_sum (has_number o.fh) closing
-      counted handle o (inl h) =
+      counted open_call o (inl h) =
           let one = same_number o in
-          let all = found_counted (has_number o.fh) c.opens handle o apart.opens h in
+          let all = found_counted (has_number o.fh) c.opens open_call o apart.opens h in
           omega (arith, one, all)
-      counted handle o (inr h) =
+      counted open_call o (inr h) =
           let one = same_number o in
-          let all = found_counted (has_number o.fh) closing handle o apart.closing h in
+          let all = found_counted (has_number o.fh) closing open_call o apart.closing h in
           omega (arith, one, all)
 
       by : (s : CallState Opened) → UsesOpen c.opens closing s
@@ -54,7 +54,7 @@ module _ (c : Vfs Opened) (closing : Map Opened) (apart : OpensApart c closing) 
       by (doing operation) h = subst (λ (os : List Opened). All
           (λ (o : Opened). 1 ≤ values_sum (has_number o.fh) c.opens + values_sum (has_number o.fh) closing) os) (sym h)
           (All-nil (λ (o : Opened). 1 ≤ values_sum (has_number o.fh) c.opens + values_sum (has_number o.fh) closing))
-      by (using handle operation) h = λ i d lt. counted handle (get_or (opens_of operation) i d) (h i d lt)
+      by (using open_call operation) h = λ i d lt. counted open_call (get_or (opens_of operation) i d) (h i d lt)
 
 -- A request of a call asks what the call waits for.
 pub asked_state : (k : Kernel) (unique : ℕ) (operation : Operation ℕ Opened) → IsAsked k unique (asks operation)

@@ -73,29 +73,29 @@ advanced_kept k call next old = by next.operation
           (k.queues.next, record { mark = mark.Unread; kept = purpose.Call call }) old.requests tt;
     }
 
-idle_kept : (k : Kernel) (handle : ℕ) → KeptReleases k → KeptReleases (released_if_idle k handle)
-idle_kept k handle old = by (get k.closing handle) refl
+idle_kept : (k : Kernel) (open_call : ℕ) → KeptReleases k → KeptReleases (released_if_idle k open_call)
+idle_kept k open_call old = by (get k.closing open_call) refl
   where
     unless_used : (o : Opened) → IsKnown k.nodes o.nodeid → (b : Bool)
         → KeptReleases (record k {
-          closing = cond b k.closing (remove k.closing handle);
+          closing = cond b k.closing (remove k.closing open_call);
           queues = cond b k.queues (after_enqueue k.queues (purpose.Release o));
         })
     unless_used o known true = record { closing = old.closing; requests = old.requests }
     unless_used o known false = record {
-      closing = All-gone (OpenKnown k.nodes) k.closing handle old.closing;
+      closing = All-gone (OpenKnown k.nodes) k.closing open_call old.closing;
       requests = All-push (Fine k.nodes) k.queues.requests
           (k.queues.next, record { mark = mark.Unread; kept = purpose.Release o }) old.requests known;
     }
 
-    by : (o : Option Opened) → get k.closing handle ≡ o → KeptReleases (released k handle o)
+    by : (o : Option Opened) → get k.closing open_call ≡ o → KeptReleases (released k open_call o)
     by None at = old
-    by (Some o) at = unless_used o (All-get (OpenKnown k.nodes) k.closing handle o old.closing at) (is_used k handle)
+    by (Some o) at = unless_used o (All-get (OpenKnown k.nodes) k.closing open_call o old.closing at) (is_used k open_call)
 
 used_kept : (k : Kernel) (state : CallState Opened) → KeptReleases k → KeptReleases (after_use k state)
 used_kept k (walking d word words plan) old = old
 used_kept k (doing operation) old = old
-used_kept k (using handle operation) old = idle_kept k handle old
+used_kept k (using open_call operation) old = idle_kept k open_call old
 
 -- A call begins, and the file that it closes is of a known node.
 pub begun_kept : (k : Kernel) → NodesKnown k → KeptReleases k → (x : Call) → KeptReleases (call_begun k x)
@@ -116,16 +116,16 @@ begun_kept k known old x = by (is_aborted k.phase)
           requests = now.requests;
         })
 
-    of_opens : (handle : ℕ) (o : Option Opened) → get k.vfs.opens handle ≡ o → (f : ℕ × Opened)
-        → option_map (λ (opened : Opened). (handle, opened)) o ≡ Some f → IsKnown k.nodes f.1.nodeid
-    of_opens handle None at f e = absurd (cc (e))
-    of_opens handle (Some o) at f e =
-        let same : (handle, o) ≡ f = cc (e) in
+    of_opens : (open_call : ℕ) (o : Option Opened) → get k.vfs.opens open_call ≡ o → (f : ℕ × Opened)
+        → option_map (λ (opened : Opened). (open_call, opened)) o ≡ Some f → IsKnown k.nodes f.1.nodeid
+    of_opens open_call None at f e = absurd (cc (e))
+    of_opens open_call (Some o) at f e =
+        let same : (open_call, o) ≡ f = cc (e) in
         subst (λ (p : ℕ × Opened). IsKnown k.nodes p.1.nodeid) same
-        (All-get (OpenKnown k.nodes) k.vfs.opens handle o known.opens at)
+        (All-get (OpenKnown k.nodes) k.vfs.opens open_call o known.opens at)
 
     closes_known : (y : Call) (f : ℕ × Opened) → closed_by k.vfs.opens y ≡ Some f → IsKnown k.nodes f.1.nodeid
-    closes_known (call.close handle) f e = of_opens handle (get k.vfs.opens handle) refl f e
+    closes_known (call.close open_call) f e = of_opens open_call (get k.vfs.opens open_call) refl f e
     closes_known other f e = absurd (cc (e))
 
     by : (b : Bool) → KeptReleases (closing_of (advanced k k.vfs.next_call (begun b k.vfs x))

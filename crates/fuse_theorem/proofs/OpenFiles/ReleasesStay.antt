@@ -59,10 +59,10 @@ names_file P other o e h = absurd (cc (e))
 pub closing_known : (nodes : Map Counted) (c : Vfs Opened) (closing : Map Opened) → ClosedFiles c closing
     → VfsKnown nodes c → All (λ (o : Opened). IsKnown nodes o.nodeid) (values closing)
 closing_known nodes c closing files known =
-    All-found_values (OpenKnown nodes) closing files.closing_in_order (λ handle o at.
-    let user = user_of c closing files handle o at in
+    All-found_values (OpenKnown nodes) closing files.closing_in_order (λ open_call o at.
+    let user = user_of c closing files open_call o at in
     names_file (IsKnown nodes) user.1 o user.3 (All-get (StateKnown nodes) c.calls user.0
-    (using handle user.1) known.calls user.2))
+    (using open_call user.1) known.calls user.2))
 
 -- ---- requests
 

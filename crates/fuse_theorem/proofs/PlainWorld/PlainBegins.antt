@@ -76,51 +76,51 @@ module _ (c : Vfs ℕ) (number : ℕ) where
       by words e None none = bad einval (is_root path (cc))
       by words e (Some parts) ends = good parts.0 parts.1 (cc)
 
-  reads : (handle offset size : ℕ) → BeginsBy (call.read handle offset size)
-      (using handle (get c.opens handle) offset size (λ opened. op.read opened offset size))
-  reads handle offset size = by (get c.opens handle) refl
+  reads : (open_call offset size : ℕ) → BeginsBy (call.read open_call offset size)
+      (using open_call (get c.opens open_call) offset size (λ opened. op.read opened offset size))
+  reads open_call offset size = by (get c.opens open_call) refl
     where
-      by_size : (file : ℕ) → get c.opens handle ≡ Some file → (far : Bool)
+      by_size : (file : ℕ) → get c.opens open_call ≡ Some file → (far : Bool)
           → (nat_lt max_file offset || nat_lt max_transfer size) ≡ far
-          → BeginsBy (call.read handle offset size) (cond far (faulty einval) (uses handle (op.read file offset size)))
-      by_size file there true far = fails (call.read handle offset size) einval
-          (plain.read_too_far handle offset size file there
+          → BeginsBy (call.read open_call offset size) (cond far (faulty einval) (uses open_call (op.read file offset size)))
+      by_size file there true far = fails (call.read open_call offset size) einval
+          (plain.read_too_far open_call offset size file there
           (too_far max_file max_transfer offset size (nat_lt max_file offset) (nat_lt max_transfer size) refl refl far))
       by_size file there false near = let low = within max_file max_transfer offset size (nat_lt max_file offset)
-          (nat_lt max_transfer size) refl refl near in Begins.reads handle offset size file there low.0 low.1
+          (nat_lt max_transfer size) refl refl near in Begins.reads open_call offset size file there low.0 low.1
 
-      by : (o : Option ℕ) → get c.opens handle ≡ o → BeginsBy (call.read handle offset size)
-          (using handle o offset size (λ opened. op.read opened offset size))
-      by None none = fails (call.read handle offset size) _ (plain.read_of_none handle offset size none)
+      by : (o : Option ℕ) → get c.opens open_call ≡ o → BeginsBy (call.read open_call offset size)
+          (using open_call o offset size (λ opened. op.read opened offset size))
+      by None none = fails (call.read open_call offset size) _ (plain.read_of_none open_call offset size none)
       by (Some file) there = by_size file there (nat_lt max_file offset || nat_lt max_transfer size) refl
 
-  writes : (handle offset : ℕ) (bytes : List ℕ) → BeginsBy (call.write handle offset bytes)
-      (using handle (get c.opens handle) offset (length bytes) (λ opened. op.write opened offset bytes))
-  writes handle offset bytes = by (get c.opens handle) refl
+  writes : (open_call offset : ℕ) (bytes : List ℕ) → BeginsBy (call.write open_call offset bytes)
+      (using open_call (get c.opens open_call) offset (length bytes) (λ opened. op.write opened offset bytes))
+  writes open_call offset bytes = by (get c.opens open_call) refl
     where
-      by_size : (file : ℕ) → get c.opens handle ≡ Some file → (far : Bool)
+      by_size : (file : ℕ) → get c.opens open_call ≡ Some file → (far : Bool)
           → (nat_lt max_file offset || nat_lt max_transfer (length bytes)) ≡ far
-          → BeginsBy (call.write handle offset bytes) (cond far (faulty einval)
-          (uses handle (op.write file offset bytes)))
-      by_size file there true far = fails (call.write handle offset bytes) einval
-          (plain.write_too_far handle offset file bytes there
+          → BeginsBy (call.write open_call offset bytes) (cond far (faulty einval)
+          (uses open_call (op.write file offset bytes)))
+      by_size file there true far = fails (call.write open_call offset bytes) einval
+          (plain.write_too_far open_call offset file bytes there
           (too_far max_file max_transfer offset (length bytes) (nat_lt max_file offset)
           (nat_lt max_transfer (length bytes)) refl refl far))
       by_size file there false near = let low = within max_file max_transfer offset (length bytes)
           (nat_lt max_file offset) (nat_lt max_transfer (length bytes)) refl refl near in
-          Begins.writes handle offset bytes file there low.0 low.1
+          Begins.writes open_call offset bytes file there low.0 low.1
 
-      by : (o : Option ℕ) → get c.opens handle ≡ o → BeginsBy (call.write handle offset bytes)
-          (using handle o offset (length bytes) (λ opened. op.write opened offset bytes))
-      by None none = fails (call.write handle offset bytes) _ (plain.write_to_none handle offset bytes none)
+      by : (o : Option ℕ) → get c.opens open_call ≡ o → BeginsBy (call.write open_call offset bytes)
+          (using open_call o offset (length bytes) (λ opened. op.write opened offset bytes))
+      by None none = fails (call.write open_call offset bytes) _ (plain.write_to_none open_call offset bytes none)
       by (Some file) there = by_size file there (nat_lt max_file offset || nat_lt max_transfer (length bytes)) refl
 
-  closes : (handle : ℕ) → BeginsBy (call.close handle) (closing handle (get c.opens handle))
-  closes handle = by (get c.opens handle) refl
+  closes : (open_call : ℕ) → BeginsBy (call.close open_call) (closing open_call (get c.opens open_call))
+  closes open_call = by (get c.opens open_call) refl
     where
-      by : (o : Option ℕ) → get c.opens handle ≡ o → BeginsBy (call.close handle) (closing handle o)
-      by None none = fails (call.close handle) _ (plain.close_of_none handle none)
-      by (Some file) there = Begins.closes handle file there
+      by : (o : Option ℕ) → get c.opens open_call ≡ o → BeginsBy (call.close open_call) (closing open_call o)
+      by None none = fails (call.close open_call) _ (plain.close_of_none open_call none)
+      by (Some file) there = Begins.closes open_call file there
 
   -- Each call begins as it does in words.
   pub begins : (x : Call) → BeginsBy x (beginning c.opens x)
@@ -166,6 +166,6 @@ module _ (c : Vfs ℕ) (number : ℕ) where
       (λ words e. up_to_last (call.link old new) new _
       (λ errno none. fails (call.link old new) errno (plain.of_link old new words errno e none))
       (λ more name f. sets (call.link old new) words (link more name) (TakesWalk.links old new words more name e f)))
-  begins (call.read handle offset size) = reads handle offset size
-  begins (call.write handle offset bytes) = writes handle offset bytes
-  begins (call.close handle) = closes handle
+  begins (call.read open_call offset size) = reads open_call offset size
+  begins (call.write open_call offset bytes) = writes open_call offset bytes
+  begins (call.close open_call) = closes open_call

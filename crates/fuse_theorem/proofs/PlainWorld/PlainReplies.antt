@@ -63,5 +63,5 @@ module _ (c : Vfs ℕ) (number : ℕ) where
   receives (walking directory word words plan) reply = plain.is_odd directory word words plan reply refl
   receives (doing operation) reply = plain.of_operation operation reply (operation_replied c number operation reply)
       (answers operation reply)
-  receives (using handle operation) reply = plain.of_open_file handle operation reply
+  receives (using open_call operation) reply = plain.of_open_file open_call operation reply
       (operation_replied c number operation reply) (answers operation reply)

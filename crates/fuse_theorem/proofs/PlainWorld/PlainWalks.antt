@@ -2,7 +2,7 @@
 use Rattle.std.proofs.Common.{◌≡◌, ℕ, ◌≤◌, Bool, true, false, cond, List, [], ◌∷◌, Option, Some, None, refl, subst, arith}
 use Rattle.std.specs.Prelude.{nat_lt, unwrap_or}
 use Rattle.std.proofs.lemmas.Bool.Decides.{nat_tests}
-use Rattle.fuse_spec.specs.declared.Binding.{Binding}
+use Rattle.fuse_spec.specs.declared.Dentry.{Dentry}
 use Rattle.fuse_spec.specs.Values.Maps.{get_name}
 use Rattle.fuse_spec.specs.Calls.Paths.{Name}
 use Rattle.fuse_spec.specs.Calls.Walks.{FinalOperation, WalkPlan, last, rename, link, WalkStop, unknown, missing, arrived, go, after_last, after_stop, operation_at}
@@ -51,7 +51,7 @@ module _ (c : Vfs ℕ) where
 
   module _ (at : ℕ) (word : Name) (words : List Name)
       (on : (file : ℕ) → Walks c file words (go (look c) file words)) where
-    by_time : (bound : Binding) → get_name c.names (at, word) ≡ Some bound → (in_time : Bool)
+    by_time : (bound : Dentry) → get_name c.names (at, word) ≡ Some bound → (in_time : Bool)
         → nat_lt c.clock bound.until ≡ in_time → (target : Option ℕ) → bound.target ≡ target
         → Walks c at (word ∷ words) (stops_at at word words (cond in_time (Some target) None))
     by_time bound there true in_time None is = plain.finds_none at word words
@@ -66,9 +66,9 @@ module _ (c : Vfs ℕ) where
         past = grind (arith, nat_tests, late)
 
         over : IsNotInForce c at word
-        over other found = let same : bound ≡ other = cc in subst (λ (b : Binding). b.until ≤ c.clock) same past
+        over other found = let same : bound ≡ other = cc in subst (λ (b : Dentry). b.until ≤ c.clock) same past
 
-    by_name : (found : Option Binding) → get_name c.names (at, word) ≡ found
+    by_name : (found : Option Dentry) → get_name c.names (at, word) ≡ found
         → Walks c at (word ∷ words) (stops_at at word words (valid_at c.clock found))
     by_name None none = plain.has_to_ask at word words (λ other found. absurd (cc))
     by_name (Some bound) there = by_time bound there (nat_lt c.clock bound.until) refl bound.target refl

@@ -30,8 +30,8 @@ module _ (w : World) (p : Plain) (root : w.kernel.vfs.root ≡ 1) (sorted : T (i
   aborted_alike = record {
     tree = record {
       names = same.tree.names;
-      next_birth = same.tree.next_birth;
-      next_serial = same.tree.next_serial;
+      next_inode = same.tree.next_inode;
+      next_cookie = same.tree.next_cookie;
       files = same.tree.files;
     };
     vfs = given_up_alike (MeansIn w) (MeansIn (after_abort w)) (MeansOpenIn w)

@@ -46,8 +46,8 @@ module _ (w : World) (p : Plain) (numbered : IsNumbered w) (one : OneId w.server
       replaced_tables_refine w p same nodes' w.server.nodes w.server.handles w.server.tree p.tree carries
       (record {
         names = same.tree.names;
-        next_birth = same.tree.next_birth;
-        next_serial = same.tree.next_serial;
+        next_inode = same.tree.next_inode;
+        next_cookie = same.tree.next_cookie;
         files = same.tree.files;
       })
 
@@ -101,12 +101,12 @@ module _ (w : World) (p : Plain) (numbered : IsNumbered w) (one : OneId w.server
       }) q
   used_after (walking d word words plan) e h = h
   used_after (doing operation) e h = h
-  used_after (using handle operation) e h =
+  used_after (using open_call operation) e h =
       used_alike (record w {
         kernel = advanced k1 call
-            (call_replied w.kernel.vfs call (using handle operation) (kernel_reply operation sent.wire));
+            (call_replied w.kernel.vfs call (using open_call operation) (kernel_reply operation sent.wire));
       }) q
-      (IsSound-without w.kernel.queues sent.unique numbered.queues) live h (using handle operation)
+      (IsSound-without w.kernel.queues sent.unique numbered.queues) live h (using open_call operation)
 
   replied_is : replied_to_call (record w.kernel { queues = without w.kernel.queues sent.unique }) call sent.wire
       (get w.kernel.vfs.calls call) ≡ (Accepted, after_use (advanced k1 call next) state)

@@ -75,7 +75,7 @@ module _ (w : World) (p : Plain) (numbered : IsNumbered w) (one : OneId w.server
       by : (x : CallState Opened) → after_use (judged k1 call x (failed 4) usable) x ≡ after_use k2 x
       by (walking d word words plan) = refl
       by (doing operation) = refl
-      by (using handle operation) = refl
+      by (using open_call operation) = refl
 
   replied_is : replied_to_call k1 call sent.wire (get w.kernel.vfs.calls call) ≡ (Accepted, after_use k2 state)
   replied_is =

@@ -104,7 +104,7 @@ module _ (w : World) (p : Plain) (same : Alike w p) (choice : ℕ → ℕ) (uniq
       let changed = ask_changed w1 p (unheld_alike w p same unique) unique new may_replace in
       record {
         tree = discarded_unheld_alike s1 p.tree
-            (λ file. is_file_held w.server file) same.tree.names same.tree.next_birth same.tree.next_serial same.tree.files (λ file h. h);
+            (λ file. is_file_held w.server file) same.tree.names same.tree.next_inode same.tree.next_cookie same.tree.files (λ file h. h);
         vfs = changed.vfs;
         requests = record {
           pending = changed.requests.pending;

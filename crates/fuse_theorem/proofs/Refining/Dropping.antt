@@ -1,6 +1,6 @@
 -- A name in force is dropped in both worlds.
 use Rattle.std.proofs.Common.{◌≡◌, ℕ, Some, refl}
-use Rattle.fuse_spec.specs.declared.Binding.{Binding}
+use Rattle.fuse_spec.specs.declared.Dentry.{Dentry}
 use Rattle.fuse_spec.specs.Values.Maps.{get_name}
 use Rattle.fuse_spec.specs.Calls.Paths.{Name}
 use Rattle.fuse_spec.specs.World.Worlds.{World, after_drop}
@@ -44,7 +44,7 @@ module _ (w : World) (p : Plain) (one : IsOneToOne (MeansIn w)) (same : Alike w 
   }
 
   -- The name of the file that the node means is dropped.
-  pub drop_goes : (directory : ℕ) (name : Name) (bound : Binding)
+  pub drop_goes : (directory : ℕ) (name : Name) (bound : Dentry)
       → get_name w.kernel.vfs.names (directory, name) ≡ Some bound
       → (q : Plain) × Takes p (event.drop_name directory name) event.dropped q × Alike (after_drop w directory name) q
   drop_goes directory name bound at =

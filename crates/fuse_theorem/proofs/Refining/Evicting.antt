@@ -4,7 +4,7 @@ use Rattle.std.specs.Prelude.{Contains}
 use Rattle.std.specs.List.{list_any}
 use Rattle.std.specs.Ordering.{is_eq}
 use Rattle.std.proofs.lemmas.Bool.{cases_eq}
-use Rattle.fuse_spec.specs.declared.Binding.{Binding}
+use Rattle.fuse_spec.specs.declared.Dentry.{Dentry}
 use Rattle.fuse_spec.specs.declared.Counted.{Counted}
 use Rattle.fuse_spec.specs.declared.Opened.{Opened}
 use Rattle.fuse_spec.specs.declared.Purpose.{Purpose}
@@ -49,10 +49,10 @@ found_fails test m k x none at = by (test x) refl
     by false e = e
 
 -- a name in force that is found, where none stands in the node or leads to it
-abbrev Uses : ℕ → (ℕ × List ℕ) × Binding → Bool
+abbrev Uses : ℕ → (ℕ × List ℕ) × Dentry → Bool
 Uses node e = nat_eq e.0.0 node || leads_to node e.1.target
 
-pub unbound : (node : ℕ) (names : NameMap Binding) (id : ℕ) (name : List ℕ) (bound : Binding)
+pub unbound : (node : ℕ) (names : NameMap Dentry) (id : ℕ) (name : List ℕ) (bound : Dentry)
     → list_any (Uses node) names ≡ false → get_name names (id, name) ≡ Some bound
     → (id ≢ node) × (leads_to node bound.target ≡ false)
 unbound node [] id name bound none at = absurd (cc)
@@ -75,7 +75,7 @@ unbound node (e ∷ names) id name bound none at =
                     (subst (λ (n : ℕ). nat_eq n node ≡ true) (sym q) (same_is node))) ∙ here.0)
                 | inr ne ↦ true≢false (sym tie ∙ place_tie_no id e.0.0 name e.0.1 ne)
               ],
-          subst (λ (b : Binding). leads_to node b.target ≡ false) same here.1,
+          subst (λ (b : Dentry). leads_to node b.target ≡ false) same here.1,
         )
     by false tie f rest = rest f
 
@@ -164,8 +164,8 @@ module _ (w : World) (p : Plain) (same : Alike w p) (node : ℕ) (root : w.kerne
         (in_use id name (get_name w.kernel.vfs.names (id, name)) refl there) m;
     targets = λ id name bound at target file is m. still target file
         (not_target node bound.target target (unbound node w.kernel.vfs.names id name bound free at).1 is) m;
-    opens = λ handle o at file m.
-        let other = found_fails OfOpens w.kernel.vfs.opens handle o pins.1.0 at in
+    opens = λ open_call o at file m.
+        let other = found_fails OfOpens w.kernel.vfs.opens open_call o pins.1.0 at in
         record {
           node_means = still o.nodeid file (λ e. true≢false
               (sym (subst (λ (n : ℕ). nat_eq n node ≡ true) (sym e) (same_is node)) ∙ other)) m.node_means;
@@ -181,7 +181,7 @@ module _ (w : World) (p : Plain) (same : Alike w p) (node : ℕ) (root : w.kerne
     copies = λ live i s lt ask there told. told;
   }
     where
-      in_use : (id : ℕ) (name : List ℕ) (o : Option Binding) → get_name w.kernel.vfs.names (id, name) ≡ o → o ≢ None
+      in_use : (id : ℕ) (name : List ℕ) (o : Option Dentry) → get_name w.kernel.vfs.names (id, name) ≡ o → o ≢ None
           → id ≢ node
       in_use id name None e ne = absurd (ne refl)
       in_use id name (Some bound) e ne = (unbound node w.kernel.vfs.names id name bound free e).0

@@ -214,7 +214,7 @@ forgotten_alike w p one same k fs holds =
     (λ i generation file d. all_less_denotes fs w.server.nodes i generation file d) one holds in
     let numbers = λ (file : ℕ). list_any (λ (h : OpenNumber). nat_eq h.file file) (values w.server.handles.handles) in
     let trees = discarded_unheld_alike s2 p.tree
-    (λ file. is_file_held w.server file) same.tree.names same.tree.next_birth same.tree.next_serial same.tree.files
+    (λ file. is_file_held w.server file) same.tree.names same.tree.next_inode same.tree.next_cookie same.tree.files
     (λ file h. either (list_any (λ (row : HeldNode). nat_eq row.file file) (values t.rows)) (numbers file)
     (list_any (λ (row : HeldNode). nat_eq row.file file) (values w.server.nodes.rows)) h
     (λ q. files_fewer file fs w.server.nodes q)) in

@@ -63,7 +63,7 @@ given_up_alike R R' S S' c d same sorted roots = record {
   names = λ id file name r. tt;
   names_meant = λ id name there. absurd (there refl);
   names_reached = λ file name there. absurd (there refl);
-  opens = λ handle. tt;
+  opens = λ open_call. tt;
   calls = λ call. tt;
   answers = same_answers (StateAlike R S) (failed econnaborted) c.calls d.calls c.answers sorted same.calls ∙ ap
       (λ (answers : Map Answer). all_answered (failed econnaborted) d.calls answers) same.answers;

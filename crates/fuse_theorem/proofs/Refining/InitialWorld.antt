@@ -36,12 +36,12 @@ root_means = record {
 
 pub first_alike : Alike first_world first_plain
 first_alike = record {
-  tree = record { names = refl; next_birth = refl; next_serial = refl; files = first_files };
+  tree = record { names = refl; next_inode = refl; next_cookie = refl; files = first_files };
   vfs = record {
     names = λ id file name r. tt;
     names_meant = λ id name there. absurd (there refl);
     names_reached = λ file name there. absurd (there refl);
-    opens = λ handle. tt;
+    opens = λ open_call. tt;
     calls = λ call. tt;
     answers = refl;
     next_call = refl;

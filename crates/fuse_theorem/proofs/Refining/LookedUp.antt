@@ -106,8 +106,8 @@ opens_one h fh a b x y = by (get h.handles fh) x y
   where
     by : (o : Option OpenNumber) → is_file_of a o ≡ true → is_file_of b o ≡ true → a ≡ b
     by None x y = absurd (cc)
-    by (Some handle) x y = elim (eqb_tells handle.file a) [
-      | inl p ↦ elim (eqb_tells handle.file b) [ inl q ↦ sym p.1 ∙ q.1 | inr q ↦ absurd (true≢false (sym y ∙ q.0)) ]
+    by (Some open_call) x y = elim (eqb_tells open_call.file a) [
+      | inl p ↦ elim (eqb_tells open_call.file b) [ inl q ↦ sym p.1 ∙ q.1 | inr q ↦ absurd (true≢false (sym y ∙ q.0)) ]
       | inr p ↦ absurd (true≢false (sym x ∙ p.0))
     ]
 

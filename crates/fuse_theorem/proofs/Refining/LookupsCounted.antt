@@ -109,8 +109,8 @@ more_open h fh' fh file o = by (get h.handles fh') refl
     by : (x : Option OpenNumber) → get h.handles fh' ≡ x
         → is_file_of file (get (handles_more h.handles fh' x) fh) ≡ true
     by None e = o
-    by (Some handle) e =
-        let new : OpenNumber = record handle { count = handle.count + 1 } in
+    by (Some open_call) e =
+        let new : OpenNumber = record open_call { count = open_call.count + 1 } in
         elim (cases_eq fh fh') [
           | inl here ↦
               ap (λ (n : ℕ). is_file_of file (get (put h.handles fh' new) n)) here ∙ ap (is_file_of file)

@@ -37,8 +37,8 @@ holding_alike : (w : World) (p : Plain) → Alike w p → (held : Map HeldReques
 holding_alike w p same held each = record {
   tree = record {
     names = same.tree.names;
-    next_birth = same.tree.next_birth;
-    next_serial = same.tree.next_serial;
+    next_inode = same.tree.next_inode;
+    next_cookie = same.tree.next_cookie;
     files = same.tree.files;
   };
   vfs = same.vfs;

@@ -49,7 +49,7 @@ module _ (w : World) (found_ms missing_ms : ℕ) (minor : Minor) where
     pub mounted_alike : Alike mounted q
     mounted_alike = record {
       tree = discarded_unheld_alike emptied p.tree
-          (is_file_held w.server) same.tree.names same.tree.next_birth same.tree.next_serial same.tree.files
+          (is_file_held w.server) same.tree.names same.tree.next_inode same.tree.next_cookie same.tree.files
           (λ file held. absurd (true≢false (sym held)));
       vfs = given_up_alike (MeansIn w) (MeansIn mounted) (MeansOpenIn w)
           (MeansOpenIn mounted) w.kernel.vfs p.vfs same.vfs sorted

@@ -157,8 +157,8 @@ module _ (w : World) (p : Plain) (same : Alike w p) (choice : ℕ → ℕ) (uniq
   tree_is = λ i. record {
     files = w.server.tree.files;
     names = same.tree.names i;
-    next_birth = same.tree.next_birth i;
-    next_serial = same.tree.next_serial i;
+    next_inode = same.tree.next_inode i;
+    next_cookie = same.tree.next_cookie i;
   }
 
   all_named : AllSame p.tree w.server.tree.files p.tree.names
@@ -263,8 +263,8 @@ module _ (w : World) (p : Plain) (same : Alike w p) (choice : ℕ → ℕ) (uniq
       let numbers = numbers_same p.tree w.server.tree.files all_named deed same_files in
       discarded_unheld_alike (record s1 { tree = tree2; nodes = nodes; handles = handles }) (tree_after p.tree deed) stood
       (ap (λ (x : Tree). (tree_after x deed).names) tree_is ∙ ap (λ (n : List Named × ℕ × ℕ). n.0) numbers)
-      (ap (λ (x : Tree). (tree_after x deed).next_birth) tree_is ∙ ap (λ (n : List Named × ℕ × ℕ). n.1) numbers)
-      (ap (λ (x : Tree). (tree_after x deed).next_serial) tree_is ∙ ap (λ (n : List Named × ℕ × ℕ). n.2) numbers)
+      (ap (λ (x : Tree). (tree_after x deed).next_inode) tree_is ∙ ap (λ (n : List Named × ℕ × ℕ). n.1) numbers)
+      (ap (λ (x : Tree). (tree_after x deed).next_cookie) tree_is ∙ ap (λ (n : List Named × ℕ × ℕ). n.2) numbers)
       (λ file.
       ap (λ (x : Tree). get (tree_after x deed).files file) tree_is ∙ files_after p.tree w.server.tree.files
       (λ f. is_file_held w.server f) same.tree.files deed deed_there file

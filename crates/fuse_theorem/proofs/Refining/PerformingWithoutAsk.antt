@@ -58,7 +58,7 @@ module _ (w : World) (p : Plain) (same : Alike w p) (choice : ℕ → ℕ) (uniq
   left_alike : Alike (record w { server = left }) p
   left_alike =
       let trees = discarded_unheld_alike (record (unheld w unique).server { handles = h }) p.tree
-      (λ file. is_file_held w.server file) same.tree.names same.tree.next_birth same.tree.next_serial same.tree.files
+      (λ file. is_file_held w.server file) same.tree.names same.tree.next_inode same.tree.next_cookie same.tree.files
       (λ file held.
       either (list_any (λ (row : HeldNode). nat_eq row.file file) (values w.server.nodes.rows))
       (list_any (λ (x : OpenNumber). nat_eq x.file file) (values h.handles))
@@ -112,7 +112,7 @@ module _ (w : World) (p : Plain) (same : Alike w p) (choice : ℕ → ℕ) (uniq
         root = λ file m. m;
         directories = λ id name there file m. m;
         targets = λ id name bound at target file is m. m;
-        opens = λ handle o at file m. m;
+        opens = λ open_call o at file m. m;
         calls = λ call state at. record { nodes_stay = λ id file among m. m; opens_stay = λ o file node among m. m };
         sent = λ i r lt. record { nodes_stay = λ id file among m. m; opens_stay = λ o file node among m. m };
         held_nodes = λ u x at id file among m. m;

@@ -115,20 +115,20 @@ module _ (w : World) (p : Plain) (sound : IsSound w.kernel.queues) (same : Alike
     aborted = same.aborted;
   }
 
-  released_by : (handle : ℕ) (o : Option Opened) → Alike (record w { kernel = released w.kernel handle o }) p
-  released_by handle None = same
-  released_by handle (Some o) = by (is_used w.kernel handle)
+  released_by : (open_call : ℕ) (o : Option Opened) → Alike (record w { kernel = released w.kernel open_call o }) p
+  released_by open_call None = same
+  released_by open_call (Some o) = by (is_used w.kernel open_call)
     where
       by : (b : Bool) → Alike (record w {
         kernel = record w.kernel {
           closing =
-              cond b w.kernel.closing (remove w.kernel.closing handle);
+              cond b w.kernel.closing (remove w.kernel.closing open_call);
           queues =
               cond b w.kernel.queues (after_enqueue w.kernel.queues (purpose.Release o));
         };
       }) p
       by true = same
-      by false = release_alike (remove w.kernel.closing handle) o
+      by false = release_alike (remove w.kernel.closing open_call) o
 
-  pub released_alike : (handle : ℕ) → Alike (record w { kernel = released_if_idle w.kernel handle }) p
-  released_alike handle = released_by handle (get w.kernel.closing handle)
+  pub released_alike : (open_call : ℕ) → Alike (record w { kernel = released_if_idle w.kernel open_call }) p
+  released_alike open_call = released_by open_call (get w.kernel.closing open_call)

@@ -64,8 +64,8 @@ again_alike w p one held same unique kept there =
     let w1 = record w { server = s1 } in
     let alike1 : Alike w1 p = replaced_tables_refine w p same w.kernel.nodes t h w.server.tree p.tree carries (record {
       names = same.tree.names;
-      next_birth = same.tree.next_birth;
-      next_serial = same.tree.next_serial;
+      next_inode = same.tree.next_inode;
+      next_cookie = same.tree.next_cookie;
       files = λ file. same.tree.files file ∙ ap (λ (b : Bool). cond (not (is_nameless p.tree file) || b)
           (get p.tree.files file) None) (same_files file);
     }) in

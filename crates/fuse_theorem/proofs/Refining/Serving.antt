@@ -20,8 +20,8 @@ module _ (w : World) (p : Plain) (same : Alike w p) where
   unheld_alike unique = record {
     tree = record {
       names = same.tree.names;
-      next_birth = same.tree.next_birth;
-      next_serial = same.tree.next_serial;
+      next_inode = same.tree.next_inode;
+      next_cookie = same.tree.next_cookie;
       files = same.tree.files;
     };
     vfs = same.vfs;
@@ -75,8 +75,8 @@ module _ (w : World) (p : Plain) (same : Alike w p) where
   replied_alike unique number next wire kept copies is_wire told = record {
     tree = record {
       names = same.tree.names;
-      next_birth = same.tree.next_birth;
-      next_serial = same.tree.next_serial;
+      next_inode = same.tree.next_inode;
+      next_cookie = same.tree.next_cookie;
       files = same.tree.files;
     };
     vfs = same.vfs;
@@ -129,8 +129,8 @@ module _ (w : World) (p : Plain) (same : Alike w p) where
   copied_alike unique number next wire copies told = record {
     tree = record {
       names = same.tree.names;
-      next_birth = same.tree.next_birth;
-      next_serial = same.tree.next_serial;
+      next_inode = same.tree.next_inode;
+      next_cookie = same.tree.next_cookie;
       files = same.tree.files;
     };
     vfs = same.vfs;

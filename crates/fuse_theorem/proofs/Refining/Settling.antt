@@ -50,8 +50,8 @@ pub kept_fewer_alike : (w : World) (p : Plain) → Alike w p
 kept_fewer_alike w p same results kept copies was = record {
   tree = record {
     names = same.tree.names;
-    next_birth = same.tree.next_birth;
-    next_serial = same.tree.next_serial;
+    next_inode = same.tree.next_inode;
+    next_cookie = same.tree.next_cookie;
     files = same.tree.files;
   };
   vfs = same.vfs;
@@ -188,9 +188,9 @@ module _ (w : World) (p : Plain) (same : Alike w p) (one : OneId w.server.nodes)
     root = λ file m. means w p same t fewer one holds w.kernel.vfs.root file m;
     directories = λ id name there file m. means w p same t fewer one holds id file m;
     targets = λ id name bound at target file is m. means w p same t fewer one holds target file m;
-    opens = λ handle o at file m. record {
+    opens = λ open_call o at file m. record {
       node_means = means w p same t fewer one holds o.nodeid file m.node_means;
-      is_number = open_still o.fh file (opens.opens handle o at) m.is_number;
+      is_number = open_still o.fh file (opens.opens open_call o at) m.is_number;
     };
     calls = λ call state at.
         record {
@@ -244,7 +244,7 @@ given_back_alike w p one same wire holds opens =
     let h = handles_back w.server.handles (opens_in_reply wire) in
     let s = record w.server { nodes = t; handles = h } in
     let trees = discarded_unheld_alike s p.tree
-    (λ file. is_file_held w.server file) same.tree.names same.tree.next_birth same.tree.next_serial same.tree.files
+    (λ file. is_file_held w.server file) same.tree.names same.tree.next_inode same.tree.next_cookie same.tree.files
     (λ file held.
     both (list_any (λ (row : HeldNode). nat_eq row.file file) (values t.rows))
     (list_any (λ (x : OpenNumber). nat_eq x.file file) (values h.handles))

@@ -82,7 +82,7 @@ sent_beside w number unique (Some wire) = record { kernel = refl; minor = refl; 
 state_asks : (state : CallState Opened) → OldState state → knows M15 (asks (asked state)) ≡ true
 state_asks (walking d word words plan) h = refl
 state_asks (doing operation) h = h
-state_asks (using handle operation) h = h
+state_asks (using open_call operation) h = h
 
 purpose_asks : (k : Kernel) → ((call : ℕ) (state : CallState Opened) → get k.vfs.calls call ≡ Some state
     → OldState state) → (kept : Purpose) (body : RequestBody) → body_of k kept ≡ Some body → knows M15 body ≡ true

@@ -2,7 +2,7 @@
 use Rattle.fuse_theorem.proofs.Refining.Pairs.{pairs_more}
 use Rattle.std.proofs.Common.{◌≡◌, ℕ, Bool, true, false, List, [], Option, Some, None, get_or, refl, subst, All}
 use Rattle.std.specs.Prelude.{Contains}
-use Rattle.fuse_spec.specs.declared.Binding.{Binding}
+use Rattle.fuse_spec.specs.declared.Dentry.{Dentry}
 use Rattle.fuse_spec.specs.declared.Counted.{Counted}
 use Rattle.fuse_spec.specs.declared.Entry.{Entry}
 use Rattle.fuse_spec.specs.declared.Opened.{Opened}
@@ -20,7 +20,7 @@ use Rattle.fuse_spec.specs.World.Worlds.{World, Sent}
 use Rattle.fuse_spec.specs.Kernel.Messages.{RequestBody, init, asks, release, forget, batch_forget, interrupt, WireReply}
 use Rattle.fuse_spec.specs.Reference.Plain.{Plain, Ask, Stage, waiting, performed, declined}
 use Rattle.fuse_spec.specs.Server.Nodes.{NodeTable, HandleTable, is_open}
-use Rattle.fuse_spec.specs.Claim.Denotes.{WalkPlanAlike, StateAlike, BindingAlike, Names, Opens, Denotes, generation_known, Means, MeansOpen, MeansIn, MeansOpenIn}
+use Rattle.fuse_spec.specs.Claim.Denotes.{WalkPlanAlike, StateAlike, DentryAlike, Names, Opens, Denotes, generation_known, Means, MeansOpen, MeansIn, MeansOpenIn}
 use Rattle.fuse_spec.specs.Claim.Alike.{TreeAlike, VfsAlike, RequestBodyAsked, Meant, MeantOpen, IsStageReplied, Alike}
 use Rattle.fuse_theorem.specs.Numbering.{IsOneToOne}
 use Rattle.fuse_theorem.proofs.Refining.Asking.{match_more}
@@ -42,8 +42,8 @@ module _ (R R' : ℕ → ℕ → Type 0) (more : (id file : ℕ) → R id file �
   plan_more (walks.link words name) (walks.link words' name') h = h
   plan_more a b h = absurd h
 
-  pub binding_more : (a b : Binding) → BindingAlike R a b → BindingAlike R' a b
-  binding_more a b h = (option_more R R' more a.target b.target h.0, h.1)
+  pub dentry_more : (a b : Dentry) → DentryAlike R a b → DentryAlike R' a b
+  dentry_more a b h = (option_more R R' more a.target b.target h.0, h.1)
 
   module _ (S S' : Opened → ℕ → Type 0) (more_open : (o : Opened) (file : ℕ) → S o file → S' o file) where
     pub operation_all : (a : Operation ℕ Opened) (b : Operation ℕ ℕ) → OperationAlike R S a b → OperationAlike R' S' a b
@@ -54,13 +54,13 @@ module _ (R R' : ℕ → ℕ → Type 0) (more : (id file : ℕ) → R id file �
     state_more (walking d word words plan) (walking e word' words' plan') h =
         (more d e h.0, h.1, h.2, plan_more plan plan' h.3)
     state_more (doing a) (doing b) h = operation_all a b h
-    state_more (using handle a) (using handle' b) h = (h.0, operation_all a b h.1)
+    state_more (using open_call a) (using open_call' b) h = (h.0, operation_all a b h.1)
     state_more (walking d word words plan) (doing b) h = absurd h
-    state_more (walking d word words plan) (using handle b) h = absurd h
+    state_more (walking d word words plan) (using open_call b) h = absurd h
     state_more (doing a) (walking e word' words' plan') h = absurd h
-    state_more (doing a) (using handle b) h = absurd h
-    state_more (using handle a) (walking e word' words' plan') h = absurd h
-    state_more (using handle a) (doing b) h = absurd h
+    state_more (doing a) (using open_call b) h = absurd h
+    state_more (using open_call a) (walking e word' words' plan') h = absurd h
+    state_more (using open_call a) (doing b) h = absurd h
 
     -- The system calls' sides stay alike. No name stands in a file that is new to R', as R' is one to one.
     pub vfs_more : IsOneToOne R' → (c : Vfs Opened) (d : Vfs ℕ) → VfsAlike R S c d → VfsAlike R' S' c d
@@ -70,7 +70,7 @@ module _ (R R' : ℕ → ℕ → Type 0) (more : (id file : ℕ) → R id file �
       names_meant = λ id name there. let meant = same.names_meant id name there in (meant.0, more id meant.0 meant.1);
       names_reached = λ file name there. let reached =
           same.names_reached file name there in (reached.0, more reached.0 file reached.1);
-      opens = λ handle. option_more S S' more_open (get c.opens handle) (get d.opens handle) (same.opens handle);
+      opens = λ open_call. option_more S S' more_open (get c.opens open_call) (get d.opens open_call) (same.opens open_call);
       calls = λ call. option_more (StateAlike R S) (StateAlike R' S') state_more (get c.calls call) (get d.calls call)
           (same.calls call);
       answers = same.answers;
@@ -80,13 +80,13 @@ module _ (R R' : ℕ → ℕ → Type 0) (more : (id file : ℕ) → R id file �
     }
       where
         bound : (id file : ℕ) (name : List ℕ) → R id file
-            → OptionAlike (BindingAlike R') (get_name c.names (id, name)) (get_name d.names (file, name))
-        bound id file name r = option_more (BindingAlike R) (BindingAlike R') binding_more
+            → OptionAlike (DentryAlike R') (get_name c.names (id, name)) (get_name d.names (file, name))
+        bound id file name r = option_more (DentryAlike R) (DentryAlike R') dentry_more
             (get_name c.names (id, name)) (get_name d.names (file, name)) (same.names id file name r)
 
-        by : (id file : ℕ) (name : List ℕ) → R' id file → (a b : Option Binding) → get_name c.names (id, name) ≡ a
+        by : (id file : ℕ) (name : List ℕ) → R' id file → (a b : Option Dentry) → get_name c.names (id, name) ≡ a
             → get_name d.names (file, name) ≡ b
-            → OptionAlike (BindingAlike R') (get_name c.names (id, name)) (get_name d.names (file, name))
+            → OptionAlike (DentryAlike R') (get_name c.names (id, name)) (get_name d.names (file, name))
         by id file name r None None e f = rw (e, f) tt
         by id file name r (Some x) b e f =
             let meant = same.names_meant id name (λ none. absurd (cc (e, none))) in

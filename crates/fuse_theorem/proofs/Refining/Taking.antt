@@ -54,8 +54,8 @@ module _ (w : World) (p : Plain) (same : Alike w p) where
       record {
         tree = record {
           names = same.tree.names;
-          next_birth = same.tree.next_birth;
-          next_serial = same.tree.next_serial;
+          next_inode = same.tree.next_inode;
+          next_cookie = same.tree.next_cookie;
           files = same.tree.files;
         };
         vfs = same.vfs;
@@ -144,8 +144,8 @@ module _ (w : World) (p : Plain) (same : Alike w p) where
   sending_alike unique wire number first unasked = record {
     tree = record {
       names = same.tree.names;
-      next_birth = same.tree.next_birth;
-      next_serial = same.tree.next_serial;
+      next_inode = same.tree.next_inode;
+      next_cookie = same.tree.next_cookie;
       files = same.tree.files;
     };
     vfs = same.vfs;

@@ -2,7 +2,7 @@
 -- nothing any more.
 use Rattle.std.proofs.Common.{◌≡◌, ◌≢◌, ℕ, Bool, true, false, List, Option, Some, None, get_or, refl, All}
 use Rattle.std.specs.Prelude.{Contains, MatchOption}
-use Rattle.fuse_spec.specs.declared.Binding.{Binding}
+use Rattle.fuse_spec.specs.declared.Dentry.{Dentry}
 use Rattle.fuse_spec.specs.declared.Counted.{Counted}
 use Rattle.fuse_spec.specs.declared.Opened.{Opened}
 use Rattle.fuse_spec.specs.declared.Purpose.{Purpose}
@@ -21,7 +21,7 @@ use Rattle.fuse_spec.specs.World.Worlds.{World, Sent}
 use Rattle.fuse_spec.specs.Kernel.Messages.{RequestBody, Request, init, asks, release, forget, batch_forget, interrupt}
 use Rattle.fuse_spec.specs.Reference.Plain.{Plain, Ask}
 use Rattle.fuse_spec.specs.Server.Nodes.{NodeTable, HandleTable}
-use Rattle.fuse_spec.specs.Claim.Denotes.{WalkPlanAlike, StateAlike, BindingAlike, Means, MeansOpen, MeansIn, MeansOpenIn}
+use Rattle.fuse_spec.specs.Claim.Denotes.{WalkPlanAlike, StateAlike, DentryAlike, Means, MeansOpen, MeansIn, MeansOpenIn}
 use Rattle.fuse_spec.specs.Claim.Alike.{TreeAlike, VfsAlike, RequestBodyAsked, Meant, MeantOpen, IsStageReplied, Alike}
 use Rattle.fuse_theorem.proofs.Calls.Meaning.{operation_more, final_within, first_of, next_of}
 
@@ -35,9 +35,9 @@ module _ (R R' : ℕ → ℕ → Type 0) where
   plan_within (walks.link words name) (walks.link words' name') f h = h
   plan_within a b f h = absurd h
 
-  pub binding_within : (a b : Binding) → ((target file : ℕ) → a.target ≡ Some target → R target file → R' target file)
-      → BindingAlike R a b → BindingAlike R' a b
-  binding_within a b f h = (by a.target b.target (λ target file is. f target file is) h.0, h.1)
+  pub dentry_within : (a b : Dentry) → ((target file : ℕ) → a.target ≡ Some target → R target file → R' target file)
+      → DentryAlike R a b → DentryAlike R' a b
+  dentry_within a b f h = (by a.target b.target (λ target file is. f target file is) h.0, h.1)
     where
       by : (x y : Option ℕ) → ((target file : ℕ) → x ≡ Some target → R target file → R' target file)
           → OptionAlike R x y → OptionAlike R' x y
@@ -58,13 +58,13 @@ module _ (R R' : ℕ → ℕ → Type 0) where
       plan_within plan plan' (λ id file among r. f id file (next_of d (files_of_plan plan) id among) r) h.3,
     )
     state_within (doing a) (doing b) f g h = operation_more R R' S S' a b f g h
-    state_within (using handle a) (using handle' b) f g h = (h.0, operation_more R R' S S' a b f g h.1)
+    state_within (using open_call a) (using open_call' b) f g h = (h.0, operation_more R R' S S' a b f g h.1)
     state_within (walking d word words plan) (doing b) f g h = absurd h
-    state_within (walking d word words plan) (using handle b) f g h = absurd h
+    state_within (walking d word words plan) (using open_call b) f g h = absurd h
     state_within (doing a) (walking e word' words' plan') f g h = absurd h
-    state_within (doing a) (using handle b) f g h = absurd h
-    state_within (using handle a) (walking e word' words' plan') f g h = absurd h
-    state_within (using handle a) (doing b) f g h = absurd h
+    state_within (doing a) (using open_call b) f g h = absurd h
+    state_within (using open_call a) (walking e word' words' plan') f g h = absurd h
+    state_within (using open_call a) (doing b) f g h = absurd h
 
     pub asked_within : (a : CallState Opened) (b : Operation ℕ ℕ)
         → ((id file : ℕ) → Contains (nodes_of_state a) id → R id file → R' id file)
@@ -73,7 +73,7 @@ module _ (R R' : ℕ → ℕ → Type 0) where
     asked_within (walking d word words plan) (lookup e other) f g h = (f d e (first_of d (files_of_plan plan)) h.0, h.1)
     asked_within (walking d word words plan) b f g h = absurd h
     asked_within (doing a) b f g h = operation_more R R' S S' a b f g h
-    asked_within (using handle a) b f g h = operation_more R R' S S' a b f g h
+    asked_within (using open_call a) b f g h = operation_more R R' S S' a b f g h
 
     pub body_within : (all : Map Ask) (unique : ℕ) (signalled marked : Bool) (body : RequestBody)
         → ((id file : ℕ) → Contains (nodes_of_body body) id → R id file → R' id file)
@@ -107,9 +107,9 @@ module _ (w : World) (p : Plain) (nodes : Map Counted) (t : NodeTable) (h : Hand
     pub root : (file : ℕ) → MeansIn w w.kernel.vfs.root file → Means nodes t w.kernel.vfs.root file
     pub directories : (id : ℕ) (name : List ℕ) → get_name w.kernel.vfs.names (id, name) ≢ None → (file : ℕ)
         → MeansIn w id file → Means nodes t id file
-    pub targets : (id : ℕ) (name : List ℕ) (bound : Binding) → get_name w.kernel.vfs.names (id, name) ≡ Some bound
+    pub targets : (id : ℕ) (name : List ℕ) (bound : Dentry) → get_name w.kernel.vfs.names (id, name) ≡ Some bound
         → (target file : ℕ) → bound.target ≡ Some target → MeansIn w target file → Means nodes t target file
-    pub opens : (handle : ℕ) (o : Opened) → get w.kernel.vfs.opens handle ≡ Some o → (file : ℕ) → MeansOpenIn w o file
+    pub opens : (open_call : ℕ) (o : Opened) → get w.kernel.vfs.opens open_call ≡ Some o → (file : ℕ) → MeansOpenIn w o file
         → MeansOpen nodes t h o file
     pub calls : (call : ℕ) (state : CallState Opened) → get w.kernel.vfs.calls call ≡ Some state
         → Stay (nodes_of_state state) (opens_of (asked state))
@@ -141,12 +141,12 @@ module _ (w : World) (p : Plain) (same : Alike w p) (nodes : Map Counted) (t : N
   abbrev S' : Opened → ℕ → Type 0
   S' = MeansOpen nodes t h
 
-  name_within : (id file : ℕ) (name : List ℕ) → R id file → (a b : Option Binding)
-      → get_name w.kernel.vfs.names (id, name) ≡ a → OptionAlike (BindingAlike R) a b
-      → OptionAlike (BindingAlike R') a b
+  name_within : (id file : ℕ) (name : List ℕ) → R id file → (a b : Option Dentry)
+      → get_name w.kernel.vfs.names (id, name) ≡ a → OptionAlike (DentryAlike R) a b
+      → OptionAlike (DentryAlike R') a b
   name_within id file name r None None e same = same
   name_within id file name r (Some x) (Some y) e same =
-      binding_within R R' x y (λ target f is m. narrows.targets id name x e target f is m) same
+      dentry_within R R' x y (λ target f is m. narrows.targets id name x e target f is m) same
   name_within id file name r None (Some y) e same = absurd same
   name_within id file name r (Some x) None e same = absurd same
 
@@ -159,17 +159,17 @@ module _ (w : World) (p : Plain) (same : Alike w p) (nodes : Map Counted) (t : N
             (get_name p.vfs.names (file, name)) none there (same.vfs.names old.0 file name old.1)) file old.1,
       )
     where
-      not_none : (a b : Option Binding) → a ≡ None → b ≢ None → OptionAlike (BindingAlike R) a b → ⊥
+      not_none : (a b : Option Dentry) → a ≡ None → b ≢ None → OptionAlike (DentryAlike R) a b → ⊥
       not_none None None e ne alike = ne refl
       not_none None (Some y) e ne alike = absurd alike
       not_none (Some x) b e ne alike = cc (e)
 
-  open_within : (handle : ℕ) (a : Option Opened) (b : Option ℕ) → get w.kernel.vfs.opens handle ≡ a → OptionAlike S a b
+  open_within : (open_call : ℕ) (a : Option Opened) (b : Option ℕ) → get w.kernel.vfs.opens open_call ≡ a → OptionAlike S a b
       → OptionAlike S' a b
-  open_within handle None None e same = same
-  open_within handle (Some o) (Some file) e same = narrows.opens handle o e file same
-  open_within handle None (Some file) e same = absurd same
-  open_within handle (Some o) None e same = absurd same
+  open_within open_call None None e same = same
+  open_within open_call (Some o) (Some file) e same = narrows.opens open_call o e file same
+  open_within open_call None (Some file) e same = absurd same
+  open_within open_call (Some o) None e same = absurd same
 
   call_within : (call : ℕ) (a : Option (CallState Opened)) (b : Option (CallState ℕ)) → get w.kernel.vfs.calls call ≡ a
       → OptionAlike (StateAlike R S) a b → OptionAlike (StateAlike R' S') a b
@@ -187,8 +187,8 @@ module _ (w : World) (p : Plain) (same : Alike w p) (nodes : Map Counted) (t : N
     names_meant = λ id name there. let meant = same.vfs.names_meant id name there in
         (meant.0, narrows.directories id name there meant.0 meant.1);
     names_reached = reached;
-    opens = λ handle. open_within handle (get w.kernel.vfs.opens handle) (get p.vfs.opens handle) refl
-        (same.vfs.opens handle);
+    opens = λ open_call. open_within open_call (get w.kernel.vfs.opens open_call) (get p.vfs.opens open_call) refl
+        (same.vfs.opens open_call);
     calls = λ call. call_within call (get w.kernel.vfs.calls call) (get p.vfs.calls call) refl (same.vfs.calls call);
     answers = same.vfs.answers;
     next_call = same.vfs.next_call;

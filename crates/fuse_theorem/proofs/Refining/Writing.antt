@@ -65,7 +65,7 @@ pub used_alike : (w : World) (p : Plain) → IsSound w.kernel.queues → is_live
     → (state : CallState Opened) → Alike (record w { kernel = after_use w.kernel state }) p
 used_alike w p sound live same (walking directory word words plan) = same
 used_alike w p sound live same (doing operation) = same
-used_alike w p sound live same (using handle operation) = released_alike w p sound same live handle
+used_alike w p sound live same (using open_call operation) = released_alike w p sound same live open_call
 
 not_waiting : (reply : Reply ℕ ℕ) → performed reply ≢ waiting
 not_waiting reply e = cc

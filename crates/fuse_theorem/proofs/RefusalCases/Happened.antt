@@ -2,7 +2,7 @@
 use Rattle.fuse_spec.specs.declared.Minor.{Minor}
 use Rattle.std.proofs.Common.{◌≡◌, ℕ, ◌+◌, Bool, true, false, not, ◌||◌, List, [], ◌∷◌, length, take, Option, Some, None, Ok, nat_eq, slice_get, subst, refl, ap, sym, ◌∙◌, true≢false, arith, ◌&&◌, cond}
 use Rattle.std.specs.Prelude.{if◌then◌else◌, nat_lt, nat_le, max}
-use Rattle.fuse_spec.specs.declared.Binding.{Binding}
+use Rattle.fuse_spec.specs.declared.Dentry.{Dentry}
 use Rattle.fuse_spec.specs.declared.Counted.{Counted}
 use Rattle.fuse_spec.specs.declared.Opened.{Opened}
 use Rattle.fuse_spec.specs.declared.Purpose.{Purpose}
@@ -81,7 +81,7 @@ pub data Happened (choice : ℕ → ℕ) (w : World) : Event → Outcome → Wor
       (record w { kernel = (call_signalled w.kernel call state fatal).1 })
   by_tick : (ms : ℕ) → nat_le clock_end (w.kernel.vfs.clock + ms) ≡ false
       → Happened choice w (event.tick ms) (event.now (w.kernel.vfs.clock + ms)) (after_tick w ms)
-  by_drop : (directory : ℕ) (name : Name) (bound : Binding) → is_live w.kernel.phase ≡ true
+  by_drop : (directory : ℕ) (name : Name) (bound : Dentry) → is_live w.kernel.phase ≡ true
       → get_name w.kernel.vfs.names (directory, name) ≡ Some bound
       → Happened choice w (event.drop_name directory name) event.dropped (after_drop w directory name)
   by_evict : (node : ℕ) (counted : Counted) → is_live w.kernel.phase ≡ true → get w.kernel.nodes node ≡ Some counted
@@ -253,7 +253,7 @@ module _ (choice : ℕ → ℕ) (w : World) (o : Outcome) (last : World) where
       (found (get_name w.kernel.vfs.names (directory, name)) (dropping (after_drop w directory name))) o last s in
       by (get_name w.kernel.vfs.names (directory, name)) refl (is_not (is_live w.kernel.phase) lives.passed) lives.rest
     where
-      by : (x : Option Binding) → get_name w.kernel.vfs.names (directory, name) ≡ x → is_live w.kernel.phase ≡ true
+      by : (x : Option Dentry) → get_name w.kernel.vfs.names (directory, name) ≡ x → is_live w.kernel.phase ≡ true
           → found x (dropping (after_drop w directory name)) ≡ Ok (o, last)
           → Happened choice w (event.drop_name directory name) o last
       by None there live f = absurd (cc)

@@ -9,7 +9,7 @@ use Rattle.fuse_spec.specs.Calls.Paths.{Name}
 use Rattle.fuse_spec.specs.Calls.Calls.{Call}
 use Rattle.fuse_spec.specs.Calls.Vfs.{CallState}
 use Rattle.fuse_spec.specs.declared.Counted.{Counted}
-use Rattle.fuse_spec.specs.declared.Binding.{Binding}
+use Rattle.fuse_spec.specs.declared.Dentry.{Dentry}
 use Rattle.fuse_spec.specs.declared.Opened.{Opened}
 use Rattle.fuse_spec.specs.declared.Purpose.{Purpose}
 use Rattle.fuse_spec.specs.declared.ReplyResult.{ReplyResult}
@@ -248,7 +248,7 @@ module _ (choice : ℕ → ℕ) (w : World) where
       goes choice w (event.intr call fatal) (event.interrupted call moved.0) (record w { kernel = moved.1 }) refl
       (signals call fatal state live there)
 
-  by_drop : (directory : ℕ) (name : Name) → is_live w.kernel.phase ≡ true → (x : Option Binding)
+  by_drop : (directory : ℕ) (name : Name) → is_live w.kernel.phase ≡ true → (x : Option Dentry)
       → get_name w.kernel.vfs.names (directory, name) ≡ x
       → Comes (event.drop_name directory name) (found x (dropping (after_drop w directory name)))
   by_drop directory name live None there = nothing_live choice w (event.drop_name directory name) live refl

@@ -14,15 +14,15 @@ use Rattle.fuse_theorem.proofs.Nodes.NodesSound.{put_found}
 
 -- The two servers draw the same numbers next.
 pub record SameCounters (s t : Server) : Type 0 where
-  pub birth : s.tree.next_birth ≡ t.tree.next_birth
-  pub serial : s.tree.next_serial ≡ t.tree.next_serial
+  pub inode : s.tree.next_inode ≡ t.tree.next_inode
+  pub cookie : s.tree.next_cookie ≡ t.tree.next_cookie
   pub generation : s.nodes.next_generation ≡ t.nodes.next_generation
   pub number : s.handles.next_fh ≡ t.handles.next_fh
   pub copy : s.next_copy ≡ t.next_copy
   pub aborted : s.aborted ≡ t.aborted
 
 same_counters : (s : Server) → SameCounters s s
-same_counters s = record { birth = refl; serial = refl; generation = refl; number = refl; copy = refl; aborted = refl }
+same_counters s = record { inode = refl; cookie = refl; generation = refl; number = refl; copy = refl; aborted = refl }
 
 -- The file has a node.
 abbrev HasNode : NodeTable → ℕ → Type 0
@@ -107,8 +107,8 @@ module _ (c d : ℕ → ℕ) where
         (cond s.aborted [] (files_in_reply (reply_by s.validity s.tree operation)))
         → SameCounters (doing c s operation).server (doing d s operation).server
     doing_counters operation both = record {
-      birth = refl;
-      serial = refl;
+      inode = refl;
+      cookie = refl;
       generation = by s.aborted both;
       number = refl;
       copy = refl;
@@ -170,8 +170,8 @@ module _ (c d : ℕ → ℕ) where
   served_counters s unique t m n =
       let same = performed_counters (record s { held = remove s.held unique }) t (m, n) in
       record {
-        birth = same.birth;
-        serial = same.serial;
+        inode = same.inode;
+        cookie = same.cookie;
         generation = same.generation;
         number = same.number;
         copy = λ i. cond (same.aborted i) (same.copy i) (same.copy i + 1);

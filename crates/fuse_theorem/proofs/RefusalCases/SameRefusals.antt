@@ -29,8 +29,8 @@ past_after_reply w number unique (Some wire) = refl
 
 past_alike : (w : World) (s t : Server) → SameCounters s t
     → is_past (record w { server = s }) ≡ is_past (record w { server = t })
-past_alike w s t same = λ i. kernel.is_kernel_past w.kernel || (nat_lt counter_end (same.birth i)
-    || nat_lt counter_end (same.serial i) || nat_lt counter_end (same.generation i)
+past_alike w s t same = λ i. kernel.is_kernel_past w.kernel || (nat_lt counter_end (same.inode i)
+    || nat_lt counter_end (same.cookie i) || nat_lt counter_end (same.generation i)
     || nat_lt counter_end (same.number i) || nat_lt counter_end (same.copy i))
 
 performed_past : (w : World) (unique : ℕ) (a b : PerformResult) → SameCounters a.server b.server

@@ -272,29 +272,29 @@ advanced_follows k call coming next none alone = by next.operation
         then_follows k k1 (record k1 { queues = after_enqueue k1.queues (purpose.Call call) }) stepped
         (enqueued k1 (purpose.Call call) (λ n low e. absurd (omega (arith, low, e))))
 
-idle_follows : (k : Kernel) (handle : ℕ) → Follows k (released_if_idle k handle)
-idle_follows k handle = by (get k.closing handle)
+idle_follows : (k : Kernel) (open_call : ℕ) → Follows k (released_if_idle k open_call)
+idle_follows k open_call = by (get k.closing open_call)
   where
     unless_used : (b : Bool) (o : Opened) → Follows k
         (record k {
-          closing = cond b k.closing (remove k.closing handle);
+          closing = cond b k.closing (remove k.closing open_call);
           queues = cond b k.queues (after_enqueue k.queues (purpose.Release o));
         })
     unless_used true o = unmoved k k refl refl (omega arith)
     unless_used false o =
         let k1 = record k { queues = after_enqueue k.queues (purpose.Release o) } in
-        then_follows k k1 (record k1 { closing = remove k.closing handle })
+        then_follows k k1 (record k1 { closing = remove k.closing open_call })
         (enqueued k (purpose.Release o) (λ n low e. absurd (omega (arith, low, e))))
-        (unmoved k1 (record k1 { closing = remove k.closing handle }) refl refl (omega arith))
+        (unmoved k1 (record k1 { closing = remove k.closing open_call }) refl refl (omega arith))
 
-    by : (o : Option Opened) → Follows k (released k handle o)
+    by : (o : Option Opened) → Follows k (released k open_call o)
     by None = unmoved k k refl refl (omega arith)
-    by (Some o) = unless_used (is_used k handle) o
+    by (Some o) = unless_used (is_used k open_call) o
 
 pub used_follows : (k : Kernel) (state : CallState Opened) → Follows k (after_use k state)
 used_follows k (walking d word words plan) = unmoved k k refl refl (omega arith)
 used_follows k (doing operation) = unmoved k k refl refl (omega arith)
-used_follows k (using handle operation) = idle_follows k handle
+used_follows k (using open_call operation) = idle_follows k open_call
 
 -- A call for which no request is queued is answered.
 pub answered_follows : (k : Kernel) (call : ℕ) (a : Answer) → requests_for call k.queues ≡ 0

@@ -82,22 +82,22 @@ advanced_moves k call next = by next.operation
     by None = stays k.queues k.queues refl refl
     by (Some operation) = queues k.queues (purpose.Call call)
 
-idle_moves : (k : Kernel) (handle : ℕ) → ReadsNone k.queues (released_if_idle k handle).queues
-idle_moves k handle = by (get k.closing handle)
+idle_moves : (k : Kernel) (open_call : ℕ) → ReadsNone k.queues (released_if_idle k open_call).queues
+idle_moves k open_call = by (get k.closing open_call)
   where
     unless_used : (b : Bool) (o : Opened) → ReadsNone k.queues
         (cond b k.queues (after_enqueue k.queues (purpose.Release o)))
     unless_used true o = stays k.queues k.queues refl refl
     unless_used false o = queues k.queues (purpose.Release o)
 
-    by : (o : Option Opened) → ReadsNone k.queues (released k handle o).queues
+    by : (o : Option Opened) → ReadsNone k.queues (released k open_call o).queues
     by None = stays k.queues k.queues refl refl
-    by (Some o) = unless_used (is_used k handle) o
+    by (Some o) = unless_used (is_used k open_call) o
 
 used_moves : (k : Kernel) (state : CallState Opened) → ReadsNone k.queues (after_use k state).queues
 used_moves k (walking d word words plan) = stays k.queues k.queues refl refl
 used_moves k (doing operation) = stays k.queues k.queues refl refl
-used_moves k (using handle operation) = idle_moves k handle
+used_moves k (using open_call operation) = idle_moves k open_call
 
 -- A call begins.
 pub begun_reads_none : (k : Kernel) (call : Call) → ReadsNone k.queues (call_begun k call).queues

@@ -143,22 +143,22 @@ advanced_grows k call next = by next.operation
     by None = same_grows k.queues
     by (Some operation) = enqueue_grows k.queues (purpose.Call call)
 
-idle_grows : (k : Kernel) (handle : ℕ) → Grows k.queues (released_if_idle k handle).queues
-idle_grows k handle = by (get k.closing handle)
+idle_grows : (k : Kernel) (open_call : ℕ) → Grows k.queues (released_if_idle k open_call).queues
+idle_grows k open_call = by (get k.closing open_call)
   where
     unless_used : (b : Bool) (x : Opened) → Grows k.queues
         (cond b k.queues (after_enqueue k.queues (purpose.Release x)))
     unless_used true x = same_grows k.queues
     unless_used false x = enqueue_grows k.queues (purpose.Release x)
 
-    by : (o : Option Opened) → Grows k.queues (released k handle o).queues
+    by : (o : Option Opened) → Grows k.queues (released k open_call o).queues
     by None = same_grows k.queues
-    by (Some x) = unless_used (is_used k handle) x
+    by (Some x) = unless_used (is_used k open_call) x
 
 used_grows : (k : Kernel) (state : CallState Opened) → Grows k.queues (after_use k state).queues
 used_grows k (walking d word words plan) = same_grows k.queues
 used_grows k (doing operation) = same_grows k.queues
-used_grows k (using handle operation) = idle_grows k handle
+used_grows k (using open_call operation) = idle_grows k open_call
 
 begun_grows : (k : Kernel) (call : Call) → Grows k.queues (call_begun k call).queues
 begun_grows k call =

@@ -25,14 +25,14 @@ cond_twice false true false o f = absurd (true≢false (sym (f refl)))
 
 -- The server without the files that nothing holds any more, where nothing holds more files than before.
 pub discarded_unheld_alike : (s : Server) (tree : Tree) (before : ℕ → Bool) → s.tree.names ≡ tree.names
-    → s.tree.next_birth ≡ tree.next_birth → s.tree.next_serial ≡ tree.next_serial
+    → s.tree.next_inode ≡ tree.next_inode → s.tree.next_cookie ≡ tree.next_cookie
     → ((file : ℕ) → get s.tree.files file ≡ cond (not (is_nameless tree file) || before file)
     (get tree.files file) None) → ((file : ℕ) → is_file_held s file ≡ true → before file ≡ true)
     → TreeAlike (without_unheld_files s) tree
-discarded_unheld_alike s tree before names births serials files fewer = record {
+discarded_unheld_alike s tree before names inodes cookies files fewer = record {
   names = names;
-  next_birth = births;
-  next_serial = serials;
+  next_inode = inodes;
+  next_cookie = cookies;
   files = λ file.
       let same_name : is_nameless s.tree file ≡ is_nameless tree file =
       ap (λ (ns : List Named). nat_eq (cond (nat_eq file 0) 1

@@ -24,8 +24,8 @@ or_right false b e = e
 
 -- whether an operation makes this file
 abbrev pub makes : Tree → FileOperation → ℕ → Bool
-makes tree (mkdir d name) file = nat_eq tree.next_birth file
-makes tree (create d name) file = nat_eq tree.next_birth file
+makes tree (mkdir d name) file = nat_eq tree.next_inode file
+makes tree (create d name) file = nat_eq tree.next_inode file
 makes tree operation file = false
 
 abbrev pub makes_unless : Tree → FileOperation → ℕ → Option ℕ → Bool
@@ -104,21 +104,21 @@ module _ (tree : Tree) (files : Map Content) (held : ℕ → Bool)
       or_false true = refl
       or_false false = refl
 
-  made : (c : Content) (file : ℕ) → get (put files tree.next_birth c) file
-      ≡ cond (stands file || nat_eq tree.next_birth file) (get (put tree.files tree.next_birth c) file) None
-  made c file = elim (cases_eq file tree.next_birth) [
+  made : (c : Content) (file : ℕ) → get (put files tree.next_inode c) file
+      ≡ cond (stands file || nat_eq tree.next_inode file) (get (put tree.files tree.next_inode c) file) None
+  made c file = elim (cases_eq file tree.next_inode) [
     | inl e ↦
-        let both : (stands file || nat_eq tree.next_birth file) ≡ true =
-        or_right (stands file) (nat_eq tree.next_birth file)
-        (subst (λ (n : ℕ). nat_eq tree.next_birth n ≡ true) (sym e) (same_is tree.next_birth)) in
-        (ap (λ (n : ℕ). get (put files tree.next_birth c) n) e ∙ get_put_here files tree.next_birth c)
+        let both : (stands file || nat_eq tree.next_inode file) ≡ true =
+        or_right (stands file) (nat_eq tree.next_inode file)
+        (subst (λ (n : ℕ). nat_eq tree.next_inode n ≡ true) (sym e) (same_is tree.next_inode)) in
+        (ap (λ (n : ℕ). get (put files tree.next_inode c) n) e ∙ get_put_here files tree.next_inode c)
         ∙ sym (ap (λ (n : ℕ). get
-        (put tree.files tree.next_birth c) n) e ∙ get_put_here tree.files tree.next_birth c) ∙ sym
-        (ap (λ (b : Bool). cond b (get (put tree.files tree.next_birth c) file) None) both)
+        (put tree.files tree.next_inode c) n) e ∙ get_put_here tree.files tree.next_inode c) ∙ sym
+        (ap (λ (b : Bool). cond b (get (put tree.files tree.next_inode c) file) None) both)
     | inr ne ↦
-        get_put_there files tree.next_birth c file ne ∙ unmade file
-        ∙ (λ i. cond (stands file || sym (other_is tree.next_birth file (λ z. ne (sym z))) i)
-        (sym (get_put_there tree.files tree.next_birth c file ne) i) None)
+        get_put_there files tree.next_inode c file ne ∙ unmade file
+        ∙ (λ i. cond (stands file || sym (other_is tree.next_inode file (λ z. ne (sym z))) i)
+        (sym (get_put_there tree.files tree.next_inode c file ne) i) None)
   ]
 
   overwriting : (target : ℕ) (f : Option Content → Content) → Stands target → (file : ℕ)
@@ -206,11 +206,11 @@ module _ (tree : Tree) (files : Map Content) (held : ℕ → Bool)
   named_unrefused (lookup d name) h file n = kept_name (lookup d name) file n
   named_unrefused (getattr x) h file n = kept_name (getattr x) file n
   named_unrefused (mkdir d name) h file n =
-      pushed tree.names (record { directory = d; name = name; file = tree.next_birth; serial = tree.next_serial })
-      (λ f. nat_eq tree.next_birth f) file (λ e. e) (λ e. or_right (stands file) (nat_eq tree.next_birth file) e) n
+      pushed tree.names (record { directory = d; name = name; file = tree.next_inode; cookie = tree.next_cookie })
+      (λ f. nat_eq tree.next_inode f) file (λ e. e) (λ e. or_right (stands file) (nat_eq tree.next_inode file) e) n
   named_unrefused (create d name) h file n =
-      pushed tree.names (record { directory = d; name = name; file = tree.next_birth; serial = tree.next_serial })
-      (λ f. nat_eq tree.next_birth f) file (λ e. e) (λ e. or_right (stands file) (nat_eq tree.next_birth file) e) n
+      pushed tree.names (record { directory = d; name = name; file = tree.next_inode; cookie = tree.next_cookie })
+      (λ f. nat_eq tree.next_inode f) file (λ e. e) (λ e. or_right (stands file) (nat_eq tree.next_inode file) e) n
   named_unrefused (unlink d name) h file n = kept_name (unlink d name) file
       (named_before (λ m. not (is_at d name m)) tree.names file n)
   named_unrefused (rmdir d name) h file n = kept_name (rmdir d name) file
@@ -231,12 +231,12 @@ module _ (tree : Tree) (files : Map Content) (held : ℕ → Bool)
       by false None f m = kept_name (rename d old e new) file m
       by false (Some x) f m =
           pushed (filter (λ k. not (is_at e new k)) (filter (λ k. not (is_at d old k)) tree.names))
-          (record { directory = e; name = new; file = x; serial = tree.next_serial }) (λ k. false) file
+          (record { directory = e; name = new; file = x; cookie = tree.next_cookie }) (λ k. false) file
           (λ k. named_before (λ z. not (is_at d old z)) tree.names file
           (named_before (λ z. not (is_at e new z)) (filter (λ z. not (is_at d old z)) tree.names) file k))
           (λ q. one_file x q (lead_stands (is_at d old) x f)) m
   named_unrefused (link x d name) h file n =
-      pushed tree.names (record { directory = d; name = name; file = x; serial = tree.next_serial }) (λ f. false) file
+      pushed tree.names (record { directory = d; name = name; file = x; cookie = tree.next_cookie }) (λ f. false) file
       (λ e. e)
       (λ q. elim (cases_eq x file) [
         | inl same ↦ or_left (stands file) false (subst Stands same h.0)
@@ -282,13 +282,13 @@ module _ (tree : Tree) (files : Map Content) (held : ℕ → Bool)
   given_unrefused valid (lookup d name) h = looked_stands valid (is_at d name) (file_at tree d name) refl
   given_unrefused valid (getattr x) h = All-nil (λ f. (stands f || false) ≡ true)
   given_unrefused valid (mkdir d name) h =
-      All-cons (λ f. (stands f || nat_eq tree.next_birth f) ≡ true) tree.next_birth []
-      (or_right (stands tree.next_birth) (nat_eq tree.next_birth tree.next_birth) (same_is tree.next_birth))
-      (All-nil (λ f. (stands f || nat_eq tree.next_birth f) ≡ true))
+      All-cons (λ f. (stands f || nat_eq tree.next_inode f) ≡ true) tree.next_inode []
+      (or_right (stands tree.next_inode) (nat_eq tree.next_inode tree.next_inode) (same_is tree.next_inode))
+      (All-nil (λ f. (stands f || nat_eq tree.next_inode f) ≡ true))
   given_unrefused valid (create d name) h =
-      All-cons (λ f. (stands f || nat_eq tree.next_birth f) ≡ true) tree.next_birth []
-      (or_right (stands tree.next_birth) (nat_eq tree.next_birth tree.next_birth) (same_is tree.next_birth))
-      (All-nil (λ f. (stands f || nat_eq tree.next_birth f) ≡ true))
+      All-cons (λ f. (stands f || nat_eq tree.next_inode f) ≡ true) tree.next_inode []
+      (or_right (stands tree.next_inode) (nat_eq tree.next_inode tree.next_inode) (same_is tree.next_inode))
+      (All-nil (λ f. (stands f || nat_eq tree.next_inode f) ≡ true))
   given_unrefused valid (unlink d name) h = All-nil (λ f. (stands f || false) ≡ true)
   given_unrefused valid (rmdir d name) h = All-nil (λ f. (stands f || false) ≡ true)
   given_unrefused valid (rename d old e new) h = All-nil (λ f. (stands f || false) ≡ true)
@@ -299,7 +299,7 @@ module _ (tree : Tree) (files : Map Content) (held : ℕ → Bool)
   given_unrefused valid (readdirplus d after size) h =
       fitting_told (λ f. (stands f || false) ≡ true) (min size 4096) (pairs_after valid.found_ms tree d after)
       (listed_told (λ f. (stands f || false) ≡ true) valid.found_ms tree _
-      (All-filter (λ n. nat_lt after n.serial) TellsStanding _
+      (All-filter (λ n. nat_lt after n.cookie) TellsStanding _
       (All-filter (λ n. nat_eq n.directory d) TellsStanding tree.names each_stands)))
   given_unrefused valid (read x offset size) h = All-nil (λ f. (stands f || false) ≡ true)
   given_unrefused valid (write x offset bytes) h = All-nil (λ f. (stands f || false) ≡ true)
@@ -313,11 +313,11 @@ module _ (tree : Tree) (files : Map Content) (held : ℕ → Bool)
   opened_unrefused valid (lookup d name) h = subst (All (λ f. (stands f || false) ≡ true))
       (sym (opened_looked valid (file_at tree d name))) (All-nil (λ f. (stands f || false) ≡ true))
   opened_unrefused valid (getattr x) h = All-nil (λ f. (stands f || false) ≡ true)
-  opened_unrefused valid (mkdir d name) h = All-nil (λ f. (stands f || nat_eq tree.next_birth f) ≡ true)
+  opened_unrefused valid (mkdir d name) h = All-nil (λ f. (stands f || nat_eq tree.next_inode f) ≡ true)
   opened_unrefused valid (create d name) h =
-      All-cons (λ f. (stands f || nat_eq tree.next_birth f) ≡ true) tree.next_birth []
-      (or_right (stands tree.next_birth) (nat_eq tree.next_birth tree.next_birth) (same_is tree.next_birth))
-      (All-nil (λ f. (stands f || nat_eq tree.next_birth f) ≡ true))
+      All-cons (λ f. (stands f || nat_eq tree.next_inode f) ≡ true) tree.next_inode []
+      (or_right (stands tree.next_inode) (nat_eq tree.next_inode tree.next_inode) (same_is tree.next_inode))
+      (All-nil (λ f. (stands f || nat_eq tree.next_inode f) ≡ true))
   opened_unrefused valid (unlink d name) h = All-nil (λ f. (stands f || false) ≡ true)
   opened_unrefused valid (rmdir d name) h = All-nil (λ f. (stands f || false) ≡ true)
   opened_unrefused valid (rename d old e new) h = All-nil (λ f. (stands f || false) ≡ true)

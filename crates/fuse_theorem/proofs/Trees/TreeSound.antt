@@ -6,7 +6,7 @@ use Rattle.fuse_spec.specs.declared.Validity.{Validity}
 use Rattle.fuse_spec.specs.Values.Maps.{get}
 use Rattle.fuse_spec.specs.Calls.Paths.{Name}
 use Rattle.fuse_spec.specs.Files.Operations.{lookup, getattr, mkdir, create, unlink, rmdir, rename, link, opening, readdir, readdirplus, read, write, files_in_reply, opens_in_reply}
-use Rattle.fuse_spec.specs.Files.Trees.{Tree, Named, Content, a_directory, a_file, file_at, kind_of, is_kind_directory, is_directory, is_nameless, file_bytes, overwritten, is_at, with_name, without_name, with_birth, pairs_after}
+use Rattle.fuse_spec.specs.Files.Trees.{Tree, Named, Content, a_directory, a_file, file_at, kind_of, is_kind_directory, is_directory, is_nameless, file_bytes, overwritten, is_at, with_name, without_name, with_inode, pairs_after}
 use Rattle.fuse_spec.specs.Files.FileOperations.{FileOperation, Check, making, first_refusal, refusal, lookup_reply, reply_by, reply_or, reply_unrefused, tree_after, tree_or, tree_unrefused, renamed, is_same}
 use Rattle.fuse_spec.proofs.Tables.{get_put_there}
 use Rattle.fuse_theorem.specs.ServerTables.{TreeSound}
@@ -53,8 +53,8 @@ module _ (tree : Tree) (sound : TreeSound tree) where
       by true f rest = let same : n.file ≡ file = cc in subst NotRoot same (All-head NamesNone n names h)
       by false f rest = rest f
 
-  born : tree.next_birth ≢ 0
-  born e = let low = sound.births in omega (arith, e, low)
+  born : tree.next_inode ≢ 0
+  born e = let low = sound.inodes in omega (arith, e, low)
 
   opened_is : (file : ℕ) → refusal tree (opening file) ≡ None → file ≢ 0
   opened_is file free = not_directory file (passes (is_directory tree file, 21) [] free).0
@@ -78,13 +78,13 @@ module _ (tree : Tree) (sound : TreeSound tree) where
       → All NotRoot (files_in_reply (reply_unrefused valid tree operation))
   given_unrefused valid (lookup d name) free = looked valid (file_at tree d name)
       (λ file found. leads (is_at d name) tree.names file sound.names found)
-  given_unrefused valid (mkdir d name) free = All-cons NotRoot tree.next_birth [] born (All-nil NotRoot)
-  given_unrefused valid (create d name) free = All-cons NotRoot tree.next_birth [] born (All-nil NotRoot)
+  given_unrefused valid (mkdir d name) free = All-cons NotRoot tree.next_inode [] born (All-nil NotRoot)
+  given_unrefused valid (create d name) free = All-cons NotRoot tree.next_inode [] born (All-nil NotRoot)
   given_unrefused valid (link file d name) free = All-cons NotRoot file [] (linked_is file d name free)
       (All-nil NotRoot)
   given_unrefused valid (readdirplus d after size) free =
       fitting_told NotRoot (min size 4096) (pairs_after valid.found_ms tree d after)
-      (listed_told NotRoot valid.found_ms tree _ (All-filter (λ n. nat_lt after n.serial) NamesNone _
+      (listed_told NotRoot valid.found_ms tree _ (All-filter (λ n. nat_lt after n.cookie) NamesNone _
       (All-filter (λ n. nat_eq n.directory d) NamesNone tree.names sound.names)))
   given_unrefused valid operation free = All-nil NotRoot
 
@@ -95,7 +95,7 @@ module _ (tree : Tree) (sound : TreeSound tree) where
   opened_unrefused : (valid : Validity) (operation : FileOperation) → refusal tree operation ≡ None
       → All NotRoot (opens_in_reply (reply_unrefused valid tree operation))
   opened_unrefused valid (lookup d name) free = opened_looked valid (file_at tree d name)
-  opened_unrefused valid (create d name) free = All-cons NotRoot tree.next_birth [] born (All-nil NotRoot)
+  opened_unrefused valid (create d name) free = All-cons NotRoot tree.next_inode [] born (All-nil NotRoot)
   opened_unrefused valid (opening file) free = All-cons NotRoot file [] (opened_is file free) (All-nil NotRoot)
   opened_unrefused valid operation free = All-nil NotRoot
 
@@ -128,9 +128,9 @@ module _ (tree : Tree) (sound : TreeSound tree) where
       directory = d;
       name = name;
       file = file;
-      serial = tree.next_serial;
+      cookie = tree.next_cookie;
     }) sound.names other;
-    births = sound.births;
+    inodes = sound.inodes;
   }
 
   unnamed : (d : ℕ) (name : Name) → TreeSound (without_name tree d name)
@@ -138,19 +138,19 @@ module _ (tree : Tree) (sound : TreeSound tree) where
     root = sound.root;
     names =
         All-filter (λ n. not (is_at d name n)) NamesNone tree.names sound.names;
-    births = sound.births;
+    inodes = sound.inodes;
   }
 
-  made : (d : ℕ) (name : Name) (content : Content) → TreeSound (with_birth tree d name content)
+  made : (d : ℕ) (name : Name) (content : Content) → TreeSound (with_inode tree d name content)
   made d name content = record {
-    root = get_put_there tree.files tree.next_birth content 0 (λ e. born (sym e)) ∙ sound.root;
+    root = get_put_there tree.files tree.next_inode content 0 (λ e. born (sym e)) ∙ sound.root;
     names = All-push NamesNone tree.names (record {
       directory = d;
       name = name;
-      file = tree.next_birth;
-      serial = tree.next_serial;
+      file = tree.next_inode;
+      cookie = tree.next_cookie;
     }) sound.names born;
-    births = let low = sound.births in omega (arith, low);
+    inodes = let low = sound.inodes in omega (arith, low);
   }
 
 -- a rename of a name that leads to another file than the root
@@ -186,7 +186,7 @@ module _ (tree : Tree) (sound : TreeSound tree) where
     root = get_put_there tree.files file (a_file (overwritten (file_bytes (get tree.files file)) offset (b ∷ bytes))) 0
         (λ e. opens (sym e)) ∙ sound.root;
     names = sound.names;
-    births = sound.births;
+    inodes = sound.inodes;
   }
 
   -- The tree is sound after any operation that reads and writes no root.

@@ -119,7 +119,7 @@ module _ (tree : Tree) (files : Map Content) where
     refusal_same (write file offset bytes) h = refl
 
     one_record : (n : Named) → Same n.file → record_of (with_files tree files) n ≡ record_of tree n
-    one_record n h = λ i. record { ino = n.file + 1; offset = n.serial; kind = kind_of (h i); name = n.name }
+    one_record n h = λ i. record { ino = n.file + 1; offset = n.cookie; kind = kind_of (h i); name = n.name }
 
     one_pair : (valid_ms : ℕ) (n : Named) → Same n.file
         → pair_of valid_ms (with_files tree files) n ≡ pair_of valid_ms tree n
@@ -156,12 +156,12 @@ module _ (tree : Tree) (files : Map Content) where
     unrefused_same valid (opening file) h = refl
     unrefused_same valid (readdir d after size) h =
         ap (λ (xs : List Dirent). listed (fitting (min size number.max_transfer) xs))
-        (filter_same (record_of (with_files tree files)) (record_of tree) one_record (λ n. nat_lt after n.serial)
+        (filter_same (record_of (with_files tree files)) (record_of tree) one_record (λ n. nat_lt after n.cookie)
         (λ n. nat_eq n.directory d) tree.names named)
     unrefused_same valid (readdirplus d after size) h =
         ap (λ (xs : List (DirentPlus ℕ)). listed_plus (fitting_pairs (min size number.max_transfer) xs))
         (filter_same (pair_of valid.found_ms (with_files tree files)) (pair_of valid.found_ms tree)
-        (λ n same. one_pair valid.found_ms n same) (λ n. nat_lt after n.serial)
+        (λ n same. one_pair valid.found_ms n same) (λ n. nat_lt after n.cookie)
         (λ n. nat_eq n.directory d) tree.names named)
     unrefused_same valid (read file offset size) h =
         λ i. content (take (min size number.max_transfer) (drop offset (file_bytes (h i))))
@@ -172,9 +172,9 @@ module _ (tree : Tree) (files : Map Content) where
         → reply_by valid (with_files tree files) operation ≡ reply_by valid tree operation
     told_same valid operation h = λ i. reply_or (unrefused_same valid operation h i) (refusal_same operation h i)
 
-    -- The names, the next birth and the next serial of a tree.
+    -- The names, the next inode and the next cookie of a tree.
     abbrev Numbered : Tree → List Named × ℕ × ℕ
-    Numbered t = (t.names, t.next_birth, t.next_serial)
+    Numbered t = (t.names, t.next_inode, t.next_cookie)
 
     numbers_unrefused : (operation : FileOperation) → Numbered (tree_unrefused (with_files tree files) operation)
         ≡ Numbered (tree_unrefused tree operation)

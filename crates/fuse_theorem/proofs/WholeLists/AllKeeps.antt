@@ -132,7 +132,7 @@ module _ (w : World) (p : Plain) (all : AllSound w p) where
         nodes = λ id. same_node w world.lookups rest id;
         opens = λ fh. opens_counted w rest fh balance no_closing;
         once = λ fh. once_at_rest w all.opens all.once rest fh;
-        counted = λ fh handle at. world.lookups.server.handles.counts fh handle at;
+        counted = λ fh open_call at. world.lookups.server.handles.counts fh open_call at;
         files = opens_fit w (balanced rest.live).files;
       }
 

@@ -4,7 +4,7 @@ use Rattle.fuse_spec.specs.Server.Nodes.{count_overflows}
 use Rattle.std.proofs.Common.{◌≡◌, ℕ, ◌+◌, ◌-◌, ◌%◌, Bool, true, false, not, ◌||◌, cond, List, [], ◌∷◌, Option, Some, None, Ok, nat_eq, length, slice_get, option_map, refl, ap, sym, subst, ◌∙◌}
 use Rattle.std.specs.Prelude.{nat_lt, nat_le, max}
 use Rattle.std.specs.List.{remove}
-use Rattle.fuse_spec.specs.declared.Binding.{Binding}
+use Rattle.fuse_spec.specs.declared.Dentry.{Dentry}
 use Rattle.fuse_spec.specs.declared.Counted.{Counted}
 use Rattle.fuse_spec.specs.declared.Opened.{Opened}
 use Rattle.fuse_spec.specs.declared.Purpose.{Purpose}
@@ -381,7 +381,7 @@ module _ (w : World) (p : Plain) (same : Alike w p) (o : Outcome) (last : World)
       (found (get_name w.kernel.vfs.names (directory, name)) (dropping (after_drop w directory name))) o last e in
       by (get_name w.kernel.vfs.names (directory, name)) refl lives.rest
     where
-      by : (x : Option Binding) → get_name w.kernel.vfs.names (directory, name) ≡ x
+      by : (x : Option Dentry) → get_name w.kernel.vfs.names (directory, name) ≡ x
           → found x (dropping (after_drop w directory name)) ≡ Ok (o, last)
           → PlainMoves p (event.drop_name directory name) o last
       by None at f = absurd (cc)

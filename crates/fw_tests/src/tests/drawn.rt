@@ -101,19 +101,19 @@ impl Seen {
 }
 
 fn call_on_an_open_file(drawn: &mut Drawn, seen: &Seen) -> Call<'static> {
-    let handle = seen.call(drawn);
+    let open_call = seen.call(drawn);
     match drawn.below(3) {
         0 => Call::Read {
-            handle,
+            open_call,
             offset: drawn.below(4),
             size: drawn.below(12),
         },
         1 => Call::Write {
-            handle,
+            open_call,
             offset: drawn.below(4),
             bytes: b"some bytes",
         },
-        _ => Call::Close { handle },
+        _ => Call::Close { open_call },
     }
 }
 

@@ -44,7 +44,7 @@ fn steps_of<'a>(
             Ok(Line::Event(event)) => steps.push(Some(event))?,
             Ok(
                 Line::CallWrite {
-                    handle,
+                    open_call,
                     offset,
                     hex,
                 },
@@ -53,7 +53,7 @@ fn steps_of<'a>(
                 let bytes = rest.get(..len).unwrap_or(&[]);
                 rest = rest.get(len..).unwrap_or(&[]);
                 steps.push(Some(Event::Call(Call::Write {
-                    handle,
+                    open_call,
                     offset,
                     bytes,
                 })))?;

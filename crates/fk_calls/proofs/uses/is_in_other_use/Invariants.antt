@@ -8,6 +8,6 @@ use Rattle.fk_calls.proofs.uses.is_in_other_use.Given as goal
 
 abbrev pub invariant-loop-call : goal.invariant-loop-call
 invariant-loop-call g l =
-    list_any (λ (e : ℕ × CallState Opened). not (nat_eq e.0 l.but) && is_using l.handle e.1) l.calls
-    ≡ list_any (λ (e : ℕ × CallState Opened). not (nat_eq e.0 l.but) && is_using l.handle e.1)
+    list_any (λ (e : ℕ × CallState Opened). not (nat_eq e.0 l.but) && is_using l.open_call e.1) l.calls
+    ≡ list_any (λ (e : ℕ × CallState Opened). not (nat_eq e.0 l.but) && is_using l.open_call e.1)
     (drop l.call-index l.calls)

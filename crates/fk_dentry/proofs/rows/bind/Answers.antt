@@ -1,6 +1,6 @@
 use Rattle.std.proofs.Common.{Option, sym, ◌∙◌, ap, is_some, subst, T}
 use Rattle.std.specs.Option.{option_copied_mut}
-use Rattle.fuse_spec.specs.declared.Binding.{Binding}
+use Rattle.fuse_spec.specs.declared.Dentry.{Dentry}
 use Rattle.fuse_spec.specs.Values.Maps.{Place, put_name}
 use Rattle.fk_dentry.specs.Rows.{slots_of, bound_in}
 use Rattle.fk_dentry.proofs.HashRows.{get-slots, slots-put}
@@ -17,7 +17,7 @@ returns-in-Some-clause-slots g c =
     let wrote = c.get_mut.follows.holds _ in
     let updates = wrote.3 (ap is_some (sym c.in-Some.ensures.value)) in
     slots-put c.args.rows.now.entries _ key c.replace.new.self updates.1 updates.3 ∙ ap
-    (λ (slot : Option Binding). put_name (slots_of c.args.rows.now.entries) key slot) c.replace.ensures.after
+    (λ (slot : Option Dentry). put_name (slots_of c.args.rows.now.entries) key slot) c.replace.ensures.after
 
 pub returns-in-None-clause-old : goal.returns-in-None-clause-old
 returns-in-None-clause-old g c =

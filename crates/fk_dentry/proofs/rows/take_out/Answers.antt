@@ -4,8 +4,8 @@ use Rattle.fk_dentry.specs.Rows.{bound_in}
 use Rattle.fk_dentry.proofs.HashRows.{get-slots, slots-remove}
 use Rattle.fk_dentry.proofs.rows.take_out.Goals as goal
 
-pub returns-in-Some-clause-binding : goal.returns-in-Some-clause-binding
-returns-in-Some-clause-binding g c =
+pub returns-in-Some-clause-dentry : goal.returns-in-Some-clause-dentry
+returns-in-Some-clause-dentry g c =
     let key : Place = (c.args.directory, c.args.name.now) in
     ap bound_in (sym c.in-Some.is ∙ c.swap_remove.ensures.value ∙ sym (get-slots c.args.rows.now.entries key))
 
@@ -14,8 +14,8 @@ returns-in-Some-clause-slots g c =
     let key : Place = (c.args.directory, c.args.name.now) in
     slots-remove c.args.rows.now.entries _ key c.swap_remove.ensures.updates.1 c.swap_remove.ensures.updates.3
 
-pub returns-in-None-clause-binding : goal.returns-in-None-clause-binding
-returns-in-None-clause-binding g c =
+pub returns-in-None-clause-dentry : goal.returns-in-None-clause-dentry
+returns-in-None-clause-dentry g c =
     let key : Place = (c.args.directory, c.args.name.now) in
     ap bound_in (sym c.in-None.is ∙ c.swap_remove.ensures.value ∙ sym (get-slots c.args.rows.now.entries key))
 

@@ -2,7 +2,7 @@ use Rattle.std.proofs.Common.{List, ap, map, subst, sym, ◌∙◌}
 use Rattle.fuse_frames.specs.ReplyTies.{pair_in}
 use Rattle.fuse_spec.specs.Values.Maps.{NameMap}
 use Rattle.fuse_spec.specs.Files.Operations.{DirentPlus}
-use Rattle.fuse_spec.specs.declared.Binding.{Binding}
+use Rattle.fuse_spec.specs.declared.Dentry.{Dentry}
 use Rattle.fuse_spec.specs.declared.Entry.{Entry}
 use Rattle.fk_nodes.specs.ListedFiles.{pairs_left_in, HaveNameRoom, names_judged}
 use Rattle.fk_nodes.proofs.Rooms.{kept_rooms}
@@ -18,7 +18,7 @@ loop-pair-preserved g c =
     let rooms = subst (HaveNameRoom c.loop-pair.names directory) left c.loop-pair.invariant.room in
     record {
       bound =
-          ap (λ (n : NameMap Binding). names_judged clock directory nodes n rest) c.bind_name.ensures.names
+          ap (λ (n : NameMap Dentry). names_judged clock directory nodes n rest) c.bind_name.ensures.names
           ∙ sym (ap (λ (ps : List (DirentPlus Entry)). names_judged clock directory nodes c.loop-pair.names.names ps) left)
           ∙ c.loop-pair.invariant.bound;
       room = kept_rooms c.loop-pair.names c.bind_name.new.names directory rest c.bind_name.ensures.kept rooms.1;

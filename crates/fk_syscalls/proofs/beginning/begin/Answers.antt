@@ -54,7 +54,7 @@ returns-in-Link-clause-wanting g c = first_asks c.args.names.now.names c.args.cl
 
 pub returns-in-Write-clause-wanting : goal.returns-in-Write-clause-wanting
 returns-in-Write-clause-wanting g c = file_asks c.args.names.now.names c.args.clock c.args.opens.now.entries
-    (call_of c.args.call.now) (using c.in-Write.handle
-    (get c.args.opens.now.entries c.in-Write.handle) c.in-Write.offset (length c.in-Write.bytes.now)
+    (call_of c.args.call.now) (using c.in-Write.open_call
+    (get c.args.opens.now.entries c.in-Write.open_call) c.in-Write.offset (length c.in-Write.bytes.now)
     (λ opened. op.write opened c.in-Write.offset c.in-Write.bytes.now))
     (λ vfs opens. rw (c.in-Write.is, opens) refl) c.begin_write.result c.begin_write.ensures.wanting

@@ -9,11 +9,11 @@ use Rattle.fk_syscalls.proofs.beginning.begin_write.Goals as goal
 
 pub returns-in_err-state-clause-wanting : goal.returns-in_err-state-clause-wanting
 returns-in_err-state-clause-wanting g c =
-    let at : get c.args.opens.now.entries c.args.handle ≡ Some c.in-Some.opened.now = search rules in
+    let at : get c.args.opens.now.entries c.args.open_call ≡ Some c.in-Some.opened.now = search rules in
     let low : (nat_lt 65536 c.args.offset || nat_lt 4096 (length c.args.bytes.now)) ≡ false =
     grind (arith, nat_tests) in
     if_err c.from_residual.result (λ vfs call. (
-      using c.args.handle
+      using c.args.open_call
           (write c.in-Some.opened.now c.args.offset c.args.bytes.now),
       rw (at, low) refl,
     ))

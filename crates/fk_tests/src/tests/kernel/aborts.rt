@@ -100,7 +100,7 @@ static ABORTED_WHILE_OPEN: [Row; 11] = [
         ),
         WriteResult::Accepted,
     ),
-    Row::Begin(Call::Close { handle: 1 }, Ok(2)),
+    Row::Begin(Call::Close { open_call: 1 }, Ok(2)),
     Row::Answered(2, Expected::Errno(9)),
 ];
 

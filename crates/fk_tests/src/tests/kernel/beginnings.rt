@@ -106,7 +106,7 @@ static READ: [Row; 6] = [
     Row::Answered(1, Expected::Done),
     Row::Begin(
         Call::Read {
-            handle: 1,
+            open_call: 1,
             offset: 0,
             size: 2,
         },
@@ -126,7 +126,7 @@ static WRITTEN: [Row; 6] = [
     Row::Answered(1, Expected::Done),
     Row::Begin(
         Call::Write {
-            handle: 1,
+            open_call: 1,
             offset: 0,
             bytes: b"hi",
         },
@@ -144,7 +144,7 @@ static CLOSED: [Row; 7] = [
         WriteResult::Accepted,
     ),
     Row::Answered(1, Expected::Done),
-    Row::Begin(Call::Close { handle: 1 }, Ok(2)),
+    Row::Begin(Call::Close { open_call: 1 }, Ok(2)),
     Row::Answered(2, Expected::Done),
     Row::Read(0, Reads::Head(6, Opcode::Release)),
 ];

@@ -259,7 +259,7 @@ static LONG_READ: [Row; 12] = [
     Row::Answered(1, Expected::Done),
     Row::Begin(
         Call::Read {
-            handle: 1,
+            open_call: 1,
             offset: 0,
             size: 10,
         },
@@ -273,7 +273,7 @@ static LONG_READ: [Row; 12] = [
     Row::Answered(2, Expected::Errno(5)),
     Row::Begin(
         Call::Read {
-            handle: 1,
+            open_call: 1,
             offset: 0,
             size: 10,
         },
@@ -300,7 +300,7 @@ static LONG_WRITE: [Row; 12] = [
     Row::Answered(1, Expected::Done),
     Row::Begin(
         Call::Write {
-            handle: 1,
+            open_call: 1,
             offset: 0,
             bytes: b"hi",
         },
@@ -314,7 +314,7 @@ static LONG_WRITE: [Row; 12] = [
     Row::Answered(2, Expected::Errno(5)),
     Row::Begin(
         Call::Write {
-            handle: 1,
+            open_call: 1,
             offset: 0,
             bytes: b"hi",
         },
@@ -357,7 +357,7 @@ static CREATED_UNLIKE: [Row; 13] = [
             "30000000 02000000 0800000000000000 0200000000000000 00000000 00000000 00000000 00000000 0100000000000000",
         ),
     ),
-    Row::Begin(Call::Close { handle: 2 }, Ok(3)),
+    Row::Begin(Call::Close { open_call: 2 }, Ok(3)),
     Row::Answered(3, Expected::Errno(9)),
 ];
 
@@ -384,7 +384,7 @@ static CREATED_ROOT: [Row; 12] = [
     // the open number is given up: nothing is released, and the call has no open file
     Row::Read(0, Reads::Refused(Refusal::NoSuch)),
     Row::Forget(1, Reads::Refused(Refusal::NoSuch)),
-    Row::Begin(Call::Close { handle: 2 }, Ok(3)),
+    Row::Begin(Call::Close { open_call: 2 }, Ok(3)),
     Row::Answered(3, Expected::Errno(9)),
 ];
 
@@ -411,7 +411,7 @@ static CREATED_NOTHING: [Row; 12] = [
     // the open number is given up: nothing is released, and the call has no open file
     Row::Read(0, Reads::Refused(Refusal::NoSuch)),
     Row::Forget(1, Reads::Refused(Refusal::NoSuch)),
-    Row::Begin(Call::Close { handle: 2 }, Ok(3)),
+    Row::Begin(Call::Close { open_call: 2 }, Ok(3)),
     Row::Answered(3, Expected::Errno(9)),
 ];
 
@@ -426,7 +426,7 @@ static RELEASED: [Row; 13] = [
         WriteResult::Accepted,
     ),
     Row::Answered(1, Expected::Done),
-    Row::Begin(Call::Close { handle: 1 }, Ok(2)),
+    Row::Begin(Call::Close { open_call: 1 }, Ok(2)),
     Row::Answered(2, Expected::Done),
     Row::Read(0, Reads::Head(6, Opcode::Release)),
     Row::Evict(2, Err(Refusal::Busy)),

@@ -19,20 +19,20 @@ static CLOSED_WHILE_READ: [Row; 16] = [
     Row::Answered(1, Expected::Done),
     Row::Begin(
         Call::Read {
-            handle: 1,
+            open_call: 1,
             offset: 0,
             size: 10,
         },
         Ok(2),
     ),
     Row::Read(0, Reads::Head(6, Opcode::Read)),
-    Row::Begin(Call::Close { handle: 1 }, Ok(3)),
+    Row::Begin(Call::Close { open_call: 1 }, Ok(3)),
     Row::Answered(3, Expected::Done),
     Row::Read(0, Reads::Refused(Refusal::NoSuch)),
     // it is not open any more, and is released behind the read
     Row::Begin(
         Call::Read {
-            handle: 1,
+            open_call: 1,
             offset: 0,
             size: 1,
         },
@@ -65,7 +65,7 @@ static CLOSED_WHILE_UNREAD: [Row; 16] = [
     Row::Answered(1, Expected::Done),
     Row::Begin(
         Call::Read {
-            handle: 1,
+            open_call: 1,
             offset: 0,
             size: 10,
         },
@@ -73,13 +73,13 @@ static CLOSED_WHILE_UNREAD: [Row; 16] = [
     ),
     Row::Begin(
         Call::Write {
-            handle: 1,
+            open_call: 1,
             offset: 0,
             bytes: b"hi",
         },
         Ok(3),
     ),
-    Row::Begin(Call::Close { handle: 1 }, Ok(4)),
+    Row::Begin(Call::Close { open_call: 1 }, Ok(4)),
     Row::Answered(4, Expected::Done),
     Row::Signal(2, true, Ok(IntrEffect::Dequeued)),
     Row::Answered(2, Expected::Errno(4)),
@@ -115,7 +115,7 @@ static ARGUMENTS: [Row; 22] = [
     Row::Answered(1, Expected::Done),
     Row::Begin(
         Call::Read {
-            handle: 2,
+            open_call: 2,
             offset: 0,
             size: 1,
         },
@@ -124,7 +124,7 @@ static ARGUMENTS: [Row; 22] = [
     Row::Answered(2, Expected::Errno(9)),
     Row::Begin(
         Call::Read {
-            handle: 1,
+            open_call: 1,
             offset: 65537,
             size: 1,
         },
@@ -133,7 +133,7 @@ static ARGUMENTS: [Row; 22] = [
     Row::Answered(3, Expected::Errno(22)),
     Row::Begin(
         Call::Read {
-            handle: 1,
+            open_call: 1,
             offset: 0,
             size: 4097,
         },
@@ -142,7 +142,7 @@ static ARGUMENTS: [Row; 22] = [
     Row::Answered(4, Expected::Errno(22)),
     Row::Begin(
         Call::Write {
-            handle: 1,
+            open_call: 1,
             offset: 65537,
             bytes: b"",
         },
@@ -151,7 +151,7 @@ static ARGUMENTS: [Row; 22] = [
     Row::Answered(5, Expected::Errno(22)),
     Row::Begin(
         Call::Read {
-            handle: 1,
+            open_call: 1,
             offset: 65536,
             size: 4096,
         },
@@ -163,11 +163,11 @@ static ARGUMENTS: [Row; 22] = [
         WriteResult::Accepted,
     ),
     Row::Answered(6, Expected::Bytes("")),
-    Row::Begin(Call::Close { handle: 2 }, Ok(7)),
+    Row::Begin(Call::Close { open_call: 2 }, Ok(7)),
     Row::Answered(7, Expected::Errno(9)),
-    Row::Begin(Call::Close { handle: 1 }, Ok(8)),
+    Row::Begin(Call::Close { open_call: 1 }, Ok(8)),
     Row::Answered(8, Expected::Done),
-    Row::Begin(Call::Close { handle: 1 }, Ok(9)),
+    Row::Begin(Call::Close { open_call: 1 }, Ok(9)),
     Row::Answered(9, Expected::Errno(9)),
 ];
 

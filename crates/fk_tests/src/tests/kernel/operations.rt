@@ -94,7 +94,7 @@ static FOUND_AND_MADE: [Row; 24] = [
 static FILES_AND_LISTS: [Row; 20] = [
     Row::Begin(
         Call::Write {
-            handle: 6,
+            open_call: 6,
             offset: 7,
             bytes: b"hi",
         },
@@ -113,7 +113,7 @@ static FILES_AND_LISTS: [Row; 20] = [
     Row::Answered(7, Expected::Written(2)),
     Row::Begin(
         Call::Read {
-            handle: 6,
+            open_call: 6,
             offset: 7,
             size: 10,
         },
@@ -251,7 +251,7 @@ static SIGNALLED_AND_GIVEN_UP: [Row; 27] = [
         WriteResult::Accepted,
     ),
     Row::Answered(15, Expected::Errno(4)),
-    Row::Begin(Call::Close { handle: 6 }, Ok(16)),
+    Row::Begin(Call::Close { open_call: 6 }, Ok(16)),
     Row::Answered(16, Expected::Done),
     Row::Read(
         0,
@@ -263,7 +263,7 @@ static SIGNALLED_AND_GIVEN_UP: [Row; 27] = [
         Written::Whole("10000000 00000000 2000000000000000"),
         WriteResult::Accepted,
     ),
-    Row::Begin(Call::Close { handle: 10 }, Ok(17)),
+    Row::Begin(Call::Close { open_call: 10 }, Ok(17)),
     Row::Answered(17, Expected::Done),
     Row::Read(0, Reads::Head(34, Opcode::Release)),
     Row::Evict(3, Err(Refusal::Busy)),

@@ -6,6 +6,6 @@ use Rattle.fs_files.proofs.operating.look_up.Goals as goal
 pub returns-in-Some : goal.returns-in-Some
 returns-in-Some g c =
     let at : file_at c.args.tree.now c.args.directory c.args.name.now ≡ Some c.in-Some.file = search rules in
-    let sum = c.births_left-births.ensures in
-    let births : c.args.tree.now.next_birth ≤ 2 ^ 62 = omega (arith, sum) in
-    looks_up c.args.validity c.args.tree.now c.lemma_shaped.ensures births c.args.directory c.args.name.now c.in-Some.file at
+    let sum = c.inodes_left-inodes.ensures in
+    let inodes : c.args.tree.now.next_inode ≤ 2 ^ 62 = omega (arith, sum) in
+    looks_up c.args.validity c.args.tree.now c.lemma_shaped.ensures inodes c.args.directory c.args.name.now c.in-Some.file at

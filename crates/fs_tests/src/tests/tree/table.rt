@@ -8,7 +8,7 @@ use std::alloc::{AllocError, Global};
 use std::process::Abort;
 use std::test::Fail;
 
-/// Births and serials stay below this.
+/// Births and cookies stay below this.
 const LEFT: u64 = 1 << 62;
 
 /// The root has the directory 1 and the file 2; in 1 are the directory 3 and the file 4; 5 is a nameless directory and 6
@@ -136,7 +136,7 @@ const C: Listed = (4, 4, Kind::Regular, "c");
 
 const LAST: Listed = (5, 1, Kind::Directory, "last");
 
-/// Makes the root's names, in the order of their serials.
+/// Makes the root's names, in the order of their cookies.
 static NAMES: [Row; 5] = [
     Row::Gives(Operation::Mkdir(0, "a"), Ok(Answer::File(1))),
     Row::Gives(Operation::Create(1, "deep"), Ok(Answer::File(2))),

@@ -1,5 +1,5 @@
 use Rattle.std.proofs.Common.{◌+◌, ◌≡◌, ◌≤◌, ℕ, ap, sym, subst, ◌∙◌, arith, Some, Option, length, is_some}
-use Rattle.fuse_spec.specs.declared.Binding.{Binding}
+use Rattle.fuse_spec.specs.declared.Dentry.{Dentry}
 use Rattle.fuse_spec.specs.Values.Maps.{Place, get_name}
 use Rattle.fk_dentry.specs.Counts.{mentions_of, total_in}
 use Rattle.fk_dentry.specs.Named.{times, named, named_by}
@@ -14,7 +14,7 @@ bind-old-requires g c = rw (← c.self.view_is) at c.requires
 pub replace-requires-clause-named : goal.replace-requires-clause-named
 replace-requires-clause-named g c = λ q.
     let key : Place = (c.args.directory, c.args.name.now) in
-    subst (λ (b : Option Binding). times q
+    subst (λ (b : Option Dentry). times q
     (named_by c.args.directory b) ≤ mentions_of c.self.inside.nodes.counts.entries q) (sym c.bind-old.ensures.old)
     (bound_among key c.self.invariant q)
 
@@ -22,7 +22,7 @@ pub replace-requires-clause-room : goal.replace-requires-clause-room
 replace-requires-clause-room g c =
     let key : Place = (c.args.directory, c.args.name.now) in
     let there = rw (← c.self.view_is) at c.requires in
-    subst (λ (b : Option Binding). total_in c.self.inside.nodes.counts.entries + 2 ≤ c.self.inside.nodes.most + length
+    subst (λ (b : Option Dentry). total_in c.self.inside.nodes.counts.entries + 2 ≤ c.self.inside.nodes.most + length
     (named_by c.args.directory b)) (sym c.bind-old.ensures.old)
     (room_bound key c.self.invariant there)
 
@@ -33,14 +33,14 @@ invariant_of-self g c =
     let old = c.bind-old.ensures.old in
     let counts = c.self.inside.nodes.counts.entries in
     let nodes = c.replace.new.self in
-    let target = c.args.binding.target in
-    let count = subst (λ (b : Option Binding). (q : ℕ)
+    let target = c.args.dentry.target in
+    let count = subst (λ (b : Option Dentry). (q : ℕ)
     → mentions_of nodes.counts.entries q + times q (named_by c.args.directory b)
     ≡ mentions_of counts q + times q (named c.args.directory target)) old c.replace.ensures.count in
-    let total = subst (λ (b : Option Binding). total_in nodes.counts.entries + length (named_by c.args.directory b)
+    let total = subst (λ (b : Option Dentry). total_in nodes.counts.entries + length (named_by c.args.directory b)
     ≡ total_in counts + length (named c.args.directory target)) old c.replace.ensures.total in
     let most = c.replace.ensures.most in
-    let table = table-with key c.self.invariant there c.args.binding (mentions_of nodes.counts.entries)
+    let table = table-with key c.self.invariant there c.args.dentry (mentions_of nodes.counts.entries)
     (total_in nodes.counts.entries) nodes.most count total (omega (arith, most)) in
     subst (λ s. IsNameTable s (mentions_of nodes.counts.entries) (total_in nodes.counts.entries) nodes.most)
     (sym c.bind-old.ensures.slots) table
@@ -49,10 +49,10 @@ pub returns-clause-names : goal.returns-clause-names
 returns-clause-names g c =
     let key : Place = (c.args.directory, c.args.name.now) in
     rw (← c.self.view_is) (ap bound_names c.bind-old.ensures.slots ∙ names-put
-    (slots_of c.self.inside.rows.entries) key c.args.binding c.self.invariant.sorted)
+    (slots_of c.self.inside.rows.entries) key c.args.dentry c.self.invariant.sorted)
 
 pub returns-clause-kept : goal.returns-clause-kept
 returns-clause-kept g c =
     let key : Place = (c.args.directory, c.args.name.now) in
     rw (← c.self.view_is) (λ other some. ap (λ s. is_some (get_name s other)) c.bind-old.ensures.slots ∙ room-put
-    (slots_of c.self.inside.rows.entries) key (Some c.args.binding) other some)
+    (slots_of c.self.inside.rows.entries) key (Some c.args.dentry) other some)

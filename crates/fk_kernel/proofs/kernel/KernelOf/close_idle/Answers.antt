@@ -13,16 +13,16 @@ returns-then-numbers_left-eq0-clause-refusal g c =
     let now = c.args.self.now in
     let k = c.self.inside in
     let old = c.self.invariant in
-    let here : get k.opens.entries c.args.handle ≡ Some c.args.opened = rw (← c.self.view_is) at c.requires.open in
-    let there : get k.opens.entries c.args.handle ≢ None =
-    some_not_none (get k.opens.entries c.args.handle) c.args.opened here in
-    let none : get now.closing c.args.handle ≡ None =
-    rw (← c.self.view_is) (old.files.closed_once c.args.handle there) in
+    let here : get k.opens.entries c.args.open_call ≡ Some c.args.opened = rw (← c.self.view_is) at c.requires.open in
+    let there : get k.opens.entries c.args.open_call ≢ None =
+    some_not_none (get k.opens.entries c.args.open_call) c.args.opened here in
+    let none : get now.closing c.args.open_call ≡ None =
+    rw (← c.self.view_is) (old.files.closed_once c.args.open_call there) in
     let fresh : get now.vfs.calls now.vfs.next_call ≡ None =
     rw (← c.self.view_is) (old.numbers.calls_below k.next_call (omega arith)) in
     let left : nat_eq (numbers_left_from now.queues.next) 0 ≡ true =
     rw (← c.self.view_is, ← c.numbers_left.ensures, c.if-numbers_left-eq0.true) refl in
-    sym (idle_refusal now c.args.handle c.args.opened c.requires.not_aborted c.requires.open none fresh c.requires.ready c.requires.few c.requires.number c.requires.idle ∙ ap (λ (b : Bool). cond b Exhausted NoMemory) left)
+    sym (idle_refusal now c.args.open_call c.args.opened c.requires.not_aborted c.requires.open none fresh c.requires.ready c.requires.few c.requires.number c.requires.idle ∙ ap (λ (b : Bool). cond b Exhausted NoMemory) left)
 
 pub invariant_of-self-2 : goal.invariant_of-self-2
 invariant_of-self-2 g c =
@@ -47,7 +47,7 @@ invariant_of-self-2 g c =
       idle = old.idle;
       sorted = old.sorted;
       files = numbered_files k.calls.entries _ k.closing.entries k.next_call
-          (shut_files k.calls.entries k.opens.entries k.closing.entries k.next_call old.files c.args.handle);
+          (shut_files k.calls.entries k.opens.entries k.closing.entries k.next_call old.files c.args.open_call);
       releases = omega (
         arith,
         c.in_ok-reserve_request.ensures.room,
@@ -64,16 +64,16 @@ returns-clause-begun g c =
     let now = c.args.self.now in
     let k = c.self.inside in
     let old = c.self.invariant in
-    let here : get k.opens.entries c.args.handle ≡ Some c.args.opened = rw (← c.self.view_is) at c.requires.open in
-    let there : get k.opens.entries c.args.handle ≢ None =
-    some_not_none (get k.opens.entries c.args.handle) c.args.opened here in
-    let none : get now.closing c.args.handle ≡ None =
-    rw (← c.self.view_is) (old.files.closed_once c.args.handle there) in
+    let here : get k.opens.entries c.args.open_call ≡ Some c.args.opened = rw (← c.self.view_is) at c.requires.open in
+    let there : get k.opens.entries c.args.open_call ≢ None =
+    some_not_none (get k.opens.entries c.args.open_call) c.args.opened here in
+    let none : get now.closing c.args.open_call ≡ None =
+    rw (← c.self.view_is) (old.files.closed_once c.args.open_call there) in
     let fresh : get now.vfs.calls now.vfs.next_call ≡ None =
     rw (← c.self.view_is) (old.numbers.calls_below k.next_call (omega arith)) in
     let fresh_inside : get k.calls.entries k.next_call ≡ None = old.numbers.calls_below k.next_call (omega arith) in
     rw (
-      closes_idle now c.args.handle c.args.opened c.requires.not_aborted c.requires.open none fresh c.requires.idle,
+      closes_idle now c.args.open_call c.args.opened c.requires.not_aborted c.requires.open none fresh c.requires.idle,
       ← c.self.view_is,
       c.put.ensures.entries,
       c.in-Ok.ensures.entries,

@@ -13,15 +13,15 @@ returns-in_default-clause-refusal g c =
     let now = c.args.self.now in
     let k = c.self.inside in
     let old = c.self.invariant in
-    let here : get k.opens.entries c.args.handle ≡ Some c.args.opened = rw (← c.self.view_is) at c.requires.open in
-    let there : get k.opens.entries c.args.handle ≢ None =
-    some_not_none (get k.opens.entries c.args.handle) c.args.opened here in
-    let none : get now.closing c.args.handle ≡ None =
-    rw (← c.self.view_is) (old.files.closed_once c.args.handle there) in
+    let here : get k.opens.entries c.args.open_call ≡ Some c.args.opened = rw (← c.self.view_is) at c.requires.open in
+    let there : get k.opens.entries c.args.open_call ≢ None =
+    some_not_none (get k.opens.entries c.args.open_call) c.args.opened here in
+    let none : get now.closing c.args.open_call ≡ None =
+    rw (← c.self.view_is) (old.files.closed_once c.args.open_call there) in
     let fresh : get now.vfs.calls now.vfs.next_call ≡ None =
     rw (← c.self.view_is) (old.numbers.calls_below k.next_call (omega arith)) in
     let high : now.queues.next ≤ 2 ^ 62 = rw (← c.self.view_is) c.lemma_sound.ensures.sound.next.high in
-    let judged = used_unrefused now c.args.handle c.args.opened c.requires.not_aborted c.requires.open none fresh c.requires.ready c.requires.few c.requires.number c.requires.used high in
+    let judged = used_unrefused now c.args.open_call c.args.opened c.requires.not_aborted c.requires.open none fresh c.requires.ready c.requires.few c.requires.number c.requires.used high in
     sym (ap or_no_memory judged)
 
 pub returns-in_default-reserve-clause-refusal : goal.returns-in_default-reserve-clause-refusal
@@ -29,15 +29,15 @@ returns-in_default-reserve-clause-refusal g c =
     let now = c.args.self.now in
     let k = c.self.inside in
     let old = c.self.invariant in
-    let here : get k.opens.entries c.args.handle ≡ Some c.args.opened = rw (← c.self.view_is) at c.requires.open in
-    let there : get k.opens.entries c.args.handle ≢ None =
-    some_not_none (get k.opens.entries c.args.handle) c.args.opened here in
-    let none : get now.closing c.args.handle ≡ None =
-    rw (← c.self.view_is) (old.files.closed_once c.args.handle there) in
+    let here : get k.opens.entries c.args.open_call ≡ Some c.args.opened = rw (← c.self.view_is) at c.requires.open in
+    let there : get k.opens.entries c.args.open_call ≢ None =
+    some_not_none (get k.opens.entries c.args.open_call) c.args.opened here in
+    let none : get now.closing c.args.open_call ≡ None =
+    rw (← c.self.view_is) (old.files.closed_once c.args.open_call there) in
     let fresh : get now.vfs.calls now.vfs.next_call ≡ None =
     rw (← c.self.view_is) (old.numbers.calls_below k.next_call (omega arith)) in
     let high : now.queues.next ≤ 2 ^ 62 = rw (← c.self.view_is) c.lemma_sound.ensures.sound.next.high in
-    let judged = used_unrefused now c.args.handle c.args.opened c.requires.not_aborted c.requires.open none fresh c.requires.ready c.requires.few c.requires.number c.requires.used high in
+    let judged = used_unrefused now c.args.open_call c.args.opened c.requires.not_aborted c.requires.open none fresh c.requires.ready c.requires.few c.requires.number c.requires.used high in
     sym (ap or_no_memory judged)
 
 pub returns-in_err-reserve_request-clause-refusal : goal.returns-in_err-reserve_request-clause-refusal
@@ -45,15 +45,15 @@ returns-in_err-reserve_request-clause-refusal g c =
     let now = c.args.self.now in
     let k = c.self.inside in
     let old = c.self.invariant in
-    let here : get k.opens.entries c.args.handle ≡ Some c.args.opened = rw (← c.self.view_is) at c.requires.open in
-    let there : get k.opens.entries c.args.handle ≢ None =
-    some_not_none (get k.opens.entries c.args.handle) c.args.opened here in
-    let none : get now.closing c.args.handle ≡ None =
-    rw (← c.self.view_is) (old.files.closed_once c.args.handle there) in
+    let here : get k.opens.entries c.args.open_call ≡ Some c.args.opened = rw (← c.self.view_is) at c.requires.open in
+    let there : get k.opens.entries c.args.open_call ≢ None =
+    some_not_none (get k.opens.entries c.args.open_call) c.args.opened here in
+    let none : get now.closing c.args.open_call ≡ None =
+    rw (← c.self.view_is) (old.files.closed_once c.args.open_call there) in
     let fresh : get now.vfs.calls now.vfs.next_call ≡ None =
     rw (← c.self.view_is) (old.numbers.calls_below k.next_call (omega arith)) in
     let high : now.queues.next ≤ 2 ^ 62 = rw (← c.self.view_is) c.lemma_sound.ensures.sound.next.high in
-    let judged = used_unrefused now c.args.handle c.args.opened c.requires.not_aborted c.requires.open none fresh c.requires.ready c.requires.few c.requires.number c.requires.used high in
+    let judged = used_unrefused now c.args.open_call c.args.opened c.requires.not_aborted c.requires.open none fresh c.requires.ready c.requires.few c.requires.number c.requires.used high in
     let p = err_from_is_err_and c.from_residual.result c.from_residual.ensures.1 in
     rw (p.1, p.2) (c.in_err-reserve_request.ensures.refusal ∙ sym (ap or_no_memory judged))
 
@@ -68,9 +68,9 @@ invariant_of-self-2 g c =
     let left = c.put-2.ensures.room in
     let room : length k.calls.entries ≤ c.put-2.new.self.room = omega (arith, few, reserved, left) in
     let numbers = sound_begun_answered k.calls.entries k.answers.entries k.answers.room k.next_call old.numbers c.new.result c.put-2.new.self.room low room in
-    let here : get k.opens.entries c.args.handle ≡ Some c.args.opened = rw (← c.self.view_is) at c.requires.open in
-    let there = some_not_none (get k.opens.entries c.args.handle) c.args.opened here in
-    let long = length_put k.closing.entries c.args.handle c.args.opened in
+    let here : get k.opens.entries c.args.open_call ≡ Some c.args.opened = rw (← c.self.view_is) at c.requires.open in
+    let there = some_not_none (get k.opens.entries c.args.open_call) c.args.opened here in
+    let long = length_put k.closing.entries c.args.open_call c.args.opened in
     let reserved_request = rw c.in-Ok-reserve.ensures.entries at c.in_ok-reserve_request.ensures.room in
     rw (
       c.put-2.ensures.entries,
@@ -85,7 +85,7 @@ invariant_of-self-2 g c =
       idle = old.idle;
       sorted = old.sorted;
       files = numbered_files k.calls.entries _ _ k.next_call
-          (closed_files k.calls.entries k.opens.entries k.closing.entries k.next_call old.files c.args.handle c.args.opened there);
+          (closed_files k.calls.entries k.opens.entries k.closing.entries k.next_call old.files c.args.open_call c.args.opened there);
       releases = omega (arith, long, reserved_request);
       nodes = still_counted k.nodes k.queues.room.forgets
           c.reserve_request.new.queues.room.forgets old.nodes c.reserve_request.ensures.kept.forgets;
@@ -97,15 +97,15 @@ returns-clause-judged g c =
     let now = c.args.self.now in
     let k = c.self.inside in
     let old = c.self.invariant in
-    let here : get k.opens.entries c.args.handle ≡ Some c.args.opened = rw (← c.self.view_is) at c.requires.open in
-    let there : get k.opens.entries c.args.handle ≢ None =
-    some_not_none (get k.opens.entries c.args.handle) c.args.opened here in
-    let none : get now.closing c.args.handle ≡ None =
-    rw (← c.self.view_is) (old.files.closed_once c.args.handle there) in
+    let here : get k.opens.entries c.args.open_call ≡ Some c.args.opened = rw (← c.self.view_is) at c.requires.open in
+    let there : get k.opens.entries c.args.open_call ≢ None =
+    some_not_none (get k.opens.entries c.args.open_call) c.args.opened here in
+    let none : get now.closing c.args.open_call ≡ None =
+    rw (← c.self.view_is) (old.files.closed_once c.args.open_call there) in
     let fresh : get now.vfs.calls now.vfs.next_call ≡ None =
     rw (← c.self.view_is) (old.numbers.calls_below k.next_call (omega arith)) in
     let high : now.queues.next ≤ 2 ^ 62 = rw (← c.self.view_is) c.lemma_sound.ensures.sound.next.high in
-    let judged = used_unrefused now c.args.handle c.args.opened c.requires.not_aborted c.requires.open none fresh c.requires.ready c.requires.few c.requires.number c.requires.used high in
+    let judged = used_unrefused now c.args.open_call c.args.opened c.requires.not_aborted c.requires.open none fresh c.requires.ready c.requires.few c.requires.number c.requires.used high in
     judged
 
 pub returns-clause-begun : goal.returns-clause-begun
@@ -113,12 +113,12 @@ returns-clause-begun g c =
     let now = c.args.self.now in
     let k = c.self.inside in
     let old = c.self.invariant in
-    let here : get k.opens.entries c.args.handle ≡ Some c.args.opened = rw (← c.self.view_is) at c.requires.open in
-    let there : get k.opens.entries c.args.handle ≢ None =
-    some_not_none (get k.opens.entries c.args.handle) c.args.opened here in
-    let none : get now.closing c.args.handle ≡ None =
-    rw (← c.self.view_is) (old.files.closed_once c.args.handle there) in
+    let here : get k.opens.entries c.args.open_call ≡ Some c.args.opened = rw (← c.self.view_is) at c.requires.open in
+    let there : get k.opens.entries c.args.open_call ≢ None =
+    some_not_none (get k.opens.entries c.args.open_call) c.args.opened here in
+    let none : get now.closing c.args.open_call ≡ None =
+    rw (← c.self.view_is) (old.files.closed_once c.args.open_call there) in
     let fresh : get now.vfs.calls now.vfs.next_call ≡ None =
     rw (← c.self.view_is) (old.numbers.calls_below k.next_call (omega arith)) in
     let fresh_inside : get k.calls.entries k.next_call ≡ None = old.numbers.calls_below k.next_call (omega arith) in
-    rw (closes_in_use now c.args.handle c.args.opened c.requires.not_aborted c.requires.open none fresh c.requires.used, ← c.self.view_is, c.put-2.ensures.entries, c.in-Ok.ensures.entries, c.remove-file.ensures.entries, c.put.ensures.entries, c.in-Ok-reserve.ensures.entries, c.reserve_request.ensures.state, c.new.ensures, gone_absent k.calls.entries k.next_call fresh_inside) refl
+    rw (closes_in_use now c.args.open_call c.args.opened c.requires.not_aborted c.requires.open none fresh c.requires.used, ← c.self.view_is, c.put-2.ensures.entries, c.in-Ok.ensures.entries, c.remove-file.ensures.entries, c.put.ensures.entries, c.in-Ok-reserve.ensures.entries, c.reserve_request.ensures.state, c.new.ensures, gone_absent k.calls.entries k.next_call fresh_inside) refl

@@ -1,7 +1,7 @@
 use Rattle.std.proofs.Common.{ap, sym, ◌∙◌}
 use Rattle.fuse_spec.specs.Kernel.Refusals.{is_counted_out}
 use Rattle.fk_nodes.specs.ListedFiles.{pairs_left_in}
-use Rattle.fuse_frames.specs.ReplySaid.{LentReply, lent_wire_of}
+use Rattle.fuse_frames.specs.ReplyDecoding.{LentReply, lent_wire_of}
 use Rattle.fk_kernel.specs.Entries.{nodes_after_reply}
 use Rattle.fk_kernel.proofs.CountsAfterReply.{pairs_out}
 use Rattle.fk_kernel.proofs.kernel.KernelOf.counts_past.Goals as goal

@@ -21,8 +21,8 @@ invariant_of-self g c =
     })
 
 pub finish_use-requires-clause-within : goal.finish_use-requires-clause-within
-finish_use-requires-clause-within g c = λ handle operation at closed idle.
+finish_use-requires-clause-within g c = λ open_call operation at closed idle.
     let s = c.self.inside.queues.queues in
     let waits : is_some (waiting s c.args.unique) ≡ true = rw (← c.self.view_is) at c.requires.waits in
     let within = rw (← c.self.view_is) at c.requires.within in
-    rw (c.answer-kept.ensures.state, answered_is s c.args.unique waits) (within handle operation at closed idle)
+    rw (c.answer-kept.ensures.state, answered_is s c.args.unique waits) (within open_call operation at closed idle)

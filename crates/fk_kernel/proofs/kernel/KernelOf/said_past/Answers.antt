@@ -1,7 +1,7 @@
 use Rattle.std.proofs.Common.{◌≡◌, Bool, false, true, ap, sym, ◌∙◌}
 use Rattle.std.specs.Prelude.{◌||◌}
 use Rattle.fuse_spec.specs.Kernel.Replies.{reply_written}
-use Rattle.fuse_frames.specs.ReplySaid.{lent_wire_of}
+use Rattle.fuse_frames.specs.ReplyDecoding.{lent_wire_of}
 use Rattle.fuse_spec.specs.Kernel.Refusals.{is_counted_out, is_kernel_past_end}
 use Rattle.fk_nodes.proofs.Outs.{or_none, or_true}
 use Rattle.fk_kernel.proofs.CountsAfterReply.{goes_nodes}

@@ -18,10 +18,10 @@ invariant_of-self-else-is_interrupted g c =
     (sound_signalled k.phase k.calls.entries k.answers.entries k.answers.room k.next_call k.opens.entries k.closing.entries k.queues.queues k.queues.room c.interrupt-effect.new.self.room k.nodes k.clock c.self.invariant c.interrupt-effect.ensures.room c.args.unique c.args.fatal)
 
 pub finish_use-requires-clause-within : goal.finish_use-requires-clause-within
-finish_use-requires-clause-within g c = λ handle operation at closed idle.
+finish_use-requires-clause-within g c = λ open_call operation at closed idle.
     let s = c.self.inside.queues.queues in
     let effect : interrupt_effect s c.args.unique c.args.fatal ≡ Dequeued =
     sym c.interrupt-effect.ensures.effect ∙ c.is_interrupted.ensures.0 c.if-is_interrupted.true in
     let next = ap (λ (e : IntrEffect). (after_effect s c.args.unique e).next) effect in
     let within = rw (← c.self.view_is) at c.requires.within in
-    rw (c.interrupt-effect.ensures.state, next) (within effect handle operation at closed idle)
+    rw (c.interrupt-effect.ensures.state, next) (within effect open_call operation at closed idle)

@@ -8,7 +8,7 @@ use Rattle.fk_kernel.specs.Refused.{IsWriteRefusal, no_memory, exhausted}
 use Rattle.fk_kernel.specs.AwaitedReplies.{reply_to, awaited_by_call}
 use Rattle.fuse_spec.specs.Kernel.Messages.{asks}
 use Rattle.fuse_frames.specs.RequestTies.{asked_opcode}
-use Rattle.fuse_frames.specs.ReplySaid.{lent_wire_of}
+use Rattle.fuse_frames.specs.ReplyDecoding.{lent_wire_of}
 use Rattle.fuse_frames.proofs.Sayings.{says_one}
 use Rattle.fk_kernel.proofs.Replied.{judged_op}
 use Rattle.fk_kernel.proofs.RepliesTaken.{taken_judged}

@@ -3,7 +3,7 @@ use Rattle.std.specs.Prelude.{is_some}
 use Rattle.fk_wire.specs.declared.opcode.Opcode.TheVariants as op
 use Rattle.fuse_spec.specs.Kernel.QueueCalls.{waiting}
 use Rattle.fuse_spec.specs.Kernel.Replies.{reply_written, is_agreement}
-use Rattle.fuse_frames.specs.ReplySaid.{lent_wire_of}
+use Rattle.fuse_frames.specs.ReplyDecoding.{lent_wire_of}
 use Rattle.fk_kernel.proofs.Nodes.{still_counted, answered_is}
 use Rattle.fk_kernel.proofs.Replied.{init_agreed, init_aborts, init_unsaid}
 use Rattle.fuse_frames.proofs.ReplyCases.{says_to_init}

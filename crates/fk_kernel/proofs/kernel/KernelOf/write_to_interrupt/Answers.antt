@@ -1,7 +1,7 @@
 use Rattle.std.proofs.Common.{refl, ap, ◌∙◌}
 use Rattle.fk_wire.specs.declared.opcode.Opcode.TheVariants as op
 use Rattle.fuse_spec.specs.Kernel.Replies.{interrupt_replied}
-use Rattle.fuse_frames.specs.ReplySaid.{lent_wire_of}
+use Rattle.fuse_frames.specs.ReplyDecoding.{lent_wire_of}
 use Rattle.fuse_frames.proofs.ReplyCases.{says_to_interrupt}
 use Rattle.fuse_frames.proofs.Sayings.{says_one}
 use Rattle.fk_kernel.proofs.RepliesTaken.{interrupt_done}

@@ -6,9 +6,9 @@ use Rattle.fs_files.proofs.Giving.{generation_left, holds_sorted}
 use Rattle.fs_files.proofs.NumberedList.{same_files, gives_listed}
 use Rattle.fs_files.proofs.files.Files.give_numbers.Goals as goal
 
-pub returns-in-Found-clause-gives : goal.returns-in-Found-clause-gives
-returns-in-Found-clause-gives g c = rw c.in-Found.is
-    (gives_found c.args.self.now c.give.new.self c.in-Found.file c.args.found_ms c.give.result c.give.ensures.gives c.give.ensures.tree c.give.ensures.handles)
+pub returns-in-Entry-clause-gives : goal.returns-in-Entry-clause-gives
+returns-in-Entry-clause-gives g c = rw c.in-Entry.is
+    (gives_found c.args.self.now c.give.new.self c.in-Entry.file c.args.found_ms c.give.result c.give.ensures.gives c.give.ensures.tree c.give.ensures.handles)
 
 pub returns-in-Created-clause-gives : goal.returns-in-Created-clause-gives
 returns-in-Created-clause-gives g c =
@@ -20,10 +20,10 @@ pub returns-in-Opened-clause-gives : goal.returns-in-Opened-clause-gives
 returns-in-Opened-clause-gives g c = rw c.in-Opened.is
     (gives_opened c.args.self.now c.open-in-Opened.new.self c.in-Opened.file c.open-in-Opened.result c.open-in-Opened.ensures.fh c.open-in-Opened.ensures.tree c.open-in-Opened.ensures.nodes c.open-in-Opened.ensures.handles)
 
-pub returns-in-Said-clause-gives : goal.returns-in-Said-clause-gives
-returns-in-Said-clause-gives g c =
-    let repliable = rw c.in-Said.is at c.requires.repliable in
-    rw c.in-Said.is (gives_said c.args.self.now c.args.found_ms c.in-Said.reply repliable.0)
+pub returns-in-Reply-clause-gives : goal.returns-in-Reply-clause-gives
+returns-in-Reply-clause-gives g c =
+    let repliable = rw c.in-Reply.is at c.requires.repliable in
+    rw c.in-Reply.is (gives_said c.args.self.now c.args.found_ms c.in-Reply.reply repliable.0)
 
 pub returns-in-ListedPlus-clause-gives : goal.returns-in-ListedPlus-clause-gives
 returns-in-ListedPlus-clause-gives g c =
@@ -32,8 +32,8 @@ returns-in-ListedPlus-clause-gives g c =
     c.list.ensures.handles)
 
 pub give-requires-clause-generation : goal.give-requires-clause-generation
-give-requires-clause-generation g c = generation_left c.args.self.now.nodes c.in-Found.file []
-    (holds_sorted c.args.self.now.nodes c.lemma_sound.ensures) (rw c.in-Found.is at c.requires.generations)
+give-requires-clause-generation g c = generation_left c.args.self.now.nodes c.in-Entry.file []
+    (holds_sorted c.args.self.now.nodes c.lemma_sound.ensures) (rw c.in-Entry.is at c.requires.generations)
 
 pub give-entry-requires-clause-generation : goal.give-entry-requires-clause-generation
 give-entry-requires-clause-generation g c = generation_left c.args.self.now.nodes c.in-Created.file []

@@ -12,8 +12,8 @@ use Rattle.fs_server.proofs.Stays.{performed, same_files}
 use Rattle.fs_server.proofs.DiscardsUnheld.{but_numbered, named_as}
 use Rattle.fs_server.proofs.server.ServerOf.perform_live.Goals as goal
 
-pub answer-requires-clause-births : goal.answer-requires-clause-births
-answer-requires-clause-births g c =
+pub answer-requires-clause-inodes : goal.answer-requires-clause-inodes
+answer-requires-clause-inodes g c =
     let s = c.self.inside in
     let h = c.in-Some.held.now in
     let there : get s.held.entries c.args.unique ≡ Some h = search rules in
@@ -21,10 +21,10 @@ answer-requires-clause-births g c =
     let can = rw (← c.self.view_is, up) at c.requires.can in
     let has = numbers_of s.files s.held.entries s.kept.entries s.copies.entries s.next_copy s.validity s.minor c.args.unique h there false can in
     let same = same_bare c.reserve-3.new.self s.files s.validity s.minor c.reserve-3.ensures.tree c.reserve-3.ensures.nodes c.reserve-3.ensures.handles in
-    subst (λ (b : Server). (tree_said b h).next_birth ≤ 2 ^ 62) (sym same) has.births
+    subst (λ (b : Server). (tree_said b h).next_inode ≤ 2 ^ 62) (sym same) has.inodes
 
-pub answer-requires-clause-serials : goal.answer-requires-clause-serials
-answer-requires-clause-serials g c =
+pub answer-requires-clause-cookies : goal.answer-requires-clause-cookies
+answer-requires-clause-cookies g c =
     let s = c.self.inside in
     let h = c.in-Some.held.now in
     let there : get s.held.entries c.args.unique ≡ Some h = search rules in
@@ -32,7 +32,7 @@ answer-requires-clause-serials g c =
     let can = rw (← c.self.view_is, up) at c.requires.can in
     let has = numbers_of s.files s.held.entries s.kept.entries s.copies.entries s.next_copy s.validity s.minor c.args.unique h there false can in
     let same = same_bare c.reserve-3.new.self s.files s.validity s.minor c.reserve-3.ensures.tree c.reserve-3.ensures.nodes c.reserve-3.ensures.handles in
-    subst (λ (b : Server). (tree_said b h).next_serial ≤ 2 ^ 62) (sym same) has.serials
+    subst (λ (b : Server). (tree_said b h).next_cookie ≤ 2 ^ 62) (sym same) has.cookies
 
 pub give_numbers-reply-requires-clause-spare : goal.give_numbers-reply-requires-clause-spare
 give_numbers-reply-requires-clause-spare g c =

@@ -34,20 +34,20 @@ discard_unheld-requires g c =
     but_said c.unlinked_or_released-file.result s.files c.answer.new.self s.validity s.minor c.in-Some.held.now
     (c.unlinked_or_released-file.ensures.others s.validity s.minor c.self.invariant.named) c.in_ok-outcome.ensures.tree c.in_ok-outcome.ensures.handles c.answer.ensures.nodes
 
-pub answer-requires-clause-births : goal.answer-requires-clause-births
-answer-requires-clause-births g c =
+pub answer-requires-clause-inodes : goal.answer-requires-clause-inodes
+answer-requires-clause-inodes g c =
     let s = c.self.inside in
     let h = c.in-Some.held.now in
     let there : get s.held.entries c.args.unique ≡ Some h = search rules in
     let gone : s.is_aborted ≡ true = rw (← c.self.view_is) at c.requires.aborted in
     let can = rw (← c.self.view_is, gone) at c.requires.can in
-    (numbers_of s.files s.held.entries s.kept.entries s.copies.entries s.next_copy s.validity s.minor c.args.unique h there true can).births
+    (numbers_of s.files s.held.entries s.kept.entries s.copies.entries s.next_copy s.validity s.minor c.args.unique h there true can).inodes
 
-pub answer-requires-clause-serials : goal.answer-requires-clause-serials
-answer-requires-clause-serials g c =
+pub answer-requires-clause-cookies : goal.answer-requires-clause-cookies
+answer-requires-clause-cookies g c =
     let s = c.self.inside in
     let h = c.in-Some.held.now in
     let there : get s.held.entries c.args.unique ≡ Some h = search rules in
     let gone : s.is_aborted ≡ true = rw (← c.self.view_is) at c.requires.aborted in
     let can = rw (← c.self.view_is, gone) at c.requires.can in
-    (numbers_of s.files s.held.entries s.kept.entries s.copies.entries s.next_copy s.validity s.minor c.args.unique h there true can).serials
+    (numbers_of s.files s.held.entries s.kept.entries s.copies.entries s.next_copy s.validity s.minor c.args.unique h there true can).cookies

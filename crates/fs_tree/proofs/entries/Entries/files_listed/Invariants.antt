@@ -11,5 +11,5 @@ invariant-loop-leaf g l =
     ((files : Map Content) → l.listed.items ++ files_led
     (fitting_with 128 l.room (map (lead_in files) (map (in_directory 0) (map leaf_entry l.leaf-iterator))))
     ≡ files_led (fitting_with 128 l.size (map (lead_in files)
-    (filter (λ n. nat_lt l.after n.serial) (map (in_directory 0) l.self)))))
+    (filter (λ n. nat_lt l.after n.cookie) (map (in_directory 0) l.self)))))
     × (152 * array_vec_len l.listed + l.room ≤ 4096)

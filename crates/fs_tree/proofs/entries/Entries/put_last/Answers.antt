@@ -7,14 +7,14 @@ use Rattle.fs_tree.proofs.entries.Entries.put_last.Goals as goal
 pub invariant_of-self-2 : goal.invariant_of-self-2
 invariant_of-self-2 g c =
     let before = rw (← c.self.view_is) at c.requires in
-    let replaced = rw (← c.self.view_is, c.deref.ensures.value) at c.serial_at-replaced.ensures in
+    let replaced = rw (← c.self.view_is, c.deref.ensures.value) at c.cookie_at-replaced.ensures in
     let updates = rw (c.unwrap-old.ensures, c.reserve.ensures.entries) at c.insert-2.ensures.updates in
-    let x : Entry = record { name = c.args.name.items; file = c.args.link.file; serial = c.args.link.serial } in
+    let x : Entry = record { name = c.args.name.items; file = c.args.link.file; cookie = c.args.link.cookie } in
     rw (
       c.take_away.ensures.entries,
       c.in_ok-_none.ensures.entries,
       replaced,
-      put-entries c.args.name.items c.self.inside.names.entries c.self.invariant.1 c.in_ok-_none.ensures.was_ordered c.args.link.serial _ before,
+      put-entries c.args.name.items c.self.inside.names.entries c.self.invariant.1 c.in_ok-_none.ensures.was_ordered c.args.link.cookie _ before,
       c.in_ok-copy.ensures,
       c.deref-2.ensures.value,
     ) (
@@ -26,13 +26,13 @@ invariant_of-self-2 g c =
 pub returns-clause-ok : goal.returns-clause-ok
 returns-clause-ok g c =
     let before = rw (← c.self.view_is) at c.requires in
-    let replaced = rw (← c.self.view_is, c.deref.ensures.value) at c.serial_at-replaced.ensures in
+    let replaced = rw (← c.self.view_is, c.deref.ensures.value) at c.cookie_at-replaced.ensures in
     rw (← c.self.view_is)
     (ap (map leaf_entry) c.take_away.ensures.entries
     ∙ rw (
       c.in_ok-_none.ensures.entries,
       replaced,
-      put-entries c.args.name.items c.self.inside.names.entries c.self.invariant.1 c.in_ok-_none.ensures.was_ordered c.args.link.serial _ before,
+      put-entries c.args.name.items c.self.inside.names.entries c.self.invariant.1 c.in_ok-_none.ensures.was_ordered c.args.link.cookie _ before,
       c.in_ok-copy.ensures,
       c.deref-2.ensures.value,
     ) refl)

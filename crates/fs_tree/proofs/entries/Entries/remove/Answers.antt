@@ -7,10 +7,10 @@ use Rattle.fs_tree.proofs.entries.Entries.remove.Goals as goal
 
 pub invariant_of-self : goal.invariant_of-self
 invariant_of-self g c =
-    let serial = rw (← c.self.view_is) at c.serial_at-serial.ensures in
+    let cookie = rw (← c.self.view_is) at c.cookie_at-cookie.ensures in
     rw (
       c.take_away.ensures.entries,
-      serial,
+      cookie,
       removed-entries c.args.name.now c.self.inside.names.entries c.self.invariant.1 c.take_away.ensures.was_ordered,
     ) (
       AreLinked-removed c.args.name.now c.self.inside.links.entries _
@@ -21,7 +21,7 @@ invariant_of-self g c =
 
 pub returns : goal.returns
 returns g c =
-    let serial = rw (← c.self.view_is) at c.serial_at-serial.ensures in
+    let cookie = rw (← c.self.view_is) at c.cookie_at-cookie.ensures in
     rw (← c.self.view_is)
-    (ap (map leaf_entry) (c.take_away.ensures.entries ∙ ap (λ o. without_key o c.self.inside.names.entries) serial)
+    (ap (map leaf_entry) (c.take_away.ensures.entries ∙ ap (λ o. without_key o c.self.inside.names.entries) cookie)
     ∙ removed-entries c.args.name.now c.self.inside.names.entries c.self.invariant.1 c.take_away.ensures.was_ordered)

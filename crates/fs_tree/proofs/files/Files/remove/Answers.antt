@@ -1,7 +1,7 @@
 use Rattle.std.proofs.Common.{ap, ◌∙◌, map, nat_eq, refl, not}
 use Rattle.fs_tree.specs.Views.{viewed_file}
 use Rattle.fs_tree.proofs.ListLemmas.{filter-map}
-use Rattle.fs_tree.proofs.SerialRows.{removed-key}
+use Rattle.fs_tree.proofs.CookieRows.{removed-key}
 use Rattle.fs_tree.proofs.files.Files.remove.Goals as goal
 
 pub returns : goal.returns

@@ -7,7 +7,7 @@ use Rattle.fs_tree.proofs.names.Names.list.Goals as goal
 pub returns-in-Some : goal.returns-in-Some
 returns-in-Some g c =
     let there = ap (λ o. map (lead_in c.args.files.now)
-    (filter (λ n. nat_lt c.args.after n.serial) (map (in_directory 0)
+    (filter (λ n. nat_lt c.args.after n.cookie) (map (in_directory 0)
     (unwrap_or o [])))) c.in-Some.ensures.value ∙ listed-in
     (entries_in c.self.inside.directories.entries) c.self.inside.rows c.self.invariant.0 c.args.files.now c.args.directory c.args.after in
     rw (← c.self.view_is, ← there) c.list.ensures
@@ -15,7 +15,7 @@ returns-in-Some g c =
 pub returns-in-None : goal.returns-in-None
 returns-in-None g c =
     let there = ap (λ o. map (lead_in c.args.files.now)
-    (filter (λ n. nat_lt c.args.after n.serial) (map (in_directory 0)
+    (filter (λ n. nat_lt c.args.after n.cookie) (map (in_directory 0)
     (unwrap_or o [])))) c.in-None.ensures.value ∙ listed-in
     (entries_in c.self.inside.directories.entries) c.self.inside.rows c.self.invariant.0 c.args.files.now c.args.directory c.args.after in
     rw (c.new.ensures.items, ← c.self.view_is) (ap (fitting_with c.args.more c.args.size) there)

@@ -2,14 +2,14 @@ use Rattle.std.proofs.Common.{ap, ◌∙◌, map}
 use Rattle.std.proofs.lemmas.List.{map-append}
 use Rattle.fs_tree.specs.Stored.{parents_in}
 use Rattle.fs_tree.specs.Views.{named_of}
-use Rattle.fs_tree.proofs.SerialRows.{put-last}
+use Rattle.fs_tree.proofs.CookieRows.{put-last}
 use Rattle.fs_tree.proofs.ByFile.{AreByFile-same, AreByFile-pushed, AreByFile-undone, below-parents, below-rows}
 use Rattle.fs_tree.proofs.rows.Rows.push.Goals as goal
 
 pub put_last_in-requires-clause-last : goal.put_last_in-requires-clause-last
 put_last_in-requires-clause-last g c =
     let rising = rw (← c.self.view_is) at c.requires in
-    rw (c.open.ensures.same c.args.file) (below-parents 1 c.args.serial (parents_in c.self.inside.parents.entries)
+    rw (c.open.ensures.same c.args.file) (below-parents 1 c.args.cookie (parents_in c.self.inside.parents.entries)
     (map named_of c.self.inside.names.entries) c.self.invariant rising c.args.file)
 
 pub invariant_of-self-in-Ok : goal.invariant_of-self-in-Ok
@@ -18,8 +18,8 @@ invariant_of-self-in-Ok g c =
     let opened = AreByFile-same _ _ _ c.open.ensures.same c.self.invariant in
     rw (
       c.in-Ok.ensures.entries,
-      put-last c.self.inside.names.entries c.args.serial _
-          (below-rows 1 c.args.serial c.self.inside.names.entries rising),
+      put-last c.self.inside.names.entries c.args.cookie _
+          (below-rows 1 c.args.cookie c.self.inside.names.entries rising),
       map-append,
     )
     (AreByFile-pushed _ _ (map named_of c.self.inside.names.entries)
@@ -27,15 +27,15 @@ invariant_of-self-in-Ok g c =
       directory = c.args.directory;
       name = c.args.name.items;
       file = c.args.file;
-      serial = c.args.serial;
+      cookie = c.args.cookie;
     }) c.in_ok-put_last_in.ensures.ok opened)
 
 pub returns-in-Ok-clause-ok : goal.returns-in-Ok-clause-ok
 returns-in-Ok-clause-ok g c =
     let rising = rw (← c.self.view_is) at c.requires in
     rw (← c.self.view_is)
-    (ap (map named_of) (c.in-Ok.ensures.entries ∙ put-last c.self.inside.names.entries c.args.serial _
-    (below-rows 1 c.args.serial c.self.inside.names.entries rising)) ∙ map-append named_of c.self.inside.names.entries _)
+    (ap (map named_of) (c.in-Ok.ensures.entries ∙ put-last c.self.inside.names.entries c.args.cookie _
+    (below-rows 1 c.args.cookie c.self.inside.names.entries rising)) ∙ map-append named_of c.self.inside.names.entries _)
 
 pub invariant_of-self-in-Err : goal.invariant_of-self-in-Err
 invariant_of-self-in-Err g c =
@@ -43,6 +43,6 @@ invariant_of-self-in-Err g c =
     let opened = AreByFile-same _ _ _ c.open.ensures.same c.self.invariant in
     rw c.in-Err.ensures.err
     (AreByFile-undone (parents_in c.open.new.parents.entries) _ _
-    (map named_of c.self.inside.names.entries) c.args.file c.args.serial c.args.directory c.in_ok-put_last_in.ensures.ok c.remove_from.ensures
-    (below-parents 1 c.args.serial (parents_in c.open.new.parents.entries)
+    (map named_of c.self.inside.names.entries) c.args.file c.args.cookie c.args.directory c.in_ok-put_last_in.ensures.ok c.remove_from.ensures
+    (below-parents 1 c.args.cookie (parents_in c.open.new.parents.entries)
     (map named_of c.self.inside.names.entries) opened rising) opened)

@@ -2,37 +2,37 @@ use Rattle.std.proofs.Common.{ap, sym, ◌∙◌, map, not, nat_eq, refl}
 use Rattle.fs_tree.specs.Stored.{parents_in}
 use Rattle.fs_tree.specs.Views.{named_of}
 use Rattle.fs_tree.proofs.ListLemmas.{filter-map}
-use Rattle.fs_tree.proofs.SerialRows.{removed-key}
+use Rattle.fs_tree.proofs.CookieRows.{removed-key}
 use Rattle.fs_tree.proofs.ByFile.{AreByFile-same, AreByFile-removed, row-found}
 use Rattle.fs_tree.proofs.rows.Rows.remove.Goals as goal
 
 pub returns-in_default-remove : goal.returns-in_default-remove
 returns-in_default-remove g c =
-    let gone = removed-key c.in-Some.serial c.self.inside.names.entries c.len-len.ensures.ordered in
+    let gone = removed-key c.in-Some.cookie c.self.inside.names.entries c.len-len.ensures.ordered in
     rw (← c.self.view_is, c.in-Some.is)
     (ap (map named_of) (c.remove.ensures.entries ∙ gone) ∙ filter-map named_of _
-    (λ n. not (nat_eq n.serial c.in-Some.serial)) (λ e. refl) c.self.inside.names.entries)
+    (λ n. not (nat_eq n.cookie c.in-Some.cookie)) (λ e. refl) c.self.inside.names.entries)
 
 pub invariant_of-self-2 : goal.invariant_of-self-2
 invariant_of-self-2 g c =
     let rising = rw (← c.self.view_is) at c.requires in
-    let gone = removed-key c.in-Some.serial c.self.inside.names.entries c.len-len.ensures.ordered in
-    let found = row-found c.in-Some.serial c.self.inside.names.entries c.in-Some-remove.row
+    let gone = removed-key c.in-Some.cookie c.self.inside.names.entries c.len-len.ensures.ordered in
+    let found = row-found c.in-Some.cookie c.self.inside.names.entries c.in-Some-remove.row
     (sym c.remove.ensures.value ∙ c.in-Some-remove.is) in
     rw (
       c.remove.ensures.entries,
       gone,
-      filter-map named_of (λ e. not (nat_eq e.0 c.in-Some.serial))
-          (λ n. not (nat_eq n.serial c.in-Some.serial)) (λ e. refl) c.self.inside.names.entries,
+      filter-map named_of (λ e. not (nat_eq e.0 c.in-Some.cookie))
+          (λ n. not (nat_eq n.cookie c.in-Some.cookie)) (λ e. refl) c.self.inside.names.entries,
     )
     (AreByFile-same _ _ _ c.close.ensures
     (AreByFile-removed (parents_in c.self.inside.parents.entries) _ 1 rising.0
     (map named_of c.self.inside.names.entries) (named_of
-    (c.in-Some.serial, c.in-Some-remove.row)) c.in-Some.serial c.remove_from.ensures rising.1 found c.self.invariant))
+    (c.in-Some.cookie, c.in-Some-remove.row)) c.in-Some.cookie c.remove_from.ensures rising.1 found c.self.invariant))
 
 pub returns : goal.returns
 returns g c =
-    let gone = removed-key c.in-Some.serial c.self.inside.names.entries c.len-len.ensures.ordered in
+    let gone = removed-key c.in-Some.cookie c.self.inside.names.entries c.len-len.ensures.ordered in
     rw (← c.self.view_is, c.in-Some.is)
     (ap (map named_of) (c.remove.ensures.entries ∙ gone) ∙ filter-map named_of _
-    (λ n. not (nat_eq n.serial c.in-Some.serial)) (λ e. refl) c.self.inside.names.entries)
+    (λ n. not (nat_eq n.cookie c.in-Some.cookie)) (λ e. refl) c.self.inside.names.entries)

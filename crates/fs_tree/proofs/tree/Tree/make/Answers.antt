@@ -7,23 +7,23 @@ use Rattle.fs_tree.proofs.tree.Tree.make.Goals as goal
 
 pub invariant_of-self-2 : goal.invariant_of-self-2
 invariant_of-self-2 g c =
-    let births = rw (← c.self.view_is) at c.requires.births in
-    let serials = rw (← c.self.view_is) at c.requires.serials in
+    let inodes = rw (← c.self.view_is) at c.requires.inodes in
+    let cookies = rw (← c.self.view_is) at c.requires.cookies in
     rw (c.in_ok-push.ensures.ok, c.in_default.ensures.ok) (
       kept-born _ _ _ _ (kept-named _ _ _ _ c.self.invariant.0 _ (search rules)
-          (rw (← c.self.view_is) at c.in_ok-may_create.ensures.room) serials) _ births,
+          (rw (← c.self.view_is) at c.in_ok-may_create.ensures.room) cookies) _ inodes,
       make _ c.self.invariant.1 c.args.directory c.args.name.now _
           (rw (← c.self.view_is) at c.in_ok-may_create.ensures.refusal),
     )
 
 pub invariant_of-self-in-Err : goal.invariant_of-self-in-Err
 invariant_of-self-in-Err g c =
-    let undone = put-undone c.self.inside.files c.self.inside.next_birth
+    let undone = put-undone c.self.inside.files c.self.inside.next_inode
     (content_in c.args.content) c.self.invariant.0.born in
     rw (c.remove.ensures, c.in_ok-push.ensures.ok, undone, c.in-Err.ensures.unchanged) c.self.invariant
 
 pub returns-in-Err-clause-unchanged : goal.returns-in-Err-clause-unchanged
 returns-in-Err-clause-unchanged g c =
-    let undone = put-undone c.self.inside.files c.self.inside.next_birth
+    let undone = put-undone c.self.inside.files c.self.inside.next_inode
     (content_in c.args.content) c.self.invariant.0.born in
     rw (c.remove.ensures, c.in_ok-push.ensures.ok, undone, c.in-Err.ensures.unchanged) c.self.view_is

@@ -6,12 +6,12 @@ use Rattle.fs_tree.proofs.tree.Tree.rename.Goals as goal
 
 pub invariant_of-self-2 : goal.invariant_of-self-2
 invariant_of-self-2 g c =
-    let serials = rw (← c.self.view_is) at c.requires.serials in
+    let cookies = rw (← c.self.view_is) at c.requires.cookies in
     let moved = rw (← c.self.view_is) at
     (moved_apart c.args.self.now c.args.directory c.args.old.now c.args.new_directory c.args.new.now c.in_ok-file.field-0 c.in-Some.file c.in_ok-file.ensures.moved c.in-Some.is) in
     rw c.in_ok-rename.ensures.ok (
       kept-moved _ _ _ _ c.self.invariant.0 (is_at c.args.directory c.args.old.now)
-          (is_at c.args.new_directory c.args.new.now) _ c.in-Some.file (search rules) moved.0 serials,
+          (is_at c.args.new_directory c.args.new.now) _ c.in-Some.file (search rules) moved.0 cookies,
       moves _ c.self.invariant.1 c.args.directory c.args.old.now c.args.new_directory c.args.new.now c.in-Some.file moved.0 moved.1 (rw (← c.self.view_is) at c.in_ok-file.ensures.refusal),
     )
 

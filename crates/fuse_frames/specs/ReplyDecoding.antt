@@ -34,8 +34,8 @@ lent_wire_of said = reply_of (λ (entry : Entry). entry) names_lent pairs_lent (
 
 -- a name is valid for a day at most
 abbrev pub LastsADay : LentReply → Type 0
-LastsADay (said.Missing valid) = valid ≤ max_validity
-LastsADay (said.Found entry valid) = valid ≤ max_validity
+LastsADay (said.Negative valid) = valid ≤ max_validity
+LastsADay (said.Entry entry valid) = valid ≤ max_validity
 LastsADay (said.Created entry valid fh) = valid ≤ max_validity
 LastsADay other = Unit {0}
 

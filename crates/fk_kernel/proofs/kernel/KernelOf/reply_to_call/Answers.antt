@@ -10,13 +10,13 @@ use Rattle.fuse_frames.specs.RequestTies.{asked_opcode}
 use Rattle.fk_syscalls.specs.States.{StandsAt}
 use Rattle.fuse_spec.specs.Kernel.Refusals.{is_counted_out, is_kernel_past_end}
 use Rattle.fk_nodes.proofs.Outs.{or_none}
-use Rattle.fuse_frames.specs.ReplySaid.{lent_wire_of}
+use Rattle.fuse_frames.specs.ReplyDecoding.{lent_wire_of}
 use Rattle.fk_kernel.specs.AwaitedReplies.{Says, reply_to, awaited_by_call, wrong_body_to}
 use Rattle.fk_kernel.proofs.CountsAfterReply.{wrong_nodes}
 use Rattle.fk_kernel.proofs.PastEnds.{passes, said_passes, none_passes, wrong_to_call}
 use Rattle.fk_kernel.proofs.Replied.{ends_over, judged_op}
 use Rattle.fk_kernel.proofs.CountersInRange.{wrong_within}
-use Rattle.fk_kernel.proofs.kernel.KernelOf.said_to_call.Goals as goal
+use Rattle.fk_kernel.proofs.kernel.KernelOf.reply_to_call.Goals as goal
 
 pub returns-then-unique_overflows-clause-past : goal.returns-then-unique_overflows-clause-past
 returns-then-unique_overflows-clause-past g c =
@@ -28,10 +28,10 @@ returns-then-unique_overflows-clause-past g c =
     ap awaited_by_call here ∙ ap (λ (o : Operation ℕ Opened). reply_to (asked_opcode (asks o)))
     (sym c.asks.ensures.operation) in
     let p = c.unique_overflows.ensures.past c.if-unique_overflows.true in
-    let same : state ≡ using p.handle p.operation = cc (here, p.is) in
+    let same : state ≡ using p.open_call p.operation = cc (here, p.is) in
     let one : operation ≡ p.operation = c.asks.ensures.operation ∙ ap asked same in
-    let stands : StandsAt p.operation (using p.handle p.operation) =
-    subst (λ (o : Operation ℕ Opened). StandsAt o (using p.handle p.operation)) one
+    let stands : StandsAt p.operation (using p.open_call p.operation) =
+    subst (λ (o : Operation ℕ Opened). StandsAt o (using p.open_call p.operation)) one
     (subst (StandsAt operation) same c.asks.ensures.stands) in
     record {
       opcode = asked_opcode (asks operation);

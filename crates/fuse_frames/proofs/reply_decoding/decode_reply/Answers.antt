@@ -3,7 +3,7 @@ use Rattle.std.specs.Prelude.{ℤ}
 use Rattle.fk_wire.specs.Replies.{reply_content}
 use Rattle.fuse_frames.specs.ReplyTies.{wire_said}
 use Rattle.fuse_frames.proofs.Sayings.{says_read, same_error}
-use Rattle.fuse_frames.proofs.reply_said.decode_reply.Goals as goal
+use Rattle.fuse_frames.proofs.reply_decoding.decode_reply.Goals as goal
 
 pub returns-in-Some-clause-said : goal.returns-in-Some-clause-said
 returns-in-Some-clause-said c =
@@ -19,4 +19,4 @@ returns-clause-said c =
     let content = reply_content c.in-Ok.body in
     let none = sym (same_error head.error c.in-Ok.ensures.ok.1) ∙ c.in_default-failure.ensures in
     says_read c.args.opcode c.args.bytes.now head c.in-Ok.body _ c.in-Ok.ensures.ok
-    (ap (λ (z : ℤ). wire_said z content) none ∙ c.said_by.ensures.wire)
+    (ap (λ (z : ℤ). wire_said z content) none ∙ c.decode_body.ensures.wire)

@@ -1,4 +1,4 @@
--- Rows by serial, kept in a map in rising serial.
+-- Rows by cookie, kept in a map in rising cookie.
 use Rattle.std.proofs.Common.{◌≡◌, ℕ, ◌<◌, Bool, true, false, not, cond, List, [], ◌∷◌, ◌++◌, filter, refl, sym, ap, ◌∙◌, arith, nat_eq, Less, Equal, Greater, None, Some, IsSome}
 use Rattle.std.specs.Ordering.{nat_cmp, is_eq}
 use Rattle.std.specs.Cmp.{ranked, nat_cmp_is}

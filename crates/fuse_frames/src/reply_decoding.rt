@@ -11,7 +11,7 @@ ghost use Rattle.fuse_frames.specs.ReplyTies.{wire_body, wire_said, no_entry};
 ghost use Rattle.fuse_frames.specs.RequestTies.{asked_opcode};
 ghost use Rattle.fuse_spec.specs.Files.Operations.{operation_of};
 ghost use Rattle.fuse_frames.specs.DecodedReplies.{Says, IsNoReply};
-ghost use Rattle.fuse_frames.specs.ReplySaid.{lent_wire_of, LastsADay, SaysTo, is_within_request};
+ghost use Rattle.fuse_frames.specs.ReplyDecoding.{lent_wire_of, LastsADay, SaysTo, is_within_request};
 
 use crate::operations::opcode_asked;
 use crate::reply::Reply;
@@ -20,7 +20,7 @@ use fk_wire::{Opcode, Records, RecordsPlus, ReplyBody, ReplyHead, read_reply_bod
 use fuse_spec::{Attributes, Entry, Kind, Operation};
 
 /// What a reply says, lent from its frame.
-pub type ReplySaid<'a> = Reply<Entry, Records<'a>, RecordsPlus<'a>, &'a [u8]>;
+pub type DecodedReply<'a> = Reply<Entry, Records<'a>, RecordsPlus<'a>, &'a [u8]>;
 
 /// No file, where an entry names none.
 fn no_file() -> Entry
@@ -39,20 +39,20 @@ fn no_file() -> Entry
 }
 
 /// What an entry says: with node id 0 the name is missing.
-fn said_by_entry(entry: &fk_wire::Entry) -> ReplySaid<'static>
+fn said_by_entry(entry: &fk_wire::Entry) -> DecodedReply<'static>
     ensures wire { wire_body (entry_reply (entry_content entry.now)) ≡ lent_wire_of result }
     ensures day { LastsADay result }
 {
     let valid_ms = milliseconds(entry.entry_valid, entry.entry_valid_nsec);
     if entry.nodeid == 0 {
-        return Reply::Missing { valid_ms };
+        return Reply::Negative { valid_ms };
     }
     let file = entry_named(entry);
-    Reply::Found { file, valid_ms }
+    Reply::Entry { file, valid_ms }
 }
 
 /// What an entry with an open number says.
-fn said_by_create(entry: &fk_wire::Entry, fh: u64) -> ReplySaid<'static>
+fn said_by_create(entry: &fk_wire::Entry, fh: u64) -> DecodedReply<'static>
     ensures wire { wire_body (create_reply (entry_content entry.now) fh) ≡ lent_wire_of result }
     ensures day { LastsADay result }
 {
@@ -67,7 +67,7 @@ fn said_by_create(entry: &fk_wire::Entry, fh: u64) -> ReplySaid<'static>
 
 /// What a body says.
 #[inline(always)]
-fn said_by(body: ReplyBody<'_>) -> ReplySaid<'_>
+fn decode_body(body: ReplyBody<'_>) -> DecodedReply<'_>
     ensures wire { wire_body (reply_content body.entry) ≡ lent_wire_of result }
     ensures day { LastsADay result }
 {
@@ -108,7 +108,11 @@ fn failure(error: i32) -> Option<u32>
 
 /// What the bytes, whose head was read, say to a request of this opcode, if they are a reply to it.
 #[inline(always)]
-pub fn decode_reply<'a>(opcode: Opcode, head: ReplyHead, bytes: &'a [u8]) -> Option<ReplySaid<'a>>
+pub fn decode_reply<'a>(
+    opcode: Opcode,
+    head: ReplyHead,
+    bytes: &'a [u8],
+) -> Option<DecodedReply<'a>>
     requires { IsReplyHead bytes.now head }
     ensures said { IfSome result (λ said. Says opcode bytes.now (lent_wire_of said)) }
     ensures day { IfSome result LastsADay }
@@ -120,7 +124,7 @@ pub fn decode_reply<'a>(opcode: Opcode, head: ReplyHead, bytes: &'a [u8]) -> Opt
     if let Some(errno) = failure(head.error) {
         return Some(Reply::Failed { errno });
     }
-    Some(said_by(body))
+    Some(decode_body(body))
 }
 
 /// Whether a body in a frame of so many bytes is no longer than was asked, nor tells of more written than was sent.
@@ -142,11 +146,11 @@ fn is_within_asked(asked: &Operation<&[u8]>, len: usize, body: &ReplyBody<'_>) -
 
 /// What the bytes, whose head was read, say to what a call asked, if they are a reply that goes with it.
 #[inline(always)]
-pub fn said_to_call<'a>(
+pub fn reply_to_call<'a>(
     asked: &Operation<&[u8]>,
     head: ReplyHead,
     bytes: &'a [u8],
-) -> Option<ReplySaid<'a>>
+) -> Option<DecodedReply<'a>>
     requires { IsReplyHead bytes.now head }
     ensures said { IfSome result (SaysTo (operation_of (λ s. s.now) asked.now) bytes.now) }
     ensures none { IfNone result ((wire : WireReply)
@@ -162,5 +166,5 @@ pub fn said_to_call<'a>(
     if !is_within_asked(asked, bytes.len(), &body) {
         return None;
     }
-    Some(said_by(body))
+    Some(decode_body(body))
 }

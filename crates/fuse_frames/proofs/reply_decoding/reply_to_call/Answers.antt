@@ -9,7 +9,7 @@ use Rattle.fuse_frames.specs.ReplyTies.{wire_said, wire_body}
 use Rattle.fuse_frames.specs.RequestTies.{asked_opcode}
 use Rattle.fuse_frames.proofs.SaidWithin.{content_fits, failed_goes}
 use Rattle.fuse_frames.proofs.Sayings.{says_read, says_one, same_error}
-use Rattle.fuse_frames.proofs.reply_said.said_to_call.Goals as goal
+use Rattle.fuse_frames.proofs.reply_decoding.reply_to_call.Goals as goal
 
 pub returns-in-Some-clause-said : goal.returns-in-Some-clause-said
 returns-in-Some-clause-said c =
@@ -56,9 +56,9 @@ returns-clause-said c =
     let none = sym (same_error head.error c.in-Ok.ensures.ok.1) ∙ c.in_default-failure.ensures in
     record {
       says = says_read (asked_opcode (asks operation)) bytes head body _ spells
-          (ap (λ (z : ℤ). wire_said z content) none ∙ c.said_by.ensures.wire);
-      goes = ap (goes_with operation) (sym c.said_by.ensures.wire)
+          (ap (λ (z : ℤ). wire_said z content) none ∙ c.decode_body.ensures.wire);
+      goes = ap (goes_with operation) (sym c.decode_body.ensures.wire)
           ∙ content_fits operation bytes head.unique head.error content none spells
           ∙ sym c.is_within_asked.ensures ∙ c.if-not-is_within_asked.false;
-      day = c.said_by.ensures.day;
+      day = c.decode_body.ensures.day;
     }
