@@ -10,6 +10,8 @@ mod listed;
 mod minor15;
 mod nodes;
 mod replies;
+mod serve;
+mod tables;
 mod tree;
 
 use fail_at::WrongRow;

@@ -1,10 +1,12 @@
 //! What no clause and no row says: faults of lines as printed, readers and writers that fail, growths that are refused,
 //! bytes fed to a cutter, rows over links and over plain lists, and lists of events that are drawn.
+//! What is large goes by a call of `drop`: at the end of a scope each way out would prove the drop of all its parts anew.
 
 mod after_loss;
 mod carried;
 mod cutting;
 mod drawn;
+mod drive;
 mod frames;
 mod growths;
 mod lines;
@@ -13,4 +15,5 @@ mod over_links;
 mod over_lists;
 mod pieces;
 mod rows;
+mod two_servers;
 mod want;

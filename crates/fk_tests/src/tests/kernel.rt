@@ -115,7 +115,7 @@ static START: [Row; 4] = [
     ),
 ];
 
-/// What a step comes to that gives a number, or nothing.
+/// What a step results in that gives a number, or nothing.
 fn gives<T: Copy + PartialEq>(given: Result<T, Refusal>, wanted: Result<T, Refusal>) -> Outcome {
     match (given, wanted) {
         (Ok(given), Ok(wanted)) => judged(given == wanted),
@@ -137,7 +137,7 @@ fn is_refused(given: Refusal, wanted: Reads) -> bool {
     matches!(wanted, Reads::Refused(refusal) if refusal == given)
 }
 
-/// What a step comes to that gives a frame.
+/// What a step results in that gives a frame.
 fn read_as<A: Allocator>(
     alloc: Global,
     given: Result<RequestFrame<A>, Refusal>,

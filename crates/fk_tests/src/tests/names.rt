@@ -1,4 +1,4 @@
-//! Names in force: each call once, and refused growths.
+//! Cached names: each call once, and refused growths.
 
 use crate::tests::assert_right;
 use fail_at::{FailAt, Outcome, Tried, first_wrong, judged};
@@ -45,7 +45,7 @@ fn named<A: Allocator + Copy>(names: &Bindings<A>) -> u8 {
     nodes
 }
 
-/// What making room comes to.
+/// What making room results in.
 fn reserved(outcome: Result<(), AllocError>) -> Outcome {
     match outcome {
         Ok(()) => Outcome::Right,

@@ -128,7 +128,7 @@ fn by_value(found: Option<(u64, &u64)>) -> Option<(u64, u64)> {
     Some((unique, *kept))
 }
 
-/// What making room comes to.
+/// What making room results in.
 fn reserved(outcome: Result<(), NoMemory>) -> Outcome {
     match outcome {
         Ok(()) => Outcome::Right,

@@ -109,29 +109,13 @@ fn body_of(asks: Asks) -> RequestBody<'static> {
     }
 }
 
-/// The value of a hexadecimal digit.
-fn digit_value(digit: u8) -> Option<u8> {
-    match digit {
-        b'0'..=b'9' => Some(digit - b'0'),
-        b'a'..=b'f' => Some(digit - b'a' + 10),
-        _ => None,
-    }
-}
-
-/// The bytes of hexadecimal digits.
+/// The bytes of a text. What is no hexadecimal digit is for reading alone.
 pub fn unhex(alloc: Global, text: &str) -> Result<Vec<u8>, AllocError> {
-    let mut bytes = Vec::new(alloc);
-    let mut high = None;
-    for value in text.bytes().filter_map(digit_value) {
-        match high {
-            None => high = Some(value),
-            Some(first) => {
-                bytes.push(first.wrapping_mul(16) | value)?;
-                high = None;
-            }
-        }
+    let mut digits = Vec::new(alloc);
+    for digit in text.bytes().filter(|byte| byte.is_ascii_hexdigit()) {
+        digits.push(digit)?;
     }
-    Ok(bytes)
+    hex::decode(alloc, digits.as_slice()).map_err(|_| AllocError)
 }
 
 /// Whether bytes are those of a text.
@@ -142,7 +126,7 @@ pub fn spells(alloc: Global, bytes: &[u8], text: &str) -> bool {
     }
 }
 
-/// What a copy comes to, of which the frame is given.
+/// What a copy results in, of which the frame is given.
 fn copied<A: Allocator>(alloc: Global, sent: Option<&Sent<A>>, text: &str) -> Outcome {
     match sent {
         Some(sent) => judged(spells(alloc, sent.bytes(), text)),

@@ -111,7 +111,7 @@ fn move_name<A: Allocator + Copy>(
     }
 }
 
-/// What an operation comes to.
+/// What an operation results in.
 fn gives<A: Allocator + Copy>(
     tree: &mut Tree<A>,
     operation: Operation,

@@ -295,7 +295,7 @@ fn is_printed_over_lists(
     try_on_list_world(&mut list, alloc).is_ok() && list.is_printed
 }
 
-/// Draws a list, and tells whether it prints the same on a new world of each kind. It is drawn for each from the same
+/// Draws a list, and says whether it prints the same on a new world of each kind. It is drawn for each from the same
 /// state, and so the same events as long as both record the same.
 fn is_alike(alloc: Global, drawn: &mut Drawn, accepted: &mut u64) -> bool {
     let mut again = Drawn { state: drawn.state };

@@ -1,4 +1,4 @@
-//! Readers and writers that fail, and memory that is wanting.
+//! Readers and writers that fail, and memory that runs out.
 
 use super::rows::STAT_OF_ROOT;
 use fail_at::FailAt;

@@ -1,4 +1,4 @@
-//! Names that a directory lists with their files: which are counted and in force, and which are forgotten.
+//! Names that a directory lists with their files: which are counted and cached, and which are forgotten.
 
 use super::{Expected, Reads, Row, START, Written, run_on};
 use fail_at::FailAt;
@@ -49,7 +49,7 @@ static COUNTED_AND_BOUND: [Row; 12] = [
             "30000000 02000000 0600000000000000 0200000000000000 00000000 00000000 00000000 00000000 0100000000000000",
         ),
     ),
-    // the names that are in force lead to their node, and the others are looked up
+    // the cached names lead to their node, and the others are looked up
     Row::Begin(Call::Stat { path: b"/b" }, Ok(2)),
     Row::Read(0, Reads::Head(8, Opcode::Getattr)),
     Row::Begin(Call::Stat { path: b"/c" }, Ok(3)),

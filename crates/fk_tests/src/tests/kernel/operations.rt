@@ -1,4 +1,4 @@
-//! Each operation: the frame of its request, byte for byte (linux/fuse.h), and what its reply comes to, also with each
+//! Each operation: the frame of its request, byte for byte (linux/fuse.h), and what its reply results in, also with each
 //! growth refused in turn.
 
 use super::{Expected, Reads, Row, START, Written, run_on};
@@ -289,7 +289,7 @@ static SIGNALLED_AND_GIVEN_UP: [Row; 27] = [
     Row::Nodes(&[]),
 ];
 
-/// Walks lead over names in force, and a second path begins where the first one ended.
+/// Walks lead over cached names, and a second path begins where the first one ended.
 static WALKED: [Row; 25] = [
     Row::Begin(Call::Mkdir { path: b"/p" }, Ok(18)),
     Row::Read(0, Reads::Head(38, Opcode::Mkdir)),

@@ -8,7 +8,7 @@ use std::alloc::{AllocError, Global};
 use std::process::Abort;
 use std::test::Fail;
 
-/// Births and cookies stay below this.
+/// Inodes and cookies stay below this.
 const LEFT: u64 = 1 << 62;
 
 /// The root has the directory 1 and the file 2; in 1 are the directory 3 and the file 4; 5 is a nameless directory and 6

@@ -1,6 +1,6 @@
 //! Frames that are refused, with an error reply and without, and INIT of a later kernel.
 
-use crate::tests::session::{lent, serve_device};
+use crate::tests::serve::session::{lent, serve_device};
 use fuse_device::{DeviceEnd, ListDevice};
 use std::alloc::Global;
 use std::test::Fail;

@@ -1,6 +1,6 @@
 //! BATCH_FORGET of more than the 64 pairs that one has here.
 
-use crate::tests::session::{frames_of, lent, serve_device};
+use crate::tests::serve::session::{frames_of, lent, serve_device};
 use fk_wire::RequestBody;
 use fuse_device::ListDevice;
 use std::alloc::{AllocError, Global};

@@ -1,7 +1,7 @@
 //! Each growth of the server's memory is refused in turn.
 
-use crate::tests::session::{lent, serve_device, session};
-use crate::tests::told::{Told, told_by};
+use crate::tests::serve::session::{lent, serve_device, session};
+use crate::tests::serve::told::{Told, told_by};
 use fail_at::FailAt;
 use fuse_device::ListDevice;
 use std::alloc::{AllocError, Global};
@@ -11,7 +11,7 @@ use std::test::Fail;
 /// ENOMEM, as a reply has it.
 const ENOMEM: i32 = -12;
 
-/// How many replies say that memory is wanting.
+/// How many replies say that memory runs out.
 fn refusals(told: &Told) -> usize {
     told.errors
         .iter()

@@ -1,7 +1,9 @@
 //! Scripts of events.
 
-use crate::tests::driven::{drive, joined};
-use crate::tests::frames::{ATTR_REPLY, GETATTR, INIT, INIT_REPLY, NOTIFICATION, OLDER_REPLY};
+use crate::tests::drive::driven::{drive, joined};
+use crate::tests::drive::frames::{
+    ATTR_REPLY, GETATTR, INIT, INIT_REPLY, NOTIFICATION, OLDER_REPLY,
+};
 use fw_drive::Form;
 use std::test::Fail;
 

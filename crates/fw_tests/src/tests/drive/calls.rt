@@ -1,7 +1,7 @@
 //! Scripts of calls.
 
-use crate::tests::driven::{drive, joined};
-use crate::tests::frames::{
+use crate::tests::drive::driven::{drive, joined};
+use crate::tests::drive::frames::{
     ATTR_REPLY, GETATTR, INIT, INIT_REPLY, LIST_REPLY, OPENDIR, OPENDIR_REPLY, READDIR, RELEASEDIR,
     RELEASEDIR_REPLY,
 };

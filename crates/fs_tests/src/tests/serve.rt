@@ -1,0 +1,7 @@
+//! Sessions of a server before a device of a list of frames: that they come through, and refused growths.
+
+mod batch;
+mod faulty;
+mod growths;
+mod session;
+mod told;

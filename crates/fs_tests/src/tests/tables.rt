@@ -1,0 +1,78 @@
+//! A table whose keys come in any order: each is found, and goes again, also where each growth is refused in turn.
+
+use fail_at::FailAt;
+use fuse_tables::RisingTable;
+use std::alloc::{AllocError, Allocator};
+use std::test::Fail;
+
+/// The key of a place: those of the first hundred places are a hundred numbers up to 100, in no order.
+fn key_of(place: u64) -> u64 {
+    place.wrapping_mul(37) % 101
+}
+
+/// Puts the keys of a hundred places. A growth that is refused is tried once more.
+fn put_all<A: Allocator + Copy>(table: &mut RisingTable<u64, A>) -> Result<(), AllocError> {
+    for place in 0..100 {
+        if table.reserve(1).is_err() {
+            table.reserve(1)?;
+        }
+        let key = key_of(place);
+        if table.get(key).is_none() {
+            table.put(key, place);
+        }
+    }
+    Ok(())
+}
+
+/// How many places are found at their keys.
+fn count_found<A: Allocator + Copy>(table: &RisingTable<u64, A>) -> u64 {
+    let mut count: u64 = 0;
+    for place in 0..100 {
+        if table.get(key_of(place)) == Some(&place) {
+            count = count.saturating_add(1);
+        }
+    }
+    count
+}
+
+/// Takes out the keys of the places, the last one first: how many there were.
+fn take_all<A: Allocator + Copy>(table: &mut RisingTable<u64, A>) -> u64 {
+    let mut count: u64 = 0;
+    for step in 0..100u64 {
+        if table.remove(key_of(99u64.wrapping_sub(step))).is_some() {
+            count = count.saturating_add(1);
+        }
+    }
+    count
+}
+
+/// How many of a hundred keys a table has, finds and gives back, and has then.
+fn fill<A: Allocator + Copy>(alloc: A) -> Result<[u64; 4], AllocError> {
+    let mut table = RisingTable::new(alloc);
+    let put = put_all(&mut table);
+    let len = table.len() as u64;
+    let found = count_found(&table);
+    let taken = take_all(&mut table);
+    let left = table.len() as u64;
+    drop(table);
+    put?;
+    Ok([len, found, taken, left])
+}
+
+#[test]
+fn keys_in_any_order_are_found(rt: HostRuntime) -> Result<(), Fail> {
+    assert!(rt; fill(rt.alloc())? == [100, 100, 100, 0]);
+    Ok(())
+}
+
+#[test]
+fn each_growth_of_a_table_refused(rt: HostRuntime) -> Result<(), Fail> {
+    let heap = FailAt::new(rt.alloc());
+    let mut runs = 0;
+    for n in heap.each_growth(80) {
+        assert!(rt; fill(&heap)? == [100, 100, 100, 0], "growth {n}");
+        runs = n;
+    }
+    assert!(rt; 4 < runs && runs < 80, "{runs}");
+    Ok(())
+}
