@@ -9,7 +9,7 @@ use Rattle.fuse_spec.specs.Values.Maps.{Map, get, put, remove}
 use Rattle.fuse_spec.specs.Server.Nodes.{OpenNumber, HandleTable, handles_less, handles_more, handle_opened, handle_back, handle_more}
 use Rattle.fs_handles.specs.declared.open_file.OpenFile.{OpenFile}
 use Rattle.fs_handles.specs.OpenNumbers.{number_of, handles_of, table_of}
-use Rattle.fs_handles.proofs.Maps.{turned, sorted_put, is_put, is_remove, get-put}
+use Rattle.fuse_tables.proofs.Maps.{turned, sorted_put, is_put, is_remove, get-put}
 
 pub sorted_handles : (es : List (ℕ × OpenFile)) → T (is_sorted nat_cmp (handles_of es))
 sorted_handles [] = tt

@@ -1,3 +1,2 @@
 pub mod Handles
-pub mod Maps
 pub mod Uses

@@ -17,7 +17,7 @@ use Rattle.fuse_spec.specs.Server.Nodes.{OpenNumber}
 use Rattle.fs_handles.specs.declared.open_file.OpenFile.{OpenFile}
 use Rattle.fs_handles.specs.OpenNumbers.{number_of, handles_of}
 use Rattle.fs_handles.specs.Uses.{handle_use_of, numbers_of, uses_or_none, uses_less, AreUsesCounted}
-use Rattle.fs_handles.proofs.Maps.{HasValue, any_is}
+use Rattle.fuse_tables.proofs.Maps.{HasValue, any_is}
 use Rattle.fs_handles.proofs.Handles.{sorted_handles, get_there}
 
 numbers-cons : (file : ℕ) (e : ℕ × OpenFile) (es : List (ℕ × OpenFile))

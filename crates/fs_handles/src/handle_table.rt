@@ -64,7 +64,7 @@ impl<A: Allocator + Copy> HandleTable<A> {
     ///
     /// # Errors
     ///
-    /// Memory was wanting, and that room was not there. The table is as before, and no room went.
+    /// Out of memory: that room was not there. The table is as before, and no room went.
     pub fn reserve(&mut self) -> Result<(), AllocError>
         ensures table { self.new.table ≡ self.old.table }
         ensures room { OnOk result (0 < self.new.room) }

@@ -4,7 +4,7 @@ use Rattle.std.specs.List.{list_any}
 use Rattle.std.proofs.lemmas.Bool.{eq-eqb}
 use Rattle.fuse_spec.specs.Values.Maps.{Map, get, values}
 use Rattle.fuse_spec.specs.Server.Nodes.{HeldNode}
-use Rattle.fs_nodes.proofs.Maps.{any_there}
+use Rattle.fuse_tables.proofs.Maps.{any_there}
 
 -- where `has` says no, no node is of the file
 pub has_no : (rows : Map HeldNode) (file id : ℕ) (row : HeldNode)

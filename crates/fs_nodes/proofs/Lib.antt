@@ -1,6 +1,5 @@
 pub mod Callers
 pub mod Inverse
-pub mod Maps
 pub mod Slots
 pub mod Sound
 pub mod Vacant

@@ -17,7 +17,7 @@ use Rattle.fs_nodes.specs.declared.stored_node.StoredNode.{StoredNode}
 use Rattle.fs_nodes.specs.Rows.{node_of, IsOf, IsOfNone, listed_nodes}
 use Rattle.fs_nodes.specs.Slots.{rows_from, at_place, slot_file, slot_of, room_of, AreSmall}
 use Rattle.fs_nodes.specs.Inverse.{AreInverse}
-use Rattle.fs_nodes.proofs.Maps.{HasValue, any_is, is_put, is_remove}
+use Rattle.fuse_tables.proofs.Maps.{HasValue, any_is, is_put, is_remove}
 
 both : (a b : Bool) → T a → T b → T (a && b)
 both true b p q = q

@@ -7,7 +7,7 @@ use Rattle.fuse_spec.specs.Server.Nodes.{HeldNode}
 use Rattle.fs_nodes.specs.Rows.{IsOfNone}
 use Rattle.fs_nodes.specs.Sound.{IsSoundNodeTable}
 use Rattle.fs_nodes.proofs.Inverse.{at_written, at_other}
-use Rattle.fs_nodes.proofs.Maps.{get-put, get-remove, sorted_put, sorted_remove}
+use Rattle.fuse_tables.proofs.Maps.{get-put, get-remove, sorted_put, sorted_remove}
 
 holds : (b : Bool) → b ≡ true → T b
 holds true e = tt

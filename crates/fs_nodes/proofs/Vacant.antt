@@ -17,7 +17,7 @@ use Rattle.fs_nodes.specs.declared.stored_node.StoredNode.{StoredNode}
 use Rattle.fs_nodes.specs.Rows.{node_of, IsOf, IsOfNone}
 use Rattle.fs_nodes.specs.Slots.{rows_from, at_place, slot_file}
 use Rattle.fs_nodes.specs.Vacant.{AreVacant, is_kept_of}
-use Rattle.fs_nodes.proofs.Maps.{HasValue, any_is}
+use Rattle.fuse_tables.proofs.Maps.{HasValue, any_is}
 use Rattle.fs_nodes.proofs.Slots.{sorted_rows_from, get_at, kept_at, kept_is_some, of_is, place_of_row, rows-write, rows-take_out}
 
 -- ---- places

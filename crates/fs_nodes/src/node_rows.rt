@@ -30,7 +30,7 @@ pub trait NodeRows {
     ///
     /// # Errors
     ///
-    /// Memory was wanting, and that room was not there. The nodes are as before.
+    /// Out of memory: that room was not there. The nodes are as before.
     fn reserve(&mut self, more: usize) -> Result<(), AllocError>
         ensures rows { rows self.new ≡ rows self.old }
         ensures room { OnOk result (more ≤ room self.new) }
@@ -76,7 +76,7 @@ pub trait NodeRows {
     ///
     /// # Errors
     ///
-    /// Memory was wanting.
+    /// Out of memory.
     fn nodes(&self, alloc: Self::Heap) -> Result<Vec<(u64, u64, u64), Self::Heap>, AllocError>
         ensures { IfOk result (λ nodes. nodes.items ≡ listed_nodes (rows self.now)) };
 }

@@ -36,7 +36,7 @@ pub trait NodeStore {
     ///
     /// # Errors
     ///
-    /// Memory was wanting, and that room was not there. The nodes are as before.
+    /// Out of memory: that room was not there. The nodes are as before.
     fn reserve(&mut self, files: &[u64]) -> Result<(), AllocError>
         ensures table { table self.new ≡ table self.old }
         ensures room { OnOk result (length files.now ≤ room self.new) }
@@ -104,7 +104,7 @@ pub trait NodeStore {
     ///
     /// # Errors
     ///
-    /// Memory was wanting.
+    /// Out of memory.
     fn nodes(&self, alloc: Self::Heap) -> Result<Vec<(u64, u64, u64), Self::Heap>, AllocError>
         ensures { IfOk result (λ nodes. nodes.items ≡ listed_nodes (table self.now).rows) };
 

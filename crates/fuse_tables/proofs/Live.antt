@@ -75,7 +75,7 @@ module _ {V : Type 0} where
 
   -- ---- putting and taking
 
-  same_maps : (es fs : List (ℕ × V)) → T (is_sorted nat_cmp es) → T (is_sorted nat_cmp fs)
+  pub same_maps : (es fs : List (ℕ × V)) → T (is_sorted nat_cmp es) → T (is_sorted nat_cmp fs)
       → ((q : ℕ) → get es q ≡ get fs q) → es ≡ fs
   same_maps es fs g h same = same_entries nat_cmp nat_cmp_total nat_cmp-IsAntisymmetric es fs g h same
 

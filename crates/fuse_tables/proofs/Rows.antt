@@ -1,5 +1,5 @@
 -- Rows in rising key: where a key stands, and what putting and removing there makes of them.
-use Rattle.std.proofs.Common.{◌≡◌, ◌≢◌, ℕ, suc, zero, ◌≤◌, ◌<◌, Bool, true, false, not, cond, ◌&&◌, if◌then◌else◌, List, [], ◌∷◌, ◌++◌, length, take, drop, set, slice_set, Option, Some, None, refl, sym, ap, subst, ◌∙◌, arith, T, inl, inr, ◌==◌, Less, Equal, Greater}
+use Rattle.std.proofs.Common.{◌≡◌, ◌≢◌, ℕ, suc, zero, ◌≤◌, ◌<◌, ◌+◌, Bool, true, false, not, cond, ◌&&◌, if◌then◌else◌, List, [], ◌∷◌, ◌++◌, length, take, drop, set, slice_set, Option, Some, None, refl, sym, ap, subst, ◌∙◌, arith, T, inl, inr, ◌==◌, Less, Equal, Greater}
 use Rattle.std.specs.Prelude.{nat_lt, nat_eq, slice_get, slice_index_or}
 use Rattle.std.specs.List.Sorted.{IsPartitionedBy, IsPartitionPoint}
 use Rattle.std.specs.Ordering.{nat_cmp, is_lt, is_eq}
@@ -77,6 +77,23 @@ module _ {V : Type 0} where
         λ k d low high. h.1 (suc k) d (omega arith) (omega arith),
       ) in
       rw (h.0 0 e (omega arith) (omega arith)) (omega arith)
+
+  -- a key above the last row's stands behind all rows
+  pub place_last : (e : ℕ × V) (es : List (ℕ × V)) (key : ℕ) (d : ℕ × V) → T (is_sorted nat_cmp (e ∷ es))
+      → (slice_index_or (e ∷ es) (length es) d).0 < key → place_of key (e ∷ es) ≡ suc (length es)
+  place_last e [] key d h low = rw (lt-ltb e.0 key low) refl
+  place_last e (f ∷ es) key d h low =
+      let first = below_at e.0 (f ∷ es) (both_first _ _ h) (length es) d (omega arith) in
+      rw (lt-ltb e.0 key (omega arith)) (ap suc (place_last f es key d (both_second _ _ h) low))
+
+  pub above_last : (es : List (ℕ × V)) (key last : ℕ) (row : ℕ × V) → T (is_sorted nat_cmp es) → last + 1 ≡ length es
+      → row ≡ slice_index_or es last row → nat_lt row.0 key ≡ true → place_of key es ≡ length es
+  above_last [] key last row h long is low = absurd (omega arith)
+  above_last (e ∷ es) key last row h long is low =
+      let end : last ≡ length es = omega arith in
+      let at : row ≡ slice_index_or (e ∷ es) (length es) row = is ∙ ap (λ i. slice_index_or (e ∷ es) i row) end in
+      let lower = ltb-true row.0 key low in
+      place_last e es key row h (subst (λ (x : ℕ × V). x.0 < key) at lower)
 
   -- ---- at a place, by how the key stands to the first row's
 
@@ -157,6 +174,25 @@ module _ {V : Type 0} where
         | Greater ↦ λ q. let high = ranked key e.0 Greater (sym q) in
             rw (lt-ltb e.0 key high) (found_is es key (both_second _ _ h))
       ] refl
+
+  take_all : (es : List (ℕ × V)) → take (length es) es ≡ es
+  take_all [] = refl
+  take_all (e ∷ es) = ap (λ xs. e ∷ xs) (take_all es)
+
+  drop_all : (es : List (ℕ × V)) → drop (length es) es ≡ []
+  drop_all [] = refl
+  drop_all (e ∷ es) = drop_all es
+
+  -- a key that stands behind all rows is put last
+  pub put_behind : (es : List (ℕ × V)) (key : ℕ) (v : V) → T (is_sorted nat_cmp es) → place_of key es ≡ length es
+      → es ++ (key, v) ∷ [] ≡ with_value es key v
+  put_behind es key v h end =
+      let all : take (place_of key es) es ≡ es = ap (λ i. take i es) end ∙ take_all es in
+      let none : drop (place_of key es) es ≡ [] = ap (λ i. drop i es) end ∙ drop_all es in
+      let there : slice_get es (place_of key es) ≡ None = rw end (slice_get_past es (length es) (omega arith)) in
+      let absent : get es key ≡ None = found_is es key h ∙ ap (found key) there in
+      ap (λ xs. xs ++ (key, v) ∷ []) (sym all) ∙ ap (λ xs. take (place_of key es) es ++ (key, v) ∷ xs) (sym none)
+      ∙ put_is es key v absent
 
   -- what stands behind the first row has another key
   pub none_past_first : (e : ℕ × V) (es : List (ℕ × V)) (key : ℕ) → T (is_sorted nat_cmp (e ∷ es)) → e.0 ≡ key

@@ -1,2 +1,3 @@
+pub mod LateValues
 pub mod LiveRows
 pub mod TableState

@@ -2,6 +2,7 @@
 //! queue.
 #![tactic(auto)]
 
+mod late;
 mod list;
 mod live_rows;
 mod queue;

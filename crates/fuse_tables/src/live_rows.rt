@@ -1,6 +1,6 @@
 //! Rows in rising key, of which some are empty.
 
-ghost use Rattle.std.specs.Prelude.{◌≡◌, ◌+◌, ◌<◌, ◌≤◌, T, length};
+ghost use Rattle.std.specs.Prelude.{◌≡◌, ◌+◌, ◌<◌, ◌≤◌, T, length, true};
 ghost use Rattle.std.specs.Option.{option_copied};
 ghost use Rattle.std.specs.Ordering.{nat_cmp};
 ghost use Rattle.std.specs.FinMap.{is_sorted};
@@ -8,6 +8,7 @@ ghost use Rattle.std.specs.List.{insert as inserted};
 ghost use Rattle.std.specs.VecDeque.{deque_len, deque_capacity};
 ghost use Rattle.fuse_spec.specs.Values.Maps.{get as value_at, put as with_value, remove as without_key};
 ghost use Rattle.fuse_tables.specs.LiveRows.{live};
+ghost use Rattle.fuse_tables.specs.TableState.{place_of};
 
 use crate::queue::take_at;
 use crate::rows_by_key::{find_row, is_row_of, place_in};
@@ -17,20 +18,13 @@ use std::collections::VecDeque;
 /// Each row has a key, and a value unless it was taken out.
 pub(crate) type Rows<V, A> = VecDeque<(u64, Option<V>), A>;
 
-/// Puts a row at a place, for which there is room. Most keys rise, so most rows come last, and else first.
-#[inline(always)]
-fn put_at<V: Drop, A: Allocator>(rows: &mut VecDeque<(u64, V), A>, place: usize, row: (u64, V))
+/// Puts a row at a place, for which there is room. Those on its shorter side move.
+fn insert_at<V: Drop, A: Allocator>(rows: &mut Rows<V, A>, place: usize, row: (u64, Option<V>))
     requires place { place ≤ deque_len rows.old }
     requires room { deque_len rows.old < deque_capacity rows.old }
     ensures items { rows.new.items ≡ inserted rows.old.items place row }
     ensures capacity { deque_capacity rows.old ≤ deque_capacity rows.new }
 {
-    if place == rows.len() {
-        return rows.push_back_reserved(row);
-    }
-    if place == 0 {
-        return rows.push_front_reserved(row);
-    }
     let put: Result<(), _> = rows.insert(place, row);
     put.unwrap();
 }
@@ -74,8 +68,30 @@ pub(crate) fn free_row<V: Drop, A: Allocator>(rows: &mut Rows<V, A>)
     }
 }
 
-/// Puts a value at a key that has none. There is room for a row.
+/// Whether a key is above those of all rows.
 #[inline(always)]
+pub(crate) fn is_above<V, A: Allocator>(rows: &Rows<V, A>, key: u64) -> bool
+    requires { T (is_sorted nat_cmp rows.now.items) }
+    ensures { result ≡ true → place_of key rows.now.items ≡ length rows.now.items }
+{
+    let len = rows.len();
+    len == 0 || rows[len - 1].0 < key
+}
+
+/// Puts a value last, at a key above those of all rows. There is room for a row.
+#[inline(always)]
+pub(crate) fn push_last<V: Drop, A: Allocator>(rows: &mut Rows<V, A>, key: u64, value: V)
+    requires sorted { T (is_sorted nat_cmp rows.old.items) }
+    requires room { deque_len rows.old < deque_capacity rows.old }
+    requires above { place_of key rows.old.items ≡ length rows.old.items }
+    ensures live { live rows.new.items ≡ with_value (live rows.old.items) key value }
+    ensures sorted { T (is_sorted nat_cmp rows.new.items) }
+    ensures capacity { deque_capacity rows.old ≤ deque_capacity rows.new }
+{
+    rows.push_back_reserved((key, Some(value)));
+}
+
+/// Puts a value at a key that has none, among the rows. There is room for a row.
 pub(crate) fn put_row<V: Drop, A: Allocator>(rows: &mut Rows<V, A>, key: u64, value: V)
     requires sorted { T (is_sorted nat_cmp rows.old.items) }
     requires room { deque_len rows.old < deque_capacity rows.old }
@@ -88,7 +104,7 @@ pub(crate) fn put_row<V: Drop, A: Allocator>(rows: &mut Rows<V, A>, key: u64, va
         rows[place].1 = Some(value);
         return;
     }
-    put_at(rows, place, (key, Some(value)));
+    insert_at(rows, place, (key, Some(value)));
 }
 
 /// Takes out the value at a key. Between others its row stays, empty.

@@ -7,35 +7,52 @@ ghost use Rattle.std.specs.Ordering.{nat_cmp};
 ghost use Rattle.std.specs.FinMap.{is_sorted};
 ghost use Rattle.fuse_spec.specs.Values.Maps.{get as value_at, put as with_value, remove as without_key};
 
-use crate::live_rows::{Rows, free_row, put_row, take_row, value_in};
+use crate::late::{Late, put_value, reserve_late, take_value, value_of};
+use crate::live_rows::Rows;
+use indexmap::IndexMap;
 use std::alloc::{AllocError, Allocator, Global};
 use std::collections::VecDeque;
 use std::marker::Model;
 
-/// A map from numbers to values, for numbers that mostly rise: a value is put last or taken out without another moving.
-/// Seen as its entries in rising key and its room: how many more it takes with no memory.
+/// A map from numbers to values, for numbers that mostly rise. Seen as its entries in rising key and its room: how many
+/// more it takes with no memory.
+///
+/// A key above those of all rows gets a row behind them. Any other comes late: its value goes into a hash map beside the
+/// rows, which stays empty as long as keys rise. A table of few rows has no map, and moves some of them.
 ///
 /// A value that is taken out between others leaves an empty row, and the empty rows go all at once where no row is left
 /// to fill. Room is half of what fits in all, so each such pass frees at least as many rows as it keeps.
+///
+/// What each call costs, for `n` entries:
+///
+/// | Call | Time |
+/// |---|---|
+/// | `get`, `remove` | one step in the map and at the first and the last row, else log `n` steps |
+/// | `put`, `reserve` | one step, on the whole of many calls: at times one moves all rows or all of the map |
+/// | `clear` | `n` steps |
 #[derive(Drop)]
 pub struct RisingTable<V, A: Allocator = Global> {
     rows: Rows<V, A>,
+    late: Late<V, A>,
     count: usize,
 }
 
 impl<V, A: Allocator> Model for RisingTable<V, A> {
     ghost use Rattle.std.specs.Prelude.{◌-◌, ◌/◌};
     ghost use Rattle.std.specs.VecDeque.{deque_capacity};
-    ghost use Rattle.fuse_tables.specs.LiveRows.{live, AreRowsKept};
+    ghost use Rattle.fuse_tables.specs.LateValues.{entries_of, IsRisingTable};
     ghost use Rattle.fuse_tables.specs.TableState.{TableState, table_code};
 
     ghost Value = { TableState V };
 
     ghost coded = { table_code V.code };
 
-    ghost view = { λ t. record { entries = live t.rows.items; room = deque_capacity t.rows / 2 - t.count } };
+    ghost view = { λ t. record {
+      entries = entries_of t.rows.items t.late.entries;
+      room = deque_capacity t.rows / 2 - t.count;
+    } };
 
-    ghost invariant = { λ t. AreRowsKept t.rows.items t.count (deque_capacity t.rows) };
+    ghost invariant = { λ t. IsRisingTable t.rows.items t.late.entries t.count (deque_capacity t.rows) };
 }
 
 /// Twice the sum, if there is such a number.
@@ -52,6 +69,7 @@ impl<V: Drop, A: Allocator + Copy> RisingTable<V, A> {
     {
         RisingTable {
             rows: VecDeque::new(alloc),
+            late: IndexMap::new(alloc),
             count: 0,
         }
     }
@@ -68,7 +86,7 @@ impl<V: Drop, A: Allocator + Copy> RisingTable<V, A> {
     pub fn get(&self, key: u64) -> Option<&V>
         ensures { option_copied result ≡ value_at self.now.entries key }
     {
-        value_in(&self.rows, key)
+        value_of(&self.rows, &self.late, key)
     }
 
     /// Memory holds fewer than 2^63 entries. A call without effect, made where a proof rests on that.
@@ -82,7 +100,7 @@ impl<V: Drop, A: Allocator + Copy> RisingTable<V, A> {
     ///
     /// # Errors
     ///
-    /// Memory was wanting. The entries are as before.
+    /// Out of memory. The entries are as before.
     pub fn reserve(&mut self, more: usize) -> Result<(), AllocError>
         ensures entries { self.new.entries ≡ self.old.entries }
         ensures room { OnOk result (more ≤ self.new.room) }
@@ -95,8 +113,12 @@ impl<V: Drop, A: Allocator + Copy> RisingTable<V, A> {
         if rows <= self.rows.capacity() {
             return Ok(());
         }
-        // Half more than is asked for: the queue's own growth is no more than what it is asked.
+        let capacity = self.rows.capacity();
         let grown = rows.saturating_add(rows / 2);
+        // As much as the rows may get, which is twice the room. So a `put` into the map takes no memory: where the
+        // places of what was taken out are used up, it takes them back.
+        reserve_late(&mut self.late, grown.max(capacity.saturating_add(capacity)))?;
+        // Half more than is asked for, or twice what there was.
         self.rows.reserve(grown.saturating_sub(self.rows.len()))
     }
 
@@ -108,8 +130,7 @@ impl<V: Drop, A: Allocator + Copy> RisingTable<V, A> {
         ensures entries { self.new.entries ≡ with_value self.old.entries key value }
         ensures room { self.old.room ≤ self.new.room + 1 }
     {
-        free_row(&mut self.rows);
-        put_row(&mut self.rows, key, value);
+        put_value(&mut self.rows, &mut self.late, key, value);
         self.count += 1;
     }
 
@@ -121,7 +142,7 @@ impl<V: Drop, A: Allocator + Copy> RisingTable<V, A> {
         ensures sorted { T (is_sorted nat_cmp self.old.entries) }
         ensures room { (if is_some result then self.old.room + 1 else self.old.room) ≤ self.new.room }
     {
-        let Some(value) = take_row(&mut self.rows, key) else {
+        let Some(value) = take_value(&mut self.rows, &mut self.late, key) else {
             return None;
         };
         self.count -= 1;
@@ -134,6 +155,9 @@ impl<V: Drop, A: Allocator + Copy> RisingTable<V, A> {
         ensures room { self.old.room ≤ self.new.room }
     {
         self.rows.clear();
+        if !self.late.is_empty() {
+            self.late.clear();
+        }
         self.count = 0;
     }
 }

@@ -131,7 +131,7 @@ impl<V: Drop, A: Allocator + Copy> Table<V, A> {
     ///
     /// # Errors
     ///
-    /// Memory was wanting. The entries are as before.
+    /// Out of memory. The entries are as before.
     pub fn reserve(&mut self, more: usize) -> Result<(), AllocError>
         ensures entries { self.new.entries ≡ self.old.entries }
         ensures room { OnOk result (more ≤ self.new.room) }

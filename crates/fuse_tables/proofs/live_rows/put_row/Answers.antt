@@ -31,13 +31,13 @@ pub returns-clause-live : goal.returns-clause-live
 returns-clause-live g c =
     let rows = c.args.rows.now.items in
     let absent = c.is_row_of.ensures.absent c.if-is_row_of.false in
-    ap live (c.put_at.ensures.items ∙ put_at_place rows c.args.key c.place_in-place.result c.args.value
+    ap live (c.insert_at.ensures.items ∙ put_at_place rows c.args.key c.place_in-place.result c.args.value
     c.place_in-place.ensures.place absent) ∙ live_put rows c.args.key c.args.value c.requires.sorted
 
 pub returns-clause-sorted : goal.returns-clause-sorted
 returns-clause-sorted g c =
     let rows = c.args.rows.now.items in
     let absent = c.is_row_of.ensures.absent c.if-is_row_of.false in
-    let put = c.put_at.ensures.items ∙ put_at_place rows c.args.key c.place_in-place.result c.args.value
+    let put = c.insert_at.ensures.items ∙ put_at_place rows c.args.key c.place_in-place.result c.args.value
     c.place_in-place.ensures.place absent in
     subst (λ es. T (is_sorted nat_cmp es)) (sym put) (sorted_with rows c.args.key (Some c.args.value) c.requires.sorted)

@@ -1,0 +1,157 @@
+//! Rows in rising key, and beside them the values whose keys came late.
+
+ghost use Rattle.std.specs.Prelude.{◌≡◌, ℕ, ◌<◌, ◌≤◌, None, if◌then◌else◌, length, nat_eq};
+ghost use Rattle.std.specs.Map.{lookup};
+ghost use Rattle.std.specs.Option.{option_copied};
+ghost use Rattle.std.specs.VecDeque.{deque_capacity, deque_len};
+ghost use Rattle.fuse_spec.specs.Values.Maps.{get as value_at, put as with_value, remove as without_key};
+ghost use Rattle.fuse_tables.specs.LateValues.{AreKept, entries_of};
+
+use crate::live_rows::{Rows, free_row, is_above, push_last, put_row, take_row, value_in};
+use indexmap::IndexMap;
+use std::alloc::{AllocError, Allocator};
+use std::hash::{BuildHasherDefault, FoldHasher};
+
+/// The values whose keys stood between those of rows when they were put: none, as long as keys rise.
+pub(crate) type Late<V, A> = IndexMap<u64, V, BuildHasherDefault<FoldHasher>, A>;
+
+/// A table that holds no more rows than this has no map: a value that is put between others moves at most half of them.
+const FEW: usize = 32;
+
+/// Makes room for so many late values in all, unless there are few rows.
+#[inline(never)]
+pub(crate) fn reserve_late<V: Drop, A: Allocator + Copy>(
+    late: &mut Late<V, A>,
+    all: usize,
+) -> Result<(), AllocError>
+    ensures { late.new.entries ≡ late.old.entries }
+{
+    if all <= FEW {
+        return Ok(());
+    }
+    if !late.is_empty() {
+        return late.reserve(all.saturating_sub(late.len()));
+    }
+    // A new map costs no copy of the old one's memory.
+    if late.capacity() < all {
+        let alloc = *late.allocator();
+        *late = IndexMap::with_capacity(alloc, all)?;
+    }
+    Ok(())
+}
+
+/// The value at a key where some came late.
+#[inline(never)]
+fn value_beside<'a, V, A: Allocator>(
+    rows: &'a Rows<V, A>,
+    late: &'a Late<V, A>,
+    key: u64,
+) -> Option<&'a V>
+    requires { AreKept rows.now.items late.now.entries }
+    ensures { option_copied result ≡ value_at (entries_of rows.now.items late.now.entries) key }
+{
+    if let Some(value) = late.get(&key) {
+        return Some(value);
+    }
+    value_in(rows, key)
+}
+
+/// Takes out the value at a key where some came late.
+#[inline(never)]
+fn take_beside<V: Drop, A: Allocator>(
+    rows: &mut Rows<V, A>,
+    late: &mut Late<V, A>,
+    key: u64,
+) -> Option<V>
+    requires { AreKept rows.old.items late.old.entries }
+    ensures value { result ≡ value_at (entries_of rows.old.items late.old.entries) key }
+    ensures entries { entries_of rows.new.items late.new.entries
+        ≡ without_key (entries_of rows.old.items late.old.entries) key }
+    ensures kept { AreKept rows.new.items late.new.entries }
+    ensures capacity { deque_capacity rows.new ≡ deque_capacity rows.old }
+{
+    if let Some(value) = late.swap_remove(&key) {
+        return Some(value);
+    }
+    take_row(rows, key)
+}
+
+/// Puts a value at a key that is not above those of all rows: among few rows, or else into the map. Where that is out of
+/// memory too, the rows on the shorter side of the key move. There is room for a row.
+#[inline(never)]
+fn put_late<V: Drop, A: Allocator>(rows: &mut Rows<V, A>, late: &mut Late<V, A>, key: u64, value: V)
+    requires kept { AreKept rows.old.items late.old.entries }
+    requires room { deque_len rows.old < deque_capacity rows.old }
+    requires absent { value_at (entries_of rows.old.items late.old.entries) key ≡ None }
+    ensures entries { entries_of rows.new.items late.new.entries
+        ≡ with_value (entries_of rows.old.items late.old.entries) key value }
+    ensures kept { AreKept rows.new.items late.new.entries }
+    ensures capacity { deque_capacity rows.old ≤ deque_capacity rows.new }
+{
+    if rows.capacity() <= FEW {
+        return put_row(rows, key, value);
+    }
+    match late.insert(key, value) {
+        Ok(_) => {}
+        Err(back) => put_row(rows, key, back.value.1),
+    }
+}
+
+/// The value at a key.
+#[inline(always)]
+pub(crate) fn value_of<'a, V, A: Allocator>(
+    rows: &'a Rows<V, A>,
+    late: &'a Late<V, A>,
+    key: u64,
+) -> Option<&'a V>
+    requires { AreKept rows.now.items late.now.entries }
+    ensures { option_copied result ≡ value_at (entries_of rows.now.items late.now.entries) key }
+{
+    if late.is_empty() {
+        return value_in(rows, key);
+    }
+    value_beside(rows, late, key)
+}
+
+/// Puts a value at a key that has none. There is room for a row once the empty ones go.
+#[inline(always)]
+pub(crate) fn put_value<V: Drop, A: Allocator>(
+    rows: &mut Rows<V, A>,
+    late: &mut Late<V, A>,
+    key: u64,
+    value: V,
+)
+    requires kept { AreKept rows.old.items late.old.entries }
+    requires few { length (entries_of rows.old.items late.old.entries) < deque_capacity rows.old }
+    requires absent { value_at (entries_of rows.old.items late.old.entries) key ≡ None }
+    ensures entries { entries_of rows.new.items late.new.entries
+        ≡ with_value (entries_of rows.old.items late.old.entries) key value }
+    ensures kept { AreKept rows.new.items late.new.entries }
+    ensures capacity { deque_capacity rows.old ≤ deque_capacity rows.new }
+{
+    free_row(rows);
+    if is_above(rows, key) {
+        return push_last(rows, key, value);
+    }
+    put_late(rows, late, key, value);
+}
+
+/// Takes out the value at a key.
+#[inline(always)]
+pub(crate) fn take_value<V: Drop, A: Allocator>(
+    rows: &mut Rows<V, A>,
+    late: &mut Late<V, A>,
+    key: u64,
+) -> Option<V>
+    requires { AreKept rows.old.items late.old.entries }
+    ensures value { result ≡ value_at (entries_of rows.old.items late.old.entries) key }
+    ensures entries { entries_of rows.new.items late.new.entries
+        ≡ without_key (entries_of rows.old.items late.old.entries) key }
+    ensures kept { AreKept rows.new.items late.new.entries }
+    ensures capacity { deque_capacity rows.new ≡ deque_capacity rows.old }
+{
+    if late.is_empty() {
+        return take_row(rows, key);
+    }
+    take_beside(rows, late, key)
+}
