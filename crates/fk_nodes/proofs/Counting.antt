@@ -228,7 +228,7 @@ module _ (nodes : Map Counted) (pairs : List (DirentPlus Entry)) (id : ℕ) (c :
       plus_none : (n : ℕ) → n ≡ n + 0
       plus_none n = omega arith
 
--- Where each does, no count comes to the end.
+-- Where each does, no count reaches the end.
 pub stay_below : (nodes : Map Counted) (pairs : List (DirentPlus Entry)) → HaveCountsInRange nodes → length pairs < counter_end
     → All (λ (pair : DirentPlus Entry). LeavesBelow nodes pairs (listed_by pair)) pairs
     → HaveCountsInRange (looked_up_from nodes pairs)
@@ -249,7 +249,7 @@ stay_below nodes pairs old few leaves = record { below = λ id d at. by (nat_lt 
     by true id d low at = old.below id d (sym (low_stays pairs nodes id low) ∙ at)
     by false id d file at = known id d file at (get nodes id) refl
 
--- Where one does not, a count comes to the end.
+-- Where one does not, a count reaches the end.
 pub one_out : (nodes : Map Counted) (pairs : List (DirentPlus Entry)) (id : ℕ) (c : Counted) → nat_lt id 2 ≡ false
     → get nodes id ≡ Some c → counter_end ≤ c.count + times_listed id c.generation pairs
     → SomeOut (looked_up_from nodes pairs)

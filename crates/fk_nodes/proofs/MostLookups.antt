@@ -64,7 +64,7 @@ pub one_saturated : (nodes : Map Counted) (g : Entry) (most more : ℕ) → AreA
 one_saturated nodes g most more old low fits is = one_more nodes g most more old (omega (arith, low, is))
     (fits_by g most more (get nodes g.nodeid) (old.within g.nodeid) fits is)
 
--- a name that tells a file, or none
+-- a name that gives a file, or none
 one_told : (nodes : Map Counted) (o : Option Entry) (most : ℕ) → AreAtMost most nodes
     → AreAtMost (most + 1) (looked_up_listed nodes o)
 one_told nodes None most old = record { within = λ id c at. let within = old.within id c at in omega (arith, within) }

@@ -16,7 +16,7 @@ use Rattle.fk_wire.specs.Records.{pluses_in}
 abbrev pub pairs_left_in : RecordsPlus → List (DirentPlus Entry)
 pairs_left_in records = map pair_in (pluses_in records)
 
--- A name that tells a file has room.
+-- A name that gives a file has room.
 abbrev pub HasNameRoom : NamesInForce → (directory : ℕ) → DirentPlus Entry → Option Entry → Type 0
 HasNameRoom names directory pair None = Unit {0}
 HasNameRoom names directory pair (Some g) = HasRoom names (directory, pair.dirent.name)
@@ -27,7 +27,7 @@ HaveNameRoom names directory [] = Unit {0}
 HaveNameRoom names directory (pair ∷ pairs) = HasNameRoom names directory pair (listed_by pair)
     × HaveNameRoom names directory pairs
 
--- The names in force once those of a list are, each judged by these counts.
+-- The cached names once those of a list are, each judged by these counts.
 abbrev pub names_judged : (now directory : ℕ) → Map Counted → NameMap Dentry → List (DirentPlus Entry)
     → NameMap Dentry
 names_judged now directory nodes names pairs = names_listed now directory names

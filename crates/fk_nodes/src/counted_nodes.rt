@@ -119,7 +119,7 @@ impl<C: CountTable> CountedNodes<C> {
     ///
     /// # Errors
     ///
-    /// Memory was wanting, and the node was not counted. Nothing changed.
+    /// Out of memory: the node was not counted. Nothing changed.
     pub fn count_lookup(&mut self, entry: &Entry) -> Result<(), AllocError>
         requires alike { ForSome (get self.old entry.now.nodeid)
             (λ counted. counted.generation ≡ entry.now.generation) }
@@ -153,7 +153,7 @@ impl<C: CountTable> CountedNodes<C> {
         self.table.count_of(id)
     }
 
-    /// Whether the names of a list that tell the node that this one tells, under the same generation, bring its count
+    /// Whether the names of a list that give the node that this one gives, under the same generation, bring its count
     /// to the end of counters, where it is counted under that generation.
     fn brings_out(&self, pair: &DirentPlus<'_>, pairs: RecordsPlus<'_>) -> bool
         requires { HaveCountsInRange self.now }
@@ -177,7 +177,7 @@ impl<C: CountTable> CountedNodes<C> {
         lists_more_than(pairs, entry.nodeid, entry.generation, left)
     }
 
-    /// Whether a node's count comes to the end of counters once the names of a list are counted, each judged by the
+    /// Whether a node's count reaches the end of counters once the names of a list are counted, each judged by the
     /// counts that those before it left. Takes no memory.
     pub fn listed_count_out(&self, pairs: RecordsPlus<'_>) -> bool
         requires { HaveCountsInRange self.now }
@@ -197,11 +197,11 @@ impl<C: CountTable> CountedNodes<C> {
         false
     }
 
-    /// Counts the names of a list that tell files, each judged by the counts that those before it left.
+    /// Counts the names of a list that give files, each judged by the counts that those before it left.
     ///
     /// # Errors
     ///
-    /// Memory was wanting. Nothing changed.
+    /// Out of memory. Nothing changed.
     pub fn count_listed(&mut self, pairs: RecordsPlus<'_>) -> Result<(), AllocError>
         requires { HaveCountsInRange (looked_up_from self.old (pairs_left_in pairs)) }
         ensures ok { OnOk result (self.new ≡ looked_up_from self.old (pairs_left_in pairs.entry)) }
@@ -237,7 +237,7 @@ impl<C: CountTable> CountedNodes<C> {
     ///
     /// # Errors
     ///
-    /// Memory was wanting for the list.
+    /// Out of memory for the list.
     pub fn list(&self, alloc: C::Heap) -> Result<Vec<(u64, u64, u64), C::Heap>, AllocError>
         ensures { IfOk result (λ nodes. nodes.items ≡ map (λ e. (e.0, e.1.generation, e.1.count)) self.now) }
     {

@@ -1,4 +1,4 @@
-//! The nodes that the kernel counts, and how the names of a list with their files are judged, counted and put in force.
+//! The nodes that the kernel counts, and how the names of a list with their files are judged, counted and cached.
 #![tactic(auto)]
 
 mod counted_nodes;

@@ -1,4 +1,4 @@
-//! What the names of a list with their files make of the names in force and of the queues.
+//! What the names of a list with their files make of the cached names and of the queues.
 
 ghost use Rattle.std.specs.Prelude.{◌≡◌, ◌≤◌, ◌<◌, ◌+◌, ◌^◌, ℕ, length, None, OnOk, OnErr};
 ghost use Rattle.fuse_frames.specs.ReplyTies.{pair_in};
@@ -23,7 +23,7 @@ use fk_wire::{DirentPlus, RecordsPlus};
 use fuse_spec::Purpose;
 use std::alloc::{AllocError, Allocator};
 
-/// Makes room for a name that tells a file.
+/// Makes room for a name that gives a file.
 fn reserve_name<A: Allocator + Copy>(
     names: &mut Bindings<A>,
     directory: u64,
@@ -44,7 +44,7 @@ fn reserve_name<A: Allocator + Copy>(
 ///
 /// # Errors
 ///
-/// Memory was wanting. The names are as before.
+/// Out of memory. The names are as before.
 fn reserve_listed<A: Allocator + Copy>(
     names: &mut Bindings<A>,
     directory: u64,
@@ -59,7 +59,7 @@ fn reserve_listed<A: Allocator + Copy>(
     Ok(())
 }
 
-/// A name leads to the file that it tells, if its entry can be used.
+/// A name leads to the file that it gives, if its entry can be used.
 fn bind_name<A: Allocator + Copy, C: CountTable>(
     names: &mut Bindings<A>,
     nodes: &CountedNodes<C>,
@@ -89,7 +89,7 @@ fn bind_name<A: Allocator + Copy, C: CountTable>(
     }
 }
 
-/// Puts the names of a list in force that tell a file of which the entry can be used. Takes no memory.
+/// Caches the names of a list that name a file of which the entry can be used. Takes no memory.
 fn bind_listed<A: Allocator + Copy, C: CountTable>(
     names: &mut Bindings<A>,
     nodes: &CountedNodes<C>,
@@ -106,7 +106,7 @@ fn bind_listed<A: Allocator + Copy, C: CountTable>(
     }
 }
 
-/// Queues a forget of one lookup of the node that a name tells under another generation than it is counted.
+/// Queues a forget of one lookup of the node that a name gives under another generation than it is counted.
 fn forget_one<Q: QueueTable<Purpose>, C: CountTable>(
     queues: &mut Q,
     nodes: &CountedNodes<C>,
@@ -128,7 +128,7 @@ fn forget_one<Q: QueueTable<Purpose>, C: CountTable>(
     }
 }
 
-/// Queues a forget of one lookup of each node that a name of a list tells under another generation than it is counted
+/// Queues a forget of one lookup of each node that a name of a list gives under another generation than it is counted
 /// (this project's rule). Takes no memory.
 pub fn forget_stale<Q: QueueTable<Purpose>, C: CountTable>(
     queues: &mut Q,
@@ -146,12 +146,12 @@ pub fn forget_stale<Q: QueueTable<Purpose>, C: CountTable>(
     }
 }
 
-/// Counts the names of a list that tell files, and puts those in force of which the entry can be used, from this time
+/// Counts the names of a list that give files, and caches those of which the entry can be used, from this time
 /// in milliseconds on.
 ///
 /// # Errors
 ///
-/// Memory was wanting. Nothing changed.
+/// Out of memory. Nothing changed.
 pub fn count_and_bind<A: Allocator + Copy, C: CountTable>(
     names: &mut Bindings<A>,
     nodes: &mut CountedNodes<C>,

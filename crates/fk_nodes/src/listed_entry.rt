@@ -1,4 +1,4 @@
-//! What a name of a list tells.
+//! What a name of a list gives.
 
 ghost use Rattle.std.specs.Prelude.{◌≡◌};
 ghost use Rattle.fk_wire.specs.Records.{direntplus_content};
@@ -17,7 +17,7 @@ pub(crate) fn valid_ms(pair: &DirentPlus<'_>) -> u64
     listed_by(pair).1
 }
 
-/// The file that a name tells, if it tells one: `.` and `..` tell none (linux/fuse.h, struct fuse_direntplus).
+/// The file that a name gives, if it gives one: `.` and `..` give none (linux/fuse.h, struct fuse_direntplus).
 pub(crate) fn entry_of(pair: &DirentPlus<'_>) -> Option<Entry>
     ensures { result ≡ listed_by (pair_in (direntplus_content pair.now)) }
 {

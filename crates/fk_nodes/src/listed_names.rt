@@ -31,14 +31,15 @@ fn name_of_dirent<A: Allocator + Copy>(
 ///
 /// # Errors
 ///
-/// Memory was wanting.
+/// Out of memory.
 pub fn names_of_dirents<A: Allocator + Copy>(
     alloc: A,
     records: Records<'_>,
 ) -> Result<Vec<ListedName<A>, A>, AllocError>
     ensures { IfOk result (λ names. map listed_dirent names.items ≡ map dirent_read (records_in records.entry)) }
 {
-    let mut names = Vec::new(alloc);
+    // A record has at least 32 bytes.
+    let mut names = Vec::with_capacity(alloc, records.byte_len() / 32)?;
     for record in records {
         names.push(name_of_dirent(alloc, &record)?)?;
     }
@@ -49,7 +50,7 @@ pub fn names_of_dirents<A: Allocator + Copy>(
 ///
 /// # Errors
 ///
-/// Memory was wanting.
+/// Out of memory.
 pub fn names_of_direntpluses<A: Allocator + Copy>(
     alloc: A,
     pairs: RecordsPlus<'_>,

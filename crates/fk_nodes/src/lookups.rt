@@ -18,7 +18,7 @@ use fk_wire::{DirentPlus, RecordsPlus};
 use fuse_spec::Entry;
 use std::alloc::AllocError;
 
-/// Makes room for the node that a name tells.
+/// Makes room for the node that a name gives.
 fn reserve_node<C: CountTable>(table: &mut C, pair: &DirentPlus<'_>) -> Result<(), AllocError>
     ensures counted { C.counted table.new ≡ C.counted table.old }
     ensures room { OnOk result (HasNodeRoom (C.has_room table.new)
@@ -64,7 +64,7 @@ fn count_one<C: CountTable>(table: &mut C, entry: &Entry) -> bool
     }
 }
 
-/// Counts one lookup more of the node that a name tells, if its entry can be used. Is given how many nodes are counted,
+/// Counts one lookup more of the node that a name gives, if its entry can be used. Is given how many nodes are counted,
 /// and gives how many are then.
 fn count_pair<C: CountTable>(table: &mut C, len: usize, pair: &DirentPlus<'_>) -> usize
     requires room { HasNodeRoom (C.has_room table.old) (listed_by (pair_in (direntplus_content pair.now))) }
@@ -104,7 +104,7 @@ pub(crate) fn count_all<C: CountTable>(table: &mut C, len: usize, pairs: Records
     len
 }
 
-/// Whether a name tells a node under a generation.
+/// Whether a name gives a node under a generation.
 fn is_pair_of(pair: &DirentPlus<'_>, id: u64, generation: u64) -> bool
     ensures { result ≡ is_of_node id generation (listed_by (pair_in (direntplus_content pair.now))) }
 {

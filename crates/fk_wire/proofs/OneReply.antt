@@ -28,7 +28,7 @@ count_of (records_reply ds) = length ds
 count_of (plus_reply ps) = length ps
 count_of content = 0
 
--- So many records come to the end of a body of this kind.
+-- So many records reach the end of a body of this kind.
 abbrev CountIs : ReplyKind → List ℕ → ℕ → Type 0
 CountIs kind.Records bytes count = end_from false count 16 bytes ≡ length bytes
 CountIs kind.RecordsPlus bytes count = end_from true count 16 bytes ≡ length bytes
@@ -161,7 +161,7 @@ ends_beyond plus zero place bytes = omega arith
 ends_beyond plus (suc count) place bytes = let k =
     ends_beyond plus count (record_end plus place bytes) bytes in omega (arith, k, record_after plus place)
 
--- records that come to the end are counted
+-- records that reach the end are counted
 pub counted_from : (most : ℕ) (plus : Bool) (count place : ℕ) (bytes : List ℕ)
     → end_from plus count place bytes ≡ length bytes → count ≤ most → count_from most plus place bytes ≡ count
 unfolding end_from record_end count_from

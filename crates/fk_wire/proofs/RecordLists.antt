@@ -58,7 +58,7 @@ pub none_yet : (plus : Bool) (place : ℕ) (bytes : List ℕ) → end_from plus 
 unfolding end_from
 none_yet plus place bytes = refl
 
--- where records do not come to the end after so many, none more do, if the next does not fit
+-- where records do not reach the end after so many, none more do, if the next does not fit
 pub no_records : (plus : Bool) (n place : ℕ) (bytes : List ℕ) (count : ℕ) → end_from plus n place bytes < length bytes
     → length bytes < record_place plus (end_from plus n place bytes) + 24 + padded
     (name_length (record_place plus (end_from plus n place bytes)) bytes)
@@ -223,7 +223,7 @@ dirent_size place after bytes inside =
 
 -- ---- records
 
--- records that come to the end are read as themselves
+-- records that reach the end are read as themselves
 pub dirents_read : (count place : ℕ) (bytes : List ℕ) → end_from false count place bytes ≡ length bytes
     → ReadsAs place (dirents (dirents_from count place bytes)) bytes
 unfolding end_from record_end

@@ -28,7 +28,7 @@ pub sizes_of_entry : (e : EntryContent) (after : List Field) → sizes (entry_fi
 sizes_of_entry (missing valid nsec) after = omega arith
 sizes_of_entry (found nodeid generation valid nsec a) after = omega arith
 
--- what a written entry comes to, and what follows it
+-- what a written entry results in, and what follows it
 pub ruleset written_entries = (entry_and, entry_in_range, sizes_of_entry)
 
 -- a first pair, and the others

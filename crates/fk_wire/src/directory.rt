@@ -14,7 +14,7 @@ use crate::entry::{Entry, is_timed, put_entry};
 use crate::fault::WireFault;
 use crate::records::{Dirent, Records};
 use crate::records_plus::{DirentPlus, RecordsPlus};
-use crate::room::{put_bytes, put_u32, put_u64, put_zeros};
+use crate::room::{put_bytes, put_two_u32, put_two_u64, put_u32, put_u64, put_zeros};
 use crate::walk::{is_record_name, padded_len};
 use std::alloc::Allocator;
 
@@ -28,10 +28,8 @@ fn put_dirent<A: Allocator>(out: &mut Vec<u8, A>, dirent: &Dirent<'_>)
     ensures fits { InRange (dirent_fields (dirent_content dirent.now) []) }
 {
     let len = dirent.name.len();
-    put_u64(out, dirent.ino);
-    put_u64(out, dirent.off);
-    put_u32(out, len as u32);
-    put_u32(out, dirent.kind);
+    put_two_u64(out, dirent.ino, dirent.off);
+    put_two_u32(out, len as u32, dirent.kind);
     put_bytes(out, dirent.name);
     put_zeros(out, (8 - len % 8) % 8);
 }

@@ -12,7 +12,7 @@ use Rattle.fuse_spec.specs.Server.Server.{is_file_held}
 use Rattle.fuse_spec.specs.Files.Trees.{Content, Tree, is_nameless}
 use Rattle.fuse_spec.specs.declared.Validity.{Validity}
 use Rattle.fuse_spec.proofs.Tables.{cmp_same}
-use Rattle.fs_nodes.proofs.Maps.{any_is, any_there}
+use Rattle.fuse_tables.proofs.Maps.{any_is, any_there}
 use Rattle.fs_tree.specs.Outcomes.{discarded, without_nameless, without_unheld}
 use Rattle.fs_tree.proofs.Shaping.{same_number}
 use Rattle.fs_files.specs.Bounds.{AreNamed, AreNamedBut, IsThere, IsUnopened}

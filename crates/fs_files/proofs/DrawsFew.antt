@@ -16,7 +16,7 @@ use Rattle.fuse_spec.specs.Kernel.Messages.{RequestBody, init, asks, release, fo
 use Rattle.fuse_spec.specs.Server.Nodes.{HeldNode, NodeTable, count_overflows, file_of, is_open}
 use Rattle.fuse_spec.specs.Server.Performs.{file_operation_of, is_open_for, is_still_held}
 use Rattle.fuse_spec.specs.Server.Server.{Server, HeldRequest}
-use Rattle.fs_nodes.proofs.Maps.{there_any}
+use Rattle.fuse_tables.proofs.Maps.{there_any}
 use Rattle.fs_files.specs.Bounds.{HaveCountsUpTo}
 use Rattle.fs_files.specs.Giving.{generations_after, has_node_already, new_among}
 use Rattle.fs_files.specs.Performing.{said, body_reply, tree_said, tree_by}

@@ -9,7 +9,7 @@ use Rattle.fuse_spec.specs.Server.Nodes.{HeldNode, NodeTable, IsUnheld, MayChoos
 use Rattle.fuse_spec.specs.Files.Operations.{first_listed}
 use Rattle.fs_nodes.specs.Rows.{IsOf}
 use Rattle.fs_nodes.specs.Sound.{IsSoundNodeTable}
-use Rattle.fs_nodes.proofs.Maps.{first_there, sorted_later, there_later}
+use Rattle.fuse_tables.proofs.Maps.{first_there, sorted_later, there_later}
 use Rattle.fs_files.specs.Bounds.{HaveCountsUpTo}
 use Rattle.fs_files.specs.Giving.{GivenEach, generations_after, node_in}
 use Rattle.fs_files.proofs.Bounds.{given_each}

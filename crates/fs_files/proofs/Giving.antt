@@ -17,7 +17,7 @@ use Rattle.fuse_spec.proofs.Tables.{get_put_here, get_put_there}
 use Rattle.fuse_spec.specs.Server.Server.{count_in}
 use Rattle.fs_nodes.specs.Rows.{IsOf}
 use Rattle.fs_nodes.specs.Sound.{IsSoundNodeTable}
-use Rattle.fs_nodes.proofs.Maps.{HasValue, any_is, any_there, first_there, sorted_later, there_any, there_later, sorted_put, turned}
+use Rattle.fuse_tables.proofs.Maps.{HasValue, any_is, any_there, first_there, sorted_later, there_any, there_later, sorted_put, turned}
 use Rattle.fs_tree.proofs.Shaping.{same_number}
 use Rattle.fs_files.specs.Bounds.{AreHeldBelow}
 use Rattle.fs_files.specs.Giving.{AreCountable, IsCountable, files_of, generations_after, has_node_already, new_among, node_in}
@@ -290,7 +290,7 @@ module _ (t : NodeTable) (files : List ℕ) where
     row_at None e is = absurd is
     row_at (Some row) e is = (row, e, is)
 
-    -- the node's lookups come to the end of counters
+    -- the node's lookups reaches the end of counters
     pub counted_out_at : nat_le (2 ^ 62 - count) more ≡ true → count_overflows t files ≡ true
     counted_out_at most =
         let row = row_at (get t.rows id) refl of_file in

@@ -11,7 +11,7 @@ use Rattle.fuse_spec.specs.Files.Operations.{Dirent, files_in_reply, files_liste
 use Rattle.fuse_spec.specs.Calls.Paths.{is_dots}
 use Rattle.fuse_spec.specs.Files.Trees.{Tree}
 use Rattle.fuse_spec.proofs.QueueCounts.{count_by-cons}
-use Rattle.fs_nodes.proofs.Maps.{any_there}
+use Rattle.fuse_tables.proofs.Maps.{any_there}
 use Rattle.fs_files.specs.Bounds.{AreHeldBelow}
 use Rattle.fs_files.specs.Listed.{dirents_in_bytes, pair_listed}
 use Rattle.fs_files.specs.Replies.{IsRepliable, outcome_reply}

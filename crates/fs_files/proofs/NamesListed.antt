@@ -38,7 +38,7 @@ module _ (tree : Tree) (directory after size : ℕ) where
     module _ {A : Type 0} (rs : List Record) (bytes : Vec ℕ A) (named : HaveRecordNames (map written_record_of rs))
         (fits : InRange (dirents (map written_record_of rs))) (is : bytes.items ≡ spellings (dirents (map written_record_of rs)))
         (v : Validity) where
-      -- what a READDIRPLUS comes to
+      -- what a READDIRPLUS results in
       pub lists_files : (with_files : Bool) → with_files ≡ true → Lists with_files tree directory after size rs
           → Operates {A = A} v tree (listing with_files directory after size) (outcome.ListedPlus bytes) tree
       lists_files true e says =
@@ -60,7 +60,7 @@ module _ (tree : Tree) (directory after size : ℕ) where
           }
       lists_files false e says = absurd (true≢false (sym e))
 
-      -- what a READDIR comes to
+      -- what a READDIR results in
       pub lists_names : (with_files : Bool) → with_files ≡ false → Lists with_files tree directory after size rs
           → Operates {A = A} v tree (listing with_files directory after size) (outcome.Reply (said.Listed bytes)) tree
       lists_names false e says =

@@ -10,7 +10,7 @@ use Rattle.fuse_spec.specs.Server.Server.{generation_in}
 use Rattle.fuse_spec.proofs.Tables.{get_put_here}
 use Rattle.fs_nodes.specs.Rows.{generation_given}
 use Rattle.fs_nodes.specs.Sound.{IsSoundNodeTable}
-use Rattle.fs_nodes.proofs.Maps.{any_is}
+use Rattle.fuse_tables.proofs.Maps.{any_is}
 use Rattle.fs_tree.proofs.Shaping.{same_number, other_number}
 
 pub two_of : (t : NodeTable) (file id : ℕ) → IsSoundNodeTable t → MayName t file id → 2 ≤ id

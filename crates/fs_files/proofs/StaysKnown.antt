@@ -227,7 +227,7 @@ module _ (tree : Tree) (shaped : IsShaped tree) where
   keeps_files (operation.write file offset (b ∷ bytes)) regular =
       keeps_written file (overwritten (file_bytes (get tree.files file)) offset (b ∷ bytes)) regular
 
-  -- whether or not memory was wanting
+  -- whether or not memory ran out
   pub keeps_result : {A E : Type 0} (v : Validity) (o : FileOperation) → WritesRegular tree o
       → (new : Tree) (r : Result (Outcome A) E) → IfOk r (λ outcome. Operates v tree o outcome new)
       → OnErr r (new ≡ tree) → KeepsFiles tree new

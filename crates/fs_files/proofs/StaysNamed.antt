@@ -20,7 +20,7 @@ use Rattle.fuse_spec.specs.Server.Server.{HeldRequest}
 use Rattle.fuse_spec.specs.Files.Trees.{Tree, a_directory, is_nameless}
 use Rattle.fuse_spec.specs.Files.TreeShape.{IsShaped}
 use Rattle.fuse_spec.proofs.Tables.{tie_no, get_put_here, get_put_there, get_gone_here, get_gone_there}
-use Rattle.fs_nodes.proofs.Maps.{sorted_put, sorted_remove}
+use Rattle.fuse_tables.proofs.Maps.{sorted_put, sorted_remove}
 use Rattle.fs_tree.specs.Outcomes.{only_root, unlinked_by}
 use Rattle.fs_tree.proofs.KeepsNames.{keeps_name}
 use Rattle.fs_files.specs.Bounds.{AreKnown, AreNamed, AreNamedBut, IsThere, IsUnopened}

@@ -1,4 +1,4 @@
--- What performing a held request comes to, before nodes and open numbers are given.
+-- What performing a held request results in, before nodes and open numbers are given.
 use Rattle.std.specs.Prelude.{◌≡◌, ◌≤◌, ℕ, Option, None, cond, option_map}
 use Rattle.std.specs.Int.RustNames.{bit_and}
 use Rattle.fuse_spec.specs.declared.Validity.{Validity}
@@ -78,7 +78,7 @@ numbering choice s reply =
       wire = wire_of choice (all_given choice s.nodes (files_in_reply reply)) s.tree s.handles.next_fh reply;
     }
 
--- An operation that nothing refuses comes to this on the tree.
+-- An operation that nothing refuses results in this on the tree.
 pub record Operates {A : Type 0} (valid : Validity) (tree : Tree) (operation : FileOperation) (outcome : Outcome A)
     (new : Tree) : Type 0 where
   pub says : outcome_reply valid.found_ms outcome ≡ reply_unrefused valid tree operation
@@ -86,7 +86,7 @@ pub record Operates {A : Type 0} (valid : Validity) (tree : Tree) (operation : F
   pub repliable : IsRepliable new outcome
   pub short : outcome_len outcome ≤ reply_room_of operation
 
--- A request comes to this on the tree, if its nodes are still held.
+-- A request results in this on the tree, if its nodes are still held.
 pub record ComesTo {A : Type 0} (s : Server) (body : RequestBody) (outcome : Outcome A) (new : Tree) : Type 0 where
   pub says : outcome_reply s.validity.found_ms outcome ≡ body_reply s body
   pub tree_is : new ≡ tree_by s body

@@ -23,11 +23,11 @@ use fuse_spec::{Minor, Opened, Operation, Validity};
 use std::alloc::{AllocError, Allocator};
 
 impl<S: NodeStore> Files<S> {
-    /// What a held request comes to, on the tree as it is now; an INIT is answered this minor.
+    /// What a held request results in, on the tree as it is now; an INIT is answered this minor.
     ///
     /// # Errors
     ///
-    /// Memory was wanting. Nothing changes.
+    /// Out of memory. Nothing changes.
     #[inline(always)]
     pub fn answer(
         &mut self,

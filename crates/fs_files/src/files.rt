@@ -55,7 +55,7 @@ impl<S: NodeStore> Files<S> {
     ///
     /// # Errors
     ///
-    /// Memory was wanting.
+    /// Out of memory.
     pub fn new(alloc: S::Heap) -> Result<Self, AllocError>
         ensures tree { IfOk result (λ files. files.tree ≡ only_root) }
         ensures nodes { IfOk result (λ files. files.nodes ≡ no_nodes) }
@@ -74,7 +74,7 @@ impl<S: NodeStore> Files<S> {
     ///
     /// # Errors
     ///
-    /// Memory was wanting, and that room was not there. What is known is as before.
+    /// Out of memory: that room was not there. What is known is as before.
     pub fn reserve(&mut self) -> Result<(), AllocError>
         ensures tree { self.new.tree ≡ self.old.tree }
         ensures nodes { self.new.nodes ≡ self.old.nodes }

@@ -93,7 +93,7 @@ impl<S: NodeStore> Files<S> {
     }
 
     /// Whether these files can be given nodes, one after another: the generations are enough, and no node's count
-    /// comes to its end.
+    /// ends.
     fn can_give_nodes(&self, files: &[u64]) -> bool
         requires { AreHeldBelow self.now.nodes }
         ensures can { result ≡ true → (generations_after self.now.nodes files.now ≤ counter_end)

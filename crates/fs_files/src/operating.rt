@@ -21,7 +21,7 @@ use fuse_frames::Reply;
 use fuse_spec::{Operation, Validity};
 use std::alloc::{AllocError, Allocator};
 
-/// Does an operation that nothing refuses. Where memory is wanting the tree is as before.
+/// Does an operation that nothing refuses. Where memory runs out the tree is as before.
 #[inline(always)]
 pub(crate) fn operate<A: Allocator + Copy, S: NodeStore>(
     tree: &mut Tree<A>,

@@ -23,7 +23,8 @@ pub(crate) fn record_bytes<A: Allocator>(
     ensures fits { OnOk result (InRange (dirents (map written_record_of records.now))) }
     ensures named { OnOk result (HaveRecordNames (map written_record_of records.now)) }
 {
-    let mut bytes = Vec::new(alloc);
+    // The record of a name of up to 8 bytes has 32; longer ones make the vector grow.
+    let mut bytes = Vec::with_capacity(alloc, records.len().saturating_mul(32))?;
     for record in records {
         let dirent = Dirent {
             ino: record.file + 1,

@@ -1,4 +1,4 @@
-//! What performing a request comes to, and what is replied.
+//! What performing a request results in, and what is replied.
 
 ghost use Rattle.std.specs.Prelude.{◌≡◌, ◌≤◌, ◌+◌, [], length, map, vec_capacity};
 ghost use Rattle.std.specs.Int.RustNames.{bit_and};
@@ -23,7 +23,7 @@ use std::slice::from_ref;
 /// What is sent as a reply: the names of a list are bytes of records, as their frame has them.
 pub type SentReply<A> = Reply<Entry, Vec<u8, A>, ListedNames<A>, Vec<u8, A>>;
 
-/// What performing a request comes to: files that are to be given nodes, an open number, or both, or a reply that names
+/// What performing a request results in: files that are to be given nodes, an open number, or both, or a reply that names
 /// no file and no open number.
 #[derive(Drop)]
 pub enum Outcome<A: Allocator> {
@@ -169,7 +169,7 @@ pub fn framed<A: Allocator>(reply: &SentReply<A>, room: ReplyRoom<A>, unique: u6
     }
 }
 
-/// What is agreed on at INIT: the minor that is for_minor, and those of the offered flags that it knows.
+/// What is agreed on at INIT: the minor in use, and those of the offered flags that it knows.
 #[tactic(auto, using(fuse_frames::proofs::Agreements::known_again, fuse_frames::proofs::Agreements::read_alone))]
 pub(crate) fn agreement<A: Allocator>(minor: Minor, offered: InitFlags) -> SentReply<A>
     ensures wire { sent_wire result ≡ init_reply minor (bit_and offered.0 known_flags) }

@@ -26,7 +26,7 @@ impl<A: Allocator + Copy> ReplySpare<A> {
     ///
     /// # Errors
     ///
-    /// Memory was wanting.
+    /// Out of memory.
     #[inline(always)]
     pub fn new(alloc: A, len: usize, names: usize) -> Result<Self, AllocError>
         ensures { IfOk result (λ spare. HasSpare spare len names) }

@@ -14,7 +14,7 @@ use fuse_spec::limits::{MAX_FILE, MAX_TRANSFER};
 use std::alloc::{AllocError, Allocator};
 
 impl<A: Allocator + Copy> Tree<A> {
-    /// What is told of a file. Of one that is not in the tree: another kind, no bytes, no links.
+    /// What is known of a file. Of one that is not in the tree: another kind, no bytes, no links.
     pub fn getattr(&self, file: u64) -> Attributes
         requires { file < counter_end }
         ensures { result ≡ attributes_of self.now file }
@@ -106,7 +106,7 @@ fn fits(offset: u64, len: usize) -> bool
 ///
 /// # Errors
 ///
-/// Memory was wanting. The bytes are as before.
+/// Out of memory. The bytes are as before.
 pub(crate) fn overwrite<A: Allocator>(
     old: &mut Vec<u8, A>,
     offset: usize,

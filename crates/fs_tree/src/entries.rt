@@ -139,7 +139,9 @@ impl<A: Allocator + Copy> Entries<A> {
             ≡ fitting_with more size (map (lead_in files.now)
             (filter (λ n. nat_lt after n.cookie) (map (in_directory 0) self.now)))) }
     {
-        let mut records = Vec::new(*self.links.allocator());
+        // A record has at least 32 bytes.
+        let most = self.names.len().min(size / 32);
+        let mut records = Vec::with_capacity(*self.links.allocator(), most)?;
         let mut room = size;
         for (cookie, leaf) in self.names.range((Bound::Excluded(after), Bound::Unbounded)) {
             let len = more + record_len(&leaf.name);
@@ -178,7 +180,7 @@ impl<A: Allocator + Copy> Entries<A> {
     }
 }
 
-/// Puts the file that a name tells last.
+/// Puts the file that a name gives last.
 fn list_file(listed: &mut ArrayVec<u64, MOST_LISTED>, name: &[u8], file: u64)
     requires { array_vec_len listed.old < 26 }
     ensures items { listed.new.items ≡ listed.old.items ++ first_listed (cond (is_dots name.now) None (Some file)) [] }

@@ -227,7 +227,7 @@ impl<A: Allocator + Copy> Names<A> {
         }
     }
 
-    /// The files that the names in a directory with a cookie over `after` tell, as many names as fit so many bytes with
+    /// The files that the names in a directory with a cookie over `after` lead to, as many names as fit so many bytes with
     /// their entries.
     pub(crate) fn files_listed(
         &self,

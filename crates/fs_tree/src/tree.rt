@@ -59,7 +59,7 @@ impl<A: Allocator + Copy> Tree<A> {
     ///
     /// # Errors
     ///
-    /// Memory was wanting.
+    /// Out of memory.
     pub fn new(alloc: A) -> Result<Self, AllocError>
         ensures { IfOk result (λ tree. tree ≡ only_root) }
     {

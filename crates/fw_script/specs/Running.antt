@@ -19,14 +19,14 @@ pub data Say : List (List ℕ) → List Line → Type 0 where
   says : (line : List ℕ) (l : Line) (lines : List (List ℕ)) (said : List Line) → LineHasWords l (words_of line)
       → Say lines said → Say (line ∷ lines) (l ∷ said)
 
--- Each line of these comes to this text, and to the same events and records.
+-- Each line of these results in this text, and to the same events and records.
 pub record EachLinePrints {S A : Type 0} (m : Machine S A) (hex : Bool) (old : S) (IsLine : List ℕ → Type 0) (text : List ℕ)
     (new : S) : Type 0 where
   pub events : List Event
   pub records : List (Record A)
   pub prints : (line : List ℕ) → IsLine line → PrintsLine m hex old line events records text new
 
--- One of these lines was done: its text was written; or memory was wanting before it began; or the output refused.
+-- One of these lines was done: its text was written; or memory ran out before it began; or the output refused.
 abbrev pub LineEnds : {S A T : Type 0} → Machine S A → Bool → (old : S) → (List ℕ → Type 0) → (new : S)
     → Result T Stop → (had has : Option (List ℕ)) → Type 0
 LineEnds m hex old IsLine new (Ok done) had has =
@@ -43,7 +43,7 @@ pub record HasPrinted {S A : Type 0} (m : Machine S A) (hex : Bool) (first : S) 
   pub records : List (Record A)
   pub prints : Prints m hex first lines events records text last
 
--- All lines were done; or memory was wanting after some of them; or the output refused in them.
+-- All lines were done; or memory ran out after some of them; or the output refused in them.
 abbrev pub LinesEnd : {S A T : Type 0} → Machine S A → Bool → (first : S) → List (List ℕ) → (last : S)
     → Result T Stop → (had has : Option (List ℕ)) → Type 0
 LinesEnd m hex first lines last (Ok done) had has =
@@ -56,7 +56,7 @@ LinesEnd m hex first lines last (Err stop.NoMemory) had has =
     × (text : List ℕ) × HasPrinted m hex first done text last × Appends had has text
 LinesEnd m hex first lines last (Err other) had has = ⊥
 
--- A run of these lines ended: all of its text was written; or memory was wanting before or after some lines; or the
+-- A run of these lines ended: all of its text was written; or memory ran out before or after some lines; or the
 -- output refused in them.
 abbrev pub RunEnds : {T : Type 0} → (List (List ℕ) → List ℕ → Type 0) → List (List ℕ) → Result T Stop
     → (had has : Option (List ℕ)) → Type 0

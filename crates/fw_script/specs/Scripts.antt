@@ -76,7 +76,7 @@ abbrev pub IsPut : {S A : Type 0} → Machine S A → Bool → S → List (Recor
 IsPut m true new (records.Outcome o ∷ answers) put = m.puts new o put
 IsPut m hex new added put = put ≡ None
 
--- What one line prints, with the events and the records that it comes to.
+-- What one line prints, with the events and the records that it results in.
 pub data PrintsLine {S A : Type 0} (m : Machine S A) (hex : Bool) (old : S) (line : List ℕ) : List Event
     → List (Record A) → List ℕ → S → Type 0 where
   nothing : IsPassedOver line → PrintsLine m hex old line [] [] [] old

@@ -7,7 +7,7 @@ use Rattle.fw_script.specs.declared.line.LineFault.TheVariants as faults
 use Rattle.fw_script.specs.declared.stop.Stop.{Stop}
 use Rattle.fw_script.specs.declared.stop.Stop.TheVariants as stop
 
--- 1 where the input cannot be read, 3 where memory is wanting, 5 where standard output refuses
+-- 1 where the input cannot be read, 3 where memory runs out, 5 where standard output refuses
 abbrev pub status_of : Stop → ℕ
 status_of (stop.CannotRead name) = 1
 status_of (stop.BadLine number fault) = 1

@@ -97,7 +97,7 @@ fn decode(bytes: &mut [u8], text: &[u8])
 ///
 /// # Errors
 ///
-/// Memory was wanting.
+/// Out of memory.
 pub fn read_hex_or_none<A: Allocator>(bytes: &mut Vec<u8, A>, text: &[u8]) -> Result<(), AllocError>
     requires { IsHexOrNone text.now }
     ensures { OnOk result (text.now ≡ hex_or_none bytes.new.items) }

@@ -24,6 +24,7 @@ pub use hex_text::{
     HexFault, is_hex_or_none, read_hex, read_hex_or_none, write_hex, write_hex_or_none,
 };
 pub use line::{Line, LineFault, read_line};
+pub use lines::is_passed_over;
 pub use number::read_number;
 pub use output::OutputRefused;
 pub use print::{name_of_refusal, number_of_refusal, word_of_effect, word_of_kind};

@@ -45,7 +45,7 @@ impl<'a> Iterator for Lines<'a> {
 }
 
 /// Whether a line says nothing: an empty one, or one that begins with `#`.
-fn is_passed_over(line: &[u8]) -> bool
+pub fn is_passed_over(line: &[u8]) -> bool
     ensures { IsTrue result ↔ IsPassedOver line.now }
 {
     matches!(line, [] | [b'#', ..])

@@ -21,7 +21,7 @@ pub(crate) trait Machine<A: Allocator> {
 
     ghost acts: { MachineBy Self.State A };
 
-    /// Runs one event, and appends its records. Where memory is wanting for them it has not run.
+    /// Runs one event, and appends its records. Where memory runs out for them it has not run.
     fn run(&mut self, event: &Event<'_>, records: &mut Vec<Record<A>, A>) -> Result<(), AllocError>
         ensures ran { OnOk result ((added : List (RecordValue A)) × (records.new.items ≡ records.old.items ++ added)
             × acts.runs (state self.old) event.now added (state self.new)) }

@@ -1,6 +1,6 @@
 //! Records as the lines that are printed.
 
-ghost use Rattle.std.specs.Prelude.{◌≡◌, ◌≤◌, ◌++◌, ◌↔◌, All, IsTrue, OnErr, OnOk};
+ghost use Rattle.std.specs.Prelude.{◌≡◌, ◌≤◌, ◌++◌, ◌↔◌, [], All, IsTrue, OnErr, OnOk};
 ghost use Rattle.std.specs.Prelude.{codes, decimal, flat_map, length, map, option_copied};
 ghost use Rattle.std.specs.Io.KnownBytes.{Appends};
 ghost use Rattle.fw_script.specs.HexTexts.{hex_or_none};
@@ -18,6 +18,9 @@ use crate::short_text::ShortText;
 use fw_world::{Answer, Attributes, Kind, ListedName, Outcome, Record, Refusal};
 use std::alloc::Allocator;
 use std::io::Write;
+
+/// The most bytes of a listed name that is written at once.
+const SHORT: usize = 64;
 
 /// How a byte of a name is printed: `?` stands for one outside 33 to 126.
 fn shown(byte: u8) -> u8
@@ -51,6 +54,19 @@ fn write_name<W: Write>(out: &mut W, name: &[u8]) -> Result<(), OutputRefused>
     Ok(())
 }
 
+/// Puts what follows a listed name, as `:OFF:KIND`, into a text.
+#[inline(always)]
+fn put_place(text: &mut ShortText, offset: u64, kind: Kind)
+    requires { text.old ≡ [] }
+    ensures text { text.new ≡ codes ":" ++ decimal offset ++ codes ":" ++ kind_word kind }
+    ensures room { length text.new ≤ 36 }
+{
+    text.put(word_of_kind(kind).as_bytes());
+    text.put_byte(b':');
+    text.put_number(offset);
+    text.put_byte(b':');
+}
+
 /// Writes what follows a listed name, as `:OFF:KIND`.
 fn write_place<W: Write>(out: &mut W, offset: u64, kind: Kind) -> Result<(), OutputRefused>
     ensures ok { OnOk result (Appends (W.contents out.old) (W.contents out.new)
@@ -59,15 +75,13 @@ fn write_place<W: Write>(out: &mut W, offset: u64, kind: Kind) -> Result<(), Out
         (codes ":" ++ decimal offset ++ codes ":" ++ kind_word kind)) }
 {
     let mut text = ShortText::new();
-    text.put(word_of_kind(kind).as_bytes());
-    text.put_byte(b':');
-    text.put_number(offset);
-    text.put_byte(b':');
+    put_place(&mut text, offset, kind);
     write_text(out, text.bytes())
 }
 
-/// Writes a listed name, as ` NAME:OFF:KIND`.
-fn write_listed<A: Allocator, W: Write>(
+/// Writes a listed name, as ` NAME:OFF:KIND`, whose name is not short or is not printed as it is.
+#[cold]
+fn write_long<A: Allocator, W: Write>(
     out: &mut W,
     listed: &ListedName<A>,
 ) -> Result<(), OutputRefused>
@@ -77,6 +91,28 @@ fn write_listed<A: Allocator, W: Write>(
     write_text(out, b" ")?;
     write_name(out, listed.name.as_slice())?;
     write_place(out, listed.offset, listed.kind)
+}
+
+/// Writes a listed name, as ` NAME:OFF:KIND`. Most are short, and are written at once.
+fn write_listed<A: Allocator, W: Write>(
+    out: &mut W,
+    listed: &ListedName<A>,
+) -> Result<(), OutputRefused>
+    ensures ok { OnOk result (Appends (W.contents out.old) (W.contents out.new) (listed_words listed.now)) }
+    ensures refused { OnErr result (AppendsSome (W.contents out.old) (W.contents out.new) (listed_words listed.now)) }
+{
+    let name = listed.name.as_slice();
+    if name.len() > SHORT {
+        return write_long(out, listed);
+    }
+    if !is_shown_as_is(name) {
+        return write_long(out, listed);
+    }
+    let mut text = ShortText::new();
+    put_place(&mut text, listed.offset, listed.kind);
+    text.put(name);
+    text.put_byte(b' ');
+    write_text(out, text.bytes())
 }
 
 /// Writes listed names one after another.
@@ -271,7 +307,7 @@ fn write_answers<A: Allocator, W: Write>(
     Ok(())
 }
 
-/// Writes the line of an event's first record. Most are outcomes, whose writing is laid in here.
+/// Writes the line of an event's first record. Most are outcomes, whose writing is inlined here.
 #[inline(always)]
 fn write_first<A: Allocator, W: Write>(out: &mut W, first: &Record<A>) -> Result<(), OutputRefused>
     ensures ok { OnOk result (Appends (W.contents out.old) (W.contents out.new) (record_text first.now)) }

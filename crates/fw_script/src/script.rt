@@ -28,7 +28,7 @@ use std::alloc::{AllocError, Allocator, Global};
 use std::io::{ErrorKind, Read, Write};
 use std::marker::Model;
 
-/// The most records that one event comes to: its own, one of a lost link, and an answer for each
+/// The most records that one event results in: its own, one of a lost link, and an answer for each
 /// of 64 calls.
 const MAX_RECORDS: usize = 66;
 
@@ -251,7 +251,7 @@ fn run_lines<A: Allocator + Copy, M: Machine<A>, W: Write>(
     flush(out)
 }
 
-/// Room for what one event comes to.
+/// Room for what one event results in.
 fn make_room<A: Allocator + Copy>(alloc: A) -> Result<Room<A>, AllocError> {
     let records = Vec::with_capacity(alloc, MAX_RECORDS)?;
     Ok(Room {
@@ -344,7 +344,7 @@ fn read_script<'a, A: Allocator, R: Read>(
     }
 }
 
-/// Runs a text whose lines are good over a link, so that only memory can be wanting to read them. Says whether the link
+/// Runs a text whose lines are good over a link, so that only memory can run out to read them. Says whether the link
 /// was lost.
 fn run_text<A: Allocator + Copy, L: Link + Drop, W: Write>(
     alloc: A,
@@ -502,7 +502,7 @@ fn run_on<T: Tables, R: Read, W: Write, F: Write>(
     // What is printed is the text of the records of one run of all events that the script says.
     ensures printed { result ≡ 0 → PrintsAll (IsRunOf T.Heap hex) (R.remaining input.old)
         (W.contents out.old) (W.contents out.new) }
-    // Where memory is wanting it is that of the script's first lines, or nothing.
+    // Where memory runs out it is that of the script's first lines, or nothing.
     ensures stopped { result ≡ 3 → Keeps (W.contents out.old) (W.contents out.new)
         ⊎ PrintsFirst (IsRunOf T.Heap hex) (R.remaining input.old) (W.contents out.old) (W.contents out.new) }
     // Where the output refuses it is a beginning of that.
@@ -541,7 +541,7 @@ pub fn run_script<A: Allocator + Copy, R: Read, W: Write, F: Write>(
     // What is printed is the text of the records of one run of all events that the script says.
     ensures printed { result ≡ 0 → PrintsAll (IsRunOf A hex) (R.remaining input.old)
         (W.contents out.old) (W.contents out.new) }
-    // Where memory is wanting it is that of the script's first lines, or nothing.
+    // Where memory runs out it is that of the script's first lines, or nothing.
     ensures stopped { result ≡ 3 → Keeps (W.contents out.old) (W.contents out.new)
         ⊎ PrintsFirst (IsRunOf A hex) (R.remaining input.old) (W.contents out.old) (W.contents out.new) }
     // Where the output refuses it is a beginning of that.
@@ -572,7 +572,7 @@ pub fn run_lists<A: Allocator + Copy, R: Read, W: Write, F: Write>(
     // What is printed is the text of the records of one run of all events that the script says.
     ensures printed { result ≡ 0 → PrintsAll (IsRunOf A hex) (R.remaining input.old)
         (W.contents out.old) (W.contents out.new) }
-    // Where memory is wanting it is that of the script's first lines, or nothing.
+    // Where memory runs out it is that of the script's first lines, or nothing.
     ensures stopped { result ≡ 3 → Keeps (W.contents out.old) (W.contents out.new)
         ⊎ PrintsFirst (IsRunOf A hex) (R.remaining input.old) (W.contents out.old) (W.contents out.new) }
     // Where the output refuses it is a beginning of that.

@@ -101,8 +101,8 @@ impl Stop<'_> {
         let _ = self.write_line(faults);
     }
 
-    /// Writes the line on standard error, and gives the exit status: 1 where the input cannot be read, 3 where memory is
-    /// wanting, 5 where standard output refuses, after which nothing more is printed.
+    /// Writes the line on standard error, and gives the exit status: 1 where the input cannot be read, 3 where memory runs
+    /// out, 5 where standard output refuses, after which nothing more is printed.
     pub(crate) fn report<F: Write>(self, faults: &mut F) -> u8
         ensures status { result ≡ status_of self.entry }
         ensures said { status_of self.entry ≢ 5 → AppendsSome (F.contents faults.old) (F.contents faults.new)
@@ -131,7 +131,7 @@ pub fn cannot_read<F: Write>(name: &str, faults: &mut F) -> u8
     Stop::CannotRead { name }.report(faults)
 }
 
-/// Says on standard error that memory is wanting, and gives the exit status, 3.
+/// Says on standard error that memory runs out, and gives the exit status, 3.
 pub fn no_memory<F: Write>(faults: &mut F) -> u8
     ensures status { result ≡ 3 }
     ensures said { AppendsSome (F.contents faults.old) (F.contents faults.new) (codes "no memory\n") }

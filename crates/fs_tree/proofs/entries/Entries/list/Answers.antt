@@ -12,7 +12,7 @@ use Rattle.fs_tree.proofs.entries.Entries.list.Goals as goal
 pub loop-cookie-init : goal.loop-cookie-init
 loop-cookie-init g c =
     let listed = c.into_iter-cookie-iterator.ensures.into_iter_gives ∙ c.range-cookie-items.ensures.between tt in
-    rw (← c.self.view_is, listed, c.new-records.ensures.items)
+    rw (← c.self.view_is, listed, c.in_ok-records.ensures.items)
     (ap (λ l. fitting_with c.args.more c.args.size (map (lead_in c.args.files.now) l))
     (names-after c.args.after c.self.inside.names.entries))
 
