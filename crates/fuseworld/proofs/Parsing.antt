@@ -41,7 +41,7 @@ reads minors app words m t r is ok has fails asks named =
     let rows = (has (ap is_simple is ∙ is_simple_program minors)).1 ∙ ap (λ a. subcommand_of a words) is in
     (ap (λ a. fault_of a words) (sym is) ∙ faults, subst (λ s. AsksFor s t) rows asks, subst NamesCommand rows named)
 
--- memory is wanting
+-- memory runs out
 pub lacks_memory : (app : App) (words : List Text) (r : Result Task Error) → IsErrAnd r (λ e. kind_of e ≡ OutOfMemory)
     → ReadsTask app words r
 lacks_memory app words (Ok t) h = absurd h

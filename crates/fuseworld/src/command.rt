@@ -40,7 +40,7 @@ pub enum Task<'a> {
     Side(SideTask),
 }
 
-/// Whether memory was wanting, and the words may be good.
+/// Whether memory ran out, and the words may be good.
 pub fn is_memory(error: &Error) -> bool
     ensures { IsTrue result ↔ (kind_of error.now ≡ ErrorKind.OutOfMemory) }
 {
@@ -145,7 +145,7 @@ fn asked_task<'a>(matches: &ArgMatches<'a>) -> Task<'a>
 ///
 /// # Errors
 ///
-/// Where the words are no command line, or ask for help or the version; or where memory is wanting.
+/// Where the words are no command line, or ask for help or the version; or where memory runs out.
 pub fn read_task<'a>(alloc: Global, words: &'a [String]) -> Result<Task<'a>, Error>
     ensures { (minors : _) × AreMinors minors
         × ReadsTask (program_app minors) (map string_bytes words.entry.now) result }

@@ -4,9 +4,8 @@ use crate::label::Column;
 use crate::nodes::Node;
 use crate::picture::Picture;
 use crate::row::{draw_event, draw_nodes};
-use crate::script::is_passed_over;
-use fw_script::{Line, read_hex, read_line};
-use fw_world::{Call, Event, Record, WorldIn, run};
+use fw_script::{Line, is_passed_over, read_hex, read_line};
+use fw_world::{Call, Event, Maps, Record, Tables, WorldOf, run};
 use std::alloc::{AllocError, Allocator};
 use std::slice::from_ref;
 
@@ -22,10 +21,10 @@ struct Room<A: Allocator> {
 }
 
 /// Runs an event.
-fn run_event<A: Allocator + Copy>(
-    world: &mut WorldIn<A>,
+fn run_event<T: Tables>(
+    world: &mut WorldOf<T>,
     event: &Event<'_>,
-    records: &mut Vec<Record<A>, A>,
+    records: &mut Vec<Record<T::Heap>, T::Heap>,
 ) -> Result<(), AllocError> {
     records.clear();
     run(world, from_ref(event), records).map_err(|_| AllocError)
@@ -63,11 +62,11 @@ fn draw_counts<A: Allocator + Copy>(
 }
 
 /// Draws the nodes of the world whose counts change, at the height of the event's row.
-fn draw_world_nodes<A: Allocator + Copy>(
-    world: &WorldIn<A>,
-    picture: &mut Picture<A>,
+fn draw_world_nodes<T: Tables>(
+    world: &WorldOf<T>,
+    picture: &mut Picture<T::Heap>,
     y: u64,
-    room: &mut Room<A>,
+    room: &mut Room<T::Heap>,
 ) -> Result<(), AllocError> {
     let kernel = world.kernel_nodes()?;
     let server = world.server_nodes()?;
@@ -75,12 +74,12 @@ fn draw_world_nodes<A: Allocator + Copy>(
 }
 
 /// Runs an event, whose line this is, and draws its row.
-fn draw_step<A: Allocator + Copy>(
-    world: &mut WorldIn<A>,
+fn draw_step<T: Tables>(
+    world: &mut WorldOf<T>,
     event: &Event<'_>,
     line: &[u8],
-    picture: &mut Picture<A>,
-    room: &mut Room<A>,
+    picture: &mut Picture<T::Heap>,
+    room: &mut Room<T::Heap>,
 ) -> Result<(), AllocError> {
     let y = picture.y;
     run_event(world, event, &mut room.records)?;
@@ -105,15 +104,15 @@ fn digits_of(hex: &[u8]) -> &[u8] {
 }
 
 /// Runs a call that puts bytes, which are in hex, into an open file, and draws its row.
-fn draw_write<A: Allocator + Copy>(
-    world: &mut WorldIn<A>,
+fn draw_write<T: Tables>(
+    world: &mut WorldOf<T>,
     write: (u64, u64, &[u8]),
     line: &[u8],
-    picture: &mut Picture<A>,
-    room: &mut Room<A>,
+    picture: &mut Picture<T::Heap>,
+    room: &mut Room<T::Heap>,
 ) -> Result<(), AllocError> {
     let (open_call, offset, hex) = write;
-    // The lines were judged, so only memory can be wanting.
+    // The lines were judged, so only memory can run out.
     let Ok(bytes) = read_hex(room.alloc, digits_of(hex)) else {
         return Err(AllocError);
     };
@@ -126,11 +125,11 @@ fn draw_write<A: Allocator + Copy>(
 }
 
 /// Runs what a line says, and draws it.
-fn draw_line<A: Allocator + Copy>(
-    world: &mut WorldIn<A>,
+fn draw_line<T: Tables>(
+    world: &mut WorldOf<T>,
     line: &[u8],
-    picture: &mut Picture<A>,
-    room: &mut Room<A>,
+    picture: &mut Picture<T::Heap>,
+    room: &mut Room<T::Heap>,
 ) -> Result<(), AllocError> {
     match read_line(line) {
         Ok(Line::Event(event)) => draw_step(world, &event, line, picture, room),
@@ -147,11 +146,11 @@ fn draw_line<A: Allocator + Copy>(
 }
 
 /// Runs the lines of a script, and draws them.
-fn draw_lines<A: Allocator + Copy>(
-    world: &mut WorldIn<A>,
+fn draw_lines<T: Tables>(
+    world: &mut WorldOf<T>,
     text: &[u8],
-    picture: &mut Picture<A>,
-    room: &mut Room<A>,
+    picture: &mut Picture<T::Heap>,
+    room: &mut Room<T::Heap>,
 ) -> Result<(), AllocError> {
     for line in text.split(|byte| *byte == b'\n') {
         if !is_passed_over(line) {
@@ -173,13 +172,13 @@ fn make_room<A: Allocator + Copy>(alloc: A) -> Room<A> {
 }
 
 /// Runs the lines of a script on a new world, and draws them.
-fn draw_world<A: Allocator + Copy>(
-    alloc: A,
+fn draw_world<T: Tables>(
+    alloc: T::Heap,
     text: &[u8],
-    picture: &mut Picture<A>,
+    picture: &mut Picture<T::Heap>,
 ) -> Result<(), AllocError> {
     let mut room = make_room(alloc);
-    let Ok(mut world) = WorldIn::<A>::new(alloc) else {
+    let Ok(mut world) = WorldOf::<T>::new(alloc) else {
         return Err(AllocError);
     };
     let drawn = draw_lines(&mut world, text, picture, &mut room);
@@ -194,6 +193,6 @@ pub(crate) fn draw_run<A: Allocator + Copy>(
     text: &[u8],
 ) -> Result<Picture<A>, AllocError> {
     let mut picture = Picture::new(alloc);
-    draw_world(alloc, text, &mut picture)?;
+    draw_world::<Maps<A>>(alloc, text, &mut picture)?;
     Ok(picture)
 }

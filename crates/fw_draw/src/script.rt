@@ -57,8 +57,3 @@ pub(crate) fn read_good_text<A: Allocator + Copy, R: Read, F: Write>(
     judge(alloc, name, text.as_slice(), faults)?;
     Ok(text)
 }
-
-/// Whether a line says nothing: an empty one, or one that begins with `#`.
-pub(crate) fn is_passed_over(line: &[u8]) -> bool {
-    matches!(line, [] | [b'#', ..])
-}

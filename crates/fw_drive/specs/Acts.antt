@@ -11,7 +11,7 @@ use Rattle.fw_world.specs.declared.event.Event.TheVariants as event
 use Rattle.fw_world.specs.declared.event.Outcome.{Outcome}
 use Rattle.fw_world.specs.declared.event.Outcome.TheVariants as outcome
 
--- An accepted event comes to this outcome, and makes this of the kernel.
+-- An accepted event results in this outcome, and makes this of the kernel.
 abbrev pub Acts : Kernel → Event → Outcome → Kernel → Type 0
 Acts old (event.Mount found missing minor) outcome.Mounted new =
     (mount_refusal old ≡ None) × (new ≡ kernel_mounted old)

@@ -3,8 +3,7 @@
 use crate::alike::are_alike;
 use crate::printing::taken;
 use fw_script::{OutputRefused, write_record};
-use fw_world::{Answer, Event, Minor, Outcome, Pick, Record, Refusal, Taken, WorldIn};
-use std::alloc::Allocator;
+use fw_world::{Answer, Event, Minor, Outcome, Pick, Record, Refusal, Tables, Taken, WorldOf};
 use std::io::Write;
 
 /// How long a name is valid in that world: names are looked up each time.
@@ -12,21 +11,21 @@ const VALID_MS: u64 = 0;
 
 /// A world of this project's own, beside a kernel that drives another server.
 #[derive(Drop)]
-pub(crate) struct Beside<A: Allocator + Copy> {
-    alloc: A,
-    world: WorldIn<A>,
+pub(crate) struct Beside<T: Tables> {
+    alloc: T::Heap,
+    world: WorldOf<T>,
     answers: u64,
     differences: u64,
 }
 
-impl<A: Allocator + Copy> Beside<A> {
+impl<T: Tables> Beside<T> {
     /// A world before its first mount.
     ///
     /// # Errors
     ///
-    /// Memory is wanting.
-    pub(crate) fn new(alloc: A) -> Result<Self, Refusal> {
-        let world = WorldIn::<A>::new(alloc)?;
+    /// Out of memory.
+    pub(crate) fn new(alloc: T::Heap) -> Result<Self, Refusal> {
+        let world = WorldOf::<T>::new(alloc)?;
         Ok(Beside {
             alloc,
             world,
@@ -39,7 +38,7 @@ impl<A: Allocator + Copy> Beside<A> {
     ///
     /// # Errors
     ///
-    /// Memory is wanting.
+    /// Out of memory.
     fn mount(&mut self) -> Result<(), Refusal> {
         let _mounted = self.world.step(&Event::Mount {
             found_ms: VALID_MS,
@@ -82,7 +81,7 @@ impl<A: Allocator + Copy> Beside<A> {
     ///
     /// # Errors
     ///
-    /// Memory is wanting.
+    /// Out of memory.
     pub(crate) fn follow(&mut self, event: &Event<'_>) -> Result<(), Refusal> {
         match event {
             Event::Mount { .. } => self.mount(),
@@ -102,7 +101,7 @@ impl<A: Allocator + Copy> Beside<A> {
     pub(crate) fn compare<W: Write>(
         &mut self,
         call: u64,
-        answer: Answer<A>,
+        answer: Answer<T::Heap>,
         out: &mut W,
     ) -> Result<(), OutputRefused> {
         let Some((_call, here)) = self.world.collect() else {

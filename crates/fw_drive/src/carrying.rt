@@ -7,8 +7,7 @@ use crate::moves::{act, receive, send};
 use crate::notes::Notes;
 use crate::stop::Stop;
 use fuse_device::Device;
-use fw_world::{Event, Minor, Pick, Refusal};
-use std::alloc::Allocator;
+use fw_world::{Event, Minor, Pick, Refusal, Tables};
 use std::io::Write;
 
 /// Whether what the kernel said of a frame ended a request.
@@ -20,10 +19,10 @@ fn is_ended(received: Result<Option<u64>, Refusal>, unique: u64) -> Result<bool,
 }
 
 /// A frame is received. Says whether it ended a request.
-fn receive_toward<A: Allocator + Copy, D: Device, W: Write>(
-    driver: &mut Driver<A>,
+fn receive_toward<T: Tables, D: Device, W: Write>(
+    driver: &mut Driver<T::Heap>,
     device: &mut D,
-    notes: &mut Notes<A>,
+    notes: &mut Notes<T>,
     unique: u64,
     out: &mut W,
 ) -> Result<bool, Stop>
@@ -36,10 +35,10 @@ fn receive_toward<A: Allocator + Copy, D: Device, W: Write>(
 }
 
 /// Frames are received until the reply to a request.
-fn await_reply<A: Allocator + Copy, D: Device, W: Write>(
-    driver: &mut Driver<A>,
+fn await_reply<T: Tables, D: Device, W: Write>(
+    driver: &mut Driver<T::Heap>,
     device: &mut D,
-    notes: &mut Notes<A>,
+    notes: &mut Notes<T>,
     unique: u64,
     out: &mut W,
 ) -> Result<bool, Stop>
@@ -65,10 +64,10 @@ fn is_sent(sent: Result<Option<u64>, Refusal>) -> Result<bool, Stop> {
 }
 
 /// A request is sent, and its reply received. Says whether there was one.
-fn carry_one<A: Allocator + Copy, D: Device, W: Write>(
-    driver: &mut Driver<A>,
+fn carry_one<T: Tables, D: Device, W: Write>(
+    driver: &mut Driver<T::Heap>,
     device: &mut D,
-    notes: &mut Notes<A>,
+    notes: &mut Notes<T>,
     pick: Pick,
     out: &mut W,
 ) -> Result<bool, Stop>
@@ -82,10 +81,10 @@ fn carry_one<A: Allocator + Copy, D: Device, W: Write>(
 }
 
 /// All requests of one kind are sent, the oldest first, each once the one before is answered.
-fn carry_all<A: Allocator + Copy, D: Device, W: Write>(
-    driver: &mut Driver<A>,
+fn carry_all<T: Tables, D: Device, W: Write>(
+    driver: &mut Driver<T::Heap>,
     device: &mut D,
-    notes: &mut Notes<A>,
+    notes: &mut Notes<T>,
     pick: Pick,
     out: &mut W,
 ) -> Result<(), Stop>
@@ -102,10 +101,10 @@ fn carry_all<A: Allocator + Copy, D: Device, W: Write>(
 }
 
 /// All that waits is sent, the oldest request first, and then forgets.
-pub(crate) fn carry<A: Allocator + Copy, D: Device, W: Write>(
-    driver: &mut Driver<A>,
+pub(crate) fn carry<T: Tables, D: Device, W: Write>(
+    driver: &mut Driver<T::Heap>,
     device: &mut D,
-    notes: &mut Notes<A>,
+    notes: &mut Notes<T>,
     out: &mut W,
 ) -> Result<(), Stop>
     ensures { GoesOn D.logs device.old device.new driver.old driver.new result }
@@ -117,10 +116,10 @@ pub(crate) fn carry<A: Allocator + Copy, D: Device, W: Write>(
 }
 
 /// The kernel mounts, and INIT is answered.
-pub(crate) fn mount<A: Allocator + Copy, D: Device, W: Write>(
-    driver: &mut Driver<A>,
+pub(crate) fn mount<T: Tables, D: Device, W: Write>(
+    driver: &mut Driver<T::Heap>,
     device: &mut D,
-    notes: &mut Notes<A>,
+    notes: &mut Notes<T>,
     out: &mut W,
 ) -> Result<(), Stop>
     ensures { GoesOn D.logs device.old device.new driver.old driver.new result }

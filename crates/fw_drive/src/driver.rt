@@ -6,6 +6,7 @@ ghost use Rattle.fk_drive.specs.Driving.{first_driven, idle};
 ghost use Rattle.fw_drive.specs.Acts.{Acts};
 ghost use Rattle.fw_drive.specs.Runs.{GoesOn, Keeps, at};
 
+use crate::acting::act;
 use fk_drive::{Aside, Choices, Connection, DriveEnd, NotSent, Written, send_next, write_next};
 use fk_kernel::{Answer, Kernel, Pick};
 use fuse_device::Device;
@@ -53,42 +54,7 @@ impl<A: Allocator + Copy> Driver<A> {
         ensures err { OnErr result (self.new.kernel ≡ self.old.kernel) }
         ensures same { self.new ≡ record self.old { kernel = self.new.kernel } }
     {
-        match *event {
-            Event::Mount { .. } => {
-                self.kernel.mount()?;
-                Ok(Outcome::Mounted)
-            }
-            Event::Call(call) => {
-                let call = self.kernel.begin(&call)?;
-                Ok(Outcome::Begun { call })
-            }
-            Event::Interrupt { call, fatal } => {
-                let effect = self.kernel.interrupt(call, fatal)?;
-                Ok(Outcome::Interrupted { call, effect })
-            }
-            Event::Tick(ms) => {
-                let clock = self.kernel.tick(ms)?;
-                Ok(Outcome::Now { clock })
-            }
-            Event::DropName { directory, name } => {
-                self.kernel.drop_binding(directory, name)?;
-                Ok(Outcome::Dropped)
-            }
-            Event::Evict(node) => {
-                let count = self.kernel.evict(node)?;
-                Ok(Outcome::Evicted { node, count })
-            }
-            Event::Abort => {
-                self.kernel.abort()?;
-                Ok(Outcome::Aborted)
-            }
-            Event::Read(_)
-            | Event::Take(_)
-            | Event::Do(_)
-            | Event::Again(_)
-            | Event::Write(_)
-            | Event::Settle(_) => Err(Refusal::NoSuch),
-        }
+        act(&mut self.kernel, event)
     }
 
     /// The answer of the lowest call that has one. It is collected then.

@@ -2,7 +2,7 @@
 
 use std::fmt;
 
-/// What a server did wrong, as far as a reply tells.
+/// What a server did wrong, as far as a reply shows.
 #[derive(Clone, Copy, Debug, PartialEq, Eq)]
 pub(crate) enum Fault {
     /// It is no reply by its head.

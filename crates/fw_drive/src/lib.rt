@@ -1,6 +1,7 @@
 //! A script that drives a server that somebody else wrote, by the proved kernel.
 #![tactic(auto)]
 
+mod acting;
 mod alike;
 mod beside;
 mod carrying;

@@ -140,11 +140,6 @@ pub(crate) fn read_drive_line(form: Form, line: &[u8]) -> Result<DriveLine<'_>, 
     }
 }
 
-/// Whether a line is passed over: an empty one, and a comment.
-pub(crate) fn is_passed_over(line: &[u8]) -> bool {
-    matches!(line, [] | [b'#', ..])
-}
-
 /// The first line of a text, and what stands behind its line feed, if it has one.
 pub(crate) fn first_line(text: &[u8]) -> (&[u8], Option<&[u8]>) {
     match text.iter().position(|byte| *byte == b'\n') {

@@ -11,14 +11,14 @@ use fk_wire::{Opcode, ReplyHead};
 use fuse_device::Device;
 use fuse_frames::RequestFrame;
 use fuse_spec::WriteResult;
-use fw_world::{Event, Pick, Refusal};
+use fw_world::{Event, Pick, Refusal, Tables};
 use std::alloc::Allocator;
 use std::io::Write;
 
 /// Collects the answers that wait, in rising number of their calls, and prints them.
-fn collect_answers<A: Allocator + Copy, W: Write>(
-    driver: &mut Driver<A>,
-    notes: &mut Notes<A>,
+fn collect_answers<T: Tables, W: Write>(
+    driver: &mut Driver<T::Heap>,
+    notes: &mut Notes<T>,
     out: &mut W,
 ) -> Result<(), Stop>
     ensures { MovesAlone driver.old driver.new }
@@ -33,9 +33,9 @@ fn collect_answers<A: Allocator + Copy, W: Write>(
 }
 
 /// An event happens that moves the kernel without its server.
-pub(crate) fn act<A: Allocator + Copy, W: Write>(
-    driver: &mut Driver<A>,
-    notes: &mut Notes<A>,
+pub(crate) fn act<T: Tables, W: Write>(
+    driver: &mut Driver<T::Heap>,
+    notes: &mut Notes<T>,
     event: &Event<'_>,
     out: &mut W,
 ) -> Result<(), Stop>
@@ -47,7 +47,7 @@ pub(crate) fn act<A: Allocator + Copy, W: Write>(
             collect_answers(driver, notes, out)
         }
         Err(refusal) => {
-            print_refusal::<A, W>(out, refusal)?;
+            print_refusal::<T::Heap, W>(out, refusal)?;
             Ok(())
         }
     }
@@ -67,10 +67,10 @@ fn unique_awaited<A: Allocator + Copy>(
 }
 
 /// Notes a request that was sent, and prints the answers that wait. Gives the number whose reply is to come, if one is.
-fn note_request<A: Allocator + Copy, W: Write>(
-    driver: &mut Driver<A>,
-    notes: &mut Notes<A>,
-    frame: &RequestFrame<A>,
+fn note_request<T: Tables, W: Write>(
+    driver: &mut Driver<T::Heap>,
+    notes: &mut Notes<T>,
+    frame: &RequestFrame<T::Heap>,
     out: &mut W,
 ) -> Result<Result<Option<u64>, Refusal>, Stop>
     ensures { MovesAlone driver.old driver.new }
@@ -83,10 +83,10 @@ fn note_request<A: Allocator + Copy, W: Write>(
 }
 
 /// Reads a request from the kernel, and sends it. Says why the kernel refuses, or the number whose reply is to come.
-pub(crate) fn send<A: Allocator + Copy, D: Device, W: Write>(
-    driver: &mut Driver<A>,
+pub(crate) fn send<T: Tables, D: Device, W: Write>(
+    driver: &mut Driver<T::Heap>,
     device: &mut D,
-    notes: &mut Notes<A>,
+    notes: &mut Notes<T>,
     pick: Pick,
     out: &mut W,
 ) -> Result<Result<Option<u64>, Refusal>, Stop>
@@ -117,10 +117,10 @@ fn ended_by<A: Allocator>(written: &Written<A>) -> Option<u64> {
 
 /// Notes a frame that was written to the kernel, and prints the answers that wait. Gives the request that it ended, if
 /// one.
-fn note_reply<A: Allocator + Copy, W: Write>(
-    driver: &mut Driver<A>,
-    notes: &mut Notes<A>,
-    written: &Written<A>,
+fn note_reply<T: Tables, W: Write>(
+    driver: &mut Driver<T::Heap>,
+    notes: &mut Notes<T>,
+    written: &Written<T::Heap>,
     out: &mut W,
 ) -> Result<Result<Option<u64>, Refusal>, Stop>
     ensures { MovesAlone driver.old driver.new }
@@ -131,10 +131,10 @@ fn note_reply<A: Allocator + Copy, W: Write>(
 }
 
 /// Writes the next frame of the server to the kernel. Says why the kernel refuses, or which request that ended, if one.
-pub(crate) fn receive<A: Allocator + Copy, D: Device, W: Write>(
-    driver: &mut Driver<A>,
+pub(crate) fn receive<T: Tables, D: Device, W: Write>(
+    driver: &mut Driver<T::Heap>,
     device: &mut D,
-    notes: &mut Notes<A>,
+    notes: &mut Notes<T>,
     out: &mut W,
 ) -> Result<Result<Option<u64>, Refusal>, Stop>
     ensures { GoesOn D.logs device.old device.new driver.old driver.new result }

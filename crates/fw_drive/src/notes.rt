@@ -11,8 +11,7 @@ use fk_drive::{Aside, Written};
 use fuse_frames::RequestFrame;
 use fuse_spec::WriteResult;
 use fw_script::write_record;
-use fw_world::{Answer, Event, Outcome, Record, Refusal};
-use std::alloc::Allocator;
+use fw_world::{Answer, Event, Outcome, Record, Refusal, Tables};
 use std::io::Write;
 
 /// The stop at a refusal of a world beside: only want of memory is one.
@@ -22,19 +21,19 @@ fn stop_beside(_refusal: Refusal) -> Stop {
 
 /// What is kept beside a driven kernel: what its server is known by, the world beside it, and room for bytes.
 #[derive(Drop)]
-pub(crate) struct Notes<A: Allocator + Copy> {
+pub(crate) struct Notes<T: Tables> {
     pub(crate) form: Form,
-    watch: Watch<A>,
-    beside: Option<Beside<A>>,
+    watch: Watch<T::Heap>,
+    beside: Option<Beside<T>>,
 }
 
-impl<A: Allocator + Copy> Notes<A> {
+impl<T: Tables> Notes<T> {
     /// Notes of a run whose script has this form.
     ///
     /// # Errors
     ///
-    /// Memory is wanting.
-    pub(crate) fn new(alloc: A, form: Form) -> Result<Self, Stop> {
+    /// Out of memory.
+    pub(crate) fn new(alloc: T::Heap, form: Form) -> Result<Self, Stop> {
         let beside = match form {
             Form::CallsBeside => Some(Beside::new(alloc).map_err(stop_beside)?),
             Form::Events | Form::Calls => None,
@@ -74,7 +73,7 @@ impl<A: Allocator + Copy> Notes<A> {
         out: &mut W,
     ) -> Result<(), Stop> {
         self.watch_outcome(outcome)?;
-        print_outcome::<A, W>(out, outcome)?;
+        print_outcome::<T::Heap, W>(out, outcome)?;
         match &mut self.beside {
             Some(beside) => beside.follow(event).map_err(stop_beside),
             None => Ok(()),
@@ -85,7 +84,7 @@ impl<A: Allocator + Copy> Notes<A> {
     pub(crate) fn note_answer<W: Write>(
         &mut self,
         call: u64,
-        answer: Answer<A>,
+        answer: Answer<T::Heap>,
         out: &mut W,
     ) -> Result<(), Stop> {
         let record = Record::Answered { call, answer };
@@ -102,7 +101,7 @@ impl<A: Allocator + Copy> Notes<A> {
     /// Prints a request that was sent, and notes it.
     pub(crate) fn note_sent<W: Write>(
         &mut self,
-        frame: &RequestFrame<A>,
+        frame: &RequestFrame<T::Heap>,
         out: &mut W,
     ) -> Result<(), Stop> {
         let (unique, opcode) = frame.head();
@@ -118,7 +117,7 @@ impl<A: Allocator + Copy> Notes<A> {
     /// Prints a frame that was written to the kernel, and what the server did wrong.
     pub(crate) fn note_written<W: Write>(
         &mut self,
-        written: &Written<A>,
+        written: &Written<T::Heap>,
         out: &mut W,
     ) -> Result<(), Stop> {
         if self.prints_frames() {

@@ -5,7 +5,7 @@ use fk_drive::{Aside, Written};
 use fk_wire::ReplyHead;
 use fuse_frames::RequestFrame;
 use fw_script::{OutputRefused, write_record};
-use fw_world::{Answer, Outcome, Record, Refusal};
+use fw_world::{Outcome, Record, Refusal};
 use std::alloc::Allocator;
 use std::io;
 use std::io::Write;
@@ -32,15 +32,6 @@ pub(crate) fn print_refusal<A: Allocator, W: Write>(
     refusal: Refusal,
 ) -> Result<(), OutputRefused> {
     write_record(out, &Record::<A>::Refused(refusal))
-}
-
-/// Prints the answer of a call.
-pub(crate) fn print_answer<A: Allocator, W: Write>(
-    out: &mut W,
-    call: u64,
-    answer: Answer<A>,
-) -> Result<(), OutputRefused> {
-    write_record(out, &Record::Answered { call, answer })
 }
 
 /// Prints a request that was sent.

@@ -12,6 +12,7 @@ use crate::stop::Stop;
 use fk_drive::Choices;
 use fuse_device::Device;
 use fw_script::{cannot_read, no_memory};
+use fw_world::{Maps, Tables};
 use std::alloc::Allocator;
 use std::io::{ErrorKind, Read, Write};
 
@@ -28,11 +29,11 @@ pub struct Task<'a> {
 }
 
 /// Runs a script whose lines are good, and prints what is known at its end.
-fn run_driver<A: Allocator + Copy, D: Device, W: Write>(
-    alloc: A,
-    driver: &mut Driver<A>,
+fn run_driver<T: Tables, D: Device, W: Write>(
+    alloc: T::Heap,
+    driver: &mut Driver<T::Heap>,
     device: &mut D,
-    notes: &mut Notes<A>,
+    notes: &mut Notes<T>,
     text: &[u8],
     out: &mut W,
 ) -> Result<(), Stop>
@@ -45,8 +46,8 @@ fn run_driver<A: Allocator + Copy, D: Device, W: Write>(
 }
 
 /// Runs a script whose lines are good on a new kernel.
-fn run_good<A: Allocator + Copy, D: Device, W: Write>(
-    alloc: A,
+fn run_good<T: Tables, D: Device, W: Write>(
+    alloc: T::Heap,
     task: Task<'_>,
     device: &mut D,
     text: &[u8],
@@ -54,7 +55,7 @@ fn run_good<A: Allocator + Copy, D: Device, W: Write>(
 ) -> Result<(), Stop>
     ensures { (new : Driven) × DrivesOver D.logs device.old device.new (first_driven task.entry.opens_directories) new }
 {
-    let mut notes = Notes::new(alloc, task.form)?;
+    let mut notes = Notes::<T>::new(alloc, task.form)?;
     let mut driver = Driver::new(alloc, task.opens_directories, task.choices);
     let ended = run_driver(alloc, &mut driver, device, &mut notes, text, out);
     // By calls, since at the end of a scope the whole drop is proved as part of this function.
@@ -87,7 +88,7 @@ fn read_script<A: Allocator, R: Read, F: Write>(
     }
 }
 
-/// Runs a script on a new kernel, whose server stands behind a device, and prints what each line comes to.
+/// Runs a script on a new kernel, whose server stands behind a device, and prints what each line results in.
 ///
 /// All lines are judged before the first is run. Gives the exit status: 0; 1 after `cannot read` with the script's name,
 /// or `line N:` and the fault of the first bad line, on `faults`; 3 after `no memory`; 4 after `no reply`, `server
@@ -108,7 +109,7 @@ pub fn run_drive<A: Allocator + Copy, D: Device, R: Read, W: Write, F: Write>(
         Ok(text) => text,
         Err(status) => return status,
     };
-    match run_good(alloc, task, device, text.as_slice(), out) {
+    match run_good::<Maps<A>, D, W>(alloc, task, device, text.as_slice(), out) {
         Ok(()) => 0,
         Err(stop) => stop.report::<A, W, F>(out, faults),
     }

@@ -5,14 +5,14 @@ ghost use Rattle.fw_drive.specs.Runs.{GoesOn, MovesAlone};
 use crate::carrying::{carry, mount};
 use crate::driver::Driver;
 use crate::form::Form;
-use crate::line::{DriveLine, first_line, is_passed_over, read_drive_line};
+use crate::line::{DriveLine, first_line, read_drive_line};
 use crate::moves::{act, receive, send, show};
 use crate::notes::Notes;
 use crate::printing::print_refusal;
 use crate::stop::Stop;
 use fuse_device::Device;
-use fw_script::{LineFault, is_hex_or_none, read_hex_or_none};
-use fw_world::{Call, Event, Refusal};
+use fw_script::{LineFault, is_hex_or_none, is_passed_over, read_hex_or_none};
+use fw_world::{Call, Event, Refusal, Tables};
 use std::alloc::Allocator;
 use std::io::Write;
 
@@ -44,10 +44,10 @@ fn print_refused<A: Allocator, W: Write>(
 }
 
 /// A call that puts bytes into an open file begins.
-fn begin_write<A: Allocator + Copy, W: Write>(
-    alloc: A,
-    driver: &mut Driver<A>,
-    notes: &mut Notes<A>,
+fn begin_write<T: Tables, W: Write>(
+    alloc: T::Heap,
+    driver: &mut Driver<T::Heap>,
+    notes: &mut Notes<T>,
     file: (u64, u64, &[u8]),
     out: &mut W,
 ) -> Result<(), Stop>
@@ -67,11 +67,11 @@ fn begin_write<A: Allocator + Copy, W: Write>(
 }
 
 /// Does what a line says.
-fn run_line<A: Allocator + Copy, D: Device, W: Write>(
-    alloc: A,
-    driver: &mut Driver<A>,
+fn run_line<T: Tables, D: Device, W: Write>(
+    alloc: T::Heap,
+    driver: &mut Driver<T::Heap>,
     device: &mut D,
-    notes: &mut Notes<A>,
+    notes: &mut Notes<T>,
     line: DriveLine<'_>,
     out: &mut W,
 ) -> Result<(), Stop>
@@ -79,7 +79,7 @@ fn run_line<A: Allocator + Copy, D: Device, W: Write>(
 {
     match line {
         DriveLine::Event(Event::Read(pick)) => match send(driver, device, notes, pick, out) {
-            Ok(sent) => print_refused::<A, W>(sent, out),
+            Ok(sent) => print_refused::<T::Heap, W>(sent, out),
             Err(stop) => Err(stop),
         },
         DriveLine::Event(event) => act(driver, notes, &event, out),
@@ -93,7 +93,7 @@ fn run_line<A: Allocator + Copy, D: Device, W: Write>(
             hex,
         } => begin_write(alloc, driver, notes, (open_call, offset, hex), out),
         DriveLine::Write => match receive(driver, device, notes, out) {
-            Ok(received) => print_refused::<A, W>(received, out),
+            Ok(received) => print_refused::<T::Heap, W>(received, out),
             Err(stop) => Err(stop),
         },
         DriveLine::Show => show(driver, out),
@@ -101,11 +101,11 @@ fn run_line<A: Allocator + Copy, D: Device, W: Write>(
 }
 
 /// Does what a line says, and carries a call to its answer where the script is of calls.
-fn run_carried<A: Allocator + Copy, D: Device, W: Write>(
-    alloc: A,
-    driver: &mut Driver<A>,
+fn run_carried<T: Tables, D: Device, W: Write>(
+    alloc: T::Heap,
+    driver: &mut Driver<T::Heap>,
     device: &mut D,
-    notes: &mut Notes<A>,
+    notes: &mut Notes<T>,
     line: DriveLine<'_>,
     out: &mut W,
 ) -> Result<(), Stop>
@@ -126,11 +126,11 @@ fn good_line(form: Form, line: &[u8]) -> Option<DriveLine<'_>> {
 }
 
 /// Does what a line says, if it says anything, and hands on what was printed.
-fn do_line<A: Allocator + Copy, D: Device, W: Write>(
-    alloc: A,
-    driver: &mut Driver<A>,
+fn do_line<T: Tables, D: Device, W: Write>(
+    alloc: T::Heap,
+    driver: &mut Driver<T::Heap>,
     device: &mut D,
-    notes: &mut Notes<A>,
+    notes: &mut Notes<T>,
     line: &[u8],
     out: &mut W,
 ) -> Result<(), Stop>
@@ -154,11 +154,11 @@ fn flush<W: Write>(out: &mut W) -> Result<(), Stop> {
 }
 
 /// Does what the lines of a script say.
-fn run_lines<A: Allocator + Copy, D: Device, W: Write>(
-    alloc: A,
-    driver: &mut Driver<A>,
+fn run_lines<T: Tables, D: Device, W: Write>(
+    alloc: T::Heap,
+    driver: &mut Driver<T::Heap>,
     device: &mut D,
-    notes: &mut Notes<A>,
+    notes: &mut Notes<T>,
     text: &[u8],
     out: &mut W,
 ) -> Result<(), Stop>
@@ -179,11 +179,11 @@ fn run_lines<A: Allocator + Copy, D: Device, W: Write>(
 }
 
 /// Does what a script says whose lines are good, behind a mount where it is one of calls.
-pub(crate) fn run_text<A: Allocator + Copy, D: Device, W: Write>(
-    alloc: A,
-    driver: &mut Driver<A>,
+pub(crate) fn run_text<T: Tables, D: Device, W: Write>(
+    alloc: T::Heap,
+    driver: &mut Driver<T::Heap>,
     device: &mut D,
-    notes: &mut Notes<A>,
+    notes: &mut Notes<T>,
     text: &[u8],
     out: &mut W,
 ) -> Result<(), Stop>
@@ -199,9 +199,9 @@ pub(crate) fn run_text<A: Allocator + Copy, D: Device, W: Write>(
 }
 
 /// Prints what is known at the end: the nodes that the kernel counts, and how the answers of a world beside compare.
-pub(crate) fn print_end<A: Allocator + Copy, W: Write>(
-    driver: &Driver<A>,
-    notes: &Notes<A>,
+pub(crate) fn print_end<T: Tables, W: Write>(
+    driver: &Driver<T::Heap>,
+    notes: &Notes<T>,
     out: &mut W,
 ) -> Result<(), Stop> {
     show(driver, out)?;

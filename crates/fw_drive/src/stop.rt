@@ -1,4 +1,4 @@
-//! Why a driven run comes to its end before its script does.
+//! Why a driven run ends before its script does.
 
 ghost use Rattle.std.specs.Prelude.{◌∷◌, [], Contains};
 
@@ -10,7 +10,7 @@ use fw_script::{OutputRefused, no_memory};
 use std::alloc::Allocator;
 use std::io::Write;
 
-/// Why a run comes to its end before its script does.
+/// Why a run ends before its script does.
 #[derive(Clone, Copy, Debug, PartialEq, Eq)]
 pub(crate) enum Stop {
     /// The server's side of the device came to its end.
@@ -19,7 +19,7 @@ pub(crate) enum Stop {
     NoReply,
     /// The device failed: it took no frame, or what came was none.
     DeviceFailed,
-    /// Memory is wanting.
+    /// Out of memory.
     NoMemory,
     /// The kernel refused the error reply for a directory that could not be opened.
     Refused(Refusal),

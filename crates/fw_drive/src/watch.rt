@@ -57,7 +57,7 @@ impl<A: Allocator + Copy> Watch<A> {
     ///
     /// # Errors
     ///
-    /// Memory is wanting.
+    /// Out of memory.
     pub(crate) fn note_mount(&mut self) -> Result<(), AllocError> {
         self.nodes.clear();
         for (unique, request) in &self.sent {

@@ -18,7 +18,7 @@ pub data KernelHappens (A : Type 0) (old : Kernel) (event : KernelEvent) : Kerne
   refused : (refusal : Refusal) → KernelRefuses old event refusal → KernelHappens A old event old
 
 -- A line is done: the event happens that it says; or nothing changes, where it says none (it asks for the nodes, is
--- passed over or is at fault), or where memory is wanting for its bytes.
+-- passed over or is at fault), or where memory runs out for its bytes.
 pub data DoesKernelLine (A : Type 0) (old : Kernel) (text : List ℕ) : Kernel → Type 0 where
   event : (event : KernelEvent) → SaysEvent text event → (new : Kernel) → KernelHappens A old event new
       → DoesKernelLine A old text new

@@ -24,7 +24,7 @@ pub record TakesReply (old : Kernel) (bytes : List ℕ) (result : WriteResult) (
   pub taken : HasReplyHead bytes
       → IsReplyWritten old (head_unique bytes) bytes (awaited old (head_unique bytes)) result new
 
--- An accepted event comes to this step, and makes this of the kernel.
+-- An accepted event results in this step, and makes this of the kernel.
 abbrev pub KernelDoes : {A : Type 0} → Kernel → KernelEvent → KernelStep A → Kernel → Type 0
 KernelDoes old event.Mount step.Mounted new = (mount_refusal old ≡ None) × (new ≡ kernel_mounted old)
 KernelDoes old (event.Call call) (step.Begun number) new =

@@ -13,7 +13,7 @@ pub data ServerHappens (A : Type 0) (old : Server) (event : ServerEvent) : Serve
   refused : (why : ServerRefused) → ServerRefuses old event why → ServerHappens A old event old
 
 -- A line is done: the event happens that it says; or nothing changes, where it says none (it asks for the nodes, is
--- passed over or is at fault), or where memory is wanting for its bytes.
+-- passed over or is at fault), or where memory runs out for its bytes.
 pub data DoesServerLine (A : Type 0) (old : Server) (text : List ℕ) : Server → Type 0 where
   event : (event : ServerEvent) → SaysServerEvent text event → (new : Server) → ServerHappens A old event new
       → DoesServerLine A old text new

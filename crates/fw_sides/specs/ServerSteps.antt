@@ -19,7 +19,7 @@ use Rattle.fw_sides.specs.declared.server_event.ServerStep.TheVariants as step
 use Rattle.fw_sides.specs.declared.server_event.ServerRefused.{ServerRefused}
 use Rattle.fw_sides.specs.declared.server_event.ServerRefused.TheVariants as refused
 
--- An accepted event comes to this step, and makes this of the server.
+-- An accepted event results in this step, and makes this of the server.
 abbrev pub ServerDoes : {A : Type 0} → Server → ServerEvent → ServerStep A → Server → Type 0
 ServerDoes old (event.Mount found missing minor) step.Mounted new =
     (found ≤ max_validity) × (missing ≤ max_validity)

@@ -33,8 +33,3 @@ pub(crate) fn next_line<A: Allocator, R: BufRead>(
         Err(_) => Err(End::CannotRead),
     }
 }
-
-/// Whether a line is passed over: an empty one, and a comment.
-pub(crate) fn is_passed_over(line: &[u8]) -> bool {
-    matches!(line, [] | [b'#', ..])
-}

@@ -3,9 +3,11 @@
 ghost use Rattle.std.specs.Prelude.{◌≡◌, IfErr, IfOk, OnErr};
 ghost use Rattle.fw_sides.specs.KernelSteps.{KernelDoes, KernelRefuses};
 
-use fk_kernel::{Call, Kernel, Pick};
+use fk_kernel::{Call, KernelOf, Pick};
+use fk_lookup_count::CountTable;
+use fk_queues::QueueTable;
 use fuse_frames::RequestFrame;
-use fuse_spec::{IntrEffect, Refusal, WriteResult};
+use fuse_spec::{IntrEffect, Purpose, Refusal, WriteResult};
 use std::alloc::{Allocator, Global};
 
 /// One event of a kernel whose server is another program. Paths, names and bytes are lent.
@@ -38,7 +40,7 @@ pub enum KernelStep<A: Allocator = Global> {
     Begun { call: u64 },
     /// The frame that was read, which goes to the server.
     Read(RequestFrame<A>),
-    /// What the writer of a reply is told.
+    /// What the writer of a reply gets.
     Written(WriteResult),
     /// What the signal did to the call's request.
     Interrupted { call: u64, effect: IntrEffect },
@@ -55,10 +57,10 @@ pub enum KernelStep<A: Allocator = Global> {
 /// # Errors
 ///
 /// As the kernel's own calls refuse it: want of memory last. The kernel is then as before.
-pub fn step_kernel<A: Allocator + Copy>(
-    kernel: &mut Kernel<A>,
+pub fn step_kernel<Q: QueueTable<Purpose> + Drop, C: CountTable<Heap = Q::Heap> + Drop>(
+    kernel: &mut KernelOf<Q, C>,
     event: &KernelEvent<'_>,
-) -> Result<KernelStep<A>, Refusal>
+) -> Result<KernelStep<Q::Heap>, Refusal>
     ensures does { IfOk result (λ step. KernelDoes kernel.old event.now step kernel.new) }
     ensures refused { IfErr result (KernelRefuses kernel.old event.now) }
     ensures err { OnErr result (kernel.new ≡ kernel.old) }

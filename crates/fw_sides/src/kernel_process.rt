@@ -8,26 +8,29 @@ ghost use Rattle.fuse_spec.specs.World.Worlds.{first_kernel};
 ghost use Rattle.fw_sides.specs.KernelRuns.{DoesKernelLine, DoesKernelLines, KernelHappens};
 
 use crate::form::Form;
-use crate::input::{End, is_passed_over, next_line};
+use crate::input::{End, next_line};
 use crate::kernel_event::{KernelEvent, step_kernel};
 use crate::kernel_line::{KernelLine, read_kernel_line};
 use crate::kernel_text::print_kernel_step;
 use crate::nodes_text::print_nodes;
 use crate::refusal_text::{print_line_fault, print_refusal};
-use fk_kernel::{Call, Kernel};
-use fuse_spec::Refusal;
-use fw_script::{OutputRefused, read_hex_or_none};
+use fk_kernel::{Call, KernelOf};
+use fk_lookup_count::CountTable;
+use fk_queues::QueueTable;
+use fuse_spec::{Purpose, Refusal};
+use fw_script::{OutputRefused, is_passed_over, read_hex_or_none};
+use fw_world::{Maps, Tables};
 use std::alloc::Allocator;
 use std::io::{BufRead, Write};
 
 /// One event happens, and what it came to is printed.
-fn run_event<A: Allocator + Copy, W: Write>(
-    kernel: &mut Kernel<A>,
+fn run_event<Q: QueueTable<Purpose> + Drop, C: CountTable<Heap = Q::Heap> + Drop, W: Write>(
+    kernel: &mut KernelOf<Q, C>,
     event: &KernelEvent<'_>,
     form: Form,
     out: &mut W,
 ) -> Result<(), OutputRefused>
-    ensures { OnOk result (KernelHappens A kernel.old event.now kernel.new) }
+    ensures { OnOk result (KernelHappens Q.Heap kernel.old event.now kernel.new) }
 {
     match step_kernel(kernel, event) {
         Ok(step) => print_kernel_step(out, form, &step, kernel),
@@ -36,15 +39,15 @@ fn run_event<A: Allocator + Copy, W: Write>(
 }
 
 /// Bytes that stand in hex are written as a reply.
-fn write_reply<A: Allocator + Copy, W: Write>(
-    kernel: &mut Kernel<A>,
-    bytes: &mut Vec<u8, A>,
+fn write_reply<Q: QueueTable<Purpose> + Drop, C: CountTable<Heap = Q::Heap> + Drop, W: Write>(
+    kernel: &mut KernelOf<Q, C>,
+    bytes: &mut Vec<u8, Q::Heap>,
     hex: &[u8],
     form: Form,
     out: &mut W,
 ) -> Result<(), OutputRefused>
     requires { IsHexOrNone hex.now }
-    ensures { OnOk result (DoesKernelLine A kernel.old (codes "write " ++ hex.now) kernel.new) }
+    ensures { OnOk result (DoesKernelLine Q.Heap kernel.old (codes "write " ++ hex.now) kernel.new) }
 {
     match read_hex_or_none(bytes, hex) {
         Ok(()) => run_event(kernel, &KernelEvent::Write(bytes.as_slice()), form, out),
@@ -53,9 +56,9 @@ fn write_reply<A: Allocator + Copy, W: Write>(
 }
 
 /// A call begins that puts bytes into an open file, which stand in hex.
-fn begin_write<A: Allocator + Copy, W: Write>(
-    kernel: &mut Kernel<A>,
-    bytes: &mut Vec<u8, A>,
+fn begin_write<Q: QueueTable<Purpose> + Drop, C: CountTable<Heap = Q::Heap> + Drop, W: Write>(
+    kernel: &mut KernelOf<Q, C>,
+    bytes: &mut Vec<u8, Q::Heap>,
     place: (u64, u64),
     hex: &[u8],
     form: Form,
@@ -63,7 +66,7 @@ fn begin_write<A: Allocator + Copy, W: Write>(
 ) -> Result<(), OutputRefused>
     requires { IsHexOrNone hex.now }
     ensures { OnOk result ((text : List ℕ) → SaysLine text (KernelLine.CallWrite place.0 place.1 hex.entry)
-        → DoesKernelLine A kernel.old text kernel.new) }
+        → DoesKernelLine Q.Heap kernel.old text kernel.new) }
 {
     let (open_call, offset) = place;
     match read_hex_or_none(bytes, hex) {
@@ -81,9 +84,9 @@ fn begin_write<A: Allocator + Copy, W: Write>(
 }
 
 /// Prints the nodes that the kernel counts.
-fn show<A: Allocator + Copy, W: Write>(
-    alloc: A,
-    kernel: &Kernel<A>,
+fn show<Q: QueueTable<Purpose> + Drop, C: CountTable<Heap = Q::Heap> + Drop, W: Write>(
+    alloc: Q::Heap,
+    kernel: &KernelOf<Q, C>,
     form: Form,
     out: &mut W,
 ) -> Result<(), OutputRefused> {
@@ -94,15 +97,15 @@ fn show<A: Allocator + Copy, W: Write>(
 }
 
 /// Does what a line says, and prints what it came to. `bytes` is room for what stands in hex.
-fn run_line<A: Allocator + Copy, W: Write>(
-    alloc: A,
-    kernel: &mut Kernel<A>,
-    bytes: &mut Vec<u8, A>,
+fn run_line<Q: QueueTable<Purpose> + Drop, C: CountTable<Heap = Q::Heap> + Drop, W: Write>(
+    alloc: Q::Heap,
+    kernel: &mut KernelOf<Q, C>,
+    bytes: &mut Vec<u8, Q::Heap>,
     line: &[u8],
     form: Form,
     out: &mut W,
 ) -> Result<(), OutputRefused>
-    ensures { OnOk result (DoesKernelLine A kernel.old line.now kernel.new) }
+    ensures { OnOk result (DoesKernelLine Q.Heap kernel.old line.now kernel.new) }
 {
     match read_kernel_line(line) {
         Ok(KernelLine::Event(event)) => run_event(kernel, &event, form, out),
@@ -127,14 +130,14 @@ struct Room<A: Allocator> {
 }
 
 /// Does what a line says, if it says anything, and hands on what was printed.
-fn do_line<A: Allocator + Copy, W: Write>(
-    alloc: A,
-    kernel: &mut Kernel<A>,
-    room: &mut Room<A>,
+fn do_line<Q: QueueTable<Purpose> + Drop, C: CountTable<Heap = Q::Heap> + Drop, W: Write>(
+    alloc: Q::Heap,
+    kernel: &mut KernelOf<Q, C>,
+    room: &mut Room<Q::Heap>,
     form: Form,
     out: &mut W,
 ) -> Result<(), OutputRefused>
-    ensures { OnOk result (DoesKernelLine A kernel.old room.old.line.items kernel.new) }
+    ensures { OnOk result (DoesKernelLine Q.Heap kernel.old room.old.line.items kernel.new) }
 {
     if is_passed_over(room.line.as_slice()) {
         return Ok(());
@@ -151,15 +154,20 @@ fn do_line<A: Allocator + Copy, W: Write>(
 }
 
 /// Reads the next line and does what it says. Says whether there was one.
-fn run_next<A: Allocator + Copy, R: BufRead, W: Write>(
-    alloc: A,
-    kernel: &mut Kernel<A>,
-    room: &mut Room<A>,
+fn run_next<
+    Q: QueueTable<Purpose> + Drop,
+    C: CountTable<Heap = Q::Heap> + Drop,
+    R: BufRead,
+    W: Write,
+>(
+    alloc: Q::Heap,
+    kernel: &mut KernelOf<Q, C>,
+    room: &mut Room<Q::Heap>,
     form: Form,
     input: &mut R,
     out: &mut W,
 ) -> Result<bool, End>
-    ensures { OnOk result ((text : List ℕ) × DoesKernelLine A kernel.old text kernel.new) }
+    ensures { OnOk result ((text : List ℕ) × DoesKernelLine Q.Heap kernel.old text kernel.new) }
 {
     if !next_line(input, &mut room.line)? {
         return Ok(false);
@@ -171,13 +179,13 @@ fn run_next<A: Allocator + Copy, R: BufRead, W: Write>(
 }
 
 /// Does what the next lines say, until the input ends.
-fn run_lines<A: Allocator + Copy, R: BufRead, W: Write>(
-    alloc: A,
-    kernel: &mut Kernel<A>,
-    form: Form,
-    input: &mut R,
-    out: &mut W,
-) -> Result<(), End>
+fn run_lines<
+    A: Allocator + Copy,
+    Q: QueueTable<Purpose, Heap = A> + Drop,
+    C: CountTable<Heap = A> + Drop,
+    R: BufRead,
+    W: Write,
+>(alloc: A, kernel: &mut KernelOf<Q, C>, form: Form, input: &mut R, out: &mut W) -> Result<(), End>
     ensures { OnOk result ((lines : List (List ℕ)) × DoesKernelLines A kernel.old lines kernel.new) }
 {
     let mut room = Room {
@@ -194,6 +202,22 @@ fn run_lines<A: Allocator + Copy, R: BufRead, W: Write>(
     Ok(())
 }
 
+/// Runs a new kernel over any tables.
+fn run_new<T: Tables, R: BufRead, W: Write>(
+    alloc: T::Heap,
+    form: Form,
+    input: &mut R,
+    out: &mut W,
+) -> Result<(), End>
+    ensures { OnOk result ((lines : List (List ℕ)) × (last : KernelState) × DoesKernelLines T.Heap first_kernel lines last) }
+{
+    let mut kernel = KernelOf::<T::Queues, T::Counts>::new(alloc);
+    let ended = run_lines(alloc, &mut kernel, form, input, out);
+    // By a call, since at the end of a scope the whole drop is proved as part of this function.
+    drop(kernel);
+    ended
+}
+
 /// Runs a kernel whose server is another program: each line of the input is one call on it, and what that came to is
 /// printed before the next line is read. A line that is refused, or that says nothing, changes nothing.
 ///
@@ -208,9 +232,5 @@ pub fn run_kernel<A: Allocator + Copy, R: BufRead, W: Write>(
 ) -> Result<(), End>
     ensures { OnOk result ((lines : List (List ℕ)) × (last : KernelState) × DoesKernelLines A first_kernel lines last) }
 {
-    let mut kernel = Kernel::new(alloc);
-    let ended = run_lines(alloc, &mut kernel, form, input, out);
-    // By a call, since at the end of a scope the whole drop is proved as part of this function.
-    drop(kernel);
-    ended
+    run_new::<Maps<A>, R, W>(alloc, form, input, out)
 }

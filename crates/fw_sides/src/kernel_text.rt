@@ -7,8 +7,11 @@ use crate::answer_text::print_answer;
 use crate::form::{Form, Printer};
 use crate::kernel_event::KernelStep;
 use crate::refusal_text::result_number;
-use fk_kernel::{Answer, Kernel};
+use fk_kernel::{Answer, KernelOf};
+use fk_lookup_count::CountTable;
+use fk_queues::QueueTable;
 use fuse_frames::RequestFrame;
+use fuse_spec::Purpose;
 use fw_script::{OutputRefused, word_of_effect, write_record};
 use fw_world::Record;
 use std::alloc::Allocator;
@@ -81,10 +84,10 @@ fn print_answered<A: Allocator + Copy, W: Write>(
 }
 
 /// Collects the answers that wait, in rising number of their calls, and prints them.
-fn print_answers<A: Allocator + Copy, W: Write>(
+fn print_answers<Q: QueueTable<Purpose> + Drop, C: CountTable<Heap = Q::Heap> + Drop, W: Write>(
     out: &mut W,
     form: Form,
-    kernel: &mut Kernel<A>,
+    kernel: &mut KernelOf<Q, C>,
 ) -> Result<(), OutputRefused>
     ensures { OnOk result (kernel.new ≡ all_collected kernel.old) }
 {
@@ -101,11 +104,15 @@ fn print_answers<A: Allocator + Copy, W: Write>(
 /// # Errors
 ///
 /// The output refused.
-pub(crate) fn print_kernel_step<A: Allocator + Copy, W: Write>(
+pub(crate) fn print_kernel_step<
+    Q: QueueTable<Purpose> + Drop,
+    C: CountTable<Heap = Q::Heap> + Drop,
+    W: Write,
+>(
     out: &mut W,
     form: Form,
-    step: &KernelStep<A>,
-    kernel: &mut Kernel<A>,
+    step: &KernelStep<Q::Heap>,
+    kernel: &mut KernelOf<Q, C>,
 ) -> Result<(), OutputRefused>
     ensures { OnOk result (kernel.new ≡ all_collected kernel.old) }
 {

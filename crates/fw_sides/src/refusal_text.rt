@@ -5,7 +5,7 @@ use fuse_spec::{Refusal, WriteResult};
 use fw_script::{LineFault, OutputRefused, name_of_refusal, number_of_refusal};
 use std::io::Write;
 
-/// The number of what a writer is told: 0, ENOENT or EINVAL.
+/// The number of what a writer gets: 0, ENOENT or EINVAL.
 pub(crate) fn result_number(written: WriteResult) -> u64 {
     match written {
         WriteResult::Accepted => 0,

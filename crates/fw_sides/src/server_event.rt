@@ -3,7 +3,7 @@
 ghost use Rattle.std.specs.Prelude.{◌≡◌, IfErr, IfOk, OnErr};
 ghost use Rattle.fw_sides.specs.ServerSteps.{ServerDoes, ServerRefuses};
 
-use fs_server::{Done, Server, ServerFault, Taken};
+use fs_server::{Done, NodeStore, ServerFault, ServerOf, Taken};
 use fuse_frames::Sent;
 use fuse_spec::limits::MAX_VALIDITY;
 use fuse_spec::{Minor, Refusal, WriteResult};
@@ -25,7 +25,7 @@ pub enum ServerEvent<'a> {
     Do(u64),
     /// One more copy of the reply that is kept under a unique is sent.
     Again(u64),
-    /// The server is told what the writer of a copy was told.
+    /// The server gets what the writer of a copy got.
     Settle {
         copy: u64,
         result: WriteResult,
@@ -57,12 +57,12 @@ pub enum ServerRefused {
 }
 
 /// A kernel mounts the server, where its validities are at most a day each.
-fn mount<A: Allocator + Copy>(
-    server: &mut Server<A>,
+fn mount<S: NodeStore>(
+    server: &mut ServerOf<S>,
     found_ms: u64,
     missing_ms: u64,
     minor: Minor,
-) -> Result<ServerStep<A>, ServerRefused>
+) -> Result<ServerStep<S::Heap>, ServerRefused>
     ensures does { IfOk result (λ step.
         ServerDoes server.old (ServerEvent.Mount found_ms missing_ms minor) step server.new) }
     ensures refused { IfErr result (ServerRefuses server.old (ServerEvent.Mount found_ms missing_ms minor)) }
@@ -76,10 +76,10 @@ fn mount<A: Allocator + Copy>(
 }
 
 /// Bytes are taken as a request.
-fn take<A: Allocator + Copy>(
-    server: &mut Server<A>,
+fn take<S: NodeStore>(
+    server: &mut ServerOf<S>,
     bytes: &[u8],
-) -> Result<ServerStep<A>, ServerRefused>
+) -> Result<ServerStep<S::Heap>, ServerRefused>
     ensures does { IfOk result (λ step. ServerDoes server.old (ServerEvent.Take bytes.entry) step server.new) }
     ensures refused { IfErr result (ServerRefuses server.old (ServerEvent.Take bytes.entry)) }
     ensures err { OnErr result (server.new ≡ server.old) }
@@ -99,10 +99,10 @@ fn take<A: Allocator + Copy>(
 ///
 /// `BadTime` for a mount with a validity of more than a day, and else as the server's own calls refuse it: want of
 /// memory last. The server is then as before.
-pub fn step_server<A: Allocator + Copy>(
-    server: &mut Server<A>,
+pub fn step_server<S: NodeStore>(
+    server: &mut ServerOf<S>,
     event: &ServerEvent<'_>,
-) -> Result<ServerStep<A>, ServerRefused>
+) -> Result<ServerStep<S::Heap>, ServerRefused>
     ensures does { IfOk result (λ step. ServerDoes server.old event.now step server.new) }
     ensures refused { IfErr result (ServerRefuses server.old event.now) }
     ensures err { OnErr result (server.new ≡ server.old) }

@@ -73,7 +73,7 @@ fn read_take(rest: Option<&[u8]>) -> Result<ServerLine<'_>, LineFault>
     Ok(ServerLine::Take { hex })
 }
 
-/// What a writer was told, by the number that is printed for it.
+/// What a writer got, by the number that is printed for it.
 fn result_of(number: u64) -> Option<WriteResult>
     ensures { IfSome result (λ told. settled_number told ≡ number) }
 {

@@ -7,26 +7,27 @@ ghost use Rattle.fuse_spec.specs.World.Worlds.{first_server};
 ghost use Rattle.fw_sides.specs.ServerRuns.{DoesServerLine, DoesServerLines, ServerHappens};
 
 use crate::form::Form;
-use crate::input::{End, is_passed_over, next_line};
+use crate::input::{End, next_line};
 use crate::nodes_text::print_nodes;
 use crate::refusal_text::{print_line_fault, print_refusal};
 use crate::server_event::{ServerEvent, step_server};
 use crate::server_line::{ServerLine, read_server_line};
 use crate::server_text::{print_server_refused, print_server_step};
-use fs_server::Server;
+use fs_server::{NodeStore, ServerOf};
 use fuse_spec::Refusal;
-use fw_script::{OutputRefused, read_hex_or_none};
+use fw_script::{OutputRefused, is_passed_over, read_hex_or_none};
+use fw_world::{Maps, Tables};
 use std::alloc::Allocator;
 use std::io::{BufRead, Write};
 
 /// One event happens, and what it came to is printed.
-fn run_event<A: Allocator + Copy, W: Write>(
-    server: &mut Server<A>,
+fn run_event<S: NodeStore, W: Write>(
+    server: &mut ServerOf<S>,
     event: &ServerEvent<'_>,
     form: Form,
     out: &mut W,
 ) -> Result<(), OutputRefused>
-    ensures { OnOk result (ServerHappens A server.old event.now server.new) }
+    ensures { OnOk result (ServerHappens S.Heap server.old event.now server.new) }
 {
     match step_server(server, event) {
         Ok(step) => print_server_step(out, form, &step),
@@ -35,15 +36,15 @@ fn run_event<A: Allocator + Copy, W: Write>(
 }
 
 /// Bytes that stand in hex are taken as a request.
-fn take<A: Allocator + Copy, W: Write>(
-    server: &mut Server<A>,
-    bytes: &mut Vec<u8, A>,
+fn take<S: NodeStore, W: Write>(
+    server: &mut ServerOf<S>,
+    bytes: &mut Vec<u8, S::Heap>,
     hex: &[u8],
     form: Form,
     out: &mut W,
 ) -> Result<(), OutputRefused>
     requires { IsHexOrNone hex.now }
-    ensures { OnOk result (DoesServerLine A server.old (codes "take " ++ hex.now) server.new) }
+    ensures { OnOk result (DoesServerLine S.Heap server.old (codes "take " ++ hex.now) server.new) }
 {
     match read_hex_or_none(bytes, hex) {
         Ok(()) => run_event(server, &ServerEvent::Take(bytes.as_slice()), form, out),
@@ -52,9 +53,9 @@ fn take<A: Allocator + Copy, W: Write>(
 }
 
 /// Prints the nodes that the server holds.
-fn show<A: Allocator + Copy, W: Write>(
-    alloc: A,
-    server: &Server<A>,
+fn show<S: NodeStore, W: Write>(
+    alloc: S::Heap,
+    server: &ServerOf<S>,
     form: Form,
     out: &mut W,
 ) -> Result<(), OutputRefused> {
@@ -65,15 +66,15 @@ fn show<A: Allocator + Copy, W: Write>(
 }
 
 /// Does what a line says, and prints what it came to. `bytes` is room for what stands in hex.
-fn run_line<A: Allocator + Copy, W: Write>(
-    alloc: A,
-    server: &mut Server<A>,
-    bytes: &mut Vec<u8, A>,
+fn run_line<S: NodeStore, W: Write>(
+    alloc: S::Heap,
+    server: &mut ServerOf<S>,
+    bytes: &mut Vec<u8, S::Heap>,
     line: &[u8],
     form: Form,
     out: &mut W,
 ) -> Result<(), OutputRefused>
-    ensures { OnOk result (DoesServerLine A server.old line.now server.new) }
+    ensures { OnOk result (DoesServerLine S.Heap server.old line.now server.new) }
 {
     match read_server_line(line) {
         Ok(ServerLine::Event(event)) => run_event(server, &event, form, out),
@@ -91,14 +92,14 @@ struct Room<A: Allocator> {
 }
 
 /// Does what a line says, if it says anything, and hands on what was printed.
-fn do_line<A: Allocator + Copy, W: Write>(
-    alloc: A,
-    server: &mut Server<A>,
-    room: &mut Room<A>,
+fn do_line<S: NodeStore, W: Write>(
+    alloc: S::Heap,
+    server: &mut ServerOf<S>,
+    room: &mut Room<S::Heap>,
     form: Form,
     out: &mut W,
 ) -> Result<(), OutputRefused>
-    ensures { OnOk result (DoesServerLine A server.old room.old.line.items server.new) }
+    ensures { OnOk result (DoesServerLine S.Heap server.old room.old.line.items server.new) }
 {
     if is_passed_over(room.line.as_slice()) {
         return Ok(());
@@ -115,15 +116,15 @@ fn do_line<A: Allocator + Copy, W: Write>(
 }
 
 /// Reads the next line and does what it says. Says whether there was one.
-fn run_next<A: Allocator + Copy, R: BufRead, W: Write>(
-    alloc: A,
-    server: &mut Server<A>,
-    room: &mut Room<A>,
+fn run_next<S: NodeStore, R: BufRead, W: Write>(
+    alloc: S::Heap,
+    server: &mut ServerOf<S>,
+    room: &mut Room<S::Heap>,
     form: Form,
     input: &mut R,
     out: &mut W,
 ) -> Result<bool, End>
-    ensures { OnOk result ((text : List ℕ) × DoesServerLine A server.old text server.new) }
+    ensures { OnOk result ((text : List ℕ) × DoesServerLine S.Heap server.old text server.new) }
 {
     if !next_line(input, &mut room.line)? {
         return Ok(false);
@@ -135,9 +136,9 @@ fn run_next<A: Allocator + Copy, R: BufRead, W: Write>(
 }
 
 /// Does what the next lines say, until the input ends.
-fn run_lines<A: Allocator + Copy, R: BufRead, W: Write>(
+fn run_lines<A: Allocator + Copy, S: NodeStore<Heap = A>, R: BufRead, W: Write>(
     alloc: A,
-    server: &mut Server<A>,
+    server: &mut ServerOf<S>,
     form: Form,
     input: &mut R,
     out: &mut W,
@@ -158,15 +159,30 @@ fn run_lines<A: Allocator + Copy, R: BufRead, W: Write>(
     Ok(())
 }
 
-/// Lets a server go.
-fn let_go<A: Allocator + Copy>(_server: Server<A>) {}
+/// Runs a new server over any tables.
+fn run_new<T: Tables, R: BufRead, W: Write>(
+    alloc: T::Heap,
+    form: Form,
+    input: &mut R,
+    out: &mut W,
+) -> Result<(), End>
+    ensures { OnOk result ((lines : List (List ℕ)) × (last : ServerState) × DoesServerLines T.Heap first_server lines last) }
+{
+    let Ok(mut server) = ServerOf::<T::Nodes>::new(alloc) else {
+        return Err(End::NoMemory);
+    };
+    let ended = run_lines(alloc, &mut server, form, input, out);
+    // By a call, since at the end of a scope the whole drop is proved as part of this function.
+    drop(server);
+    ended
+}
 
 /// Runs a server whose kernel is another program: each line of the input is one call on it, and what that came to is
 /// printed before the next line is read. A line that is refused, or that says nothing, changes nothing.
 ///
 /// # Errors
 ///
-/// Where memory is wanting for the server, where the input cannot be read, where a line has no room in memory, or where
+/// Where memory runs out for the server, where the input cannot be read, where a line has no room in memory, or where
 /// the output refuses.
 pub fn run_server<A: Allocator + Copy, R: BufRead, W: Write>(
     alloc: A,
@@ -176,10 +192,5 @@ pub fn run_server<A: Allocator + Copy, R: BufRead, W: Write>(
 ) -> Result<(), End>
     ensures { OnOk result ((lines : List (List ℕ)) × (last : ServerState) × DoesServerLines A first_server lines last) }
 {
-    let Ok(mut server) = Server::new(alloc) else {
-        return Err(End::NoMemory);
-    };
-    let ended = run_lines(alloc, &mut server, form, input, out);
-    let_go(server);
-    ended
+    run_new::<Maps<A>, R, W>(alloc, form, input, out)
 }

@@ -9,5 +9,5 @@ returns-in-Ok g c = whatever c.print_server_step.result
 
 pub returns-in-Err : goal.returns-in-Err
 returns-in-Err g c = whatever c.print_server_refused.result
-    (subst (ServerHappens g.row.A.Denot c.args.server.now c.args.event.now) (sym c.in-Err.ensures.err)
+    (subst (ServerHappens _ c.args.server.now c.args.event.now) (sym c.in-Err.ensures.err)
     (refused c.in-Err.refused c.in-Err.ensures.refused))

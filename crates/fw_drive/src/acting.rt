@@ -1,0 +1,55 @@
+//! What the kernel does without its server.
+
+ghost use Rattle.std.specs.Prelude.{◌≡◌, IfOk, OnErr};
+ghost use Rattle.fw_drive.specs.Acts.{Acts};
+
+use fk_kernel::KernelOf;
+use fk_lookup_count::CountTable;
+use fk_queues::QueueTable;
+use fuse_spec::{Purpose, Refusal};
+use fw_world::{Event, Outcome};
+
+/// An event happens that moves the kernel without its server. Any other is refused.
+///
+/// # Errors
+///
+/// As the kernel refuses it. Nothing is then changed.
+pub(crate) fn act<Q: QueueTable<Purpose> + Drop, C: CountTable<Heap = Q::Heap> + Drop>(
+    kernel: &mut KernelOf<Q, C>,
+    event: &Event<'_>,
+) -> Result<Outcome, Refusal>
+    ensures does { IfOk result (λ outcome. Acts kernel.old event.now outcome kernel.new) }
+    ensures err { OnErr result (kernel.new ≡ kernel.old) }
+{
+    match *event {
+        Event::Mount { .. } => {
+            kernel.mount()?;
+            Ok(Outcome::Mounted)
+        }
+        Event::Call(call) => {
+            let call = kernel.begin(&call)?;
+            Ok(Outcome::Begun { call })
+        }
+        Event::Interrupt { call, fatal } => {
+            let effect = kernel.interrupt(call, fatal)?;
+            Ok(Outcome::Interrupted { call, effect })
+        }
+        Event::Tick(ms) => {
+            let clock = kernel.tick(ms)?;
+            Ok(Outcome::Now { clock })
+        }
+        Event::DropName { directory, name } => {
+            kernel.drop_binding(directory, name)?;
+            Ok(Outcome::Dropped)
+        }
+        Event::Evict(node) => {
+            let count = kernel.evict(node)?;
+            Ok(Outcome::Evicted { node, count })
+        }
+        Event::Abort => {
+            kernel.abort()?;
+            Ok(Outcome::Aborted)
+        }
+        _ => Err(Refusal::NoSuch),
+    }
+}
