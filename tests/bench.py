@@ -319,7 +319,7 @@ def pages(n, word, a_page):
     for name in range(n):
         script.ask(f"mkdir /l/{name}")
     script.prepare()
-    # Offsets are the names' serials, which rise by one from that of /l, which is 1.
+    # Offsets are the names' cookies, which rise by one from that of /l, which is 1.
     for first in range(1, n + 1, a_page):
         script.ask(f"{word} /l {first}")
     return script

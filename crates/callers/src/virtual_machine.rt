@@ -18,7 +18,7 @@ pub enum Served {
     NoReply,
     /// Its reply has no room in the buffer, and what it counted is given back.
     NoRoom,
-    /// Memory or a number is wanting: the request is held under its number, and may be performed again.
+    /// Out of memory or of numbers: the request is held under its number, and may be performed again.
     Waits(u64),
     /// It is no request, or is at fault: the server is as before.
     Refused(ServerFault),

@@ -1,11 +1,11 @@
--- What the reply to a call's request makes of the names in force.
+-- What the reply to a call's request makes of the cached names.
 use Rattle.std.specs.Prelude.{ℕ}
 use Rattle.fuse_spec.specs.declared.Dentry.{Dentry}
 use Rattle.fuse_spec.specs.declared.Opened.{Opened}
 use Rattle.fuse_spec.specs.Values.Maps.{NameMap, remove_name}
 use Rattle.fuse_spec.specs.Files.Operations.{Operation, unlink, rmdir, rename}
 
--- The names in force once the operation is done.
+-- The cached names once the operation is done.
 abbrev pub names_left : Operation ℕ Opened → NameMap Dentry → NameMap Dentry
 names_left (unlink directory name) names = remove_name names (directory, name)
 names_left (rmdir directory name) names = remove_name names (directory, name)

@@ -1,4 +1,4 @@
-//! How calls are answered, and what the writer of a reply is told.
+//! How calls are answered, and what the writer of a reply gets.
 
 ghost use Rattle.std.specs.Prelude.{◌≡◌, ◌≢◌, ◌+◌, ◌<◌, ◌≤◌, ◌↔◌, ℕ, IsTrue, None, T, cond, length};
 ghost use Rattle.std.specs.FinMap.{is_sorted};
@@ -61,7 +61,7 @@ pub fn is_interrupted(effect: IntrEffect) -> bool
     matches!(effect, IntrEffect::Dequeued)
 }
 
-/// What the writer of a reply that awaits one is told, by whether its body goes with the request.
+/// What the writer of an awaited reply gets, by whether its body goes with the request.
 pub fn result_of(goes: bool) -> WriteResult
     ensures { result ≡ cond goes WriteResult.Accepted WriteResult.Invalid }
 {

@@ -1,4 +1,4 @@
-//! The kernel's unanswered calls, over tables: how they are answered, which names in force go or come with a reply,
+//! The kernel's unanswered calls, over tables: how they are answered, which cached names go or come with a reply,
 //! which open files they use, and which nodes they pin.
 #![tactic(auto)]
 

@@ -1,4 +1,4 @@
-//! Which names in force go with a reply, and which come.
+//! Which cached names go with a reply, and which come.
 
 ghost use Rattle.std.specs.Prelude.{◌≡◌, ◌+◌, ◌<◌, ◌^◌, Some, None, OnOk, OnErr};
 ghost use Rattle.fuse_spec.specs.Values.Maps.{get, put_name};
@@ -12,7 +12,7 @@ use fuse_spec::Operation;
 use fuse_tables::Table;
 use std::alloc::{AllocError, Allocator};
 
-/// The names of which a call asked that they go are in force no longer.
+/// The names of which a call asked that they go are cached no longer.
 pub fn unbind<A: Allocator + Copy>(
     calls: &Table<CallState<A>, A>,
     names: &mut Bindings<A>,
@@ -45,7 +45,7 @@ pub fn unbind<A: Allocator + Copy>(
 ///
 /// # Errors
 ///
-/// Memory was wanting. The names are as before.
+/// Out of memory. The names are as before.
 pub fn bind_missing<A: Allocator + Copy>(
     names: &mut Bindings<A>,
     directory: u64,

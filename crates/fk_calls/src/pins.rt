@@ -44,7 +44,7 @@ fn is_pinned<A: Allocator + Copy>(
     is_releasing
 }
 
-/// Whether a node is pinned, or a name in force, valid or not, names it.
+/// Whether a node is pinned, or a cached name, valid or not, names it.
 pub fn is_node_in_use<A: Allocator + Copy>(
     calls: &Table<CallState<A>, A>,
     opens: &OpenFiles<A>,

@@ -1,4 +1,4 @@
--- How often the ids of a binding name a node.
+-- How often the ids of a dentry name a node.
 use Rattle.std.proofs.Common.{◌≡◌, ℕ, ◌+◌, ◌<◌, cond, List, [], ◌∷◌, Option, Some, None, ap, ◌∙◌, arith, rules, nat_eq}
 use Rattle.std.proofs.lemmas.List.Sums.{sum_by-cons}
 use Rattle.fk_dentry.specs.Named.{times, named}

@@ -1,4 +1,4 @@
--- The names in force, as contracts see them.
+-- The cached names, as contracts see them.
 use Rattle.std.specs.Prelude.{ℕ, Bool, ◌||◌, Option, Some, None, IsSome, nat_eq, refl}
 use Rattle.std.specs.Coded.{Coded, code_by, coded×, coded_ℕ, coded_list, coded_option}
 use Rattle.std.specs.List.{list_any}
@@ -9,7 +9,7 @@ use Rattle.fuse_spec.specs.Kernel.Kernel.{leads_to}
 use Rattle.fk_dentry.specs.declared.found.Found.{Found}
 use Rattle.fk_dentry.specs.declared.found.Found.TheVariants.{Node, Missing, Unknown}
 
--- The names that are bound; and each name that has room, with its binding if it has one.
+-- The names that are bound; and each name that has room, with its dentry if it has one.
 pub record NamesInForce : Type 0 where
   pub names : NameMap Dentry
   pub slots : NameMap (Option Dentry)
@@ -40,6 +40,6 @@ found_by None = Unknown
 found_by (Some None) = Missing
 found_by (Some (Some node)) = Node node
 
--- A binding stands in the node or leads to it.
+-- A dentry stands in the node or leads to it.
 abbrev pub names_the_node : ℕ → NameMap Dentry → Bool
 names_the_node node names = list_any (λ (e : Place × Dentry). nat_eq e.0.0 node || leads_to node e.1.target) names

@@ -8,7 +8,7 @@ use Rattle.fk_dentry.specs.Keys.{place_of_key}
 use Rattle.fk_dentry.specs.Named.{uses, mentions}
 
 module _ {A : Type 0} where
-  -- each name that has room, with its binding if it has one: the entries of a hash map, in rising order
+  -- each name that has room, with its dentry if it has one: the entries of a hash map, in rising order
   abbrev pub slots_of : List (NameKey A × Option Dentry) → NameMap (Option Dentry)
   slots_of [] = []
   slots_of (e ∷ es) = put_name (slots_of es) (place_of_key e.0) e.1
@@ -19,12 +19,12 @@ bound_names [] = []
 bound_names ((place, None) ∷ slots) = bound_names slots
 bound_names ((place, Some dentry) ∷ slots) = (place, dentry) ∷ bound_names slots
 
--- the binding in a slot, if there is one
+-- the dentry in a slot, if there is one
 abbrev pub bound_in : Option (Option Dentry) → Option Dentry
 bound_in None = None
 bound_in (Some dentry) = dentry
 
--- The names rise, each node is counted as often as bindings name it, and there is room for two mentions a name.
+-- The names rise, each node is counted as often as dentries name it, and there is room for two mentions a name.
 pub record IsNameTable (slots : NameMap (Option Dentry)) (count : ℕ → ℕ) (total capacity : ℕ) : Type 0 where
   pub sorted : T (is_sorted place_cmp slots)
   pub named : (id : ℕ) → count id ≡ uses id slots

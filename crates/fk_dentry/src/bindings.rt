@@ -1,4 +1,4 @@
-//! The names in force.
+//! The cached names.
 ghost use Rattle.std.specs.Prelude.{◌≡◌, ◌≢◌, ℕ, [], OnOk, IsOk, is_some, vec_len};
 ghost use Rattle.fuse_spec.specs.Values.Maps.{Place, get_name, put_name, remove_name};
 ghost use Rattle.fuse_spec.specs.Calls.Vfs.{valid_at};
@@ -20,10 +20,10 @@ const COUNTS: usize = 3;
 /// Names stay below this, so that three times their number does not overflow.
 const MOST: usize = 0x1000_0000_0000_0000;
 
-/// The names in force: each name of a directory that is bound, with the node to which it leads, if any, and the time
+/// The cached names: each name of a directory that is bound, with the node to which it leads, if any, and the time
 /// in milliseconds from which it is valid no more.
 ///
-/// A binding whose time has passed says nothing, but it stays until it is replaced or removed. Only `reserve` takes
+/// A dentry whose time has passed says nothing, but it stays until it is replaced or removed. Only `reserve` takes
 /// memory.
 ///
 /// What each call costs, for `n` names:
@@ -90,7 +90,7 @@ impl<A: Allocator + Copy> Bindings<A> {
     ///
     /// # Errors
     ///
-    /// Memory was wanting, and the name had no room. Nothing changed.
+    /// Out of memory: the name had no room. Nothing changed.
     pub fn reserve(&mut self, directory: u64, name: &[u8]) -> Result<(), AllocError>
         ensures names { self.new.names ≡ self.old.names }
         ensures room { OnOk result (HasRoom self.new (directory, name.now)) }
@@ -131,7 +131,7 @@ impl<A: Allocator + Copy> Bindings<A> {
         self.nodes.replace(directory, old, dentry.target);
     }
 
-    /// Removes the binding of a name and its room. Says whether it was bound, also after its end.
+    /// Removes the dentry of a name and its room. Says whether it was bound, also after its end.
     pub fn remove(&mut self, directory: u64, name: &[u8]) -> bool
         ensures bound { result ≡ is_some (get_name self.old.names (directory, name.now)) }
         ensures names { self.new.names ≡ remove_name self.old.names (directory, name.now) }
@@ -152,7 +152,7 @@ impl<A: Allocator + Copy> Bindings<A> {
         dentry
     }
 
-    /// Removes all bindings, and their room.
+    /// Removes all dentries, and their room.
     pub fn clear(&mut self)
         ensures { self.new.names ≡ [] }
     {
@@ -160,7 +160,7 @@ impl<A: Allocator + Copy> Bindings<A> {
         self.nodes.clear();
     }
 
-    /// Whether a binding names the node, as its directory or as its target, also after its end.
+    /// Whether a dentry names the node, as its directory or as its target, also after its end.
     pub fn names_node(&self, id: u64) -> bool
         ensures { result ≡ names_the_node id self.now.names }
     {

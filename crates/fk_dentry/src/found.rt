@@ -1,6 +1,6 @@
 //! What a look-up of a name finds.
 
-/// What the names in force say of a name.
+/// What the cached names say of a name.
 #[derive(Clone, Copy, Debug, PartialEq, Eq)]
 pub enum Found {
     /// It leads to the node of this id.

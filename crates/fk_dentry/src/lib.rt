@@ -1,4 +1,4 @@
-//! The kernel's names in force: what each name of a directory was last known to lead to, and until when.
+//! The kernel's cached names: what each name of a directory was last known to lead to, and until when.
 #![tactic(auto)]
 
 mod bindings;

@@ -1,4 +1,4 @@
-//! How many bindings name each node.
+//! How many dentries name each node.
 ghost use Rattle.std.specs.Prelude.{◌≡◌, ℕ, ◌+◌, ◌^◌, ◌<◌, ◌≤◌, Bool, [], cond, length, nat_eq, nat_lt, OnOk, IsTrue};
 ghost use Rattle.indexmap.specs.IndexMap.{spare};
 ghost use Rattle.fk_dentry.specs.Counts.{weight, mentions_of, total_in};
@@ -12,9 +12,9 @@ use std::mem;
 
 type Counts<A> = IndexMap<u64, u64, BuildHasherDefault<FoldHasher>, A>;
 
-/// How many bindings name each node, as their directory or as their target.
+/// How many dentries name each node, as their directory or as their target.
 ///
-/// A removal gives a hash map no room back. So a count that fell to 0 keeps its entry until room is wanting: then the
+/// A removal gives a hash map no room back. So a count that fell to 0 keeps its entry until room is needed: then the
 /// others move to the second map, and the maps change places.
 #[derive(Drop)]
 pub(crate) struct NodeCounts<A: Allocator> {
@@ -42,7 +42,7 @@ impl<A: Allocator + Copy> NodeCounts<A> {
     ///
     /// # Errors
     ///
-    /// Memory was wanting. The counts are as before.
+    /// Out of memory. The counts are as before.
     pub fn reserve_in_all(&mut self, most: usize) -> Result<(), AllocError>
         ensures counts { self.new.counts.entries ≡ self.old.counts.entries }
         ensures room { OnOk result (most ≤ self.new.most) }
@@ -57,7 +57,7 @@ impl<A: Allocator + Copy> NodeCounts<A> {
         Ok(())
     }
 
-    /// Whether a binding names the node.
+    /// Whether a dentry names the node.
     pub fn contains(&self, id: u64) -> bool
         ensures { result ≡ nat_lt 0 (mentions_of self.now.counts.entries id) }
     {
@@ -105,7 +105,7 @@ impl<A: Allocator + Copy> NodeCounts<A> {
         }
     }
 
-    /// A binding replaces another, if there was one.
+    /// A dentry replaces another, if there was one.
     pub fn replace(&mut self, directory: u64, old: Option<Dentry>, target: Option<u64>)
         requires named { (q : ℕ) → times q (named_by directory old) ≤ mentions_of self.old.counts.entries q }
         requires room { total_in self.old.counts.entries + 2 ≤ self.old.most + length (named_by directory old) }
@@ -122,7 +122,7 @@ impl<A: Allocator + Copy> NodeCounts<A> {
         self.enter(directory, target);
     }
 
-    /// A binding is new.
+    /// A dentry is new.
     fn enter(&mut self, directory: u64, target: Option<u64>)
         requires { total_in self.old.counts.entries + 2 ≤ self.old.most }
         ensures count { (q : ℕ) → mentions_of self.new.counts.entries q
@@ -138,7 +138,7 @@ impl<A: Allocator + Copy> NodeCounts<A> {
         self.add(id);
     }
 
-    /// A binding is gone, if there was one.
+    /// A dentry is gone, if there was one.
     pub fn leave(&mut self, directory: u64, dentry: Option<Dentry>)
         requires { (q : ℕ) → times q (named_by directory dentry) ≤ mentions_of self.old.counts.entries q }
         ensures count { (q : ℕ) → mentions_of self.new.counts.entries q + times q (named_by directory dentry)
@@ -157,7 +157,7 @@ impl<A: Allocator + Copy> NodeCounts<A> {
         self.remove(id);
     }
 
-    /// No binding is left.
+    /// No dentry is left.
     pub fn clear(&mut self)
         ensures counts { self.new.counts.entries ≡ [] }
         ensures most { self.new.most ≡ self.old.most }
@@ -198,7 +198,7 @@ fn copy_used<A: Allocator + Copy>(counts: &Counts<A>, copy: &mut Counts<A>)
     }
 }
 
-/// Whether there is a binding, with this target.
+/// Whether there is a dentry, with this target.
 fn names_the_same(dentry: Option<Dentry>, target: Option<u64>) -> bool
     ensures { IsTrue result → (directory : ℕ) → named_by directory dentry ≡ named directory target }
 {

@@ -11,7 +11,7 @@ use indexmap::IndexMap;
 use std::alloc::Allocator;
 use std::hash::{BuildHasherDefault, FoldHasher};
 
-/// Each name that has room, with its binding if it has one.
+/// Each name that has room, with its dentry if it has one.
 pub(crate) type Rows<A> = IndexMap<NameKey<A>, Option<Dentry>, BuildHasherDefault<FoldHasher>, A>;
 
 /// What stands under a name that has room.
@@ -25,7 +25,7 @@ pub(crate) fn slot<A: Allocator>(
     rows.get(LentKey { directory, name }).copied()
 }
 
-/// Puts a row without a binding, into room that was made.
+/// Puts a row without a dentry, into room that was made.
 pub(crate) fn add<A: Allocator + Copy>(rows: &mut Rows<A>, key: NameKey<A>)
     requires { 0 < spare rows.old }
     ensures { slots_of rows.new.entries ≡ put_name (slots_of rows.old.entries) (place_of_key key) None }
@@ -52,7 +52,7 @@ pub(crate) fn bind<A: Allocator>(
     }
 }
 
-/// Takes the row of a name out, and gives its binding.
+/// Takes the row of a name out, and gives its dentry.
 pub(crate) fn take_out<A: Allocator>(
     rows: &mut Rows<A>,
     directory: u64,

@@ -1,4 +1,4 @@
--- What a change of a connection comes to.
+-- What a change of a connection results in.
 use Rattle.std.proofs.Common.{◌≡◌, ℕ, zero, suc, ◌+◌, ◌<◌, Bool, List, Vec, [], ◌∷◌, ◌++◌, length, map, get_or, take, drop, refl, sym, ap, subst, ◌∙◌, arith}
 use Rattle.std.proofs.lemmas.List.{map-append}
 use Rattle.fuse_spec.specs.declared.Opened.{Opened}

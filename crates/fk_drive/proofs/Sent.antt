@@ -1,4 +1,4 @@
--- What sending a request comes to.
+-- What sending a request results in.
 use Rattle.std.proofs.Common.{◌≡◌, ℕ, List, [], ◌++◌, refl, sym, subst}
 use Rattle.std.specs.Prelude.{ℤ, Result, Ok, Err, OnErr, OnOk}
 use Rattle.fuse_spec.specs.declared.WriteResult.{WriteResult}

@@ -55,7 +55,7 @@ first_driven asks = record {
   turn = idle;
 }
 
--- These bytes are sent, with some result, or the device comes to its end at it.
+-- These bytes are sent, with some result, or the device ends at it.
 pub data SendsFrame (bytes : List ℕ) : List Transfer → Type 0 where
   with_result : (result : WriteResult) → SendsFrame bytes (sent bytes result ∷ [])
   at_end : (end : DeviceEnd) → SendsFrame bytes (unsent bytes end ∷ [])
@@ -116,7 +116,7 @@ pub data DriveStep (old : Driven) : List Transfer → Driven → Type 0 where
       → old.directories ≡ before ++ (unique, directory) ∷ after → (frame : List ℕ)
       → IsReleasedir frame old.next directory → (log : List Transfer) → SendsFrame frame log
       → DriveStep old log (record old { next = old.next + 2; directories = before ++ after })
-  -- The device comes to its end as a frame is to be received.
+  -- The device ends as a frame is to be received.
   ends : (end : DeviceEnd) → DriveStep old (stopped end ∷ []) old
 
 -- All that went over a device is so driven, one step after another.

@@ -1,4 +1,4 @@
-//! Why a run comes to its end, and why a request is not sent.
+//! Why a run ends, and why a request is not sent.
 
 use fuse_device::DeviceEnd;
 use fuse_spec::Refusal;
@@ -10,7 +10,7 @@ pub enum DriveEnd {
     /// The device came to its end.
     #[error("the device ended")]
     Device(DeviceEnd),
-    /// Memory is wanting for a frame that is to come.
+    /// Out of memory for a frame that is to come.
     #[error("out of memory")]
     Memory,
     /// The kernel refused the error reply for a directory that could not be opened.

@@ -26,7 +26,7 @@ pub(crate) fn send_bytes<D: Device>(device: &mut D, bytes: &[u8]) -> Result<(), 
 ///
 /// # Errors
 ///
-/// The device came to its end, or memory is wanting: nothing is then received.
+/// The device came to its end, or memory runs out: nothing is then received.
 pub(crate) fn receive_frame<A: Allocator + Copy, D: Device>(
     alloc: A,
     device: &mut D,

@@ -62,7 +62,7 @@ impl<A: Allocator + Copy> Connection<A> {
 ///
 /// # Errors
 ///
-/// The device came to its end, or memory is wanting: nothing is then received.
+/// The device came to its end, or memory runs out: nothing is then received.
 pub(crate) fn receive_next<A: Allocator + Copy, D: Device>(
     connection: &mut Connection<A>,
     device: &mut D,

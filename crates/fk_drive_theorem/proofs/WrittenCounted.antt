@@ -25,7 +25,7 @@ use Rattle.fk_drive_theorem.specs.Tallies.{where_accepted}
 use Rattle.fk_drive_theorem.proofs.NumbersGone.{none_taken}
 use Rattle.fk_drive_theorem.proofs.RepliesCounted.{Gains, same_gains, replied_gains}
 
--- What awaits a reply, and what one comes to, by whether the unique is an INTERRUPT's.
+-- What awaits a reply, and what a reply results in, by whether the unique is an INTERRUPT's.
 abbrev awaited_as : Kernel → ℕ → Bool → Awaited
 awaited_as k unique b = cond b (awaited_by_interrupt (waiting k.queues (unique - 1)))
     (awaited_by k (waiting k.queues unique))

@@ -67,7 +67,7 @@ module _ (k : Kernel) (unique call : ℕ) (even : nat_eq (unique % 2) 1 ≡ fals
       ap (λ (r : WriteResult × Kernel). r.1.nodes) (wrong_is k unique call even waits state at wire other) ∙ use_nodes
       (ended k unique k.vfs call (answer.failed 5)) state
 
--- ---- whether a count comes to its end
+-- ---- whether a count ends
 
 -- an entry that can be used
 pub one_out : (nodes : Map Counted) (g : Entry) → T (is_sorted nat_cmp nodes)
@@ -92,7 +92,7 @@ fits_at : (nodes : Map Counted) (g : Entry) → is_counted_out (looked_up nodes 
 fits_at nodes g none = (out_below (looked_up nodes (g ∷ [])) none).below g.nodeid (counted_more g (get nodes g.nodeid))
     (get_put_here nodes g.nodeid (counted_more g (get nodes g.nodeid)))
 
--- Where no count comes to its end, one lookup more of the node of a usable entry fits.
+-- Where no count ends, one lookup more of the node of a usable entry fits.
 pub entry_fits : (nodes : Map Counted) (g : Entry) → use_of nodes g ≡ usable
     → is_counted_out (looked_up_by_all nodes (g ∷ []) (first_use (use_of nodes g) usable)) ≡ false
     → (counted_more g (get nodes g.nodeid)).count < counter_end

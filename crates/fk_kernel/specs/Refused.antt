@@ -1,5 +1,5 @@
 -- Which refusal each call of the kernel gets: that of the definitions, then that of a counter which would pass its end.
--- Want of memory comes last. And what each comes to where it has none.
+-- Want of memory comes last. And what each results in where it has none.
 use Rattle.std.specs.Prelude.{◌≡◌, ℕ, List, Bool, true, Option, Some, Result, ◌∷◌}
 use Rattle.fuse_spec.specs.Calls.Calls.{Call, for_minor}
 use Rattle.fuse_spec.specs.Kernel.Kernel.{Kernel, body_of, call_begun, call_signalled, forgets_read}
@@ -47,7 +47,7 @@ read_forgets_refusal k count = refusal_in (to_read_forgets k count
 abbrev pub read_interrupt_refusal : Kernel → Option Refusal
 read_interrupt_refusal k = refusal_in (to_read_interrupt k (λ original. accepted))
 
--- of a signal; a number may be wanting for the RELEASE of a file that the call used last
+-- of a signal; no number may be left for the RELEASE of a file that the call used last
 abbrev pub signal_refusal : Kernel → ℕ → Bool → Option Refusal
 signal_refusal k call fatal =
     refusal_in (to_signal k call (λ state. within_counters (call_signalled k call state fatal).1))
@@ -86,7 +86,7 @@ pub data IsWriteRefusal (k : Kernel) (unique : ℕ) (bytes : List ℕ) (awaiting
   no_memory : (PassesEnd k unique bytes awaiting → ⊥) → IsWriteRefusal k unique bytes awaiting NoMemory
   exhausted : PassesEnd k unique bytes awaiting → IsWriteRefusal k unique bytes awaiting Exhausted
 
--- Why bytes are refused: want of memory, or of a number, or a count that would come to its end.
+-- Why bytes are refused: want of memory, or of a number, or a count that would end.
 abbrev pub WriteRefused : Kernel → List ℕ → Refusal → Type 0
 WriteRefused k bytes = IsWriteRefusal k (head_unique bytes) bytes (awaited k (head_unique bytes))
 

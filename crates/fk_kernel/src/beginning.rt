@@ -73,7 +73,7 @@ impl<Q: QueueTable<Purpose> + Drop, C: CountTable<Heap = Q::Heap> + Drop> Kernel
         }
     }
 
-    /// Where a call comes to along the names in force.
+    /// How far a call gets along the cached names.
     fn start_walk(&self, call: &Call<'_>) -> Result<Next<Q::Heap>, Refusal>
         requires not_aborted { is_aborted self.now.phase ≡ false }
         requires closes_none { ClosesNone call.now }

@@ -1,4 +1,4 @@
-//! How a name in force is dropped.
+//! How a cached name is dropped.
 
 ghost use Rattle.std.specs.Prelude.{◌≡◌, Some, None, OnOk, OnErr, IfErr};
 ghost use Rattle.fuse_spec.specs.Values.Maps.{remove_name};
@@ -10,11 +10,11 @@ use fk_queues::QueueTable;
 use fuse_spec::{Purpose, Refusal};
 
 impl<Q: QueueTable<Purpose> + Drop, C: CountTable<Heap = Q::Heap> + Drop> KernelOf<Q, C> {
-    /// Drops a name in force, valid or not. Takes no memory.
+    /// Drops a cached name, valid or not. Takes no memory.
     ///
     /// # Errors
     ///
-    /// `NotReady` where the mount is not live, `NoSuch` where no such name is in force. The kernel is as before.
+    /// `NotReady` where the mount is not live, `NoSuch` where no such name is cached. The kernel is as before.
     pub fn drop_binding(&mut self, directory: u64, name: &[u8]) -> Result<(), Refusal>
         ensures err { OnErr result (self.new ≡ self.old) }
         ensures refusal { IfErr result (λ refusal. drop_refusal self.old directory name.now ≡ Some refusal) }

@@ -14,7 +14,7 @@ use fuse_spec::{Purpose, Refusal};
 
 impl<Q: QueueTable<Purpose> + Drop, C: CountTable<Heap = Q::Heap> + Drop> KernelOf<Q, C> {
     /// Why a node cannot be given up: `NotReady` where the mount is not live, `NoSuch` where the node is not counted,
-    /// `Busy` where it is pinned or a name in force, valid or not, names it.
+    /// `Busy` where it is pinned or a cached name, valid or not, names it.
     pub fn evict_refusal(&self, node: u64) -> Option<Refusal>
         ensures { result ≡ evict_refusal self.now node }
     {

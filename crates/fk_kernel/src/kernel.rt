@@ -21,8 +21,8 @@ use fuse_tables::Table;
 use std::alloc::{AllocError, Global};
 use std::marker::Model;
 
-/// The kernel's half of the protocol, over any queues and any table of counted nodes. It is told of system calls, hands
-/// out requests and takes any bytes as replies.
+/// The kernel's half of the protocol, over any queues and any table of counted nodes. It accepts system calls, produces
+/// request frames, and accepts arbitrary bytes as replies.
 #[derive(Drop)]
 pub struct KernelOf<Q: QueueTable<Purpose>, C: CountTable<Heap = Q::Heap>> {
     pub(crate) alloc: Q::Heap,
@@ -110,7 +110,7 @@ impl<Q: QueueTable<Purpose> + Drop, C: CountTable<Heap = Q::Heap> + Drop> Kernel
         self.queues.lemma_sound();
     }
 
-    /// No node's count has come to the end of counters, and nodes stand in rising id. A call without effect, made where
+    /// No node's count has reaches the end of counters, and nodes stand in rising id. A call without effect, made where
     /// a proof rests on that.
     pub fn lemma_counts_in_range(&self)
         ensures sorted { T (is_sorted nat_cmp self.now.nodes) }
@@ -146,7 +146,7 @@ impl<Q: QueueTable<Purpose> + Drop, C: CountTable<Heap = Q::Heap> + Drop> Kernel
     }
 
     /// Mounts anew: everything of the old mount is given up, without forgets, and INIT is queued. Until it is answered
-    /// no more is for_minor than 7.15 has (this project's rule).
+    /// nothing is used beyond what 7.15 has (this project's rule).
     ///
     /// # Errors
     ///
@@ -182,7 +182,7 @@ impl<Q: QueueTable<Purpose> + Drop, C: CountTable<Heap = Q::Heap> + Drop> Kernel
     ///
     /// # Errors
     ///
-    /// Memory was wanting for the list.
+    /// Out of memory for the list.
     pub fn nodes(&self, alloc: Q::Heap) -> Result<Vec<(u64, u64, u64), Q::Heap>, AllocError>
         ensures { IfOk result (λ nodes. nodes.items ≡ map (λ e. (e.0, e.1.generation, e.1.count)) self.now.nodes) }
     {

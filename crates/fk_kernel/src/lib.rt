@@ -1,4 +1,4 @@
-//! The kernel's half of the protocol: calls, names in force, counted nodes and requests, against any bytes that are
+//! The kernel's half of the protocol: calls, cached names, counted nodes and requests, against any bytes that are
 //! written as replies.
 #![tactic(auto)]
 

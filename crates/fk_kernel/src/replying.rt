@@ -148,7 +148,7 @@ impl<Q: QueueTable<Purpose> + Drop, C: CountTable<Heap = Q::Heap> + Drop> Kernel
         Ok(())
     }
 
-    /// The names that a call took away or moved are in force no longer, and the call is answered that it is done.
+    /// The names that a call took away or moved are cached no longer, and the call is answered that it is done.
     fn names_go(&mut self, unique: u64, call: u64)
         requires even { nat_eq (unique % 2) 1 ≡ false }
         requires waits { waiting self.old.queues unique ≡ Some (Purpose.Call call) }

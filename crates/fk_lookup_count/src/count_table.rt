@@ -34,7 +34,7 @@ pub trait CountTable {
     ///
     /// # Errors
     ///
-    /// Memory was wanting, and the id had no room. Nothing changed.
+    /// Out of memory: the id had no room. Nothing changed.
     fn reserve(&mut self, id: u64) -> Result<(), AllocError>
         ensures counted { counted self.new ≡ counted self.old }
         ensures room { OnOk result (has_room self.new id) }
@@ -60,7 +60,7 @@ pub trait CountTable {
     ///
     /// # Errors
     ///
-    /// Memory was wanting, and the id was not counted and had no room; inside, `Unlike` as of `learn`. Nothing changed.
+    /// Out of memory: the id was not counted and had no room; inside, `Unlike` as of `learn`. Nothing changed.
     fn reserve_and_learn(
         &mut self,
         id: u64,
@@ -101,7 +101,7 @@ pub trait CountTable {
     ///
     /// # Errors
     ///
-    /// Memory was wanting for the list.
+    /// Out of memory for the list.
     fn nodes(&self, alloc: Self::Heap) -> Result<Vec<(u64, u64, u64), Self::Heap>, AllocError>
         ensures { IfOk result (λ nodes. nodes.items ≡ listed_counts (counted self.now)) };
 }

@@ -39,7 +39,7 @@ pub trait Slots {
     ///
     /// # Errors
     ///
-    /// Memory was wanting. Nothing changed.
+    /// Out of memory. Nothing changed.
     fn add(&mut self, id: u64, slot: Counted) -> Result<(), AllocError>
         requires { get (slots self.old) id ≡ None }
         ensures ok { OnOk result (slots self.new ≡ insert (slots self.old) id slot) }
@@ -65,7 +65,7 @@ pub trait Slots {
     ///
     /// # Errors
     ///
-    /// Memory was wanting for the list.
+    /// Out of memory for the list.
     fn nodes(&self, alloc: Self::Heap) -> Result<Vec<(u64, u64, u64), Self::Heap>, AllocError>
         ensures { IfOk result (λ nodes. nodes.items ≡ listed_counts (nodes_in (slots self.now))) };
 }

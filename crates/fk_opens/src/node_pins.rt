@@ -51,7 +51,7 @@ impl<A: Allocator + Copy> NodePins<A> {
     ///
     /// # Errors
     ///
-    /// Memory was wanting. The pins are as before.
+    /// Out of memory. The pins are as before.
     pub fn reserve(&mut self, more: usize) -> Result<(), AllocError>
         ensures counts { self.new.counts ≡ self.old.counts }
         ensures room { OnOk result (more ≤ self.new.room) }

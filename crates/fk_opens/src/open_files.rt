@@ -72,7 +72,7 @@ impl<A: Allocator + Copy> OpenFiles<A> {
     ///
     /// # Errors
     ///
-    /// Memory was wanting. The open files are as before.
+    /// Out of memory. The open files are as before.
     pub fn reserve(&mut self, more: usize) -> Result<(), AllocError>
         ensures entries { self.new.entries ≡ self.old.entries }
         ensures room { OnOk result (more ≤ self.new.room) }

@@ -1,7 +1,7 @@
 //! The one error of the queues.
 use thiserror::Error;
 
-/// Room was not made: memory was wanting.
+/// Room was not made: memory ran out.
 #[derive(Clone, Copy, Debug, PartialEq, Eq, Error)]
 #[error("no memory")]
 pub struct NoMemory;

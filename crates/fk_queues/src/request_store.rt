@@ -37,7 +37,7 @@ pub trait RequestStore<W: Drop> {
     ///
     /// # Errors
     ///
-    /// Memory was wanting. The requests are as before.
+    /// Out of memory. The requests are as before.
     fn reserve(&mut self, more: usize) -> Result<(), AllocError>
         ensures entries { entries self.new ≡ entries self.old }
         ensures ok { OnOk result (more ≤ room self.new) }

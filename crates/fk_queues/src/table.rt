@@ -37,7 +37,7 @@ pub trait QueueTable<W: Drop> {
     ///
     /// # Errors
     ///
-    /// Memory was wanting, and that room was not there. The queues are as before, and no room went.
+    /// Out of memory: that room was not there. The queues are as before, and no room went.
     fn reserve(&mut self, requests: usize, forgets: usize) -> Result<(), NoMemory>
         ensures state { state self.new ≡ state self.old }
         ensures kept { KeepsRoom (room self.old) (room self.new) }

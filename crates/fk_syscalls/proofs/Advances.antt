@@ -1,4 +1,4 @@
--- What a call comes to, by where names in force leave its walk.
+-- What a call results in, by where cached names leave its walk.
 use Rattle.std.proofs.Common.{◌≡◌, ℕ, Bool, true, false, cond, true≢false, List, [], ◌∷◌, ◌++◌, Option, Some, None, Result, Ok, Err, drop, nat_eq, refl, ap, sym, ◌∙◌, arith}
 use Rattle.std.specs.Prelude.{OnErr, IfOk, is_some, is_none, ◌||◌, ◌&&◌, Vec, map, flat_map, option_to_list, unwrap_or}
 use Rattle.std.specs.Option.{MatchOption}

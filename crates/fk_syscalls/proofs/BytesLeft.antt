@@ -1,4 +1,4 @@
--- How a walk comes to its end.
+-- How a walk ends.
 use Rattle.std.proofs.Common.{ℕ, suc, ◌-◌, List, Option, Some, None, length}
 
 -- how many bytes are left from a place on, and one more where there is a place

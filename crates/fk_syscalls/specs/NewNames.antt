@@ -1,4 +1,4 @@
--- The names in force once a new one is bound.
+-- The cached names once a new one is bound.
 use Rattle.std.specs.Prelude.{Some}
 use Rattle.fuse_spec.specs.declared.Dentry.{Dentry}
 use Rattle.fuse_spec.specs.Values.Maps.{Place, NameMap, put_name}

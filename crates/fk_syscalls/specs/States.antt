@@ -1,4 +1,4 @@
--- Where an unanswered call stands, and what a step of it comes to.
+-- Where an unanswered call stands, and what a step of it results in.
 use Rattle.std.specs.Prelude.{◌≡◌, ℕ, List, [], ◌∷◌, Option, Some, None}
 use Rattle.std.specs.Borrow.{Bor}
 use Rattle.fuse_spec.specs.Calls.Begins.{Beginning}
@@ -79,7 +79,7 @@ used_by (walking directory word words plan) = None
 used_by (doing operation) = None
 used_by (using open_call operation) = Some open_call
 
--- These are the names in force and the time, and the root is node 1.
+-- These are the cached names and the time, and the root is node 1.
 pub record HasCachedNames (c : Vfs Opened) (in_force : NameMap Dentry) (time : ℕ) : Type 0 where
   pub names : c.names ≡ in_force
   pub clock : c.clock ≡ time

@@ -1,4 +1,4 @@
--- Walks along names in force.
+-- Walks along cached names.
 use Rattle.std.specs.Prelude.{ℕ, List, [], ◌∷◌, Option}
 use Rattle.fuse_spec.specs.declared.Dentry.{Dentry}
 use Rattle.fuse_spec.specs.Values.Maps.{NameMap, get_name}

@@ -30,11 +30,11 @@ use std::alloc::{AllocError, Allocator};
 const MAX_TRANSFER: u64 = limits::MAX_TRANSFER as u64;
 
 /// Begins a call on a mount that is not aborted: a fault answers it; a read or write asks at once; else it walks from
-/// the root as far as the names in force lead at this time, in milliseconds. A close is the kernel's own.
+/// the root as far as the cached names lead at this time, in milliseconds. A close is the kernel's own.
 ///
 /// # Errors
 ///
-/// Memory was wanting. The call would ask an operation.
+/// Out of memory. The call would ask an operation.
 pub fn begin<A: Allocator + Copy>(
     alloc: A,
     names: &Bindings<A>,

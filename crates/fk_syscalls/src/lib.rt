@@ -1,4 +1,4 @@
-//! System calls: how a path spells words, how far names in force lead along them, and what a call then asks.
+//! System calls: how a path spells words, how far cached names lead along them, and what a call then asks.
 #![tactic(auto)]
 
 mod beginning;

@@ -82,7 +82,7 @@ pub enum Next<A: Allocator = Global> {
     Answer { errno: u32 },
 }
 
-/// The second walk of a call, from the root, as far as the names in force lead. Takes no memory.
+/// The second walk of a call, from the root, as far as the cached names lead. Takes no memory.
 fn second_walk<A: Allocator + Copy>(
     names: &Bindings<A>,
     clock: u64,
@@ -233,7 +233,7 @@ impl<A: Allocator + Copy> CallState<A> {
         })
     }
 
-    /// The word that it asked for leads to this node. It walks on as far as the names in force lead at this time, in
+    /// The word that it asked for leads to this node. It walks on as far as the cached names lead at this time, in
     /// milliseconds. Takes no memory.
     #[inline(always)]
     pub fn advance(self, names: &Bindings<A>, clock: u64, node: u64) -> Next<A>

@@ -1,4 +1,4 @@
-//! Walks along names in force.
+//! Walks along cached names.
 
 ghost use Rattle.std.specs.Prelude.{◌≡◌, IfSome, MatchOption};
 ghost use Rattle.fuse_spec.specs.Calls.Walks.{go, missing};
@@ -9,14 +9,14 @@ use crate::words::word_at;
 use fk_dentry::{Bindings, Found};
 use std::alloc::Allocator;
 
-/// Where names in force leave a walk: at a node, with the words from a place on still to be walked, if some are.
+/// Where cached names leave a walk: at a node, with the words from a place on still to be walked, if some are.
 #[derive(Clone, Copy)]
 pub(crate) struct Stop {
     pub node: u64,
     pub at: Option<usize>,
 }
 
-/// Walks from a node along the words from a place on, as far as names in force lead at this time. None where one leads
+/// Walks from a node along the words from a place on, as far as cached names lead at this time. None where one leads
 /// to no file.
 pub(crate) fn walk<A: Allocator + Copy>(
     names: &Bindings<A>,

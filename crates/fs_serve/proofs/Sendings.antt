@@ -1,4 +1,4 @@
--- What settling comes to.
+-- What settling results in.
 use Rattle.std.proofs.Common.{◌≡◌, ℕ, Result, Ok, Err, inl, inr}
 use Rattle.std.specs.Prelude.{MatchResult, OnErr}
 use Rattle.fuse_spec.specs.Server.Server.{Server}

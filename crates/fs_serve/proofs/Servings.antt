@@ -1,4 +1,4 @@
--- How frames that are served follow one another, and what a taken frame comes to.
+-- How frames that are served follow one another, and what a taken frame results in.
 use Rattle.std.proofs.Common.{◌≡◌, ℕ, List, [], ◌∷◌, ◌++◌, ◌-◌, drop, length, min, take, Option, Some, None, refl, ap, append_assoc, sym, subst, take-append-drop, ◌∙◌}
 use Rattle.std.proofs.lemmas.List.{take_rest}
 use Rattle.fuse_spec.specs.Kernel.Messages.{WireReply}

@@ -24,7 +24,7 @@ abbrev pub GoesOver : {D : Type 0} → (D → D → List Transfer → Type 0) �
     → (List Transfer → Type 0) → Type 0
 GoesOver logs old new end IsSuch = (log : List Transfer) × logs old new log × IsSuch log × (end ≡ ended_in log)
 
--- These bytes are sent, with some result, or the device comes to its end at it.
+-- These bytes are sent, with some result, or the device ends at it.
 pub data SendsBytes (bytes : List ℕ) : List Transfer → Type 0 where
   with_result : (result : WriteResult) → SendsBytes bytes (sent bytes result ∷ [])
   at_end : (end : DeviceEnd) → SendsBytes bytes (unsent bytes end ∷ [])

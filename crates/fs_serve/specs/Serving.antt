@@ -43,8 +43,8 @@ abbrev pub is_interrupt : RequestContent → Bool
 is_interrupt (interrupt unique) = true
 is_interrupt content = false
 
--- A held request is performed, and its reply sent; after an abort there is none. One for which memory or a number is
--- wanting is held no longer, and its reply is an error.
+-- A held request is performed, and its reply sent; after an abort there is none. One for which memory or a number runs
+-- out is held no longer, and its reply is an error.
 pub data ServesHeld (old : Server) (unique : ℕ) : List Transfer → Server → Type 0 where
   replied : (errno : ℕ) (copy : Sent) (did : Server) → PerformsHeld old unique errno (Some copy) did
       → (log : List Transfer) (new : Server) → Delivers copy did log new → ServesHeld old unique log new
@@ -67,13 +67,13 @@ pub data ServesFrame (old : Server) (frame : List ℕ) : List Transfer → Serve
   performed : (request : Request) (taken : Server) → TakesRequest old frame request taken
       → (taking old request.unique request.body).word ≡ Held → (log : List Transfer) (new : Server)
       → ServesHeld taken request.unique log new → ServesFrame old frame log new
-  -- Memory is wanting to take one that takes memory: nothing changes. The reply is an error, and to an INTERRUPT there
+  -- Out of memory to take one that takes memory: nothing changes. The reply is an error, and to an INTERRUPT there
   -- is none.
   untaken : (can : CanTake old frame) → TakingNeedsMemory old frame → is_interrupt can.says.message.content ≡ false
       → (log : List Transfer) → SendsError can.request.unique out_of_memory log → ServesFrame old frame log old
   uninterrupted : (can : CanTake old frame) → TakingNeedsMemory old frame → is_interrupt can.says.message.content ≡ true
       → ServesFrame old frame [] old
-  -- A faulty frame, or one for which a number is wanting, changes nothing.
+  -- A faulty frame, or one for which no number is left, changes nothing.
   refused : (fault : ServerFault) → RefusesFrame old frame fault → fault ≢ Memory → is_server_past_end old ≡ false
       → (log : List Transfer) → SendsFault old.minor frame fault log → ServesFrame old frame log old
 
@@ -91,7 +91,7 @@ pub record ServesBatch (bytes : List ℕ) (old : Server) (log : List Transfer) (
   pub serves : ServesPairs bytes old pairs log new
   pub all : ended_in log ≡ None → pairs ≡ drop 48 bytes
 
--- One frame is received and served, or the device comes to its end.
+-- One frame is received and served, or the device ends.
 pub data ServesNext (old : Server) : List Transfer → Server → Type 0 where
   one : (bytes frame : List ℕ) → IsReadAs bytes frame → (log : List Transfer) (new : Server)
       → ServesFrame old frame log new → ServesNext old (received bytes ∷ log) new

@@ -1,4 +1,4 @@
-//! Error replies that are not the server's: to faulty frames, and where memory or a number is wanting.
+//! Error replies that are not the server's: to faulty frames, and where memory or numbers run out.
 
 ghost use Rattle.std.specs.Prelude.{◌≡◌};
 ghost use Rattle.fk_wire.specs.Replies.{IsErrorNumber};

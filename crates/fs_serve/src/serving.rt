@@ -32,7 +32,7 @@ const EIO: i32 = -5;
 /// taken, what is held is performed at once, its reply is sent, and the result of that settles the copy.
 ///
 /// Of a server that was just mounted each lookup count follows the frames: it is at every moment what the entries of
-/// accepted replies told, less what forgets gave back (libfuse's low-level notes, "forget").
+/// accepted replies gave, less what forgets gave back (libfuse's low-level notes, "forget").
 ///
 /// # Errors
 ///
@@ -155,7 +155,7 @@ fn refuse<A: Allocator + Copy, D: Device>(
     }
 }
 
-/// Replies that memory is wanting for a request that could not be taken. Nothing is replied so to an INTERRUPT.
+/// Replies that memory runs out for a request that could not be taken. Nothing is replied so to an INTERRUPT.
 fn send_untaken<A: Allocator + Copy, D: Device>(
     server: &Server<A>,
     device: &mut D,

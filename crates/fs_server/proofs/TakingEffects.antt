@@ -110,7 +110,7 @@ module _ (s : Server) (bytes : List ℕ) (m : RequestMessage) (right : IsTakeabl
     within = within;
   }
 
-  -- only memory can be wanting
+  -- only memory can run out
   refused : (fault : ServerFault) → fault ≡ Memory → RefusesFrame s bytes fault
   refused fault memory = refuses_for s bytes m right.spells right.only
       (request_body_of m.nodeid m.content) fault asked_body faultless (memory ∙ sym (ap past_or_memory within))

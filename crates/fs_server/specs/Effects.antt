@@ -57,8 +57,8 @@ abbrev pub refused_for : Server → Request → ServerFault
 refused_for s request = fault_or (request_fault s request.unique (Some request.body))
     (past_or_memory (is_server_past_end (taking s request.unique request.body).server))
 
--- A frame spells a request that has no fault, and no counter would have given a number past its end: only memory can be
--- wanting.
+-- A frame spells a request that has no fault, and no counter would have given a number past its end: only memory can
+-- run out.
 pub record CanTake (s : Server) (bytes : List ℕ) : Type 0 where
   pub request : Request
   pub says : SaysRequest bytes request

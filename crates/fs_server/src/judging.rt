@@ -22,7 +22,7 @@ use fuse_spec::Minor;
 use fuse_spec::limits::COUNTER_END;
 
 impl<S: NodeStore> ServerOf<S> {
-    /// Why `take` refuses a frame, want of memory aside. Where it gives none, only memory can be wanting.
+    /// Why `take` refuses a frame, want of memory aside. Where it gives none, only memory can run out.
     pub fn take_refusal(&self, bytes: &[u8]) -> Option<ServerFault>
         ensures refuses { IfSome result (RefusesFrame self.now bytes.now) }
         ensures other { IfSome result (λ fault. fault ≡ MemoryFault → ⊥) }

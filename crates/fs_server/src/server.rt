@@ -95,7 +95,7 @@ impl<S: NodeStore> ServerOf<S> {
     ///
     /// # Errors
     ///
-    /// Memory was wanting.
+    /// Out of memory.
     pub fn new(alloc: S::Heap) -> Result<Self, AllocError>
         ensures { IfOk result (λ server. server ≡ first_server) }
     {
@@ -142,7 +142,7 @@ impl<S: NodeStore> ServerOf<S> {
         self.is_aborted
     }
 
-    /// The minor that is for_minor since the last mount.
+    /// The minor in use since the last mount.
     pub fn minor(&self) -> Minor
         ensures { result ≡ self.now.minor }
     {
@@ -161,7 +161,7 @@ impl<S: NodeStore> ServerOf<S> {
 
     /// A new mount: the nodes, open numbers, held requests, kept replies and copies go, and so do nameless files; the
     /// tree stays, and generations, open numbers and copy numbers go on. Validities are in milliseconds; the minor is
-    /// the one that is for_minor.
+    /// the one in use.
     pub fn remount(&mut self, found_ms: u64, missing_ms: u64, minor: Minor)
         requires found { found_ms ≤ max_validity }
         requires missing { missing_ms ≤ max_validity }
@@ -183,7 +183,7 @@ impl<S: NodeStore> ServerOf<S> {
     ///
     /// # Errors
     ///
-    /// Memory was wanting.
+    /// Out of memory.
     pub fn nodes(&self, alloc: S::Heap) -> Result<Vec<(u64, u64, u64), S::Heap>, AllocError>
         ensures { IfOk result (λ nodes. nodes.items ≡ listed_nodes self.now.nodes.rows) }
     {

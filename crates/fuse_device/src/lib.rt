@@ -1,4 +1,4 @@
-//! Devices of bare FUSE frames: one frame is received in a call, and one is sent, whose result is told.
+//! Devices of bare FUSE frames: one frame is received in a call, and one is sent, whose result is given.
 //!
 //! /dev/fuse is such a device, and so is a socket with a FUSE server or a kernel behind it.
 #![tactic(auto)]

@@ -46,7 +46,7 @@ fn read_at<R: Read>(
     read_some(from, &mut room[at..], gives_up)
 }
 
-/// Fills the room. Where the stream comes to its end before its first byte that is given, and else it is a failure.
+/// Fills the room. Where the stream ends before its first byte that is given, and else it is a failure.
 fn fill<R: Read>(from: &mut R, room: &mut [u8], gives_up: bool) -> Result<(), DeviceEnd>
     ensures ok { OnOk result (Consumes (R.remaining from.old) (R.remaining from.new) room.new) }
     ensures ended { IsErrOf result DeviceEnd.Ended → Consumes (R.remaining from.old) (R.remaining from.new) [] }
@@ -108,7 +108,7 @@ fn write_some<W: Write>(out: &mut W, bytes: &[u8]) -> Result<usize, DeviceEnd>
     Err(DeviceEnd::Failed)
 }
 
-/// Writes a whole frame. Where it comes to the end, a beginning of it may be written.
+/// Writes a whole frame. Where it reaches the end, a beginning of it may be written.
 fn write_frame<W: Write>(out: &mut W, frame: &[u8]) -> Result<(), DeviceEnd>
     ensures ok { OnOk result (Appends (W.contents out.old) (W.contents out.new) frame.now) }
     ensures end { OnErr result ((n : ℕ) × Appends (W.contents out.old) (W.contents out.new) (take n frame.now)) }
@@ -147,7 +147,7 @@ impl<R: Read + Drop, W: Write + Drop> StreamDevice<R, W> {
     }
 
     /// The device of these, over which replies are received: a frame has 16 bytes or more. It gives up where no frame
-    /// comes in the time for which the reader waits, which it tells by EAGAIN.
+    /// comes in the time for which the reader waits, which it shows by EAGAIN.
     pub fn of_replies(reader: R, writer: W) -> Self
         ensures { (result.reader ≡ reader) × (result.writer ≡ writer) × (result.cut.least ≡ 16) }
     {

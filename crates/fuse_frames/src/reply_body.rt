@@ -46,7 +46,7 @@ pub(crate) fn milliseconds(seconds: u64, nanoseconds: u32) -> u64
     (seconds * 1000 + rest).min(MAX_VALIDITY)
 }
 
-/// The kind that a record tells, by its type.
+/// The kind of a record, by its type.
 pub fn kind_of_type(type_number: u32) -> Kind
     ensures { result ≡ kind_told type_number }
 {
@@ -87,7 +87,7 @@ fn valid_of(entry: &fk_wire::Entry) -> u64
     milliseconds(entry.entry_valid, entry.entry_valid_nsec)
 }
 
-/// The file that a name in a list tells, and for how many milliseconds the name leads there. `.` and `..` tell none,
+/// The file that a name in a list gives, and for how many milliseconds the name leads there. `.` and `..` give none,
 /// nor does an entry of node id 0 (linux/fuse.h, struct fuse_direntplus).
 pub fn listed_by(pair: &DirentPlus<'_>) -> (Option<Entry>, u64)
     ensures file { result.0 ≡ file_told (pair_in (direntplus_content pair.now)) }

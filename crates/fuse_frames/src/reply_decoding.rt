@@ -127,7 +127,7 @@ pub fn decode_reply<'a>(
     Some(decode_body(body))
 }
 
-/// Whether a body in a frame of so many bytes is no longer than was asked, nor tells of more written than was sent.
+/// Whether a body in a frame of so many bytes is no longer than was asked, nor says that more was written than was sent.
 #[inline(always)]
 fn is_within_asked(asked: &Operation<&[u8]>, len: usize, body: &ReplyBody<'_>) -> bool
     ensures { result ≡ is_within_request (operation_of (λ s. s.now) asked.now) len (reply_content body.now) }

@@ -115,7 +115,7 @@ pub struct Counted {
     pub count: u64,
 }
 
-/// A name in force: the node to which it leads, if any, and the time in milliseconds from which it is valid no more.
+/// A cached name: the node to which it leads, if any, and the time in milliseconds from which it is valid no more.
 #[derive(Clone, Copy, Debug, PartialEq, Eq)]
 pub struct Dentry {
     pub target: Option<u64>,

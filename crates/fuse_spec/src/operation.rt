@@ -141,7 +141,7 @@ impl<'a, N: Copy, O: Copy> Operation<&'a [u8], N, O> {
     ///
     /// # Errors
     ///
-    /// Memory was wanting.
+    /// Out of memory.
     pub fn to_owned<A: Allocator + Copy>(
         &self,
         alloc: A,

@@ -12,7 +12,7 @@ use Rattle.fuse_spec.specs.Claim.Denotes.{generation_known}
 abbrev pub IsKnown : Map Counted → ℕ → Type 0
 IsKnown nodes id = generation_known nodes id ≢ None
 
--- Each name in force stands in a known node, and leads to a known one or to none.
+-- Each cached name stands in a known node, and leads to a known one or to none.
 pub record NamesKnown (nodes : Map Counted) (names : NameMap Dentry) : Type 0 where
   pub directories : (id : ℕ) (name : List ℕ) (bound : Dentry) → get_name names (id, name) ≡ Some bound
       → IsKnown nodes id

@@ -17,7 +17,7 @@ pub fn refused_by_cases()
         → step choice w e ≡ Err r }
 {}
 
-/// An event that is not refused comes to exactly what a case of `Leads` has, with no counter past its end where it may
+/// An event that is not refused results in exactly what a case of `Leads` has, with no counter past its end where it may
 /// draw a number.
 pub fn accepted_by_cases()
     ensures only { (choice : ℕ → ℕ) (w : World) (e : Event) (o : Outcome) (after : World)

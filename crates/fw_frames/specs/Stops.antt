@@ -5,7 +5,7 @@ use Rattle.fw_frames.specs.declared.capture_line.CaptureFault.TheVariants as fau
 use Rattle.fw_frames.specs.declared.stop.Stop.{Stop}
 use Rattle.fw_frames.specs.declared.stop.Stop.TheVariants as stop
 
--- 1 where the input cannot be read, 2 where no opcode has the name, 3 where memory is wanting, 5 where standard output
+-- 1 where the input cannot be read, 2 where no opcode has the name, 3 where memory runs out, 5 where standard output
 -- refuses
 abbrev pub frame_status_of : Stop → ℕ
 frame_status_of (stop.CannotRead name) = 1

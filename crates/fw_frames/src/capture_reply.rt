@@ -164,7 +164,7 @@ fn count_pluses<A: Allocator + Copy>(
     Ok(())
 }
 
-/// Counts the lookups that an accepted reply tells.
+/// Counts the lookups that an accepted reply gives.
 fn count_told<A: Allocator + Copy>(
     conversation: &mut Conversation<A>,
     body: &ReplyBody<'_>,

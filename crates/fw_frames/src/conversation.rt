@@ -1,4 +1,4 @@
-//! What a capture has told so far: which requests wait, and which lookups were told.
+//! What a capture has so far: which requests wait, and which lookups were given.
 
 use std::alloc::{AllocError, Allocator};
 use std::collections::{BTreeMap, VecDeque};
@@ -22,7 +22,7 @@ pub(crate) struct Conversation<A: Allocator + Copy> {
     waiting: BTreeMap<u64, Waiting, A>,
     /// The uniques of those that were answered last.
     answered: VecDeque<u64, A>,
-    /// Of each node, the lookups that accepted replies told less those that were forgotten, where they differ.
+    /// Of each node, the lookups that accepted replies gave, less those that were forgotten, where they differ.
     lookups: BTreeMap<u64, i128, A>,
     requests: u64,
     replies: u64,
@@ -95,7 +95,7 @@ impl<A: Allocator + Copy> Conversation<A> {
         Ok(())
     }
 
-    /// A reply told a lookup of a node. Node 0 is none, and the root is not counted.
+    /// A reply gave a lookup of a node. Node 0 is none, and the root is not counted.
     pub(crate) fn told(&mut self, nodeid: u64) -> Result<(), AllocError> {
         if nodeid <= 1 {
             return Ok(());
@@ -118,7 +118,7 @@ impl<A: Allocator + Copy> Conversation<A> {
         )
     }
 
-    /// Of each node, the lookups that were told less those that were forgotten, where they differ.
+    /// Of each node, the lookups that were given, less those that were forgotten, where they differ.
     pub(crate) fn lookups(&self) -> &BTreeMap<u64, i128, A> {
         &self.lookups
     }

@@ -140,7 +140,7 @@ pub fn judge_capture<A: Allocator + Copy, R: BufRead, F: Write>(
 
 /// Prints the frames of a capture in words, a line each: a reply by the opcode of the request of its unique, and what a
 /// kernel makes of it. At the end one line says how many requests and replies there were, how many requests are
-/// unanswered, how many replies were refused, and of each node the lookups that were told less those that were
+/// unanswered, how many replies were refused, and of each node the lookups that were given, less those that were
 /// forgotten. The memory grows with what is unanswered and counted.
 ///
 /// Gives the exit status: 0, or as `judge_capture`, or 5 where `out` refuses. Of a capture that was judged no line is

@@ -66,8 +66,8 @@ impl Stop<'_> {
         self.status()
     }
 
-    /// The exit status: 1 where the input cannot be read, 2 where the command line names no opcode, 3 where memory is
-    /// wanting, 5 where standard output refuses.
+    /// The exit status: 1 where the input cannot be read, 2 where the command line names no opcode, 3 where memory runs
+    /// out, 5 where standard output refuses.
     fn status(self) -> u8
         ensures { result ≡ frame_status_of self.entry }
     {

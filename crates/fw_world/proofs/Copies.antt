@@ -281,7 +281,7 @@ module _ (w : World) (here : IsSoundWorld w) (place : ℕ) (sent : Sent) (found 
   judged_of (read o offset size) = tt
   judged_of (write o offset bytes) = tt
 
-  -- A number is wanting for what the copy says, where the machine's counter goes past its end.
+  -- No number is left for what the copy says, where the machine's counter goes past its end.
   passes_end : kernel.is_kernel_past w.kernel ≡ false → kernel.is_kernel_past (reply_written w.kernel sent.unique sent.wire).1 ≡ true
       → WritePasses w.kernel bytes
   passes_end low past = (
@@ -311,7 +311,7 @@ module _ (w : World) (here : IsSoundWorld w) (place : ℕ) (sent : Sent) (found 
           (to_call call state even waits is.state_is (ap (goes_with (asked state)) is.wire_is ∙ goes_failed
           (asked state)))
 
-  -- Memory is wanting only where no number is.
+  -- Memory runs out only where no number is.
   write_wanting : is_past w ≡ false → (WritePasses w.kernel bytes → ⊥) → (given : Refusal) → given ≡ NoMemory
       → RefusedWith w (event.write place) given
   write_wanting low none given is = by (is_past after) refl

@@ -37,7 +37,7 @@ lost_was_out w (written unique result) carries before after lost none =
     no_last w.results lost.sends.result none.2 lost.sends.is_last
 lost_was_out w o carries before after lost none = absurd lost
 
--- Whatever an abort comes to, it comes to an abort.
+-- Whatever an abort results in, it results in an abort.
 aborted_only : (w new : World) (o : Outcome) → Happens w abort o new → Happens w abort aborted new
 aborted_only w new o happens =
     let went = unless_ok (not (is_live w.kernel.phase)) NotReady (Ok (aborted, after_abort w)) o new happens.2 in

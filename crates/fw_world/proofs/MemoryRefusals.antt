@@ -1,4 +1,4 @@
--- Where memory was wanting, nothing else refuses the event.
+-- Where memory ran out, nothing else refuses the event.
 use Rattle.std.proofs.Common.{◌≡◌, ℕ, ◌||◌, Bool, true, false, cond, not, List, [], ◌∷◌, Option, Some, None, inl, inr, nat_eq, nat_lt, nat_le, max, length, slice_get, take, refl, ap, sym, subst, ◌∙◌}
 use Rattle.std.specs.Prelude.{◌⊎◌, ◌&&◌, IfSome, IfNone, Result}
 use Rattle.std.specs.Option.{option_map_or}

@@ -1,4 +1,4 @@
--- An event that kernel or server refused is refused so in the machine, or memory was wanting.
+-- An event that kernel or server refused is refused so in the machine, or memory ran out.
 use Rattle.std.proofs.Common.{◌≡◌, ◌≢◌, ℕ, ◌+◌, ◌||◌, Bool, true, false, cond, not, List, Option, Some, None, Ok, Err, inl, nat_eq, nat_lt, nat_le, max, length, slice_get, refl, ap, subst, ◌∙◌}
 use Rattle.fuse_spec.specs.declared.Minor.{Minor}
 use Rattle.fuse_spec.specs.declared.Dentry.{Dentry}
@@ -172,7 +172,7 @@ perform_refused w unique r (exhausted held there past) choice may =
     (is_exhausted (event.performed unique (errno_of did.wire) w.server.aborted) after (past_by_server after over))
     ∙ either_way (count_overflows w.server.nodes (files_given w.server held))
 
--- Where memory is not wanting.
+-- Where memory does not run out.
 pub refused_with : {X : Type 0} (w : World) (e : Event) (r : Result X Refusal) → IfErr r (IsRefused w e)
     → IfErr r (RefusedWith w e)
 refused_with w e (Ok x) h = tt

@@ -1,4 +1,4 @@
--- What a list of events comes to over a link of bytes.
+-- What a list of events results in over a link of bytes.
 use Rattle.std.specs.Prelude.{◌≡◌, ℕ, Bool, List, [], ◌∷◌, ◌++◌}
 use Rattle.fuse_spec.specs.declared.Refusal.{Refusal}
 use Rattle.fuse_spec.specs.declared.Refusal.TheVariants.{LinkLost}

@@ -35,7 +35,7 @@ pub enum Event<'a> {
     },
     /// So many milliseconds pass.
     Tick(u64),
-    /// The name of a directory, which is a node, is in force no longer.
+    /// The name of a directory, which is a node, is cached no longer.
     DropName {
         directory: u64,
         name: &'a [u8],

@@ -8,7 +8,7 @@ use Rattle.fuse_spec.specs.Files.Operations.{Operation, getattr, mkdir, create, 
 use Rattle.fuse_spec.specs.Calls.Answers as answer
 use Rattle.fuse_spec.specs.Calls.Vfs.{CallState, walking, doing, using, Vfs, Advance, no_more, answered, bound, unbound, opened_by, walks_on}
 
--- The next three put the names of a list in force, in order, each that has its file. (linux/fuse.h, struct
+-- The next three cache the names of a list, in order, each that has its file. (linux/fuse.h, struct
 -- fuse_direntplus)
 abbrev pub name_listed : (now directory : ℕ) → NameMap Dentry → DirentPlus ℕ → Option ℕ → NameMap Dentry
 name_listed now directory names pair None = names
@@ -23,7 +23,7 @@ names_listed now directory names (pair ∷ pairs) = names_listed now directory
 abbrev pub all_bound : {O : Type 0} → Vfs O → (directory : ℕ) → List (DirentPlus ℕ) → Vfs O
 all_bound c directory pairs = record c { names = names_listed c.clock directory c.names pairs }
 
--- The reply to the call's own operation answers the call and puts names in force or takes them out; what doesn't go
+-- The reply to the call's own operation answers the call and caches names or removes them; what doesn't go
 -- with the operation is EIO. (Linux VFS)
 abbrev pub operation_replied : {O : Type 0} → Vfs O → ℕ → Operation ℕ O → Reply ℕ O → Vfs O
 operation_replied c call operation (failed errno) = answered c call (answer.failed errno)

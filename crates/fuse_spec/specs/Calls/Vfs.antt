@@ -1,4 +1,4 @@
--- The side of the system calls, which the kernel and the plain world keep alike: the calls, the names in force and the
+-- The side of the system calls, which the kernel and the plain world keep alike: the calls, the cached names and the
 -- open files. A file is known by a number (the kernel's node id, the plain world's inode), an open file as O says.
 use Rattle.std.specs.Prelude.{ℕ, ◌+◌, Bool, cond, List, [], ◌∷◌, Option, Some, None, nat_lt}
 use Rattle.fuse_spec.specs.declared.Dentry.{Dentry}
@@ -23,7 +23,7 @@ asked (walking directory word words plan) = lookup directory word
 asked (doing operation) = operation
 asked (using open_call operation) = operation
 
--- The unanswered calls, the names in force, the open files by the numbers of the calls that opened them, the answers
+-- The unanswered calls, the cached names, the open files by the numbers of the calls that opened them, the answers
 -- that are not yet collected, the next call's number, the time in milliseconds, and how the root is named.
 pub record Vfs (O : Type 0) : Type 0 where
   pub calls : Map (CallState O)
@@ -51,13 +51,13 @@ answered c call answer = record c { calls = remove c.calls call; answers = put c
 abbrev pub asking : {O : Type 0} → Vfs O → ℕ → CallState O → Advance O
 asking c call state = record { vfs = record c { calls = put c.calls call state }; operation = Some (asked state) }
 
--- What a name in force leads to while the time is before its end; after that it has to be looked up anew.
+-- What a cached name leads to while the time is before its end; after that it has to be looked up anew.
 -- (linux/fuse.h, struct fuse_entry_out)
 abbrev pub valid_at : ℕ → Option Dentry → Option (Option ℕ)
 valid_at now None = None
 valid_at now (Some bound) = cond (nat_lt now bound.until) (Some bound.target) None
 
--- What a valid name in force leads to, if there is one. (Linux VFS)
+-- What a valid cached name leads to, if there is one. (Linux VFS)
 abbrev pub look : {O : Type 0} → Vfs O → ℕ → Name → Option (Option ℕ)
 look c directory name = valid_at c.clock (get_name c.names (directory, name))
 
@@ -68,7 +68,7 @@ bound c directory name target valid = record c {
       put_name c.names (directory, name) (record { target = target; until = c.clock + valid });
 }
 
--- The name is in force no longer. (Linux VFS)
+-- The name is cached no longer. (Linux VFS)
 abbrev pub unbound : {O : Type 0} → Vfs O → ℕ → Name → Vfs O
 unbound c directory name = record c { names = remove_name c.names (directory, name) }
 

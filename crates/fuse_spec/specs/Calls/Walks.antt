@@ -1,4 +1,4 @@
--- How a call finds its files: one word after another, as far as the names in force lead.
+-- How a call finds its files: one word after another, as far as the cached names lead.
 use Rattle.std.specs.Prelude.{List, [], ◌∷◌, Option, Some, None, unwrap_or, option_to_list, flat_map}
 use Rattle.fuse_spec.specs.Calls.Paths.{Name}
 use Rattle.fuse_spec.specs.declared.operation.NoOpenFile.{NoOpenFile}
@@ -24,14 +24,14 @@ no_open_file o = elim o [ ]
 abbrev pub operation_at : {F O : Type 0} → FinalOperation F → F → Operation F O
 operation_at final file = operation_with (λ named. unwrap_or named file) no_open_file final
 
--- Where the names in force leave a walk: at a name that has to be looked up, at a missing one, or at its end. (Linux
+-- Where the cached names leave a walk: at a name that has to be looked up, at a missing one, or at its end. (Linux
 -- VFS)
 pub data WalkStop (F : Type 0) : Type 0 where
   unknown : (directory : F) (word : Name) (words : List Name) → WalkStop F
   missing : WalkStop F
   arrived : (file : F) → WalkStop F
 
--- Along the words as far as names in force lead; `look` says what a valid name in force leads to, if there is one.
+-- Along the words as far as cached names lead; `look` says what a valid cached name leads to, if there is one.
 -- (Linux VFS)
 abbrev pub go : {F : Type 0} → (F → Name → Option (Option F)) → F → List Name → WalkStop F
 go look at [] = arrived at
@@ -42,7 +42,7 @@ go look at (word ∷ words) =
           elim found [ None ↦ missing | Some file ↦ go look file words ]
     ]
 
--- What a call that walks comes to: a name to be looked up, no such file, or its operation. (Linux VFS)
+-- What a call that walks results in: a name to be looked up, no such file, or its operation. (Linux VFS)
 pub data Walked (F O : Type 0) : Type 0 where
   looks_up : (directory : F) (word : Name) (words : List Name) (plan : WalkPlan F) → Walked F O
   finds_none : Walked F O

@@ -27,7 +27,7 @@ pub record TreeAlike (s : Server) (tree : Tree) : Type 0 where
   pub files : (file : ℕ) → get s.tree.files file ≡ cond (not (is_nameless tree file) || is_file_held s file)
       (get tree.files file) None
 
--- With each file named as R says, and each open file as S says, the names in force, the open files, the unanswered
+-- With each file named as R says, and each open file as S says, the cached names, the open files, the unanswered
 -- calls and the answers that aren't collected are the same.
 pub record VfsAlike {O P : Type 0} (R : ℕ → ℕ → Type 0) (S : O → P → Type 0) (c : Vfs O) (d : Vfs P) : Type 0 where
   pub names : (id file : ℕ) (name : List ℕ) → R id file

@@ -71,6 +71,6 @@ StateAlike R S (doing a) (doing b) = OperationAlike R S a b
 StateAlike R S (using open_call a) (using open_call' b) = (open_call ≡ open_call') × OperationAlike R S a b
 StateAlike R S a b = ⊥
 
--- Two names in force that lead to the same file, or both to none, for as long.
+-- Two cached names that lead to the same file, or both to none, for as long.
 abbrev pub DentryAlike : (ℕ → ℕ → Type 0) → Dentry → Dentry → Type 0
 DentryAlike R a b = OptionAlike R a.target b.target × (a.until ≡ b.until)

@@ -230,7 +230,7 @@ abbrev pub leads_to : ℕ → Option ℕ → Bool
 leads_to node None = false
 leads_to node (Some target) = nat_eq target node
 
--- Whether a name in force stands in the node or leads to it, valid or not. (this project's rule)
+-- Whether a cached name stands in the node or leads to it, valid or not. (this project's rule)
 abbrev pub is_bound : Kernel → ℕ → Bool
 is_bound k node = list_any (λ (e : (ℕ × List ℕ) × Dentry). nat_eq e.0.0 node || leads_to node e.1.target) k.vfs.names
 

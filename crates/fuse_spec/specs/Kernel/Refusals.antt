@@ -51,7 +51,7 @@ or_no_memory (Some refusal) = refusal
 abbrev pub is_kernel_past_end : Kernel → Bool
 is_kernel_past_end k = nat_lt counter_end k.queues.next || nat_lt counter_end k.vfs.next_call
 
--- Whether a node's lookups have come to the end of counters.
+-- Whether a node's lookups have reaches the end of counters.
 abbrev pub is_counted_out : Map Counted → Bool
 is_counted_out nodes = list_any (λ (node : Counted). nat_le counter_end node.count) (values nodes)
 
@@ -111,11 +111,11 @@ module _ {A : Type 0} (k : Kernel) where
   abbrev pub to_signal : ℕ → (CallState Opened → Result A Refusal) → Result A Refusal
   to_signal call next = when_live (found (get k.vfs.calls call) next)
 
-  -- A name in force that is to be dropped.
+  -- A cached name that is to be dropped.
   abbrev pub to_drop : ℕ → Name → (Dentry → Result A Refusal) → Result A Refusal
   to_drop directory name next = when_live (found (get_name k.vfs.names (directory, name)) next)
 
-  -- A counted node that is to be given up, unless it is in use or a name in force names it.
+  -- A counted node that is to be given up, unless it is in use or a cached name names it.
   abbrev pub unused_found : ℕ → Option Counted → (Counted → Result A Refusal) → Result A Refusal
   unused_found node there next = found there
       (λ (counted : Counted). unless (is_pinned k node || is_bound k node) Busy (next counted))

@@ -94,7 +94,7 @@ ask_marked p label ask = record p { asks = put p.asks label (record ask { marked
 abbrev pub plain_later : Plain → ℕ → Plain
 plain_later p ms = record p { vfs = later p.vfs ms }
 
--- A name in force is dropped.
+-- A cached name is dropped.
 abbrev pub name_dropped : Plain → (directory : ℕ) → Name → Plain
 name_dropped p directory name = record p { vfs = record p.vfs { names = remove_name p.vfs.names (directory, name) } }
 

@@ -16,16 +16,16 @@ use Rattle.fuse_spec.specs.Calls.Answers.{Answer}
 use Rattle.fuse_spec.specs.Calls.Answers as answer
 use Rattle.fuse_spec.specs.Calls.Vfs.{CallState, walking, doing, using, Vfs}
 
--- ---- names in force
+-- ---- cached names
 
--- While the time is before its end, a name in force leads to a file, or to none. (linux/fuse.h, struct fuse_entry_out)
+-- While the time is before its end, a cached name leads to a file, or to none. (linux/fuse.h, struct fuse_entry_out)
 pub record LeadsTo (c : Vfs ℕ) (directory : ℕ) (name : Name) (target : Option ℕ) : Type 0 where
   pub bound : Dentry
   pub there : get_name c.names (directory, name) ≡ Some bound
   pub in_time : c.clock < bound.until
   pub target_is : bound.target ≡ target
 
--- No name is in force there, or its time is over. (linux/fuse.h, struct fuse_entry_out)
+-- No name is cached there, or its time is over. (linux/fuse.h, struct fuse_entry_out)
 abbrev pub IsNotInForce : Vfs ℕ → ℕ → Name → Type 0
 IsNotInForce c directory name = (bound : Dentry) → get_name c.names (directory, name) ≡ Some bound
     → bound.until ≤ c.clock
@@ -43,7 +43,7 @@ out_of_force c directory name = record c { names = remove_name c.names (director
 
 -- ---- walks
 
--- A walk from a file along words: a name in force leads on; a missing name ends it, and so does one that has to be
+-- A walk from a file along words: a cached name leads on; a missing name ends it, and so does one that has to be
 -- asked for. (Linux VFS)
 pub data Walks (c : Vfs ℕ) : ℕ → List Name → WalkStop ℕ → Type 0 where
   is_there : (file : ℕ) → Walks c file [] (arrived file)

@@ -49,7 +49,7 @@ pub record AllAnswered (calls : Map (CallState ℕ)) (answers : Map Answer) (a :
   pub unanswered : (number : ℕ) (state : CallState ℕ) → get calls number ≡ Some state → get after number ≡ Some a
   pub others : (number : ℕ) → get calls number ≡ None → get after number ≡ get answers number
 
--- Every unanswered call is answered ECONNABORTED, and no name is in force and no file open any longer. (fuse.rst)
+-- Every unanswered call is answered ECONNABORTED, and no name is cached and no file open any longer. (fuse.rst)
 pub record GivesUp (c : Vfs ℕ) (after : Vfs ℕ) : Type 0 where
   pub answers : AllAnswered c.calls c.answers (failed econnaborted) after.answers
   pub rest : after ≡ record c { calls = []; names = []; opens = []; answers = after.answers }

@@ -119,7 +119,7 @@ reads_other (event.read_pending k) = true
 reads_other other = false
 
 -- What the event names is not there: no such pending request, forget, INTERRUPT, request, copy or result on its link,
--- no such request held, call unanswered, name in force, or node counted.
+-- no such request held, call unanswered, cached name, or node counted.
 pub data NamesNothing (w : World) : Event → Type 0 where
   no_interrupt : w.kernel.queues.interrupts ≡ [] → NamesNothing w event.read_interrupt
   no_forgets : (n : ℕ) → forgets_read w.kernel n ≡ None → NamesNothing w (event.read_forgets n)

@@ -30,7 +30,7 @@ use Rattle.fuse_spec.specs.World.Worlds.{World, Sent, after_mount, after_call, w
 use Rattle.fuse_spec.specs.World.Events.{Event, Outcome}
 use Rattle.fuse_spec.specs.World.Events as event
 
--- What an event comes to: an outcome and the world after it, or a refusal.
+-- What an event results in: an outcome and the world after it, or a refusal.
 abbrev pub Stepped : Type 0
 Stepped = Result (Outcome × World) Refusal
 
@@ -98,7 +98,7 @@ signalled_as w call moved = going (event.interrupted call moved.0) (record w { k
 abbrev pub signalling : World → ℕ → Bool → CallState Opened → Stepped
 signalling w call fatal state = signalled_as w call (call_signalled w.kernel call state fatal)
 
--- A name in force is dropped.
+-- A cached name is dropped.
 abbrev pub dropping : World → Dentry → Stepped
 dropping after bound = Ok (event.dropped, after)
 
@@ -158,12 +158,12 @@ takes_memory (event.evict node) = false
 takes_memory event.abort = false
 takes_memory other = true
 
--- Memory was wanting: this is the last refusal, of an event that takes memory and that nothing else refuses.
+-- Out of memory: this is the last refusal, of an event that takes memory and that nothing else refuses.
 pub record OutOfMemory (w : World) (event : Event) (refusal : Refusal) : Type 0 where
   pub wanting : refusal ≡ NoMemory
   pub takes : takes_memory event ≡ true
   pub last : (other : Refusal) → IsRefused w event other → ⊥
 
--- The event is refused so, or memory was wanting.
+-- The event is refused so, or memory ran out.
 abbrev pub RefusedWith : World → Event → Refusal → Type 0
 RefusedWith w event refusal = IsRefused w event refusal ⊎ OutOfMemory w event refusal

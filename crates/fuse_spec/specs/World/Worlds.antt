@@ -136,7 +136,7 @@ after_settle w k result copy = record w { results = without w.results k; server 
 abbrev pub after_tick : World → ℕ → World
 after_tick w ms = record w { kernel = record w.kernel { vfs = later w.kernel.vfs ms } }
 
--- A name in force is dropped.
+-- A cached name is dropped.
 abbrev pub after_drop : World → ℕ → Name → World
 after_drop w directory name =
     record w {
@@ -152,7 +152,7 @@ after_drop w directory name =
 abbrev pub after_evict : World → ℕ → Counted → World
 after_evict w node counted = record w { kernel = evicted w.kernel node counted }
 
--- An abort empties the three links, and tells the server that the connection is lost. (this project's rule)
+-- An abort empties the three links, and the server loses its connection. (this project's rule)
 abbrev pub after_abort : World → World
 after_abort w = record {
   kernel = kernel_aborted w.kernel;

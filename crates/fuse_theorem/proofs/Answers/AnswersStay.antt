@@ -277,7 +277,7 @@ sent_off : (w : World) → AnswersSound w.kernel.vfs → (number unique : ℕ) (
 sent_off w sound number unique None = as_they_were w.kernel.vfs sound
 sent_off w sound number unique (Some wire) = as_they_were w.kernel.vfs sound
 
--- The time and the names in force are no matter of the calls.
+-- The time and the cached names are no matter of the calls.
 as_before : (c d : Vfs Opened) → AnswersSound c → d.calls ≡ c.calls → d.answers ≡ c.answers → d.next_call ≡ c.next_call
     → CallsStay false c d
 as_before c d sound calls answers coming = record {

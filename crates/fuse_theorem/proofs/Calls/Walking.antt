@@ -15,7 +15,7 @@ module _ {F O G P : Type 0} (R : F → G → Type 0) (S : O → P → Type 0) wh
   WalkStopAlike (arrived x) (arrived y) = R x y
   WalkStopAlike a b = ⊥
 
-  -- what a walk comes to
+  -- the result of a walk
   abbrev pub WalkedAlike : Walked F O → Walked G P → Type 0
   WalkedAlike (looks_up d word words plan) (looks_up e word' words' plan') =
       R d e × (word ≡ word') × (words ≡ words') × WalkPlanAlike R plan plan'
@@ -23,7 +23,7 @@ module _ {F O G P : Type 0} (R : F → G → Type 0) (S : O → P → Type 0) wh
   WalkedAlike (asks a) (asks b) = OperationAlike R S a b
   WalkedAlike a b = ⊥
 
-  -- The names in force lead alike.
+  -- The cached names lead alike.
   abbrev pub LookAlike : (F → Name → Option (Option F)) → (G → Name → Option (Option G)) → Type 0
   LookAlike look see = (d : F) (e : G) (name : Name) → R d e → OptionAlike (OptionAlike R) (look d name) (see e name)
 

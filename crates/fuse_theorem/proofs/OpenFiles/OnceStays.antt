@@ -443,7 +443,7 @@ module _ (choice : ℕ → ℕ) (w : World) (p : Plain) (both : BothSound w p) (
       moved (after_evict w node counted).kernel w.requests (λ f. refl) (λ u fh c waits. waits)
   once_after e o after may (by_abort was) alive_now = absurd (true≢false (sym alive_now))
 
--- A world that is not live comes to life by a mount alone.
+-- A world that is not live becomes live by a mount alone.
 mounted_once : (choice : ℕ → ℕ) (w : World) (sound : WorldSound w) → is_live w.kernel.phase ≡ false
     → (e : Event) (o : Outcome) (after : World) → Happened choice w e o after → is_live after.kernel.phase ≡ true
     → OpensOnce after

@@ -1,4 +1,4 @@
--- A name in force is dropped in both worlds.
+-- A cached name is dropped in both worlds.
 use Rattle.std.proofs.Common.{◌≡◌, ℕ, Some, refl}
 use Rattle.fuse_spec.specs.declared.Dentry.{Dentry}
 use Rattle.fuse_spec.specs.Values.Maps.{get_name}

@@ -48,7 +48,7 @@ found_fails test m k x none at = by (test x) refl
     by true e = absurd (true≢false (sym (found_any test m k x at e) ∙ none))
     by false e = e
 
--- a name in force that is found, where none stands in the node or leads to it
+-- a cached name that is found, where none stands in the node or leads to it
 abbrev Uses : ℕ → (ℕ × List ℕ) × Dentry → Bool
 Uses node e = nat_eq e.0.0 node || leads_to node e.1.target
 
@@ -79,7 +79,7 @@ unbound node (e ∷ names) id name bound none at =
         )
     by false tie f rest = rest f
 
--- a target that a binding leads to is not the node
+-- a target that a dentry leads to is not the node
 pub not_target : (node : ℕ) (o : Option ℕ) (target : ℕ) → leads_to node o ≡ false → o ≡ Some target → target ≢ node
 not_target node None target none is = absurd (cc)
 not_target node (Some x) target none is = λ e.

@@ -312,7 +312,7 @@ module _ (choice : ℕ → ℕ) (w : World) (sound : WorldSound w) (asked : Requ
               ];
         })
 
-    -- after an abort nobody receives of it
+    -- after an abort no request is received
     dead_performs : is_live w.kernel.phase ≡ false → w.server.aborted ≡ true → (b : Bool) → w.server.aborted ≡ b
         → (served choice w.server unique t).server.kept ≡ cond b w.server.kept (put w.server.kept unique first_kept)
         → LinksSound (copy_put (record w {

@@ -278,7 +278,7 @@ module _ (w : World) (p : Plain) (same : Alike w p) (o : Outcome) (last : World)
             without w.kernel.queues sent.unique;
       }) call sent.wire (get w.kernel.vfs.calls call)
 
-      -- what a reply to a call's request comes to
+      -- what a reply to a call's request results in
       to_call : (sent : Sent) (call : ℕ) → nat_eq (sent.unique % 2) 1 ≡ false
           → waiting w.kernel.queues sent.unique ≡ Some (purpose.Call call)
           → reply_written w.kernel sent.unique sent.wire ≡ replied_to_call

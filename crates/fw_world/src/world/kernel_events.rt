@@ -193,7 +193,7 @@ impl<T: Tables> WorldOf<T> {
     }
 }
 
-/// Puts the frame of a request that was read onto its link, which has room, and tells what the read came to.
+/// Puts the frame of a request that was read onto its link, which has room, and gives what was read.
 #[inline(always)]
 fn put_read<A: Allocator>(
     requests: &mut VecDeque<RequestFrame<A>, A>,

@@ -1,4 +1,4 @@
-//! Which refusal an event has where memory was wanting for it.
+//! Which refusal an event has where memory ran out for it.
 
 ghost use Rattle.std.specs.Prelude.{◌≡◌};
 ghost use Rattle.fuse_spec.specs.Kernel.Refusals.{or_no_memory};

@@ -127,7 +127,7 @@ impl<T: Tables> WorldOf<T> {
     }
 }
 
-/// Makes room for the answer that a request frame gets at once, as only an INTERRUPT may, and tells whether there is
+/// Makes room for the answer that a request frame gets at once, as only an INTERRUPT may, and says whether there is
 /// room.
 fn reserve_answer<S: NodeStore>(
     replies: &mut VecDeque<Sent<S::Heap>, S::Heap>,
@@ -144,7 +144,7 @@ fn reserve_answer<S: NodeStore>(
     replies.reserve(1).is_ok()
 }
 
-/// Puts a copy of a reply onto its link, which has room, and tells its length.
+/// Puts a copy of a reply onto its link, which has room, and gives its length.
 fn put_reply<A: Allocator>(replies: &mut VecDeque<Sent<A>, A>, copy: Sent<A>) -> usize
     requires { deque_len replies.old < deque_capacity replies.old }
     ensures items { replies.new.items ≡ replies.old.items ++ copy ∷ [] }
