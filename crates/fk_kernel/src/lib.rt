@@ -21,6 +21,6 @@ mod replying;
 mod signals;
 mod writing;
 
-pub use fk_syscalls::{Answer, Call, ListedName};
+pub use fk_syscalls::{Answer, Call, ListedName, ListedNames, Listing};
 pub use kernel::{Kernel, KernelOf, ListKernel};
 pub use pick::Pick;

@@ -6,3 +6,4 @@ pub mod Parents
 pub mod BytesLeft
 pub mod Advances
 pub mod NamesStay
+mod RowsLemmas

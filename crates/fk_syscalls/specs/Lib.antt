@@ -4,3 +4,5 @@ pub mod Plans
 pub mod States
 pub mod Values
 pub mod NewNames
+pub mod Rows
+pub mod Listings

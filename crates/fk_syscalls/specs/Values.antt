@@ -1,5 +1,5 @@
 -- What contracts see of calls.
-use Rattle.std.specs.Prelude.{◌≡◌, ℕ, List, None, All, map}
+use Rattle.std.specs.Prelude.{◌≡◌, ℕ, List, None, All}
 use Rattle.std.specs.Borrow.{Bor}
 use Rattle.fuse_spec.specs.Calls.Answers.{failed}
 use Rattle.fuse_spec.specs.Calls.Answers as answer
@@ -19,7 +19,6 @@ use Rattle.fk_syscalls.specs.declared.beginning.Change.{Change}
 use Rattle.fk_syscalls.specs.declared.beginning.Change.TheVariants as change
 use Rattle.fk_syscalls.specs.declared.call.Answer.{Answer}
 use Rattle.fk_syscalls.specs.declared.call.Answer.TheVariants.{Done, Attributes, Listing, Content, Written, Failed}
-use Rattle.fk_syscalls.specs.declared.call.ListedName.{ListedName}
 use Rattle.fk_syscalls.specs.declared.call.Call.{Call}
 use Rattle.fk_syscalls.specs.declared.call.Call.TheVariants.{Stat, List as Lists, ListPlus, Open, Mkdir, Create, Unlink, Rmdir, Rename, Link, Read, Write, Close}
 use Rattle.fk_syscalls.specs.declared.state.Next.{Next}
@@ -53,15 +52,11 @@ abbrev pub ClosesNone : Call → Type 0
 ClosesNone (Close open_call) = ⊥
 ClosesNone other = Unit {0}
 
--- The name that is listed.
-abbrev pub listed_dirent : {A : Type 0} → ListedName A → op.Dirent
-listed_dirent listed = record { ino = listed.ino; offset = listed.offset; kind = listed.kind; name = listed.name.items }
-
 -- The answer that is meant.
 abbrev pub answer_of : {A : Type 0} → Answer A → answer.Answer
 answer_of Done = answer.done
 answer_of (Attributes attributes) = answer.attributes attributes
-answer_of (Listing names) = answer.listing (map listed_dirent names.items)
+answer_of (Listing names) = answer.listing names
 answer_of (Content bytes) = answer.content bytes.items
 answer_of (Written size) = answer.written size
 answer_of (Failed errno) = answer.failed errno

@@ -4,7 +4,8 @@ ghost use Rattle.std.specs.Prelude.{◌≡◌};
 ghost use Rattle.fuse_spec.specs.Calls.Calls.{for_minor};
 ghost use Rattle.fk_syscalls.specs.Values.{call_of};
 
-use fuse_spec::{Attributes, Kind};
+use crate::listing::Listing;
+use fuse_spec::Attributes;
 use std::alloc::{Allocator, Global};
 
 /// A system call. Its paths and bytes are lent. An open file is known by the number of the call that opened it.
@@ -85,21 +86,12 @@ impl<'a> Call<'a> {
     }
 }
 
-/// A name that a directory lists, with the offset from which to read on.
-#[derive(Drop)]
-pub struct ListedName<A: Allocator = Global> {
-    pub ino: u64,
-    pub offset: u64,
-    pub kind: Kind,
-    pub name: Vec<u8, A>,
-}
-
 /// What a system call is answered: the operation's result, or an error number.
 #[derive(Drop)]
 pub enum Answer<A: Allocator = Global> {
     Done,
     Attributes(Attributes),
-    Listing(Vec<ListedName<A>, A>),
+    Listing(Listing<A>),
     Content(Vec<u8, A>),
     Written { size: u32 },
     Failed { errno: u32 },

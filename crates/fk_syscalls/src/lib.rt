@@ -3,6 +3,7 @@
 
 mod beginning;
 mod call;
+mod listing;
 mod new_name;
 mod path;
 mod plan;
@@ -11,6 +12,7 @@ mod walk;
 mod words;
 
 pub use beginning::begin;
-pub use call::{Answer, Call, ListedName};
+pub use call::{Answer, Call};
+pub use listing::{ListedName, ListedNames, Listing};
 pub use new_name::NewName;
 pub use state::{CallState, Next};

@@ -4,6 +4,7 @@
 mod counts;
 mod digits;
 mod kernel;
+mod listings;
 mod names;
 mod pins;
 mod queues;

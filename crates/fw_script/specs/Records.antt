@@ -3,6 +3,7 @@ use Rattle.std.specs.Prelude.{ℕ, List, [], ◌∷◌, ◌++◌, Option, Some, 
 use Rattle.std.specs.Prelude.{nat_le, if◌then◌else◌, codes, decimal, flat_map, map}
 use Rattle.hex.specs.Hex.{encode_lower}
 use Rattle.fk_wire.specs.Opcodes.{name_of}
+use Rattle.fuse_spec.specs.Files.Operations.{Dirent}
 use Rattle.fw_world.specs.declared.event.Outcome.{Outcome}
 use Rattle.fw_world.specs.declared.event.Outcome.TheVariants as outcome
 use Rattle.fuse_spec.specs.declared.Taken.{Taken}
@@ -18,7 +19,6 @@ use Rattle.fuse_spec.specs.declared.Kind.{Kind}
 use Rattle.fuse_spec.specs.declared.Kind.TheVariants as kind
 use Rattle.fk_syscalls.specs.declared.call.Answer.{Answer}
 use Rattle.fk_syscalls.specs.declared.call.Answer.TheVariants as answer
-use Rattle.fk_syscalls.specs.declared.call.ListedName.{ListedName}
 use Rattle.fw_world.specs.declared.record.Record.{Record}
 use Rattle.fw_world.specs.declared.record.Record.TheVariants as records
 use Rattle.fw_script.specs.HexTexts.{hex_or_none}
@@ -100,9 +100,9 @@ abbrev pub shown_byte : ℕ → ℕ
 shown_byte byte = if nat_le 33 byte && nat_le byte 126 then byte else 63
 
 -- a listed name: the name, the offset from which to read on, the kind
-abbrev pub listed_words : {A : Type 0} → ListedName A → List ℕ
+abbrev pub listed_words : Dirent → List ℕ
 listed_words listed =
-    codes " " ++ map shown_byte listed.name.items ++ codes ":" ++ decimal listed.offset ++ codes ":"
+    codes " " ++ map shown_byte listed.name ++ codes ":" ++ decimal listed.offset ++ codes ":"
     ++ kind_word listed.kind
 
 abbrev pub attributes_words : Attributes → List ℕ
@@ -114,7 +114,7 @@ attributes_words a =
 abbrev pub answer_words : {A : Type 0} → Answer A → List ℕ
 answer_words answer.Done = codes "0"
 answer_words (answer.Attributes a) = attributes_words a
-answer_words (answer.Listing names) = codes "0" ++ flat_map listed_words names.items
+answer_words (answer.Listing names) = codes "0" ++ flat_map listed_words names
 answer_words (answer.Content bytes) = codes "0 " ++ hex_or_none bytes.items
 answer_words (answer.Written size) = codes "0 " ++ decimal size
 answer_words (answer.Failed errno) = decimal errno

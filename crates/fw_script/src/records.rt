@@ -3,6 +3,7 @@
 ghost use Rattle.std.specs.Prelude.{◌≡◌, ◌≤◌, ◌++◌, ◌↔◌, [], All, IsTrue, OnErr, OnOk};
 ghost use Rattle.std.specs.Prelude.{codes, decimal, flat_map, length, map, option_copied};
 ghost use Rattle.std.specs.Io.KnownBytes.{Appends};
+ghost use Rattle.fk_syscalls.specs.Listings.{listed_dirent};
 ghost use Rattle.fw_script.specs.HexTexts.{hex_or_none};
 ghost use Rattle.fw_script.specs.Outputs.{AppendsSome};
 ghost use Rattle.fw_script.specs.Records.{answer_text, event_text, frame_text, outcome_line, put_text, record_text};
@@ -15,7 +16,7 @@ use crate::print::{
     name_of_refusal, number_of_refusal, put_attributes, put_outcome_line, word_of_kind,
 };
 use crate::short_text::ShortText;
-use fw_world::{Answer, Attributes, Kind, ListedName, Outcome, Record, Refusal};
+use fw_world::{Answer, Attributes, Kind, ListedName, Listing, Outcome, Record, Refusal};
 use std::alloc::Allocator;
 use std::io::Write;
 
@@ -81,27 +82,21 @@ fn write_place<W: Write>(out: &mut W, offset: u64, kind: Kind) -> Result<(), Out
 
 /// Writes a listed name, as ` NAME:OFF:KIND`, whose name is not short or is not printed as it is.
 #[cold]
-fn write_long<A: Allocator, W: Write>(
-    out: &mut W,
-    listed: &ListedName<A>,
-) -> Result<(), OutputRefused>
-    ensures ok { OnOk result (Appends (W.contents out.old) (W.contents out.new) (listed_words listed.now)) }
-    ensures refused { OnErr result (AppendsSome (W.contents out.old) (W.contents out.new) (listed_words listed.now)) }
+fn write_long<W: Write>(out: &mut W, listed: &ListedName<'_>) -> Result<(), OutputRefused>
+    ensures ok { OnOk result (Appends (W.contents out.old) (W.contents out.new) (listed_words (listed_dirent listed.now))) }
+    ensures refused { OnErr result (AppendsSome (W.contents out.old) (W.contents out.new) (listed_words (listed_dirent listed.now))) }
 {
     write_text(out, b" ")?;
-    write_name(out, listed.name.as_slice())?;
+    write_name(out, listed.name)?;
     write_place(out, listed.offset, listed.kind)
 }
 
 /// Writes a listed name, as ` NAME:OFF:KIND`. Most are short, and are written at once.
-fn write_listed<A: Allocator, W: Write>(
-    out: &mut W,
-    listed: &ListedName<A>,
-) -> Result<(), OutputRefused>
-    ensures ok { OnOk result (Appends (W.contents out.old) (W.contents out.new) (listed_words listed.now)) }
-    ensures refused { OnErr result (AppendsSome (W.contents out.old) (W.contents out.new) (listed_words listed.now)) }
+fn write_listed<W: Write>(out: &mut W, listed: &ListedName<'_>) -> Result<(), OutputRefused>
+    ensures ok { OnOk result (Appends (W.contents out.old) (W.contents out.new) (listed_words (listed_dirent listed.now))) }
+    ensures refused { OnErr result (AppendsSome (W.contents out.old) (W.contents out.new) (listed_words (listed_dirent listed.now))) }
 {
-    let name = listed.name.as_slice();
+    let name = listed.name;
     if name.len() > SHORT {
         return write_long(out, listed);
     }
@@ -118,13 +113,13 @@ fn write_listed<A: Allocator, W: Write>(
 /// Writes listed names one after another.
 fn write_listing<A: Allocator, W: Write>(
     out: &mut W,
-    names: &[ListedName<A>],
+    names: &Listing<A>,
 ) -> Result<(), OutputRefused>
     ensures ok { OnOk result (Appends (W.contents out.old) (W.contents out.new) (flat_map listed_words names.now)) }
     ensures refused { OnErr result (AppendsSome (W.contents out.old) (W.contents out.new) (flat_map listed_words names.now)) }
 {
-    for listed in names {
-        write_listed(out, listed)?;
+    for listed in names.iter() {
+        write_listed(out, &listed)?;
     }
     Ok(())
 }
@@ -196,7 +191,7 @@ fn write_counted<W: Write>(
 fn write_names<A: Allocator, W: Write>(
     out: &mut W,
     call: u64,
-    names: &[ListedName<A>],
+    names: &Listing<A>,
 ) -> Result<(), OutputRefused>
     ensures ok { OnOk result (Appends (W.contents out.old) (W.contents out.new)
         (codes "answer " ++ decimal call ++ codes " " ++ (codes "0" ++ flat_map listed_words names.now) ++ codes "\n")) }
@@ -232,7 +227,7 @@ fn write_answered<A: Allocator, W: Write>(
     match answer {
         Answer::Done => write_start(out, call, b"0\n"),
         Answer::Attributes(attributes) => write_attributes(out, call, *attributes),
-        Answer::Listing(names) => write_names(out, call, names.as_slice()),
+        Answer::Listing(names) => write_names(out, call, names),
         Answer::Content(bytes) => write_content(out, call, bytes.as_slice()),
         Answer::Written { size } => write_counted(out, call, b"0 ", u64::from(*size)),
         Answer::Failed { errno } => write_counted(out, call, b"", u64::from(*errno)),

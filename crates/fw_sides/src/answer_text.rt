@@ -3,7 +3,7 @@
 ghost use Rattle.std.specs.Prelude.{◌<◌};
 
 use crate::form::{Form, Printer};
-use fk_kernel::{Answer, ListedName};
+use fk_kernel::{Answer, ListedName, Listing};
 use fuse_spec::{Attributes, Kind};
 use fw_script::{OutputRefused, word_of_kind};
 use std::alloc::Allocator;
@@ -37,12 +37,12 @@ fn print_name_byte<W: Write>(printer: &mut Printer<'_, W>, byte: u8) -> Result<(
 }
 
 /// Prints a listed name as a JSON object.
-fn print_listed<A: Allocator, W: Write>(
+fn print_listed<W: Write>(
     printer: &mut Printer<'_, W>,
-    listed: &ListedName<A>,
+    listed: &ListedName<'_>,
 ) -> Result<(), OutputRefused> {
     printer.put(b"{\"name\":\"")?;
-    for byte in listed.name.as_slice() {
+    for byte in listed.name {
         print_name_byte(printer, *byte)?;
     }
     printer.put(b"\",\"off\":")?;
@@ -55,16 +55,16 @@ fn print_listed<A: Allocator, W: Write>(
 /// Prints the names of a listing as a JSON array.
 fn print_listing<A: Allocator, W: Write>(
     printer: &mut Printer<'_, W>,
-    names: &[ListedName<A>],
+    names: &Listing<A>,
 ) -> Result<(), OutputRefused> {
     printer.put(b",\"names\":[")?;
     let mut is_first = true;
-    for listed in names {
+    for listed in names.iter() {
         if !is_first {
             printer.put(b",")?;
         }
         is_first = false;
-        print_listed(printer, listed)?;
+        print_listed(printer, &listed)?;
     }
     printer.put(b"]")
 }
@@ -92,7 +92,7 @@ fn print_given<A: Allocator, W: Write>(
     match answer {
         Answer::Done | Answer::Failed { .. } => Ok(()),
         Answer::Attributes(attributes) => print_attributes(printer, *attributes),
-        Answer::Listing(names) => print_listing(printer, names.as_slice()),
+        Answer::Listing(names) => print_listing(printer, names),
         Answer::Content(bytes) => {
             printer.put(b",\"data\":\"")?;
             printer.put_hex(bytes.as_slice())?;

@@ -12,7 +12,7 @@ mod tables;
 mod world;
 
 pub use event::{Event, Outcome};
-pub use fk_kernel::{Answer, Call, ListedName, Pick};
+pub use fk_kernel::{Answer, Call, ListedName, ListedNames, Listing, Pick};
 pub use fuse_spec::{Attributes, IntrEffect, Kind, Minor, Refusal, Taken, WriteResult};
 pub use laws::lost_where_failed;
 pub use record::Record;

@@ -3,8 +3,9 @@
 
 use crate::tests::assert_right;
 use crate::tests::digits::{spells, unhex};
+use crate::tests::listings::{Listed, are_names};
 use fail_at::{FailAt, Outcome, Tried, first_wrong, judged};
-use fk_kernel::{Answer, Call, KernelOf, ListedName, Pick};
+use fk_kernel::{Answer, Call, KernelOf, Pick};
 use fk_lookup_count::{CountTable, KernelNodes};
 use fk_queues::{QueueTable, Queues};
 use fk_wire::Opcode;
@@ -32,9 +33,6 @@ impl<Q: QueueTable<Purpose> + Drop> RequestQueues for Q {}
 trait LookupCounts: CountTable + Drop {}
 
 impl<C: CountTable + Drop> LookupCounts for C {}
-
-/// The inode number, the offset, the kind and the bytes of a name that is listed.
-type Listed = (u64, u64, Kind, &'static str);
 
 /// What a call is answered.
 #[derive(Clone, Copy)]
@@ -282,25 +280,6 @@ fn interrupts<Q: RequestQueues, C: LookupCounts<Heap = Q::Heap>>(
     wanted: Result<IntrEffect, Refusal>,
 ) -> Outcome {
     gives(kernel.interrupt(call, fatal), wanted)
-}
-
-fn is_name<A: Allocator>(given: &ListedName<A>, name: &Listed) -> bool {
-    given.ino == name.0
-        && given.offset == name.1
-        && given.kind == name.2
-        && given.name.as_slice() == name.3.as_bytes()
-}
-
-fn are_names<A: Allocator>(given: &[ListedName<A>], names: &[Listed]) -> bool {
-    if given.len() != names.len() {
-        return false;
-    }
-    for (given, name) in given.iter().zip(names) {
-        if !is_name(given, name) {
-            return false;
-        }
-    }
-    true
 }
 
 fn is_answer<A: Allocator>(answer: &Answer<A>, expected: Expected) -> bool {
