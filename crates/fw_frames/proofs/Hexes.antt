@@ -8,7 +8,7 @@ use Rattle.std.proofs.lemmas.List.Elements.{All-cons, All-nil, All-tail}
 use Rattle.hex.specs.Hex.{IsBytes, decode_of, decode_pairs, digit_or_error, hex_digit_value, encode_lower, encode_with, lower_digits, pair_value, value_at}
 use Rattle.hex.proofs.HexLemmas.{IsDigits-lower_digits, decode_of-even, length-encode_with}
 use Rattle.hex.proofs.Pairs.{cons_byte, decode_pairs-ok_pair}
-use Rattle.fw_frames.specs.HexTexts.{IsHexText, IsHexDigit, SpellsHexText}
+use Rattle.fw_frames.specs.HexTexts.{IsHex, IsLowerDigit, SpellsHex}
 
 -- ---- the sixteen digits
 
@@ -52,12 +52,12 @@ digit_from_ten c from to =
     has_digits-at 16 (c - 87) refl (omega arith) ∙ digit ∙ same
 
 -- the value of a lower-case digit
-value_of_digit : (c : ℕ) → IsHexDigit c → (v : ℕ) × (v < 16) × (slice_index lower_digits v ≡ c)
+value_of_digit : (c : ℕ) → IsLowerDigit c → (v : ℕ) × (v < 16) × (slice_index lower_digits v ≡ c)
 value_of_digit c (inl h) = (c - 48, omega arith, digit_to_nine c h.0 h.1)
 value_of_digit c (inr h) = (c - 87, omega arith, digit_from_ten c h.0 h.1)
 
 -- and the digit of a value
-digit_of_value : (v : ℕ) → v < 16 → IsHexDigit (slice_index lower_digits v)
+digit_of_value : (v : ℕ) → v < 16 → IsLowerDigit (slice_index lower_digits v)
 digit_of_value v h =
     let is = has_digits-at 16 v refl h in
     elim (cases_lt v 10) [
@@ -66,7 +66,7 @@ digit_of_value v h =
     ]
 
 -- a lower-case digit reads as a value, whose digit it is
-reads_as : (c : ℕ) → IsHexDigit c → (v : ℕ) × (v < 16) × (slice_index lower_digits v ≡ c)
+reads_as : (c : ℕ) → IsLowerDigit c → (v : ℕ) × (v < 16) × (slice_index lower_digits v ≡ c)
     × (hex_digit_value c ≡ Some v)
 reads_as c h =
     let v = value_of_digit c h in
@@ -75,7 +75,7 @@ reads_as c h =
 -- ---- reading
 
 -- pairs of lower-case digits are the hex of what they decode to
-decoded_lower : (i : ℕ) (text : List ℕ) → All IsHexDigit text → length text % 2 ≡ 0
+decoded_lower : (i : ℕ) (text : List ℕ) → All IsLowerDigit text → length text % 2 ≡ 0
     → (bytes : List ℕ) × (decode_pairs i text ≡ Ok bytes) × (text ≡ encode_lower bytes)
 unfolding decode_pairs encode_with
 decoded_lower i [] h even = ([], refl, refl)
@@ -83,7 +83,7 @@ decoded_lower i (c ∷ []) h even = absurd (omega arith)
 decoded_lower i (c ∷ e ∷ rest) h even =
     let high = reads_as c (h 0 0 (omega arith)) in
     let low = reads_as e (h 1 0 (omega arith)) in
-    let more = decoded_lower (i + 2) rest (All-tail IsHexDigit e rest (All-tail IsHexDigit c (e ∷ rest) h))
+    let more = decoded_lower (i + 2) rest (All-tail IsLowerDigit e rest (All-tail IsLowerDigit c (e ∷ rest) h))
     (omega arith) in
     let first : value_at c i ≡ Ok high.0 = ap (digit_or_error c i) high.3 in
     let second : value_at e (i + 1) ≡ Ok low.0 = ap (digit_or_error e (i + 1)) low.3 in
@@ -96,7 +96,7 @@ decoded_lower i (c ∷ e ∷ rest) h even =
     )
 
 -- so it spells them
-pub hex_spells : (text : List ℕ) → IsHexText text → (bytes : List ℕ) × SpellsHexText text bytes
+pub hex_spells : (text : List ℕ) → IsHex text → (bytes : List ℕ) × SpellsHex text bytes
 hex_spells text h =
     let found = decoded_lower 0 text h.2 h.1 in
     let len = length-encode_with lower_digits found.0 in
@@ -104,7 +104,7 @@ hex_spells text h =
     (found.0, (omega (arith, len, same, h.0), found.2))
 
 -- and what is decoded is what it spells
-pub decoded_is_spelled : (text bytes : List ℕ) → IsHexText text → decode_of text ≡ Ok bytes → SpellsHexText text bytes
+pub decoded_is_spelled : (text bytes : List ℕ) → IsHex text → decode_of text ≡ Ok bytes → SpellsHex text bytes
 decoded_is_spelled text bytes h decoded =
     let found = decoded_lower 0 text h.2 h.1 in
     let len = length-encode_with lower_digits found.0 in
@@ -116,18 +116,18 @@ decoded_is_spelled text bytes h decoded =
 -- ---- writing
 
 -- the hex of bytes is made of lower-case digits
-lower-encode_lower : (bytes : List ℕ) → IsBytes bytes → All IsHexDigit (encode_lower bytes)
+lower-encode_lower : (bytes : List ℕ) → IsBytes bytes → All IsLowerDigit (encode_lower bytes)
 unfolding encode_with
-lower-encode_lower [] h = All-nil IsHexDigit
+lower-encode_lower [] h = All-nil IsLowerDigit
 lower-encode_lower (b ∷ rest) h =
     let fits : b < 256 = h 0 in
-    All-cons IsHexDigit (slice_index lower_digits (b / 16)) (slice_index lower_digits (b % 16) ∷ encode_lower rest)
+    All-cons IsLowerDigit (slice_index lower_digits (b / 16)) (slice_index lower_digits (b % 16) ∷ encode_lower rest)
     (digit_of_value (b / 16) (omega arith))
-    (All-cons IsHexDigit (slice_index lower_digits (b % 16)) (encode_lower rest)
+    (All-cons IsLowerDigit (slice_index lower_digits (b % 16)) (encode_lower rest)
     (digit_of_value (b % 16) (omega arith)) (lower-encode_lower rest (λ k. h (suc k))))
 
 -- what spells bytes is lower-case hex
-pub spelled_is_hex : (text bytes : List ℕ) → IsBytes bytes → SpellsHexText text bytes → IsHexText text
+pub spelled_is_hex : (text bytes : List ℕ) → IsBytes bytes → SpellsHex text bytes → IsHex text
 spelled_is_hex text bytes h spells =
     let len = length-encode_with lower_digits bytes in
     rw spells.1 (omega (arith, len, spells.0), omega (arith, len), lower-encode_lower bytes h)

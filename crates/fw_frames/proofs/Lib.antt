@@ -1,3 +1,4 @@
+pub mod Digits
 pub mod Hexes
 pub mod Statuses
 pub mod Writes

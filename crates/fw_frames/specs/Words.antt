@@ -10,7 +10,7 @@ use Rattle.fk_wire.specs.Replies.{write_reply, init_reply, create_reply, records
 use Rattle.fk_wire.specs.Requests.{RequestContent, lookup, forget, getattr, mkdir, unlink, rmdir, rename, link}
 use Rattle.fk_wire.specs.Requests.{opening, read, write, release, init, readdir, readdirplus, create, interrupt}
 use Rattle.fk_wire.specs.Requests.{batch_forget}
-use Rattle.fw_frames.specs.HexTexts.{hex_text_or_none}
+use Rattle.fw_frames.specs.HexTexts.{hex_or_none}
 
 -- `?` stands for a byte of a name that is outside 33 to 126
 abbrev pub printed_byte : ℕ → ℕ
@@ -49,7 +49,7 @@ request_words (link oldnodeid name) = codes " oldnodeid " ++ decimal oldnodeid +
 request_words opening = []
 request_words (read fh offset size) = codes " fh " ++ decimal fh ++ range_words offset size
 request_words (write fh offset bytes) = codes " fh " ++ decimal fh ++ range_words offset (length bytes)
-    ++ codes " data " ++ hex_text_or_none bytes
+    ++ codes " data " ++ hex_or_none bytes
 request_words (release fh) = codes " fh " ++ decimal fh
 request_words (init major minor flags) = codes " major " ++ decimal major ++ codes " minor " ++ decimal minor
     ++ flag_words flags
@@ -101,7 +101,7 @@ reply_words empty_reply = []
 reply_words (entry_reply e) = entry_words e
 reply_words (attr_reply a) = codes " attr" ++ attr_words a
 reply_words (open_reply fh) = open_words fh
-reply_words (bytes_reply bytes) = codes " data " ++ hex_text_or_none bytes
+reply_words (bytes_reply bytes) = codes " data " ++ hex_or_none bytes
 reply_words (write_reply size) = codes " size " ++ decimal size
 reply_words (init_reply major minor flags) = codes " major " ++ decimal major ++ codes " minor " ++ decimal minor
     ++ flag_words flags

@@ -5,7 +5,7 @@ ghost use Rattle.std.specs.Prelude.{if◌then◌else◌};
 ghost use Rattle.std.specs.Io.KnownBytes.{Appends};
 ghost use Rattle.fk_wire.specs.Requests.{request_content, request_message};
 ghost use Rattle.fw_frames.specs.Frames.{PrintsFrame, fault_text, request_head, request_text};
-ghost use Rattle.fw_frames.specs.HexTexts.{SpellsHexText};
+ghost use Rattle.fw_frames.specs.HexTexts.{SpellsHex};
 ghost use Rattle.fw_frames.specs.Stops.{frame_status_of};
 ghost use Rattle.fw_frames.specs.Words.{request_words};
 ghost use Rattle.hex.specs.Hex.{IsBytes};
@@ -95,10 +95,10 @@ fn run<A: Allocator, W: Write>(
     words: bool,
     out: &mut W,
 ) -> Result<(), Stop<'static>>
-    ensures printed { OnOk result ((frame : List ℕ) × SpellsHexText text.now frame
+    ensures printed { OnOk result ((frame : List ℕ) × SpellsHex text.now frame
         × PrintsFrame words frame (W.contents out.old) (W.contents out.new)) }
     ensures bad_hex { IfErr result (λ stop. frame_status_of stop ≡ 1 →
-        (frame : List ℕ) → IsBytes frame → ¬ (SpellsHexText text.now frame)) }
+        (frame : List ℕ) → IsBytes frame → ¬ (SpellsHex text.now frame)) }
     ensures status { IfErr result (λ stop. frame_status_of stop ≢ 2) }
     ensures silent { IfErr result (λ stop. frame_status_of stop ≢ 5 → out.new ≡ out.old) }
 {
@@ -121,9 +121,9 @@ pub fn run_frame<A: Allocator, W: Write, F: Write>(
     faults: &mut F,
 ) -> u8
     ensures statuses { Contains (0 ∷ 1 ∷ 3 ∷ 5 ∷ []) result }
-    ensures printed { result ≡ 0 → (frame : List ℕ) × SpellsHexText text.now frame
+    ensures printed { result ≡ 0 → (frame : List ℕ) × SpellsHex text.now frame
         × PrintsFrame words frame (W.contents out.old) (W.contents out.new) }
-    ensures bad_hex { result ≡ 1 → (frame : List ℕ) → IsBytes frame → ¬ (SpellsHexText text.now frame) }
+    ensures bad_hex { result ≡ 1 → (frame : List ℕ) → IsBytes frame → ¬ (SpellsHex text.now frame) }
     ensures silent { (result ≡ 1) ⊎ (result ≡ 3) → out.new ≡ out.old }
 {
     match run(alloc, text, words, out) {

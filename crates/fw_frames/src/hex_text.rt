@@ -4,47 +4,58 @@ ghost use Rattle.std.specs.Prelude.{◌≡◌, ◌↔◌, ◌≤◌, ◌*◌, �
 ghost use Rattle.std.specs.Prelude.{IfOk, IsTrue, OnOk, length};
 ghost use Rattle.std.specs.Io.KnownBytes.{Appends};
 ghost use Rattle.hex.specs.Hex.{IsBytes, encode_lower};
-ghost use Rattle.fw_frames.specs.HexTexts.{IsHexText, IsHexDigit, SpellsHexText, hex_text_or_none};
+ghost use Rattle.fw_frames.specs.HexTexts.{IsHex, IsLowerDigit, SpellsHex, hex_or_none};
 ghost use Rattle.fw_frames.specs.declared.hex_text.HexFault.TheVariants.{BadHex, NoMemory};
 
 use std::alloc::Allocator;
 use std::io;
 use std::io::Write;
+use thiserror::Error;
 
 /// Why a text is not read as bytes.
-#[derive(Clone, Copy)]
-pub(crate) enum HexFault {
-    /// The text is not one or more pairs of lower-case hex digits.
+#[derive(Clone, Copy, Debug, PartialEq, Eq, Error)]
+pub enum HexFault {
+    #[error("the text is not one or more pairs of lower-case hex digits")]
     BadHex,
+    #[error("out of memory")]
     NoMemory,
 }
 
 /// Whether a byte is a lower-case hex digit.
 fn is_lower_digit(byte: u8) -> bool
-    ensures { IsTrue result ↔ IsHexDigit byte }
+    ensures { IsTrue result ↔ IsLowerDigit byte }
 {
     matches!(byte, b'0'..=b'9' | b'a'..=b'f')
 }
 
-/// Whether a text is made of lower-case hex digits.
+/// Whether a text is made of lower-case hex digits. It has no way out before the end, so that many bytes are tested at
+/// once.
 fn is_lower_hex(text: &[u8]) -> bool
-    ensures { IsTrue result ↔ All IsHexDigit text.now }
+    ensures { IsTrue result ↔ All IsLowerDigit text.now }
 {
-    text.iter().all(|byte| is_lower_digit(*byte))
+    let mut is_hex = true;
+    for byte in text {
+        is_hex &= is_lower_digit(*byte);
+    }
+    is_hex
 }
 
 /// Whether a text is one or more pairs of lower-case hex digits.
-pub(crate) fn is_hex(text: &[u8]) -> bool
-    ensures { IsTrue result ↔ IsHexText text.now }
+pub fn is_hex(text: &[u8]) -> bool
+    ensures { IsTrue result ↔ IsHex text.now }
 {
     !text.is_empty() && text.len() % 2 == 0 && is_lower_hex(text)
 }
 
 /// The bytes that a text of one or more pairs of lower-case hex digits spells.
-pub(crate) fn read_hex<A: Allocator>(alloc: A, text: &[u8]) -> Result<Vec<u8, A>, HexFault>
-    ensures value { IfOk result (λ bytes. SpellsHexText text.now bytes.items) }
-    ensures bad { result ≡ Err BadHex → (bytes : List ℕ) → IsBytes bytes → ¬ (SpellsHexText text.now bytes) }
-    ensures memory { result ≡ Err NoMemory → (bytes : List ℕ) × SpellsHexText text.now bytes }
+///
+/// # Errors
+///
+/// `BadHex` where the text is not that; then `NoMemory`.
+pub fn read_hex<A: Allocator>(alloc: A, text: &[u8]) -> Result<Vec<u8, A>, HexFault>
+    ensures value { IfOk result (λ bytes. SpellsHex text.now bytes.items) }
+    ensures bad { result ≡ Err BadHex → (bytes : List ℕ) → IsBytes bytes → ¬ (SpellsHex text.now bytes) }
+    ensures memory { result ≡ Err NoMemory → (bytes : List ℕ) × SpellsHex text.now bytes }
 {
     if !is_hex(text) {
         return Err(HexFault::BadHex);
@@ -87,7 +98,7 @@ pub fn write_hex<W: Write>(out: &mut W, bytes: &[u8]) -> io::Result<()>
 
 /// Writes bytes as lower-case hex, `-` for none.
 pub(crate) fn write_hex_or_none<W: Write>(out: &mut W, bytes: &[u8]) -> io::Result<()>
-    ensures { OnOk result (Appends (W.contents out.old) (W.contents out.new) (hex_text_or_none bytes.now)) }
+    ensures { OnOk result (Appends (W.contents out.old) (W.contents out.new) (hex_or_none bytes.now)) }
 {
     if bytes.is_empty() {
         return out.write_all(b"-");

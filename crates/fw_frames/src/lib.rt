@@ -19,7 +19,7 @@ mod stop;
 
 pub use decode::{decode_capture, judge_capture};
 pub use frame::run_frame;
-pub use hex_text::write_hex;
+pub use hex_text::{HexFault, is_hex, read_hex, write_hex};
 pub use opcode_name::opcode_of_name;
 pub use reply::run_reply;
 pub use reply_words::write_reply_words;

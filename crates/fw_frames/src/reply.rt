@@ -6,7 +6,7 @@ ghost use Rattle.fk_wire.specs.Opcodes.{name_of};
 ghost use Rattle.fk_wire.specs.Replies.{reply_content, reply_message};
 ghost use Rattle.fk_wire.specs.declared.opcode.Opcode.{Opcode};
 ghost use Rattle.fw_frames.specs.Frames.{PrintsReply, reply_head, reply_text};
-ghost use Rattle.fw_frames.specs.HexTexts.{SpellsHexText};
+ghost use Rattle.fw_frames.specs.HexTexts.{SpellsHex};
 ghost use Rattle.fw_frames.specs.Stops.{frame_status_of};
 ghost use Rattle.hex.specs.Hex.{IsBytes};
 
@@ -77,10 +77,10 @@ fn run_opcode<A: Allocator, W: Write>(
     text: &str,
     out: &mut W,
 ) -> Result<(), Stop<'static>>
-    ensures printed { OnOk result ((frame : List ℕ) × SpellsHexText text.now frame
+    ensures printed { OnOk result ((frame : List ℕ) × SpellsHex text.now frame
         × PrintsReply opcode frame (W.contents out.old) (W.contents out.new)) }
     ensures bad_hex { IfErr result (λ stop. frame_status_of stop ≡ 1 →
-        (frame : List ℕ) → IsBytes frame → ¬ (SpellsHexText text.now frame)) }
+        (frame : List ℕ) → IsBytes frame → ¬ (SpellsHex text.now frame)) }
     ensures known { IfErr result (λ stop. frame_status_of stop ≢ 2) }
     ensures silent { IfErr result (λ stop. frame_status_of stop ≢ 5 → out.new ≡ out.old) }
 {
@@ -104,9 +104,9 @@ pub fn run_reply<A: Allocator, W: Write, F: Write>(
     faults: &mut F,
 ) -> u8
     ensures statuses { Contains (0 ∷ 1 ∷ 2 ∷ 3 ∷ 5 ∷ []) result }
-    ensures printed { result ≡ 0 → (o : Opcode) × (name_of o ≡ name.now) × (frame : List ℕ) × SpellsHexText text.now frame
+    ensures printed { result ≡ 0 → (o : Opcode) × (name_of o ≡ name.now) × (frame : List ℕ) × SpellsHex text.now frame
         × PrintsReply o frame (W.contents out.old) (W.contents out.new) }
-    ensures bad_hex { result ≡ 1 → (frame : List ℕ) → IsBytes frame → ¬ (SpellsHexText text.now frame) }
+    ensures bad_hex { result ≡ 1 → (frame : List ℕ) → IsBytes frame → ¬ (SpellsHex text.now frame) }
     ensures unknown { result ≡ 2 → (o : Opcode) → name_of o ≢ name.now }
     ensures silent { (result ≡ 1) ⊎ (result ≡ 2) ⊎ (result ≡ 3) → out.new ≡ out.old }
 {

@@ -42,7 +42,6 @@ world_ended A hex texts last (Err stop.NoMemory) old new keeps (done, rest, spli
     inr (done, rest, split, text, run_of hex done text last keeps has, written)
 world_ended A hex texts last (Err (stop.CannotRead name)) old new keeps ends = absurd ends
 world_ended A hex texts last (Err (stop.BadLine number fault)) old new keeps ends = absurd ends
-world_ended A hex texts last (Err stop.BadHex) old new keeps ends = absurd ends
 
 pub world_ends : (A : Type 0) {T : Type 0} (hex : Bool) (first : World) (texts : List (List ℕ)) (last : World)
     (r : Result T Stop) (old new : Option (List ℕ)) → first ≡ first_world → KeepsProtocol first
@@ -62,7 +61,6 @@ module _ (T : Type 0) (IsRun : List (List ℕ) → List ℕ → Type 0) (name : 
   unknown_ends lines (Err stop.NoMemory) old new (inr first) = inr tt
   unknown_ends lines (Err (stop.CannotRead n)) old new ends = absurd ends
   unknown_ends lines (Err (stop.BadLine number fault)) old new ends = absurd ends
-  unknown_ends lines (Err stop.BadHex) old new ends = absurd ends
 
   known_ends : (script : List ℕ) (r : Result T Stop) (old new : Option (List ℕ))
       → RunEnds IsRun (lines_of script) r old new → InputEnds IsRun name (Some script) r old new
@@ -71,7 +69,6 @@ module _ (T : Type 0) (IsRun : List (List ℕ) → List ℕ → Type 0) (name : 
   known_ends script (Err stop.NoMemory) old new ends = ends
   known_ends script (Err (stop.CannotRead n)) old new ends = absurd ends
   known_ends script (Err (stop.BadLine number fault)) old new ends = absurd ends
-  known_ends script (Err stop.BadHex) old new ends = absurd ends
 
   -- the script was read and run
   pub ran_ends : (known : Option (List ℕ)) (script : List ℕ) (r : Result T Stop) (old new : Option (List ℕ))
@@ -87,7 +84,6 @@ module _ (T : Type 0) (IsRun : List (List ℕ) → List ℕ → Type 0) (name : 
   unread_ends known (stop.CannotRead n) old ends = ends
   unread_ends known stop.NoMemory old ends = inl (Keeps-same old)
   unread_ends known (stop.BadLine number fault) old ends = absurd ends
-  unread_ends known stop.BadHex old ends = absurd ends
   unread_ends known stop.OutputRefused old ends = absurd ends
 
   -- its lines were not kept
@@ -99,7 +95,6 @@ module _ (T : Type 0) (IsRun : List (List ℕ) → List ℕ → Type 0) (name : 
   judged_ends None script (stop.BadLine number fault) old is ends = tt
   judged_ends (Some bytes) script (stop.BadLine number fault) old is ends =
       subst (λ (s : List ℕ). FirstFaultIs s number fault) is ends
-  judged_ends known script stop.BadHex old is ends = absurd ends
   judged_ends known script stop.OutputRefused old is ends = absurd ends
 
   -- ---- by the exit status
@@ -109,7 +104,6 @@ module _ (T : Type 0) (IsRun : List (List ℕ) → List ℕ → Type 0) (name : 
       → Keeps old new ⊎ PrintsFirst IsRun known old new
   ended_at_3 known (stop.CannotRead n) old new ends at = absurd (cc at)
   ended_at_3 known (stop.BadLine number fault) old new ends at = absurd (cc at)
-  ended_at_3 known stop.BadHex old new ends at = absurd (cc at)
   ended_at_3 known stop.NoMemory old new ends at = ends
   ended_at_3 known stop.OutputRefused old new ends at = absurd (cc at)
 
@@ -117,7 +111,6 @@ module _ (T : Type 0) (IsRun : List (List ℕ) → List ℕ → Type 0) (name : 
       → InputEnds {T = T} IsRun name known (Err s) old new → status_of s ≡ 5 → PrintsSome IsRun known old new
   ended_at_5 known (stop.CannotRead n) old new ends at = absurd (cc at)
   ended_at_5 known (stop.BadLine number fault) old new ends at = absurd (cc at)
-  ended_at_5 known stop.BadHex old new ends at = absurd (cc at)
   ended_at_5 known stop.NoMemory old new ends at = absurd (cc at)
   ended_at_5 known stop.OutputRefused old new ends at = ends
 
@@ -130,7 +123,6 @@ module _ (T : Type 0) (IsRun : List (List ℕ) → List ℕ → Type 0) (name : 
   ended_at_1 None (stop.BadLine number fault) old new had has ends said at = inr tt
   ended_at_1 (Some script) (stop.BadLine number fault) old new had has ends said at =
       inr (number, fault, ends, said (λ five. cc five))
-  ended_at_1 known stop.BadHex old new had has ends said at = absurd ends
   ended_at_1 known stop.NoMemory old new had has ends said at = absurd (cc at)
   ended_at_1 known stop.OutputRefused old new had has ends said at = absurd (cc at)
 
@@ -139,14 +131,12 @@ pub said_at_3 : (s : Stop) (had has : Option (List ℕ))
     → AppendsSome had has (codes "no memory\n")
 said_at_3 (stop.CannotRead n) had has said at = absurd (cc at)
 said_at_3 (stop.BadLine number fault) had has said at = absurd (cc at)
-said_at_3 stop.BadHex had has said at = absurd (cc at)
 said_at_3 stop.NoMemory had has said at = said (λ five. cc five)
 said_at_3 stop.OutputRefused had has said at = absurd (cc at)
 
 pub never_0 : (s : Stop) → status_of s ≢ 0
 never_0 (stop.CannotRead n) at = cc at
 never_0 (stop.BadLine number fault) at = cc at
-never_0 stop.BadHex at = cc at
 never_0 stop.NoMemory at = cc at
 never_0 stop.OutputRefused at = cc at
 
@@ -203,7 +193,6 @@ module _ (A : Type 0) {L : Type 0} (carries : L → L → Traffic → Type 0) (f
       (done, rest, split, text, run_over true done text first last is keeps lost has, some_all old new text written)
   lost_ends lines first last (Err (stop.CannotRead name)) old new is keeps lost ends = absurd ends
   lost_ends lines first last (Err (stop.BadLine number fault)) old new is keeps lost ends = absurd ends
-  lost_ends lines first last (Err stop.BadHex) old new is keeps lost ends = absurd ends
 
   -- it is not
   pub all_over : {T : Type 0} → (lines : List (List ℕ)) (first last : World × Bool × L) (done : T)
@@ -223,7 +212,6 @@ module _ (A : Type 0) {L : Type 0} (carries : L → L → Traffic → Type 0) (f
       inr (done, rest, split, text, run_over false done text first last is keeps lost has, written)
   stopped_over T lines first last (stop.CannotRead name) old new is keeps lost ends = absurd ends
   stopped_over T lines first last (stop.BadLine number fault) old new is keeps lost ends = absurd ends
-  stopped_over T lines first last stop.BadHex old new is keeps lost ends = absurd ends
 
 -- the script was read and run over the link
 pub ran_over_ends : (IsRun : Bool → List (List ℕ) → List ℕ → Type 0) (name : List ℕ) (known : Option (List ℕ))
@@ -240,7 +228,6 @@ ran_over_ends IsRun name known script (Err s) old new is ends =
 pub never_4 : (s : Stop) → status_of s ≢ 4
 never_4 (stop.CannotRead n) at = cc at
 never_4 (stop.BadLine number fault) at = cc at
-never_4 stop.BadHex at = cc at
 never_4 stop.NoMemory at = cc at
 never_4 stop.OutputRefused at = cc at
 
@@ -256,7 +243,6 @@ pub session_never_1 : (IsRun : Bool → List (List ℕ) → List ℕ → Type 0)
     (old new : Option (List ℕ)) → SessionEnds IsRun lines (Err s) old new → status_of s ≢ 1
 session_never_1 IsRun lines (stop.CannotRead n) old new ends at = ends
 session_never_1 IsRun lines (stop.BadLine number fault) old new ends at = ends
-session_never_1 IsRun lines stop.BadHex old new ends at = ends
 session_never_1 IsRun lines stop.NoMemory old new ends at = cc at
 session_never_1 IsRun lines stop.OutputRefused old new ends at = cc at
 
@@ -269,14 +255,12 @@ unread_at_1 name known (stop.CannotRead n) had has ends said at =
 unread_at_1 name None (stop.BadLine number fault) had has ends said at = inr tt
 unread_at_1 name (Some script) (stop.BadLine number fault) had has ends said at =
     inr (number, fault, ends, said (λ five. cc five))
-unread_at_1 name known stop.BadHex had has ends said at = absurd ends
 unread_at_1 name known stop.NoMemory had has ends said at = absurd (cc at)
 unread_at_1 name known stop.OutputRefused had has ends said at = absurd ends
 
 pub unread_status : (name : List ℕ) (known : Option (List ℕ)) (s : Stop) → UnreadEnds name known s → status_of s ≢ 5
 unread_status name known (stop.CannotRead n) ends at = cc at
 unread_status name known (stop.BadLine number fault) ends at = cc at
-unread_status name known stop.BadHex ends at = ends
 unread_status name known stop.NoMemory ends at = cc at
 unread_status name known stop.OutputRefused ends at = ends
 
@@ -285,7 +269,6 @@ pub reading_unread : (name : List ℕ) (known : Option (List ℕ)) (s : Stop) �
 reading_unread name known (stop.CannotRead n) ends = ends
 reading_unread name known stop.NoMemory ends = tt
 reading_unread name known (stop.BadLine number fault) ends = absurd ends
-reading_unread name known stop.BadHex ends = absurd ends
 reading_unread name known stop.OutputRefused ends = absurd ends
 
 pub judging_unread : (name : List ℕ) (known : Option (List ℕ)) (script : List ℕ) (s : Stop)
@@ -295,5 +278,4 @@ judging_unread name (Some bytes) script (stop.BadLine number fault) is ends =
     subst (λ (l : List ℕ). FirstFaultIs l number fault) is ends
 judging_unread name known script stop.NoMemory is ends = tt
 judging_unread name known script (stop.CannotRead n) is ends = absurd ends
-judging_unread name known script stop.BadHex is ends = absurd ends
 judging_unread name known script stop.OutputRefused is ends = absurd ends

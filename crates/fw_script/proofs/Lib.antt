@@ -1,5 +1,3 @@
-pub mod Hexes
-pub mod Digits
 pub mod Mounts
 pub mod Decimals
 pub mod Ending

@@ -96,7 +96,6 @@ module _ {S A : Type 0} (m : Machine S A) (hex : Bool) (first : S) where
       → (texts : List (List ℕ)) → Say texts lines → LinesEnd {T = T} m hex first texts last (Err s) old has
   line_ended T lines k d mid last old had has (stop.CannotRead name) within printed ends texts said = absurd ends
   line_ended T lines k d mid last old had has (stop.BadLine number fault) within printed ends texts said = absurd ends
-  line_ended T lines k d mid last old had has stop.BadHex within printed ends texts said = absurd ends
   line_ended T lines k d mid last old had has stop.NoMemory within printed (same, written) texts said =
       let parts = parts_of texts lines said (take k lines) (drop k lines) (sym (take-append-drop k lines)) in
       let all : Appends old has printed.text =

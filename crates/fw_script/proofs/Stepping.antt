@@ -68,7 +68,6 @@ module _ {S A : Type 0} (m : Machine S A) (hex : Bool) where
   line_map old P Q new (Err stop.NoMemory) had has map ends = ends
   line_map old P Q new (Err (stop.CannotRead name)) had has map ends = absurd ends
   line_map old P Q new (Err (stop.BadLine number fault)) had has map ends = absurd ends
-  line_map old P Q new (Err stop.BadHex) had has map ends = absurd ends
 
 -- a result that is this error
 pub by_error : {T E : Type 0} (r : Result T E) (e : E) (P : Result T E → Type 0) → IsErrAnd r (λ x. x ≡ e) → P (Err e)

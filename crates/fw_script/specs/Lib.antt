@@ -1,8 +1,6 @@
 pub mod Arguments
 pub mod CallLines
 pub mod Forms
-pub mod Frames
-pub mod HexTexts
 pub mod Lines
 pub mod Outputs
 pub mod Records

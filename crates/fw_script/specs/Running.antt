@@ -84,7 +84,6 @@ InputEnds IsRun name script (Err stop.NoMemory) had has = Keeps had has ⊎ Prin
 InputEnds IsRun name script (Err (stop.CannotRead n)) had has = n.now ≡ name
 InputEnds IsRun name script (Err (stop.BadLine number fault)) had has =
     IfSome script (λ s. FirstFaultIs s number fault)
-InputEnds IsRun name script (Err stop.BadHex) had has = ⊥
 
 -- why the lines of a script are not kept: its first bad line, or want of memory for good ones
 abbrev pub JudgingEnds : List ℕ → Stop → Type 0

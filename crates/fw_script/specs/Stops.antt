@@ -11,7 +11,6 @@ use Rattle.fw_script.specs.declared.stop.Stop.TheVariants as stop
 abbrev pub status_of : Stop → ℕ
 status_of (stop.CannotRead name) = 1
 status_of (stop.BadLine number fault) = 1
-status_of stop.BadHex = 1
 status_of stop.NoMemory = 3
 status_of stop.OutputRefused = 5
 
@@ -32,7 +31,6 @@ bad_line number fault = codes "line " ++ decimal number ++ codes ": " ++ line_fa
 abbrev pub stop_line : Stop → List ℕ
 stop_line (stop.CannotRead name) = unreadable name.now
 stop_line (stop.BadLine number fault) = bad_line number fault
-stop_line stop.BadHex = codes "bad hex"
 stop_line stop.NoMemory = codes "no memory"
 stop_line stop.OutputRefused = codes "output refused"
 

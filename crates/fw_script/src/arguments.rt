@@ -5,7 +5,7 @@ ghost use Rattle.std.specs.Prelude.{MatchResult, decimal, option_copied};
 ghost use Rattle.fw_script.specs.Arguments.{ArgumentFaultIs, IsMinor, IsSignal, IsText, minor_word, signal_word};
 ghost use Rattle.fw_script.specs.Arguments.{bytes, number, signal, text};
 ghost use Rattle.fw_script.specs.Forms.{arguments_of_mount};
-ghost use Rattle.fw_script.specs.HexTexts.{IsHexOrNone};
+ghost use Rattle.fw_frames.specs.HexTexts.{IsHexOrNone};
 ghost use Rattle.fw_script.specs.Lines.{EndsAt};
 ghost use Rattle.fw_script.specs.Words.{words_left};
 

@@ -1,73 +1,21 @@
 //! Bytes as lower-case hex, two digits a byte.
 
-ghost use Rattle.std.specs.Prelude.{◌≡◌, ◌↔◌, ◌<◌, ◌≤◌, ◌*◌, ℕ, List, All, Err};
-ghost use Rattle.std.specs.Prelude.{IfOk, IsTrue, OnErr, OnOk, length, slice_index};
+ghost use Rattle.std.specs.Prelude.{◌≡◌, ◌↔◌, ◌<◌, ◌≤◌, ◌*◌, All, IsTrue, OnErr, OnOk, length, slice_index};
 ghost use Rattle.std.specs.Io.KnownBytes.{Appends};
-ghost use Rattle.hex.specs.Hex.{IsBytes, encode_lower, lower_digits};
-ghost use Rattle.fw_script.specs.HexTexts.{IsHex, IsHexOrNone, IsLowerDigit, SpellsHex, hex_or_none};
+ghost use Rattle.hex.specs.Hex.{encode_lower, lower_digits};
+ghost use Rattle.fw_frames.specs.HexTexts.{IsHexOrNone, IsLowerDigit, hex_or_none};
 ghost use Rattle.fw_script.specs.Outputs.{AppendsSome};
-ghost use Rattle.fw_script.specs.declared.hex_text.HexFault.TheVariants.{BadHex, NoMemory};
 
 use crate::output::{OutputRefused, write_text};
+use fw_frames::is_hex;
 use std::alloc::{AllocError, Allocator};
 use std::io::Write;
-use thiserror::Error;
 
-/// Why a text is not read as bytes.
-#[derive(Clone, Copy, Debug, PartialEq, Eq, Error)]
-pub enum HexFault {
-    #[error("the text is not one or more pairs of lower-case hex digits")]
-    BadHex,
-    #[error("out of memory")]
-    NoMemory,
-}
-
-/// Whether a byte is a lower-case hex digit.
-fn is_lower_digit(byte: u8) -> bool
-    ensures { IsTrue result ↔ IsLowerDigit byte }
-{
-    matches!(byte, b'0'..=b'9' | b'a'..=b'f')
-}
-
-/// Whether a text is made of lower-case hex digits. It has no way out before the end, so that many bytes are tested at
-/// once.
-fn is_lower_hex(text: &[u8]) -> bool
-    ensures { IsTrue result ↔ All IsLowerDigit text.now }
-{
-    let mut is_hex = true;
-    for byte in text {
-        is_hex &= is_lower_digit(*byte);
-    }
-    is_hex
-}
-
-/// Whether a text is one or more pairs of lower-case hex digits.
-fn is_hex(text: &[u8]) -> bool
-    ensures { IsTrue result ↔ IsHex text.now }
-{
-    !text.is_empty() && text.len() % 2 == 0 && is_lower_hex(text)
-}
-
-/// Whether a text is that, or `-` for no bytes.
+/// Whether a text is one or more pairs of lower-case hex digits, or `-` for no bytes.
 pub fn is_hex_or_none(text: &[u8]) -> bool
     ensures { IsTrue result ↔ IsHexOrNone text.now }
 {
     text == b"-".as_slice() || is_hex(text)
-}
-
-/// The bytes that a text of one or more pairs of lower-case hex digits spells.
-pub fn read_hex<A: Allocator>(alloc: A, text: &[u8]) -> Result<Vec<u8, A>, HexFault>
-    ensures value { IfOk result (λ bytes. SpellsHex text.now bytes.items) }
-    ensures bad { result ≡ Err BadHex → (bytes : List ℕ) → IsBytes bytes → ¬ (SpellsHex text.now bytes) }
-    ensures memory { result ≡ Err NoMemory → (bytes : List ℕ) × SpellsHex text.now bytes }
-{
-    if !is_hex(text) {
-        return Err(HexFault::BadHex);
-    }
-    match hex::decode(alloc, text) {
-        Ok(bytes) => Ok(bytes),
-        Err(_) => Err(HexFault::NoMemory),
-    }
 }
 
 /// The value of a digit.

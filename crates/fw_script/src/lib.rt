@@ -4,7 +4,6 @@
 mod arguments;
 mod call_line;
 mod form;
-mod frame;
 mod hex_text;
 mod line;
 mod lines;
@@ -19,10 +18,8 @@ mod split;
 mod stop;
 mod word;
 
-pub use frame::run_frame;
-pub use hex_text::{
-    HexFault, is_hex_or_none, read_hex, read_hex_or_none, write_hex, write_hex_or_none,
-};
+pub use fw_frames::run_frame;
+pub use hex_text::{is_hex_or_none, read_hex_or_none, write_hex, write_hex_or_none};
 pub use line::{Line, LineFault, read_line};
 pub use lines::is_passed_over;
 pub use number::read_number;

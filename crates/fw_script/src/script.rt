@@ -3,7 +3,7 @@
 ghost use Rattle.std.specs.Prelude.{◌≡◌, ◌≢◌, ◌⊎◌, ◌++◌, ◌∷◌, [], ℕ, List, Option, All, Contains, IfErr, IfOk, IfSome};
 ghost use Rattle.std.specs.Prelude.{Bool, true, false, OnErr, OnOk, codes, flat_map, option_map};
 ghost use Rattle.std.specs.Io.KnownBytes.{Appends, Keeps};
-ghost use Rattle.fw_script.specs.HexTexts.{IsHexOrNone};
+ghost use Rattle.fw_frames.specs.HexTexts.{IsHexOrNone};
 ghost use Rattle.fw_script.specs.Lines.{IsWritten, LineHasWords};
 ghost use Rattle.fw_script.specs.Outputs.{AppendsSome};
 ghost use Rattle.fw_script.specs.Records.{event_text, node_words, nodes_text};

@@ -17,7 +17,6 @@ use std::io::Write;
 pub(crate) enum Stop<'a> {
     CannotRead { name: &'a str },
     BadLine { number: usize, fault: LineFault },
-    BadHex,
     NoMemory,
     OutputRefused,
 }
@@ -88,7 +87,6 @@ impl Stop<'_> {
         match self {
             Stop::CannotRead { name } => write_unreadable(faults, name),
             Stop::BadLine { number, fault } => write_bad_line(faults, number, fault),
-            Stop::BadHex => write_text(faults, b"bad hex\n"),
             Stop::NoMemory => write_text(faults, b"no memory\n"),
             Stop::OutputRefused => write_text(faults, b"output refused\n"),
         }
@@ -110,7 +108,7 @@ impl Stop<'_> {
         ensures silent { status_of self.entry ≡ 5 → faults.new ≡ faults.old }
     {
         match self {
-            Stop::CannotRead { .. } | Stop::BadLine { .. } | Stop::BadHex => {
+            Stop::CannotRead { .. } | Stop::BadLine { .. } => {
                 self.say(faults);
                 1
             }

@@ -2,7 +2,7 @@
 use Rattle.std.specs.Prelude.{◌≡◌, ℕ, List, [], ◌∷◌, ◌++◌, codes, decimal}
 use Rattle.fw_script.specs.Arguments.{IsText, signal_word}
 use Rattle.fw_script.specs.CallLines.{HasTexts, spelled_call}
-use Rattle.fw_script.specs.HexTexts.{IsHexOrNone, hex_or_none}
+use Rattle.fw_frames.specs.HexTexts.{IsHexOrNone, hex_or_none}
 use Rattle.fw_script.specs.Lines.{spelled_pick}
 use Rattle.fw_script.specs.Words.{words_of}
 use Rattle.fw_sides.specs.declared.kernel_event.KernelEvent.{KernelEvent}

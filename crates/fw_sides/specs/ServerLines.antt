@@ -2,7 +2,7 @@
 use Rattle.std.specs.Prelude.{◌≡◌, ℕ, List, [], ◌∷◌, ◌++◌, codes, decimal}
 use Rattle.fuse_spec.specs.declared.WriteResult.{WriteResult}
 use Rattle.fuse_spec.specs.declared.WriteResult.TheVariants.{Accepted, NoEntry, Invalid}
-use Rattle.fw_script.specs.HexTexts.{IsHexOrNone, hex_or_none}
+use Rattle.fw_frames.specs.HexTexts.{IsHexOrNone, hex_or_none}
 use Rattle.fw_script.specs.Lines.{EndsAt}
 use Rattle.fw_script.specs.Words.{words_of}
 use Rattle.fw_sides.specs.declared.server_event.ServerEvent.{ServerEvent}

@@ -87,7 +87,9 @@ fn flush_is_received(alloc: Global) -> bool {
         &mut NeverFlushed,
         &mut faults,
     );
-    status == 5 && run_frame(alloc, "00", &mut NeverFlushed, &mut faults) == 5 && faults.is_empty()
+    status == 5
+        && run_frame(alloc, "00", false, &mut NeverFlushed, &mut faults) == 5
+        && faults.is_empty()
 }
 
 #[test]
@@ -175,9 +177,9 @@ fn frame_is_refused<A: Allocator + Copy>(alloc: A, heap: &FailAt<Global>, outer:
     let mut out = Vec::new(outer);
     let mut faults = Vec::new(outer);
     heap.refuse(1);
-    let refused = run_frame(alloc, "00", &mut out, &mut faults);
+    let refused = run_frame(alloc, "00", false, &mut out, &mut faults);
     let is_told = out.is_empty() && faults.as_slice() == b"no memory\n".as_slice();
-    let again = run_frame(alloc, "00", &mut out, &mut faults);
+    let again = run_frame(alloc, "00", false, &mut out, &mut faults);
     refused == 3 && is_told && again == 0 && out.as_slice() == b"fault 1 Short\n".as_slice()
 }
 

@@ -1,5 +1,5 @@
 use Rattle.std.proofs.Common.{arith}
-use Rattle.fw_script.proofs.Hexes.{encode_lower-nil, one_more_read}
+use Rattle.fw_frames.proofs.Hexes.{encode_lower-nil, one_more_read}
 use Rattle.fw_script.proofs.hex_text.decode.Goals as goal
 
 pub loop-i-init : goal.loop-i-init

@@ -1,6 +1,6 @@
 use Rattle.std.proofs.Common.{◌+◌, ◌-◌, ◌≤◌, arith, length, take, drop}
 use Rattle.hex.specs.Hex.{encode_lower}
-use Rattle.fw_script.proofs.Hexes.{encode_lower-nil, encode_lower-part, encode_lower-rest}
+use Rattle.fw_frames.proofs.Hexes.{encode_lower-nil, encode_lower-part, encode_lower-rest}
 use Rattle.fw_script.proofs.Writes.{Appends-nil, Appends-append, OnErr-always, OnOk-map, refused_then, some_first, some_then}
 use Rattle.fw_script.proofs.hex_text.write_hex.Goals as goal
 

@@ -1,5 +1,5 @@
 use Rattle.std.proofs.Common.{◌++◌, codes, decimal}
-use Rattle.fw_script.specs.HexTexts.{hex_or_none}
+use Rattle.fw_frames.specs.HexTexts.{hex_or_none}
 use Rattle.fw_script.proofs.Writes.{answer_parts, refused_1, refused_2, refused_3}
 use Rattle.fw_script.proofs.records.write_content.Goals as goal
 

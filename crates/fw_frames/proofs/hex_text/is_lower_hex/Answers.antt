@@ -1,8 +1,8 @@
 use Rattle.std.proofs.Common.{subst, take_all}
 use Rattle.std.specs.Prelude.{◌↔◌, All, IsTrue}
-use Rattle.fw_script.specs.HexTexts.{IsLowerDigit}
-use Rattle.fw_script.proofs.Digits.{one_more_tested}
-use Rattle.fw_script.proofs.hex_text.is_lower_hex.Goals as goal
+use Rattle.fw_frames.specs.HexTexts.{IsLowerDigit}
+use Rattle.fw_frames.proofs.Digits.{one_more_tested}
+use Rattle.fw_frames.proofs.hex_text.is_lower_hex.Goals as goal
 
 pub loop-byte-preserved : goal.loop-byte-preserved
 loop-byte-preserved c =

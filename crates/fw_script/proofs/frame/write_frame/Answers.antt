@@ -1,9 +1,0 @@
-use Rattle.std.proofs.Common.{inl}
-use Rattle.fk_wire.specs.Requests.{request_message}
-use Rattle.fw_script.proofs.Writes.{OnOk-map}
-use Rattle.fw_script.proofs.frame.write_frame.Goals as goal
-
-pub returns-in-Ok : goal.returns-in-Ok
-returns-in-Ok g c =
-    OnOk-map _ _ c.write_request_line.result (λ wrote. inl
-    (request_message c.in-Ok.request, c.in-Ok.ensures.ok, wrote)) c.write_request_line.ensures
