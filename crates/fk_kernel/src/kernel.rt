@@ -103,6 +103,11 @@ impl<Q: QueueTable<Purpose> + Drop, C: CountTable<Heap = Q::Heap> + Drop> Kernel
         }
     }
 
+    /// Ends the kernel. It is a drop, whose parts are so proved in one crate, and not in each that has a kernel.
+    pub fn end(self) {
+        drop(self);
+    }
+
     /// No counter is past its end. A call without effect, made where a proof rests on that.
     pub fn lemma_in_range(&self)
         ensures { is_kernel_past_end self.now ≡ false }

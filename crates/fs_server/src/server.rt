@@ -190,3 +190,10 @@ impl<S: NodeStore> ServerOf<S> {
         self.files.nodes().nodes(alloc)
     }
 }
+
+impl<S: NodeStore + Drop> ServerOf<S> {
+    /// Ends the server. It is a drop, whose parts are so proved in one crate, and not in each that has a server.
+    pub fn end(self) {
+        drop(self);
+    }
+}

@@ -183,8 +183,7 @@ fn draw_world<T: Tables>(
         return Err(AllocError);
     };
     let drawn = draw_lines(&mut world, text, picture, &mut room);
-    // By a call, since at the end of a scope the whole drop is proved as part of this function.
-    drop(world);
+    world.end();
     drawn
 }
 

@@ -34,6 +34,11 @@ impl<T: Tables> Beside<T> {
         })
     }
 
+    /// Ends the world.
+    pub(crate) fn end(self) {
+        self.world.end();
+    }
+
     /// The world mounts, and INIT is answered.
     ///
     /// # Errors

@@ -37,6 +37,18 @@ impl<A: Allocator + Copy> Driver<A> {
         }
     }
 
+    /// Ends the kernel and its connection.
+    pub(crate) fn end(self) {
+        let Driver {
+            alloc: _,
+            kernel,
+            connection,
+            choices: _,
+        } = self;
+        kernel.end();
+        drop(connection);
+    }
+
     /// OPEN is sent with these flags from now on.
     pub(crate) fn open_with(&mut self, flags: u32)
         ensures { Keeps self.old self.new }

@@ -45,6 +45,19 @@ impl<T: Tables> Notes<T> {
         })
     }
 
+    /// Ends the world beside, if there is one.
+    pub(crate) fn end(self) {
+        let Notes {
+            form: _,
+            watch,
+            beside,
+        } = self;
+        drop(watch);
+        if let Some(beside) = beside {
+            beside.end();
+        }
+    }
+
     /// Whether each frame is printed.
     fn prints_frames(&self) -> bool {
         !self.form.is_of_calls()

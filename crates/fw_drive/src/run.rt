@@ -58,9 +58,8 @@ fn run_good<T: Tables, D: Device, W: Write>(
     let mut notes = Notes::<T>::new(alloc, task.form)?;
     let mut driver = Driver::new(alloc, task.opens_directories, task.choices);
     let ended = run_driver(alloc, &mut driver, device, &mut notes, text, out);
-    // By calls, since at the end of a scope the whole drop is proved as part of this function.
-    drop(driver);
-    drop(notes);
+    driver.end();
+    notes.end();
     ended
 }
 

@@ -19,7 +19,7 @@ pub data Say : List (List ℕ) → List Line → Type 0 where
   says : (line : List ℕ) (l : Line) (lines : List (List ℕ)) (said : List Line) → LineHasWords l (words_of line)
       → Say lines said → Say (line ∷ lines) (l ∷ said)
 
--- Each line of these results in this text, and to the same events and records.
+-- Each line of these results in this text, and in the same events and records.
 pub record EachLinePrints {S A : Type 0} (m : Machine S A) (hex : Bool) (old : S) (IsLine : List ℕ → Type 0) (text : List ℕ)
     (new : S) : Type 0 where
   pub events : List Event

@@ -279,8 +279,7 @@ fn run_events<T: Tables, W: Write>(
     };
     world.lemma_protocol();
     let ended = run_lines(&mut world, lines, &mut room, hex, out);
-    // By a call, since at the end of a scope the whole drop is proved as part of this function.
-    drop(world);
+    world.end();
     ended
 }
 
@@ -306,7 +305,7 @@ fn run_session<A: Allocator + Copy, L: Link + Drop, W: Write>(
     session.lemma_protocol();
     let ended = run_lines(&mut session, lines, &mut room, hex, out);
     let is_lost = session.is_lost();
-    drop(session);
+    session.end();
     if is_lost {
         return Ok(true);
     }

@@ -106,8 +106,7 @@ fn serve_mount<A: Allocator + Copy, D: Device, F: Write>(
     if let Ok(status) = status {
         print_end(alloc, mount, &server, status, faults);
     }
-    // By a call, since at the end of a scope the whole drop is proved as part of this function.
-    drop(server);
+    server.end();
     status
 }
 

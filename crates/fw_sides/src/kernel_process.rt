@@ -213,8 +213,7 @@ fn run_new<T: Tables, R: BufRead, W: Write>(
 {
     let mut kernel = KernelOf::<T::Queues, T::Counts>::new(alloc);
     let ended = run_lines(alloc, &mut kernel, form, input, out);
-    // By a call, since at the end of a scope the whole drop is proved as part of this function.
-    drop(kernel);
+    kernel.end();
     ended
 }
 

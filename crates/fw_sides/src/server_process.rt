@@ -172,8 +172,7 @@ fn run_new<T: Tables, R: BufRead, W: Write>(
         return Err(End::NoMemory);
     };
     let ended = run_lines(alloc, &mut server, form, input, out);
-    // By a call, since at the end of a scope the whole drop is proved as part of this function.
-    drop(server);
+    server.end();
     ended
 }
 

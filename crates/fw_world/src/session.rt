@@ -84,6 +84,21 @@ impl<L: Link + Drop, A: Allocator + Copy> Session<L, A> {
         })
     }
 
+    /// Ends the session, and drops its link.
+    pub fn end(self) {
+        let Session {
+            world,
+            link,
+            carrier,
+            frame,
+            is_lost: _,
+        } = self;
+        world.end();
+        drop(link);
+        drop(carrier);
+        drop(frame);
+    }
+
     /// One event. A refused one changes nothing.
     ///
     /// # Errors

@@ -118,6 +118,23 @@ impl<T: Tables> WorldOf<T> {
         })
     }
 
+    /// Ends the world. It is a drop, whose parts are so proved in one crate, and not in each that has a world.
+    pub fn end(self) {
+        let WorldOf {
+            kernel,
+            server,
+            requests,
+            replies,
+            results,
+            last_put: _,
+        } = self;
+        kernel.end();
+        server.end();
+        drop(requests);
+        drop(replies);
+        drop(results);
+    }
+
     /// One event. A refused one changes nothing, but that no frame is the last put.
     ///
     /// # Errors

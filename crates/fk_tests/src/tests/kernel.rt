@@ -357,7 +357,7 @@ fn run_over<Q: RequestQueues, C: LookupCounts<Heap = Q::Heap>>(
 ) {
     let mut kernel: KernelOf<Q, C> = KernelOf::new(heap);
     let wrong = first_wrong(&mut kernel, heap, refusing, alloc, lists);
-    drop(kernel);
+    kernel.end();
     assert_right(rt, wrong, name);
 }
 

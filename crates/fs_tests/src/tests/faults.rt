@@ -158,7 +158,7 @@ fn first_others(
 fn first_others_of_new(alloc: Global) -> Result<(Option<usize>, Option<usize>), AllocError> {
     let server: Server = ServerOf::new(alloc)?;
     let others = first_others(&server, alloc);
-    drop(server);
+    server.end();
     others
 }
 

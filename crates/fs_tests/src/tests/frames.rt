@@ -358,7 +358,7 @@ fn run_made<S: NodeStore + Drop>(
 ) -> Result<(), AllocError> {
     let mut server = made::<S>(heap)?;
     let wrong = first_wrong(&mut server, heap, refusing, alloc, &[first, rows]);
-    drop(server);
+    server.end();
     assert_right(rt, wrong, name);
     Ok(())
 }

@@ -248,7 +248,7 @@ struct List<'a> {
 }
 
 impl MachineTest<Global> for List<'_> {
-    fn try_on<W: Machine<Global> + Drop>(&mut self, alloc: Global) -> Result<(), AllocError> {
+    fn try_on<W: Machine<Global>>(&mut self, alloc: Global) -> Result<(), AllocError> {
         let mut seen = Seen {
             unique: 2,
             call: 0,
@@ -256,6 +256,7 @@ impl MachineTest<Global> for List<'_> {
         };
         let mut world = W::new(alloc).ok_or(AllocError)?;
         self.is_printed = print_list(alloc, &mut world, self.drawn, &mut seen, self.out);
+        world.end();
         *self.accepted = seen.accepted;
         Ok(())
     }

@@ -72,12 +72,13 @@ struct Frames<'a, R: Abort> {
 }
 
 impl<R: Abort> MachineTest<Global> for Frames<'_, R> {
-    fn try_on<W: Machine<Global> + Drop>(&mut self, alloc: Global) -> Result<(), AllocError> {
+    fn try_on<W: Machine<Global>>(&mut self, alloc: Global) -> Result<(), AllocError> {
         let mut framed = W::new(alloc).ok_or(AllocError)?;
         let name = self.name;
         for (place, row) in ROWS.iter().enumerate() {
             assert!(self.rt; puts_frame(&mut framed, row), "{name} row {place}");
         }
+        framed.end();
         Ok(())
     }
 }

@@ -81,7 +81,7 @@ fn takes_no_memory(event: &Event<'_>) -> bool {
 
 /// Steps. Where a growth was refused, the step must be refused, and for want of memory it is tried again; where none
 /// was, memory does not run out. Else it is `NoMemory`, which no row has.
-fn step<A: Allocator + Copy, W: Machine<A> + Drop>(
+fn step<A: Allocator + Copy, W: Machine<A>>(
     heap: &FailAt<Global>,
     world: &mut W,
     event: &Event<'_>,
@@ -117,7 +117,7 @@ pub(super) fn write_nodes(
 }
 
 /// Prints the nodes of both sides. No growth is refused meanwhile.
-fn write_both<A: Allocator + Copy, W: Machine<A> + Drop>(
+fn write_both<A: Allocator + Copy, W: Machine<A>>(
     heap: &FailAt<Global>,
     world: &W,
     out: &mut Vec<u8>,
@@ -145,7 +145,7 @@ fn write_frame(out: &mut Vec<u8>, frame: Option<&[u8]>) -> io::Result<()> {
 }
 
 /// Runs an event, and prints what it came to and what it answered.
-fn write_event<A: Allocator + Copy, W: Machine<A> + Drop>(
+fn write_event<A: Allocator + Copy, W: Machine<A>>(
     heap: &FailAt<Global>,
     world: &mut W,
     event: &Event<'_>,
@@ -171,7 +171,7 @@ fn write_event<A: Allocator + Copy, W: Machine<A> + Drop>(
 }
 
 /// Runs the steps of a row, and prints what they come to.
-fn write_steps<A: Allocator + Copy, W: Machine<A> + Drop>(
+fn write_steps<A: Allocator + Copy, W: Machine<A>>(
     heap: &FailAt<Global>,
     world: &mut W,
     steps: &[Option<Event<'_>>],
@@ -188,7 +188,7 @@ fn write_steps<A: Allocator + Copy, W: Machine<A> + Drop>(
 }
 
 /// What takes events, which is made again where a growth of it was refused.
-fn made_at_last<A: Allocator + Copy, W: Machine<A> + Drop>(alloc: A) -> Option<W> {
+fn made_at_last<A: Allocator + Copy, W: Machine<A>>(alloc: A) -> Option<W> {
     match W::new(alloc) {
         Some(world) => Some(world),
         None => W::new(alloc),
@@ -196,7 +196,7 @@ fn made_at_last<A: Allocator + Copy, W: Machine<A> + Drop>(alloc: A) -> Option<W
 }
 
 /// Whether the steps of a row print on a new world what they must.
-fn prints_the_row<A: Allocator + Copy, W: Machine<A> + Drop>(
+fn prints_the_row<A: Allocator + Copy, W: Machine<A>>(
     alloc: A,
     heap: &FailAt<Global>,
     row: &Row,
@@ -208,12 +208,12 @@ fn prints_the_row<A: Allocator + Copy, W: Machine<A> + Drop>(
         return false;
     };
     let is_printed = write_steps(heap, &mut world, steps, row.name.ends_with("-in-hex"), out);
-    drop(world);
+    world.end();
     is_printed.is_ok() && out.as_slice() == row.output.as_bytes()
 }
 
 /// Runs the steps of a row with each growth refused in turn.
-fn check_steps<A: Allocator + Copy, W: Machine<A> + Drop>(
+fn check_steps<A: Allocator + Copy, W: Machine<A>>(
     rt: &impl Abort,
     alloc: A,
     heap: &FailAt<Global>,
@@ -246,7 +246,7 @@ fn events_of<A: Allocator>(records: &[Record<A>]) -> usize {
 
 /// Runs a list of events. Where a growth of the records was refused, and nowhere else, it ends before an event, with
 /// the records of those before; then it goes on from there.
-fn runs_all<A: Allocator + Copy, W: Machine<A> + Drop>(
+fn runs_all<A: Allocator + Copy, W: Machine<A>>(
     heap: &FailAt<Global>,
     world: &mut W,
     events: &[Event<'_>],
@@ -270,7 +270,7 @@ fn write_records<A: Allocator>(records: &[Record<A>], out: &mut Vec<u8>) -> io::
 
 /// Whether a run of all events on a new world gives the records that it must. The list of records has a heap of its
 /// own.
-fn gives_the_records<A: Allocator + Copy, W: Machine<A> + Drop>(
+fn gives_the_records<A: Allocator + Copy, W: Machine<A>>(
     alloc: A,
     of_records: A,
     heap: &FailAt<Global>,
@@ -284,12 +284,12 @@ fn gives_the_records<A: Allocator + Copy, W: Machine<A> + Drop>(
         return false;
     };
     let is_run = runs_all(heap, &mut world, events, &mut records);
-    drop(world);
+    world.end();
     is_run && write_records(records.as_slice(), out).is_ok() && out.as_slice() == wanted
 }
 
 /// Runs all events of a row with each growth of the list of records refused in turn.
-fn check_run<A: Allocator + Copy, W: Machine<A> + Drop>(
+fn check_run<A: Allocator + Copy, W: Machine<A>>(
     rt: &impl Abort,
     alloc: A,
     of_records: A,
@@ -341,7 +341,7 @@ fn lines_of_records(alloc: Global, output: &str) -> Result<Vec<u8>, AllocError> 
 }
 
 /// Each growth of the events of a row, refused in turn.
-fn check_row<A: Allocator + Copy, W: Machine<A> + Drop>(
+fn check_row<A: Allocator + Copy, W: Machine<A>>(
     rt: &impl Abort,
     alloc: A,
     heap: &FailAt<Global>,
@@ -355,7 +355,7 @@ fn check_row<A: Allocator + Copy, W: Machine<A> + Drop>(
 }
 
 /// Each growth of the records of a row, refused in turn.
-fn check_records<A: Allocator + Copy, W: Machine<A> + Drop>(
+fn check_records<A: Allocator + Copy, W: Machine<A>>(
     rt: &impl Abort,
     alloc: A,
     of_records: A,
@@ -375,7 +375,7 @@ fn check_records<A: Allocator + Copy, W: Machine<A> + Drop>(
 }
 
 /// Both of each row. What runs and the list of records have a heap each.
-fn check_rows<A: Allocator + Copy, W: Machine<A> + Drop>(
+fn check_rows<A: Allocator + Copy, W: Machine<A>>(
     rt: &impl Abort,
     alloc: A,
     of_records: A,
@@ -403,7 +403,7 @@ struct Refused<'a, A: Allocator + Copy, R: Abort> {
 }
 
 impl<A: Allocator + Copy, R: Abort> MachineTest<A> for Refused<'_, A, R> {
-    fn try_on<W: Machine<A> + Drop>(&mut self, alloc: A) -> Result<(), AllocError> {
+    fn try_on<W: Machine<A>>(&mut self, alloc: A) -> Result<(), AllocError> {
         check_rows::<A, W>(
             self.rt,
             alloc,

@@ -11,6 +11,8 @@ use std::alloc::{AllocError, Allocator};
 pub(super) trait Machine<A: Allocator + Copy>: Sized {
     fn new(alloc: A) -> Option<Self>;
 
+    fn end(self);
+
     fn step(&mut self, event: &Event<'_>) -> Result<Outcome, Refusal>;
 
     fn run(&mut self, events: &[Event<'_>], records: &mut Vec<Record<A>, A>) -> Result<(), usize>;
@@ -29,6 +31,10 @@ pub(super) trait Machine<A: Allocator + Copy>: Sized {
 impl<T: Tables> Machine<T::Heap> for WorldOf<T> {
     fn new(alloc: T::Heap) -> Option<WorldOf<T>> {
         WorldOf::new(alloc).ok()
+    }
+
+    fn end(self) {
+        WorldOf::end(self);
     }
 
     fn step(&mut self, event: &Event<'_>) -> Result<Outcome, Refusal> {
@@ -70,6 +76,10 @@ impl<A: Allocator + Copy> Machine<A> for Session<MemoryLink<A>, A> {
         Session::new(alloc, link).ok()
     }
 
+    fn end(self) {
+        Session::end(self);
+    }
+
     fn step(&mut self, event: &Event<'_>) -> Result<Outcome, Refusal> {
         Session::step(self, event)
     }
@@ -101,10 +111,10 @@ impl<A: Allocator + Copy> Machine<A> for Session<MemoryLink<A>, A> {
 
 /// What is tried on a new machine of one type.
 pub(super) trait MachineTest<A: Allocator + Copy> {
-    fn try_on<W: Machine<A> + Drop>(&mut self, alloc: A) -> Result<(), AllocError>;
+    fn try_on<W: Machine<A>>(&mut self, alloc: A) -> Result<(), AllocError>;
 }
 
-/// On a world over any tables. Its drop is proved here once, and not of each kind of tables.
+/// On a world over any tables.
 fn try_on_tables<T: Tables, M: MachineTest<T::Heap>>(
     test: &mut M,
     alloc: T::Heap,

@@ -10,9 +10,11 @@ use std::process::Abort;
 use std::test::Fail;
 
 /// What replies to a kernel.
-trait Replies {
+trait Replies: Sized {
     /// Whether a reply to a frame is appended.
     fn replies(&mut self, frame: &[u8], buffer: &mut Vec<u8>) -> bool;
+
+    fn end(self);
 }
 
 /// The server whose files are one empty directory.
@@ -23,11 +25,17 @@ impl Replies for EmptyDirectory {
     fn replies(&mut self, frame: &[u8], buffer: &mut Vec<u8>) -> bool {
         answer(frame, buffer).is_ok()
     }
+
+    fn end(self) {}
 }
 
 impl Replies for Server {
     fn replies(&mut self, frame: &[u8], buffer: &mut Vec<u8>) -> bool {
         serve(self, frame, buffer) == Served::Replied
+    }
+
+    fn end(self) {
+        Server::end(self);
     }
 }
 
@@ -158,12 +166,14 @@ fn check<S: Replies>(
     }
 }
 
-/// Tries the rows on a new kernel over a server, and lets both go.
-fn run<S: Replies + Drop>(rt: &impl Abort, alloc: Global, server: S, rows: &[Row], name: &str) {
+/// Tries the rows on a new kernel over a server, and ends both.
+fn run<S: Replies>(rt: &impl Abort, alloc: Global, server: S, rows: &[Row], name: &str) {
     let mut kernel = Kernel::new(alloc);
     let mut server = server;
     let mut buffer = Vec::new(alloc);
     check(rt, &mut kernel, &mut server, &mut buffer, rows, name);
+    kernel.end();
+    server.end();
 }
 
 #[test]

@@ -128,7 +128,7 @@ pub fn serve_device<A: Allocator + Copy>(
 ) -> Result<Served<A>, AllocError> {
     let mut server = mounted(heap)?;
     let served = serve_by(heap, &mut server, device);
-    drop(server);
+    server.end();
     served
 }
 
