@@ -5,7 +5,9 @@ ghost use Rattle.std.specs.Prelude.{IfOk, IsTrue, Some, OnOk, OnErr, vec_len, ve
 ghost use Rattle.fw_link.specs.Carrying.{CutsOtherwise, IsEmpty, IsLost, envelope_bytes};
 ghost use Rattle.fw_link.specs.Cutting.{HoldsEnvelope};
 ghost use Rattle.fw_link.specs.Envelopes.{IsEnvelope};
+ghost use Rattle.fw_link.specs.Streamed.{StreamedEnvelopes};
 ghost use Rattle.fw_link.specs.Traffic.{HasFailed, IsCounted, no_traffic, sent};
+ghost use Rattle.fw_link.specs.declared.side.Side.TheVariants as side;
 
 use crate::cutter::{Cutter, Damage};
 use crate::envelope::{Envelope, LONGEST, put_envelope};
@@ -190,6 +192,8 @@ impl<A: Allocator + Copy> Carrier<A> {
         requires whole { IsEnvelope envelope.now.kind envelope.now.copy envelope.now.frame.now }
         requires empty { IsEmpty self.old }
         requires gives { R.remaining link.old.server_reader ≡ Some (envelope_bytes envelope.now) }
+        ensures ok { OnOk result (StreamedEnvelopes R.remaining W.contents link.old link.new
+            (sent side.Kernel (envelope_bytes envelope.now) (envelope_bytes envelope.now))) }
         ensures again { OnOk result (IsEmpty self.new) }
         ensures counted { IsCounted result link.old.failed.count link.new.failed.count }
     {
