@@ -5,9 +5,9 @@ ghost use Rattle.fk_wire.specs.Replies.{IsErrorNumber};
 ghost use Rattle.fs_serve.specs.Sending.{GoesOver, SendsBytes, SendsError, SendsFault, end_of};
 
 use fk_wire::frame_of_error;
-use fs_server::{Server, ServerFault};
+use fs_nodes::NodeStore;
+use fs_server::{ServerFault, ServerOf};
 use fuse_device::{Device, DeviceEnd};
-use std::alloc::Allocator;
 
 /// Sends a frame whose result settles nothing.
 fn send_bytes<D: Device>(device: &mut D, bytes: &[u8]) -> Result<(), DeviceEnd>
@@ -32,8 +32,8 @@ pub(crate) fn send_error<D: Device>(
 }
 
 /// Sends the reply to a faulty frame, if it has one.
-pub(crate) fn send_fault<A: Allocator + Copy, D: Device>(
-    server: &Server<A>,
+pub(crate) fn send_fault<S: NodeStore, D: Device>(
+    server: &ServerOf<S>,
     device: &mut D,
     frame: &[u8],
     fault: ServerFault,

@@ -14,11 +14,12 @@ use crate::errors::{send_error, send_fault};
 use crate::init::{init_in, is_long_init};
 use arrayvec::ArrayVec;
 use fk_wire::{RequestBody, read_request};
-use fs_server::{Server, ServerFault};
+use fs_nodes::NodeStore;
+use fs_server::{ServerFault, ServerOf};
 use fuse_device::{Device, DeviceEnd};
 use fuse_frames::Sent;
 use fuse_spec::{Refusal, Taken};
-use std::alloc::{AllocError, Allocator};
+use std::alloc::AllocError;
 
 /// How many bytes are read at once. The kernel refuses a read of under 8,192, and its longest request is a WRITE.
 const ROOM: usize = 131_072;
@@ -37,9 +38,9 @@ const EIO: i32 = -5;
 /// # Errors
 ///
 /// Where there is no memory for the frames to come. Nothing is then received.
-pub fn serve<A: Allocator + Copy, D: Device>(
-    alloc: A,
-    server: &mut Server<A>,
+pub fn serve<S: NodeStore, D: Device>(
+    alloc: S::Heap,
+    server: &mut ServerOf<S>,
     device: &mut D,
 ) -> Result<Option<DeviceEnd>, AllocError>
     ensures served { IfOk result (λ end. GoesOver D.logs device.old device.new end
@@ -51,8 +52,8 @@ pub fn serve<A: Allocator + Copy, D: Device>(
 }
 
 /// Serves frame after frame.
-fn serve_frames<A: Allocator + Copy, D: Device>(
-    server: &mut Server<A>,
+fn serve_frames<S: NodeStore, D: Device>(
+    server: &mut ServerOf<S>,
     device: &mut D,
     room: &mut [u8],
 ) -> Option<DeviceEnd>
@@ -67,8 +68,8 @@ fn serve_frames<A: Allocator + Copy, D: Device>(
 }
 
 /// Receives one frame and serves it.
-fn serve_next<A: Allocator + Copy, D: Device>(
-    server: &mut Server<A>,
+fn serve_next<S: NodeStore, D: Device>(
+    server: &mut ServerOf<S>,
     device: &mut D,
     room: &mut [u8],
 ) -> Result<(), DeviceEnd>
@@ -89,8 +90,8 @@ fn serve_next<A: Allocator + Copy, D: Device>(
 }
 
 /// Serves the pairs of a long BATCH_FORGET, 64 in each frame.
-fn serve_batch<A: Allocator + Copy, D: Device>(
-    server: &mut Server<A>,
+fn serve_batch<S: NodeStore, D: Device>(
+    server: &mut ServerOf<S>,
     device: &mut D,
     frame: &[u8],
 ) -> Result<(), DeviceEnd>
@@ -112,8 +113,8 @@ fn serve_batch<A: Allocator + Copy, D: Device>(
 }
 
 /// Serves one frame.
-fn serve_frame<A: Allocator + Copy, D: Device>(
-    server: &mut Server<A>,
+fn serve_frame<S: NodeStore, D: Device>(
+    server: &mut ServerOf<S>,
     device: &mut D,
     frame: &[u8],
 ) -> Result<(), DeviceEnd>
@@ -134,8 +135,8 @@ fn serve_frame<A: Allocator + Copy, D: Device>(
 }
 
 /// Replies to a frame that is not taken, which changes nothing.
-fn refuse<A: Allocator + Copy, D: Device>(
-    server: &Server<A>,
+fn refuse<S: NodeStore, D: Device>(
+    server: &ServerOf<S>,
     device: &mut D,
     frame: &[u8],
     fault: ServerFault,
@@ -156,8 +157,8 @@ fn refuse<A: Allocator + Copy, D: Device>(
 }
 
 /// Replies that memory runs out for a request that could not be taken. Nothing is replied so to an INTERRUPT.
-fn send_untaken<A: Allocator + Copy, D: Device>(
-    server: &Server<A>,
+fn send_untaken<S: NodeStore, D: Device>(
+    server: &ServerOf<S>,
     device: &mut D,
     frame: &[u8],
 ) -> Result<(), DeviceEnd>
@@ -176,8 +177,8 @@ fn send_untaken<A: Allocator + Copy, D: Device>(
 }
 
 /// Performs a held request, and sends its reply. One that cannot be performed is dropped, and replied an error.
-fn serve_held<A: Allocator + Copy, D: Device>(
-    server: &mut Server<A>,
+fn serve_held<S: NodeStore, D: Device>(
+    server: &mut ServerOf<S>,
     device: &mut D,
     unique: u64,
 ) -> Result<(), DeviceEnd>
@@ -214,10 +215,10 @@ fn send_refusal<D: Device>(device: &mut D, unique: u64, refusal: Refusal) -> Res
 }
 
 /// Sends a copy of a reply, and settles it by the result.
-fn deliver<A: Allocator + Copy, D: Device>(
-    server: &mut Server<A>,
+fn deliver<S: NodeStore, D: Device>(
+    server: &mut ServerOf<S>,
     device: &mut D,
-    sent: &Sent<A>,
+    sent: &Sent<S::Heap>,
 ) -> Result<(), DeviceEnd>
     ensures { GoesOver D.logs device.old device.new (end_of result)
         (λ log. Delivers sent.now server.old log server.new) }
