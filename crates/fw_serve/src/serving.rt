@@ -5,8 +5,9 @@ ghost use Rattle.fuse_spec.specs.Values.Numbers.{max_validity};
 ghost use Rattle.fw_serve.specs.Mounts.{ServesFrom, server_at_mount, end_status_of};
 
 use crate::nodes_line::write_nodes_line;
+use fs_nodes::{NodeStore, NodeTable};
 use fs_serve::serve;
-use fs_server::Server;
+use fs_server::ServerOf;
 use fuse_device::{Device, DeviceEnd};
 use fuse_spec::{Minor, Validity};
 use std::alloc::{AllocError, Allocator};
@@ -34,12 +35,12 @@ fn status_at(end: Option<DeviceEnd>) -> u8
 }
 
 /// The server at its mount.
-fn mounted<A: Allocator + Copy>(alloc: A, mount: Mount) -> Result<Server<A>, AllocError>
+fn mounted<S: NodeStore + Drop>(alloc: S::Heap, mount: Mount) -> Result<ServerOf<S>, AllocError>
     requires found { mount.validity.found_ms ≤ max_validity }
     requires missing { mount.validity.missing_ms ≤ max_validity }
     ensures { IfOk result (λ server. server ≡ server_at_mount mount) }
 {
-    let mut server = Server::new(alloc)?;
+    let mut server = ServerOf::new(alloc)?;
     server.remount(
         mount.validity.found_ms,
         mount.validity.missing_ms,
@@ -50,7 +51,7 @@ fn mounted<A: Allocator + Copy>(alloc: A, mount: Mount) -> Result<Server<A>, All
 
 /// Prints the nodes that a server holds, each as `ID:GENERATION:COUNT`, behind the word `server`; or `no memory`. What
 /// `out` refuses is lost.
-fn show_nodes<A: Allocator + Copy, W: Write>(alloc: A, server: &Server<A>, out: &mut W) {
+fn show_nodes<S: NodeStore, W: Write>(alloc: S::Heap, server: &ServerOf<S>, out: &mut W) {
     let _shown = match server.nodes(alloc) {
         Ok(nodes) => write_nodes_line(out, nodes.as_slice()),
         Err(_) => writeln!(out, "no memory"),
@@ -58,9 +59,9 @@ fn show_nodes<A: Allocator + Copy, W: Write>(alloc: A, server: &Server<A>, out: 
 }
 
 /// Serves a device until it ends, and gives the exit status.
-fn serve_until_end<A: Allocator + Copy, D: Device>(
-    alloc: A,
-    server: &mut Server<A>,
+fn serve_until_end<S: NodeStore, D: Device>(
+    alloc: S::Heap,
+    server: &mut ServerOf<S>,
     device: &mut D,
 ) -> Result<u8, AllocError>
     ensures served { IfOk result (ServesFrom D.logs server.old device.old device.new) }
@@ -74,10 +75,10 @@ fn serve_until_end<A: Allocator + Copy, D: Device>(
 
 /// Prints how a mount ended: `device failed` under another status than 0, and the nodes that are held, if the mount asks
 /// for them.
-fn print_end<A: Allocator + Copy, F: Write>(
-    alloc: A,
+fn print_end<S: NodeStore, F: Write>(
+    alloc: S::Heap,
     mount: Mount,
-    server: &Server<A>,
+    server: &ServerOf<S>,
     status: u8,
     faults: &mut F,
 ) {
@@ -90,8 +91,8 @@ fn print_end<A: Allocator + Copy, F: Write>(
 }
 
 /// Serves a mount until its device ends.
-fn serve_mount<A: Allocator + Copy, D: Device, F: Write>(
-    alloc: A,
+fn serve_mount<S: NodeStore + Drop, D: Device, F: Write>(
+    alloc: S::Heap,
     mount: Mount,
     device: &mut D,
     faults: &mut F,
@@ -101,7 +102,7 @@ fn serve_mount<A: Allocator + Copy, D: Device, F: Write>(
     ensures served { IfOk result (ServesFrom D.logs (server_at_mount mount) device.old device.new) }
     ensures refused { OnErr result (device.new ≡ device.old) }
 {
-    let mut server = mounted(alloc, mount)?;
+    let mut server = mounted::<S>(alloc, mount)?;
     let status = serve_until_end(alloc, &mut server, device);
     if let Ok(status) = status {
         print_end(alloc, mount, &server, status, faults);
@@ -127,7 +128,7 @@ pub fn serve_device<A: Allocator + Copy, D: Device, F: Write>(
     ensures served { (result ≡ 0) ⊎ (result ≡ 4) → ServesFrom D.logs (server_at_mount mount) device.old device.new result }
     ensures refused { result ≡ 3 → device.new ≡ device.old }
 {
-    match serve_mount(alloc, mount, device, faults) {
+    match serve_mount::<NodeTable<A>, D, F>(alloc, mount, device, faults) {
         Ok(status) => status,
         Err(_) => {
             let _ = writeln!(faults, "no memory");
