@@ -7,7 +7,9 @@ use Rattle.fk_wire.specs.Requests.{RequestContent, RequestMessage, Spells, Spell
 use Rattle.fuse_spec.specs.Kernel.Messages.{Request}
 use Rattle.fuse_frames.specs.RequestTies.{SaysRequest}
 use Rattle.fk_wire.specs.declared.opcode.Minor.{Minor}
-use Rattle.fk_drive_frames.specs.Filling.{ChangesOnly, IsFilled, IsListing}
+use Rattle.fk_drive_frames.specs.Filling.{ChangesOnly, FillsFor, IsFilled, IsListing, create_flags, with_offered}
+use Rattle.fk_drive_frames.specs.declared.filling.Choices.{Choices}
+use Rattle.fk_drive_frames.specs.declared.filling.Filled.{Filled}
 use Rattle.fk_drive_frames.specs.declared.filling.Filled.TheVariants as filled
 use Rattle.fk_drive_frames.proofs.OneField.{reads_after, reads_around}
 
@@ -98,18 +100,23 @@ module _ (old new : List ℕ) (unique nodeid : ℕ) where
 abbrev pub Decodes : Type 0
 Decodes = (minor : Minor) (bytes : List ℕ) (m : RequestMessage) → SpellsAt minor bytes m → decoded bytes ≡ m
 
+-- The one message that a frame spells is of this kind: each that it spells is.
+of_spelled : Decodes → (bytes : List ℕ) (IsKind : RequestContent → Type 0)
+    → (m : RequestMessage) × Spells bytes m × IsKind m.content → (n : RequestMessage) → Spells bytes n → IsKind n.content
+of_spelled decodes bytes IsKind (m, spells, is) n also =
+    let same : m ≡ n = sym (decodes latest_minor bytes m spells) ∙ decodes latest_minor bytes n also in
+    subst (λ (n : RequestMessage). IsKind n.content) same is
+
 -- A frame that spells one message, of this kind, goes on to say what it said.
 says_still : Decodes → (old new : List ℕ) (IsKind : RequestContent → Type 0) → ((m : RequestMessage) → IsKind m.content → Spells old m
     → Spells new m) → (m : RequestMessage) × Spells old m × IsKind m.content
     → (request : Request) → SaysRequest old request → SaysRequest new request
-says_still decodes old new IsKind still (m, spells, is) request says =
-    let same : m ≡ says.message = sym (decodes latest_minor old m spells) ∙ decodes latest_minor old says.message says.spells in
-    record {
-      message = says.message;
-      spells = still says.message (subst (λ (n : RequestMessage). IsKind n.content) same is) says.spells;
-      unique = says.unique;
-      says = says.says;
-    }
+says_still decodes old new IsKind still kind request says = record {
+  message = says.message;
+  spells = still says.message (of_spelled decodes old IsKind kind says.message says.spells) says.spells;
+  unique = says.unique;
+  says = says.says;
+}
 
 pub says_open : Decodes → (old new : List ℕ) → ChangesOnly 40 4 old new
     → (m : RequestMessage) × Spells old m × IsFilled filled.Open m.content
@@ -135,3 +142,46 @@ pub says_listing : Decodes → (old new : List ℕ) → ChangesOnly 40 8 old new
     → (request : Request) → SaysRequest old request → SaysRequest new request
 says_listing decodes old new only = says_still decodes old new IsListing
     (λ m is spells. listing_still old new m.unique m.nodeid m.content is only spells)
+
+open_filled : (old new : List ℕ) (choices : Choices) → ChangesOnly 40 4 old new → number_at 40 4 new ≡ choices.open_flags
+    → (content : RequestContent) → IsFilled filled.Open content → FillsFor content choices old new
+open_filled old new choices only value opening is = (only, value)
+open_filled old new choices only value other is = absurd is
+
+create_filled : (old new : List ℕ) (choices : Choices) → ChangesOnly 40 4 old new → number_at 40 4 new ≡ create_flags
+    → (content : RequestContent) → IsFilled filled.Create content → FillsFor content choices old new
+create_filled old new choices only value (create name) is = (only, value)
+create_filled old new choices only value other is = absurd is
+
+init_filled : (old new : List ℕ) (choices : Choices) → ChangesOnly 52 4 old new
+    → number_at 52 4 new ≡ with_offered (number_at 52 4 old) choices.offer
+    → (content : RequestContent) → IsFilled filled.Init content → FillsFor content choices old new
+init_filled old new choices only value (init major minor flags) is = (only, value)
+init_filled old new choices only value other is = absurd is
+
+pub fills_open : Decodes → (old new : List ℕ) (choices : Choices) → ChangesOnly 40 4 old new
+    → number_at 40 4 new ≡ choices.open_flags → (m : RequestMessage) × Spells old m × IsFilled filled.Open m.content
+    → (m : RequestMessage) → Spells old m → FillsFor m.content choices old new
+fills_open decodes old new choices only value kind m spells =
+    open_filled old new choices only value m.content (of_spelled decodes old (IsFilled filled.Open) kind m spells)
+
+pub fills_create : Decodes → (old new : List ℕ) (choices : Choices) → ChangesOnly 40 4 old new
+    → number_at 40 4 new ≡ create_flags → (m : RequestMessage) × Spells old m × IsFilled filled.Create m.content
+    → (m : RequestMessage) → Spells old m → FillsFor m.content choices old new
+fills_create decodes old new choices only value kind m spells =
+    create_filled old new choices only value m.content (of_spelled decodes old (IsFilled filled.Create) kind m spells)
+
+pub fills_init : Decodes → (old new : List ℕ) (choices : Choices) → ChangesOnly 52 4 old new
+    → number_at 52 4 new ≡ with_offered (number_at 52 4 old) choices.offer
+    → (m : RequestMessage) × Spells old m × IsFilled filled.Init m.content
+    → (m : RequestMessage) → Spells old m → FillsFor m.content choices old new
+fills_init decodes old new choices only value kind m spells =
+    init_filled old new choices only value m.content (of_spelled decodes old (IsFilled filled.Init) kind m spells)
+
+-- What is none of these stays as it is.
+pub fills_nothing : (old : List ℕ) (choices : Choices) (content : RequestContent)
+    → ((kind : Filled) → IsFilled kind content → ⊥) → FillsFor content choices old old
+fills_nothing old choices opening none = absurd (none filled.Open tt)
+fills_nothing old choices (create name) none = absurd (none filled.Create tt)
+fills_nothing old choices (init major minor flags) none = absurd (none filled.Init tt)
+fills_nothing old choices other none = refl

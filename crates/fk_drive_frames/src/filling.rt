@@ -1,13 +1,14 @@
 //! What real servers want in fields that are free, or in bits that are dropped when read.
 
-ghost use Rattle.std.specs.Prelude.{◌≡◌, ◌≤◌, ◌+◌, IfSome, length};
+ghost use Rattle.std.specs.Prelude.{◌≡◌, ◌≤◌, ◌+◌, IfSome, IfNone, length};
 ghost use Rattle.fk_wire.specs.Fields.{number_at};
 ghost use Rattle.fk_wire.specs.Requests.{RequestMessage, Spells};
 ghost use Rattle.fuse_spec.specs.Kernel.Messages.{Request};
 ghost use Rattle.std.specs.Prelude.{bit_and};
 ghost use Rattle.fk_wire.specs.Requests.{known_flags};
 ghost use Rattle.fuse_frames.specs.RequestTies.{SaysRequest};
-ghost use Rattle.fk_drive_frames.specs.Filling.{ChangesOnly, IsFilled, IsListing};
+ghost use Rattle.fk_drive_frames.specs.Filling.{ChangesOnly, FillsFor, IsFilled, IsListing, with_offered};
+ghost use Rattle.fk_drive_frames.specs.declared.filling.Filled.{Filled};
 
 use byteorder::{ByteOrder, LittleEndian};
 use fk_fields::u32_at;
@@ -38,7 +39,9 @@ enum Filled {
 
 /// What a frame spells of these, if anything.
 fn filled_in(frame: &[u8]) -> Option<Filled>
-    ensures { IfSome result (λ filled. (m : RequestMessage) × Spells frame.now m × IsFilled filled m.content) }
+    ensures some { IfSome result (λ filled. (m : RequestMessage) × Spells frame.now m × IsFilled filled m.content) }
+    ensures none { IfNone result ((m : RequestMessage) → Spells frame.now m → (filled : Filled)
+        → IsFilled filled m.content → ⊥) }
 {
     match read_request(frame) {
         Ok(request) => match request.body {
@@ -71,7 +74,8 @@ fn put_u64(frame: &mut [u8], place: usize, value: u64)
 
 /// The flags of INIT with those that are offered as well. The kernel's own stay as they are.
 fn offering(flags: u32, offer: u32) -> u32
-    ensures { bit_and result known_flags ≡ bit_and flags known_flags }
+    ensures value { result ≡ with_offered flags offer }
+    ensures kept { bit_and result known_flags ≡ bit_and flags known_flags }
 {
     flags | (offer & !KNOWN)
 }
@@ -88,6 +92,8 @@ fn init_flags(frame: &[u8]) -> u32
 pub fn fill(frame: &mut [u8], choices: Choices)
     ensures long { length frame.new ≡ length frame.old }
     ensures same { (request : Request) → SaysRequest frame.old request → SaysRequest frame.new request }
+    ensures filled { (m : RequestMessage) → Spells frame.old m → FillsFor m.content choices frame.old frame.new }
+    ensures unread { ((m : RequestMessage) → Spells frame.old m → ⊥) → frame.new ≡ frame.old }
 {
     spelled_is_decoded();
     match filled_in(frame) {

@@ -1,7 +1,8 @@
 //! Which requests list a directory, and what a reply to OPENDIR says.
 
-ghost use Rattle.std.specs.Prelude.{◌≡◌, IfSome};
+ghost use Rattle.std.specs.Prelude.{◌≡◌, IfSome, IfNone};
 ghost use Rattle.fk_wire.specs.Requests.{RequestMessage, Spells};
+ghost use Rattle.fuse_frames.specs.DecodedReplies.{HasReplyHead, head_unique};
 ghost use Rattle.fk_drive_frames.specs.Filling.{IsListing};
 ghost use Rattle.fk_drive_frames.specs.OwnRequests.{IsErrorSaid, SaysOfOpendir};
 
@@ -25,8 +26,9 @@ pub enum OpendirSaid {
 
 /// The node that a request frame lists, with READDIR or READDIRPLUS.
 pub fn node_listed(frame: &[u8]) -> Option<u64>
-    ensures { IfSome result (λ node. (m : RequestMessage) × Spells frame.now m × (m.nodeid ≡ node)
+    ensures some { IfSome result (λ node. (m : RequestMessage) × Spells frame.now m × (m.nodeid ≡ node)
         × IsListing m.content) }
+    ensures none { IfNone result ((m : RequestMessage) → Spells frame.now m → IsListing m.content → ⊥) }
 {
     match read_request(frame) {
         Ok(request) => match request.body {
@@ -42,6 +44,7 @@ pub fn node_listed(frame: &[u8]) -> Option<u64>
 pub fn said_in(unique: u64, frame: &[u8]) -> Option<OpendirSaid>
     ensures said { IfSome result (SaysOfOpendir frame.now unique) }
     ensures number { IfSome result IsErrorSaid }
+    ensures none { IfNone result (HasReplyHead frame.now → head_unique frame.now ≡ unique → ⊥) }
 {
     let Ok(head) = ReplyHead::read(frame) else {
         return None;

@@ -3,8 +3,8 @@ use Rattle.fk_wire.specs.Requests.{request_content, request_message}
 use Rattle.fk_drive_frames.specs.Filling.{IsListing}
 use Rattle.fk_drive_frames.proofs.opendir_reply.node_listed.Goals as goal
 
-pub returns-in-Readdir : goal.returns-in-Readdir
-returns-in-Readdir c = (
+pub returns-in-Readdir-clause-some : goal.returns-in-Readdir-clause-some
+returns-in-Readdir-clause-some c = (
   request_message c.in-Ok.request,
   c.in-Ok.ensures.ok,
   refl,
