@@ -29,7 +29,7 @@ use std::alloc::Allocator;
 /// Sends a request, with what servers want in its free fields.
 fn send_same<D: Device>(device: &mut D, frame: &[u8], choices: Choices) -> Result<(), DriveEnd>
     requires { length frame.now ≤ 4176 }
-    ensures { WentOver D.logs device.old device.new (SendsSame frame.now) }
+    ensures { WentOver D.logs device.old device.new (SendsSame frame.now choices) }
 {
     let mut room = [0u8; MAX_FRAME];
     let filled = &mut room[..frame.len()];

@@ -9,7 +9,7 @@ use Rattle.fk_drive.proofs.sending.send_read.Goals as goal
 pub returns-in-Some : goal.returns-in-Some
 returns-in-Some g c request says under =
     c.send_opened.ensures request says under
-    (lists_of c.spelled_is_decoded.ensures c.args.frame.now c.in-Some.node c.in-Some.ensures request says)
+    (lists_of c.spelled_is_decoded.ensures c.args.frame.now c.in-Some.node c.in-Some.ensures.some request says)
 
 pub returns-in_default : goal.returns-in_default
 returns-in_default g c request says under =
