@@ -5,7 +5,7 @@ ghost use Rattle.fw_script.specs.Scripts.{Machine as MachineBy, session_machine,
 ghost use Rattle.fw_world.specs.declared.record.Record.{Record as RecordValue};
 
 use fw_link::Link;
-use fw_world::{Event, Outcome, Record, Session, Tables, WorldIn, WorldOf, run};
+use fw_world::{Event, Outcome, Record, SessionOf, Tables, WorldOf, run};
 use std::alloc::{AllocError, Allocator};
 use std::slice::from_ref;
 
@@ -69,33 +69,33 @@ impl<T: Tables> Machine<T::Heap> for WorldOf<T> {
     }
 }
 
-impl<L: Link + Drop, A: Allocator + Copy> Machine<A> for Session<L, A> {
-    type State = (WorldIn<A>, bool, L);
+impl<T: Tables, L: Link + Drop> Machine<T::Heap> for SessionOf<T, L> {
+    type State = (WorldOf<T>, bool, L);
 
     ghost state = { λ session. (session.world, session.is_lost, session.link) };
 
-    ghost acts = { session_machine A L L.carries L.failed };
+    ghost acts = { session_machine T.Heap L L.carries L.failed };
 
     fn run(
         &mut self,
         event: &Event<'_>,
-        records: &mut Vec<Record<A>, A>,
+        records: &mut Vec<Record<T::Heap>, T::Heap>,
     ) -> Result<(), AllocError> {
-        match Session::run(self, from_ref(event), records) {
+        match SessionOf::run(self, from_ref(event), records) {
             Ok(()) => Ok(()),
             Err(_) => Err(AllocError),
         }
     }
 
     fn frame_of(&self, outcome: &Outcome) -> Option<&[u8]> {
-        Session::frame_of(self, outcome)
+        SessionOf::frame_of(self, outcome)
     }
 
-    fn kernel_nodes(&self) -> Result<Nodes<A>, AllocError> {
-        Session::kernel_nodes(self)
+    fn kernel_nodes(&self) -> Result<Nodes<T::Heap>, AllocError> {
+        SessionOf::kernel_nodes(self)
     }
 
-    fn server_nodes(&self) -> Result<Nodes<A>, AllocError> {
-        Session::server_nodes(self)
+    fn server_nodes(&self) -> Result<Nodes<T::Heap>, AllocError> {
+        SessionOf::server_nodes(self)
     }
 }

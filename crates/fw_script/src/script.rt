@@ -23,7 +23,7 @@ use crate::records::write_event;
 use crate::short_text::ShortText;
 use crate::stop::Stop;
 use fw_link::Link;
-use fw_world::{Call, Event, Lists, Maps, Record, Session, Tables, WorldOf};
+use fw_world::{Call, Event, Lists, Maps, Record, SessionOf, Tables, WorldOf};
 use std::alloc::{AllocError, Allocator, Global};
 use std::io::{ErrorKind, Read, Write};
 use std::marker::Model;
@@ -285,21 +285,21 @@ fn run_events<T: Tables, W: Write>(
 
 /// Runs them on a new session over a link, and says whether the link was lost, which is judged before want of memory
 /// and an output that refuses.
-fn run_session<A: Allocator + Copy, L: Link + Drop, W: Write>(
-    alloc: A,
+fn run_session<T: Tables, L: Link + Drop, W: Write>(
+    alloc: T::Heap,
     link: L,
     lines: &[Line<'_>],
     hex: bool,
     out: &mut W,
 ) -> Result<bool, Stop<'static>>
     requires { All IsWritten lines.now }
-    ensures { (texts : List (List ℕ)) → Say texts lines.now → SessionEnds (IsRunOver A L.carries L.failed link hex)
+    ensures { (texts : List (List ℕ)) → Say texts lines.now → SessionEnds (IsRunOver T.Heap L.carries L.failed link hex)
         texts result (W.contents out.old) (W.contents out.new) }
 {
     let Ok(mut room) = make_room(alloc) else {
         return Err(Stop::NoMemory);
     };
-    let Ok(mut session) = Session::new(alloc, link) else {
+    let Ok(mut session) = SessionOf::<T, L>::new(alloc, link) else {
         return Err(Stop::NoMemory);
     };
     session.lemma_protocol();
@@ -358,7 +358,7 @@ fn run_text<A: Allocator + Copy, L: Link + Drop, W: Write>(
     let Ok(lines) = read_lines(alloc, text) else {
         return Err(Stop::NoMemory);
     };
-    run_session(alloc, link, lines.as_slice(), hex, out)
+    run_session::<Maps<A>, L, W>(alloc, link, lines.as_slice(), hex, out)
 }
 
 /// A script whose lines are good.
@@ -482,7 +482,7 @@ fn run_input_over<'a, A: Allocator + Copy, L: Link + Drop, R: Read, W: Write>(
 {
     let script = read_script(alloc, name, input)?;
     let lines = read_lines(alloc, script.as_slice())?;
-    run_session(alloc, link, lines.as_slice(), hex, out)
+    run_session::<Maps<A>, L, W>(alloc, link, lines.as_slice(), hex, out)
 }
 
 /// Runs a script on a new world over these tables, and gives the exit status, as `run_script` does.

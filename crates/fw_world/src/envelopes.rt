@@ -8,7 +8,8 @@ ghost use Rattle.fw_world.specs.Sends.{SendsReply, SendsRequest, SendsResult, re
 ghost use Rattle.fw_world.specs.Values.{outcome_of};
 
 use crate::event::Outcome;
-use crate::world::WorldIn;
+use crate::tables::Tables;
+use crate::world::WorldOf;
 use fk_wire::write_result;
 use fuse_spec::{ReplyResult, Taken, WriteResult};
 use fw_link::{Carrier, Envelope, Link, LinkFault, Side};
@@ -46,10 +47,10 @@ fn frame_result<A: Allocator>(frame: &mut Vec<u8, A>, settled: ReplyResult)
 }
 
 /// Sends the request that was put last on its link.
-fn send_request<L: Link, A: Allocator + Copy>(
-    world: &WorldIn<A>,
+fn send_request<T: Tables, L: Link>(
+    world: &WorldOf<T>,
     link: &mut L,
-    carrier: &mut Carrier<A>,
+    carrier: &mut Carrier<T::Heap>,
 ) -> Result<(), LinkFault>
     requires empty { IsEmpty carrier.old }
     requires some { world.now.requests ≢ [] }
@@ -72,10 +73,10 @@ fn send_request<L: Link, A: Allocator + Copy>(
 }
 
 /// Sends the copy that was put last on its link.
-fn send_copy<L: Link, A: Allocator + Copy>(
-    world: &WorldIn<A>,
+fn send_copy<T: Tables, L: Link>(
+    world: &WorldOf<T>,
     link: &mut L,
-    carrier: &mut Carrier<A>,
+    carrier: &mut Carrier<T::Heap>,
 ) -> Result<(), LinkFault>
     requires empty { IsEmpty carrier.old }
     requires some { world.now.replies ≢ [] }
@@ -98,11 +99,11 @@ fn send_copy<L: Link, A: Allocator + Copy>(
 }
 
 /// Sends the result that was put last on its link, in this frame.
-fn send_result<L: Link, A: Allocator + Copy>(
-    world: &WorldIn<A>,
-    frame: &mut Vec<u8, A>,
+fn send_result<T: Tables, L: Link>(
+    world: &WorldOf<T>,
+    frame: &mut Vec<u8, T::Heap>,
     link: &mut L,
-    carrier: &mut Carrier<A>,
+    carrier: &mut Carrier<T::Heap>,
 ) -> Result<(), LinkFault>
     requires empty { IsEmpty carrier.old }
     requires room { 16 ≤ vec_capacity frame.old }
@@ -128,12 +129,12 @@ fn send_result<L: Link, A: Allocator + Copy>(
 }
 
 /// Sends the envelope of an accepted event with this outcome, if it has one.
-pub(crate) fn send<L: Link, A: Allocator + Copy>(
-    world: &WorldIn<A>,
+pub(crate) fn send<T: Tables, L: Link>(
+    world: &WorldOf<T>,
     outcome: &Outcome,
-    frame: &mut Vec<u8, A>,
+    frame: &mut Vec<u8, T::Heap>,
     link: &mut L,
-    carrier: &mut Carrier<A>,
+    carrier: &mut Carrier<T::Heap>,
 ) -> Result<(), LinkFault>
     requires empty { IsEmpty carrier.old }
     requires room { 16 ≤ vec_capacity frame.old }

@@ -17,6 +17,6 @@ pub use fuse_spec::{Attributes, IntrEffect, Kind, Minor, Refusal, Taken, WriteRe
 pub use laws::lost_where_failed;
 pub use record::Record;
 pub use runs::run;
-pub use session::Session;
+pub use session::{Session, SessionOf};
 pub use tables::{Lists, Maps, Tables};
 pub use world::{ListWorld, ListWorldIn, World, WorldIn, WorldOf};

@@ -23,14 +23,15 @@ mod lists;
 
 use crate::envelopes::{RESULT_LEN, send};
 use crate::event::{Event, Outcome};
-use crate::world::WorldIn;
+use crate::tables::{Maps, Tables};
+use crate::world::WorldOf;
 use fk_kernel::Answer;
 use fuse_spec::Refusal;
 use fw_link::{Carrier, Link};
-use std::alloc::{AllocError, Allocator, Global};
+use std::alloc::{AllocError, Global};
 
 /// Aborts the mount of a world on whose links something is.
-fn give_up<A: Allocator + Copy>(world: &mut WorldIn<A>)
+fn give_up<T: Tables>(world: &mut WorldOf<T>)
     requires { (world.old.requests ≡ []) × (world.old.replies ≡ []) × (world.old.results ≡ []) → ⊥ }
     ensures { Happens world.old abort aborted world.new }
 {
@@ -38,20 +39,23 @@ fn give_up<A: Allocator + Copy>(world: &mut WorldIn<A>)
     let _aborted = world.step(&Event::Abort);
 }
 
-/// A world whose two sides talk over a link of bytes: each frame that an event sends goes over it in that event. Once
-/// the link is lost every event is refused.
+/// A world whose two sides talk over a link of bytes, over any tables: each frame that an event sends goes over it in
+/// that event. Once the link is lost every event is refused.
 #[derive(Drop)]
-pub struct Session<L: Link + Drop, A: Allocator + Copy = Global> {
-    world: WorldIn<A>,
+pub struct SessionOf<T: Tables, L: Link + Drop> {
+    world: WorldOf<T>,
     link: L,
-    carrier: Carrier<A>,
-    frame: Vec<u8, A>,
+    carrier: Carrier<T::Heap>,
+    frame: Vec<u8, T::Heap>,
     is_lost: bool,
     ghost room: { 16 ≤ vec_capacity frame },
     ghost empty: { is_lost ≡ false → IsEmpty carrier },
 }
 
-impl<L: Link + Drop, A: Allocator + Copy> Session<L, A> {
+/// The session of the program, whose tables are maps and slabs, in memory that an allocator gives.
+pub type Session<L, A = Global> = SessionOf<Maps<A>, L>;
+
+impl<T: Tables, L: Link + Drop> SessionOf<T, L> {
     ghost use Rattle.fuse_spec.specs.World.Worlds.{first_world};
 
     /// A session before its first mount, over a link with nothing outstanding.
@@ -59,7 +63,7 @@ impl<L: Link + Drop, A: Allocator + Copy> Session<L, A> {
     /// # Errors
     ///
     /// `NoMemory`. The link is handed back.
-    pub fn new(alloc: A, link: L) -> Result<Session<L, A>, L>
+    pub fn new(alloc: T::Heap, link: L) -> Result<Self, L>
         ensures first { IfOk result (λ session. session.world ≡ first_world) }
         ensures refines { IfOk result (λ session. Alike session.world first_plain) }
         ensures link { IfOk result (λ session. (session.link ≡ link) × (session.is_lost ≡ false)) }
@@ -72,10 +76,10 @@ impl<L: Link + Drop, A: Allocator + Copy> Session<L, A> {
             return Err(link);
         };
         // Last, so that no world is dropped here.
-        let Ok(world) = WorldIn::new(alloc) else {
+        let Ok(world) = WorldOf::new(alloc) else {
             return Err(link);
         };
-        Ok(Session {
+        Ok(SessionOf {
             world,
             link,
             carrier,
@@ -86,7 +90,7 @@ impl<L: Link + Drop, A: Allocator + Copy> Session<L, A> {
 
     /// Ends the session, and drops its link.
     pub fn end(self) {
-        let Session {
+        let SessionOf {
             world,
             link,
             carrier,
@@ -173,7 +177,7 @@ impl<L: Link + Drop, A: Allocator + Copy> Session<L, A> {
     }
 
     /// Collects, once, the answer of the lowest answered call.
-    pub fn collect(&mut self) -> Option<(u64, Answer<A>)>
+    pub fn collect(&mut self) -> Option<(u64, Answer<T::Heap>)>
         ensures answer { option_map (λ r. (r.0, answer_of r.1)) result
             ≡ slice_get self.old.world.kernel.vfs.answers 0 }
         ensures none { IfNone result (self.new.world ≡ self.old.world) }
@@ -214,7 +218,7 @@ impl<L: Link + Drop, A: Allocator + Copy> Session<L, A> {
     /// # Errors
     ///
     /// Where there is no memory for the list.
-    pub fn kernel_nodes(&self) -> Result<Vec<(u64, u64, u64), A>, AllocError>
+    pub fn kernel_nodes(&self) -> Result<Vec<(u64, u64, u64), T::Heap>, AllocError>
         ensures nodes { IfOk result (λ nodes. nodes.items ≡ counted_nodes self.now.world.kernel.nodes) }
         ensures listed { IfOk result (λ nodes. AreListed nodes.items) }
     {
@@ -226,7 +230,7 @@ impl<L: Link + Drop, A: Allocator + Copy> Session<L, A> {
     /// # Errors
     ///
     /// Where there is no memory for the list.
-    pub fn server_nodes(&self) -> Result<Vec<(u64, u64, u64), A>, AllocError>
+    pub fn server_nodes(&self) -> Result<Vec<(u64, u64, u64), T::Heap>, AllocError>
         ensures nodes { IfOk result (λ nodes. nodes.items ≡ held_nodes self.now.world.server.nodes.rows) }
         ensures listed { IfOk result (λ nodes. AreListed nodes.items) }
     {

@@ -2,7 +2,7 @@
 
 use fw_link::MemoryLink;
 use fw_world::{
-    Answer, Event, Lists, Maps, Outcome, Record, Refusal, Session, Tables, WorldOf, run,
+    Answer, Event, Lists, Maps, Outcome, Record, Refusal, SessionOf, Tables, WorldOf, run,
 };
 use std::alloc::{AllocError, Allocator};
 
@@ -70,42 +70,46 @@ impl<T: Tables> Machine<T::Heap> for WorldOf<T> {
     }
 }
 
-impl<A: Allocator + Copy> Machine<A> for Session<MemoryLink<A>, A> {
-    fn new(alloc: A) -> Option<Session<MemoryLink<A>, A>> {
+impl<T: Tables> Machine<T::Heap> for SessionOf<T, MemoryLink<T::Heap>> {
+    fn new(alloc: T::Heap) -> Option<SessionOf<T, MemoryLink<T::Heap>>> {
         let link = MemoryLink::new(alloc).ok()?;
-        Session::new(alloc, link).ok()
+        SessionOf::new(alloc, link).ok()
     }
 
     fn end(self) {
-        Session::end(self);
+        SessionOf::end(self);
     }
 
     fn step(&mut self, event: &Event<'_>) -> Result<Outcome, Refusal> {
-        Session::step(self, event)
+        SessionOf::step(self, event)
     }
 
-    fn run(&mut self, events: &[Event<'_>], records: &mut Vec<Record<A>, A>) -> Result<(), usize> {
-        Session::run(self, events, records)
+    fn run(
+        &mut self,
+        events: &[Event<'_>],
+        records: &mut Vec<Record<T::Heap>, T::Heap>,
+    ) -> Result<(), usize> {
+        SessionOf::run(self, events, records)
     }
 
-    fn collect(&mut self) -> Option<(u64, Answer<A>)> {
-        Session::collect(self)
+    fn collect(&mut self) -> Option<(u64, Answer<T::Heap>)> {
+        SessionOf::collect(self)
     }
 
     fn last_put(&self) -> Option<&[u8]> {
-        Session::last_put(self)
+        SessionOf::last_put(self)
     }
 
     fn frame_of(&self, outcome: &Outcome) -> Option<&[u8]> {
-        Session::frame_of(self, outcome)
+        SessionOf::frame_of(self, outcome)
     }
 
-    fn kernel_nodes(&self) -> Result<Vec<(u64, u64, u64), A>, AllocError> {
-        Session::kernel_nodes(self)
+    fn kernel_nodes(&self) -> Result<Vec<(u64, u64, u64), T::Heap>, AllocError> {
+        SessionOf::kernel_nodes(self)
     }
 
-    fn server_nodes(&self) -> Result<Vec<(u64, u64, u64), A>, AllocError> {
-        Session::server_nodes(self)
+    fn server_nodes(&self) -> Result<Vec<(u64, u64, u64), T::Heap>, AllocError> {
+        SessionOf::server_nodes(self)
     }
 }
 
@@ -138,10 +142,18 @@ pub(super) fn try_on_list_world<A: Allocator + Copy, T: MachineTest<A>>(
     try_on_tables::<Lists<A>, T>(test, alloc)
 }
 
-/// On a session over a link in memory.
+/// On a session over any tables and a link in memory.
+fn try_on_linked_tables<T: Tables, M: MachineTest<T::Heap>>(
+    test: &mut M,
+    alloc: T::Heap,
+) -> Result<(), AllocError> {
+    test.try_on::<SessionOf<T, MemoryLink<T::Heap>>>(alloc)
+}
+
+/// On a session over maps and slabs, and a link in memory.
 pub(super) fn try_on_session<A: Allocator + Copy, T: MachineTest<A>>(
     test: &mut T,
     alloc: A,
 ) -> Result<(), AllocError> {
-    test.try_on::<Session<MemoryLink<A>, A>>(alloc)
+    try_on_linked_tables::<Maps<A>, T>(test, alloc)
 }

@@ -9,14 +9,15 @@ ghost use Rattle.fw_world.specs.Values.{event_of, run_record_of};
 ghost use Rattle.fw_world.specs.declared.record.Record.{Record as RecordValue};
 ghost use Rattle.fw_world.specs.declared.record.Record.TheVariants.{LinkLost};
 
-use super::Session;
+use super::SessionOf;
 use crate::event::Event;
 use crate::record::Record;
 use crate::runs::{collect_all, most_records};
+use crate::tables::Tables;
 use fw_link::Link;
 use std::alloc::Allocator;
 
-impl<L: Link + Drop, A: Allocator + Copy> Session<L, A> {
+impl<T: Tables, L: Link + Drop> SessionOf<T, L> {
     /// Runs the events one after another. The records of each are its outcome or refusal, `LinkLost` where the link
     /// was lost in it, and then the answers that it gave, in rising call number.
     ///
@@ -28,9 +29,9 @@ impl<L: Link + Drop, A: Allocator + Copy> Session<L, A> {
     pub fn run(
         &mut self,
         events: &[Event<'_>],
-        records: &mut Vec<Record<A>, A>,
+        records: &mut Vec<Record<T::Heap>, T::Heap>,
     ) -> Result<(), usize>
-        ensures ran { (added : List (RecordValue A)) × (records.new.items ≡ records.old.items ++ added)
+        ensures ran { (added : List (RecordValue T.Heap)) × (records.new.items ≡ records.old.items ++ added)
             × RunsOver L.carries L.failed (session_of self.old.world self.old.is_lost) self.old.link
             (map event_of (events_run result events.now)) (map run_record_of added)
             (session_of self.new.world self.new.is_lost) self.new.link }
@@ -50,12 +51,12 @@ impl<L: Link + Drop, A: Allocator + Copy> Session<L, A> {
     }
 
     /// Runs one event and records what it came to, or does nothing where there is no memory for the records.
-    fn run_one(&mut self, event: &Event<'_>, records: &mut Vec<Record<A>, A>) -> bool
+    fn run_one(&mut self, event: &Event<'_>, records: &mut Vec<Record<T::Heap>, T::Heap>) -> bool
         ensures not_run { result ≡ false → (self.new.world ≡ self.old.world) × (self.new.is_lost ≡ self.old.is_lost)
             × (self.new.link ≡ self.old.link) × (records.new.items ≡ records.old.items) }
         ensures full { result ≡ false → vec_capacity records.old < vec_len records.old
             + calls_not_over self.old.world + 2 }
-        ensures ran { IsTrue result → (added : List (RecordValue A)) × (records.new.items ≡ records.old.items ++ added)
+        ensures ran { IsTrue result → (added : List (RecordValue T.Heap)) × (records.new.items ≡ records.old.items ++ added)
             × RecordedOver L.carries L.failed (session_of self.old.world self.old.is_lost) self.old.link
             (event_of event.now ∷ []) (map run_record_of added) (session_of self.new.world self.new.is_lost) self.new.link }
         ensures room { IsTrue result →

@@ -5,7 +5,7 @@ use Rattle.fuse_spec.specs.declared.Minor.TheVariants.{M15}
 use Rattle.fw_world.specs.OverLinks.{session_of}
 use Rattle.fw_world.specs.Runs.{calls_not_over}
 use Rattle.fw_world.proofs.OverLinks.{all_over, comes_over, none_ran, one_more, ran_as_before, room_for_all}
-use Rattle.fw_world.proofs.session.Session.run.Goals as goal
+use Rattle.fw_world.proofs.session.SessionOf.run.Goals as goal
 
 pub loop-k-init : goal.loop-k-init
 loop-k-init g c = (

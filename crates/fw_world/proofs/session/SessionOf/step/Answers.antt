@@ -2,7 +2,7 @@ use Rattle.fuse_theorem.proofs.RefusalCases.NeverMemory.{never_link_lost}
 use Rattle.fw_world.specs.Values.{event_of, outcome_of}
 use Rattle.fw_world.proofs.Sending.{is_out}
 use Rattle.fw_world.proofs.Stepping.{steps_over}
-use Rattle.fw_world.proofs.session.Session.step.Goals as goal
+use Rattle.fw_world.proofs.session.SessionOf.step.Goals as goal
 
 pub returns-in-Err-clause-lost_before : goal.returns-in-Err-clause-lost_before
 returns-in-Err-clause-lost_before g c = λ is. absurd

@@ -1,7 +1,7 @@
 use Rattle.std.proofs.Common.{List, map, subst}
 use Rattle.fw_script.proofs.SessionRuns.{same_over}
 use Rattle.fw_script.proofs.WorldRuns.{none_before}
-use Rattle.fw_script.proofs.machine.SessionMachine.run.Goals as goal
+use Rattle.fw_script.proofs.machine.SessionOfMachineHeap.run.Goals as goal
 use Rattle.fw_world.specs.OverLinks.{RunsOver, session_of}
 use Rattle.fw_world.specs.Values.{event_of, run_record_of}
 use Rattle.fw_world.specs.declared.event.Event.{Event}

@@ -4,7 +4,7 @@ use Rattle.std.specs.Vec.{vec_len, vec_capacity}
 use Rattle.fw_world.specs.Values.{event_of, outcome_of}
 use Rattle.fw_world.proofs.OverLinks.{adds_outcome, adds_refused, one_more_at_most}
 use Rattle.fw_world.proofs.Recording.{made_room, wanted_room}
-use Rattle.fw_world.proofs.session.Session.run_one.Goals as goal
+use Rattle.fw_world.proofs.session.SessionOf.run_one.Goals as goal
 
 pub collect_all-requires : goal.collect_all-requires
 collect_all-requires g c =

@@ -3,7 +3,7 @@ use Rattle.std.specs.Vec.{vec_len, vec_capacity}
 use Rattle.fw_world.specs.OverLinks.{session_of}
 use Rattle.fw_world.specs.Runs.{calls_not_over}
 use Rattle.fw_world.proofs.OverLinks.{RanOver}
-use Rattle.fw_world.proofs.session.Session.run.Given as goal
+use Rattle.fw_world.proofs.session.SessionOf.run.Given as goal
 
 -- The first k events ran, and used room for two records each, beside that of the calls that waited.
 abbrev pub invariant-loop-k : goal.invariant-loop-k
