@@ -1,11 +1,14 @@
 -- What sending a request results in.
 use Rattle.std.proofs.Common.{◌≡◌, ℕ, List, [], ◌++◌, refl, sym, subst}
 use Rattle.std.specs.Prelude.{ℤ, Result, Ok, Err, OnErr, OnOk}
+use Rattle.fuse_spec.specs.declared.Refusal.{Refusal}
 use Rattle.fuse_spec.specs.declared.WriteResult.{WriteResult}
+use Rattle.fuse_spec.specs.declared.WriteResult.TheVariants.{Invalid, NoEntry}
 use Rattle.fuse_spec.specs.Kernel.Kernel.{Kernel}
 use Rattle.fuse_spec.specs.Kernel.Messages.{Request}
 use Rattle.fk_wire.specs.Replies.{WrittenReply, empty_reply}
 use Rattle.fuse_device.specs.Transfers.{Transfer}
+use Rattle.fk_kernel.specs.AwaitedReplies.{HasReplyHead, IsReplyWritten, awaited, head_unique, nothing}
 use Rattle.fk_drive.specs.Driven.{driven}
 use Rattle.fk_drive.specs.Driving.{Driven, DrivesOver, Turn, answers, idle, unopened}
 use Rattle.fk_drive.specs.KernelSteps.{IsReplyTaken}
@@ -41,3 +44,16 @@ answered logs goes_on stays d e first old new connection request unique under er
   tt,
   subst (λ (k : Kernel). DrivesOver logs d e first (driven k connection (unopened request error))) (sym same) at,
 )
+
+-- what the kernel's write says where it refuses nothing
+pub taken_of : (old : Kernel) (bytes : List ℕ) (written : WriteResult) (new : Kernel)
+    → ((HasReplyHead bytes → ⊥) → (◌≡◌ {A = Result WriteResult Refusal} (Ok written) (Ok Invalid)) × (new ≡ old))
+    → (HasReplyHead bytes → awaited old (head_unique bytes) ≡ nothing
+    → (◌≡◌ {A = Result WriteResult Refusal} (Ok written) (Ok NoEntry)) × (new ≡ old))
+    → (HasReplyHead bytes → IsReplyWritten old (head_unique bytes) bytes (awaited old (head_unique bytes)) written new)
+    → IsReplyTaken old bytes written new
+taken_of old bytes written new headless unawaited taken = record {
+  headless = λ none. let (is, same) = headless none in (cc is, same);
+  unawaited = λ head none. let (is, same) = unawaited head none in (cc is, same);
+  taken = taken;
+}

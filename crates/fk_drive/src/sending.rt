@@ -20,11 +20,13 @@ use crate::end::{DriveEnd, NotSent};
 use crate::exchange::send_bytes;
 use crate::opening::{Awaited, Listing, is_opened_first, open_directory};
 use fk_drive_frames::{Choices, OpendirSaid, fill, fill_handle, node_listed};
-use fk_kernel::{Kernel, Pick};
+use fk_kernel::{KernelOf, Pick};
+use fk_lookup_count::CountTable;
+use fk_queues::QueueTable;
 use fk_wire::{MAX_FRAME, frame_of_error, spelled_is_decoded, written_is_spelled};
 use fuse_device::Device;
 use fuse_frames::RequestFrame;
-use std::alloc::Allocator;
+use fuse_spec::Purpose;
 
 /// Sends a request, with what servers want in its free fields.
 fn send_same<D: Device>(device: &mut D, frame: &[u8], choices: Choices) -> Result<(), DriveEnd>
@@ -53,9 +55,9 @@ fn send_listing<D: Device>(device: &mut D, frame: &[u8], fh: u64) -> Result<(), 
 
 /// Sends a request that lists a node, under its number, once its directory is open. Where that fails the kernel takes the
 /// error as its reply.
-fn send_opened<A: Allocator + Copy, D: Device>(
-    kernel: &mut Kernel<A>,
-    connection: &mut Connection<A>,
+fn send_opened<Q: QueueTable<Purpose> + Drop, C: CountTable<Heap = Q::Heap> + Drop, D: Device>(
+    kernel: &mut KernelOf<Q, C>,
+    connection: &mut Connection<Q::Heap>,
     device: &mut D,
     frame: &[u8],
     choices: Choices,
@@ -83,8 +85,8 @@ fn send_opened<A: Allocator + Copy, D: Device>(
 }
 
 /// The kernel takes an error as the reply to a request.
-fn answer<A: Allocator + Copy>(
-    kernel: &mut Kernel<A>,
+fn answer<Q: QueueTable<Purpose> + Drop, C: CountTable<Heap = Q::Heap> + Drop>(
+    kernel: &mut KernelOf<Q, C>,
     unique: u64,
     error: i32,
 ) -> Result<(), DriveEnd>
@@ -101,9 +103,9 @@ fn answer<A: Allocator + Copy>(
 }
 
 /// Sends a request that was read, under its number.
-fn send_read<A: Allocator + Copy, D: Device>(
-    kernel: &mut Kernel<A>,
-    connection: &mut Connection<A>,
+fn send_read<Q: QueueTable<Purpose> + Drop, C: CountTable<Heap = Q::Heap> + Drop, D: Device>(
+    kernel: &mut KernelOf<Q, C>,
+    connection: &mut Connection<Q::Heap>,
     device: &mut D,
     frame: &[u8],
     choices: Choices,
@@ -135,13 +137,13 @@ fn send_read<A: Allocator + Copy, D: Device>(
 /// # Errors
 ///
 /// The kernel refused to be read, and then nothing changed; or the run came to its end.
-pub fn send_next<A: Allocator + Copy, D: Device>(
-    kernel: &mut Kernel<A>,
-    connection: &mut Connection<A>,
+pub fn send_next<Q: QueueTable<Purpose> + Drop, C: CountTable<Heap = Q::Heap> + Drop, D: Device>(
+    kernel: &mut KernelOf<Q, C>,
+    connection: &mut Connection<Q::Heap>,
     device: &mut D,
     pick: Pick,
     choices: Choices,
-) -> Result<RequestFrame<A>, NotSent>
+) -> Result<RequestFrame<Q::Heap>, NotSent>
     ensures drives { (turn : Turn) × IsRequestSent result turn × DrivesOver D.logs device.old device.new
         (driven kernel.old connection.old idle) (driven kernel.new connection.new turn) }
     ensures picked { IfOk result (λ frame. IsPicked kernel.old pick frame) }

@@ -13,10 +13,12 @@ use crate::end::DriveEnd;
 use crate::exchange::send_bytes;
 use crate::receiving::receive_next;
 use fk_drive_frames::{END_OF_OWN, is_older_agreement, raised_of, releasedir};
-use fk_kernel::Kernel;
+use fk_kernel::KernelOf;
+use fk_lookup_count::CountTable;
+use fk_queues::QueueTable;
 use fk_wire::ReplyHead;
 use fuse_device::Device;
-use fuse_spec::{Refusal, WriteResult};
+use fuse_spec::{Purpose, Refusal, WriteResult};
 use std::alloc::Allocator;
 
 /// A frame that was written to the kernel.
@@ -33,8 +35,8 @@ pub struct Written<A: Allocator> {
 }
 
 /// Writes a frame to the kernel: an older agreement as one on 7.31, and any other as it is.
-fn hand_on<A: Allocator + Copy>(
-    kernel: &mut Kernel<A>,
+fn hand_on<Q: QueueTable<Purpose> + Drop, C: CountTable<Heap = Q::Heap> + Drop>(
+    kernel: &mut KernelOf<Q, C>,
     frame: &[u8],
 ) -> Result<WriteResult, Refusal>
     ensures ok { IfOk result (λ written. (handed : List ℕ) × IsHandedOn frame.now handed
@@ -108,10 +110,10 @@ fn release_directory<A: Allocator + Copy, D: Device>(
 }
 
 /// Writes the first frame that waits to the kernel.
-fn write_first<A: Allocator + Copy>(
-    kernel: &mut Kernel<A>,
-    connection: &mut Connection<A>,
-) -> Result<Written<A>, Refusal>
+fn write_first<Q: QueueTable<Purpose> + Drop, C: CountTable<Heap = Q::Heap> + Drop>(
+    kernel: &mut KernelOf<Q, C>,
+    connection: &mut Connection<Q::Heap>,
+) -> Result<Written<Q::Heap>, Refusal>
     requires { 0 < vec_len connection.old.waiting }
     ensures ok { OnOk result ((turn : Turn) → DriveStep (driven kernel.old connection.old turn) []
         (driven kernel.new connection.new turn)) }
@@ -154,11 +156,11 @@ fn release_after<A: Allocator + Copy, D: Device>(
 /// # Errors
 ///
 /// The run came to its end before there was one.
-pub fn write_next<A: Allocator + Copy, D: Device>(
-    kernel: &mut Kernel<A>,
-    connection: &mut Connection<A>,
+pub fn write_next<Q: QueueTable<Purpose> + Drop, C: CountTable<Heap = Q::Heap> + Drop, D: Device>(
+    kernel: &mut KernelOf<Q, C>,
+    connection: &mut Connection<Q::Heap>,
     device: &mut D,
-) -> Result<Result<Written<A>, Refusal>, DriveEnd>
+) -> Result<Result<Written<Q::Heap>, Refusal>, DriveEnd>
     ensures drives { (turn : Turn) → DrivesOver D.logs device.old device.new (driven kernel.old connection.old turn)
         (driven kernel.new connection.new turn) }
     ensures refused { IfOk result (λ written. IfErr written (IsFirstRefused kernel.new connection.new)) }

@@ -26,5 +26,5 @@ returns-in-Err-clause-drives g c turn =
     let logs = g.D.Device.logs in
     subst (λ (k : Kernel). DrivesOver logs c.args.device.now c.receive_one.new.device first
     (driven k c.write_first.new.connection turn)) (sym c.in-Err.ensures.err.0)
-    (subst (λ (n : Connection g.row.A.Denot). DrivesOver logs c.args.device.now c.receive_one.new.device first
+    (subst (λ (n : Connection g.row.Q-Heap.Denot). DrivesOver logs c.args.device.now c.receive_one.new.device first
     (driven kernel n turn)) (sym c.in-Err.ensures.err.1) over)
