@@ -9,10 +9,10 @@ returns-then-is_lost g c =
     let new = c.in-Ok-new.session in
     let last = c.run_lines-ended.new.machine in
     λ texts said.
-    lost_ends _ carries failed c.args.link c.args.hex texts (new.world, new.is_lost, new.link)
+    lost_ends g.row.T-Heap.Denot carries failed c.args.link c.args.hex texts (new.world, new.is_lost, new.link)
     (last.world, last.is_lost, last.link) c.run_lines-ended.result (g.W.Write.contents c.args.out.now)
     (g.W.Write.contents c.run_lines-ended.new.out)
-    (begins _ carries failed c.args.link c.args.hex (new.world, new.is_lost, new.link) c.in-Ok-new.ensures.first
+    (begins g.row.T-Heap.Denot carries failed c.args.link c.args.hex (new.world, new.is_lost, new.link) c.in-Ok-new.ensures.first
     c.in-Ok-new.ensures.link.1 c.in-Ok-new.ensures.link.0)
     c.lemma_protocol.ensures.keeps (sym c.is_lost-is_lost.ensures ∙ c.if-is_lost.true)
     (c.run_lines-ended.ensures texts said)
@@ -24,10 +24,10 @@ returns-in-Ok-ended g c =
     let new = c.in-Ok-new.session in
     let last = c.run_lines-ended.new.machine in
     λ texts said.
-    all_over _ carries failed c.args.link c.args.hex {T = Unit {0}} texts (new.world, new.is_lost, new.link)
+    all_over g.row.T-Heap.Denot carries failed c.args.link c.args.hex {T = Unit {0}} texts (new.world, new.is_lost, new.link)
     (last.world, last.is_lost, last.link) tt (g.W.Write.contents c.args.out.now)
     (g.W.Write.contents c.run_lines-ended.new.out)
-    (begins _ carries failed c.args.link c.args.hex (new.world, new.is_lost, new.link) c.in-Ok-new.ensures.first
+    (begins g.row.T-Heap.Denot carries failed c.args.link c.args.hex (new.world, new.is_lost, new.link) c.in-Ok-new.ensures.first
     c.in-Ok-new.ensures.link.1 c.in-Ok-new.ensures.link.0)
     c.lemma_protocol.ensures.keeps (sym c.is_lost-is_lost.ensures ∙ c.if-is_lost.false)
     (c.in-Ok-ended.ensures texts said)
@@ -39,10 +39,10 @@ returns g c =
     let new = c.in-Ok-new.session in
     let last = c.run_lines-ended.new.machine in
     λ texts said.
-    stopped_over _ carries failed c.args.link c.args.hex (Unit {0}) texts (new.world, new.is_lost, new.link)
+    stopped_over g.row.T-Heap.Denot carries failed c.args.link c.args.hex (Unit {0}) texts (new.world, new.is_lost, new.link)
     (last.world, last.is_lost, last.link) c.in-Err.stop (g.W.Write.contents c.args.out.now)
     (g.W.Write.contents c.run_lines-ended.new.out)
-    (begins _ carries failed c.args.link c.args.hex (new.world, new.is_lost, new.link)
+    (begins g.row.T-Heap.Denot carries failed c.args.link c.args.hex (new.world, new.is_lost, new.link)
     c.in-Ok-new.ensures.first c.in-Ok-new.ensures.link.1 c.in-Ok-new.ensures.link.0)
     c.lemma_protocol.ensures.keeps (sym c.is_lost-is_lost.ensures ∙ c.if-is_lost.false)
     (c.in-Err.ensures texts said)
