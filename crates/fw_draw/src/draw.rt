@@ -1,9 +1,11 @@
 //! The command `draw`.
 
-ghost use Rattle.std.specs.Prelude.{◌≡◌, ◌⊎◌, ◌∷◌, [], ℕ, List, Contains, IfSome};
+ghost use Rattle.std.specs.Prelude.{◌≡◌, ◌⊎◌, ◌∷◌, [], ℕ, List, Contains, IfSome, codes};
 ghost use Rattle.std.specs.Io.KnownBytes.{Appends};
 ghost use Rattle.fw_draw.specs.Svg.{svg_text};
+ghost use Rattle.fw_script.specs.Outputs.{AppendsSome};
 ghost use Rattle.fw_script.specs.Scripts.{IsGoodScript};
+ghost use Rattle.fw_script.specs.Stops.{SaysFault};
 
 use crate::run::draw_run;
 use crate::script::read_good_text;
@@ -40,6 +42,11 @@ pub fn draw_script<A: Allocator + Copy, R: Read, W: Write, F: Write>(
     ensures printed { result ≡ 0 → (inner : List ℕ)
         × Appends (W.contents out.old) (W.contents out.new) (svg_text inner) }
     ensures silent { (result ≡ 1) ⊎ (result ≡ 3) → out.new ≡ out.old }
+    ensures fault { result ≡ 1 → SaysFault name.now (R.remaining input.old)
+        (F.contents faults.old) (F.contents faults.new) }
+    ensures no_memory { result ≡ 3 → AppendsSome (F.contents faults.old) (F.contents faults.new)
+        (codes "no memory\n") }
+    ensures no_fault { (result ≡ 0) ⊎ (result ≡ 5) → faults.new ≡ faults.old }
 {
     let script = match read_good_text(alloc, name, input, faults) {
         Ok(script) => script,

@@ -1,7 +1,9 @@
 //! The script that is drawn.
 
-ghost use Rattle.std.specs.Prelude.{◌≡◌, ◌∷◌, [], Contains, IfErr, IfOk, IfSome};
+ghost use Rattle.std.specs.Prelude.{◌≡◌, ◌∷◌, [], Contains, IfErr, IfOk, IfSome, OnOk, Some, codes};
+ghost use Rattle.fw_script.specs.Outputs.{AppendsSome};
 ghost use Rattle.fw_script.specs.Scripts.{IsGoodScript};
+ghost use Rattle.fw_script.specs.Stops.{SaysFault};
 
 use fw_script::{Script, cannot_read, no_memory};
 use std::alloc::Allocator;
@@ -16,6 +18,11 @@ fn read_text<A: Allocator, R: Read, F: Write>(
 ) -> Result<Vec<u8, A>, u8>
     ensures text { IfOk result (λ text. IfSome (R.remaining input.old) (λ bytes. text.items ≡ bytes)) }
     ensures statuses { IfErr result (Contains (1 ∷ 3 ∷ [])) }
+    ensures fault { IfErr result (λ status. status ≡ 1 → SaysFault name.now (R.remaining input.old)
+        (F.contents faults.old) (F.contents faults.new)) }
+    ensures no_memory { IfErr result (λ status. status ≡ 3 → AppendsSome
+        (F.contents faults.old) (F.contents faults.new) (codes "no memory\n")) }
+    ensures no_fault { OnOk result (faults.new ≡ faults.old) }
 {
     let mut text = Vec::new(alloc);
     match input.read_to_end(&mut text) {
@@ -34,6 +41,11 @@ fn judge<A: Allocator + Copy, F: Write>(
 ) -> Result<(), u8>
     ensures judged { IfOk result (λ judged. IsGoodScript text.now) }
     ensures statuses { IfErr result (Contains (1 ∷ 3 ∷ [])) }
+    ensures fault { IfErr result (λ status. status ≡ 1 → SaysFault name.now (Some text.now)
+        (F.contents faults.old) (F.contents faults.new)) }
+    ensures no_memory { IfErr result (λ status. status ≡ 3 → AppendsSome
+        (F.contents faults.old) (F.contents faults.new) (codes "no memory\n")) }
+    ensures no_fault { OnOk result (faults.new ≡ faults.old) }
 {
     let mut input = text;
     let script = Script::read(alloc, name, &mut input, faults)?;
@@ -52,6 +64,11 @@ pub(crate) fn read_good_text<A: Allocator + Copy, R: Read, F: Write>(
     ensures good { IfOk result (λ text. IsGoodScript text.items) }
     ensures judged { IfOk result (λ text. IfSome (R.remaining input.old) IsGoodScript) }
     ensures statuses { IfErr result (Contains (1 ∷ 3 ∷ [])) }
+    ensures fault { IfErr result (λ status. status ≡ 1 → SaysFault name.now (R.remaining input.old)
+        (F.contents faults.old) (F.contents faults.new)) }
+    ensures no_memory { IfErr result (λ status. status ≡ 3 → AppendsSome
+        (F.contents faults.old) (F.contents faults.new) (codes "no memory\n")) }
+    ensures no_fault { OnOk result (faults.new ≡ faults.old) }
 {
     let text = read_text(alloc, name, input, faults)?;
     judge(alloc, name, text.as_slice(), faults)?;
