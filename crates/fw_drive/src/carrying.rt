@@ -20,7 +20,7 @@ fn is_ended(received: Result<Option<u64>, Refusal>, unique: u64) -> Result<bool,
 
 /// A frame is received. Says whether it ended a request.
 fn receive_toward<T: Tables, D: Device, W: Write>(
-    driver: &mut Driver<T::Heap>,
+    driver: &mut Driver<T>,
     device: &mut D,
     notes: &mut Notes<T>,
     unique: u64,
@@ -36,7 +36,7 @@ fn receive_toward<T: Tables, D: Device, W: Write>(
 
 /// Frames are received until the reply to a request.
 fn await_reply<T: Tables, D: Device, W: Write>(
-    driver: &mut Driver<T::Heap>,
+    driver: &mut Driver<T>,
     device: &mut D,
     notes: &mut Notes<T>,
     unique: u64,
@@ -65,7 +65,7 @@ fn is_sent(sent: Result<Option<u64>, Refusal>) -> Result<bool, Stop> {
 
 /// A request is sent, and its reply received. Says whether there was one.
 fn carry_one<T: Tables, D: Device, W: Write>(
-    driver: &mut Driver<T::Heap>,
+    driver: &mut Driver<T>,
     device: &mut D,
     notes: &mut Notes<T>,
     pick: Pick,
@@ -82,7 +82,7 @@ fn carry_one<T: Tables, D: Device, W: Write>(
 
 /// All requests of one kind are sent, the oldest first, each once the one before is answered.
 fn carry_all<T: Tables, D: Device, W: Write>(
-    driver: &mut Driver<T::Heap>,
+    driver: &mut Driver<T>,
     device: &mut D,
     notes: &mut Notes<T>,
     pick: Pick,
@@ -102,7 +102,7 @@ fn carry_all<T: Tables, D: Device, W: Write>(
 
 /// All that waits is sent, the oldest request first, and then forgets.
 pub(crate) fn carry<T: Tables, D: Device, W: Write>(
-    driver: &mut Driver<T::Heap>,
+    driver: &mut Driver<T>,
     device: &mut D,
     notes: &mut Notes<T>,
     out: &mut W,
@@ -117,7 +117,7 @@ pub(crate) fn carry<T: Tables, D: Device, W: Write>(
 
 /// The kernel mounts, and INIT is answered.
 pub(crate) fn mount<T: Tables, D: Device, W: Write>(
-    driver: &mut Driver<T::Heap>,
+    driver: &mut Driver<T>,
     device: &mut D,
     notes: &mut Notes<T>,
     out: &mut W,

@@ -2,36 +2,50 @@
 
 ghost use Rattle.std.specs.Prelude.{◌≡◌, IfNone, IfOk, IfSome, OnErr};
 ghost use Rattle.fuse_spec.specs.Values.Maps.{remove};
-ghost use Rattle.fk_drive.specs.Driving.{first_driven, idle};
+ghost use Rattle.fk_drive.specs.Driving.{first_driven};
 ghost use Rattle.fw_drive.specs.Acts.{Acts};
-ghost use Rattle.fw_drive.specs.Runs.{GoesOn, Keeps, at};
+ghost use Rattle.fw_drive.specs.Runs.{GoesOn, Keeps};
 
 use crate::acting::act;
 use fk_drive::{Aside, Choices, Connection, DriveEnd, NotSent, Written, send_next, write_next};
-use fk_kernel::{Answer, Kernel, Pick};
+use fk_kernel::{Answer, KernelOf, Pick};
 use fuse_device::Device;
 use fuse_frames::RequestFrame;
 use fuse_spec::Refusal;
-use fw_world::{Event, Outcome};
-use std::alloc::{AllocError, Allocator};
+use fw_world::{Event, Outcome, Tables};
+use std::alloc::AllocError;
+use std::marker::Model;
 
 /// A kernel, its connection to a server, and what is said in fields that are free.
 #[derive(Drop)]
-pub(crate) struct Driver<A: Allocator + Copy> {
-    alloc: A,
-    kernel: Kernel<A>,
-    connection: Connection<A>,
+pub(crate) struct Driver<T: Tables> {
+    alloc: T::Heap,
+    kernel: KernelOf<T::Queues, T::Counts>,
+    connection: Connection<T::Heap>,
     choices: Choices,
 }
 
-impl<A: Allocator + Copy> Driver<A> {
+// What is driven, between requests.
+impl<T: Tables> Model for Driver<T> {
+    ghost use Rattle.std.specs.Coded.{codes};
+    ghost use Rattle.fk_drive.specs.Driven.{driven};
+    ghost use Rattle.fk_drive.specs.Driving.{Driven, idle};
+
+    ghost Value = { Driven };
+
+    ghost coded = { Prim.hlevel (codes) };
+
+    ghost view = { λ d. driven d.kernel d.connection idle };
+}
+
+impl<T: Tables> Driver<T> {
     /// A kernel before its first mount. OPENDIR goes before what lists a directory if it `asks`.
-    pub(crate) fn new(alloc: A, asks: bool, choices: Choices) -> Self
-        ensures { at result idle ≡ first_driven asks }
+    pub(crate) fn new(alloc: T::Heap, asks: bool, choices: Choices) -> Self
+        ensures { result ≡ first_driven asks }
     {
         Driver {
             alloc,
-            kernel: Kernel::new(alloc),
+            kernel: KernelOf::new(alloc),
             connection: Connection::new(alloc, asks),
             choices,
         }
@@ -70,7 +84,7 @@ impl<A: Allocator + Copy> Driver<A> {
     }
 
     /// The answer of the lowest call that has one. It is collected then.
-    pub(crate) fn collect(&mut self) -> Option<(u64, Answer<A>)>
+    pub(crate) fn collect(&mut self) -> Option<(u64, Answer<T::Heap>)>
         ensures some { IfSome result (λ given. self.new.kernel ≡ record self.old.kernel {
           vfs = record self.old.kernel.vfs { answers = remove self.old.kernel.vfs.answers given.0 };
         }) }
@@ -89,7 +103,7 @@ impl<A: Allocator + Copy> Driver<A> {
         &mut self,
         device: &mut D,
         pick: Pick,
-    ) -> Result<Result<RequestFrame<A>, Refusal>, DriveEnd>
+    ) -> Result<Result<RequestFrame<T::Heap>, Refusal>, DriveEnd>
         ensures { GoesOn D.logs device.old device.new self.old self.new result }
     {
         let choices = self.choices;
@@ -115,14 +129,14 @@ impl<A: Allocator + Copy> Driver<A> {
     pub(crate) fn receive<D: Device>(
         &mut self,
         device: &mut D,
-    ) -> Result<Result<Written<A>, Refusal>, DriveEnd>
+    ) -> Result<Result<Written<T::Heap>, Refusal>, DriveEnd>
         ensures { GoesOn D.logs device.old device.new self.old self.new result }
     {
         write_next(&mut self.kernel, &mut self.connection, device)
     }
 
     /// The frames that were not for the kernel, since this was last asked.
-    pub(crate) fn take_asides(&mut self) -> Vec<Aside, A>
+    pub(crate) fn take_asides(&mut self) -> Vec<Aside, T::Heap>
         ensures { Keeps self.old self.new }
     {
         self.connection.take_asides()
@@ -134,7 +148,7 @@ impl<A: Allocator + Copy> Driver<A> {
     }
 
     /// The nodes that the kernel counts, each its id, its generation and its lookup count.
-    pub(crate) fn nodes(&self) -> Result<Vec<(u64, u64, u64), A>, AllocError> {
+    pub(crate) fn nodes(&self) -> Result<Vec<(u64, u64, u64), T::Heap>, AllocError> {
         self.kernel.nodes(self.alloc)
     }
 }

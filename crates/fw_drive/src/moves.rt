@@ -17,7 +17,7 @@ use std::io::Write;
 
 /// Collects the answers that wait, in rising number of their calls, and prints them.
 fn collect_answers<T: Tables, W: Write>(
-    driver: &mut Driver<T::Heap>,
+    driver: &mut Driver<T>,
     notes: &mut Notes<T>,
     out: &mut W,
 ) -> Result<(), Stop>
@@ -34,7 +34,7 @@ fn collect_answers<T: Tables, W: Write>(
 
 /// An event happens that moves the kernel without its server.
 pub(crate) fn act<T: Tables, W: Write>(
-    driver: &mut Driver<T::Heap>,
+    driver: &mut Driver<T>,
     notes: &mut Notes<T>,
     event: &Event<'_>,
     out: &mut W,
@@ -54,11 +54,7 @@ pub(crate) fn act<T: Tables, W: Write>(
 }
 
 /// The request that was sent, by its number, where a reply is to come.
-fn unique_awaited<A: Allocator + Copy>(
-    driver: &Driver<A>,
-    unique: u64,
-    opcode: Opcode,
-) -> Option<u64> {
+fn unique_awaited<T: Tables>(driver: &Driver<T>, unique: u64, opcode: Opcode) -> Option<u64> {
     match opcode {
         Opcode::Forget | Opcode::BatchForget => None,
         Opcode::Readdir | Opcode::Readdirplus if !driver.is_asking() => None,
@@ -68,7 +64,7 @@ fn unique_awaited<A: Allocator + Copy>(
 
 /// Notes a request that was sent, and prints the answers that wait. Gives the number whose reply is to come, if one is.
 fn note_request<T: Tables, W: Write>(
-    driver: &mut Driver<T::Heap>,
+    driver: &mut Driver<T>,
     notes: &mut Notes<T>,
     frame: &RequestFrame<T::Heap>,
     out: &mut W,
@@ -84,7 +80,7 @@ fn note_request<T: Tables, W: Write>(
 
 /// Reads a request from the kernel, and sends it. Says why the kernel refuses, or the number whose reply is to come.
 pub(crate) fn send<T: Tables, D: Device, W: Write>(
-    driver: &mut Driver<T::Heap>,
+    driver: &mut Driver<T>,
     device: &mut D,
     notes: &mut Notes<T>,
     pick: Pick,
@@ -118,7 +114,7 @@ fn ended_by<A: Allocator>(written: &Written<A>) -> Option<u64> {
 /// Notes a frame that was written to the kernel, and prints the answers that wait. Gives the request that it ended, if
 /// one.
 fn note_reply<T: Tables, W: Write>(
-    driver: &mut Driver<T::Heap>,
+    driver: &mut Driver<T>,
     notes: &mut Notes<T>,
     written: &Written<T::Heap>,
     out: &mut W,
@@ -132,7 +128,7 @@ fn note_reply<T: Tables, W: Write>(
 
 /// Writes the next frame of the server to the kernel. Says why the kernel refuses, or which request that ended, if one.
 pub(crate) fn receive<T: Tables, D: Device, W: Write>(
-    driver: &mut Driver<T::Heap>,
+    driver: &mut Driver<T>,
     device: &mut D,
     notes: &mut Notes<T>,
     out: &mut W,
@@ -155,10 +151,7 @@ pub(crate) fn receive<T: Tables, D: Device, W: Write>(
 }
 
 /// Prints the nodes that the kernel counts.
-pub(crate) fn show<A: Allocator + Copy, W: Write>(
-    driver: &Driver<A>,
-    out: &mut W,
-) -> Result<(), Stop> {
+pub(crate) fn show<T: Tables, W: Write>(driver: &Driver<T>, out: &mut W) -> Result<(), Stop> {
     match driver.nodes() {
         Ok(nodes) => {
             print_nodes(out, nodes.as_slice())?;

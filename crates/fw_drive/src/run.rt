@@ -31,7 +31,7 @@ pub struct Task<'a> {
 /// Runs a script whose lines are good, and prints what is known at its end.
 fn run_driver<T: Tables, D: Device, W: Write>(
     alloc: T::Heap,
-    driver: &mut Driver<T::Heap>,
+    driver: &mut Driver<T>,
     device: &mut D,
     notes: &mut Notes<T>,
     text: &[u8],
@@ -56,7 +56,7 @@ fn run_good<T: Tables, D: Device, W: Write>(
     ensures { (new : Driven) × DrivesOver D.logs device.old device.new (first_driven task.entry.opens_directories) new }
 {
     let mut notes = Notes::<T>::new(alloc, task.form)?;
-    let mut driver = Driver::new(alloc, task.opens_directories, task.choices);
+    let mut driver = Driver::<T>::new(alloc, task.opens_directories, task.choices);
     let ended = run_driver(alloc, &mut driver, device, &mut notes, text, out);
     driver.end();
     notes.end();

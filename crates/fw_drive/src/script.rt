@@ -46,7 +46,7 @@ fn print_refused<A: Allocator, W: Write>(
 /// A call that puts bytes into an open file begins.
 fn begin_write<T: Tables, W: Write>(
     alloc: T::Heap,
-    driver: &mut Driver<T::Heap>,
+    driver: &mut Driver<T>,
     notes: &mut Notes<T>,
     file: (u64, u64, &[u8]),
     out: &mut W,
@@ -69,7 +69,7 @@ fn begin_write<T: Tables, W: Write>(
 /// Does what a line says.
 fn run_line<T: Tables, D: Device, W: Write>(
     alloc: T::Heap,
-    driver: &mut Driver<T::Heap>,
+    driver: &mut Driver<T>,
     device: &mut D,
     notes: &mut Notes<T>,
     line: DriveLine<'_>,
@@ -103,7 +103,7 @@ fn run_line<T: Tables, D: Device, W: Write>(
 /// Does what a line says, and carries a call to its answer where the script is of calls.
 fn run_carried<T: Tables, D: Device, W: Write>(
     alloc: T::Heap,
-    driver: &mut Driver<T::Heap>,
+    driver: &mut Driver<T>,
     device: &mut D,
     notes: &mut Notes<T>,
     line: DriveLine<'_>,
@@ -128,7 +128,7 @@ fn good_line(form: Form, line: &[u8]) -> Option<DriveLine<'_>> {
 /// Does what a line says, if it says anything, and hands on what was printed.
 fn do_line<T: Tables, D: Device, W: Write>(
     alloc: T::Heap,
-    driver: &mut Driver<T::Heap>,
+    driver: &mut Driver<T>,
     device: &mut D,
     notes: &mut Notes<T>,
     line: &[u8],
@@ -156,7 +156,7 @@ fn flush<W: Write>(out: &mut W) -> Result<(), Stop> {
 /// Does what the lines of a script say.
 fn run_lines<T: Tables, D: Device, W: Write>(
     alloc: T::Heap,
-    driver: &mut Driver<T::Heap>,
+    driver: &mut Driver<T>,
     device: &mut D,
     notes: &mut Notes<T>,
     text: &[u8],
@@ -181,7 +181,7 @@ fn run_lines<T: Tables, D: Device, W: Write>(
 /// Does what a script says whose lines are good, behind a mount where it is one of calls.
 pub(crate) fn run_text<T: Tables, D: Device, W: Write>(
     alloc: T::Heap,
-    driver: &mut Driver<T::Heap>,
+    driver: &mut Driver<T>,
     device: &mut D,
     notes: &mut Notes<T>,
     text: &[u8],
@@ -200,7 +200,7 @@ pub(crate) fn run_text<T: Tables, D: Device, W: Write>(
 
 /// Prints what is known at the end: the nodes that the kernel counts, and how the answers of a world beside compare.
 pub(crate) fn print_end<T: Tables, W: Write>(
-    driver: &Driver<T::Heap>,
+    driver: &Driver<T>,
     notes: &Notes<T>,
     out: &mut W,
 ) -> Result<(), Stop> {

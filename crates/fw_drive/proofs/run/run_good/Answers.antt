@@ -1,5 +1,5 @@
-use Rattle.std.proofs.Common.{[], subst}
-use Rattle.fk_drive.specs.Driving.{Driven, DrivesOver, first_driven, nothing}
+use Rattle.std.proofs.Common.{[], ap, subst}
+use Rattle.fk_drive.specs.Driving.{Driven, DrivesOver, first_driven, idle, nothing}
 use Rattle.fw_drive.specs.Runs.{at}
 use Rattle.fw_drive.proofs.run.run_good.Goals as goal
 
@@ -13,5 +13,5 @@ returns g c =
     let last = at c.run_driver-ended.new.driver turn in (
       last,
       subst (λ (first : Driven). DrivesOver g.D.Device.logs c.args.device.now c.run_driver-ended.new.device first last)
-          c.new-driver.ensures over,
+          (ap (λ (driver : Driven). at driver idle) c.new-driver.ensures) over,
     )
