@@ -1,7 +1,8 @@
 //! Arguments that several commands have.
 
-ghost use Rattle.fuseworld.specs.Arguments.{IsArgument, flag, number};
+ghost use Rattle.fuseworld.specs.Arguments.{IsArgument, flag, needed, number, option};
 ghost use Rattle.fuseworld.specs.Commands.{longest};
+ghost use Rattle.clap.specs.Words.{new_rule};
 
 use clap::builder::ValueParser;
 use clap::{Arg, ArgAction};
@@ -20,6 +21,37 @@ pub fn flag<'a>(alloc: Global, name: &'a str, help: &'a str) -> Arg<'a>
         .help(help)
 }
 
+/// An argument that has to be given.
+pub fn needed<'a>(alloc: Global, name: &'a str, help: &'a str) -> Arg<'a>
+    ensures { IsArgument (needed name.entry.now) result }
+{
+    Arg::new(alloc, name).required(true).help(help)
+}
+
+/// An argument that may be left out.
+pub fn optional<'a>(alloc: Global, name: &'a str, help: &'a str) -> Arg<'a>
+    ensures { IsArgument (new_rule name.entry.now) result }
+{
+    Arg::new(alloc, name).help(help)
+}
+
+/// An option with a value.
+pub fn option<'a>(
+    alloc: Global,
+    name: &'a str,
+    value_name: &'a str,
+    by_default: &'a str,
+    help: &'a str,
+) -> Arg<'a>
+    ensures { IsArgument (option name.entry.now by_default.entry.now) result }
+{
+    Arg::new(alloc, name)
+        .long(name)
+        .value_name(value_name)
+        .default_value(by_default)
+        .help(help)
+}
+
 /// An option that takes milliseconds, from `least` to a day.
 pub fn time_argument<'a>(
     alloc: Global,
@@ -30,10 +62,5 @@ pub fn time_argument<'a>(
 ) -> Arg<'a>
     ensures { IsArgument (number name.entry.now least longest by_default.entry.now) result }
 {
-    Arg::new(alloc, name)
-        .long(name)
-        .value_name("MS")
-        .value_parser(ValueParser::Unsigned(least, LONGEST))
-        .default_value(by_default)
-        .help(help)
+    option(alloc, name, "MS", by_default, help).value_parser(ValueParser::Unsigned(least, LONGEST))
 }

@@ -1,10 +1,11 @@
 //! What the words of the command line ask for.
 
 ghost use Rattle.std.specs.Prelude.{◌≡◌, ◌↔◌, IfOk, IsTrue, codes, map, string_bytes};
-ghost use Rattle.clap.specs.Words.{found_of, kind_of, rows_of, subcommand_rows_of};
+ghost use Rattle.clap.specs.Words.{App, found_of, kind_of, rows_of, subcommand_rows_of, with_subcommand};
 ghost use Rattle.fuseworld.specs.Commands.{AreMinors, IsCommand, IsProgram, program_app, run_app, socket_app};
 ghost use Rattle.fuseworld.specs.Tasks.{AsksAt, AsksFor, ReadsTask};
 
+use crate::arguments::{flag, needed};
 use crate::draw::draw_command;
 use crate::drive::{DriveTask, drive_command, drive_task};
 use crate::frame_commands::{
@@ -16,7 +17,7 @@ use crate::sides::{SideTask, kernel_command, server_command, side_task};
 use crate::values::{is_set, text};
 use crate::version::VERSION;
 use clap::error::ErrorKind;
-use clap::{Arg, ArgAction, ArgMatches, Command, Error};
+use clap::{ArgMatches, Command, Error};
 use std::alloc::{AllocError, Global};
 
 /// One run of the program.
@@ -50,13 +51,12 @@ pub fn is_memory(error: &Error) -> bool
 fn run_command<'a>(alloc: Global) -> Result<Command<'a>, AllocError>
     ensures { IfOk result (IsCommand run_app) }
 {
-    let hex = Arg::new(alloc, "hex")
-        .long("hex")
-        .action(ArgAction::SetTrue)
-        .help("Print each frame that is put, as a line of hex");
-    let file = Arg::new(alloc, "FILE")
-        .required(true)
-        .help("The script: one event a line");
+    let hex = flag(
+        alloc,
+        "hex",
+        "Print each frame that is put, as a line of hex",
+    );
+    let file = needed(alloc, "FILE", "The script: one event a line");
     Command::new(alloc, "run")
         .about("Run a script of events and print what each comes to")
         .arg(hex)?
@@ -66,36 +66,50 @@ fn run_command<'a>(alloc: Global) -> Result<Command<'a>, AllocError>
 fn socket_command<'a>(alloc: Global) -> Result<Command<'a>, AllocError>
     ensures { IfOk result (IsCommand socket_app) }
 {
-    let file = Arg::new(alloc, "FILE")
-        .required(true)
-        .help("The script: one event a line");
-    let path = Arg::new(alloc, "SOCK")
-        .required(true)
-        .help("Where the socket is made, and removed at the end");
+    let file = needed(alloc, "FILE", "The script: one event a line");
+    let path = needed(
+        alloc,
+        "SOCK",
+        "Where the socket is made, and removed at the end",
+    );
     Command::new(alloc, "socket")
         .about("Run a script over a Unix socket, both ends in this process")
         .arg(file)?
         .arg(path)
 }
 
+/// The program with one more command, where there is memory for both.
+fn with_command<'a>(
+    program: Result<Command<'a>, AllocError>,
+    command: Result<Command<'a>, AllocError>,
+) -> Result<Command<'a>, AllocError>
+    ensures { (a b : App) → IfOk program.entry (IsCommand a) → IfOk command.entry (IsCommand b)
+        → IfOk result (IsCommand (with_subcommand a b.top)) }
+{
+    program?.subcommand(command?)
+}
+
 fn program<'a>(alloc: Global) -> Result<Command<'a>, AllocError>
     ensures { IfOk result IsProgram }
 {
-    Command::new(alloc, "fuseworld")
-        .version(VERSION)
-        .about("A FUSE 7.31 kernel and its server, run by a script or before others")
-        .after_help("Without a command, the script is read from standard input.")
-        .subcommand(run_command(alloc)?)?
-        .subcommand(socket_command(alloc)?)?
-        .subcommand(draw_command(alloc)?)?
-        .subcommand(frame_command(alloc)?)?
-        .subcommand(reply_command(alloc)?)?
-        .subcommand(decode_command(alloc)?)?
-        .subcommand(vectors_command(alloc))?
-        .subcommand(serve_command(alloc)?)?
-        .subcommand(drive_command(alloc)?)?
-        .subcommand(kernel_command(alloc)?)?
-        .subcommand(server_command(alloc)?)
+    let serve = serve_command(alloc)?;
+    let program = Ok(
+        Command::new(alloc, "fuseworld")
+            .version(VERSION)
+            .about("A FUSE 7.31 kernel and its server, run by a script or before others")
+            .after_help("Without a command, the script is read from standard input."),
+    );
+    let program = with_command(program, run_command(alloc));
+    let program = with_command(program, socket_command(alloc));
+    let program = with_command(program, draw_command(alloc));
+    let program = with_command(program, frame_command(alloc));
+    let program = with_command(program, reply_command(alloc));
+    let program = with_command(program, decode_command(alloc));
+    let program = with_command(program, Ok(vectors_command(alloc)));
+    let program = with_command(program, Ok(serve));
+    let program = with_command(program, drive_command(alloc));
+    let program = with_command(program, kernel_command(alloc));
+    with_command(program, server_command(alloc))
 }
 
 /// What a command of this name asks for.

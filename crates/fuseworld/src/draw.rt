@@ -3,7 +3,8 @@
 ghost use Rattle.std.specs.Prelude.{◌∷◌, [], Contains, IfOk};
 ghost use Rattle.fuseworld.specs.Commands.{IsCommand, draw_app};
 
-use clap::{Arg, Command};
+use crate::arguments::needed;
+use clap::Command;
 use fw_draw::draw_script;
 use fw_script::{cannot_read, no_memory};
 use std::alloc::{AllocError, Global};
@@ -15,9 +16,11 @@ use std::io::{BufWriter, ErrorKind};
 pub fn draw_command<'a>(alloc: Global) -> Result<Command<'a>, AllocError>
     ensures { IfOk result (IsCommand draw_app) }
 {
-    let file = Arg::new(alloc, "FILE")
-        .required(true)
-        .help("The script: one event a line, or - for standard input");
+    let file = needed(
+        alloc,
+        "FILE",
+        "The script: one event a line, or - for standard input",
+    );
     Command::new(alloc, "draw")
         .about("Run a script of events and print the run as a picture, in SVG")
         .arg(file)

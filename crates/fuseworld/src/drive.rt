@@ -8,7 +8,7 @@ ghost use Rattle.fuseworld.specs.Commands.{IsCommand, drive_app};
 ghost use Rattle.fuseworld.specs.Values.{IsOffer, is_set};
 ghost use Rattle.fuseworld.specs.Tasks.{AsksDrive, form_of};
 
-use crate::arguments::{flag, time_argument};
+use crate::arguments::{flag, needed, option, optional, time_argument};
 use crate::values::{is_set, number, text, text_or_none};
 use clap::{Arg, ArgMatches, Command};
 use fuse_device::{Device, PacketDevice, StreamDevice};
@@ -45,11 +45,7 @@ pub struct DriveTask<'a> {
 fn offer_argument<'a>(alloc: Global) -> Arg<'a>
     ensures { IsArgument (option (codes "offer") (codes "0")) result }
 {
-    Arg::new(alloc, "offer")
-        .long("offer")
-        .value_name("HEX")
-        .default_value("0")
-        .help("Further flags that INIT offers")
+    option(alloc, "offer", "HEX", "0", "Further flags that INIT offers")
 }
 
 /// The arguments.
@@ -57,10 +53,14 @@ fn with_places<'a>(alloc: Global, command: Command<'a>) -> Result<Command<'a>, A
     ensures { IfOk result (λ both. (fields_of command.entry).has_globals ≡ false
         → IsCommand (with_rule (with_rule (app_of command.entry) (needed (codes "FILE"))) (new_rule (codes "SOCK"))) both) }
 {
-    let file = Arg::new(alloc, "FILE")
-        .required(true)
-        .help("The script: the kernel's events, or calls, one a line");
-    let socket = Arg::new(alloc, "SOCK").help(
+    let file = needed(
+        alloc,
+        "FILE",
+        "The script: the kernel's events, or calls, one a line",
+    );
+    let socket = optional(
+        alloc,
+        "SOCK",
         "The socket on which the server listens, in the place of standard input and output",
     );
     command.arg(file)?.arg(socket)

@@ -7,9 +7,10 @@ ghost use Rattle.fuseworld.specs.Commands.{IsCommand, frame_app, reply_app, deco
 ghost use Rattle.fuseworld.specs.Statuses.{frame_statuses};
 ghost use Rattle.fuseworld.specs.Tasks.{AsksFrame, is_frame_command};
 
+use crate::arguments::{flag, needed, optional};
 use crate::decode::run_decode;
 use crate::values::{is_set, text, text_or_none};
-use clap::{Arg, ArgAction, ArgMatches, Command};
+use clap::{Arg, ArgMatches, Command};
 use fw_frames::{run_frame, run_reply};
 use fw_vectors::print_vectors;
 use std::alloc::{AllocError, Global};
@@ -33,19 +34,18 @@ pub enum FrameTask<'a> {
 fn hex_argument<'a>(alloc: Global) -> Arg<'a>
     ensures { IsArgument (needed (codes "HEX")) result }
 {
-    Arg::new(alloc, "HEX")
-        .required(true)
-        .help("The frame's bytes, two lower-case hex digits each")
+    needed(
+        alloc,
+        "HEX",
+        "The frame's bytes, two lower-case hex digits each",
+    )
 }
 
 /// The command `frame`.
 pub fn frame_command<'a>(alloc: Global) -> Result<Command<'a>, AllocError>
     ensures { IfOk result (IsCommand frame_app) }
 {
-    let words = Arg::new(alloc, "words")
-        .long("words")
-        .action(ArgAction::SetTrue)
-        .help("Print the request's fields as well");
+    let words = flag(alloc, "words", "Print the request's fields as well");
     Command::new(alloc, "frame")
         .about("Read one request frame and print its opcode, unique, node and length")
         .arg(words)?
@@ -56,9 +56,7 @@ pub fn frame_command<'a>(alloc: Global) -> Result<Command<'a>, AllocError>
 pub fn reply_command<'a>(alloc: Global) -> Result<Command<'a>, AllocError>
     ensures { IfOk result (IsCommand reply_app) }
 {
-    let name = Arg::new(alloc, "OPNAME")
-        .required(true)
-        .help("The opcode of the request, as LOOKUP");
+    let name = needed(alloc, "OPNAME", "The opcode of the request, as LOOKUP");
     Command::new(alloc, "reply")
         .about(
             "Read one reply frame and print its opcode, unique, error and length, and what it says",
@@ -71,7 +69,9 @@ pub fn reply_command<'a>(alloc: Global) -> Result<Command<'a>, AllocError>
 pub fn decode_command<'a>(alloc: Global) -> Result<Command<'a>, AllocError>
     ensures { IfOk result (IsCommand decode_app) }
 {
-    let file = Arg::new(alloc, "FILE").help(
+    let file = optional(
+        alloc,
+        "FILE",
         "The capture: `>` and a request, or `<` and a reply, in hex, a line each",
     );
     Command::new(alloc, "decode")

@@ -6,7 +6,7 @@ ghost use Rattle.fuseworld.specs.Arguments.{IsArgument, choice};
 ghost use Rattle.fuseworld.specs.Commands.{AreMinors, IsCommand, serve_app};
 ghost use Rattle.fuseworld.specs.Tasks.{AsksServe, minor_of};
 
-use crate::arguments::{LONGEST, flag, time_argument};
+use crate::arguments::{LONGEST, flag, option, optional, time_argument};
 use crate::serve::ServeTask;
 use crate::values::{is_set, number, text_or_none};
 use clap::builder::ValueParser;
@@ -22,53 +22,52 @@ static MINORS: [&str; 2] = ["15", "31"];
 fn minor_argument<'a>(alloc: Global) -> Arg<'a>
     ensures { (minors : _) × AreMinors minors × IsArgument (choice (codes "minor") minors (codes "31")) result }
 {
-    Arg::new(alloc, "minor")
-        .long("minor")
-        .value_name("MINOR")
-        .value_parser(ValueParser::Names(&MINORS))
-        .default_value("31")
-        .help("The minor version of FUSE 7 that is spoken")
+    option(
+        alloc,
+        "minor",
+        "MINOR",
+        "31",
+        "The minor version of FUSE 7 that is spoken",
+    )
+    .value_parser(ValueParser::Names(&MINORS))
 }
 
 /// The command `serve`.
 pub fn serve_command<'a>(alloc: Global) -> Result<Command<'a>, AllocError>
     ensures { IfOk result (λ command. (minors : _) × AreMinors minors × IsCommand (serve_app minors) command) }
 {
-    let found = time_argument(
-        alloc,
-        "found",
-        0,
-        "1000",
-        "For how many milliseconds a name is valid",
-    );
-    let missing = time_argument(
-        alloc,
-        "missing",
-        0,
-        "0",
-        "For how many milliseconds it is valid that there is no such name",
-    );
-    let show = flag(
-        alloc,
-        "show",
-        "Print the nodes that are held at the end, on standard error",
-    );
-    let trace = flag(
-        alloc,
-        "trace",
-        "Print each frame in words, on standard error",
-    );
-    let socket = Arg::new(alloc, "SOCK").help(
-        "Where a socket is made, for one connection in the place of standard input and output",
-    );
     Command::new(alloc, "serve")
         .about("Serve a file system in memory to a FUSE kernel on standard input and output")
-        .arg(found)?
-        .arg(missing)?
+        .arg(time_argument(
+            alloc,
+            "found",
+            0,
+            "1000",
+            "For how many milliseconds a name is valid",
+        ))?
+        .arg(time_argument(
+            alloc,
+            "missing",
+            0,
+            "0",
+            "For how many milliseconds it is valid that there is no such name",
+        ))?
         .arg(minor_argument(alloc))?
-        .arg(show)?
-        .arg(trace)?
-        .arg(socket)
+        .arg(flag(
+            alloc,
+            "show",
+            "Print the nodes that are held at the end, on standard error",
+        ))?
+        .arg(flag(
+            alloc,
+            "trace",
+            "Print each frame in words, on standard error",
+        ))?
+        .arg(optional(
+            alloc,
+            "SOCK",
+            "Where a socket is made, for one connection in the place of standard input and output",
+        ))
 }
 
 /// The minor that the words name.

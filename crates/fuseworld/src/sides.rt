@@ -5,8 +5,9 @@ ghost use Rattle.clap.specs.Words.{found_of, rows_of};
 ghost use Rattle.fuseworld.specs.Commands.{IsCommand, side_app};
 ghost use Rattle.fuseworld.specs.Tasks.{AsksSide, is_side};
 
+use crate::arguments::flag;
 use crate::values::is_set;
-use clap::{Arg, ArgAction, ArgMatches, Command};
+use clap::{ArgMatches, Command};
 use fw_script::{cannot_read, no_memory};
 use fw_sides::{End, Form, run_kernel, run_server};
 use std::alloc::{AllocError, Global};
@@ -24,10 +25,7 @@ pub enum SideTask {
 fn side_command<'a>(alloc: Global, name: &'a str, about: &'a str) -> Result<Command<'a>, AllocError>
     ensures { IfOk result (IsCommand (side_app name.entry.now)) }
 {
-    let json = Arg::new(alloc, "json")
-        .long("json")
-        .action(ArgAction::SetTrue)
-        .help("Print one JSON object for each line");
+    let json = flag(alloc, "json", "Print one JSON object for each line");
     Command::new(alloc, name).about(about).arg(json)
 }
 

@@ -2,7 +2,7 @@ use Rattle.std.proofs.Common.{rules, codes}
 use Rattle.std.proofs.lemmas.Result.{IfOk-weaker}
 use Rattle.clap.specs.Words.{new_app}
 use Rattle.fuseworld.specs.Commands.{IsCommand}
-use Rattle.fuseworld.proofs.Adding.{adds_command, with_about, with_after_help, with_version}
+use Rattle.fuseworld.proofs.Adding.{with_about, with_after_help, with_version}
 use Rattle.fuseworld.proofs.command.program.Goals as goal
 
 pub returns : goal.returns
@@ -11,16 +11,16 @@ returns c =
     let version = with_version _ _ c.version.result _ c.version.ensures new_is in
     let about = with_about _ _ c.about.result _ c.about.ensures version in
     let start = with_after_help _ _ c.after_help.result _ c.after_help.ensures about in
-    let serve = c.in_ok-serve_command.ensures in
-    let run = adds_command _ _ _ _ _ start c.in_ok-run_command.ensures c.in_ok-subcommand.ensures in
-    let socket = adds_command _ _ _ _ _ run c.in_ok-socket_command.ensures c.in_ok-subcommand-2.ensures in
-    let draw = adds_command _ _ _ _ _ socket c.in_ok-draw_command.ensures c.in_ok-subcommand-3.ensures in
-    let frame = adds_command _ _ _ _ _ draw c.in_ok-frame_command.ensures c.in_ok-subcommand-4.ensures in
-    let reply = adds_command _ _ _ _ _ frame c.in_ok-reply_command.ensures c.in_ok-subcommand-5.ensures in
-    let decode = adds_command _ _ _ _ _ reply c.in_ok-decode_command.ensures c.in_ok-subcommand-6.ensures in
-    let vectors = adds_command _ _ _ _ _ decode c.vectors_command.ensures c.in_ok-subcommand-7.ensures in
-    let served = adds_command _ _ _ _ _ vectors serve.2 c.in_ok-subcommand-8.ensures in
-    let drive = adds_command _ _ _ _ _ served c.in_ok-drive_command.ensures c.in_ok-subcommand-9.ensures in
-    let kernel = adds_command _ _ _ _ _ drive c.in_ok-kernel_command.ensures c.in_ok-subcommand-10.ensures in
-    IfOk-weaker c.subcommand-11.result _ _ (λ whole adds.
-    (serve.0, serve.1, adds_command _ _ _ _ whole kernel c.in_ok-server_command.ensures adds)) c.subcommand-11.ensures
+    let serve = c.in_ok-serve.ensures in
+    let run = c.with_command-program.ensures _ _ start c.run_command.ensures in
+    let socket = c.with_command-program-2.ensures _ _ run c.socket_command.ensures in
+    let draw = c.with_command-program-3.ensures _ _ socket c.draw_command.ensures in
+    let frame = c.with_command-program-4.ensures _ _ draw c.frame_command.ensures in
+    let reply = c.with_command-program-5.ensures _ _ frame c.reply_command.ensures in
+    let decode = c.with_command-program-6.ensures _ _ reply c.decode_command.ensures in
+    let vectors = c.with_command-program-7.ensures _ _ decode c.vectors_command.ensures in
+    let served = c.with_command-program-8.ensures _ _ vectors serve.2 in
+    let drive = c.with_command-program-9.ensures _ _ served c.drive_command.ensures in
+    let kernel = c.with_command-program-10.ensures _ _ drive c.kernel_command.ensures in
+    IfOk-weaker c.with_command.result _ _ (λ whole is. (serve.0, serve.1, is))
+    (c.with_command.ensures _ _ kernel c.server_command.ensures)

@@ -8,13 +8,13 @@ use Rattle.fuseworld.proofs.serve_words.serve_command.Goals as goal
 
 pub returns : goal.returns
 returns c =
-    let found_is : IsArgument (number (codes "found") 0 longest (codes "1000")) c.time_argument-found.result = search rules in
-    let missing_is : IsArgument (number (codes "missing") 0 longest (codes "0")) c.time_argument-missing.result = search rules in
+    let found_is : IsArgument (number (codes "found") 0 longest (codes "1000")) c.time_argument.result = search rules in
+    let missing_is : IsArgument (number (codes "missing") 0 longest (codes "0")) c.time_argument-2.result = search rules in
     let minor = c.minor_argument.ensures in
-    let show_is : IsArgument (flag (codes "show")) c.flag-show.result = search rules in
-    let trace_is : IsArgument (flag (codes "trace")) c.flag-trace.result = search rules in
-    let socket_is : IsArgument (new_rule (codes "SOCK")) c.help-socket.result = search rules in
-    let new_is : IsCommand (new_app (codes "serve")) c.new-2.result = search rules in
+    let show_is : IsArgument (flag (codes "show")) c.flag.result = search rules in
+    let trace_is : IsArgument (flag (codes "trace")) c.flag-2.result = search rules in
+    let socket_is : IsArgument (new_rule (codes "SOCK")) c.optional.result = search rules in
+    let new_is : IsCommand (new_app (codes "serve")) c.new.result = search rules in
     let about_is = with_about _ _ c.about.result _ c.about.ensures new_is in
     let found = adds_argument _ _ _ _ _ about_is found_is c.in_ok-arg.ensures in
     let missing = adds_argument _ _ _ _ _ found missing_is c.in_ok-arg-2.ensures in
