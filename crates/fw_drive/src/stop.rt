@@ -28,6 +28,11 @@ pub(crate) enum Stop {
 }
 
 impl From<OutputRefused> for Stop {
+    ghost use Rattle.std.specs.Prelude.{◌≡◌};
+    ghost use Rattle.fw_drive.specs.declared.stop.Stop.{Stop};
+
+    ghost from_gives = { λ _ stop. stop ≡ Stop.OutputRefused };
+
     fn from(_refused: OutputRefused) -> Stop {
         Stop::OutputRefused
     }
