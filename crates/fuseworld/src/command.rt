@@ -92,6 +92,7 @@ fn with_command<'a>(
 fn program<'a>(alloc: Global) -> Result<Command<'a>, AllocError>
     ensures { IfOk result IsProgram }
 {
+    // First, since the program's contract has the list of minors that this one gives.
     let serve = serve_command(alloc)?;
     let program = Ok(
         Command::new(alloc, "fuseworld")
