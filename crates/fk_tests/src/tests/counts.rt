@@ -88,15 +88,14 @@ fn tried<T: CountTable>(table: &mut T, heap: T::Heap, row: Row) -> Outcome {
     }
 }
 
-impl<A: Allocator + Copy> Tried<Row, A> for KernelNodes<A> {
-    fn attempt(&mut self, heap: A, _alloc: Global, row: Row) -> Outcome {
-        tried(self, heap, row)
-    }
+/// A table of any representation, on which the calls are tried.
+struct Over<T: CountTable> {
+    table: T,
 }
 
-impl<A: Allocator + Copy> Tried<Row, A> for ListCounts<A> {
-    fn attempt(&mut self, heap: A, _alloc: Global, row: Row) -> Outcome {
-        tried(self, heap, row)
+impl<T: CountTable> Tried<Row, T::Heap> for Over<T> {
+    fn attempt(&mut self, heap: T::Heap, _alloc: Global, row: Row) -> Outcome {
+        tried(&mut self.table, heap, row)
     }
 }
 
@@ -150,19 +149,32 @@ static CALLS: [Row; 32] = [
     Row::Lookup(3, 1, Ok(true)),
 ];
 
-/// The calls with each growth refused in turn: how many runs that took.
-fn runs<A: Copy, T: CountTable<Heap = A> + Tried<Row, A> + Drop>(
+/// The calls on a new table of a representation.
+fn run_calls<T: CountTable + Drop>(
     rt: &impl Abort,
-    heap: A,
+    heap: T::Heap,
+    refusing: &FailAt<Global>,
+    alloc: Global,
+) {
+    let mut over: Over<T> = Over {
+        table: T::new(heap),
+    };
+    let wrong = first_wrong(&mut over, heap, refusing, alloc, &[CALLS.as_slice()]);
+    let Over { table } = over;
+    drop(table);
+    assert_right(rt, wrong, "calls");
+}
+
+/// The calls with each growth refused in turn: how many runs that took.
+fn runs<T: CountTable + Drop>(
+    rt: &impl Abort,
+    heap: T::Heap,
     refusing: &FailAt<Global>,
     alloc: Global,
 ) -> u64 {
     let mut runs = 0;
     for n in refusing.each_growth(40) {
-        let mut table = T::new(heap);
-        let wrong = first_wrong(&mut table, heap, refusing, alloc, &[CALLS.as_slice()]);
-        drop(table);
-        assert_right(rt, wrong, "calls");
+        run_calls::<T>(rt, heap, refusing, alloc);
         runs = n;
     }
     runs
@@ -174,17 +186,16 @@ fn runs_of_both<A: Allocator + Copy>(
     heap: A,
     refusing: &FailAt<Global>,
     alloc: Global,
-) -> (u64, u64) {
-    (
-        runs::<A, KernelNodes<A>>(rt, heap, refusing, alloc),
-        runs::<A, ListCounts<A>>(rt, heap, refusing, alloc),
-    )
+) -> [u64; 2] {
+    let of_slab = runs::<KernelNodes<A>>(rt, heap, refusing, alloc);
+    let of_list = runs::<ListCounts<A>>(rt, heap, refusing, alloc);
+    [of_slab, of_list]
 }
 
 #[test]
 fn calls_with_each_growth_refused(rt: HostRuntime) -> Result<(), Fail> {
     let heap = FailAt::new(rt.alloc());
-    let (of_slab, of_list) = runs_of_both(&rt, &heap, &heap, rt.alloc());
+    let [of_slab, of_list] = runs_of_both(&rt, &heap, &heap, rt.alloc());
     assert!(rt; 3 < of_slab && of_slab < 40, "slab");
     assert!(rt; 2 < of_list && of_list < 40, "list");
     Ok(())

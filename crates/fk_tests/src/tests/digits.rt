@@ -5,10 +5,15 @@ use std::alloc::{AllocError, Global};
 /// The bytes of a text. What is no hexadecimal digit is for reading alone.
 pub fn unhex(alloc: Global, text: &str) -> Result<Vec<u8>, AllocError> {
     let mut digits = Vec::new(alloc);
-    for digit in text.bytes().filter(|byte| byte.is_ascii_hexdigit()) {
-        digits.push(digit)?;
+    for byte in text.as_bytes() {
+        if byte.is_ascii_hexdigit() {
+            digits.push(*byte)?;
+        }
     }
-    hex::decode(alloc, digits.as_slice()).map_err(|_| AllocError)
+    match hex::decode(alloc, digits.as_slice()) {
+        Ok(bytes) => Ok(bytes),
+        Err(_) => Err(AllocError),
+    }
 }
 
 /// Whether bytes are those of a text.

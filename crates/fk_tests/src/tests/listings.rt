@@ -33,9 +33,11 @@ pub(super) fn are_names<A: Allocator>(given: &Listing<A>, names: &[Listed]) -> b
     if given.len() != names.len() || given.is_empty() != names.is_empty() {
         return false;
     }
-    for (given, name) in given.iter().zip(names) {
-        if !is_name(given, name) {
-            return false;
+    let mut wanted = names.iter();
+    for listed in given.iter() {
+        match wanted.next() {
+            Some(name) if is_name(listed, name) => {}
+            _ => return false,
         }
     }
     true

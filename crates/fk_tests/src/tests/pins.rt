@@ -4,6 +4,7 @@ use fk_opens::NodePins;
 use fk_queues::{IntrEffect, KernelQueues, NoMemory, QueueTable, Queues};
 use fuse_spec::{Opened, Purpose};
 use std::alloc::{AllocError, Allocator};
+use std::process::Abort;
 use std::test::Fail;
 
 /// Two pins of a node, which go one after the other: whether it is pinned before, between and after.
@@ -56,17 +57,27 @@ fn end_oldest<Q: QueueTable<Purpose>>(queues: &mut Q) -> Option<u64> {
     Some(unique)
 }
 
-#[test]
-fn a_release_pins_its_node_until_it_is_answered(rt: HostRuntime) -> Result<(), Fail> {
-    let mut queues: KernelQueues<Queues<Purpose, _>> = KernelQueues::new(rt.alloc());
-    assert!(rt; queue_three(&mut queues) == Ok([2, 4, 6]));
+/// Checks what new queues say of two RELEASEs of node 5 and of call 7, up to the end of the last of them.
+fn check_releases<Q: QueueTable<Purpose>>(rt: &impl Abort, queues: &mut KernelQueues<Q>) {
+    assert!(rt; queue_three(queues) == Ok([2, 4, 6]));
     assert!(rt; queues.is_releasing(5) && !queues.is_releasing(7));
     assert!(rt; queues.request_for(7) == Some(4) && queues.request_for(5).is_none());
-    assert!(rt; end_oldest(&mut queues) == Some(2));
+    assert!(rt; end_oldest(queues) == Some(2));
     assert!(rt; queues.is_releasing(5));
     assert!(rt; queues.interrupt(4, true) == IntrEffect::Dequeued);
     assert!(rt; queues.request_for(7).is_none());
-    assert!(rt; end_oldest(&mut queues) == Some(6));
+    assert!(rt; end_oldest(queues) == Some(6));
     assert!(rt; !queues.is_releasing(5));
+}
+
+/// The same over any table of requests.
+fn check_over<Q: QueueTable<Purpose> + Drop>(rt: &impl Abort, heap: Q::Heap) {
+    let mut queues: KernelQueues<Q> = KernelQueues::new(heap);
+    check_releases(rt, &mut queues);
+}
+
+#[test]
+fn a_release_pins_its_node_until_it_is_answered(rt: HostRuntime) -> Result<(), Fail> {
+    check_over::<Queues<Purpose, _>>(&rt, rt.alloc());
     Ok(())
 }

@@ -187,25 +187,19 @@ fn tried<Q: QueueTable<u64>>(queues: &mut Q, row: Row) -> Outcome {
     }
 }
 
-impl<A: Allocator + Copy> Tried<Row, A> for Queues<u64, A> {
-    fn attempt(&mut self, _heap: A, _alloc: Global, row: Row) -> Outcome {
-        tried(self, row)
+/// Queues of any representation, on which the calls are tried.
+struct Over<Q: QueueTable<u64>> {
+    queues: Q,
+}
+
+impl<Q: QueueTable<u64>> Tried<Row, Q::Heap> for Over<Q> {
+    fn attempt(&mut self, _heap: Q::Heap, _alloc: Global, row: Row) -> Outcome {
+        tried(&mut self.queues, row)
     }
 }
 
-impl<A: Allocator + Copy> Tried<Row, A> for MapQueues<u64, A> {
-    fn attempt(&mut self, _heap: A, _alloc: Global, row: Row) -> Outcome {
-        tried(self, row)
-    }
-}
-
-impl<A: Allocator + Copy> Tried<Row, A> for ListQueues<u64, A> {
-    fn attempt(&mut self, _heap: A, _alloc: Global, row: Row) -> Outcome {
-        tried(self, row)
-    }
-}
-
-static CALLS: [Row; 56] = [
+/// Requests are queued, read and looked at.
+static REQUESTS: [Row; 13] = [
     Row::NumbersLeft(0x1fff_ffff_ffff_ffff),
     Row::Queue(70, 2),
     Row::Queue(71, 4),
@@ -219,6 +213,10 @@ static CALLS: [Row; 56] = [
     Row::Kept(8, None),
     Row::Waiting(4, Some(71)),
     Row::Waiting(2, None),
+];
+
+/// They are interrupted, answered and taken away.
+static INTERRUPTED: [Row; 15] = [
     Row::Interrupt(4, false, IntrEffect::Queued),
     Row::Interrupt(6, false, IntrEffect::Flagged),
     Row::ReadPending(1, Some(6)),
@@ -235,6 +233,10 @@ static CALLS: [Row; 56] = [
     Row::FirstInterrupt(None),
     Row::Interrupt(2, true, IntrEffect::Dequeued),
     Row::Kept(2, None),
+];
+
+/// Forgets are queued and read.
+static FORGETS: [Row; 10] = [
     Row::Reserve(100, 100),
     Row::Forget(9, 3),
     Row::Forget(8, 1),
@@ -245,7 +247,10 @@ static CALLS: [Row; 56] = [
     Row::Forgets((8, 2, (9, 3), (8, 1))),
     Row::Forgets((10, 1, (7, 2), (7, 2))),
     Row::NumbersLeft(0x1fff_ffff_ffff_fffa),
-    // of 65 forgets 64 at most are read at once
+];
+
+/// Of 65 forgets 64 at most are read at once.
+static MANY_FORGETS: [Row; 10] = [
     Row::Reserve(0, 65),
     Row::ForgetEach(11, 76),
     Row::NoForgets(0),
@@ -256,8 +261,11 @@ static CALLS: [Row; 56] = [
     Row::NoForgets(2),
     Row::ForgetsOfEach(14, 75, 76),
     Row::NumbersLeft(0x1fff_ffff_ffff_fff8),
+];
+
+/// After an abort all is as in a new mount.
+static ABORTED: [Row; 8] = [
     Row::Abort,
-    // as in a new mount
     Row::Pending(0, None),
     Row::Waiting(6, None),
     Row::Kept(6, None),
@@ -267,19 +275,37 @@ static CALLS: [Row; 56] = [
     Row::Reserve(1000, 1000),
 ];
 
-/// The calls with each growth refused in turn: how many runs that took.
-fn runs<A: Copy, T: QueueTable<u64, Heap = A> + Tried<Row, A> + Drop>(
+/// The calls, one list after another on the same queues.
+fn calls() -> [&'static [Row]; 5] {
+    [&REQUESTS, &INTERRUPTED, &FORGETS, &MANY_FORGETS, &ABORTED]
+}
+
+/// The calls on new queues of a representation.
+fn run_calls<Q: QueueTable<u64> + Drop>(
     rt: &impl Abort,
-    heap: A,
+    heap: Q::Heap,
+    refusing: &FailAt<Global>,
+    alloc: Global,
+) {
+    let mut over: Over<Q> = Over {
+        queues: Q::new(heap),
+    };
+    let wrong = first_wrong(&mut over, heap, refusing, alloc, &calls());
+    let Over { queues } = over;
+    drop(queues);
+    assert_right(rt, wrong, "calls");
+}
+
+/// The calls with each growth refused in turn: how many runs that took.
+fn runs<Q: QueueTable<u64> + Drop>(
+    rt: &impl Abort,
+    heap: Q::Heap,
     refusing: &FailAt<Global>,
     alloc: Global,
 ) -> u64 {
     let mut runs = 0;
     for n in refusing.each_growth(60) {
-        let mut table = T::new(heap);
-        let wrong = first_wrong(&mut table, heap, refusing, alloc, &[CALLS.as_slice()]);
-        drop(table);
-        assert_right(rt, wrong, "calls");
+        run_calls::<Q>(rt, heap, refusing, alloc);
         runs = n;
     }
     runs
@@ -291,18 +317,17 @@ fn runs_of_each<A: Allocator + Copy>(
     heap: A,
     refusing: &FailAt<Global>,
     alloc: Global,
-) -> (u64, u64, u64) {
-    (
-        runs::<A, Queues<u64, A>>(rt, heap, refusing, alloc),
-        runs::<A, MapQueues<u64, A>>(rt, heap, refusing, alloc),
-        runs::<A, ListQueues<u64, A>>(rt, heap, refusing, alloc),
-    )
+) -> [u64; 3] {
+    let of_queues = runs::<Queues<u64, A>>(rt, heap, refusing, alloc);
+    let of_maps = runs::<MapQueues<u64, A>>(rt, heap, refusing, alloc);
+    let of_lists = runs::<ListQueues<u64, A>>(rt, heap, refusing, alloc);
+    [of_queues, of_maps, of_lists]
 }
 
 #[test]
 fn calls_with_each_growth_refused(rt: HostRuntime) -> Result<(), Fail> {
     let heap = FailAt::new(rt.alloc());
-    let (of_queues, of_maps, of_lists) = runs_of_each(&rt, &heap, &heap, rt.alloc());
+    let [of_queues, of_maps, of_lists] = runs_of_each(&rt, &heap, &heap, rt.alloc());
     assert!(rt; 3 < of_queues && of_queues < 60, "queues");
     assert!(rt; 3 < of_maps && of_maps < 60, "maps");
     assert!(rt; 3 < of_lists && of_lists < 60, "lists");

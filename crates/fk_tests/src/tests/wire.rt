@@ -548,6 +548,11 @@ impl<A: Allocator + Copy> Tried<Row, A> for Vec<u8, A> {
     }
 }
 
+/// The frames that are written.
+fn frames() -> [&'static [Row]; 4] {
+    [&REQUESTS, &REPLIES, &OTHERS, &FREE]
+}
+
 /// All that is written.
 fn run_written<A: Allocator + Copy>(
     rt: &impl Abort,
@@ -555,14 +560,8 @@ fn run_written<A: Allocator + Copy>(
     refusing: &FailAt<Global>,
     alloc: Global,
 ) {
-    let lists = [
-        REQUESTS.as_slice(),
-        REPLIES.as_slice(),
-        OTHERS.as_slice(),
-        FREE.as_slice(),
-    ];
     let mut out = Vec::new(heap);
-    let wrong = first_wrong(&mut out, heap, refusing, alloc, &lists);
+    let wrong = first_wrong(&mut out, heap, refusing, alloc, &frames());
     assert_right(rt, wrong, "frames");
 }
 

@@ -367,20 +367,31 @@ fn led_to(opcode: Opcode) -> &'static [Row] {
     }
 }
 
-/// What follows bytes that are no reply, with a head or with none: the call gets EIO or, where it is to wait, nothing;
-/// a mount whose INIT has got them is aborted, and a later call gets ENOTCONN, or INIT waits.
-fn push_followed(rows: &mut Vec<Row>, case: &Case, has_head: bool) -> Result<(), AllocError> {
-    if case.opcode == Opcode::Init && has_head {
-        rows.push(Row::Begin(Call::Stat { path: b"/" }, Ok(1)))?;
-        rows.push(Row::Answered(1, Expected::Errno(107)))?;
-        return Ok(());
+/// A mount whose INIT has got bytes with a head that are no reply is aborted, and a later call gets ENOTCONN.
+static AFTER_INIT: [Row; 2] = [
+    Row::Begin(Call::Stat { path: b"/" }, Ok(1)),
+    Row::Answered(1, Expected::Errno(107)),
+];
+
+/// What follows other bytes that are no reply, with a head or with none: INIT waits, or the call gets EIO or, where it is
+/// to wait, nothing.
+fn followed(case: &Case, has_head: bool) -> Row {
+    if matches!(case.opcode, Opcode::Init) {
+        return Row::Begin(Call::Stat { path: b"/" }, Err(Refusal::NotReady));
     }
-    rows.push(match (case.opcode, case.call) {
-        (Opcode::Init, _) => Row::Begin(Call::Stat { path: b"/" }, Err(Refusal::NotReady)),
-        (_, Some(call)) if has_head => Row::Answered(call, Expected::Errno(5)),
+    match case.call {
+        Some(call) if has_head => Row::Answered(call, Expected::Errno(5)),
         _ => Row::Unanswered(case.waiting),
-    })?;
-    Ok(())
+    }
+}
+
+/// Pushes what follows bytes that are no reply.
+fn push_followed(rows: &mut Vec<Row>, case: &Case, has_head: bool) -> Result<(), AllocError> {
+    if has_head && matches!(case.opcode, Opcode::Init) {
+        rows.extend_from_slice(&AFTER_INIT)
+    } else {
+        rows.extend_from_slice(&[followed(case, has_head)])
+    }
 }
 
 /// Writes so many bytes of a reply and of a byte more, with the reply's `len` or their own: the writer gets Invalid.

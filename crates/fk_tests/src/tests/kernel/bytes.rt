@@ -4,6 +4,8 @@ use super::{Expected, Reads, Row, Written, run_mounted};
 use fk_kernel::Call;
 use fk_wire::Opcode;
 use fuse_spec::{Kind, Refusal, WriteResult};
+use std::alloc::Global;
+use std::process::Abort;
 use std::test::Fail;
 
 /// Bytes that end nothing: the call waits.
@@ -443,24 +445,39 @@ static RELEASED: [Row; 13] = [
     Row::Unanswered(0),
 ];
 
+/// Bytes that are no reply to a call.
+fn check_replies(rt: &impl Abort, alloc: Global) {
+    run_mounted(rt, alloc, &WAITING, "waiting");
+    run_mounted(rt, alloc, &SHORT_ENTRY, "short entry");
+    run_mounted(rt, alloc, &ERROR_WITH_BODY, "error with body");
+    run_mounted(rt, alloc, &NANOSECONDS, "nanoseconds");
+    run_mounted(rt, alloc, &NAMES_THE_ROOT, "names the root");
+    run_mounted(rt, alloc, &ANOTHER_GENERATION, "another generation");
+    run_mounted(rt, alloc, &NO_NODE, "no node");
+}
+
+/// Lists and contents of unusual names and lengths.
+fn check_lists(rt: &impl Abort, alloc: Global) {
+    run_mounted(rt, alloc, &UNUSUAL_NAMES, "unusual names");
+    run_mounted(rt, alloc, &SLASH_IN_NAME, "slash in name");
+    run_mounted(rt, alloc, &LONG_LIST, "long list");
+    run_mounted(rt, alloc, &WHOLE_LIST, "whole list");
+    run_mounted(rt, alloc, &LONG_READ, "long read");
+    run_mounted(rt, alloc, &LONG_WRITE, "long write");
+}
+
+/// Entries of new files, and the reply to a RELEASE.
+fn check_created(rt: &impl Abort, alloc: Global) {
+    run_mounted(rt, alloc, &CREATED_UNLIKE, "created unlike");
+    run_mounted(rt, alloc, &CREATED_ROOT, "created root");
+    run_mounted(rt, alloc, &CREATED_NOTHING, "created nothing");
+    run_mounted(rt, alloc, &RELEASED, "released");
+}
+
 #[test]
 fn any_bytes(rt: HostRuntime) -> Result<(), Fail> {
-    run_mounted(&rt, rt.alloc(), &WAITING, "waiting");
-    run_mounted(&rt, rt.alloc(), &SHORT_ENTRY, "short entry");
-    run_mounted(&rt, rt.alloc(), &ERROR_WITH_BODY, "error with body");
-    run_mounted(&rt, rt.alloc(), &NANOSECONDS, "nanoseconds");
-    run_mounted(&rt, rt.alloc(), &NAMES_THE_ROOT, "names the root");
-    run_mounted(&rt, rt.alloc(), &ANOTHER_GENERATION, "another generation");
-    run_mounted(&rt, rt.alloc(), &NO_NODE, "no node");
-    run_mounted(&rt, rt.alloc(), &UNUSUAL_NAMES, "unusual names");
-    run_mounted(&rt, rt.alloc(), &SLASH_IN_NAME, "slash in name");
-    run_mounted(&rt, rt.alloc(), &LONG_LIST, "long list");
-    run_mounted(&rt, rt.alloc(), &WHOLE_LIST, "whole list");
-    run_mounted(&rt, rt.alloc(), &LONG_READ, "long read");
-    run_mounted(&rt, rt.alloc(), &LONG_WRITE, "long write");
-    run_mounted(&rt, rt.alloc(), &CREATED_UNLIKE, "created unlike");
-    run_mounted(&rt, rt.alloc(), &CREATED_ROOT, "created root");
-    run_mounted(&rt, rt.alloc(), &CREATED_NOTHING, "created nothing");
-    run_mounted(&rt, rt.alloc(), &RELEASED, "released");
+    check_replies(&rt, rt.alloc());
+    check_lists(&rt, rt.alloc());
+    check_created(&rt, rt.alloc());
     Ok(())
 }
