@@ -1,3 +1,4 @@
+pub mod Rooms
 pub mod Sound
 pub mod Beginnings
 pub mod Phases

@@ -1,10 +1,11 @@
-use Rattle.std.proofs.Common.{length, ◌≤◌, ◌<◌, ◌+◌, ◌≡◌, true, false, true≢false, sym, ◌∙◌, arith}
+use Rattle.std.proofs.Common.{length, ◌<◌, ◌≡◌, true, false, true≢false, sym, ◌∙◌}
 use Rattle.fuse_spec.specs.Kernel.Kernel.{is_aborted}
 use Rattle.fuse_spec.specs.Kernel.Refusals.{is_ready}
 use Rattle.fk_kernel.proofs.Phases.{live_if}
 use Rattle.fk_kernel.proofs.Sound.{sound_begun_asking}
 use Rattle.fk_kernel.proofs.Nodes.{still_counted, sorted_put}
 use Rattle.fk_kernel.proofs.OpenFilesKept.{asking_files}
+use Rattle.fk_kernel.proofs.Rooms.{still_room, room_left, call_room}
 use Rattle.fk_kernel.proofs.kernel.KernelOf.begin_asking.Goals as goal
 
 pub invariant_of-self-2 : goal.invariant_of-self-2
@@ -12,14 +13,23 @@ invariant_of-self-2 g c =
     let k = c.self.inside in
     let few : length k.calls.entries < 64 = rw (← c.self.view_is) at c.requires.few in
     let low = rw (← c.self.view_is) at c.requires.number in
-    let reserved = c.in-Ok.ensures.room in
-    let room : length k.calls.entries + 1 ≤ c.reserve.new.self.room = omega (arith, few, reserved) in
+    let room = call_room few c.in-Ok.ensures.room in
     let ready : is_ready k.phase ≡ true = rw (← c.self.view_is) at c.requires.ready in
     let going : is_aborted k.phase ≡ false = rw (← c.self.view_is) at c.requires.not_aborted in
     let live = live_if k.phase ready going in
     let old = c.self.invariant in
     rw (c.put.ensures.entries, c.in-Ok-reserve.ensures.entries, c.in-Ok.ensures.entries)
-    (record { numbers = sound_begun_asking k.calls.entries k.answers.entries k.answers.room k.next_call old.numbers c.args.state c.reserve.new.self.room low room; idle = λ down. absurd (true≢false (sym live ∙ down)); sorted = sorted_put k.calls.entries k.next_call c.args.state old.sorted; nodes = still_counted k.nodes k.queues.room.forgets c.enqueue-unique.new.self.room.forgets old.nodes (omega (arith, c.reserve_request.ensures.kept.forgets, c.enqueue-unique.ensures.forgets_room)); files = asking_files k.calls.entries k.opens.entries k.closing.entries k.next_call old.files c.args.state; releases = omega (arith, c.in_ok-reserve_request.ensures.room, c.enqueue-unique.ensures.requests_room); clock_low = old.clock_low })
+    (record {
+      numbers = sound_begun_asking k.calls.entries k.answers.entries k.answers.room k.next_call old.numbers c.args.state
+          c.reserve.new.self.room low room;
+      idle = λ down. absurd (true≢false (sym live ∙ down));
+      sorted = sorted_put k.calls.entries k.next_call c.args.state old.sorted;
+      nodes = still_counted k.nodes k.queues.room.forgets c.enqueue-unique.new.self.room.forgets old.nodes
+          (still_room c.reserve_request.ensures.kept.forgets c.enqueue-unique.ensures.forgets_room);
+      files = asking_files k.calls.entries k.opens.entries k.closing.entries k.next_call old.files c.args.state;
+      releases = room_left c.in_ok-reserve_request.ensures.room c.enqueue-unique.ensures.requests_room;
+      clock_low = old.clock_low;
+    })
 
 pub invariant_of-self-in_err-reserve_request : goal.invariant_of-self-in_err-reserve_request
 invariant_of-self-in_err-reserve_request g c =
@@ -31,14 +41,14 @@ invariant_of-self-in_err-reserve_request g c =
         calls_below = old.numbers.calls_below;
         answers_below = old.numbers.answers_below;
         apart = old.numbers.apart;
-        room = omega (arith, old.numbers.room, c.reserve.ensures.kept);
+        room = still_room old.numbers.room c.reserve.ensures.kept;
         next =
             old.numbers.next;
       };
       idle = old.idle;
       sorted = old.sorted;
       files = old.files;
-      releases = omega (arith, old.releases, c.reserve_request.ensures.kept.requests);
+      releases = still_room old.releases c.reserve_request.ensures.kept.requests;
       nodes =
           still_counted k.nodes k.queues.room.forgets
           c.reserve_request.new.queues.room.forgets old.nodes c.reserve_request.ensures.kept.forgets;

@@ -6,6 +6,7 @@ use Rattle.fk_kernel.proofs.Closes.{closes_in_use, used_unrefused}
 use Rattle.fk_kernel.proofs.OpenFilesKept.{some_not_none, closed_files, numbered_files}
 use Rattle.fk_kernel.proofs.Nodes.{still_counted}
 use Rattle.fk_kernel.proofs.Sound.{sound_begun_answered, gone_absent, length_put}
+use Rattle.fk_kernel.proofs.Rooms.{answer_room, itself}
 use Rattle.fk_kernel.proofs.kernel.KernelOf.close_in_use.Goals as goal
 
 pub returns-in_default-clause-refusal : goal.returns-in_default-clause-refusal
@@ -19,7 +20,7 @@ returns-in_default-clause-refusal g c =
     let none : get now.closing c.args.open_call ≡ None =
     rw (← c.self.view_is) (old.files.closed_once c.args.open_call there) in
     let fresh : get now.vfs.calls now.vfs.next_call ≡ None =
-    rw (← c.self.view_is) (old.numbers.calls_below k.next_call (omega arith)) in
+    rw (← c.self.view_is) (old.numbers.calls_below k.next_call (itself k.next_call)) in
     let high : now.queues.next ≤ 2 ^ 62 = rw (← c.self.view_is) c.lemma_sound.ensures.sound.next.high in
     let judged = used_unrefused now c.args.open_call c.args.opened c.requires.not_aborted c.requires.open none fresh c.requires.ready c.requires.few c.requires.number c.requires.used high in
     sym (ap or_no_memory judged)
@@ -35,7 +36,7 @@ returns-in_default-reserve-clause-refusal g c =
     let none : get now.closing c.args.open_call ≡ None =
     rw (← c.self.view_is) (old.files.closed_once c.args.open_call there) in
     let fresh : get now.vfs.calls now.vfs.next_call ≡ None =
-    rw (← c.self.view_is) (old.numbers.calls_below k.next_call (omega arith)) in
+    rw (← c.self.view_is) (old.numbers.calls_below k.next_call (itself k.next_call)) in
     let high : now.queues.next ≤ 2 ^ 62 = rw (← c.self.view_is) c.lemma_sound.ensures.sound.next.high in
     let judged = used_unrefused now c.args.open_call c.args.opened c.requires.not_aborted c.requires.open none fresh c.requires.ready c.requires.few c.requires.number c.requires.used high in
     sym (ap or_no_memory judged)
@@ -51,7 +52,7 @@ returns-in_err-reserve_request-clause-refusal g c =
     let none : get now.closing c.args.open_call ≡ None =
     rw (← c.self.view_is) (old.files.closed_once c.args.open_call there) in
     let fresh : get now.vfs.calls now.vfs.next_call ≡ None =
-    rw (← c.self.view_is) (old.numbers.calls_below k.next_call (omega arith)) in
+    rw (← c.self.view_is) (old.numbers.calls_below k.next_call (itself k.next_call)) in
     let high : now.queues.next ≤ 2 ^ 62 = rw (← c.self.view_is) c.lemma_sound.ensures.sound.next.high in
     let judged = used_unrefused now c.args.open_call c.args.opened c.requires.not_aborted c.requires.open none fresh c.requires.ready c.requires.few c.requires.number c.requires.used high in
     let p = err_from_is_err_and c.from_residual.result c.from_residual.ensures.1 in
@@ -61,12 +62,9 @@ pub invariant_of-self-2 : goal.invariant_of-self-2
 invariant_of-self-2 g c =
     let k = c.self.inside in
     let old = c.self.invariant in
-    let s = k.queues.queues in
     let few : length k.calls.entries < 64 = rw (← c.self.view_is) at c.requires.few in
     let low = rw (← c.self.view_is) at c.requires.number in
-    let reserved = c.in-Ok.ensures.room in
-    let left = c.put-2.ensures.room in
-    let room : length k.calls.entries ≤ c.put-2.new.self.room = omega (arith, few, reserved, left) in
+    let room = answer_room few c.in-Ok.ensures.room c.put-2.ensures.room in
     let numbers = sound_begun_answered k.calls.entries k.answers.entries k.answers.room k.next_call old.numbers c.new.result c.put-2.new.self.room low room in
     let here : get k.opens.entries c.args.open_call ≡ Some c.args.opened = rw (← c.self.view_is) at c.requires.open in
     let there = some_not_none (get k.opens.entries c.args.open_call) c.args.opened here in
@@ -103,7 +101,7 @@ returns-clause-judged g c =
     let none : get now.closing c.args.open_call ≡ None =
     rw (← c.self.view_is) (old.files.closed_once c.args.open_call there) in
     let fresh : get now.vfs.calls now.vfs.next_call ≡ None =
-    rw (← c.self.view_is) (old.numbers.calls_below k.next_call (omega arith)) in
+    rw (← c.self.view_is) (old.numbers.calls_below k.next_call (itself k.next_call)) in
     let high : now.queues.next ≤ 2 ^ 62 = rw (← c.self.view_is) c.lemma_sound.ensures.sound.next.high in
     let judged = used_unrefused now c.args.open_call c.args.opened c.requires.not_aborted c.requires.open none fresh c.requires.ready c.requires.few c.requires.number c.requires.used high in
     judged
@@ -119,6 +117,6 @@ returns-clause-begun g c =
     let none : get now.closing c.args.open_call ≡ None =
     rw (← c.self.view_is) (old.files.closed_once c.args.open_call there) in
     let fresh : get now.vfs.calls now.vfs.next_call ≡ None =
-    rw (← c.self.view_is) (old.numbers.calls_below k.next_call (omega arith)) in
-    let fresh_inside : get k.calls.entries k.next_call ≡ None = old.numbers.calls_below k.next_call (omega arith) in
+    rw (← c.self.view_is) (old.numbers.calls_below k.next_call (itself k.next_call)) in
+    let fresh_inside : get k.calls.entries k.next_call ≡ None = old.numbers.calls_below k.next_call (itself k.next_call) in
     rw (closes_in_use now c.args.open_call c.args.opened c.requires.not_aborted c.requires.open none fresh c.requires.used, ← c.self.view_is, c.put-2.ensures.entries, c.in-Ok.ensures.entries, c.remove-file.ensures.entries, c.put.ensures.entries, c.in-Ok-reserve.ensures.entries, c.reserve_request.ensures.state, c.new.ensures, gone_absent k.calls.entries k.next_call fresh_inside) refl

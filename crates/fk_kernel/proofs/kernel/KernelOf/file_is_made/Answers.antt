@@ -8,6 +8,7 @@ use Rattle.fk_kernel.proofs.OpenFilesKept.{some_not_none, opened_files}
 use Rattle.fk_kernel.proofs.Nodes.{looked_up_counted, answered_is, sorted_gone}
 use Rattle.fk_kernel.proofs.Replied.{create_made}
 use Rattle.fk_kernel.proofs.Sound.{sound_answered}
+use Rattle.fk_kernel.proofs.Rooms.{still_room, one_more_fits, until_is}
 use Rattle.fk_kernel.proofs.kernel.KernelOf.file_is_made.Goals as goal
 
 pub bind_entry-requires-clause-names_one : goal.bind_entry-requires-clause-names_one
@@ -18,17 +19,12 @@ bind_entry-requires-clause-names_one g c =
 pub invariant_of-self-2 : goal.invariant_of-self-2
 invariant_of-self-2 g c =
     let k = c.self.inside in
-    let s = k.queues.queues in
     let old = c.self.invariant in
     let made = c.requires.creates in
     let here : get k.calls.entries c.args.call ≡ Some (doing (create made.directory made.name)) =
     rw (← c.self.view_is) at made.is in
-    let waits : is_some (waiting s c.args.unique) ≡ true = rw (← c.self.view_is) at (ap is_some c.requires.waits) in
     let there = some_not_none (get k.calls.entries c.args.call) (doing (create made.directory made.name)) here in
-    let kept = c.answer-kept.ensures.room.forgets in
-    let reserved = c.in_ok-bind_entry.ensures.room in
-    let room : length k.nodes + 1 ≤ c.answer-kept.new.self.room.forgets =
-    omega arith in
+    let room = still_room c.in_ok-bind_entry.ensures.room c.answer-kept.ensures.room.forgets in
     let fits = rw (← c.self.view_is) at c.requires.fits in
     rw (
       c.answer-kept.ensures.state,
@@ -44,7 +40,8 @@ invariant_of-self-2 g c =
       idle = λ down. rw (old.idle down) refl;
       sorted = sorted_gone k.calls.entries c.args.call old.sorted;
       files = opened_files k.calls.entries k.opens.entries k.closing.entries k.next_call old.files old.numbers.calls_below c.args.call (record { nodeid = c.args.entry.now.nodeid; fh = c.args.fh }) there;
-      releases = omega (arith, old.releases, c.bind_entry.ensures.kept.requests, c.answer-kept.ensures.room.requests);
+      releases = still_room (still_room old.releases c.bind_entry.ensures.kept.requests)
+          c.answer-kept.ensures.room.requests;
       nodes = looked_up_counted k.nodes k.queues.room.forgets
           c.answer-kept.new.self.room.forgets old.nodes room c.args.entry.now fits;
       clock_low = old.clock_low;
@@ -54,15 +51,12 @@ pub returns-clause-ok : goal.returns-clause-ok
 returns-clause-ok g c =
     let k = c.self.inside in
     let s = k.queues.queues in
-    let old = c.self.invariant in
     let made = c.requires.creates in
     let here : get k.calls.entries c.args.call ≡ Some (doing (create made.directory made.name)) =
     rw (← c.self.view_is) at made.is in
     let waits : is_some (waiting s c.args.unique) ≡ true = rw (← c.self.view_is) at (ap is_some c.requires.waits) in
-    let low = c.self.invariant.clock_low in
-    let day = c.requires.day in
-    let until : c.saturating_add-until.result ≡ k.clock + c.args.valid_ms =
-    omega (arith, c.saturating_add-until.ensures) in
+    let until = until_is k.clock c.args.valid_ms c.saturating_add-until.result c.self.invariant.clock_low c.requires.day
+    c.saturating_add-until.ensures in
     let names = c.in_ok-bind_entry.ensures.names (doing (create made.directory made.name))
     (made.directory, made.name) here refl in
     rw (
@@ -84,5 +78,4 @@ returns-clause-ok g c =
 
 pub bind_entry-requires-clause-fits : goal.bind_entry-requires-clause-fits
 bind_entry-requires-clause-fits g c = λ x at.
-    let low = c.self.invariant.nodes.below.below c.args.entry.now.nodeid x at in
-    omega (arith, low)
+    one_more_fits (c.self.invariant.nodes.below.below c.args.entry.now.nodeid x at)

@@ -1,4 +1,4 @@
-use Rattle.std.proofs.Common.{◌≡◌, ℕ, ◌+◌, ◌≤◌, true, length, Some, ap, sym, subst, ◌∙◌, arith}
+use Rattle.std.proofs.Common.{◌≡◌, ℕ, ◌+◌, ◌≤◌, true, length, Some, ap, sym, subst, ◌∙◌}
 use Rattle.std.proofs.lemmas.List.{length-map}
 use Rattle.std.specs.Prelude.{is_some}
 use Rattle.fuse_spec.specs.Values.Maps.{get}
@@ -16,6 +16,7 @@ use Rattle.fk_kernel.proofs.CountsAfterReply.{pairs_below}
 use Rattle.fk_kernel.proofs.Nodes.{answered_is, listed_counted}
 use Rattle.fk_kernel.proofs.Replied.{list_done}
 use Rattle.fk_kernel.proofs.CallStates.{asked_is, lists_from}
+use Rattle.fk_kernel.proofs.Rooms.{still_room, room_to_list}
 use Rattle.fk_kernel.proofs.kernel.KernelOf.pairs_listed.Goals as goal
 
 pub count_and_bind-requires-clause-below : goal.count_and_bind-requires-clause-below
@@ -28,24 +29,17 @@ invariant_of-self-2 g c =
     let old = c.self.invariant in
     let pairs = pairs_left_in c.args.pairs in
     let below = rw (← c.self.view_is) at (pairs_below c.args.self.now.nodes pairs c.requires.counts) in
-    let kept = c.answer-kept.ensures.room.forgets in
-    let given = c.forget_stale.ensures.forgets in
-    let reserved = c.in_ok-reserve_forgets.ensures.room in
-    let room : length k.nodes + length pairs ≤ c.answer-kept.new.self.room.forgets =
-    omega (arith, c.count_left.ensures.count, length-map (pluses_in c.args.pairs) pair_in) in
+    let room = room_to_list (length k.nodes) (length (pluses_in c.args.pairs)) (length pairs) c.count_left.result _ _
+    c.answer-kept.new.self.room.forgets c.count_left.ensures.count (length-map (pluses_in c.args.pairs) pair_in)
+    c.in_ok-reserve_forgets.ensures.room c.forget_stale.ensures.forgets c.answer-kept.ensures.room.forgets in
     rw c.in-Ok-count_and_bind.ensures.nodes
     (record {
       numbers = old.numbers;
       idle = old.idle;
       sorted = old.sorted;
       files = old.files;
-      releases = omega (
-        arith,
-        old.releases,
-        c.reserve_forgets.ensures.kept.requests,
-        c.forget_stale.ensures.requests,
-        c.answer-kept.ensures.room.requests,
-      );
+      releases = still_room (still_room (still_room old.releases c.reserve_forgets.ensures.kept.requests)
+          c.forget_stale.ensures.requests) c.answer-kept.ensures.room.requests;
       nodes = listed_counted k.nodes c.answer-kept.new.self.room.forgets pairs below room;
       clock_low = old.clock_low;
     })
