@@ -1,12 +1,13 @@
--- Which refusal a read of forgets gets.
-use Rattle.std.proofs.Common.{◌≡◌, ℕ, ◌+◌, ◌-◌, ◌/◌, ◌<◌, ◌≤◌, ◌^◌, Bool, true, false, List, [], ◌∷◌, Option, Some, None, length, slice_get, nat_eq, refl, arith}
+-- Which refusal a read of forgets, or of a pending request, gets.
+use Rattle.std.proofs.Common.{◌≡◌, ℕ, ◌+◌, ◌-◌, ◌/◌, ◌<◌, ◌≤◌, ◌^◌, Bool, true, false, List, [], ◌∷◌, Option, Some, None, length, slice_get, nat_eq, refl, sym, true≢false, arith}
 use Rattle.std.specs.Prelude.{if◌then◌else◌, cond, nat_lt, is_some}
 use Rattle.std.proofs.lemmas.Bool.Decides.{nat_tests}
-use Rattle.fuse_spec.specs.Kernel.Kernel.{Kernel, is_live, forgets_read}
+use Rattle.fuse_spec.specs.Kernel.Kernel.{Kernel, is_live, forgets_read, body_of}
 use Rattle.fuse_spec.specs.Kernel.Uniques.{numbers_left_from}
-use Rattle.fuse_spec.specs.Kernel.QueueCalls.{can_read_forgets}
+use Rattle.fuse_spec.specs.Kernel.QueueCalls.{can_read_forgets, pending_at}
+use Rattle.fuse_spec.specs.declared.Purpose.{Purpose}
 use Rattle.fuse_spec.specs.declared.Refusal.TheVariants.{InterruptFirst, NoSuch, Exhausted}
-use Rattle.fk_kernel.specs.Refused.{read_forgets_refusal}
+use Rattle.fk_kernel.specs.Refused.{read_forgets_refusal, read_refusal}
 use Rattle.fk_kernel.proofs.Phases.{none_past_end}
 
 has_none : (xs : List ℕ) → is_some (slice_get xs 0) ≡ false → nat_eq (length xs) 0 ≡ true
@@ -61,3 +62,29 @@ module _ (k : Kernel) (count : ℕ) (live : is_live k.phase ≡ true) where
         can_read,
         none_past_end (k.queues.next + 2) k.vfs.next_call (below k.queues.next left) low,
       ) refl
+
+-- a body that is there is one
+some_body : {X : Type 0} (o : Option X) → is_some o ≡ true → (x : X) × (o ≡ Some x)
+some_body None there = absurd (true≢false (sym there))
+some_body (Some x) there = (x, refl)
+
+no_body : {X : Type 0} (o : Option X) → is_some o ≡ false → o ≡ None
+no_body None none = refl
+no_body (Some x) none = absurd (true≢false none)
+
+module _ (k : Kernel) (place : ℕ) (live : is_live k.phase ≡ true) where
+  pub interrupt_pending : is_some (slice_get k.queues.interrupts 0) ≡ true → read_refusal k place ≡ Some InterruptFirst
+  interrupt_pending some = rw (live, has_some k.queues.interrupts some) refl
+
+  module _ (none : is_some (slice_get k.queues.interrupts 0) ≡ false) where
+    pub none_pending : pending_at k.queues place ≡ None → read_refusal k place ≡ Some NoSuch
+    none_pending nothing = rw (live, has_none k.queues.interrupts none, nothing) refl
+
+    module _ (request : ℕ × Purpose) (is : pending_at k.queues place ≡ Some request) where
+      pub asks_nothing : is_some (body_of k request.1) ≡ false → read_refusal k place ≡ Some NoSuch
+      asks_nothing asks = rw (live, has_none k.queues.interrupts none, is, no_body (body_of k request.1) asks) refl
+
+      pub pending_unrefused : is_some (body_of k request.1) ≡ true → read_refusal k place ≡ None
+      pending_unrefused asks =
+          let body = some_body (body_of k request.1) asks in
+          rw (live, has_none k.queues.interrupts none, is, body.1) refl

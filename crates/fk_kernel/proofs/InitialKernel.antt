@@ -1,7 +1,13 @@
--- A kernel before its first mount is sound.
-use Rattle.std.proofs.Common.{ℕ, [], refl, arith}
-use Rattle.fuse_spec.specs.declared.Phase.TheVariants.{Down}
-use Rattle.fuse_spec.specs.Kernel.Queues.{empty_queues}
+-- A kernel before its first mount, and one that is mounted, is sound.
+use Rattle.std.proofs.Common.{ℕ, [], true≢false, refl, arith}
+use Rattle.fuse_spec.specs.Values.Maps.{Map}
+use Rattle.fuse_spec.specs.Calls.Vfs.{CallState}
+use Rattle.fuse_spec.specs.declared.Counted.{Counted}
+use Rattle.fuse_spec.specs.declared.Opened.{Opened}
+use Rattle.fuse_spec.specs.declared.Phase.{Phase}
+use Rattle.fuse_spec.specs.declared.Purpose.{Purpose}
+use Rattle.fuse_spec.specs.declared.Phase.TheVariants.{Down, Starting}
+use Rattle.fuse_spec.specs.Kernel.Queues.{QueueState, empty_queues}
 use Rattle.fk_kernel.specs.Soundness.{IsSoundKernel}
 use Rattle.fk_queues.specs.Room.{Room}
 use Rattle.fk_kernel.proofs.OpenFilesKept.{no_files}
@@ -23,4 +29,25 @@ sound_first free space = record {
   releases = omega arith;
   nodes = none_counted space.forgets;
   clock_low = omega arith;
+}
+
+pub sound_mounted : {W : Type 0} {phase : Phase} {calls : Map (CallState Opened)} {answers : Map W} {free coming : ℕ}
+    {opens closing : Map Opened} {queues : QueueState Purpose} {space : Room} {known : Map Counted} {clock : ℕ}
+    → IsSoundKernel phase calls answers free coming opens closing queues space known clock
+    → (queued : QueueState Purpose) (left : Room)
+    → IsSoundKernel Starting [] answers free coming [] [] queued left [] clock
+sound_mounted {coming = coming} old queued left = record {
+  numbers = record {
+    calls_below = λ n le. refl;
+    answers_below = old.numbers.answers_below;
+    apart = λ n there. absurd (there refl);
+    room = omega arith;
+    next = old.numbers.next;
+  };
+  idle = λ down. absurd (true≢false down);
+  sorted = tt;
+  files = no_files [] coming;
+  releases = omega arith;
+  nodes = none_counted left.forgets;
+  clock_low = old.clock_low;
 }

@@ -4,6 +4,7 @@ pub mod Beginnings
 pub mod Phases
 pub mod CallStates
 pub mod OpenFilesKept
+pub mod StillSound
 pub mod Closes
 pub mod Replied
 pub mod Heads

@@ -1,5 +1,5 @@
 -- The counted nodes stay below the end of counters and within what room there is, and the keys of calls rise.
-use Rattle.std.proofs.Common.{◌≡◌, ℕ, ◌+◌, ◌≤◌, ◌<◌, Bool, true, cond, List, [], ◌∷◌, length, nat_eq, Option, Some, None, T, refl, ap, sym, ◌∙◌, subst, inl, inr, arith}
+use Rattle.std.proofs.Common.{◌≡◌, ℕ, ◌+◌, ◌≤◌, ◌<◌, Bool, true, false, cond, nat_lt, List, [], ◌∷◌, length, nat_eq, Option, Some, None, T, refl, ap, sym, ◌∙◌, subst, inl, inr, arith}
 use Rattle.std.specs.Prelude.{is_some, not}
 use Rattle.std.specs.Ordering.{nat_cmp}
 use Rattle.std.specs.Cmp.{nat_cmp_total}
@@ -11,9 +11,10 @@ use Rattle.fuse_spec.specs.Values.Maps.{Map, get, put, remove}
 use Rattle.fuse_spec.specs.Kernel.Queues.{QueueState}
 use Rattle.fuse_spec.specs.Kernel.QueueCalls.{waiting, after_answer, without}
 use Rattle.fuse_spec.specs.declared.Entry.{Entry as NodeEntry}
-use Rattle.fuse_spec.specs.Kernel.Replies.{counted_more, looked_up}
+use Rattle.fuse_spec.specs.Kernel.Replies.{counted_more, looked_up, usable, unusable, stale, use_counted, use_of}
 use Rattle.fuse_spec.proofs.Tables.{get_put_here, get_put_there, get_gone_there}
 use Rattle.std.proofs.lemmas.Bool.{cases_eq}
+use Rattle.std.proofs.lemmas.Bool.Decides.{nat_tests}
 use Rattle.fk_lookup_count.proofs.NumberMaps.{sorted-filter}
 use Rattle.fk_kernel.proofs.Sound.{length_put}
 use Rattle.fuse_spec.specs.Values.Numbers.{counter_end}
@@ -87,3 +88,19 @@ module _ {V : Type 0} where
       → length (put m k v) ≡ length m
   length_again m k v sorted there = length-put nat_cmp nat_cmp_total k v m sorted ∙ ap
       (λ (b : Bool). cond b (length m) (length m + 1)) there
+
+same_number : (a b : ℕ) → nat_eq a b ≡ true → a ≡ b
+same_number a b e = grind (arith, nat_tests, e)
+
+-- what is told of an entry that can be used
+alike_by : (below same : Bool) (node : ℕ) → cond below unusable (cond same usable (stale node)) ≡ usable → same ≡ true
+alike_by true same node can = cc
+alike_by false true node can = refl
+alike_by false false node can = cc
+
+-- An entry that can be used has the generation under which its node is counted.
+pub alike : (nodes : Map Counted) (g : NodeEntry) → use_of nodes g ≡ usable → (x : Counted)
+    → get nodes g.nodeid ≡ Some x → x.generation ≡ g.generation
+alike nodes g can x at = same_number x.generation g.generation (alike_by (nat_lt g.nodeid 2)
+    (nat_eq x.generation g.generation) g.nodeid (subst (λ (o : Option Counted). cond (nat_lt g.nodeid 2) unusable
+    (use_counted g o) ≡ usable) at can))

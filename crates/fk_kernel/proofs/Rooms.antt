@@ -1,5 +1,5 @@
 -- Room, counts and times as they follow from one another. They are stated on numbers alone, where little is in scope.
-use Rattle.std.proofs.Common.{◌≡◌, ℕ, ◌+◌, ◌-◌, ◌*◌, ◌≤◌, ◌<◌, ◌^◌, min, arith}
+use Rattle.std.proofs.Common.{◌≡◌, ℕ, ◌+◌, ◌-◌, ◌*◌, ◌≤◌, ◌<◌, ◌^◌, min, Option, Some, arith}
 use Rattle.fuse_spec.specs.Values.Numbers.{clock_end, counter_end, max_validity}
 
 -- Room that is kept still holds as much.
@@ -9,6 +9,10 @@ still_room fits kept = omega arith
 -- What is queued in room for one more leaves room for the rest.
 pub room_left : {n a b : ℕ} → n + 1 ≤ a → a ≤ b + 1 → n ≤ b
 room_left fits taken = omega arith
+
+-- Where one fewer fits there is some room.
+pub some_room : (n : ℕ) {a b : ℕ} → n + 1 ≤ a → a ≤ b → 0 < b
+some_room n fits kept = omega arith
 
 -- There is room for one call more where there is room to answer the most.
 pub call_room : {n a : ℕ} → n < 64 → 64 ≤ a → n + 1 ≤ a
@@ -34,3 +38,9 @@ room_to_list n left listed count reserved queued answered is same room taken kep
 
 pub itself : (n : ℕ) → n ≤ n
 itself n = omega arith
+
+-- What is there once is one.
+pub some_same : {X : Type 0} {x y : X} → Some x ≡ Some y → x ≡ y
+some_same {X} {x} {y} same =
+    let both : ◌≡◌ {A = Option X} (Some x) (Some y) = same in
+    cc

@@ -1,5 +1,6 @@
-use Rattle.std.proofs.Common.{arith}
+use Rattle.std.proofs.Common.{}
 use Rattle.fk_kernel.proofs.Nodes.{still_counted}
+use Rattle.fk_kernel.proofs.Rooms.{still_room}
 use Rattle.fk_kernel.proofs.kernel.KernelOf.answer_call.Goals as goal
 
 pub invariant_of-self : goal.invariant_of-self
@@ -12,7 +13,7 @@ invariant_of-self g c =
       idle = old.idle;
       sorted = old.sorted;
       files = old.files;
-      releases = omega (arith, old.releases, c.answer-kept.ensures.room.requests);
+      releases = still_room old.releases c.answer-kept.ensures.room.requests;
       nodes = still_counted k.nodes k.queues.room.forgets
           c.answer-kept.new.self.room.forgets old.nodes c.answer-kept.ensures.room.forgets;
       clock_low = old.clock_low;

@@ -6,6 +6,7 @@ use Rattle.fk_kernel.proofs.Sound.{sound_begun_asking}
 use Rattle.fk_kernel.proofs.Nodes.{still_counted, sorted_put}
 use Rattle.fk_kernel.proofs.OpenFilesKept.{asking_files}
 use Rattle.fk_kernel.proofs.Rooms.{still_room, room_left, call_room}
+use Rattle.fk_kernel.proofs.StillSound.{more_answers, more_queued}
 use Rattle.fk_kernel.proofs.kernel.KernelOf.begin_asking.Goals as goal
 
 pub invariant_of-self-2 : goal.invariant_of-self-2
@@ -33,25 +34,12 @@ invariant_of-self-2 g c =
 
 pub invariant_of-self-in_err-reserve_request : goal.invariant_of-self-in_err-reserve_request
 invariant_of-self-in_err-reserve_request g c =
-    let k = c.self.inside in
-    let old = c.self.invariant in
     rw (c.reserve_request.ensures.state, c.reserve-2.ensures.entries, c.reserve.ensures.entries)
-    (record {
-      numbers = record {
-        calls_below = old.numbers.calls_below;
-        answers_below = old.numbers.answers_below;
-        apart = old.numbers.apart;
-        room = still_room old.numbers.room c.reserve.ensures.kept;
-        next =
-            old.numbers.next;
-      };
-      idle = old.idle;
-      sorted = old.sorted;
-      files = old.files;
-      releases = still_room old.releases c.reserve_request.ensures.kept.requests;
-      nodes =
-          still_counted k.nodes k.queues.room.forgets
-          c.reserve_request.new.queues.room.forgets old.nodes c.reserve_request.ensures.kept.forgets;
-      clock_low =
-          old.clock_low;
-    })
+    (more_queued (more_answers c.self.invariant c.reserve.ensures.kept) c.reserve_request.ensures.kept)
+
+pub invariant_of-self : goal.invariant_of-self
+invariant_of-self g c = rw c.reserve.ensures.entries (more_answers c.self.invariant c.reserve.ensures.kept)
+
+pub invariant_of-self-in_default-reserve : goal.invariant_of-self-in_default-reserve
+invariant_of-self-in_default-reserve g c = rw (c.reserve-2.ensures.entries, c.reserve.ensures.entries)
+    (more_answers c.self.invariant c.reserve.ensures.kept)

@@ -7,6 +7,7 @@ use Rattle.fk_kernel.proofs.OpenFilesKept.{some_not_none, shut_files, numbered_f
 use Rattle.fk_kernel.proofs.Nodes.{still_counted}
 use Rattle.fk_kernel.proofs.Sound.{sound_begun_answered, gone_absent}
 use Rattle.fk_kernel.proofs.Rooms.{still_room, room_left, answer_room, itself}
+use Rattle.fk_kernel.proofs.StillSound.{more_answers, more_queued}
 use Rattle.fk_kernel.proofs.kernel.KernelOf.close_idle.Goals as goal
 
 pub returns-then-numbers_left-eq0-clause-refusal : goal.returns-then-numbers_left-eq0-clause-refusal
@@ -77,3 +78,10 @@ returns-clause-begun g c =
       c.new.ensures,
       gone_absent k.calls.entries k.next_call fresh_inside,
     ) refl
+
+pub invariant_of-self : goal.invariant_of-self
+invariant_of-self g c = rw c.reserve.ensures.entries (more_answers c.self.invariant c.reserve.ensures.kept)
+
+pub invariant_of-self-in_err-reserve_request : goal.invariant_of-self-in_err-reserve_request
+invariant_of-self-in_err-reserve_request g c = rw (c.reserve_request.ensures.state, c.reserve.ensures.entries)
+    (more_queued (more_answers c.self.invariant c.reserve.ensures.kept) c.reserve_request.ensures.kept)

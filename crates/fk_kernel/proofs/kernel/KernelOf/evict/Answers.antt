@@ -1,5 +1,6 @@
-use Rattle.std.proofs.Common.{arith}
+use Rattle.std.proofs.Common.{}
 use Rattle.fk_kernel.proofs.Evicted.{evicted_counted, is_there}
+use Rattle.fk_kernel.proofs.Rooms.{still_room}
 use Rattle.fk_kernel.proofs.kernel.KernelOf.evict.Goals as goal
 
 pub invariant_of-self : goal.invariant_of-self
@@ -12,7 +13,7 @@ invariant_of-self g c =
       idle = old.idle;
       sorted = old.sorted;
       files = old.files;
-      releases = omega (arith, old.releases, c.forget.ensures.requests_room);
+      releases = still_room old.releases c.forget.ensures.requests_room;
       nodes =
           evicted_counted c.self.inside.nodes c.args.node c.self.inside.queues.room.forgets
           c.forget.new.self.room.forgets old.nodes there c.forget.ensures.forgets_room;

@@ -5,10 +5,11 @@ use Rattle.fuse_spec.specs.Files.Operations.{create}
 use Rattle.fuse_spec.specs.Kernel.QueueCalls.{waiting}
 use Rattle.fuse_spec.specs.Calls.Vfs.{doing}
 use Rattle.fk_kernel.proofs.OpenFilesKept.{some_not_none, opened_files}
-use Rattle.fk_kernel.proofs.Nodes.{looked_up_counted, answered_is, sorted_gone}
+use Rattle.fk_kernel.proofs.Nodes.{alike, looked_up_counted, answered_is, sorted_gone}
 use Rattle.fk_kernel.proofs.Replied.{create_made}
 use Rattle.fk_kernel.proofs.Sound.{sound_answered}
 use Rattle.fk_kernel.proofs.Rooms.{still_room, one_more_fits, until_is}
+use Rattle.fk_kernel.proofs.StillSound.{more_queued}
 use Rattle.fk_kernel.proofs.kernel.KernelOf.file_is_made.Goals as goal
 
 pub bind_entry-requires-clause-names_one : goal.bind_entry-requires-clause-names_one
@@ -79,3 +80,15 @@ returns-clause-ok g c =
 pub bind_entry-requires-clause-fits : goal.bind_entry-requires-clause-fits
 bind_entry-requires-clause-fits g c = λ x at.
     one_more_fits (c.self.invariant.nodes.below.below c.args.entry.now.nodeid x at)
+
+pub invariant_of-self : goal.invariant_of-self
+invariant_of-self g c = rw c.reserve.ensures.entries c.self.invariant
+
+pub invariant_of-self-in_err-bind_entry : goal.invariant_of-self-in_err-bind_entry
+invariant_of-self-in_err-bind_entry g c =
+    rw (c.bind_entry.ensures.state, c.in_err-bind_entry.ensures.err_nodes, c.in-Ok.ensures.entries)
+    (more_queued c.self.invariant c.bind_entry.ensures.kept)
+
+pub bind_entry-requires-clause-alike : goal.bind_entry-requires-clause-alike
+bind_entry-requires-clause-alike g c =
+    alike c.self.inside.nodes c.args.entry.now (rw (← c.self.view_is) at c.requires.usable)

@@ -1,4 +1,4 @@
-use Rattle.std.proofs.Common.{◌≡◌, true, Some, refl, ap, arith}
+use Rattle.std.proofs.Common.{◌≡◌, true, Some, refl, ap}
 use Rattle.std.specs.Prelude.{is_some}
 use Rattle.fuse_spec.specs.Values.Maps.{get}
 use Rattle.fuse_spec.specs.Files.Operations.{opening}
@@ -8,12 +8,12 @@ use Rattle.fk_kernel.proofs.OpenFilesKept.{some_not_none, opened_files}
 use Rattle.fk_kernel.proofs.Nodes.{still_counted, answered_is, sorted_gone}
 use Rattle.fk_kernel.proofs.Replied.{open_done}
 use Rattle.fk_kernel.proofs.Sound.{sound_answered}
+use Rattle.fk_kernel.proofs.Rooms.{still_room}
 use Rattle.fk_kernel.proofs.kernel.KernelOf.file_is_open.Goals as goal
 
 pub invariant_of-self-2 : goal.invariant_of-self-2
 invariant_of-self-2 g c =
     let k = c.self.inside in
-    let s = k.queues.queues in
     let old = c.self.invariant in
     let here : get k.calls.entries c.args.call ≡ Some (doing (opening c.requires.opens.node)) =
     rw (← c.self.view_is) at c.requires.opens.is in
@@ -30,7 +30,7 @@ invariant_of-self-2 g c =
       idle = λ down. rw (old.idle down) refl;
       sorted = sorted_gone k.calls.entries c.args.call old.sorted;
       files = opened_files k.calls.entries k.opens.entries k.closing.entries k.next_call old.files old.numbers.calls_below c.args.call (record { nodeid = c.node_opened-nodeid.result; fh = c.args.fh }) there;
-      releases = omega (arith, old.releases, c.answer-kept.ensures.room.requests);
+      releases = still_room old.releases c.answer-kept.ensures.room.requests;
       nodes = still_counted k.nodes k.queues.room.forgets
           c.answer-kept.new.self.room.forgets old.nodes c.answer-kept.ensures.room.forgets;
       clock_low = old.clock_low;

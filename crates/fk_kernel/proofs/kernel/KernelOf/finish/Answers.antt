@@ -1,9 +1,10 @@
-use Rattle.std.proofs.Common.{refl, arith}
+use Rattle.std.proofs.Common.{refl}
 use Rattle.fk_syscalls.specs.Values.{answer_of}
 use Rattle.fk_kernel.proofs.Nodes.{sorted_gone}
 use Rattle.fk_kernel.proofs.Sound.{sound_answered, there_is, length_gone}
 use Rattle.fk_kernel.proofs.OpenFilesKept.{answered_files}
 use Rattle.fuse_spec.specs.Values.Maps.{get}
+use Rattle.fk_kernel.proofs.Rooms.{some_room}
 use Rattle.fk_kernel.proofs.kernel.KernelOf.finish.Goals as goal
 
 pub answer-requires-clause-absent : goal.answer-requires-clause-absent
@@ -16,7 +17,7 @@ pub answer-requires-clause-room : goal.answer-requires-clause-room
 answer-requires-clause-room g c =
     let k = c.self.inside in
     let there = there_is (get k.calls.entries c.args.call) (rw (← c.self.view_is) at c.requires.unanswered) in
-    omega (arith, c.self.invariant.numbers.room, length_gone k.calls.entries c.args.call there)
+    some_room _ (length_gone k.calls.entries c.args.call there) c.self.invariant.numbers.room
 
 pub invariant_of-self : goal.invariant_of-self
 invariant_of-self g c =

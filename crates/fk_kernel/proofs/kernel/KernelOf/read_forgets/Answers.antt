@@ -1,5 +1,6 @@
-use Rattle.std.proofs.Common.{arith}
+use Rattle.std.proofs.Common.{}
 use Rattle.fk_kernel.proofs.Nodes.{still_counted}
+use Rattle.fk_kernel.proofs.Rooms.{still_room}
 use Rattle.fk_kernel.proofs.kernel.KernelOf.read_forgets.Goals as goal
 
 pub invariant_of-self : goal.invariant_of-self
@@ -11,7 +12,7 @@ invariant_of-self g c =
       idle = old.idle;
       sorted = old.sorted;
       files = old.files;
-      releases = omega (arith, old.releases, c.read_forgets-read.ensures.room.requests);
+      releases = still_room old.releases c.read_forgets-read.ensures.room.requests;
       nodes =
           still_counted c.self.inside.nodes c.self.inside.queues.room.forgets
           c.read_forgets-read.new.self.room.forgets old.nodes c.read_forgets-read.ensures.room.forgets;

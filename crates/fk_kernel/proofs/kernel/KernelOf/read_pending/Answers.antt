@@ -1,5 +1,6 @@
-use Rattle.std.proofs.Common.{arith}
+use Rattle.std.proofs.Common.{}
 use Rattle.fk_kernel.proofs.Nodes.{still_counted}
+use Rattle.fk_kernel.proofs.Rooms.{still_room}
 use Rattle.fk_kernel.proofs.kernel.KernelOf.read_pending.Goals as goal
 
 pub invariant_of-self : goal.invariant_of-self
@@ -12,6 +13,6 @@ invariant_of-self g c =
       nodes = still_counted c.self.inside.nodes c.self.inside.queues.room.forgets
           c.read_pending-unique.new.self.room.forgets old.nodes c.read_pending-unique.ensures.room.forgets;
       files = old.files;
-      releases = omega (arith, old.releases, c.read_pending-unique.ensures.room.requests);
+      releases = still_room old.releases c.read_pending-unique.ensures.room.requests;
       clock_low = old.clock_low;
     })

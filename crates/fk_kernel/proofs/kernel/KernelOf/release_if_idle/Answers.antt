@@ -1,4 +1,4 @@
-use Rattle.std.proofs.Common.{◌≡◌, true, false, Some, None, refl, sym, ap, ◌∙◌, arith}
+use Rattle.std.proofs.Common.{◌≡◌, true, false, Some, None, refl, sym, ap, ◌∙◌}
 use Rattle.std.specs.Prelude.{is_some}
 use Rattle.std.specs.List.{list_any}
 use Rattle.fuse_spec.specs.Kernel.Kernel.{is_using, is_used}
@@ -9,12 +9,11 @@ use Rattle.fk_kernel.proofs.Closes.{released_used, released_none, released_some}
 use Rattle.fk_kernel.proofs.OpenFilesKept.{some_not_none, released_files}
 use Rattle.fk_kernel.proofs.Nodes.{still_counted}
 use Rattle.fk_kernel.proofs.Sound.{gone_absent, length_gone}
+use Rattle.fk_kernel.proofs.Rooms.{room_left, some_room, still_room}
 use Rattle.fk_kernel.proofs.kernel.KernelOf.release_if_idle.Goals as goal
 
 pub returns-then-is_in_use : goal.returns-then-is_in_use
 returns-then-is_in_use g c =
-    let k = c.self.inside in
-    let old = c.self.invariant in
     let use_is = ap (λ (calls : Map (CallState Opened)). list_any (is_using c.args.open_call)
     (values calls)) c.rows.ensures in
     let used : is_used c.args.self.now c.args.open_call ≡ true =
@@ -25,17 +24,12 @@ pub invariant_of-self : goal.invariant_of-self
 invariant_of-self g c =
     let k = c.self.inside in
     let old = c.self.invariant in
-    let use_is = ap (λ (calls : Map (CallState Opened)). list_any (is_using c.args.open_call)
-    (values calls)) c.rows.ensures in
     let none : get k.closing.entries c.args.open_call ≡ None = sym c.remove.ensures.value ∙ c.in_default.is in
     rw (c.remove.ensures.entries, gone_absent k.closing.entries c.args.open_call none) old
 
 pub returns-in_default : goal.returns-in_default
 returns-in_default g c =
     let k = c.self.inside in
-    let old = c.self.invariant in
-    let use_is = ap (λ (calls : Map (CallState Opened)). list_any (is_using c.args.open_call)
-    (values calls)) c.rows.ensures in
     let none : get k.closing.entries c.args.open_call ≡ None = sym c.remove.ensures.value ∙ c.in_default.is in
     let none_now : get c.args.self.now.closing c.args.open_call ≡ None = rw (← c.self.view_is) none in
     rw (
@@ -49,17 +43,13 @@ pub enqueue-unique-requires-clause-room : goal.enqueue-unique-requires-clause-ro
 enqueue-unique-requires-clause-room g c =
     let k = c.self.inside in
     let old = c.self.invariant in
-    let use_is = ap (λ (calls : Map (CallState Opened)). list_any (is_using c.args.open_call)
-    (values calls)) c.rows.ensures in
     let there = some_not_none (get k.closing.entries c.args.open_call) c.in-Some.opened
     (sym c.remove.ensures.value ∙ c.in-Some.is) in
     let shorter = length_gone k.closing.entries c.args.open_call there in
-    omega (arith, old.releases, shorter)
+    some_room _ shorter old.releases
 
 pub enqueue-unique-requires-clause-number : goal.enqueue-unique-requires-clause-number
 enqueue-unique-requires-clause-number g c =
-    let k = c.self.inside in
-    let old = c.self.invariant in
     let use_is = ap (λ (calls : Map (CallState Opened)). list_any (is_using c.args.open_call)
     (values calls)) c.rows.ensures in
     let closed : is_some (get c.args.self.now.closing c.args.open_call) ≡ true =
@@ -72,8 +62,6 @@ pub invariant_of-self-2 : goal.invariant_of-self-2
 invariant_of-self-2 g c =
     let k = c.self.inside in
     let old = c.self.invariant in
-    let use_is = ap (λ (calls : Map (CallState Opened)). list_any (is_using c.args.open_call)
-    (values calls)) c.rows.ensures in
     let there = some_not_none (get k.closing.entries c.args.open_call) c.in-Some.opened
     (sym c.remove.ensures.value ∙ c.in-Some.is) in
     let shorter = length_gone k.closing.entries c.args.open_call there in
@@ -83,7 +71,7 @@ invariant_of-self-2 g c =
       idle = old.idle;
       sorted = old.sorted;
       files = released_files k.calls.entries k.opens.entries k.closing.entries k.next_call old.files c.args.open_call;
-      releases = omega (arith, old.releases, shorter, c.enqueue-unique.ensures.requests_room);
+      releases = room_left (still_room shorter old.releases) c.enqueue-unique.ensures.requests_room;
       nodes = still_counted k.nodes k.queues.room.forgets
           c.enqueue-unique.new.self.room.forgets old.nodes c.enqueue-unique.ensures.forgets_room;
       clock_low = old.clock_low;
@@ -91,8 +79,6 @@ invariant_of-self-2 g c =
 
 pub returns : goal.returns
 returns g c =
-    let k = c.self.inside in
-    let old = c.self.invariant in
     let use_is = ap (λ (calls : Map (CallState Opened)). list_any (is_using c.args.open_call)
     (values calls)) c.rows.ensures in
     let at : get c.args.self.now.closing c.args.open_call ≡ Some c.in-Some.opened =

@@ -1,4 +1,4 @@
-use Rattle.std.proofs.Common.{◌≡◌, ◌+◌, ℕ, List, [], ◌∷◌, Some, true≢false, refl, ap, sym, subst, ◌∙◌, arith}
+use Rattle.std.proofs.Common.{◌≡◌, ℕ, List, [], ◌∷◌, Some, true≢false, refl, ap, sym, subst, ◌∙◌}
 use Rattle.std.specs.Prelude.{is_some}
 use Rattle.fuse_spec.specs.declared.Opened.{Opened}
 use Rattle.fuse_spec.specs.declared.WriteResult.{WriteResult}
@@ -15,6 +15,7 @@ use Rattle.fk_kernel.proofs.Phases.{within_ends}
 use Rattle.fk_kernel.proofs.Replied.{lookup_found}
 use Rattle.fk_kernel.proofs.Walking.{asks_past}
 use Rattle.fk_kernel.proofs.CountersInRange.{walks_within}
+use Rattle.fk_kernel.proofs.Rooms.{some_same, until_is}
 use Rattle.fk_kernel.proofs.kernel.KernelOf.runs_out.Given as given
 use Rattle.fk_kernel.proofs.kernel.KernelOf.runs_out.Goals as goal
 
@@ -22,7 +23,7 @@ pub would_ask-requires : goal.would_ask-requires
 would_ask-requires g c =
     let stands = c.requires.looks_up in
     let is = stands.is in
-    let same : c.args.state.now ≡ walking stands.directory stands.word stands.words stands.plan = cc is in
+    let same : c.args.state.now ≡ walking stands.directory stands.word stands.words stands.plan = some_same is in
     subst IsWalking (sym same) tt
 
 -- whether it would ask is whether the machine's walk asks
@@ -33,14 +34,13 @@ walks_so : (g : given.Over) (c : goal.After-would_ask g) (directory : ℕ) (word
     ≡ c.would_ask.result
 walks_so g c directory word words plan stands =
     let k = c.self.inside in
-    let same : c.args.state.now ≡ walking directory word words plan = cc stands in
+    let same : c.args.state.now ≡ walking directory word words plan = some_same stands in
     let asks : ◌≡◌ {A = Operation ℕ Opened} (lookup c.in-Lookup.directory c.in-Lookup.name.now)
     (lookup directory word) = c.in-Lookup.ensures.operation ∙ ap asked same in
     let first : c.in-Lookup.directory ≡ directory = cc asks in
     let second : c.in-Lookup.name.now ≡ word = cc asks in
-    let low = c.self.invariant.clock_low in
-    let day = c.requires.day in
-    let until : c.saturating_add.result ≡ k.clock + c.args.valid_ms = omega (arith, c.saturating_add.ensures) in
+    let until = until_is k.clock c.args.valid_ms c.saturating_add.result c.self.invariant.clock_low c.requires.day
+    c.saturating_add.ensures in
     c.would_ask.ensures (bound c.args.self.now.vfs directory word
     (Some c.args.entry.now.nodeid) c.args.valid_ms) c.args.call directory word words plan
     (rw (← c.self.view_is, first, second, until) (record { names = refl; clock = refl; root = refl })) same

@@ -1,4 +1,4 @@
-use Rattle.std.proofs.Common.{◌≡◌, ◌≤◌, ◌+◌, [], ◌∷◌, length, true, false, Some, refl, ap, sym, subst, ◌∙◌, arith}
+use Rattle.std.proofs.Common.{◌≡◌, [], ◌∷◌, true, false, Some, refl, ap, sym, subst, ◌∙◌}
 use Rattle.std.specs.Prelude.{is_some}
 use Rattle.fuse_spec.specs.Values.Maps.{get}
 use Rattle.fuse_spec.specs.Kernel.QueueCalls.{waiting, without}
@@ -13,11 +13,13 @@ use Rattle.fuse_spec.specs.Calls.Vfs.{Vfs, Advance, walking, walks_on, bound, as
 use Rattle.fuse_spec.specs.declared.Opened.{Opened}
 use Rattle.fuse_spec.proofs.Tables.{get_gone_here}
 use Rattle.fuse_spec.specs.Kernel.Refusals.{is_kernel_past_end}
-use Rattle.fk_kernel.proofs.Nodes.{looked_up_counted, answered_is, still_counted, put_gone, length_again, sorted_put, sorted_gone}
+use Rattle.fk_kernel.proofs.Nodes.{alike, looked_up_counted, answered_is, still_counted, put_gone, length_again, sorted_put, sorted_gone}
 use Rattle.fk_kernel.proofs.Replied.{lookup_found}
 use Rattle.fk_kernel.proofs.Sound.{sound_answered, sound_walks, there_is}
 use Rattle.fk_kernel.proofs.Walking.{asked_left}
 use Rattle.fk_kernel.proofs.OpenFilesKept.{walking_files, answered_files}
+use Rattle.fk_kernel.proofs.Rooms.{still_room, room_left, some_same, one_more_fits, until_is}
+use Rattle.fk_kernel.proofs.StillSound.{more_queued}
 use Rattle.fk_kernel.proofs.kernel.KernelOf.walk_on.Goals as goal
 
 pub bind_entry-requires-clause-names_one : goal.bind_entry-requires-clause-names_one
@@ -36,7 +38,7 @@ advance-requires g c =
     let here : get k.calls.entries c.args.call ≡ Some (walking stands.directory stands.word stands.words stands.plan) =
     rw (← c.self.view_is) at stands.is in
     let state : c.in-Some.state ≡ walking stands.directory stands.word stands.words stands.plan =
-    cc (here, c.remove.ensures.value, c.in-Some.is) in
+    some_same (sym c.in-Some.is ∙ c.remove.ensures.value ∙ here) in
     subst IsWalking (sym state) tt
 
 pub enqueue-unique-requires-clause-number : goal.enqueue-unique-requires-clause-number
@@ -48,12 +50,10 @@ enqueue-unique-requires-clause-number g c =
     rw (← c.self.view_is) at stands.is in
     let waits : is_some (waiting s c.args.unique) ≡ true = rw (← c.self.view_is) at (ap is_some c.requires.waits) in
     let state : c.in-Some.state ≡ walking stands.directory stands.word stands.words stands.plan =
-    cc (here, c.remove.ensures.value, c.in-Some.is) in
+    some_same (sym c.in-Some.is ∙ c.remove.ensures.value ∙ here) in
     let now = c.args.self.now in
-    let low = c.self.invariant.clock_low in
-    let day = c.requires.day in
-    let until : c.saturating_add-until.result ≡ k.clock + c.args.valid_ms =
-    omega (arith, c.saturating_add-until.ensures) in
+    let until = until_is k.clock c.args.valid_ms c.saturating_add-until.result c.self.invariant.clock_low c.requires.day
+    c.saturating_add-until.ensures in
     let names = c.in_ok-bind_entry.ensures.names (walking stands.directory stands.word stands.words stands.plan)
     (stands.directory, stands.word) here refl in
     let vfs : Vfs Opened = bound now.vfs stands.directory stands.word (Some c.args.entry.now.nodeid) c.args.valid_ms in
@@ -82,35 +82,13 @@ put-requires-clause-absent g c = rw c.remove.ensures.entries (get_gone_here c.se
 pub invariant_of-self-in-Ask : goal.invariant_of-self-in-Ask
 invariant_of-self-in-Ask g c =
     let k = c.self.inside in
-    let s = k.queues.queues in
     let stands = c.requires.looks_up in
     let here : get k.calls.entries c.args.call ≡ Some (walking stands.directory stands.word stands.words stands.plan) =
     rw (← c.self.view_is) at stands.is in
-    let waits : is_some (waiting s c.args.unique) ≡ true = rw (← c.self.view_is) at (ap is_some c.requires.waits) in
-    let state : c.in-Some.state ≡ walking stands.directory stands.word stands.words stands.plan =
-    cc (here, c.remove.ensures.value, c.in-Some.is) in
-    let now = c.args.self.now in
-    let low = c.self.invariant.clock_low in
-    let day = c.requires.day in
-    let until : c.saturating_add-until.result ≡ k.clock + c.args.valid_ms =
-    omega (arith, c.saturating_add-until.ensures) in
-    let names = c.in_ok-bind_entry.ensures.names (walking stands.directory stands.word stands.words stands.plan)
-    (stands.directory, stands.word) here refl in
-    let vfs : Vfs Opened = bound now.vfs stands.directory stands.word (Some c.args.entry.now.nodeid) c.args.valid_ms in
-    let has : HasCachedNames vfs c.bind_entry.new.names.names k.clock =
-    rw (← c.self.view_is, names, until) (record { names = refl; clock = refl; root = refl }) in
-    let comes : walks_on vfs c.args.call c.args.entry.now.nodeid stands.words stands.plan
-    ≡ asking vfs c.args.call c.in-Ask.state =
-    c.advance.ensures vfs c.args.call stands.directory stands.word stands.words stands.plan has state ∙ ap
-    (comes_to vfs c.args.call) c.in-Ask.is in
     let old = c.self.invariant in
     let some : is_some (get k.calls.entries c.args.call) ≡ true = ap is_some here in
     let there = there_is (get k.calls.entries c.args.call) some in
-    let kept = c.answer-kept.ensures.room.forgets in
-    let reserved = c.in_ok-bind_entry.ensures.room in
-    let queued = c.enqueue-unique.ensures.forgets_room in
-    let room : length k.nodes + 1 ≤ c.answer-kept.new.self.room.forgets =
-    omega arith in
+    let room = still_room c.in_ok-bind_entry.ensures.room c.answer-kept.ensures.room.forgets in
     let fits = rw (← c.self.view_is) at c.requires.fits in
     let counted = looked_up_counted k.nodes k.queues.room.forgets
     c.answer-kept.new.self.room.forgets old.nodes room c.args.entry.now fits in
@@ -129,32 +107,22 @@ invariant_of-self-in-Ask g c =
       idle = λ down. absurd (there (ap (λ m. get m c.args.call) (old.idle down)));
       sorted = sorted_put k.calls.entries c.args.call c.in-Ask.state old.sorted;
       files = walking_files k.calls.entries k.opens.entries k.closing.entries k.next_call old.files c.args.call c.in-Ask.state there;
-      releases = omega (
-        arith,
-        c.in_ok-reserve_request.ensures.room,
-        c.bind_entry.ensures.kept.requests,
-        c.answer-kept.ensures.room.requests,
-        c.enqueue-unique.ensures.requests_room,
-      );
+      releases = room_left (still_room (still_room c.in_ok-reserve_request.ensures.room
+          c.bind_entry.ensures.kept.requests) c.answer-kept.ensures.room.requests) c.enqueue-unique.ensures.requests_room;
       nodes = still_counted _ c.answer-kept.new.self.room.forgets
-          c.enqueue-unique.new.self.room.forgets counted queued;
+          c.enqueue-unique.new.self.room.forgets counted c.enqueue-unique.ensures.forgets_room;
       clock_low = old.clock_low;
     })
 
 pub invariant_of-self-in-Answer : goal.invariant_of-self-in-Answer
 invariant_of-self-in-Answer g c =
     let k = c.self.inside in
-    let s = k.queues.queues in
     let stands = c.requires.looks_up in
     let here : get k.calls.entries c.args.call ≡ Some (walking stands.directory stands.word stands.words stands.plan) =
     rw (← c.self.view_is) at stands.is in
-    let waits : is_some (waiting s c.args.unique) ≡ true = rw (← c.self.view_is) at (ap is_some c.requires.waits) in
     let old = c.self.invariant in
     let there = there_is (get k.calls.entries c.args.call) (ap is_some here) in
-    let kept = c.answer-kept.ensures.room.forgets in
-    let reserved = c.in_ok-bind_entry.ensures.room in
-    let room : length k.nodes + 1 ≤ c.answer-kept.new.self.room.forgets =
-    omega arith in
+    let room = still_room c.in_ok-bind_entry.ensures.room c.answer-kept.ensures.room.forgets in
     let fits = rw (← c.self.view_is) at c.requires.fits in
     rw (
       c.answer-kept.ensures.state,
@@ -169,13 +137,8 @@ invariant_of-self-in-Answer g c =
       idle = λ down. absurd (there (ap (λ m. get m c.args.call) (old.idle down)));
       sorted = sorted_gone k.calls.entries c.args.call old.sorted;
       files = answered_files k.calls.entries k.opens.entries k.closing.entries k.next_call old.files c.args.call;
-      releases = omega (
-        arith,
-        old.releases,
-        c.reserve_request.ensures.kept.requests,
-        c.bind_entry.ensures.kept.requests,
-        c.answer-kept.ensures.room.requests,
-      );
+      releases = still_room (still_room (still_room old.releases c.reserve_request.ensures.kept.requests)
+          c.bind_entry.ensures.kept.requests) c.answer-kept.ensures.room.requests;
       nodes = looked_up_counted k.nodes k.queues.room.forgets
           c.answer-kept.new.self.room.forgets old.nodes room c.args.entry.now fits;
       clock_low = old.clock_low;
@@ -190,12 +153,10 @@ returns-in-Ask-clause-ok g c =
     rw (← c.self.view_is) at stands.is in
     let waits : is_some (waiting s c.args.unique) ≡ true = rw (← c.self.view_is) at (ap is_some c.requires.waits) in
     let state : c.in-Some.state ≡ walking stands.directory stands.word stands.words stands.plan =
-    cc (here, c.remove.ensures.value, c.in-Some.is) in
+    some_same (sym c.in-Some.is ∙ c.remove.ensures.value ∙ here) in
     let now = c.args.self.now in
-    let low = c.self.invariant.clock_low in
-    let day = c.requires.day in
-    let until : c.saturating_add-until.result ≡ k.clock + c.args.valid_ms =
-    omega (arith, c.saturating_add-until.ensures) in
+    let until = until_is k.clock c.args.valid_ms c.saturating_add-until.result c.self.invariant.clock_low c.requires.day
+    c.saturating_add-until.ensures in
     let names = c.in_ok-bind_entry.ensures.names (walking stands.directory stands.word stands.words stands.plan)
     (stands.directory, stands.word) here refl in
     let vfs : Vfs Opened = bound now.vfs stands.directory stands.word (Some c.args.entry.now.nodeid) c.args.valid_ms in
@@ -238,12 +199,10 @@ returns-in-Answer-clause-ok g c =
     rw (← c.self.view_is) at stands.is in
     let waits : is_some (waiting s c.args.unique) ≡ true = rw (← c.self.view_is) at (ap is_some c.requires.waits) in
     let state : c.in-Some.state ≡ walking stands.directory stands.word stands.words stands.plan =
-    cc (here, c.remove.ensures.value, c.in-Some.is) in
+    some_same (sym c.in-Some.is ∙ c.remove.ensures.value ∙ here) in
     let now = c.args.self.now in
-    let low = c.self.invariant.clock_low in
-    let day = c.requires.day in
-    let until : c.saturating_add-until.result ≡ k.clock + c.args.valid_ms =
-    omega (arith, c.saturating_add-until.ensures) in
+    let until = until_is k.clock c.args.valid_ms c.saturating_add-until.result c.self.invariant.clock_low c.requires.day
+    c.saturating_add-until.ensures in
     let names = c.in_ok-bind_entry.ensures.names (walking stands.directory stands.word stands.words stands.plan)
     (stands.directory, stands.word) here refl in
     let vfs : Vfs Opened = bound now.vfs stands.directory stands.word (Some c.args.entry.now.nodeid) c.args.valid_ms in
@@ -278,5 +237,13 @@ returns-in-Answer-clause-ok g c =
 
 pub bind_entry-requires-clause-fits : goal.bind_entry-requires-clause-fits
 bind_entry-requires-clause-fits g c = λ x at.
-    let low = c.self.invariant.nodes.below.below c.args.entry.now.nodeid x at in
-    omega (arith, low)
+    one_more_fits (c.self.invariant.nodes.below.below c.args.entry.now.nodeid x at)
+
+pub bind_entry-requires-clause-alike : goal.bind_entry-requires-clause-alike
+bind_entry-requires-clause-alike g c =
+    alike c.self.inside.nodes c.args.entry.now (rw (← c.self.view_is) at c.requires.usable)
+
+pub invariant_of-self-in_err-bind_entry : goal.invariant_of-self-in_err-bind_entry
+invariant_of-self-in_err-bind_entry g c =
+    rw (c.bind_entry.ensures.state, c.reserve_request.ensures.state, c.in_err-bind_entry.ensures.err_nodes)
+    (more_queued (more_queued c.self.invariant c.reserve_request.ensures.kept) c.bind_entry.ensures.kept)

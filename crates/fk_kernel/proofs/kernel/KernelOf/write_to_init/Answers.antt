@@ -1,4 +1,4 @@
-use Rattle.std.proofs.Common.{◌≡◌, true, false, true≢false, refl, sym, ap, ◌∙◌, arith}
+use Rattle.std.proofs.Common.{◌≡◌, true, false, true≢false, refl, sym, ap, ◌∙◌}
 use Rattle.std.specs.Prelude.{is_some}
 use Rattle.fk_wire.specs.declared.opcode.Opcode.TheVariants as op
 use Rattle.fuse_spec.specs.Kernel.QueueCalls.{waiting}
@@ -8,6 +8,7 @@ use Rattle.fk_kernel.proofs.Nodes.{still_counted, answered_is}
 use Rattle.fk_kernel.proofs.Replied.{init_agreed, init_aborts, init_unsaid}
 use Rattle.fuse_frames.proofs.ReplyCases.{says_to_init}
 use Rattle.fuse_frames.proofs.Sayings.{says_one}
+use Rattle.fk_kernel.proofs.Rooms.{still_room}
 use Rattle.fk_kernel.proofs.kernel.KernelOf.write_to_init.Goals as goal
 
 pub invariant_of-self : goal.invariant_of-self
@@ -22,7 +23,7 @@ invariant_of-self g c =
           c.answer-kept.new.self.room.forgets old.nodes c.answer-kept.ensures.room.forgets;
       files =
           old.files;
-      releases = omega (arith, old.releases, c.answer-kept.ensures.room.requests);
+      releases = still_room old.releases c.answer-kept.ensures.room.requests;
       clock_low =
           old.clock_low;
     })

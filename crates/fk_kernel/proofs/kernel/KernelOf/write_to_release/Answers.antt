@@ -1,4 +1,4 @@
-use Rattle.std.proofs.Common.{◌≡◌, true, refl, ap, ◌∙◌, arith}
+use Rattle.std.proofs.Common.{◌≡◌, true, refl, ap, ◌∙◌}
 use Rattle.std.specs.Prelude.{is_some}
 use Rattle.fk_wire.specs.declared.opcode.Opcode.TheVariants as op
 use Rattle.fuse_spec.specs.Kernel.QueueCalls.{waiting}
@@ -7,6 +7,7 @@ use Rattle.fk_kernel.proofs.Nodes.{still_counted, answered_is}
 use Rattle.fk_kernel.proofs.Replied.{release_is}
 use Rattle.fuse_frames.proofs.ReplyCases.{says_to_release}
 use Rattle.fuse_frames.proofs.Sayings.{says_read, says_nothing}
+use Rattle.fk_kernel.proofs.Rooms.{still_room}
 use Rattle.fk_kernel.proofs.kernel.KernelOf.write_to_release.Goals as goal
 
 pub invariant_of-self : goal.invariant_of-self
@@ -19,7 +20,7 @@ invariant_of-self g c =
       idle = old.idle;
       sorted = old.sorted;
       files = old.files;
-      releases = omega (arith, old.releases, c.answer-kept.ensures.room.requests);
+      releases = still_room old.releases c.answer-kept.ensures.room.requests;
       nodes = still_counted k.nodes k.queues.room.forgets
           c.answer-kept.new.self.room.forgets old.nodes c.answer-kept.ensures.room.forgets;
       clock_low = old.clock_low;
@@ -35,7 +36,7 @@ invariant_of-self-2 g c =
       idle = old.idle;
       sorted = old.sorted;
       files = old.files;
-      releases = omega (arith, old.releases, c.answer-kept.ensures.room.requests);
+      releases = still_room old.releases c.answer-kept.ensures.room.requests;
       nodes = still_counted k.nodes k.queues.room.forgets
           c.answer-kept.new.self.room.forgets old.nodes c.answer-kept.ensures.room.forgets;
       clock_low = old.clock_low;
