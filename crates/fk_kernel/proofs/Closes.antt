@@ -103,6 +103,24 @@ module _ (k : Kernel) (open_call : ℕ) (file : Opened) (going : is_aborted k.ph
     used_unrefused used high = unrefused _ _ _ ready full
         (ap is_kernel_past_end (closes_in_use used) ∙ none_past_end k.queues.next (k.vfs.next_call + 1) high (omega arith))
 
+-- A close of no open file fails.
+module _ (k : Kernel) (open_call : ℕ) (going : is_aborted k.phase ≡ false)
+    (not_open : get k.vfs.opens open_call ≡ None) where
+  pub closes_none : call_begun k (call.close open_call)
+      ≡ record k { vfs = answered (numbered k.vfs) k.vfs.next_call (answer.failed 9) }
+  closes_none = rw (going, not_open) refl
+
+  pub none_unrefused : is_ready k.phase ≡ true → length k.vfs.calls < 64 → k.vfs.next_call < 2 ^ 62
+      → k.queues.next ≤ 2 ^ 62 → begun_refusal k (call.close open_call) ≡ None
+  none_unrefused ready few low high =
+      let full : nat_le 64 (length k.vfs.calls) ≡ false = grind (arith, nat_tests, few) in
+      unrefused _ _ _ ready full
+      (ap is_kernel_past_end closes_none ∙ none_past_end k.queues.next (k.vfs.next_call + 1) high (omega arith))
+
+  pub closed_none : (new : Kernel) → new.vfs ≡ answered (numbered k.vfs) k.vfs.next_call (answer.failed 9)
+      → new ≡ record k { vfs = new.vfs } → new ≡ call_begun k (call.close open_call)
+  closed_none new vfs same = same ∙ ap (λ (v : Vfs Opened). record k { vfs = v }) vfs ∙ sym closes_none
+
 -- a closed file that is used waits, and one that is not is let go
 module _ (k : Kernel) (open_call : ℕ) where
   abbrev by_use : Bool → Opened → Kernel

@@ -1,5 +1,5 @@
--- The kernel stays sound as room grows.
-use Rattle.std.proofs.Common.{ℕ, ◌≤◌}
+-- The kernel stays sound as room grows, and as a forget is queued.
+use Rattle.std.proofs.Common.{ℕ, ◌+◌, ◌≤◌, length}
 use Rattle.fuse_spec.specs.Values.Maps.{Map}
 use Rattle.fuse_spec.specs.Kernel.Queues.{QueueState}
 use Rattle.fuse_spec.specs.Calls.Vfs.{CallState}
@@ -10,7 +10,7 @@ use Rattle.fuse_spec.specs.declared.Purpose.{Purpose}
 use Rattle.fk_queues.specs.Room.{Room, KeepsRoom}
 use Rattle.fk_kernel.specs.Soundness.{IsSoundKernel}
 use Rattle.fk_kernel.proofs.Nodes.{still_counted}
-use Rattle.fk_kernel.proofs.Rooms.{still_room}
+use Rattle.fk_kernel.proofs.Rooms.{still_room, room_left}
 
 module _ {W : Type 0} {phase : Phase} {calls : Map (CallState Opened)} {answers : Map W} {free coming : ℕ}
     {opens closing : Map Opened} {queues : QueueState Purpose} {space : Room} {known : Map Counted} {clock : ℕ}
@@ -44,5 +44,19 @@ module _ {W : Type 0} {phase : Phase} {calls : Map (CallState Opened)} {answers 
     files = old.files;
     releases = still_room old.releases kept.requests;
     nodes = still_counted known space.forgets space'.forgets old.nodes kept.forgets;
+    clock_low = old.clock_low;
+  }
+
+  -- a forget is queued in room for one more
+  pub forget_queued : {more left : Room} {queues' : QueueState Purpose} → KeepsRoom space more
+      → length known + 1 ≤ more.forgets → more.requests ≤ left.requests → more.forgets ≤ left.forgets + 1
+      → IsSoundKernel phase calls answers free coming opens closing queues' left known clock
+  forget_queued kept room requests forgets = record {
+    numbers = old.numbers;
+    idle = old.idle;
+    sorted = old.sorted;
+    files = old.files;
+    releases = still_room (still_room old.releases kept.requests) requests;
+    nodes = record { below = old.nodes.below; room = room_left room forgets };
     clock_low = old.clock_low;
   }

@@ -91,6 +91,16 @@ pub(crate) fn looks_up<A: Allocator + Copy>(state: &CallState<A>) -> bool
     matches!(state.asks(), Operation::Lookup { .. })
 }
 
+/// The node of the file that a call that stands so opens.
+fn node_opened_by<A: Allocator + Copy>(state: &CallState<A>) -> u64
+    ensures { (node : ℕ) → state.now ≡ doing (opening node) → result ≡ node }
+{
+    let Operation::Open { node } = state.asks() else {
+        return 0;
+    };
+    node
+}
+
 impl<Q: QueueTable<Purpose> + Drop, C: CountTable<Heap = Q::Heap> + Drop> KernelOf<Q, C> {
     /// What a reply with an entry says reaches the call: it has to name a file that can be used.
     pub(crate) fn entry_found(
@@ -334,10 +344,7 @@ impl<Q: QueueTable<Purpose> + Drop, C: CountTable<Heap = Q::Heap> + Drop> Kernel
         let Some(waiting) = self.calls.get(call) else {
             return 0;
         };
-        let Operation::Open { node } = waiting.asks() else {
-            return 0;
-        };
-        node
+        node_opened_by(waiting)
     }
 
     /// The word that a call looks up is missing for so many milliseconds from now on, and the call is answered that no

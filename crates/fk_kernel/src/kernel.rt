@@ -9,6 +9,7 @@ ghost use Rattle.std.specs.Ordering.{nat_cmp};
 ghost use Rattle.fuse_spec.specs.World.Worlds.{first_kernel};
 ghost use Rattle.fk_kernel.specs.Refused.{mount_refusal};
 
+use crate::standing::{is_phase_aborted, is_phase_live, is_phase_ready};
 use fk_calls::StoredAnswer;
 use fk_dentry::Bindings;
 use fk_lookup_count::{CountTable, KernelNodes, ListCounts};
@@ -128,7 +129,7 @@ impl<Q: QueueTable<Purpose> + Drop, C: CountTable<Heap = Q::Heap> + Drop> Kernel
     pub(crate) fn is_live(&self) -> bool
         ensures { result ≡ is_live self.now.phase }
     {
-        matches!(self.phase, Phase::Starting | Phase::Ready)
+        is_phase_live(self.phase)
     }
 
     /// Whether a live mount has unanswered calls or open files.
@@ -141,13 +142,13 @@ impl<Q: QueueTable<Purpose> + Drop, C: CountTable<Heap = Q::Heap> + Drop> Kernel
     pub(crate) fn is_ready(&self) -> bool
         ensures { result ≡ is_ready self.now.phase }
     {
-        matches!(self.phase, Phase::Ready | Phase::Aborted)
+        is_phase_ready(self.phase)
     }
 
     pub(crate) fn is_aborted(&self) -> bool
         ensures { result ≡ is_aborted self.now.phase }
     {
-        matches!(self.phase, Phase::Aborted)
+        is_phase_aborted(self.phase)
     }
 
     /// Mounts anew: everything of the old mount is given up, without forgets, and INIT is queued. Until it is answered

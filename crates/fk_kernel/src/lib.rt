@@ -19,6 +19,7 @@ mod reading;
 mod refusing;
 mod replying;
 mod signals;
+mod standing;
 mod writing;
 
 pub use fk_syscalls::{Answer, Call, ListedName, ListedNames, Listing};

@@ -24,13 +24,13 @@ invariant_of-self g c =
 
 pub returns : goal.returns
 returns g c = rw (
-      ← c.self.view_is,
-      c.clear.ensures.entries,
-      c.answer_all.ensures,
-      c.rows.ensures,
-      c.abort.ensures,
-      c.clear-2.ensures.entries,
-      c.clear-3.ensures.entries,
-      c.clear-4.ensures,
-      c.clear-5.ensures,
-    ) refl
+  ← c.self.view_is,
+  c.clear.ensures.entries,
+  c.answer_all.ensures,
+  c.rows.ensures,
+  c.abort.ensures,
+  c.clear-2.ensures.entries,
+  c.clear-3.ensures.entries,
+  c.clear-4.ensures,
+  c.clear-5.ensures,
+) refl

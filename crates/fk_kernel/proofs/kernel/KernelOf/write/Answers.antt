@@ -1,4 +1,5 @@
-use Rattle.std.proofs.Common.{rules, ◌≡◌, ℕ, ◌-◌, Some, None, sym, ap, ◌∙◌}
+use Rattle.std.proofs.Common.{◌≡◌, ℕ, ◌-◌, Some, None, sym, ap, ◌∙◌}
+use Rattle.std.specs.Option.{option_copied}
 use Rattle.fuse_spec.specs.Kernel.QueueCalls.{waiting}
 use Rattle.fuse_spec.specs.declared.Purpose.TheVariants.{Init, Release, Call}
 use Rattle.fuse_spec.specs.Values.Maps.{get}
@@ -36,7 +37,8 @@ returns-in_default-waiting-clause-taken g c = λ head.
     let queues = c.self.inside.queues.queues in
     let unique = head_unique c.args.bytes.now in
     let same = c.in-Ok.ensures.ok.3 in
-    let at : waiting queues c.in-Ok.head.unique ≡ None = search rules in
+    let at : waiting queues c.in-Ok.head.unique ≡ None =
+    sym c.waiting.ensures ∙ ap option_copied c.in_default-waiting.is in
     let waits : waiting c.args.self.now.queues unique ≡ None =
     rw (← c.self.view_is) (ap (waiting queues) (sym same) ∙ at) in
     taken_even _ unique _ _ _ (even_test c.in-Ok.head.unique unique same c.if-head-eq1.false) None waits
@@ -47,7 +49,8 @@ returns-in-Init-clause-taken g c = λ head.
     let queues = c.self.inside.queues.queues in
     let unique = head_unique c.args.bytes.now in
     let same = c.in-Ok.ensures.ok.3 in
-    let at : waiting queues c.in-Ok.head.unique ≡ Some c.in-Some.purpose.now = search rules in
+    let at : waiting queues c.in-Ok.head.unique ≡ Some c.in-Some.purpose.now =
+    sym c.waiting.ensures ∙ ap option_copied c.in-Some.is in
     let waits : waiting c.args.self.now.queues unique ≡ Some Init =
     rw (← c.self.view_is) (ap (waiting queues) (sym same) ∙ at ∙ ap Some c.in-Init.is) in
     let say = c.write_to_init.ensures in
@@ -59,7 +62,8 @@ returns-in-Init-clause-taken g c = λ head.
 pub write_to_release-requires-clause-waits : goal.write_to_release-requires-clause-waits
 write_to_release-requires-clause-waits g c =
     let queues = c.self.inside.queues.queues in
-    let at : waiting queues c.in-Ok.head.unique ≡ Some c.in-Some.purpose.now = search rules in
+    let at : waiting queues c.in-Ok.head.unique ≡ Some c.in-Some.purpose.now =
+    sym c.waiting.ensures ∙ ap option_copied c.in-Some.is in
     (c.in-Release.field-0, rw (← c.self.view_is) (at ∙ ap Some c.in-Release.is))
 
 pub returns-in-Release-clause-taken : goal.returns-in-Release-clause-taken
@@ -67,7 +71,8 @@ returns-in-Release-clause-taken g c = λ head.
     let queues = c.self.inside.queues.queues in
     let unique = head_unique c.args.bytes.now in
     let same = c.in-Ok.ensures.ok.3 in
-    let at : waiting queues c.in-Ok.head.unique ≡ Some c.in-Some.purpose.now = search rules in
+    let at : waiting queues c.in-Ok.head.unique ≡ Some c.in-Some.purpose.now =
+    sym c.waiting.ensures ∙ ap option_copied c.in-Some.is in
     let waits : waiting c.args.self.now.queues unique ≡ Some (Release c.in-Release.field-0) =
     rw (← c.self.view_is) (ap (waiting queues) (sym same) ∙ at ∙ ap Some c.in-Release.is) in
     let say = c.write_to_release.ensures in
@@ -81,7 +86,8 @@ returns-in-Call-clause-refusal g c = λ head.
     let queues = c.self.inside.queues.queues in
     let unique = head_unique c.args.bytes.now in
     let same = c.in-Ok.ensures.ok.3 in
-    let at : waiting queues c.in-Ok.head.unique ≡ Some c.in-Some.purpose.now = search rules in
+    let at : waiting queues c.in-Ok.head.unique ≡ Some c.in-Some.purpose.now =
+    sym c.waiting.ensures ∙ ap option_copied c.in-Some.is in
     let waits : waiting c.args.self.now.queues unique ≡ Some (Call c.in-Call.call) =
     rw (← c.self.view_is) (ap (waiting queues) (sym same) ∙ at ∙ ap Some c.in-Call.is) in
     let awaits = awaited_even c.args.self.now unique (even_test c.in-Ok.head.unique unique same c.if-head-eq1.false)
@@ -93,7 +99,8 @@ returns-in-Call-clause-taken g c = λ head.
     let queues = c.self.inside.queues.queues in
     let unique = head_unique c.args.bytes.now in
     let same = c.in-Ok.ensures.ok.3 in
-    let at : waiting queues c.in-Ok.head.unique ≡ Some c.in-Some.purpose.now = search rules in
+    let at : waiting queues c.in-Ok.head.unique ≡ Some c.in-Some.purpose.now =
+    sym c.waiting.ensures ∙ ap option_copied c.in-Some.is in
     let waits : waiting c.args.self.now.queues unique ≡ Some (Call c.in-Call.call) =
     rw (← c.self.view_is) (ap (waiting queues) (sym same) ∙ at ∙ ap Some c.in-Call.is) in
     let awaits = awaited_even c.args.self.now unique (even_test c.in-Ok.head.unique unique same c.if-head-eq1.false)
@@ -106,7 +113,8 @@ returns-in-Call-clause-memory g c =
     let now = c.args.self.now in
     let unique = head_unique c.args.bytes.now in
     let same = c.in-Ok.ensures.ok.3 in
-    let at : waiting queues c.in-Ok.head.unique ≡ Some c.in-Some.purpose.now = search rules in
+    let at : waiting queues c.in-Ok.head.unique ≡ Some c.in-Some.purpose.now =
+    sym c.waiting.ensures ∙ ap option_copied c.in-Some.is in
     let waits : waiting now.queues unique ≡ Some (Call c.in-Call.call) =
     rw (← c.self.view_is) (ap (waiting queues) (sym same) ∙ at ∙ ap Some c.in-Call.is) in
     let awaits = awaited_even now unique (even_test c.in-Ok.head.unique unique same c.if-head-eq1.false)
@@ -121,7 +129,8 @@ returns-in-Call-clause-of_no_call g c = λ head none.
     let now = c.args.self.now in
     let unique = head_unique c.args.bytes.now in
     let same = c.in-Ok.ensures.ok.3 in
-    let at : waiting queues c.in-Ok.head.unique ≡ Some c.in-Some.purpose.now = search rules in
+    let at : waiting queues c.in-Ok.head.unique ≡ Some c.in-Some.purpose.now =
+    sym c.waiting.ensures ∙ ap option_copied c.in-Some.is in
     let waits : waiting now.queues unique ≡ Some (Call c.in-Call.call) =
     rw (← c.self.view_is) (ap (waiting queues) (sym same) ∙ at ∙ ap Some c.in-Call.is) in
     let awaits = awaited_even now unique (even_test c.in-Ok.head.unique unique same c.if-head-eq1.false)

@@ -1,4 +1,5 @@
-use Rattle.std.proofs.Common.{rules, ◌≡◌, None, Some, refl, sym, ap, subst, ◌∙◌}
+use Rattle.std.proofs.Common.{◌≡◌, None, Some, refl, sym, ap, subst, ◌∙◌}
+use Rattle.std.specs.Option.{option_copied}
 use Rattle.fuse_spec.specs.Kernel.QueueCalls.{waiting}
 use Rattle.fuse_spec.specs.declared.Purpose.TheVariants.{Init, Release, Call}
 use Rattle.fk_wire.specs.declared.opcode.Opcode.TheVariants as op
@@ -31,7 +32,8 @@ returns-in_default-waiting-clause-none g c = λ p.
     let now = c.args.self.now in
     let unique = head_unique c.args.bytes.now in
     let same = c.in-Ok.ensures.ok.3 in
-    let at : waiting queues c.in-Ok.head.unique ≡ None = search rules in
+    let at : waiting queues c.in-Ok.head.unique ≡ None =
+    sym c.waiting.ensures ∙ ap option_copied c.in_default-waiting.is in
     let waits : waiting now.queues unique ≡ None = rw (← c.self.view_is) (ap (waiting queues) (sym same) ∙ at) in
     let awaits = awaited_even now unique (even_test c.in-Ok.head.unique unique same c.if-head-eq1.false) None waits in
     nothing_passes now unique c.args.bytes.now (subst
@@ -43,7 +45,8 @@ returns-in-Init-clause-none g c = λ p.
     let now = c.args.self.now in
     let unique = head_unique c.args.bytes.now in
     let same = c.in-Ok.ensures.ok.3 in
-    let at : waiting queues c.in-Ok.head.unique ≡ Some c.in-Some.purpose.now = search rules in
+    let at : waiting queues c.in-Ok.head.unique ≡ Some c.in-Some.purpose.now =
+    sym c.waiting.ensures ∙ ap option_copied c.in-Some.is in
     let waits : waiting now.queues unique ≡ Some Init =
     rw (← c.self.view_is) (ap (waiting queues) (sym same) ∙ at ∙ ap Some c.in-Init.is) in
     let even = even_test c.in-Ok.head.unique unique same c.if-head-eq1.false in
@@ -58,7 +61,8 @@ returns-in-Release-clause-none g c = λ p.
     let now = c.args.self.now in
     let unique = head_unique c.args.bytes.now in
     let same = c.in-Ok.ensures.ok.3 in
-    let at : waiting queues c.in-Ok.head.unique ≡ Some c.in-Some.purpose.now = search rules in
+    let at : waiting queues c.in-Ok.head.unique ≡ Some c.in-Some.purpose.now =
+    sym c.waiting.ensures ∙ ap option_copied c.in-Some.is in
     let waits : waiting now.queues unique ≡ Some (Release c.in-Release.field-0) =
     rw (← c.self.view_is) (ap (waiting queues) (sym same) ∙ at ∙ ap Some c.in-Release.is) in
     let even = even_test c.in-Ok.head.unique unique same c.if-head-eq1.false in
@@ -72,7 +76,8 @@ returns-then-call_passes_end-clause-refused g c =
     let now = c.args.self.now in
     let unique = head_unique c.args.bytes.now in
     let same = c.in-Ok.ensures.ok.3 in
-    let at : waiting queues c.in-Ok.head.unique ≡ Some c.in-Some.purpose.now = search rules in
+    let at : waiting queues c.in-Ok.head.unique ≡ Some c.in-Some.purpose.now =
+    sym c.waiting.ensures ∙ ap option_copied c.in-Some.is in
     let waits : waiting now.queues unique ≡ Some (Call c.in-Call.call) =
     rw (← c.self.view_is) (ap (waiting queues) (sym same) ∙ at ∙ ap Some c.in-Call.is) in
     let awaits = awaited_even now unique (even_test c.in-Ok.head.unique unique same c.if-head-eq1.false)
@@ -86,7 +91,8 @@ returns-else-call_passes_end-clause-none g c = λ p.
     let now = c.args.self.now in
     let unique = head_unique c.args.bytes.now in
     let same = c.in-Ok.ensures.ok.3 in
-    let at : waiting queues c.in-Ok.head.unique ≡ Some c.in-Some.purpose.now = search rules in
+    let at : waiting queues c.in-Ok.head.unique ≡ Some c.in-Some.purpose.now =
+    sym c.waiting.ensures ∙ ap option_copied c.in-Some.is in
     let waits : waiting now.queues unique ≡ Some (Call c.in-Call.call) =
     rw (← c.self.view_is) (ap (waiting queues) (sym same) ∙ at ∙ ap Some c.in-Call.is) in
     let awaits = awaited_even now unique (even_test c.in-Ok.head.unique unique same c.if-head-eq1.false)
