@@ -1,3 +1,4 @@
+pub mod LookUps
 pub mod Forgets
 pub mod Frames
 pub mod Sound

@@ -146,6 +146,10 @@ module _ (s : Server) where
         omega (arith, are)
   ]
 
+-- what is as many as fit fits
+pub as_few : (n : ℕ) {m most : ℕ} → n ≡ m → m ≤ most → n ≤ most
+as_few n same fits = omega (arith, same, fits)
+
 -- room for more is room for less
 pub less_spare : {A : Type 0} (spare : ReplySpare A) (len names l n : ℕ) → HasSpare spare len names → l ≤ len
     → n ≤ names → HasSpare spare l n

@@ -1,18 +1,21 @@
 //! Held requests are performed.
 
-ghost use Rattle.std.specs.Prelude.{◌≡◌, ◌⊎◌, true, false, OnErr, IfOk, IfErr, IfSome, IfNone};
+ghost use Rattle.std.specs.Prelude.{◌≡◌, ◌⊎◌, ◌+◌, ◌<◌, ◌≤◌, true, false, OnOk, OnErr, IfOk, IfErr, IfSome, IfNone};
 ghost use Rattle.fuse_spec.specs.declared.Refusal.TheVariants.{NoMemory};
+ghost use Rattle.fs_files.specs.Replies.{HasSpare};
+ghost use Rattle.fs_files.specs.Values.{names_for, reply_room_for};
 ghost use Rattle.fs_server.specs.Effects.{PerformsHeld, RefusesHeld};
 ghost use Rattle.fs_server.specs.Steps.{CanPerform};
 
 use crate::replies::{KeptReply, SentCopy};
 use crate::server::{Done, ServerOf};
-use fs_files::{ReplySpare, copied, errno, framed};
+use fs_files::{Files, HeldRequest, ReplySpare, copied, errno, framed};
 use fs_nodes::NodeStore;
 use fuse_frames::{ReplyRoom, Sent};
 use fuse_spec::Refusal;
 use fuse_spec::limits::COUNTER_END;
-use std::alloc::AllocError;
+use fuse_tables::RisingTable;
+use std::alloc::{AllocError, Allocator};
 
 impl<S: NodeStore> ServerOf<S> {
     /// Why a held request cannot be performed, want of memory aside: `NoSuch` where none is held under the unique,
@@ -90,19 +93,18 @@ impl<S: NodeStore> ServerOf<S> {
         ensures err { OnErr result (self.new ≡ self.old) }
         ensures performed { IfOk result (λ done. PerformsHeld self.old unique done.errno done.sent self.new) }
     {
-        self.kept.reserve(1)?;
-        self.copies.reserve(1)?;
-        self.files.reserve()?;
+        reserve_reply(&mut self.kept, &mut self.copies, &mut self.files)?;
         let Some(held) = self.held.get(unique) else {
             unreachable!();
         };
-        let len = held.reply_len();
-        let names = held.reply_names();
-        let room = ReplyRoom::new(self.alloc, len)?;
-        let spare = ReplySpare::new(self.alloc, 0, names)?;
-        let spare_copy = ReplySpare::new(self.alloc, len, names)?;
+        let memory = memory_for(self.alloc, held)?;
         let file = self.files.unlinked_or_released(held);
         let outcome = self.files.answer(held, self.validity, self.minor)?;
+        let ReplyMemory {
+            room,
+            spare,
+            spare_copy,
+        } = memory;
         let number = self.next_copy;
         let reply = self
             .files
@@ -120,4 +122,52 @@ impl<S: NodeStore> ServerOf<S> {
             sent: Some(copy),
         })
     }
+}
+
+/// Memory for a reply: for its frame, for what it lists, and for its copy's list.
+#[derive(Drop)]
+struct ReplyMemory<A: Allocator> {
+    room: ReplyRoom<A>,
+    spare: ReplySpare<A>,
+    spare_copy: ReplySpare<A>,
+}
+
+/// Takes the memory for the reply to a held request.
+fn memory_for<A: Allocator + Copy>(
+    alloc: A,
+    held: &HeldRequest<A>,
+) -> Result<ReplyMemory<A>, AllocError>
+    ensures room { IfOk result (λ memory. 16 + reply_room_for held.now.body ≤ memory.room) }
+    ensures spare { IfOk result (λ memory. HasSpare memory.spare 0 (names_for held.now.body)) }
+    ensures spare_copy { IfOk result (λ memory.
+        HasSpare memory.spare_copy (reply_room_for held.now.body) (names_for held.now.body)) }
+{
+    let len = held.reply_len();
+    let names = held.reply_names();
+    Ok(ReplyMemory {
+        room: ReplyRoom::new(alloc, len)?,
+        spare: ReplySpare::new(alloc, 0, names)?,
+        spare_copy: ReplySpare::new(alloc, len, names)?,
+    })
+}
+
+/// Makes room for one more kept reply, for its first copy, and for what it gives.
+fn reserve_reply<S: NodeStore>(
+    kept: &mut RisingTable<KeptReply<S::Heap>, S::Heap>,
+    copies: &mut RisingTable<SentCopy<S::Heap>, S::Heap>,
+    files: &mut Files<S>,
+) -> Result<(), AllocError>
+    ensures kept { kept.new.entries ≡ kept.old.entries }
+    ensures copies { copies.new.entries ≡ copies.old.entries }
+    ensures tree { files.new.tree ≡ files.old.tree }
+    ensures nodes { files.new.nodes ≡ files.old.nodes }
+    ensures handles { files.new.handles ≡ files.old.handles }
+    ensures kept_room { OnOk result (0 < kept.new.room) }
+    ensures copy_room { OnOk result (0 < copies.new.room) }
+    ensures node_room { OnOk result (32 ≤ files.new.node_room) }
+    ensures open_room { OnOk result (0 < files.new.open_room) }
+{
+    kept.reserve(1)?;
+    copies.reserve(1)?;
+    files.reserve()
 }

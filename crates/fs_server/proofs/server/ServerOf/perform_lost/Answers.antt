@@ -1,10 +1,10 @@
-use Rattle.std.proofs.Common.{rules, ◌≡◌, true, Some, ◌∙◌}
-use Rattle.fuse_spec.specs.Values.Maps.{get}
+use Rattle.std.proofs.Common.{◌≡◌, true, ◌∙◌}
 use Rattle.fs_files.specs.Replies.{outcome_reply}
 use Rattle.fs_server.proofs.Served.{counts_of, numbers_of, performs_lost}
 use Rattle.fs_server.proofs.Outcomes.{errno_said}
 use Rattle.fs_server.proofs.Stays as stays
 use Rattle.fs_server.proofs.DiscardsUnheld.{but_said}
+use Rattle.fs_server.proofs.LookUps.{found}
 use Rattle.fs_server.proofs.server.ServerOf.perform_lost.Goals as goal
 
 pub invariant_of-self-2 : goal.invariant_of-self-2
@@ -18,7 +18,7 @@ pub returns-clause-performed : goal.returns-clause-performed
 returns-clause-performed g c =
     let s = c.self.inside in
     let h = c.in-Some.held.now in
-    let there : get s.held.entries c.args.unique ≡ Some h = search rules in
+    let there = found s.held.entries c.args.unique c.get.ensures c.in-Some.is in
     let gone : s.is_aborted ≡ true = rw (← c.self.view_is) at c.requires.aborted in
     let can = rw (← c.self.view_is, gone) at c.requires.can in
     let none = counts_of s.files s.held.entries s.kept.entries s.copies.entries s.next_copy s.validity s.minor c.args.unique h there true can in
@@ -38,7 +38,7 @@ pub answer-requires-clause-inodes : goal.answer-requires-clause-inodes
 answer-requires-clause-inodes g c =
     let s = c.self.inside in
     let h = c.in-Some.held.now in
-    let there : get s.held.entries c.args.unique ≡ Some h = search rules in
+    let there = found s.held.entries c.args.unique c.get.ensures c.in-Some.is in
     let gone : s.is_aborted ≡ true = rw (← c.self.view_is) at c.requires.aborted in
     let can = rw (← c.self.view_is, gone) at c.requires.can in
     (numbers_of s.files s.held.entries s.kept.entries s.copies.entries s.next_copy s.validity s.minor c.args.unique h there true can).inodes
@@ -47,7 +47,10 @@ pub answer-requires-clause-cookies : goal.answer-requires-clause-cookies
 answer-requires-clause-cookies g c =
     let s = c.self.inside in
     let h = c.in-Some.held.now in
-    let there : get s.held.entries c.args.unique ≡ Some h = search rules in
+    let there = found s.held.entries c.args.unique c.get.ensures c.in-Some.is in
     let gone : s.is_aborted ≡ true = rw (← c.self.view_is) at c.requires.aborted in
     let can = rw (← c.self.view_is, gone) at c.requires.can in
     (numbers_of s.files s.held.entries s.kept.entries s.copies.entries s.next_copy s.validity s.minor c.args.unique h there true can).cookies
+
+pub invariant_of-self : goal.invariant_of-self
+invariant_of-self g c = rw c.in_err-outcome.ensures.err c.self.invariant

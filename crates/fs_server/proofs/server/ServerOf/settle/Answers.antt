@@ -1,8 +1,8 @@
-use Rattle.std.proofs.Common.{rules, ◌≡◌, Some}
 use Rattle.fuse_spec.specs.Values.Maps.{get}
 use Rattle.fs_files.specs.Replies.{sent_wire}
 use Rattle.fs_server.proofs.Copied.{settles}
 use Rattle.fs_server.proofs.Stays.{settled, settled_files, unkept_copy}
+use Rattle.fs_server.proofs.LookUps.{found}
 use Rattle.fs_server.proofs.server.ServerOf.settle.Goals as goal
 
 pub invariant_of-self : goal.invariant_of-self
@@ -19,6 +19,6 @@ pub returns-clause-effect : goal.returns-clause-effect
 returns-clause-effect g c =
     let s = c.self.inside in
     let copy = c.in-Some.sent.now in
-    let there : get s.copies.entries c.args.copy ≡ Some copy = search rules in
+    let there = found s.copies.entries c.args.copy c.get.ensures c.in-Some.is in
     rw (← c.self.view_is, c.remove-settled.ensures.entries, c.drop_kept.ensures)
     (settles s.files c.settle_files.new.files s.held.entries s.kept.entries s.copies.entries s.next_copy s.validity s.minor s.is_aborted c.args.copy c.args.settled copy there (rw c.reply.ensures c.settle_files.ensures.settles))
