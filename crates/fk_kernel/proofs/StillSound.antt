@@ -34,9 +34,9 @@ module _ {W : Type 0} {phase : Phase} {calls : Map (CallState Opened)} {answers 
     clock_low = old.clock_low;
   }
 
-  -- there is room for more in the queues
-  pub more_queued : {space' : Room} → KeepsRoom space space'
-      → IsSoundKernel phase calls answers free coming opens closing queues space' known clock
+  -- there is as much room in the queues, or more, whatever is queued
+  pub more_queued : {queues' : QueueState Purpose} {space' : Room} → KeepsRoom space space'
+      → IsSoundKernel phase calls answers free coming opens closing queues' space' known clock
   more_queued {space'} kept = record {
     numbers = old.numbers;
     idle = old.idle;

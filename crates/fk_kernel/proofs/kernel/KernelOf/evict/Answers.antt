@@ -1,4 +1,3 @@
-use Rattle.std.proofs.Common.{}
 use Rattle.fk_kernel.proofs.Evicted.{evicted_counted, is_there}
 use Rattle.fk_kernel.proofs.Rooms.{still_room}
 use Rattle.fk_kernel.proofs.kernel.KernelOf.evict.Goals as goal

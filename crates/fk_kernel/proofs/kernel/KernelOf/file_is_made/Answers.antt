@@ -1,4 +1,4 @@
-use Rattle.std.proofs.Common.{◌≡◌, ◌≤◌, ◌+◌, length, true, Some, refl, ap, arith}
+use Rattle.std.proofs.Common.{◌≡◌, true, Some, refl, ap}
 use Rattle.std.specs.Prelude.{is_some}
 use Rattle.fuse_spec.specs.Values.Maps.{get}
 use Rattle.fuse_spec.specs.Files.Operations.{create}

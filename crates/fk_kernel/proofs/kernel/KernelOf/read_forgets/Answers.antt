@@ -1,20 +1,5 @@
-use Rattle.std.proofs.Common.{}
-use Rattle.fk_kernel.proofs.Nodes.{still_counted}
-use Rattle.fk_kernel.proofs.Rooms.{still_room}
+use Rattle.fk_kernel.proofs.StillSound.{more_queued}
 use Rattle.fk_kernel.proofs.kernel.KernelOf.read_forgets.Goals as goal
 
 pub invariant_of-self : goal.invariant_of-self
-invariant_of-self g c =
-    let old = c.self.invariant in
-    let queues = c.self.inside.queues.queues in
-    rw c.read_forgets-read.ensures.state (record {
-      numbers = old.numbers;
-      idle = old.idle;
-      sorted = old.sorted;
-      files = old.files;
-      releases = still_room old.releases c.read_forgets-read.ensures.room.requests;
-      nodes =
-          still_counted c.self.inside.nodes c.self.inside.queues.room.forgets
-          c.read_forgets-read.new.self.room.forgets old.nodes c.read_forgets-read.ensures.room.forgets;
-      clock_low = old.clock_low;
-    })
+invariant_of-self g c = more_queued c.self.invariant c.read_forgets-read.ensures.room

@@ -1,6 +1,6 @@
-use Rattle.std.proofs.Common.{◌≡◌, ℕ, true, false, Option, Some, None, slice_get, ap, sym, ◌∙◌, Bor}
+use Rattle.std.proofs.Common.{◌≡◌, ℕ, true, false, Some, None, slice_get, ap, sym, ◌∙◌, Bor}
 use Rattle.std.specs.Prelude.{is_some, option_map}
-use Rattle.fuse_spec.specs.Kernel.Kernel.{is_live, body_of}
+use Rattle.fuse_spec.specs.Kernel.Kernel.{is_live}
 use Rattle.fuse_spec.specs.Kernel.QueueCalls.{pending_at}
 use Rattle.fuse_spec.specs.declared.Purpose.{Purpose}
 use Rattle.fk_kernel.proofs.ForgetReads.{interrupt_pending, none_pending, asks_nothing, pending_unrefused}

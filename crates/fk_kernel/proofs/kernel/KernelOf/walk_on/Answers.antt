@@ -246,4 +246,5 @@ bind_entry-requires-clause-alike g c =
 pub invariant_of-self-in_err-bind_entry : goal.invariant_of-self-in_err-bind_entry
 invariant_of-self-in_err-bind_entry g c =
     rw (c.bind_entry.ensures.state, c.reserve_request.ensures.state, c.in_err-bind_entry.ensures.err_nodes)
-    (more_queued (more_queued c.self.invariant c.reserve_request.ensures.kept) c.bind_entry.ensures.kept)
+    (more_queued {queues = c.self.inside.queues.queues} (more_queued c.self.invariant c.reserve_request.ensures.kept)
+    c.bind_entry.ensures.kept)

@@ -1,5 +1,6 @@
-use Rattle.std.proofs.Common.{rules, ◌≡◌, true, cond, Some, ap, sym, subst, ◌∙◌}
+use Rattle.std.proofs.Common.{◌≡◌, true, cond, Some, ap, sym, subst, ◌∙◌}
 use Rattle.std.specs.Prelude.{is_some}
+use Rattle.std.specs.Option.{option_copied}
 use Rattle.fuse_spec.specs.declared.WriteResult.TheVariants.{Accepted, Invalid}
 use Rattle.fuse_spec.specs.Values.Maps.{get}
 use Rattle.fuse_spec.specs.Kernel.Replies.{reply_written}
@@ -12,6 +13,7 @@ use Rattle.fuse_frames.specs.ReplyDecoding.{lent_wire_of}
 use Rattle.fuse_frames.proofs.Sayings.{says_one}
 use Rattle.fk_kernel.proofs.Replied.{judged_op}
 use Rattle.fk_kernel.proofs.RepliesTaken.{taken_judged}
+use Rattle.fk_kernel.proofs.StillSound.{more_queued}
 use Rattle.fk_kernel.proofs.kernel.KernelOf.write_to_call.Goals as goal
 
 pub returns-in-Err-clause-refusal : goal.returns-in-Err-clause-refusal
@@ -25,7 +27,8 @@ pub returns-in-Ok-replied-clause-taken : goal.returns-in-Ok-replied-clause-taken
 returns-in-Ok-replied-clause-taken g c =
     let now = c.args.self.now in
     let state = c.in-Some.waiting.now in
-    let at : get c.self.inside.calls.entries c.args.call ≡ Some state = search rules in
+    let at : get c.self.inside.calls.entries c.args.call ≡ Some state =
+    sym c.get.ensures ∙ ap option_copied c.in-Some.is in
     let here : get now.vfs.calls c.args.call ≡ Some state = rw (← c.self.view_is) at in
     let o = asked_opcode (asks (asked state)) in
     let awaits : awaited_by_call (get now.vfs.calls c.args.call) ≡ reply_to o = ap awaited_by_call here in
@@ -47,3 +50,6 @@ returns-in-Err-replied-clause-refusal g c =
     let standing = awaited_by_call (get now.vfs.calls c.args.call) in
     subst (IsWriteRefusal now c.args.head.unique c.args.bytes.now standing) (sym c.in-Err-replied.ensures.refusal)
     (no_memory c.in-Ok.ensures.stays)
+
+pub invariant_of-self : goal.invariant_of-self
+invariant_of-self g c = more_queued c.self.invariant c.answer-kept.ensures.room

@@ -3,44 +3,18 @@ use Rattle.std.specs.Prelude.{is_some}
 use Rattle.fk_wire.specs.declared.opcode.Opcode.TheVariants as op
 use Rattle.fuse_spec.specs.Kernel.QueueCalls.{waiting}
 use Rattle.fk_kernel.specs.AwaitedReplies.{wrong_body}
-use Rattle.fk_kernel.proofs.Nodes.{still_counted, answered_is}
+use Rattle.fk_kernel.proofs.Nodes.{answered_is}
 use Rattle.fk_kernel.proofs.Replied.{release_is}
 use Rattle.fuse_frames.proofs.ReplyCases.{says_to_release}
 use Rattle.fuse_frames.proofs.Sayings.{says_read, says_nothing}
-use Rattle.fk_kernel.proofs.Rooms.{still_room}
+use Rattle.fk_kernel.proofs.StillSound.{more_queued}
 use Rattle.fk_kernel.proofs.kernel.KernelOf.write_to_release.Goals as goal
 
 pub invariant_of-self : goal.invariant_of-self
-invariant_of-self g c =
-    let k = c.self.inside in
-    let old = c.self.invariant in
-    rw c.answer-kept.ensures.state
-    (record {
-      numbers = old.numbers;
-      idle = old.idle;
-      sorted = old.sorted;
-      files = old.files;
-      releases = still_room old.releases c.answer-kept.ensures.room.requests;
-      nodes = still_counted k.nodes k.queues.room.forgets
-          c.answer-kept.new.self.room.forgets old.nodes c.answer-kept.ensures.room.forgets;
-      clock_low = old.clock_low;
-    })
+invariant_of-self g c = more_queued c.self.invariant c.answer-kept.ensures.room
 
 pub invariant_of-self-2 : goal.invariant_of-self-2
-invariant_of-self-2 g c =
-    let k = c.self.inside in
-    let old = c.self.invariant in
-    rw c.answer-kept.ensures.state
-    (record {
-      numbers = old.numbers;
-      idle = old.idle;
-      sorted = old.sorted;
-      files = old.files;
-      releases = still_room old.releases c.answer-kept.ensures.room.requests;
-      nodes = still_counted k.nodes k.queues.room.forgets
-          c.answer-kept.new.self.room.forgets old.nodes c.answer-kept.ensures.room.forgets;
-      clock_low = old.clock_low;
-    })
+invariant_of-self-2 g c = more_queued c.self.invariant c.answer-kept.ensures.room
 
 pub returns-in_default-clause-said : goal.returns-in_default-clause-said
 returns-in_default-clause-said g c = λ wire says. absurd
