@@ -1,8 +1,8 @@
 -- What kernel, server and links made of an event, on a sound world, is what the machine makes of it, and is a sound
 -- world again.
-use Rattle.std.proofs.Common.{◌≡◌, ◌≤◌, ℕ, ◌+◌, Bool, true, false, nat_lt, max, cond, List, [], ◌∷◌, ◌++◌, Option, Some, None, slice_get, refl, ap, sym, subst, ◌∙◌, arith}
+use Rattle.std.proofs.Common.{◌≡◌, ◌<◌, ◌≤◌, ◌⊎◌, inl, inr, ℕ, ◌+◌, Bool, true, false, nat_lt, max, cond, List, [], ◌∷◌, ◌++◌, Option, Some, None, slice_get, refl, ap, sym, subst, ◌∙◌, arith}
 use Rattle.std.specs.List.{remove as without}
-use Rattle.std.proofs.lemmas.Bool.{le-ltb}
+use Rattle.std.proofs.lemmas.Bool.{le-ltb, lt-ltb}
 use Rattle.std.proofs.lemmas.Option.{none-some, same_Some}
 use Rattle.fuse_spec.specs.declared.Minor.{Minor}
 use Rattle.fuse_spec.specs.declared.Counted.{Counted}
@@ -47,6 +47,15 @@ use Rattle.fw_world.proofs.Happening.{mounts, calls, reads, reads_forgets, takes
 pub day_at_most : (found_ms missing_ms : ℕ) → found_ms ≤ max_validity → missing_ms ≤ max_validity
     → nat_lt max_validity (max found_ms missing_ms) ≡ false
 day_at_most found_ms missing_ms f m = le-ltb max_validity (max found_ms missing_ms) (omega (arith, f, m))
+
+-- Times of which one is over a day.
+pub over_a_day : (found_ms missing_ms : ℕ)
+    → (max_validity < found_ms) ⊎ ((found_ms ≤ max_validity) × (max_validity < missing_ms))
+    → nat_lt max_validity (max found_ms missing_ms) ≡ true
+over_a_day found_ms missing_ms (inl found) =
+    lt-ltb max_validity (max found_ms missing_ms) (omega (arith, found))
+over_a_day found_ms missing_ms (inr (_, missing)) =
+    lt-ltb max_validity (max found_ms missing_ms) (omega (arith, missing))
 
 -- A reply has a first copy while the mount is not aborted, and has none after.
 has_copy : (aborted : Bool) (number unique : ℕ) (wire : WireReply) (copy : Sent)

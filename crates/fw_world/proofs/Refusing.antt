@@ -59,6 +59,11 @@ mount_refused w found_ms missing_ms minor day r judged choice may =
     let mounted : Stepped = Ok (event.mounted, after_mount w found_ms missing_ms minor) in
     rw day (unless_refused (is_busy w.kernel) refusal.Busy accepted mounted r judged (not_refused mounted r))
 
+pub mount_too_long : (w : World) (found_ms missing_ms : ℕ) (minor : Minor)
+    → nat_lt max_validity (max found_ms missing_ms) ≡ true
+    → RefusedWith w (event.mount found_ms missing_ms minor) refusal.BadTime
+mount_too_long w found_ms missing_ms minor long = inl (λ choice may. rw long refl)
+
 -- ---- a call
 
 pub call_refused : (w : World) (call : Call) (r : Refusal) → begin_refusal w.kernel call ≡ Some r

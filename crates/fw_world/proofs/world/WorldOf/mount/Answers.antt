@@ -1,10 +1,15 @@
 use Rattle.fuse_spec.specs.World.Events as event
 use Rattle.fk_kernel.specs.Refused.{mount_refusal}
 use Rattle.fw_world.proofs.WorldParts.{world_of}
-use Rattle.fw_world.proofs.EventEffects.{mounted, day_at_most}
-use Rattle.fw_world.proofs.Refusing.{mount_refused}
+use Rattle.fw_world.proofs.EventEffects.{mounted, day_at_most, over_a_day}
+use Rattle.fw_world.proofs.Refusing.{mount_refused, mount_too_long}
 use Rattle.fw_world.proofs.MemoryRefusals.{judged, mount_wanting}
 use Rattle.fw_world.proofs.world.WorldOf.mount.Goals as goal
+
+pub returns-then-found_ms-gt-MAX_VALIDITY-clause-refusal : goal.returns-then-found_ms-gt-MAX_VALIDITY-clause-refusal
+returns-then-found_ms-gt-MAX_VALIDITY-clause-refusal g c =
+    mount_too_long c.args.self.now c.args.found_ms c.args.missing_ms c.args.minor
+    (over_a_day c.args.found_ms c.args.missing_ms c.then-found_ms-gt-MAX_VALIDITY.either)
 
 pub returns-in-Err-clause-refusal : goal.returns-in-Err-clause-refusal
 returns-in-Err-clause-refusal g c =
