@@ -72,8 +72,12 @@ no_records plus (suc n) place bytes zero short long e = let k =
 no_records plus (suc n) place bytes (suc count) short long e =
     no_records plus n (record_end plus place bytes) bytes count short long e
 
+pub no_names_yet : (plus : Bool) (place : ℕ) (bytes : List ℕ) → NamesFrom plus 0 place bytes
+unfolding NamesFrom
+no_names_yet plus place bytes = tt
+
 -- what a count of records goes by
-pub ruleset counted_records = (none_yet, no_records, one_more, record_after)
+pub ruleset counted_records = (none_yet, no_names_yet, no_records, one_more, record_after)
 
 -- there is one number of records
 pub one_count : (plus : Bool) (a b place : ℕ) (bytes : List ℕ)
@@ -87,6 +91,23 @@ one_count plus (suc a) zero place bytes e = let k =
 one_count plus (suc a) (suc b) place bytes e = ap suc (one_count plus a b (record_end plus place bytes) bytes e)
 
 -- ---- names and times on the way
+
+-- the name of one record more
+next_name : (plus : Bool) (count place : ℕ) (bytes : List ℕ)
+    → NamesFrom plus (suc count) place bytes ↔ (NamesFrom plus count place bytes × IsRecordName
+    (name_at (record_place plus (end_from plus count place bytes)) bytes))
+unfolding NamesFrom end_from
+next_name plus zero place bytes = ((λ h. (tt, h.0)), (λ h. (h.1, tt)))
+next_name plus (suc count) place bytes =
+    let rest = next_name plus count (record_end plus place bytes) bytes in (
+      (λ h. ((h.0, (rest.0 h.1).0), (rest.0 h.1).1)),
+      (λ h. (h.0.0, rest.1 (h.0.1, h.1))),
+    )
+
+pub one_more_name : (plus : Bool) (count place : ℕ) (bytes : List ℕ)
+    → NamesFrom plus (count + 1) place bytes ↔ (NamesFrom plus count place bytes × IsRecordName
+    (name_at (record_place plus (end_from plus count place bytes)) bytes))
+one_more_name plus count place bytes = rw add-one (next_name plus count place bytes)
 
 pub first_name : (plus : Bool) (left place : ℕ) (bytes : List ℕ) → 0 < left
     → NamesFrom plus left place bytes ↔ (IsRecordName (name_at (record_place plus place) bytes)

@@ -7,7 +7,7 @@ ghost use Rattle.fk_wire.specs.Props.{NamesFrom-prop, TimesFrom-prop};
 use crate::entry::{Entry, entry_at};
 use crate::fault::WireFault;
 use crate::records::Dirent;
-use crate::walk::{count_records, first_record, have_names, have_times};
+use crate::walk::{count_records, first_record, have_times};
 
 /// A name in a directory and its file: `struct fuse_direntplus`.
 #[derive(Clone, Copy, Debug)]
@@ -39,13 +39,13 @@ impl<'a> RecordsPlus<'a> {
         requires { place ≤ length bytes.now }
         ensures { MatchResult result (λ r. AreRecordsPlus place bytes.now (pluses_in r)) (PlusFaultIs place bytes.now) }
     {
-        let Some(left) = count_records(bytes, place, true) else {
+        let Some((left, named)) = count_records(bytes, place, true) else {
             return Err(WireFault::Body);
         };
         if !have_times(bytes, place, left) {
             return Err(WireFault::Body);
         }
-        if !have_names(bytes, place, true, left) {
+        if !named {
             return Err(WireFault::Name);
         }
         Ok(RecordsPlus { bytes, place, left })
