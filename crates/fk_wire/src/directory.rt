@@ -19,6 +19,7 @@ use crate::walk::{is_record_name, padded_len};
 use std::alloc::Allocator;
 
 #[tactic(auto, using(std::proofs::Common::append_assoc))]
+#[inline(always)]
 fn put_dirent<A: Allocator>(out: &mut Vec<u8, A>, dirent: &Dirent<'_>)
     requires room { vec_len out.old + sizes (dirent_fields (dirent_content dirent.now) []) ≤ vec_capacity out.old }
     requires short { length dirent.now.name.now ≤ 255 }

@@ -92,6 +92,7 @@ impl<'a> Iterator for RecordsPlus<'a> {
 
     ghost remaining = { item_count pluses_in };
 
+    #[inline(always)]
     fn next(&mut self) -> Option<DirentPlus<'a>> {
         if self.left == 0 {
             return None;
