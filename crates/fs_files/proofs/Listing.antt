@@ -18,7 +18,7 @@ use Rattle.fk_wire.specs.declared.records.Records.{Records}
 use Rattle.fk_wire.proofs.Frames.{reads_back}
 use Rattle.fk_wire.proofs.OneReply.{counted_from, ends_beyond}
 use Rattle.fk_wire.proofs.RecordLists.{dirents_are_named, one_dirent_list, sizes_of_dirents}
-use Rattle.fuse_frames.specs.ReplyTies.{dirent_read, dirent_written as dirent_written, kind_of_type, type_of}
+use Rattle.fuse_frames.specs.ReplyTies.{dirent_read, dirent_written as dirent_written, kind_of_type, type_of, AreWritten}
 use Rattle.fuse_spec.specs.declared.Kind.{Kind}
 use Rattle.fuse_spec.specs.declared.Kind.TheVariants.{Directory, Regular, Other}
 use Rattle.fs_tree.specs.declared.listing.Record.{Record}
@@ -54,9 +54,9 @@ AreTyped ds = map dirent_written (map dirent_read ds) ≡ ds
 are_records : (ds : List DirentContent) (bytes : List ℕ) → AreTyped ds → HaveRecordNames ds → InRange (dirents ds)
     → bytes ≡ spellings (dirents ds) → AreRecordBytes bytes
 are_records ds bytes typed named fits is =
-    let reads = records_read ds bytes fits is in
-    let same = sym (dirents_are ds bytes reads) in
-    (subst (λ (xs : List DirentContent). AreRecords 0 bytes xs) same (named, reads), subst AreTyped same typed)
+    let same = sym (dirents_are ds bytes (records_read ds bytes fits is)) in
+    subst (λ (xs : List DirentContent). AreWritten xs bytes) same
+    (record { named = named; fit = fits; spelled = is; typed = typed })
 
 kind_back : (k : Kind) → kind_of_type (type_of k) ≡ k
 kind_back Directory = refl
@@ -98,7 +98,8 @@ IsOver bytes r = MatchOption r ((ds : List DirentContent) → AreRecords 0 bytes
     (λ p. AreRecords 0 bytes (records_in p))
 
 pub is_over : (bytes : List ℕ) (r : Option Records) → AreRecordBytes bytes → IsOver bytes r → IsSome r
-is_over bytes None h over = absurd (over (dirents_in bytes) h.0)
+is_over bytes None h over = absurd (over (dirents_in bytes)
+    (h.named, records_read (dirents_in bytes) bytes h.fit h.spelled))
 is_over bytes (Some p) h over = search rules
 
 pub over_are : (bytes : List ℕ) (r : Option Records) (p : Records) → IsOver bytes r → r ≡ Some p

@@ -1,21 +1,20 @@
 -- The names that the bytes of records list.
-use Rattle.std.specs.Prelude.{◌≡◌, ◌-◌, ℕ, List, Some, false, length, map}
+use Rattle.std.specs.Prelude.{◌-◌, ℕ, List, Some, false, length, map}
 use Rattle.fuse_spec.specs.Files.Operations.{Dirent, DirentPlus}
 use Rattle.fuse_spec.specs.declared.Entry.{Entry}
 use Rattle.fk_wire.specs.RecordEnds.{count_from}
 use Rattle.fk_wire.specs.Dirents.{DirentContent, dirents_from}
-use Rattle.fk_wire.specs.Records.{AreRecords, records_in}
+use Rattle.fk_wire.specs.Records.{records_in}
 use Rattle.fk_wire.specs.declared.records.Records.{Records}
-use Rattle.fuse_frames.specs.ReplyTies.{dirent_read, dirent_written, pairs_told}
+use Rattle.fuse_frames.specs.ReplyTies.{dirent_read, pairs_told, AreWritten}
 
 -- the records that these bytes are, if they are any
 abbrev pub dirents_in : List ℕ → List DirentContent
 dirents_in bytes = dirents_from (count_from (length bytes) false 0 bytes) 0 bytes
 
--- These bytes are records, whose types are those of kinds.
+-- These bytes are records, as they are written.
 abbrev pub AreRecordBytes : List ℕ → Type 0
-AreRecordBytes bytes = AreRecords 0 bytes (dirents_in bytes)
-    × (map dirent_written (map dirent_read (dirents_in bytes)) ≡ dirents_in bytes)
+AreRecordBytes bytes = AreWritten (dirents_in bytes) bytes
 
 -- a name with the file of its inode number, valid for so many milliseconds
 abbrev pub pair_listed : (valid : ℕ) → Dirent → DirentPlus ℕ

@@ -6,8 +6,8 @@ use Rattle.fk_wire.specs.declared.opcode.Opcode.{Opcode}
 use Rattle.fk_wire.specs.declared.opcode.Opcode.TheVariants as op
 use Rattle.fk_wire.specs.declared.entry.Attr.{Attr}
 use Rattle.fk_wire.specs.Entries.{EntryContent, missing, found, entry_of}
-use Rattle.fk_wire.specs.Dirents.{DirentContent, DirentPlusContent}
-use Rattle.fk_wire.specs.Fields.{sizes}
+use Rattle.fk_wire.specs.Dirents.{DirentContent, DirentPlusContent, HaveRecordNames, dirents}
+use Rattle.fk_wire.specs.Fields.{InRange, sizes, spellings}
 use Rattle.fk_wire.specs.Replies.{ReplyContent, empty_reply, entry_reply, attr_reply, open_reply, bytes_reply}
 use Rattle.fk_wire.specs.Replies.{write_reply, init_reply, create_reply, records_reply, plus_reply, ReplyMessage}
 use Rattle.fk_wire.specs.Replies.{GoesWith, SpellsReply, WrittenReply, IsErrorNumber, IsReplyContent, HasReplyNames}
@@ -124,6 +124,14 @@ type_of Other = 0
 
 abbrev pub dirent_written : Dirent → DirentContent
 dirent_written d = record { ino = d.ino; off = d.offset; kind = type_of d.kind; name = d.name }
+
+-- The bytes are these records as they are written, with zeros behind each name; each name is a record's, and each type
+-- that of a kind.
+pub record AreWritten (ds : List DirentContent) (bytes : List ℕ) : Type 0 where
+  pub named : HaveRecordNames ds
+  pub fit : InRange (dirents ds)
+  pub spelled : bytes ≡ spellings (dirents ds)
+  pub typed : map dirent_written (map dirent_read ds) ≡ ds
 
 -- A name in a list is written with the entry of its file, or with one that names none.
 abbrev pub written_entry_for : (valid : ℕ) → Option Entry → EntryContent

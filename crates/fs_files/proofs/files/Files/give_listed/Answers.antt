@@ -6,8 +6,11 @@ use Rattle.fuse_frames.specs.ReplyTies.{dirent_read}
 use Rattle.fs_files.specs.Giving.{GivenEach, generations_after}
 use Rattle.fs_files.specs.Listed.{pair_listed}
 use Rattle.fs_files.specs.Replies.{IsListable}
-use Rattle.fs_files.proofs.Listing.{over_are}
+use Rattle.fs_files.proofs.Listing.{is_over, over_are}
 use Rattle.fs_files.proofs.files.Files.give_listed.Goals as goal
+
+pub unwrap-requires : goal.unwrap-requires
+unwrap-requires g c = is_over c.args.records.now c.over.result c.requires.records c.over.ensures
 
 pub give_records-requires-clause-listable : goal.give_records-requires-clause-listable
 give_records-requires-clause-listable g c =

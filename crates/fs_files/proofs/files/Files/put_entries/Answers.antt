@@ -11,8 +11,11 @@ use Rattle.fs_files.specs.Numbering.{entries_named, entry_named}
 use Rattle.fuse_spec.specs.Files.Operations.{first_listed}
 use Rattle.fuse_spec.specs.Calls.Paths.{is_dots}
 use Rattle.fs_files.proofs.EntriesPut.{one_longer, one_on, files_longer, files_on}
-use Rattle.fs_files.proofs.Listing.{over_are}
+use Rattle.fs_files.proofs.Listing.{is_over, over_are}
 use Rattle.fs_files.proofs.files.Files.put_entries.Goals as goal
+
+pub unwrap-record-items-requires : goal.unwrap-record-items-requires
+unwrap-record-items-requires g c = is_over c.args.records.now c.over.result c.requires.records c.over.ensures
 
 pub records-init : goal.records-init
 records-init g c =

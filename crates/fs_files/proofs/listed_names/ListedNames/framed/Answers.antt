@@ -2,8 +2,12 @@ use Rattle.std.proofs.Common.{◌≡◌, List, length, map, sym, subst, ap, arit
 use Rattle.fk_wire.specs.Dirents.{DirentContent}
 use Rattle.fuse_spec.specs.declared.Entry.{Entry}
 use Rattle.fuse_frames.specs.ReplyTies.{dirent_read, dirent_written}
-use Rattle.fs_files.proofs.Listing.{over_are}
+use Rattle.fs_files.proofs.Listing.{is_over, over_are}
 use Rattle.fs_files.proofs.listed_names.ListedNames.framed.Goals as goal
+
+pub unwrap-records-requires : goal.unwrap-records-requires
+unwrap-records-requires g c = is_over c.args.self.now.records.items c.over.result c.args.self.now.are_records
+    (rw c.deref.ensures.value at c.over.ensures)
 
 pub listed_plus-requires-clause-together : goal.listed_plus-requires-clause-together
 listed_plus-requires-clause-together g c =
@@ -16,7 +20,7 @@ listed_plus-requires-clause-types g c =
     let same = over_are c.args.self.now.records.items c.over.result c.unwrap-records.result
     (rw c.deref.ensures.value at c.over.ensures) c.unwrap-records.ensures in
     subst (λ (ds : List DirentContent). map dirent_written (map dirent_read ds) ≡ ds)
-    (sym same.0) c.args.self.now.are_records.1
+    (sym same.0) c.args.self.now.are_records.typed
 
 pub listed_plus-requires-clause-room : goal.listed_plus-requires-clause-room
 listed_plus-requires-clause-room g c =
