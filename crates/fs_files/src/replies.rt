@@ -14,7 +14,7 @@ ghost use Rattle.fs_files.specs.Replies.{opened_in, sent_len, sent_names, sent_w
 use crate::listed_names::ListedNames;
 use crate::spare::ReplySpare;
 use bitflags::Flags;
-use fk_wire::{InitFlags, Records};
+use fk_wire::InitFlags;
 use fuse_frames::{Reply, ReplyFrame, ReplyRoom};
 use fuse_spec::{Entry, Minor};
 use std::alloc::Allocator;
@@ -208,5 +208,5 @@ fn listed<A: Allocator>(records: &[u8], room: ReplyRoom<A>, unique: u64) -> Repl
     requires room { 16 + length records.now ≤ room }
     ensures { result ≡ record { unique = unique; wire = reply.listed (map dirent_read (dirents_in records.now)) } }
 {
-    room.listed(unique, Records::over(records).unwrap())
+    room.listed(unique, records)
 }

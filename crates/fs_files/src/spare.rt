@@ -31,6 +31,14 @@ impl<A: Allocator + Copy> ReplySpare<A> {
     pub fn new(alloc: A, len: usize, names: usize) -> Result<Self, AllocError>
         ensures { IfOk result (λ spare. HasSpare spare len names) }
     {
+        // Most replies are of a fixed length.
+        if len == 0 && names == 0 {
+            return Ok(ReplySpare {
+                bytes: Vec::new(alloc),
+                entries: Vec::new(alloc),
+                file_entries: Vec::new(alloc),
+            });
+        }
         Ok(ReplySpare {
             bytes: Vec::with_capacity(alloc, len)?,
             entries: Vec::with_capacity(alloc, names)?,

@@ -4,5 +4,6 @@ pub mod PairLemmas
 pub mod ListedPairs
 pub mod Agreements
 pub mod Sayings
+mod WrittenRecords
 pub mod ReplyCases
 pub mod SaidWithin

@@ -80,17 +80,17 @@ impl<A: Allocator> ReplyFrame<A> {
         }
     }
 
-    /// The frame of a reply of READDIRPLUS under a unique, whose bytes are written. They are written as `message_of`
-    /// has it.
-    pub(crate) fn listing(unique: u64, bytes: Vec<u8, A>) -> ReplyFrame<A>
-        requires { (message : ReplyMessage) × GoesWith latest_minor Opcode.Readdirplus message
+    /// The frame of a reply to READDIR or READDIRPLUS under a unique, whose bytes are written. They are written as
+    /// `message_of` has it.
+    pub(crate) fn listing(opcode: Opcode, unique: u64, bytes: Vec<u8, A>) -> ReplyFrame<A>
+        requires { (message : ReplyMessage) × GoesWith latest_minor opcode message
             × WrittenReply message bytes.items × (message ≡ message_of (framed_by message))
             × (unique ≡ message.unique) }
-        ensures { (message : ReplyMessage) → GoesWith latest_minor Opcode.Readdirplus message
+        ensures { (message : ReplyMessage) → GoesWith latest_minor opcode message
             → WrittenReply message bytes.items → result ≡ framed_by message }
     {
         ReplyFrame {
-            opcode: Opcode::Readdirplus,
+            opcode,
             unique,
             bytes,
         }

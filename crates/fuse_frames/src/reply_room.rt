@@ -1,8 +1,8 @@
 //! Room for one reply.
 
 ghost use Rattle.std.specs.Int.RustNames.{bit_and};
-ghost use Rattle.std.specs.Prelude.{◌≡◌, ◌≢◌, ◌≤◌, ◌+◌, ◌*◌, ◌/◌, ◌%◌, pos, negsuc, ◌-◌, Some, IfOk, length, map};
-ghost use Rattle.fk_wire.specs.Dirents.{dirents};
+ghost use Rattle.std.specs.Prelude.{◌≡◌, ◌≢◌, ◌≤◌, ◌+◌, ◌*◌, ◌/◌, ◌%◌, List, pos, negsuc, ◌-◌, Some, IfOk, length, map};
+ghost use Rattle.fk_wire.specs.Dirents.{DirentContent, dirents};
 ghost use Rattle.fk_wire.specs.Fields.{sizes};
 ghost use Rattle.fk_wire.specs.Opcodes.{latest_minor};
 ghost use Rattle.fk_wire.specs.Records.{records_in};
@@ -10,7 +10,7 @@ ghost use Rattle.fk_wire.specs.Replies.{reply_body, reply_content, kind_of_conte
 ghost use Rattle.fk_wire.specs.Requests.{known_flags};
 ghost use Rattle.fuse_spec.specs.Values.Numbers.{max_transfer, max_validity};
 ghost use Rattle.fuse_spec.specs.Files.Operations as reply;
-ghost use Rattle.fuse_frames.specs.ReplyTies.{FitsRoom, reply_content_of, dirent_read, dirent_written, pairs_told, wire_body};
+ghost use Rattle.fuse_frames.specs.ReplyTies.{AreWritten, FitsRoom, reply_content_of, dirent_read, dirent_written, pairs_told, wire_body};
 ghost use Rattle.fuse_frames.specs.ReplyTies.{attr_of as attr_written};
 
 use crate::listing::put_listing;
@@ -127,15 +127,19 @@ impl<A: Allocator> ReplyRoom<A> {
         self.said(unique, Opcode::Read, ReplyBody::Bytes { bytes })
     }
 
-    /// The answer to READDIR: the records, for which there is room. The types are those of kinds (`type_of`).
-    #[tactic(auto, using(fk_wire::proofs::RecordLists::records_are_named))]
-    pub fn listed(self, unique: u64, records: Records<'_>) -> ReplyFrame<A>
-        requires types { map dirent_written (map dirent_read (records_in records)) ≡ records_in records }
-        requires room { 16 + sizes (dirents (records_in records)) ≤ self }
-        requires most { sizes (dirents (records_in records)) ≤ max_transfer }
-        ensures { result ≡ record { unique = unique; wire = reply.listed (map dirent_read (records_in records.entry)) } }
+    /// The answer to READDIR: the bytes of its records, for which there is room. They are written with zeros behind each
+    /// name, and their types are those of kinds (`type_of`).
+    pub fn listed(self, unique: u64, records: &[u8]) -> ReplyFrame<A>
+        requires written { (ds : List DirentContent) × AreWritten ds records.now }
+        requires room { 16 + length records.now ≤ self }
+        requires most { length records.now ≤ max_transfer }
+        ensures { (ds : List DirentContent) → AreWritten ds records.now
+            → result ≡ record { unique = unique; wire = reply.listed (map dirent_read ds) } }
     {
-        self.said(unique, Opcode::Readdir, ReplyBody::Records { records })
+        let mut bytes = self.bytes;
+        put_listing_head(&mut bytes, unique, records.len());
+        bytes.extend_from_slice(records).unwrap();
+        ReplyFrame::listing(Opcode::Readdir, unique, bytes)
     }
 
     /// The answer to READDIRPLUS: the records, for which there is room, each with the entry of its name's file, or with
@@ -163,7 +167,7 @@ impl<A: Allocator> ReplyRoom<A> {
         let size = 128 * entries.len() + records.byte_len();
         put_listing_head(&mut bytes, unique, size);
         put_listing(&mut bytes, entries, records, found_ms);
-        ReplyFrame::listing(unique, bytes)
+        ReplyFrame::listing(Opcode::Readdirplus, unique, bytes)
     }
 
     /// The answer to WRITE: how many bytes were written.
