@@ -9,7 +9,7 @@ ghost use Rattle.std.specs.Ordering.{nat_cmp};
 ghost use Rattle.fuse_spec.specs.World.Worlds.{first_kernel};
 ghost use Rattle.fk_kernel.specs.Refused.{mount_refusal};
 
-use crate::standing::{is_phase_aborted, is_phase_live, is_phase_ready};
+use crate::phase::{is_phase_aborted, is_phase_live, is_phase_ready};
 use fk_calls::StoredAnswer;
 use fk_dentry::Bindings;
 use fk_lookup_count::{CountTable, KernelNodes, ListCounts};

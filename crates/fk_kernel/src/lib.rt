@@ -12,6 +12,7 @@ mod evict;
 mod kernel;
 mod listing;
 mod open_files;
+mod phase;
 mod pick;
 mod queue_room;
 mod read_forgets;
@@ -19,7 +20,6 @@ mod reading;
 mod refusing;
 mod replying;
 mod signals;
-mod standing;
 mod writing;
 
 pub use fk_syscalls::{Answer, Call, ListedName, ListedNames, Listing};
