@@ -65,6 +65,20 @@ pub fn word_of_kind(kind: Kind) -> &'static str
     }
 }
 
+/// Puts the kind of a file, in one word, before a text.
+#[inline(always)]
+pub(crate) fn put_kind_word(text: &mut ShortText, kind: Kind)
+    requires { length text.old ≤ 100 }
+    ensures text { text.new ≡ kind_word kind ++ text.old }
+    ensures room { length text.new ≤ 14 + length text.old }
+{
+    match kind {
+        Kind::Directory => text.put(b"dir"),
+        Kind::Regular => text.put(b"file"),
+        Kind::Other => text.put(b"other"),
+    }
+}
+
 /// The number of a refusal.
 pub fn number_of_refusal(refusal: Refusal) -> u8
     ensures { result ≡ refusal_number refusal }
@@ -238,6 +252,6 @@ pub(crate) fn put_attributes(text: &mut ShortText, attributes: Attributes)
     put_spaced_number(text, u64::from(nlink));
     put_spaced_number(text, size);
     put_spaced_number(text, ino);
-    text.put(word_of_kind(kind).as_bytes());
+    put_kind_word(text, kind);
     text.put(b"0 ");
 }

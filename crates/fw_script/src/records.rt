@@ -13,7 +13,7 @@ ghost use Rattle.fw_script.specs.Records.{shown_byte};
 use crate::hex_text::{write_hex, write_hex_or_none};
 use crate::output::{OutputRefused, write_text};
 use crate::print::{
-    name_of_refusal, number_of_refusal, put_attributes, put_outcome_line, word_of_kind,
+    name_of_refusal, number_of_refusal, put_attributes, put_kind_word, put_outcome_line,
 };
 use crate::short_text::ShortText;
 use fw_world::{Answer, Attributes, Kind, ListedName, Listing, Outcome, Record, Refusal};
@@ -62,7 +62,7 @@ fn put_place(text: &mut ShortText, offset: u64, kind: Kind)
     ensures text { text.new ≡ codes ":" ++ decimal offset ++ codes ":" ++ kind_word kind }
     ensures room { length text.new ≤ 36 }
 {
-    text.put(word_of_kind(kind).as_bytes());
+    put_kind_word(text, kind);
     text.put_byte(b':');
     text.put_number(offset);
     text.put_byte(b':');
