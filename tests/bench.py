@@ -1,10 +1,11 @@
 #!/usr/bin/env python3
 """Counts what a line of a script costs, and how that grows: instructions under callgrind, or nanoseconds without it.
 
-usage: tests/bench.py [--program FILE] [--counts N,N,N] [--only WORD] [--keep FOLDER]
+usage: tests/bench.py [--program FILE] [--beside FILE] [--counts N,N,N] [--only WORD] [--keep FOLDER]
 
 Each row is a kind of script at three sizes, less what its preparation costs alone, and the exponent: 0 where a line
-costs the same at every size, 1 where it costs ten times as much over ten times as many.
+costs the same at every size, 1 where it costs ten times as much over ten times as many. With `--beside` another
+program runs the same scripts, and a row has what both cost and the ratio at each size.
 """
 import argparse
 import math
@@ -450,51 +451,64 @@ def rows(counts):
 
 
 class Bench:
-    def __init__(self, program, folder):
+    def __init__(self, program, beside, folder):
         self.program = program
+        self.beside = beside
         self.folder = folder
         self.counts = shutil.which("valgrind") is not None
 
-    def cost_of(self, lines, name):
+    def cost_of(self, program, lines, name):
         """Instructions, or nanoseconds, of a run."""
         path = os.path.join(self.folder, name)
         with open(path, "w", encoding="ascii") as out:
             out.write("\n".join(lines) + "\n")
         try:
-            return self.instructions(path) if self.counts else self.nanoseconds(path)
+            return self.instructions(program, path) if self.counts else self.nanoseconds(program, path)
         finally:
             os.remove(path)
 
-    def instructions(self, path):
-        words = ["valgrind", "--tool=callgrind", "--callgrind-out-file=/dev/null", self.program, "run", path]
+    def instructions(self, program, path):
+        words = ["valgrind", "--tool=callgrind", "--callgrind-out-file=/dev/null", program, "run", path]
         ran = subprocess.run(words, stdout=subprocess.DEVNULL, stderr=subprocess.PIPE, check=True)
         return int(re.search(rb"Collected : (\d+)", ran.stderr)[1])
 
-    def nanoseconds(self, path):
+    def nanoseconds(self, program, path):
         least = math.inf
         for _ in range(5):
             before = time.perf_counter_ns()
-            subprocess.run([self.program, "run", path], stdout=subprocess.DEVNULL, check=True)
+            subprocess.run([program, "run", path], stdout=subprocess.DEVNULL, check=True)
             least = min(least, time.perf_counter_ns() - before)
         return least
 
-    def line_of(self, name, made, sizes):
-        """A row of the table."""
+    def lines_cost(self, program, name, made, sizes):
+        """What a line costs at each size, less the preparation."""
         costs = []
         for size in sizes:
             script = made(size)
-            whole = self.cost_of(script.lines, f"{abs(hash(name))}-{size}")
-            alone = self.cost_of(script.lines[: script.prepared], f"{abs(hash(name))}-{size}-before")
+            whole = self.cost_of(program, script.lines, f"{abs(hash((program, name)))}-{size}")
+            before = script.lines[: script.prepared]
+            alone = self.cost_of(program, before, f"{abs(hash((program, name)))}-{size}-before")
             costs.append((whole - alone) / (len(script.lines) - script.prepared))
-        grown = math.log(max(costs[-1], 1) / max(costs[0], 1)) / math.log(sizes[-1] / sizes[0])
+        return costs
+
+    def line_of(self, name, made, sizes):
+        """A row of the table."""
+        costs = self.lines_cost(self.program, name, made, sizes)
         sized = ", ".join(f"{size:,}" for size in sizes)
         printed = " | ".join(f"{cost:,.0f}" for cost in costs)
+        if self.beside is not None:
+            others = self.lines_cost(self.beside, name, made, sizes)
+            other = ", ".join(f"{cost:,.0f}" for cost in others)
+            ratio = ", ".join(f"{cost / max(by, 1):.2f}" for cost, by in zip(costs, others))
+            return f"| {name} | {sized} | {printed} | {other} | {ratio} |"
+        grown = math.log(max(costs[-1], 1) / max(costs[0], 1)) / math.log(sizes[-1] / sizes[0])
         return f"| {name} | {sized} | {printed} | {grown:.2f} |"
 
 
 def main():
     wanted = argparse.ArgumentParser(description=__doc__, formatter_class=argparse.RawDescriptionHelpFormatter)
     wanted.add_argument("--program", default=os.path.join(TOP, "crates/fuseworld/out/fuseworld"))
+    wanted.add_argument("--beside", help="another program, which runs the same scripts")
     wanted.add_argument("--counts", default="1000,10000,100000")
     wanted.add_argument("--only", default="")
     wanted.add_argument("--keep", help="writes the scripts into this folder, and measures nothing")
@@ -503,9 +517,11 @@ def main():
     if words.keep:
         return keep(chosen, words.keep)
     with tempfile.TemporaryDirectory() as folder:
-        bench = Bench(os.path.abspath(words.program), folder)
-        print(f"| Script | Sizes | {'Instructions' if bench.counts else 'Nanoseconds'} a line | | | Exponent |")
-        print("|---|---|---|---|---|---|")
+        beside = os.path.abspath(words.beside) if words.beside else None
+        bench = Bench(os.path.abspath(words.program), beside, folder)
+        further = "Beside | Ratio" if beside else "Exponent"
+        print(f"| Script | Sizes | {'Instructions' if bench.counts else 'Nanoseconds'} a line | | | {further} |")
+        print("|---|---|---|---|---|---|" + ("---|" if beside else ""))
         with ThreadPoolExecutor(len(os.sched_getaffinity(0)) if bench.counts else 1) as pool:
             for line in pool.map(lambda row: bench.line_of(*row), chosen):
                 print(line, flush=True)
