@@ -12,6 +12,7 @@ use fuse_frames::kind_of_type;
 use std::alloc::{AllocError, Allocator};
 
 /// The name that a record lists.
+#[inline(always)]
 fn name_of_dirent(dirent: Dirent<'_>) -> ListedName<'_>
     ensures { listed_dirent result ≡ dirent_read (dirent_content dirent.entry) }
 {

@@ -69,6 +69,7 @@ impl<A: Allocator> Listing<A> {
     /// # Errors
     ///
     /// Out of memory. The listing is as it was.
+    #[inline(always)]
     pub fn push(&mut self, listed: ListedName<'_>) -> Result<(), AllocError>
         ensures ok { OnOk result (self.new ≡ self.old ++ listed_dirent listed.entry ∷ []) }
         ensures err { OnErr result (self.new ≡ self.old) }
@@ -135,6 +136,7 @@ impl<'a> Iterator for ListedNames<'a> {
 
     ghost remaining = { item_count names_left_in };
 
+    #[inline(always)]
     fn next(&mut self) -> Option<ListedName<'a>> {
         let (row, rows) = self.rows.split_first()?;
         let (name, bytes) = self.bytes.split_at(row.len);

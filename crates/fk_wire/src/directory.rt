@@ -96,6 +96,7 @@ pub fn put_listed<A: Allocator>(out: &mut Vec<u8, A>, entry: &Entry, dirent: &Di
 ///
 /// `Name` where the name is no record's name; then `Memory`. The vector is as before.
 #[tactic(auto, using(std::proofs::Common::append_assoc))]
+#[inline(always)]
 pub fn put_record<A: Allocator>(out: &mut Vec<u8, A>, dirent: &Dirent<'_>) -> Result<(), WireFault>
     ensures ok { OnOk result (IsRecordName dirent.now.name.now
         × (out.new.items ≡ out.old.items ++ spellings (dirents (dirent_content dirent.now ∷ [])))) }

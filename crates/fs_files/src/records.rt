@@ -41,6 +41,7 @@ pub(crate) fn record_bytes<A: Allocator>(
 }
 
 /// The type in a record: 4 for a directory, 8 for a file.
+#[inline(always)]
 fn type_of(kind: Kind) -> u32
     ensures { result ≡ type_of kind }
 {

@@ -47,6 +47,7 @@ pub(crate) fn milliseconds(seconds: u64, nanoseconds: u32) -> u64
 }
 
 /// The kind of a record, by its type.
+#[inline(always)]
 pub fn kind_of_type(type_number: u32) -> Kind
     ensures { result ≡ kind_told type_number }
 {
