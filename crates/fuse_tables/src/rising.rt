@@ -27,7 +27,7 @@ use std::marker::Model;
 ///
 /// | Call | Time |
 /// |---|---|
-/// | `get`, `remove` | one step in the map and at the first and the last row, else log `n` steps |
+/// | `get`, `remove` | one step in the map, at either end, and where keys have no gaps, else log `n` steps |
 /// | `put`, `reserve` | one step, on the whole of many calls: at times one moves all rows or all of the map |
 /// | `clear` | `n` steps |
 #[derive(Drop)]

@@ -39,7 +39,8 @@ pub(crate) fn is_row_of<V, A: Allocator>(
     row.0 == key
 }
 
-/// Where the row of a key stands. Most keys that are looked up stand last or first.
+/// Where the row of a key stands. Most keys that are looked up stand last or first, or as far behind the first row as
+/// they are above its key, where keys have no gaps.
 #[inline(always)]
 pub fn find_row<V, A: Allocator>(rows: &VecDeque<(u64, V), A>, key: u64) -> Option<usize>
     requires { T (is_sorted nat_cmp rows.now.items) }
@@ -52,8 +53,16 @@ pub fn find_row<V, A: Allocator>(rows: &VecDeque<(u64, V), A>, key: u64) -> Opti
     if rows[len - 1].0 == key {
         return Some(len - 1);
     }
-    if rows[0].0 == key {
+    let first = rows[0].0;
+    if first == key {
         return Some(0);
+    }
+    let ahead = key.wrapping_sub(first);
+    if ahead < len as u64 {
+        let there = ahead as usize;
+        if rows[there].0 == key {
+            return Some(there);
+        }
     }
     let place = place_in(rows, key);
     if is_row_of(rows, place, key) {
