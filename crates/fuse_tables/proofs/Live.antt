@@ -25,6 +25,35 @@ not_cond : {A : Type 0} (b : Bool) (x : Option A) → cond (not b) x None ≡ co
 not_cond true x = refl
 not_cond false x = refl
 
+-- the entries that pass a test
+module _ {X : Type 0} (test : ℕ × X → Bool) where
+  below_filtered : (x : ℕ) (rows : List (ℕ × X)) → T (below_all nat_cmp x rows) → T (below_all nat_cmp x (filter test rows))
+  below_filtered x [] h = tt
+  below_filtered x (row ∷ rows) h =
+      let rest = below_filtered x rows (both_second _ _ h) in
+      elim (test row) as (λ b. T (below_all nat_cmp x (cond b (row ∷ filter test rows) (filter test rows)))) [
+        | true ↦ both _ _ (both_first _ _ h) rest
+        | false ↦ rest
+      ]
+
+  pub sorted_filtered : (rows : List (ℕ × X)) → T (is_sorted nat_cmp rows) → T (is_sorted nat_cmp (filter test rows))
+  sorted_filtered [] h = tt
+  sorted_filtered (row ∷ rows) h =
+      let rest = sorted_filtered rows (both_second _ _ h) in
+      elim (test row) as (λ b. T (is_sorted nat_cmp (cond b (row ∷ filter test rows) (filter test rows)))) [
+        | true ↦ both _ _ (below_filtered row.0 rows (both_first _ _ h)) rest
+        | false ↦ rest
+      ]
+
+  pub length_filtered : (rows : List (ℕ × X)) → length (filter test rows) ≤ length rows
+  length_filtered [] = omega arith
+  length_filtered (row ∷ rows) =
+      let rest = length_filtered rows in
+      elim (test row) as (λ b. length (cond b (row ∷ filter test rows) (filter test rows)) ≤ length (row ∷ rows)) [
+        | true ↦ omega (arith, rest)
+        | false ↦ omega (arith, rest)
+      ]
+
 module _ {V : Type 0} where
   -- the value of a row that was found, if it has one
   abbrev pub held : Option (Option V) → Option V
@@ -139,22 +168,6 @@ module _ {V : Type 0} where
 
   abbrev pub has_value : ℕ × Option V → Bool
   has_value row = is_some row.1
-
-  below_squeezed : (x : ℕ) (rows : List (ℕ × Option V)) → T (below_all nat_cmp x rows)
-      → T (below_all nat_cmp x (filter has_value rows))
-  below_squeezed x [] h = tt
-  below_squeezed x (row ∷ rows) h =
-      let rest = below_squeezed x rows (both_second _ _ h) in
-      elim (has_value row) as (λ b. T (below_all nat_cmp x (cond b (row ∷ filter has_value rows) (filter has_value
-      rows)))) [ true ↦ both _ _ (both_first _ _ h) rest | false ↦ rest ]
-
-  pub sorted_squeezed : (rows : List (ℕ × Option V)) → T (is_sorted nat_cmp rows)
-      → T (is_sorted nat_cmp (filter has_value rows))
-  sorted_squeezed [] h = tt
-  sorted_squeezed (row ∷ rows) h =
-      let rest = sorted_squeezed rows (both_second _ _ h) in
-      elim (has_value row) as (λ b. T (is_sorted nat_cmp (cond b (row ∷ filter has_value rows) (filter has_value
-      rows)))) [ true ↦ both _ _ (below_squeezed row.0 rows (both_first _ _ h)) rest | false ↦ rest ]
 
   pub live_squeezed : (rows : List (ℕ × Option V)) → live (filter has_value rows) ≡ live rows
   live_squeezed [] = refl

@@ -1,3 +1,4 @@
+pub mod KeyTests
 pub mod LateValues
 pub mod LiveRows
 pub mod TableState

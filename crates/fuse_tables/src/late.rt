@@ -1,11 +1,12 @@
 //! Rows in rising key, and beside them the values whose keys came late.
 
-ghost use Rattle.std.specs.Prelude.{◌≡◌, ℕ, ◌<◌, ◌≤◌, None, if◌then◌else◌, length, nat_eq};
+ghost use Rattle.std.specs.Prelude.{◌≡◌, ℕ, Bool, ◌<◌, ◌≤◌, None, if◌then◌else◌, length, nat_eq};
 ghost use Rattle.std.specs.Map.{lookup};
 ghost use Rattle.std.specs.Option.{option_copied};
 ghost use Rattle.std.specs.VecDeque.{deque_capacity, deque_len};
 ghost use Rattle.fuse_spec.specs.Values.Maps.{get as value_at, put as with_value, remove as without_key};
 ghost use Rattle.fuse_tables.specs.LateValues.{AreKept, entries_of};
+ghost use Rattle.fuse_tables.specs.KeyTests.{Tells, kept_by};
 
 use crate::live_rows::{Rows, free_row, is_above, push_last, put_row, take_row, value_in};
 use indexmap::IndexMap;
@@ -154,4 +155,28 @@ pub(crate) fn take_value<V: Drop, A: Allocator>(
         return take_row(rows, key);
     }
     take_beside(rows, late, key)
+}
+
+/// Keeps the values at the keys that pass a test, and lets the empty rows go. Returns how many there are.
+pub(crate) fn retain_values<V: Drop, A: Allocator, F: Fn(u64) -> bool>(
+    rows: &mut Rows<V, A>,
+    late: &mut Late<V, A>,
+    keep: F,
+) -> usize
+    requires kept { AreKept rows.old.items late.old.entries }
+    requires callable { F.IsAlwaysCallable keep }
+    requires steady { (test : ℕ → Bool) × Tells test (F.post keep) }
+    ensures entries { (test : ℕ → Bool) → Tells test (F.post keep)
+        → entries_of rows.new.items late.new.entries ≡ kept_by test (entries_of rows.old.items late.old.entries) }
+    ensures kept { AreKept rows.new.items late.new.entries }
+    ensures counted { result ≡ length (entries_of rows.new.items late.new.entries) }
+    ensures fewer { result ≤ length (entries_of rows.old.items late.old.entries) }
+    ensures capacity { deque_capacity rows.new ≡ deque_capacity rows.old }
+{
+    rows.retain(|row| row.1.is_some() && keep(row.0));
+    if late.is_empty() {
+        return rows.len();
+    }
+    late.retain(|key, _| keep(*key));
+    rows.len() + late.len()
 }

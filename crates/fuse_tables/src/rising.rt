@@ -1,13 +1,14 @@
 //! A table from numbers to values, of which the oldest and the newest come and go.
 
-ghost use Rattle.std.specs.Prelude.{◌≡◌, ◌+◌, ◌<◌, ◌≤◌, ◌*◌, ◌^◌, [], MatchOption, None, OnErr, OnOk, T};
+ghost use Rattle.std.specs.Prelude.{ℕ, Bool, ◌≡◌, ◌+◌, ◌<◌, ◌≤◌, ◌*◌, ◌^◌, [], MatchOption, None, OnErr, OnOk, T};
 ghost use Rattle.std.specs.Prelude.{if◌then◌else◌, is_some, length};
 ghost use Rattle.std.specs.Option.{option_copied};
 ghost use Rattle.std.specs.Ordering.{nat_cmp};
 ghost use Rattle.std.specs.FinMap.{is_sorted};
 ghost use Rattle.fuse_spec.specs.Values.Maps.{get as value_at, put as with_value, remove as without_key};
+ghost use Rattle.fuse_tables.specs.KeyTests.{Tells, kept_by};
 
-use crate::late::{Late, put_value, reserve_late, take_value, value_of};
+use crate::late::{Late, put_value, reserve_late, retain_values, take_value, value_of};
 use crate::live_rows::Rows;
 use indexmap::IndexMap;
 use std::alloc::{AllocError, Allocator, Global};
@@ -29,7 +30,7 @@ use std::marker::Model;
 /// |---|---|
 /// | `get`, `remove` | one step in the map, at either end, and where keys have no gaps, else log `n` steps |
 /// | `put`, `reserve` | one step, on the whole of many calls: at times one moves all rows or all of the map |
-/// | `clear` | `n` steps |
+/// | `retain`, `clear` | `n` steps |
 #[derive(Drop)]
 pub struct RisingTable<V, A: Allocator = Global> {
     rows: Rows<V, A>,
@@ -147,6 +148,18 @@ impl<V: Drop, A: Allocator + Copy> RisingTable<V, A> {
         };
         self.count -= 1;
         Some(value)
+    }
+
+    /// Keeps the entries at the keys that pass a test, which says the same of a key whenever it is asked. No room is
+    /// lost.
+    pub fn retain<F: Fn(u64) -> bool>(&mut self, keep: F)
+        requires callable { F.IsAlwaysCallable keep }
+        requires steady { (test : ℕ → Bool) × Tells test (F.post keep) }
+        ensures entries { (test : ℕ → Bool) → Tells test (F.post keep)
+            → self.new.entries ≡ kept_by test self.old.entries }
+        ensures room { self.old.room ≤ self.new.room }
+    {
+        self.count = retain_values(&mut self.rows, &mut self.late, keep);
     }
 
     /// Takes out all entries. Their room stays.
