@@ -1,5 +1,5 @@
 -- Values whose keys came late: what putting and taking make of the entries.
-use Rattle.std.proofs.Common.{◌≡◌, ◌≢◌, ◌⊎◌, ℕ, ◌≤◌, ◌+◌, Bool, true, false, cond, List, [], ◌∷◌, length, Option, Some, None, is_some, refl, sym, ap, subst, ◌∙◌, arith, T, nat_eq, inl, inr, true≢false}
+use Rattle.std.proofs.Common.{◌≡◌, ◌≢◌, ◌⊎◌, ℕ, ◌≤◌, ◌+◌, Bool, true, false, cond, List, [], ◌∷◌, length, Option, Some, None, is_some, IsSome, refl, sym, ap, subst, ◌∙◌, arith, T, nat_eq, inl, inr, true≢false}
 use Rattle.std.specs.Map.{lookup}
 use Rattle.std.specs.Ordering.{nat_cmp}
 use Rattle.std.specs.FinMap.{is_sorted}
@@ -164,6 +164,13 @@ module _ {V : Type 0} where
       sorted = sorted;
       apart = λ q there. h.apart q (ap (λ m. is_some (get m q)) (sym is) ∙ there);
     }
+
+    -- another value at a key that has one among the rows
+    pub kept_replaced : (new : List (ℕ × Option V)) (k : ℕ) (v : V) (before : Option V) → T (is_sorted nat_cmp new)
+        → (IsSome before → live new ≡ put (live rows) k v) → (before ≡ None → new ≡ rows) → lookup (nat_eq k) os ≡ None
+        → AreKept new os
+    kept_replaced new k v None sorted there absent none = kept_same new sorted (ap live (absent refl))
+    kept_replaced new k v (Some w) sorted there absent none = kept_row_put new k v sorted (there refl) none
 
     -- a late value more, or fewer, at a key that has none among the rows
     pub kept_late : (new : List (ℕ × V)) (k : ℕ) (w : Option V) → get (live rows) k ≡ None → Updated os k w new

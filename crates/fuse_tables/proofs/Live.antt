@@ -1,5 +1,5 @@
 -- Rows of which some are empty: what putting, taking and squeezing make of their entries.
-use Rattle.std.proofs.Common.{◌≡◌, ℕ, ◌≤◌, ◌+◌, Bool, true, false, not, cond, ◌&&◌, List, [], ◌∷◌, length, filter, is_some, Option, Some, None, refl, sym, ap, ◌∙◌, arith, T, nat_eq, Less, Equal, Greater}
+use Rattle.std.proofs.Common.{◌≡◌, ℕ, ◌≤◌, ◌+◌, Bool, true, false, not, cond, ◌&&◌, List, [], ◌∷◌, length, filter, is_some, IsSome, Option, Some, None, refl, sym, ap, ◌∙◌, arith, T, nat_eq, Less, Equal, Greater}
 use Rattle.std.specs.Ordering.{nat_cmp, is_eq, eq_by_cmp}
 use Rattle.std.specs.FinMap.{is_sorted, nat_cmp-IsAntisymmetric}
 use Rattle.std.specs.FinMap.Entries.{below_all, find-put, find-where_key, same_entries, length-put}
@@ -190,6 +190,13 @@ module _ {V : Type 0} where
       → length (put es k v) ≡ length es + 1
   length_more es k v h none = length-put nat_cmp nat_cmp_total k v es h
       ∙ ap (λ o. cond (is_some o) (length es) (length es + 1)) none
+
+  -- another value at a key that has one, or none where it has none
+  pub length_replaced : (es new : List (ℕ × V)) (k : ℕ) (v : V) (before : Option V) → T (is_sorted nat_cmp es)
+      → before ≡ get es k → (IsSome before → new ≡ put es k v) → (before ≡ None → new ≡ es) → length new ≡ length es
+  length_replaced es new k v None h is there absent = ap length (absent refl)
+  length_replaced es new k v (Some w) h is there absent = ap length (there refl) ∙ length-put nat_cmp nat_cmp_total k v es h
+      ∙ ap (λ o. cond (is_some o) (length es) (length es + 1)) (sym is)
 
   pub length_less : (es : List (ℕ × V)) (k : ℕ) (v : V) → T (is_sorted nat_cmp es) → get es k ≡ Some v
       → length (remove es k) + 1 ≡ length es

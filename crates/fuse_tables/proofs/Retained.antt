@@ -1,5 +1,5 @@
 -- The entries at the keys that pass a test, where some values came late.
-use Rattle.std.proofs.Common.{◌≡◌, ◌≢◌, ◌⊎◌, ℕ, ◌≤◌, ◌+◌, Bool, true, false, cond, ◌&&◌, List, [], ◌∷◌, length, filter, Option, Some, None, is_some, refl, sym, ap, subst, ◌∙◌, arith, T, nat_eq, inl, inr, Equal, true≢false}
+use Rattle.std.proofs.Common.{◌≡◌, ◌≢◌, ◌⊎◌, ℕ, ◌≤◌, ◌+◌, Bool, true, false, cond, ◌&&◌, List, [], ◌∷◌, length, filter, Option, Some, None, is_some, refl, sym, ap, ◌∙◌, arith, T, nat_eq, inl, inr, Equal, true≢false}
 use Rattle.std.specs.Map.{lookup, keys_of}
 use Rattle.std.specs.List.{IsDistinct, AllByRecursion}
 use Rattle.std.specs.Cmp.{ranked}
@@ -8,7 +8,7 @@ use Rattle.std.specs.FinMap.{is_sorted}
 use Rattle.std.specs.FinMap.Entries.{find-where_key}
 use Rattle.std.proofs.lemmas.Bool.{cases_eq}
 use Rattle.std.proofs.lemmas.Map.Keys.{IsDistinct-head, IsDistinct-tail}
-use Rattle.fuse_spec.specs.Values.Maps.{get, put}
+use Rattle.fuse_spec.specs.Values.Maps.{get}
 use Rattle.fuse_tables.specs.KeyTests.{kept_by}
 use Rattle.fuse_tables.specs.LateValues.{with_late, entries_of, AreKept}
 use Rattle.fuse_tables.specs.LiveRows.{live}

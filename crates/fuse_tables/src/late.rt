@@ -1,6 +1,6 @@
 //! Rows in rising key, and beside them the values whose keys came late.
 
-ghost use Rattle.std.specs.Prelude.{◌≡◌, ℕ, Bool, ◌<◌, ◌≤◌, None, if◌then◌else◌, length, nat_eq};
+ghost use Rattle.std.specs.Prelude.{◌≡◌, ℕ, Bool, ◌<◌, ◌≤◌, IsSome, None, if◌then◌else◌, length, nat_eq};
 ghost use Rattle.std.specs.Map.{lookup};
 ghost use Rattle.std.specs.Option.{option_copied};
 ghost use Rattle.std.specs.VecDeque.{deque_capacity, deque_len};
@@ -8,10 +8,13 @@ ghost use Rattle.fuse_spec.specs.Values.Maps.{get as value_at, put as with_value
 ghost use Rattle.fuse_tables.specs.LateValues.{AreKept, entries_of};
 ghost use Rattle.fuse_tables.specs.KeyTests.{Tells, kept_by};
 
-use crate::live_rows::{Rows, free_row, is_above, push_last, put_row, take_row, value_in};
+use crate::live_rows::{
+    Rows, free_row, is_above, push_last, put_row, replace_row, take_row, value_in,
+};
 use indexmap::IndexMap;
 use std::alloc::{AllocError, Allocator};
 use std::hash::{BuildHasherDefault, FoldHasher};
+use std::mem::replace;
 
 /// The values whose keys stood between those of rows when they were put: none, as long as keys rise.
 pub(crate) type Late<V, A> = IndexMap<u64, V, BuildHasherDefault<FoldHasher>, A>;
@@ -155,6 +158,52 @@ pub(crate) fn take_value<V: Drop, A: Allocator>(
         return take_row(rows, key);
     }
     take_beside(rows, late, key)
+}
+
+/// Puts another value at a key that has one where some came late, and gives the one before.
+#[inline(never)]
+fn replace_beside<V: Drop, A: Allocator>(
+    rows: &mut Rows<V, A>,
+    late: &mut Late<V, A>,
+    key: u64,
+    value: V,
+) -> Option<V>
+    requires { AreKept rows.old.items late.old.entries }
+    ensures value { result ≡ value_at (entries_of rows.old.items late.old.entries) key }
+    ensures entries { IsSome result → entries_of rows.new.items late.new.entries
+        ≡ with_value (entries_of rows.old.items late.old.entries) key value }
+    ensures absent { result ≡ None → entries_of rows.new.items late.new.entries
+        ≡ entries_of rows.old.items late.old.entries }
+    ensures kept { AreKept rows.new.items late.new.entries }
+    ensures capacity { deque_capacity rows.new ≡ deque_capacity rows.old }
+{
+    if let Some(there) = late.get_mut(&key) {
+        return Some(replace(there, value));
+    }
+    replace_row(rows, key, value)
+}
+
+/// Puts another value at a key that has one, and gives the one before. Where the key has none nothing changes.
+#[inline(always)]
+pub(crate) fn replace_value<V: Drop, A: Allocator>(
+    rows: &mut Rows<V, A>,
+    late: &mut Late<V, A>,
+    key: u64,
+    value: V,
+) -> Option<V>
+    requires { AreKept rows.old.items late.old.entries }
+    ensures value { result ≡ value_at (entries_of rows.old.items late.old.entries) key }
+    ensures entries { IsSome result → entries_of rows.new.items late.new.entries
+        ≡ with_value (entries_of rows.old.items late.old.entries) key value }
+    ensures absent { result ≡ None → entries_of rows.new.items late.new.entries
+        ≡ entries_of rows.old.items late.old.entries }
+    ensures kept { AreKept rows.new.items late.new.entries }
+    ensures capacity { deque_capacity rows.new ≡ deque_capacity rows.old }
+{
+    if late.is_empty() {
+        return replace_row(rows, key, value);
+    }
+    replace_beside(rows, late, key, value)
 }
 
 /// Keeps the values at the keys that pass a test, and lets the empty rows go. Returns how many there are.

@@ -1,6 +1,6 @@
 //! Rows in rising key, of which some are empty.
 
-ghost use Rattle.std.specs.Prelude.{◌≡◌, ◌+◌, ◌<◌, ◌≤◌, T, length, true};
+ghost use Rattle.std.specs.Prelude.{◌≡◌, ◌+◌, ◌<◌, ◌≤◌, IsSome, None, T, length, true};
 ghost use Rattle.std.specs.Option.{option_copied};
 ghost use Rattle.std.specs.Ordering.{nat_cmp};
 ghost use Rattle.std.specs.FinMap.{is_sorted};
@@ -105,6 +105,28 @@ pub(crate) fn put_row<V: Drop, A: Allocator>(rows: &mut Rows<V, A>, key: u64, va
         return;
     }
     insert_at(rows, place, (key, Some(value)));
+}
+
+/// Puts another value at a key that has one, and gives the one before. Where the key has none nothing changes.
+pub(crate) fn replace_row<V: Drop, A: Allocator>(
+    rows: &mut Rows<V, A>,
+    key: u64,
+    value: V,
+) -> Option<V>
+    requires { T (is_sorted nat_cmp rows.old.items) }
+    ensures value { result ≡ value_at (live rows.old.items) key }
+    ensures live { IsSome result → live rows.new.items ≡ with_value (live rows.old.items) key value }
+    ensures absent { result ≡ None → rows.new.items ≡ rows.old.items }
+    ensures sorted { T (is_sorted nat_cmp rows.new.items) }
+    ensures capacity { deque_capacity rows.new ≡ deque_capacity rows.old }
+{
+    let Some(place) = find_row(rows, key) else {
+        return None;
+    };
+    if rows[place].1.is_none() {
+        return None;
+    }
+    rows[place].1.replace(value)
 }
 
 /// Takes out the value at a key. Between others its row stays, empty.

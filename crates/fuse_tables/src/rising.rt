@@ -1,6 +1,6 @@
 //! A table from numbers to values, of which the oldest and the newest come and go.
 
-ghost use Rattle.std.specs.Prelude.{ℕ, Bool, ◌≡◌, ◌+◌, ◌<◌, ◌≤◌, ◌*◌, ◌^◌, [], MatchOption, None, OnErr, OnOk, T};
+ghost use Rattle.std.specs.Prelude.{ℕ, Bool, ◌≡◌, ◌+◌, ◌<◌, ◌≤◌, ◌*◌, ◌^◌, [], IsSome, MatchOption, None, OnErr, OnOk, T};
 ghost use Rattle.std.specs.Prelude.{if◌then◌else◌, is_some, length};
 ghost use Rattle.std.specs.Option.{option_copied};
 ghost use Rattle.std.specs.Ordering.{nat_cmp};
@@ -8,7 +8,9 @@ ghost use Rattle.std.specs.FinMap.{is_sorted};
 ghost use Rattle.fuse_spec.specs.Values.Maps.{get as value_at, put as with_value, remove as without_key};
 ghost use Rattle.fuse_tables.specs.KeyTests.{Tells, kept_by};
 
-use crate::late::{Late, put_value, reserve_late, retain_values, take_value, value_of};
+use crate::late::{
+    Late, put_value, replace_value, reserve_late, retain_values, take_value, value_of,
+};
 use crate::live_rows::Rows;
 use indexmap::IndexMap;
 use std::alloc::{AllocError, Allocator, Global};
@@ -28,7 +30,7 @@ use std::marker::Model;
 ///
 /// | Call | Time |
 /// |---|---|
-/// | `get`, `remove` | one step in the map, at either end, and where keys have no gaps, else log `n` steps |
+/// | `get`, `replace`, `remove` | one step in the map, at either end, and where keys have no gaps, else log `n` steps |
 /// | `put`, `reserve` | one step, on the whole of many calls: at times one moves all rows or all of the map |
 /// | `retain`, `clear` | `n` steps |
 #[derive(Drop)]
@@ -133,6 +135,17 @@ impl<V: Drop, A: Allocator + Copy> RisingTable<V, A> {
     {
         put_value(&mut self.rows, &mut self.late, key, value);
         self.count += 1;
+    }
+
+    /// Puts another value at a key that has one, and gives the one before. Where the key has none nothing changes.
+    pub fn replace(&mut self, key: u64, value: V) -> Option<V>
+        ensures value { result ≡ value_at self.old.entries key }
+        ensures entries { IsSome result → self.new.entries ≡ with_value self.old.entries key value }
+        ensures absent { result ≡ None → self.new.entries ≡ self.old.entries }
+        ensures sorted { T (is_sorted nat_cmp self.old.entries) }
+        ensures room { self.new.room ≡ self.old.room }
+    {
+        replace_value(&mut self.rows, &mut self.late, key, value)
     }
 
     /// Takes out the value at a key. Its room stays.

@@ -1,4 +1,4 @@
-use Rattle.std.proofs.Common.{rules, arith, length, ℕ}
+use Rattle.std.proofs.Common.{rules, arith}
 use Rattle.std.proofs.lemmas.Fn.{filter_same}
 use Rattle.indexmap.proofs.CallerLemmas.{filter-RetainsPairs}
 use Rattle.fuse_tables.proofs.Retained.{stays, none_left, kept_entries, kept_both, kept_fewer, kept_counted, kept_alone}
