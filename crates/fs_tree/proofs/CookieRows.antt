@@ -1,16 +1,14 @@
 -- Rows by cookie, kept in a map in rising cookie.
-use Rattle.std.proofs.Common.{◌≡◌, ℕ, ◌<◌, Bool, true, false, not, cond, List, [], ◌∷◌, ◌++◌, filter, refl, sym, ap, ◌∙◌, arith, nat_eq, Less, Equal, Greater, None, Some, IsSome}
+use Rattle.std.proofs.Common.{◌≡◌, ℕ, ◌<◌, Bool, true, false, not, cond, List, [], ◌∷◌, ◌++◌, filter, refl, sym, ap, ◌∙◌, arith, nat_eq, Less, Greater}
 use Rattle.std.specs.Ordering.{nat_cmp, is_eq}
 use Rattle.std.specs.Cmp.{ranked, nat_cmp_is}
-use Rattle.std.specs.Map.{lookup, remove_entry, set_value, keys_of}
-use Rattle.std.specs.declared.cmp.Ordering.{Ordering}
-use Rattle.std.specs.FinMap.Entries.{by_order}
+use Rattle.std.specs.Map.{remove_entry, keys_of}
 use Rattle.std.specs.List.{AllByRecursion}
 use Rattle.std.specs.List.Sorted.{IsStrictlySortedBy}
 use Rattle.std.specs.BTreeMap.{insert_entry}
 use Rattle.std.proofs.lemmas.Grind.{common_steps}
 use Rattle.fs_tree.specs.Stored.{AreKeysBelow}
-use Rattle.fs_tree.proofs.FileRows.{is_eq-nat_cmp, none_some}
+use Rattle.fs_tree.proofs.FileRows.{is_eq-nat_cmp}
 
 other_key : (a b : ℕ) → a < b → nat_eq b a ≡ false
 other_key a b lower = grind (arith, common_steps)
@@ -63,32 +61,3 @@ module _ {V : Type 0} where
   put-undone (e ∷ es) key v below =
       let other : nat_eq e.0 key ≡ false = swapped key e.0 false (other_key e.0 key below.0) in
       rw other (ap (λ l. e ∷ l) (put-undone es key v below.1))
-
-  -- where all keys are above one, it is not found
-  none_above : (low key : ℕ) (es : List (ℕ × V)) → AllByRecursion (λ y. nat_cmp low y ≡ Less) (keys_of es) → key < low
-      → lookup (λ k. is_eq (nat_cmp key k)) es ≡ None
-  none_above low key [] above lower = refl
-  none_above low key (e ∷ es) above lower =
-      let higher : low < e.0 = ranked low e.0 Less (sym above.0) in
-      rw (← nat_cmp_is key e.0 Less (omega arith)) (none_above low key es above.1 lower)
-
-  -- the value of a key that is there, written in place
-  pub written-key : (key : ℕ) (v : V) (es : List (ℕ × V)) → IsStrictlySortedBy nat_cmp (keys_of es)
-      → IsSome (lookup (λ k. is_eq (nat_cmp key k)) es)
-      → set_value (λ k. is_eq (nat_cmp key k)) es v ≡ insert_entry nat_cmp es key v
-  unfolding IsStrictlySortedBy
-  written-key key v [] sorted there = absurd (none_some {X = V} None refl there)
-  written-key key v (e ∷ es) sorted there =
-      by (nat_cmp key e.0) refl (written-key key v es sorted.1) sorted.0 there
-    where
-      by : (r : Ordering) → nat_cmp key e.0 ≡ r
-          → (IsSome (lookup (λ k. is_eq (nat_cmp key k)) es)
-          → set_value (λ k. is_eq (nat_cmp key k)) es v ≡ insert_entry nat_cmp es key v)
-          → AllByRecursion (λ y. nat_cmp e.0 y ≡ Less) (keys_of es)
-          → IsSome (cond (is_eq r) (Some e.1) (lookup (λ k. is_eq (nat_cmp key k)) es))
-          → cond (is_eq r) ((e.0, v) ∷ es) (e ∷ set_value (λ k. is_eq (nat_cmp key k)) es v)
-          ≡ by_order r ((key, v) ∷ e ∷ es) ((e.0, v) ∷ es) (e ∷ insert_entry nat_cmp es key v)
-      by Less c rest above there =
-          absurd (none_some _ (none_above e.0 key es above (ranked key e.0 Less (sym c))) there)
-      by Equal c rest above there = refl
-      by Greater c rest above there = ap (λ l. e ∷ l) (rest there)

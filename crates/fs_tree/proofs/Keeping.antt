@@ -1,5 +1,5 @@
 -- What is true of a stored tree stays true as it changes.
-use Rattle.std.proofs.Common.{◌≡◌, ℕ, ◌+◌, ◌≤◌, ◌<◌, ◌^◌, Bool, true, false, not, cond, List, [], ◌∷◌, ◌++◌, Option, Some, None, IsSome, filter, find, count_by, length, refl, sym, arith, Less, Equal, Greater, length-append}
+use Rattle.std.proofs.Common.{◌≡◌, ℕ, ◌+◌, ◌≤◌, ◌<◌, ◌^◌, Bool, true, false, not, cond, List, [], ◌∷◌, ◌++◌, Option, Some, None, is_some, IsSome, filter, find, count_by, length, refl, sym, ap, arith, Less, Equal, Greater, length-append}
 use Rattle.std.specs.Ordering.{nat_cmp, is_eq}
 use Rattle.std.specs.declared.cmp.Ordering.{Ordering}
 use Rattle.std.specs.FinMap.Entries.{by_order}
@@ -51,6 +51,14 @@ module _ {V : Type 0} where
       by Less q there rest = rest there
       by Equal q there rest = let same = ranked key e.0 Equal (sym q) in omega (arith, below.0)
       by Greater q there rest = rest there
+
+  -- the next inode has no file
+  pub unborn : (next : ℕ) (es : List (ℕ × V)) → AreKeysBelow next es → get es next ≡ None
+  unborn next es below = by (get es next) refl
+    where
+      by : (there : Option V) → get es next ≡ there → there ≡ None
+      by None is = refl
+      by (Some v) is = let low = key_below next next es below (ap is_some is) in absurd (omega (arith, low))
 
 -- ---- cookies
 

@@ -1,6 +1,6 @@
 //! The files of a tree: what each is.
 
-ghost use Rattle.std.specs.Prelude.{◌≡◌, ◌+◌, ◌<◌, ◌≤◌, [], Some, filter, not, cond, count_by, length, nat_eq, OnErr, OnOk};
+ghost use Rattle.std.specs.Prelude.{◌≡◌, ◌+◌, ◌<◌, ◌≤◌, [], None, Some, filter, not, cond, count_by, length, nat_eq, OnErr, OnOk};
 ghost use Rattle.fuse_spec.specs.Values.Maps.{get, put, remove};
 ghost use Rattle.fuse_spec.specs.Values.Numbers.{max_file};
 ghost use Rattle.fuse_spec.specs.Files.Trees.{kind_of, file_bytes, a_file, overwritten};
@@ -11,8 +11,8 @@ use crate::bytes::overwrite;
 use crate::names::Names;
 use crate::tree::ROOT;
 use fuse_spec::Kind;
+use fuse_tables::RisingTable;
 use std::alloc::{AllocError, Allocator};
-use std::collections::BTreeMap;
 use std::marker::Model;
 
 /// A directory, or a regular file and its bytes.
@@ -58,10 +58,10 @@ impl<A: Allocator> Content<A> {
     }
 }
 
-/// The files by inode.
+/// The files by inode. Inodes rise by 1, so most stand as far behind the first as their inode is above its.
 #[derive(Drop)]
 pub(crate) struct Files<A: Allocator> {
-    contents: BTreeMap<u64, Content<A>, A>,
+    contents: RisingTable<Content<A>, A>,
 }
 
 impl<A: Allocator> Model for Files<A> {
@@ -81,7 +81,7 @@ impl<A: Allocator + Copy> Files<A> {
         ensures { result ≡ [] }
     {
         Files {
-            contents: BTreeMap::new(alloc),
+            contents: RisingTable::new(alloc),
         }
     }
 
@@ -89,7 +89,7 @@ impl<A: Allocator + Copy> Files<A> {
     pub(crate) fn kind(&self, file: u64) -> Kind
         ensures { result ≡ kind_of (get self.now file) }
     {
-        match self.contents.get(&file) {
+        match self.contents.get(file) {
             Some(content) => content.kind(),
             None => Kind::Other,
         }
@@ -100,7 +100,7 @@ impl<A: Allocator + Copy> Files<A> {
         ensures kind { result.0 ≡ kind_of (get self.now file) }
         ensures size { result.1 ≡ length (file_bytes (get self.now file)) }
     {
-        match self.contents.get(&file) {
+        match self.contents.get(file) {
             Some(content) => (content.kind(), content.bytes().len()),
             None => (Kind::Other, 0),
         }
@@ -110,18 +110,20 @@ impl<A: Allocator + Copy> Files<A> {
     pub(crate) fn bytes(&self, file: u64) -> &[u8]
         ensures { result.now ≡ file_bytes (get self.now file) }
     {
-        match self.contents.get(&file) {
+        match self.contents.get(file) {
             Some(content) => content.bytes(),
             None => &[],
         }
     }
 
-    /// Puts a file. Where memory is refused nothing changes.
+    /// Puts a file under an inode that none has. Where memory is refused nothing changes.
     pub(crate) fn push(&mut self, inode: u64, content: Content<A>) -> Result<(), AllocError>
+        requires { get self.old inode ≡ None }
         ensures ok { OnOk result (self.new ≡ put self.old inode (content_in content)) }
         ensures unchanged { OnErr result (self.new ≡ self.old) }
     {
-        let _old = self.contents.insert(inode, content)?;
+        self.contents.reserve(1)?;
+        self.contents.put(inode, content);
         Ok(())
     }
 
@@ -129,9 +131,7 @@ impl<A: Allocator + Copy> Files<A> {
     pub(crate) fn remove(&mut self, file: u64)
         ensures { self.new ≡ remove self.old file }
     {
-        // Its length is asked so that the map's order is at hand.
-        let _len = self.contents.len();
-        let _content = self.contents.remove(&file);
+        let _content = self.contents.remove(file);
     }
 
     /// Writes bytes into a regular file, in place, from an offset on. Where memory is refused nothing changes.
@@ -143,11 +143,14 @@ impl<A: Allocator + Copy> Files<A> {
             ≡ put self.old file (a_file (overwritten (file_bytes (get self.old file)) offset bytes.now))) }
         ensures unchanged { OnErr result (self.new ≡ self.old) }
     {
-        let Some(content) = self.contents.get_mut(&file) else {
+        // A directory, which takes no memory, stands in its place meanwhile.
+        let Some(mut content) = self.contents.replace(file, Content::Directory) else {
             // It is there.
             return Ok(());
         };
-        content.write(offset, bytes)
+        let written = content.write(offset, bytes);
+        let _directory = self.contents.replace(file, content);
+        written
     }
 
     /// Takes away each file that no name leads to, but for the root.
@@ -156,6 +159,6 @@ impl<A: Allocator + Copy> Files<A> {
             (count_by (λ n. nat_eq n.file e.0) names.now)) 0)) self.old }
     {
         self.contents
-            .retain(|file, _| *file == ROOT || names.count_of(*file) != 0);
+            .retain(|file| file == ROOT || names.count_of(file) != 0);
     }
 }

@@ -1,9 +1,12 @@
 use Rattle.std.proofs.Common.{rules}
-use Rattle.fs_tree.proofs.Keeping.{kept-named, kept-born}
+use Rattle.fs_tree.proofs.Keeping.{kept-named, kept-born, unborn}
 use Rattle.fs_tree.specs.Views.{content_in}
 use Rattle.fs_tree.proofs.FileRows.{put-undone}
 use Rattle.fs_tree.proofs.KeepsShape.{make}
 use Rattle.fs_tree.proofs.tree.Tree.make.Goals as goal
+
+pub push-requires : goal.push-requires
+push-requires g c = unborn c.self.inside.next_inode c.self.inside.files c.self.invariant.0.born
 
 pub invariant_of-self-2 : goal.invariant_of-self-2
 invariant_of-self-2 g c =
