@@ -46,6 +46,49 @@ fn take_all<A: Allocator + Copy>(table: &mut RisingTable<u64, A>) -> u64 {
     count
 }
 
+/// Puts another value, a thousand above, at each key from 0 to 100: how many had one.
+fn replace_all<A: Allocator + Copy>(table: &mut RisingTable<u64, A>) -> u64 {
+    let mut count: u64 = 0;
+    for place in 0..101u64 {
+        if table
+            .replace(key_of(place), place.wrapping_add(1000))
+            .is_some()
+        {
+            count = count.saturating_add(1);
+        }
+    }
+    count
+}
+
+/// How many places are found at their keys, a thousand above.
+fn count_replaced<A: Allocator + Copy>(table: &RisingTable<u64, A>) -> u64 {
+    let mut count: u64 = 0;
+    for place in 0..100u64 {
+        if table.get(key_of(place)) == Some(&place.wrapping_add(1000)) {
+            count = count.saturating_add(1);
+        }
+    }
+    count
+}
+
+/// Keeps the even keys, and says how many there are.
+fn keep_even<A: Allocator + Copy>(table: &mut RisingTable<u64, A>) -> usize {
+    table.retain(|key| key % 2 == 0);
+    table.len()
+}
+
+/// How many of a hundred values are replaced, how many keys are even, and how many values are found at them.
+fn change<A: Allocator + Copy>(alloc: A) -> Result<[u64; 3], AllocError> {
+    let mut table = RisingTable::new(alloc);
+    let put = put_all(&mut table);
+    let replaced = replace_all(&mut table);
+    let even = keep_even(&mut table) as u64;
+    let found = count_replaced(&table);
+    drop(table);
+    put?;
+    Ok([replaced, even, found])
+}
+
 /// How many of a hundred keys a table has, finds and gives back, and has then.
 fn fill<A: Allocator + Copy>(alloc: A) -> Result<[u64; 4], AllocError> {
     let mut table = RisingTable::new(alloc);
@@ -62,6 +105,13 @@ fn fill<A: Allocator + Copy>(alloc: A) -> Result<[u64; 4], AllocError> {
 #[test]
 fn keys_in_any_order_are_found(rt: HostRuntime) -> Result<(), Fail> {
     assert!(rt; fill(rt.alloc())? == [100, 100, 100, 0]);
+    Ok(())
+}
+
+/// Of the numbers up to 100 no place has 64, so 50 of the even ones are left.
+#[test]
+fn values_are_replaced_and_keys_kept(rt: HostRuntime) -> Result<(), Fail> {
+    assert!(rt; change(rt.alloc())? == [100, 50, 50]);
     Ok(())
 }
 
