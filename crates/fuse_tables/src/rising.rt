@@ -31,7 +31,7 @@ use std::marker::Model;
 /// | Call | Time |
 /// |---|---|
 /// | `get`, `replace`, `remove` | one step in the map, at either end, and where keys have no gaps, else log `n` steps |
-/// | `put`, `reserve` | one step, on the whole of many calls: at times one moves all rows or all of the map |
+/// | `put`, `reserve`, `reserve_last` | one step, on the whole of many calls: at times one moves all rows or all of the map |
 /// | `retain`, `clear` | `n` steps |
 #[derive(Drop)]
 pub struct RisingTable<V, A: Allocator = Global> {
@@ -122,6 +122,28 @@ impl<V: Drop, A: Allocator + Copy> RisingTable<V, A> {
         // places of what was taken out are used up, it takes them back.
         reserve_late(&mut self.late, grown.max(capacity.saturating_add(capacity)))?;
         // Half more than is asked for, or twice what there was.
+        self.rows.reserve(grown.saturating_sub(self.rows.len()))
+    }
+
+    /// The same for keys above those of all entries: no memory is set aside for a value that comes late, so that one may
+    /// take some, or move rows.
+    ///
+    /// # Errors
+    ///
+    /// As of `reserve`.
+    pub fn reserve_last(&mut self, more: usize) -> Result<(), AllocError>
+        ensures entries { self.new.entries ≡ self.old.entries }
+        ensures room { OnOk result (more ≤ self.new.room) }
+        ensures kept { self.old.room ≤ self.new.room }
+        ensures refused { OnErr result (self.old.room < more) }
+    {
+        let Some(rows) = twice_with(self.count, more) else {
+            return Err(AllocError);
+        };
+        if rows <= self.rows.capacity() {
+            return Ok(());
+        }
+        let grown = rows.saturating_add(rows / 2);
         self.rows.reserve(grown.saturating_sub(self.rows.len()))
     }
 
