@@ -125,12 +125,12 @@ impl<V: Drop, A: Allocator + Copy> RisingTable<V, A> {
         self.rows.reserve(grown.saturating_sub(self.rows.len()))
     }
 
-    /// The same for keys above those of all entries: no memory is set aside for a value that comes late, so that one may
-    /// take some, or move rows.
+    /// Makes room for so many more entries whose keys are above those of all others. No memory is set aside for a value
+    /// that comes late, so that one may take some, or move rows.
     ///
     /// # Errors
     ///
-    /// As of `reserve`.
+    /// Out of memory. The entries are as before.
     pub fn reserve_last(&mut self, more: usize) -> Result<(), AllocError>
         ensures entries { self.new.entries ≡ self.old.entries }
         ensures room { OnOk result (more ≤ self.new.room) }
