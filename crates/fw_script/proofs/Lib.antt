@@ -1,3 +1,4 @@
+pub mod Chunked
 pub mod Mounts
 pub mod Decimals
 pub mod Ending

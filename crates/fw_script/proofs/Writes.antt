@@ -130,38 +130,6 @@ pub some_within_item : {X : Type 0} (f : X → List ℕ) (xs : List X) (i : ℕ)
 some_within_item f xs i x old mid new within is before some =
     some_within f xs i x old mid new within before (subst (λ y. AppendsSome mid new (f y)) is some)
 
--- ---- texts of one element after another, as an iterator gives them
-
--- of the texts of all, those of the ones that are left are still to be written
-pub record Left {T : Type 0} (f : T → List ℕ) (old now : Option (List ℕ)) (all left : List T) : Type 0 where
-  pub done : List ℕ
-  pub wrote : Appends old now done
-  pub rest : done ++ flat_map f left ≡ flat_map f all
-
-pub none_done : {T : Type 0} (f : T → List ℕ) (old : Option (List ℕ)) (all : List T) → Left f old old all all
-none_done f old all = record { done = []; wrote = Appends-nil old; rest = refl }
-
-pub one_more : {T : Type 0} (f : T → List ℕ) (old mid new : Option (List ℕ)) (all rest : List T) (x : T)
-    → Left f old mid all (x ∷ rest) → Appends mid new (f x) → Left f old new all rest
-one_more f old mid new all rest x h wrote = record {
-  done = h.done ++ f x;
-  wrote = Appends-append old mid new h.done (f x) h.wrote wrote;
-  rest = append_assoc h.done (f x) (flat_map f rest) ∙ h.rest;
-}
-
-pub all_done : {T : Type 0} (f : T → List ℕ) (old now : Option (List ℕ)) (all : List T) → Left f old now all []
-    → Appends old now (flat_map f all)
-all_done f old now all h =
-    let same : h.done ≡ flat_map f all = sym (append-nil h.done) ∙ h.rest in
-    rw (← same) h.wrote
-
--- those before one were taken, and then it was refused
-pub some_left : {T : Type 0} (f : T → List ℕ) (old mid new : Option (List ℕ)) (all rest : List T) (x : T)
-    → Left f old mid all (x ∷ rest) → AppendsSome mid new (f x) → AppendsSome old new (flat_map f all)
-some_left f old mid new all rest x h some =
-    some_then old mid new h.done (f x ++ flat_map f rest) (flat_map f all) (sym h.rest) h.wrote
-    (some_first mid new (f x) (flat_map f rest) (f x ++ flat_map f rest) refl some)
-
 -- ---- three parts
 
 -- the first of three refused, the second, or the third

@@ -1,5 +1,6 @@
 pub mod Arguments
 pub mod CallLines
+pub mod Chunks
 pub mod Forms
 pub mod Lines
 pub mod Outputs

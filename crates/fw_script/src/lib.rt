@@ -3,6 +3,7 @@
 
 mod arguments;
 mod call_line;
+mod chunk;
 mod form;
 mod hex_text;
 mod line;

@@ -1,15 +1,17 @@
 //! Records as the lines that are printed.
 
-ghost use Rattle.std.specs.Prelude.{◌≡◌, ◌≤◌, ◌++◌, ◌↔◌, [], All, IsTrue, OnErr, OnOk};
+ghost use Rattle.std.specs.Prelude.{◌≡◌, ◌+◌, ◌≤◌, ◌++◌, ◌↔◌, [], All, IsTrue, OnErr, OnOk};
 ghost use Rattle.std.specs.Prelude.{codes, decimal, flat_map, length, map, option_copied};
 ghost use Rattle.std.specs.Io.KnownBytes.{Appends};
 ghost use Rattle.fk_syscalls.specs.Listings.{listed_dirent};
 ghost use Rattle.fw_frames.specs.HexTexts.{hex_or_none};
+ghost use Rattle.fw_script.specs.Chunks.{AppendsBut};
 ghost use Rattle.fw_script.specs.Outputs.{AppendsSome};
 ghost use Rattle.fw_script.specs.Records.{answer_text, event_text, frame_text, outcome_line, put_text, record_text};
 ghost use Rattle.fw_script.specs.Records.{attributes_words, kind_word, listed_words, refusal_name, refusal_number};
 ghost use Rattle.fw_script.specs.Records.{shown_byte};
 
+use crate::chunk::Chunk;
 use crate::hex_text::{write_hex, write_hex_or_none};
 use crate::output::{OutputRefused, write_text};
 use crate::print::{
@@ -91,35 +93,100 @@ fn write_long<W: Write>(out: &mut W, listed: &ListedName<'_>) -> Result<(), Outp
     write_place(out, listed.offset, listed.kind)
 }
 
-/// Writes a listed name, as ` NAME:OFF:KIND`. Most are short, and are written at once.
-fn write_listed<W: Write>(out: &mut W, listed: &ListedName<'_>) -> Result<(), OutputRefused>
-    ensures ok { OnOk result (Appends (W.contents out.old) (W.contents out.new) (listed_words (listed_dirent listed.now))) }
-    ensures refused { OnErr result (AppendsSome (W.contents out.old) (W.contents out.new) (listed_words (listed_dirent listed.now))) }
+/// Writes what a chunk holds, and empties it.
+#[cold]
+fn write_chunk<W: Write>(out: &mut W, chunk: &mut Chunk) -> Result<(), OutputRefused>
+    ensures ok { OnOk result (Appends (W.contents out.old) (W.contents out.new) chunk.old) }
+    ensures empty { OnOk result (chunk.new ≡ []) }
+    ensures refused { OnErr result (AppendsSome (W.contents out.old) (W.contents out.new) chunk.old) }
+{
+    write_text(out, chunk.bytes())?;
+    chunk.clear();
+    Ok(())
+}
+
+/// Makes room in a chunk for so many bytes, by writing what it holds where they lack it.
+#[inline(always)]
+fn make_room<W: Write>(out: &mut W, chunk: &mut Chunk, len: usize) -> Result<(), OutputRefused>
+    requires { len ≤ 512 }
+    ensures ok { OnOk result (AppendsBut (W.contents out.old) (W.contents out.new) chunk.old chunk.new) }
+    ensures room { OnOk result (len + length chunk.new ≤ 512) }
+    ensures refused { OnErr result (AppendsSome (W.contents out.old) (W.contents out.new) chunk.old) }
+{
+    if len <= chunk.room() {
+        return Ok(());
+    }
+    write_chunk(out, chunk)
+}
+
+/// Puts a text last into a chunk, which is written before where it lacks the room.
+#[inline(always)]
+fn put_last<W: Write>(out: &mut W, chunk: &mut Chunk, text: &[u8]) -> Result<(), OutputRefused>
+    requires { length text.now ≤ 512 }
+    ensures ok { OnOk result (AppendsBut (W.contents out.old) (W.contents out.new) (chunk.old ++ text.now) chunk.new) }
+    ensures refused { OnErr result (AppendsSome (W.contents out.old) (W.contents out.new) (chunk.old ++ text.now)) }
+{
+    make_room(out, chunk, text.len())?;
+    chunk.append(text);
+    Ok(())
+}
+
+/// Writes what a chunk holds, and then a listed name that is not short or is not printed as it is.
+#[cold]
+fn put_long<W: Write>(
+    out: &mut W,
+    chunk: &mut Chunk,
+    listed: &ListedName<'_>,
+) -> Result<(), OutputRefused>
+    ensures ok { OnOk result (AppendsBut (W.contents out.old) (W.contents out.new)
+        (chunk.old ++ listed_words (listed_dirent listed.now)) chunk.new) }
+    ensures refused { OnErr result (AppendsSome (W.contents out.old) (W.contents out.new)
+        (chunk.old ++ listed_words (listed_dirent listed.now))) }
+{
+    write_chunk(out, chunk)?;
+    write_long(out, listed)
+}
+
+/// Puts a listed name, as ` NAME:OFF:KIND`, into a chunk. Most are short, and are put at once.
+#[inline(always)]
+fn put_listed<W: Write>(
+    out: &mut W,
+    chunk: &mut Chunk,
+    listed: &ListedName<'_>,
+) -> Result<(), OutputRefused>
+    ensures ok { OnOk result (AppendsBut (W.contents out.old) (W.contents out.new)
+        (chunk.old ++ listed_words (listed_dirent listed.now)) chunk.new) }
+    ensures refused { OnErr result (AppendsSome (W.contents out.old) (W.contents out.new)
+        (chunk.old ++ listed_words (listed_dirent listed.now))) }
 {
     let name = listed.name;
     if name.len() > SHORT {
-        return write_long(out, listed);
+        return put_long(out, chunk, listed);
     }
     if !is_shown_as_is(name) {
-        return write_long(out, listed);
+        return put_long(out, chunk, listed);
     }
     let mut text = ShortText::new();
     put_place(&mut text, listed.offset, listed.kind);
     text.put(name);
     text.put_byte(b' ');
-    write_text(out, text.bytes())
+    put_last(out, chunk, text.bytes())
 }
 
-/// Writes listed names one after another.
-fn write_listing<A: Allocator, W: Write>(
+/// Puts listed names one after another into a chunk, which is written each time that it is full.
+#[inline(always)]
+fn put_listing<A: Allocator, W: Write>(
     out: &mut W,
+    chunk: &mut Chunk,
     names: &Listing<A>,
 ) -> Result<(), OutputRefused>
-    ensures ok { OnOk result (Appends (W.contents out.old) (W.contents out.new) (flat_map listed_words names.now)) }
-    ensures refused { OnErr result (AppendsSome (W.contents out.old) (W.contents out.new) (flat_map listed_words names.now)) }
+    ensures ok { OnOk result (AppendsBut (W.contents out.old) (W.contents out.new)
+        (chunk.old ++ flat_map listed_words names.now) chunk.new) }
+    ensures refused { OnErr result (AppendsSome (W.contents out.old) (W.contents out.new)
+        (chunk.old ++ flat_map listed_words names.now)) }
 {
     for listed in names.iter() {
-        write_listed(out, &listed)?;
+        put_listed(out, chunk, &listed)?;
     }
     Ok(())
 }
@@ -187,6 +254,18 @@ fn write_counted<W: Write>(
     write_text(out, text.bytes())
 }
 
+/// Puts what the line of a call that is answered with listed names begins with into a chunk.
+#[inline(always)]
+fn put_start(chunk: &mut Chunk, call: u64)
+    requires { chunk.old ≡ [] }
+    ensures { chunk.new ≡ codes "answer " ++ decimal call ++ codes " 0" }
+{
+    let mut text = ShortText::new();
+    text.put_byte(b'0');
+    put_call(&mut text, call);
+    chunk.append(text.bytes());
+}
+
 /// Writes the line of a call that is answered with listed names.
 fn write_names<A: Allocator, W: Write>(
     out: &mut W,
@@ -198,9 +277,11 @@ fn write_names<A: Allocator, W: Write>(
     ensures refused { OnErr result (AppendsSome (W.contents out.old) (W.contents out.new)
         (codes "answer " ++ decimal call ++ codes " " ++ (codes "0" ++ flat_map listed_words names.now) ++ codes "\n")) }
 {
-    write_start(out, call, b"0")?;
-    write_listing(out, names)?;
-    write_text(out, b"\n")
+    let mut chunk = Chunk::new();
+    put_start(&mut chunk, call);
+    put_listing(out, &mut chunk, names)?;
+    put_last(out, &mut chunk, b"\n")?;
+    write_text(out, chunk.bytes())
 }
 
 /// Writes the line of a call that is answered with bytes.

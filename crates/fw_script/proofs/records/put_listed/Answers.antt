@@ -1,12 +1,12 @@
 use Rattle.std.proofs.Common.{rules, ◌≡◌, ◌++◌, ◌∙◌, ℕ, List, codes, decimal, map, refl, sym, ap, subst, OnErr, OnOk}
-use Rattle.std.specs.Io.KnownBytes.{Appends}
 use Rattle.fk_syscalls.specs.Listings.{listed_dirent}
 use Rattle.fuse_spec.specs.Files.Operations.{Dirent}
+use Rattle.fw_script.specs.Chunks.{AppendsBut}
 use Rattle.fw_script.specs.Outputs.{AppendsSome}
 use Rattle.fw_script.specs.Records.{kind_word, listed_words, shown_byte}
 use Rattle.fw_script.proofs.Names.{map_kept}
 use Rattle.fw_script.proofs.Writes.{listed_parts}
-use Rattle.fw_script.proofs.records.write_listed.Goals as goal
+use Rattle.fw_script.proofs.records.put_listed.Goals as goal
 
 -- a name that is shown as it is
 parts : (d : Dirent) → map shown_byte d.name ≡ d.name
@@ -20,9 +20,9 @@ returns-clause-ok g c =
     let kept = map_kept shown_byte name (c.if-not-is_shown_as_is.ensures.0 refl) in
     let text : c.bytes.result.now ≡ codes " " ++ (name ++ (codes ":" ++ decimal c.args.listed.now.offset ++ codes ":"
     ++ kind_word c.args.listed.now.kind)) = search rules in
-    subst (λ (b : List ℕ). OnOk c.write_text.result (Appends (g.W.Write.contents c.args.out.now)
-    (g.W.Write.contents c.write_text.new.out) b)) (text ∙ sym (parts (listed_dirent c.args.listed.now) kept))
-    c.write_text.ensures.ok
+    subst (λ (b : List ℕ). OnOk c.put_last.result (AppendsBut (g.W.Write.contents c.args.out.now)
+    (g.W.Write.contents c.put_last.new.out) (c.args.chunk.now ++ b) c.put_last.new.chunk))
+    (text ∙ sym (parts (listed_dirent c.args.listed.now) kept)) c.put_last.ensures.ok
 
 pub returns-clause-refused : goal.returns-clause-refused
 returns-clause-refused g c =
@@ -30,6 +30,6 @@ returns-clause-refused g c =
     let kept = map_kept shown_byte name (c.if-not-is_shown_as_is.ensures.0 refl) in
     let text : c.bytes.result.now ≡ codes " " ++ (name ++ (codes ":" ++ decimal c.args.listed.now.offset ++ codes ":"
     ++ kind_word c.args.listed.now.kind)) = search rules in
-    subst (λ (b : List ℕ). OnErr c.write_text.result (AppendsSome (g.W.Write.contents c.args.out.now)
-    (g.W.Write.contents c.write_text.new.out) b)) (text ∙ sym (parts (listed_dirent c.args.listed.now) kept))
-    c.write_text.ensures.refused
+    subst (λ (b : List ℕ). OnErr c.put_last.result (AppendsSome (g.W.Write.contents c.args.out.now)
+    (g.W.Write.contents c.put_last.new.out) (c.args.chunk.now ++ b)))
+    (text ∙ sym (parts (listed_dirent c.args.listed.now) kept)) c.put_last.ensures.refused
