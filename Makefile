@@ -74,9 +74,9 @@ uninstall:
 		"$(DESTDIR)$(PREFIX)/include/fuseworld.h" "$(LIB)/libfuseworld_codec.a" "$(LIB)/$(SHARED)" "$(LIB)/$(SHARED).1" \
 		"$(LIB)/$(SHARED).$(CODEC_VERSION)" "$(LIB)/pkgconfig/fuseworld.pc"
 
-# What a line of a script costs, and how that grows with what the script lets grow.
+# What a line of a script costs, and how that grows with what the script lets grow. ARGS has further words, as --beside FILE.
 bench: build
-	@python3 tests/bench.py
+	@python3 tests/bench.py $(ARGS)
 
 # The scripts of examples/drive, on the servers of others whose packages are there.
 drive-tests: build
