@@ -207,6 +207,7 @@ fn put_lost_line(text: &mut ShortText, unique: u64, errno: u32)
 }
 
 /// Puts the line of an outcome, as `read 4 LOOKUP 42`, before a text.
+#[inline(always)]
 pub(crate) fn put_outcome_line(text: &mut ShortText, outcome: Outcome)
     requires { length text.old ≤ 1 }
     ensures { text.new ≡ outcome_line outcome ++ text.old }

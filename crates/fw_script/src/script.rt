@@ -74,6 +74,7 @@ fn write_records<A: Allocator + Copy, M: Machine<A>, W: Write>(
 }
 
 /// Runs one event, and writes what it came to.
+#[inline(always)]
 fn run_event<A: Allocator + Copy, M: Machine<A>, W: Write>(
     machine: &mut M,
     event: &Event<'_>,
