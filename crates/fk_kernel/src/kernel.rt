@@ -45,7 +45,7 @@ pub struct KernelOf<Q: QueueTable<Purpose>, C: CountTable<Heap = Q::Heap>> {
     pub(crate) lists_files: bool,
 }
 
-/// The kernel of the program, over maps and slabs.
+/// The kernel of the program, over maps.
 pub type Kernel<A = Global> = KernelOf<Queues<Purpose, A>, KernelNodes<A>>;
 
 /// The kernel over plain lists.

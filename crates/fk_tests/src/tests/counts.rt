@@ -187,16 +187,16 @@ fn runs_of_both<A: Allocator + Copy>(
     refusing: &FailAt<Global>,
     alloc: Global,
 ) -> [u64; 2] {
-    let of_slab = runs::<KernelNodes<A>>(rt, heap, refusing, alloc);
+    let of_map = runs::<KernelNodes<A>>(rt, heap, refusing, alloc);
     let of_list = runs::<ListCounts<A>>(rt, heap, refusing, alloc);
-    [of_slab, of_list]
+    [of_map, of_list]
 }
 
 #[test]
 fn calls_with_each_growth_refused(rt: HostRuntime) -> Result<(), Fail> {
     let heap = FailAt::new(rt.alloc());
-    let [of_slab, of_list] = runs_of_both(&rt, &heap, &heap, rt.alloc());
-    assert!(rt; 3 < of_slab && of_slab < 40, "slab");
+    let [of_map, of_list] = runs_of_both(&rt, &heap, &heap, rt.alloc());
+    assert!(rt; 3 < of_map && of_map < 40, "map");
     assert!(rt; 2 < of_list && of_list < 40, "list");
     Ok(())
 }

@@ -1,4 +1,4 @@
-//! Steps of a kernel over any tables, and what each must give: a method that is called of a kernel over maps and slabs
+//! Steps of a kernel over any tables, and what each must give: a method that is called of a kernel over maps
 //! takes some six seconds more to check.
 
 use crate::tests::assert_right;
@@ -361,7 +361,7 @@ fn run_over<Q: RequestQueues, C: LookupCounts<Heap = Q::Heap>>(
     assert_right(rt, wrong, name);
 }
 
-/// Tries the rows of some lists on a new kernel over maps and slabs, which takes its memory from a heap.
+/// Tries the rows of some lists on a new kernel over maps, which takes its memory from a heap.
 fn run_on<A: Allocator + Copy>(
     rt: &impl Abort,
     heap: A,
