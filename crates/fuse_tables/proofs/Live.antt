@@ -1,13 +1,16 @@
 -- Rows of which some are empty: what putting, taking and squeezing make of their entries.
-use Rattle.std.proofs.Common.{◌≡◌, ℕ, ◌≤◌, ◌+◌, Bool, true, false, not, cond, ◌&&◌, List, [], ◌∷◌, length, filter, is_some, IsSome, Option, Some, None, refl, sym, ap, ◌∙◌, arith, T, nat_eq, Less, Equal, Greater}
+use Rattle.std.proofs.Common.{◌≡◌, ℕ, ◌≤◌, ◌+◌, Bool, true, false, not, cond, ◌&&◌, List, [], ◌∷◌, length, filter, is_some, IsSome, Option, Some, None, refl, sym, ap, subst, ◌∙◌, arith, T, nat_eq, Less, Equal, Greater}
 use Rattle.std.specs.Ordering.{nat_cmp, is_eq, eq_by_cmp}
 use Rattle.std.specs.FinMap.{is_sorted, nat_cmp-IsAntisymmetric}
 use Rattle.std.specs.FinMap.Entries.{below_all, find-put, find-where_key, same_entries, length-put}
 use Rattle.std.specs.Cmp.{ranked}
 use Rattle.std.proofs.lemmas.Cmp.{nat_cmp_total}
 use Rattle.fuse_spec.specs.Values.Maps.{get, put, remove}
+use Rattle.std.specs.Prelude.{slice_index_or}
+use Rattle.std.specs.List.{remove as removed}
 use Rattle.fuse_tables.specs.LiveRows.{live, entry_before}
-use Rattle.fuse_tables.proofs.Rows.{both_first, both_second, apart, tied, none_below, kept_above, sorted_with, sorted_without}
+use Rattle.fuse_tables.specs.TableState.{IsRowOf}
+use Rattle.fuse_tables.proofs.Rows.{both_first, both_second, apart, tied, none_below, kept_above, read_there, without_there, sorted_with, sorted_without}
 
 pub both : (a b : Bool) → T a → T b → T (a && b)
 both true b p q = q
@@ -102,6 +105,12 @@ module _ {V : Type 0} where
       (λ e. none_below k (live rows) row.0 (omega arith) (below_live row.0 rows (both_first _ _ h)))
       (get_live rows k (both_second _ _ h))
 
+  -- a row that has the key has its value
+  pub value_at_row : (rows : List (ℕ × Option V)) (key place : ℕ) (row : ℕ × Option V) → T (is_sorted nat_cmp rows)
+      → IsRowOf rows key place → row ≡ slice_index_or rows place row → row.1 ≡ get (live rows) key
+  value_at_row rows key place row h r is =
+      ap held (read_there rows rows key place row h refl r is) ∙ sym (get_live rows key h)
+
   -- ---- putting and taking
 
   pub same_maps : (es fs : List (ℕ × V)) → T (is_sorted nat_cmp es) → T (is_sorted nat_cmp fs)
@@ -163,6 +172,13 @@ module _ {V : Type 0} where
   pub live_removed : (rows : List (ℕ × Option V)) (k : ℕ) → live (remove rows k) ≡ remove (live rows) k
   live_removed [] k = refl
   live_removed (row ∷ rows) k = live_step row rows k (live_removed rows k)
+
+  -- the rows without that of a key
+  pub live_gone : (rows new : List (ℕ × Option V)) (key place : ℕ) → T (is_sorted nat_cmp rows) → IsRowOf rows key place
+      → new ≡ removed rows place → (live new ≡ remove (live rows) key) × T (is_sorted nat_cmp new)
+  live_gone rows new key place h r is =
+      let gone = is ∙ without_there rows key place h r in
+      (ap live gone ∙ live_removed rows key, subst (λ es. T (is_sorted nat_cmp es)) (sym gone) (sorted_without rows key h))
 
   -- ---- squeezing
 

@@ -10,6 +10,7 @@ use Rattle.std.proofs.lemmas.Option.{same_Some, slice_get_read, slice_get_past, 
 use Rattle.std.specs.FinMap.Entries.{is_sorted-put, is_sorted-where_key}
 use Rattle.std.proofs.lemmas.Cmp.{nat_cmp_total}
 use Rattle.std.specs.List.{remove as removed}
+use Rattle.std.proofs.lemmas.List.{append-nil}
 use Rattle.std.proofs.lemmas.Bool.{ltb-true, lt-ltb}
 use Rattle.std.specs.Cmp.{ranked, nat_cmp_is}
 use Rattle.fuse_spec.specs.Values.Maps.{get, put as with_value, remove}
@@ -300,6 +301,13 @@ module _ {V : Type 0} where
       → removed rows place ≡ remove rows key
   without_there rows key place h r = rw r.at (removed_is rows key r.row h (rw (← r.at) r.there) r.same)
 
+  -- without the last row
+  pub without_last : (rows : List (ℕ × V)) (place : ℕ) → place + 1 ≡ length rows → take place rows ≡ removed rows place
+  without_last rows place end =
+      let all : suc place ≡ length rows = omega arith in
+      let none : drop (suc place) rows ≡ [] = ap (λ i. drop i rows) all ∙ drop_all rows in
+      sym (append-nil (take place rows)) ∙ ap (λ xs. take place rows ++ xs) (sym none)
+
   pub sorted_without : (rows : List (ℕ × V)) (key : ℕ) → T (is_sorted nat_cmp rows)
       → T (is_sorted nat_cmp (remove rows key))
   sorted_without rows key h = is_sorted-where_key nat_cmp (λ k. not (nat_eq k key)) rows h
@@ -316,7 +324,7 @@ module _ {V : Type 0} where
       sym (value_there rows key place h there ∙ ap (λ (x : ℕ × V). Some x.1)
       (sym (is ∙ get_or_from_slice_get rows place there.row row there.there)))
 
-  row_is : (rows : List (ℕ × V)) (key place : ℕ) (row : ℕ × V) → (r : IsRowOf rows key place)
+  pub row_is : (rows : List (ℕ × V)) (key place : ℕ) (row : ℕ × V) → (r : IsRowOf rows key place)
       → row ≡ slice_index_or rows place row → row ≡ r.row
   row_is rows key place row r is = is ∙ get_or_from_slice_get rows place r.row row r.there
 

@@ -1,4 +1,5 @@
 pub mod KeyTests
 pub mod LateValues
+pub mod Lends
 pub mod LiveRows
 pub mod TableState

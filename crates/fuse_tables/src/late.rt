@@ -1,6 +1,6 @@
 //! Rows in rising key, and beside them the values whose keys came late.
 
-ghost use Rattle.std.specs.Prelude.{◌≡◌, ℕ, Bool, ◌<◌, ◌≤◌, IsSome, None, if◌then◌else◌, length, nat_eq};
+ghost use Rattle.std.specs.Prelude.{◌≡◌, ℕ, Bool, ◌<◌, ◌≤◌, IsSome, None, if◌then◌else◌, is_some, length, nat_eq};
 ghost use Rattle.std.specs.Map.{lookup};
 ghost use Rattle.std.specs.Option.{option_copied};
 ghost use Rattle.std.specs.VecDeque.{deque_capacity, deque_len};
@@ -42,6 +42,14 @@ pub(crate) fn reserve_late<V: Drop, A: Allocator + Copy>(
         *late = IndexMap::with_capacity(alloc, all)?;
     }
     Ok(())
+}
+
+/// Whether a key has a late value.
+#[inline(always)]
+pub(crate) fn has_late<V, A: Allocator>(late: &Late<V, A>, key: u64) -> bool
+    ensures { result ≡ is_some (lookup (nat_eq key) late.now.entries) }
+{
+    !late.is_empty() && late.contains_key(&key)
 }
 
 /// The value at a key where some came late.

@@ -1,6 +1,6 @@
 //! Rows in rising key, of which some are empty.
 
-ghost use Rattle.std.specs.Prelude.{◌≡◌, ◌+◌, ◌<◌, ◌≤◌, IsSome, None, T, length, true};
+ghost use Rattle.std.specs.Prelude.{◌≡◌, ◌+◌, ◌-◌, ◌<◌, ◌≤◌, ◌↔◌, IsSome, None, T, length, true};
 ghost use Rattle.std.specs.Option.{option_copied};
 ghost use Rattle.std.specs.Ordering.{nat_cmp};
 ghost use Rattle.std.specs.FinMap.{is_sorted};
@@ -8,9 +8,8 @@ ghost use Rattle.std.specs.List.{insert as inserted};
 ghost use Rattle.std.specs.VecDeque.{deque_len, deque_capacity};
 ghost use Rattle.fuse_spec.specs.Values.Maps.{get as value_at, put as with_value, remove as without_key};
 ghost use Rattle.fuse_tables.specs.LiveRows.{live};
-ghost use Rattle.fuse_tables.specs.TableState.{place_of};
+ghost use Rattle.fuse_tables.specs.TableState.{IsRowOf, place_of};
 
-use crate::queue::take_at;
 use crate::rows_by_key::{find_row, is_row_of, place_in};
 use std::alloc::Allocator;
 use std::collections::VecDeque;
@@ -29,9 +28,9 @@ fn insert_at<V: Drop, A: Allocator>(rows: &mut Rows<V, A>, place: usize, row: (u
     put.unwrap();
 }
 
-/// The value at a key.
-#[inline(always)]
-pub(crate) fn value_in<V, A: Allocator>(rows: &Rows<V, A>, key: u64) -> Option<&V>
+/// The value at a key, wherever its row stands.
+#[inline(never)]
+fn search_value<V, A: Allocator>(rows: &Rows<V, A>, key: u64) -> Option<&V>
     requires { T (is_sorted nat_cmp rows.now.items) }
     ensures { option_copied result ≡ value_at (live rows.now.items) key }
 {
@@ -40,6 +39,29 @@ pub(crate) fn value_in<V, A: Allocator>(rows: &Rows<V, A>, key: u64) -> Option<&
     };
     let row = &rows[place];
     row.1.as_ref()
+}
+
+/// The value at a key. Where the row stands at one of the two places at which `find_row` looks first, the value is read
+/// there at once.
+#[inline(always)]
+pub(crate) fn value_in<V, A: Allocator>(rows: &Rows<V, A>, key: u64) -> Option<&V>
+    requires { T (is_sorted nat_cmp rows.now.items) }
+    ensures { option_copied result ≡ value_at (live rows.now.items) key }
+{
+    let first = rows.front()?;
+    let ahead = key.wrapping_sub(first.0);
+    if ahead < rows.len() as u64 {
+        let row = &rows[ahead as usize];
+        if row.0 == key {
+            return row.1.as_ref();
+        }
+    }
+    if let Some(last) = rows.back() {
+        if last.0 == key {
+            return last.1.as_ref();
+        }
+    }
+    search_value(rows, key)
 }
 
 /// Lets the empty rows go.
@@ -129,9 +151,33 @@ pub(crate) fn replace_row<V: Drop, A: Allocator>(
     rows[place].1.replace(value)
 }
 
-/// Takes out the value at a key. Between others its row stays, empty.
+/// Whether the first row has the key.
 #[inline(always)]
-pub(crate) fn take_row<V: Drop, A: Allocator>(rows: &mut Rows<V, A>, key: u64) -> Option<V>
+fn is_first<V, A: Allocator>(rows: &Rows<V, A>, key: u64) -> bool
+    requires { T (is_sorted nat_cmp rows.now.items) }
+    ensures { (result ≡ true) ↔ IsRowOf rows.now.items key 0 }
+{
+    match rows.front() {
+        Some(row) => row.0 == key,
+        None => false,
+    }
+}
+
+/// Whether the last row has the key.
+#[inline(always)]
+fn is_last<V, A: Allocator>(rows: &Rows<V, A>, key: u64) -> bool
+    requires { T (is_sorted nat_cmp rows.now.items) }
+    ensures { (result ≡ true) ↔ IsRowOf rows.now.items key (deque_len rows.now - 1) }
+{
+    match rows.back() {
+        Some(row) => row.0 == key,
+        None => false,
+    }
+}
+
+/// Takes out the value at a key. Its row stays, empty.
+#[inline(never)]
+fn empty_row<V: Drop, A: Allocator>(rows: &mut Rows<V, A>, key: u64) -> Option<V>
     requires { T (is_sorted nat_cmp rows.old.items) }
     ensures value { result ≡ value_at (live rows.old.items) key }
     ensures live { live rows.new.items ≡ without_key (live rows.old.items) key }
@@ -141,8 +187,23 @@ pub(crate) fn take_row<V: Drop, A: Allocator>(rows: &mut Rows<V, A>, key: u64) -
     let Some(place) = find_row(rows, key) else {
         return None;
     };
-    if place == 0 || place == rows.len() - 1 {
-        return take_at(rows, place).1;
-    }
     rows[place].1.take()
+}
+
+/// Takes out the value at a key. Between others its row stays, empty.
+#[inline(always)]
+pub(crate) fn take_row<V: Drop, A: Allocator>(rows: &mut Rows<V, A>, key: u64) -> Option<V>
+    requires { T (is_sorted nat_cmp rows.old.items) }
+    ensures value { result ≡ value_at (live rows.old.items) key }
+    ensures live { live rows.new.items ≡ without_key (live rows.old.items) key }
+    ensures sorted { T (is_sorted nat_cmp rows.new.items) }
+    ensures capacity { deque_capacity rows.new ≡ deque_capacity rows.old }
+{
+    if is_first(rows, key) {
+        return rows.pop_front().unwrap().1;
+    }
+    if is_last(rows, key) {
+        return rows.pop_back().unwrap().1;
+    }
+    empty_row(rows, key)
 }

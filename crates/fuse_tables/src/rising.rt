@@ -9,9 +9,10 @@ ghost use Rattle.fuse_spec.specs.Values.Maps.{get as value_at, put as with_value
 ghost use Rattle.fuse_tables.specs.KeyTests.{Tells, kept_by};
 
 use crate::late::{
-    Late, put_value, replace_value, reserve_late, retain_values, take_value, value_of,
+    Late, has_late, put_value, replace_value, reserve_late, retain_values, take_value, value_of,
 };
 use crate::live_rows::Rows;
+use crate::rows_by_key::find_row;
 use indexmap::IndexMap;
 use std::alloc::{AllocError, Allocator, Global};
 use std::collections::VecDeque;
@@ -30,7 +31,7 @@ use std::marker::Model;
 ///
 /// | Call | Time |
 /// |---|---|
-/// | `get`, `replace`, `remove` | one step in the map, at either end, and where keys have no gaps, else log `n` steps |
+/// | `get`, `get_mut`, `replace`, `remove` | one step in the map, at either end, and where keys have no gaps, else log `n` steps |
 /// | `put`, `reserve`, `reserve_last` | one step, on the whole of many calls: at times one moves all rows or all of the map |
 /// | `retain`, `clear` | `n` steps |
 #[derive(Drop)]
@@ -67,6 +68,10 @@ fn twice_with(count: usize, more: usize) -> Option<usize>
 }
 
 impl<V: Drop, A: Allocator + Copy> RisingTable<V, A> {
+    ghost use Rattle.std.specs.Borrow.{sem};
+    ghost use Rattle.std.specs.Option.{option_copied_mut};
+    ghost use Rattle.fuse_tables.specs.Lends.{lends_entry};
+
     pub fn new(alloc: A) -> Self
         ensures { result.entries ≡ [] }
     {
@@ -90,6 +95,22 @@ impl<V: Drop, A: Allocator + Copy> RisingTable<V, A> {
         ensures { option_copied result ≡ value_at self.now.entries key }
     {
         value_of(&self.rows, &self.late, key)
+    }
+
+    /// The value at a key, to change it in place.
+    #[inline(always)]
+    pub fn get_mut(&mut self, key: u64) -> Option<&mut V>
+        ensures* writes_back { sem 𝓛 (lends_entry V.row A.row A.Allocator self.entry key result) }
+        ensures value { option_copied_mut result ≡ value_at self.old.entries key }
+        ensures sorted { T (is_sorted nat_cmp self.old.entries) }
+    {
+        if has_late(&self.late, key) {
+            return self.late.get_mut(&key);
+        }
+        let place = find_row(&self.rows, key)?;
+        let row = &mut self.rows[place];
+        let value = row.1.as_mut()?;
+        Some(value)
     }
 
     /// Memory holds fewer than 2^63 entries. A call without effect, made where a proof rests on that.

@@ -39,8 +39,9 @@ pub(crate) fn is_row_of<V, A: Allocator>(
     row.0 == key
 }
 
-/// Where the row of a key stands. Most keys that are looked up stand last or first, or as far behind the first row as
-/// they are above its key, where keys have no gaps.
+/// Where the row of a key stands. The place that is as far behind the first row as the key is above that row's is looked
+/// at first: each row stands there if keys have no gaps, and the first row always does. Then the last row is looked at,
+/// and then all are searched.
 #[inline(always)]
 pub fn find_row<V, A: Allocator>(rows: &VecDeque<(u64, V), A>, key: u64) -> Option<usize>
     requires { T (is_sorted nat_cmp rows.now.items) }
@@ -50,19 +51,15 @@ pub fn find_row<V, A: Allocator>(rows: &VecDeque<(u64, V), A>, key: u64) -> Opti
     if len == 0 {
         return None;
     }
-    if rows[len - 1].0 == key {
-        return Some(len - 1);
-    }
-    let first = rows[0].0;
-    if first == key {
-        return Some(0);
-    }
-    let ahead = key.wrapping_sub(first);
+    let ahead = key.wrapping_sub(rows[0].0);
     if ahead < len as u64 {
         let there = ahead as usize;
         if rows[there].0 == key {
             return Some(there);
         }
+    }
+    if rows[len - 1].0 == key {
+        return Some(len - 1);
     }
     let place = place_in(rows, key);
     if is_row_of(rows, place, key) {

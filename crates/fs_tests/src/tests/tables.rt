@@ -102,6 +102,68 @@ fn fill<A: Allocator + Copy>(alloc: A) -> Result<[u64; 4], AllocError> {
     Ok([len, found, taken, left])
 }
 
+/// Puts a key as its own value, where it has none.
+fn put_key<A: Allocator + Copy>(
+    table: &mut RisingTable<u64, A>,
+    key: u64,
+) -> Result<(), AllocError> {
+    table.reserve(1)?;
+    if table.get(key).is_none() {
+        table.put(key, key);
+    }
+    Ok(())
+}
+
+/// The keys 10 to 29, then every third one from 40 to 94, of which 52 is taken out, and at last 50, which comes late.
+fn put_with_gaps<A: Allocator + Copy>(table: &mut RisingTable<u64, A>) -> Result<(), AllocError> {
+    for key in 10..30u64 {
+        put_key(table, key)?;
+    }
+    for step in 0..19u64 {
+        put_key(table, step.wrapping_mul(3).wrapping_add(40))?;
+    }
+    let _emptied = table.remove(52);
+    put_key(table, 50)
+}
+
+/// Adds a thousand to the value at a key, in its place: the value after that.
+fn add_thousand<A: Allocator + Copy>(table: &mut RisingTable<u64, A>, key: u64) -> Option<u64> {
+    let value = table.get_mut(key)?;
+    *value = value.wrapping_add(1000);
+    table.get(key).copied()
+}
+
+/// How many keys have themselves as their value.
+fn count_unchanged<A: Allocator + Copy>(table: &RisingTable<u64, A>) -> u64 {
+    let mut count: u64 = 0;
+    for key in 0..100u64 {
+        if table.get(key) == Some(&key) {
+            count = count.saturating_add(1);
+        }
+    }
+    count
+}
+
+/// The values at some keys after a thousand was added to each, and how many values stayed.
+fn change_in_place<A: Allocator + Copy>(alloc: A) -> Result<([Option<u64>; 8], u64), AllocError> {
+    let mut table = RisingTable::new(alloc);
+    let put = put_with_gaps(&mut table);
+    let changed = [
+        add_thousand(&mut table, 10),
+        add_thousand(&mut table, 94),
+        add_thousand(&mut table, 20),
+        add_thousand(&mut table, 61),
+        add_thousand(&mut table, 50),
+        add_thousand(&mut table, 52),
+        add_thousand(&mut table, 42),
+        add_thousand(&mut table, 5),
+    ];
+    let unchanged = count_unchanged(&table);
+    drop(table);
+    put?;
+    Ok((changed, unchanged))
+}
+
 #[test]
 fn keys_in_any_order_are_found(rt: HostRuntime) -> Result<(), Fail> {
     assert!(rt; fill(rt.alloc())? == [100, 100, 100, 0]);
@@ -112,6 +174,21 @@ fn keys_in_any_order_are_found(rt: HostRuntime) -> Result<(), Fail> {
 #[test]
 fn values_are_replaced_and_keys_kept(rt: HostRuntime) -> Result<(), Fail> {
     assert!(rt; change(rt.alloc())? == [100, 50, 50]);
+    Ok(())
+}
+
+/// The first key, the last, one where keys have no gaps, one behind gaps, and one that came late. Then one that was taken
+/// out, one between others and one below all, which have no value. Of the 39 other values 34 stay.
+#[test]
+fn values_are_changed_in_place(rt: HostRuntime) -> Result<(), Fail> {
+    let (changed, unchanged) = change_in_place(rt.alloc())?;
+    assert!(rt; changed[0] == Some(1010));
+    assert!(rt; changed[1] == Some(1094));
+    assert!(rt; changed[2] == Some(1020));
+    assert!(rt; changed[3] == Some(1061));
+    assert!(rt; changed[4] == Some(1050));
+    assert!(rt; changed[5].is_none() && changed[6].is_none() && changed[7].is_none());
+    assert!(rt; unchanged == 34);
     Ok(())
 }
 

@@ -1,54 +1,37 @@
-use Rattle.std.proofs.Common.{◌∙◌, rules, refl, ap, sym, subst, None, T}
-use Rattle.std.specs.Ordering.{nat_cmp}
-use Rattle.std.specs.FinMap.{is_sorted}
-use Rattle.fuse_tables.specs.LiveRows.{live}
-use Rattle.fuse_tables.proofs.Rows.{absent_is, read_there, without_there, sorted_without, sorted_with, replaced_there}
-use Rattle.fuse_tables.proofs.Live.{held, get_live, live_removed, live_emptied}
+use Rattle.std.proofs.Common.{◌∙◌, sym, arith}
+use Rattle.std.proofs.lemmas.Option.{same_Some}
+use Rattle.fuse_tables.proofs.Rows.{without_last}
+use Rattle.fuse_tables.proofs.Live.{value_at_row, live_gone}
 use Rattle.fuse_tables.proofs.live_rows.take_row.Goals as goal
 
-pub returns-in_default-clause-value : goal.returns-in_default-clause-value
-returns-in_default-clause-value g c =
-    sym (get_live c.args.rows.now.items c.args.key c.requires ∙ ap held c.in_default.ensures)
+pub returns-then-is_first-clause-value : goal.returns-then-is_first-clause-value
+returns-then-is_first-clause-value g c =
+    let there = c.is_first.ensures.0 c.if-is_first.true in
+    let row = c.unwrap.result in
+    value_at_row c.args.rows.now.items c.args.key 0 row c.requires there (same_Some _ _ (sym c.unwrap.ensures
+    ∙ c.pop_front.ensures.value row (omega (arith, there.bound))))
 
-pub returns-in_default-clause-live : goal.returns-in_default-clause-live
-returns-in_default-clause-live g c =
-    sym (absent_is (live c.args.rows.now.items) c.args.key
-    (get_live c.args.rows.now.items c.args.key c.requires ∙ ap held c.in_default.ensures))
+pub returns-then-is_first-clause-live : goal.returns-then-is_first-clause-live
+returns-then-is_first-clause-live g c =
+    let there = c.is_first.ensures.0 c.if-is_first.true in
+    (live_gone c.args.rows.now.items c.pop_front.new.self.items c.args.key 0 c.requires there
+    c.pop_front.ensures.rest).0
 
-pub returns-then-place-eq0-clause-value : goal.returns-then-place-eq0-clause-value
-returns-then-place-eq0-clause-value g c =
-    let rows = c.args.rows.now.items in
-    ap held (read_there rows rows c.args.key c.in-Some.place c.take_at.result c.requires refl c.in-Some.ensures
-    c.take_at.ensures.value) ∙ sym (get_live rows c.args.key c.requires)
+pub returns-then-is_last-clause-value : goal.returns-then-is_last-clause-value
+returns-then-is_last-clause-value g c =
+    let there = c.is_last.ensures.0 c.if-is_last.true in
+    let row = c.unwrap-then-is_last.result in
+    value_at_row c.args.rows.now.items c.args.key _ row c.requires there (same_Some _ _
+    (sym c.unwrap-then-is_last.ensures ∙ c.pop_back.ensures.value row (omega (arith, there.bound))))
 
-pub returns-then-place-eq0-clause-live : goal.returns-then-place-eq0-clause-live
-returns-then-place-eq0-clause-live g c =
-    let rows = c.args.rows.now.items in
-    ap live (c.take_at.ensures.items ∙ without_there rows c.args.key c.in-Some.place c.requires c.in-Some.ensures)
-    ∙ live_removed rows c.args.key
+pub returns-then-is_last-clause-live : goal.returns-then-is_last-clause-live
+returns-then-is_last-clause-live g c =
+    let there = c.is_last.ensures.0 c.if-is_last.true in
+    (live_gone c.args.rows.now.items c.pop_back.new.self.items c.args.key _ c.requires there
+    (c.pop_back.ensures.rest ∙ without_last c.args.rows.now.items _ (omega (arith, there.bound)))).0
 
-pub returns-then-place-eq0-clause-sorted : goal.returns-then-place-eq0-clause-sorted
-returns-then-place-eq0-clause-sorted g c =
-    let rows = c.args.rows.now.items in
-    let gone = c.take_at.ensures.items ∙ without_there rows c.args.key c.in-Some.place c.requires c.in-Some.ensures in
-    subst (λ es. T (is_sorted nat_cmp es)) (sym gone) (sorted_without rows c.args.key c.requires)
-
-pub returns-clause-value : goal.returns-clause-value
-returns-clause-value g c =
-    let rows = c.args.rows.now.items in
-    let row = ap held (read_there rows rows c.args.key c.in-Some.place c.index_mut.result.now c.requires refl c.in-Some.ensures
-    (search rules)) ∙ sym (get_live rows c.args.key c.requires) in
-    c.take.ensures.value ∙ row
-
-pub returns-clause-live : goal.returns-clause-live
-returns-clause-live g c =
-    let rows = c.args.rows.now.items in
-    ap live (replaced_there rows c.args.key c.in-Some.place c.index_mut.result.now c.take.new.self None c.in-Some.ensures
-    (search rules) (search rules)) ∙ live_emptied rows c.args.key c.requires
-
-pub returns-clause-sorted : goal.returns-clause-sorted
-returns-clause-sorted g c =
-    let rows = c.args.rows.now.items in
-    let emptied = replaced_there rows c.args.key c.in-Some.place c.index_mut.result.now c.take.new.self None
-    c.in-Some.ensures (search rules) (search rules) in
-    subst (λ es. T (is_sorted nat_cmp es)) (sym emptied) (sorted_with rows c.args.key None c.requires)
+pub returns-then-is_last-clause-sorted : goal.returns-then-is_last-clause-sorted
+returns-then-is_last-clause-sorted g c =
+    let there = c.is_last.ensures.0 c.if-is_last.true in
+    (live_gone c.args.rows.now.items c.pop_back.new.self.items c.args.key _ c.requires there
+    (c.pop_back.ensures.rest ∙ without_last c.args.rows.now.items _ (omega (arith, there.bound)))).1
