@@ -171,50 +171,6 @@ module _ {X : Type 0} where
           cc
       by Greater q rest = ap (λ (m : List (ℕ × X)). e ∷ m) rest
 
-  below_lower : (x y : ℕ) (es : List (ℕ × X)) → x < y → T (below_all nat_cmp y es) → T (below_all nat_cmp x es)
-  below_lower x y [] lt h = tt
-  below_lower x y (e ∷ es) lt h =
-      let low = less_lower y e.0 (both_first _ _ h) in
-      both _ _ (lower_less x e.0 (omega (arith, lt, low))) (below_lower x y es lt (both_second _ _ h))
-
-  put_first : (es : List (ℕ × X)) (key : ℕ) (v : X) → T (below_all nat_cmp key es) → put es key v ≡ (key, v) ∷ es
-  put_first [] key v below = refl
-  put_first (e ∷ es) key v below = by (nat_cmp key e.0) (lower (less_lower key e.0 (both_first _ _ below)))
-    where
-      lower : key < e.0 → nat_cmp key e.0 ≡ Less
-      lower low = grind (arith, low, rules)
-
-      by : (r : Ordering) → r ≡ Less
-          → by_order r ((key, v) ∷ e ∷ es) ((e.0, v) ∷ es) (e ∷ put es key v) ≡ (key, v) ∷ e ∷ es
-      by Less q = refl
-      by Equal q =
-          let no : Equal ≡ Less = q in
-          cc
-      by Greater q =
-          let no : Greater ≡ Less = q in
-          cc
-
-  -- what is put where a value was taken out stands in its place
-  pub put_again : (es : List (ℕ × X)) (key : ℕ) (v : X) → T (is_sorted nat_cmp es)
-      → put (remove es key) key v ≡ put es key v
-  put_again [] key v h = refl
-  put_again (e ∷ es) key v h =
-      elim (nat_cmp key e.0) as (λ o. nat_cmp key e.0 ≡ o → put (remove (e ∷ es) key) key v ≡ put (e ∷ es) key v) [
-        | Less ↦ λ q.
-            let low = ranked key e.0 Less (sym q) in
-            ap (λ (m : List (ℕ × X)). put m key v) (kept_above key (e ∷ es) key (omega arith)
-            (both _ _ (lower_less key e.0 low) (below_lower key e.0 es low (both_first _ _ h))))
-        | Equal ↦ λ q.
-            let same = ranked key e.0 Equal (sym q) in
-            rw (tied e.0 key (sym same), kept_above key es e.0 (omega (arith, same)) (both_first _ _ h), q)
-            (put_first es key v (subst (λ n. T (below_all nat_cmp n es)) (sym same) (both_first _ _ h))
-            ∙ ap (λ (n : ℕ). (n, v) ∷ es) same)
-        | Greater ↦ λ q.
-            let high = ranked key e.0 Greater (sym q) in
-            rw (apart e.0 key (omega arith), q) (ap (λ (fs : List (ℕ × X)). e ∷ fs)
-            (put_again es key v (both_second _ _ h)))
-      ] refl
-
 module _ {W : Type 0} where
   -- a request whose mark is that of an unread one is unread
   pub marked_unread : (o : Option (QueuedRequest W)) (m : Mark) → option_map (λ r. r.mark) o ≡ Some m

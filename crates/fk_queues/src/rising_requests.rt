@@ -118,9 +118,8 @@ fn mark_in<W: Drop, A: Allocator + Copy>(
     ensures entries { requests.new.entries ≡ set_mark unique requests.old.entries mark }
     ensures room { requests.old.room ≤ requests.new.room }
 {
-    if let Some(request) = requests.remove(unique) {
-        let QueuedRequest { mark: _, kept } = request;
-        requests.put(unique, QueuedRequest { mark, kept });
+    if let Some(request) = requests.get_mut(unique) {
+        request.mark = mark;
     }
 }
 
