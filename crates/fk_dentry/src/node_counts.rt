@@ -67,6 +67,7 @@ impl<A: Allocator + Copy> NodeCounts<A> {
         }
     }
 
+    #[inline(always)]
     fn add(&mut self, id: u64)
         requires { total_in self.old.counts.entries < self.old.most }
         ensures count { (q : ℕ) → mentions_of self.new.counts.entries q
@@ -139,6 +140,7 @@ impl<A: Allocator + Copy> NodeCounts<A> {
     }
 
     /// A dentry is gone, if there was one.
+    #[inline(always)]
     pub fn leave(&mut self, directory: u64, dentry: Option<Dentry>)
         requires { (q : ℕ) → times q (named_by directory dentry) ≤ mentions_of self.old.counts.entries q }
         ensures count { (q : ℕ) → mentions_of self.new.counts.entries q + times q (named_by directory dentry)
@@ -167,6 +169,7 @@ impl<A: Allocator + Copy> NodeCounts<A> {
 }
 
 /// Adds to the count of a node, into room that was made.
+#[inline(always)]
 fn increase<A: Allocator + Copy>(counts: &mut Counts<A>, id: u64, more: u64)
     requires room { 0 < spare counts.old }
     requires small { total_in counts.old.entries + more < 2 ^ 64 }

@@ -26,6 +26,7 @@ pub(crate) fn slot<A: Allocator>(
 }
 
 /// Puts a row without a dentry, into room that was made.
+#[inline(always)]
 pub(crate) fn add<A: Allocator + Copy>(rows: &mut Rows<A>, key: NameKey<A>)
     requires { 0 < spare rows.old }
     ensures { slots_of rows.new.entries ≡ put_name (slots_of rows.old.entries) (place_of_key key) None }

@@ -27,6 +27,7 @@ impl<Q: QueueTable<Purpose> + Drop, C: CountTable<Heap = Q::Heap> + Drop> Kernel
     }
 
     /// The call is answered.
+    #[inline(always)]
     pub(crate) fn finish(&mut self, call: u64, answer: Answer<Q::Heap>)
         requires unanswered { is_some (get self.old.vfs.calls call) ≡ true }
         ensures { self.new ≡ record self.old { vfs = answered self.old.vfs call (answer_of answer) } }

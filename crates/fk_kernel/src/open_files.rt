@@ -130,6 +130,7 @@ impl<Q: QueueTable<Purpose> + Drop, C: CountTable<Heap = Q::Heap> + Drop> Kernel
 
     /// The call's request ends, and the call is answered. A closed file that it read or wrote is let go. Takes no
     /// memory.
+    #[inline(always)]
     pub(crate) fn end_call(&mut self, unique: u64, call: u64, answer: Answer<Q::Heap>)
         requires waits { is_some (waiting self.old.queues unique) ≡ true }
         requires unanswered { is_some (get self.old.vfs.calls call) ≡ true }

@@ -81,6 +81,7 @@ impl<Q: QueueTable<Purpose> + Drop, C: CountTable<Heap = Q::Heap> + Drop> Kernel
     ///
     /// `Exhausted` where they would have a request queued for which no number is left, or bring a node's count to the
     /// end of counters.
+    #[inline(always)]
     pub(crate) fn reply_to_call<'a>(
         &self,
         head: ReplyHead,

@@ -83,6 +83,7 @@ impl<Q: QueueTable<Purpose>> QueueTable<Purpose> for KernelQueues<Q> {
         }
     }
 
+    #[inline(always)]
     fn reserve(&mut self, requests: usize, forgets: usize) -> Result<(), NoMemory> {
         self.queues.reserve(requests, forgets)?;
         self.releases.reserve(requests)?;
@@ -94,6 +95,7 @@ impl<Q: QueueTable<Purpose>> QueueTable<Purpose> for KernelQueues<Q> {
         self.queues.numbers_left()
     }
 
+    #[inline(always)]
     fn enqueue(&mut self, kept: Purpose) -> u64 {
         self.queues.lemma_sound();
         pin_released(&mut self.releases, kept);
@@ -106,6 +108,7 @@ impl<Q: QueueTable<Purpose>> QueueTable<Purpose> for KernelQueues<Q> {
         self.queues.forget(node, count);
     }
 
+    #[inline(always)]
     fn pending(&self, place: usize) -> Option<(u64, &Purpose)> {
         self.queues.pending(place)
     }
@@ -138,6 +141,7 @@ impl<Q: QueueTable<Purpose>> QueueTable<Purpose> for KernelQueues<Q> {
         self.queues.waiting(unique)
     }
 
+    #[inline(always)]
     fn answer(&mut self, unique: u64) -> Option<Purpose> {
         let kept = self.queues.answer(unique)?;
         unpin_released(&mut self.releases, kept);

@@ -89,6 +89,7 @@ impl<W: Drop, S: RequestStore<W>> QueueTable<W> for QueuesOf<W, S> {
         }
     }
 
+    #[inline(always)]
     fn reserve(&mut self, requests: usize, forgets: usize) -> Result<(), NoMemory> {
         self.requests.reserve(requests)?;
         let Some(most) = self.requests.len().checked_add(requests) else {
@@ -161,6 +162,7 @@ impl<W: Drop, S: RequestStore<W>> QueueTable<W> for QueuesOf<W, S> {
         Some(&request.kept)
     }
 
+    #[inline(always)]
     fn waiting(&self, unique: u64) -> Option<&W> {
         let request = self.requests.request(unique)?;
         match request.mark {

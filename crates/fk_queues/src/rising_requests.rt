@@ -68,6 +68,7 @@ impl<W: Drop, A: Allocator + Copy> RequestStore<W> for RisingRequests<W, A> {
         self.unread.reserve(more)
     }
 
+    #[inline(always)]
     fn pending(&self, place: usize) -> Option<(u64, &QueuedRequest<W>)> {
         let Some(unique) = number_at(&self.unread, place) else {
             return None;
@@ -78,10 +79,12 @@ impl<W: Drop, A: Allocator + Copy> RequestStore<W> for RisingRequests<W, A> {
         Some((unique, request))
     }
 
+    #[inline(always)]
     fn request(&self, unique: u64) -> Option<&QueuedRequest<W>> {
         self.requests.get(unique)
     }
 
+    #[inline(always)]
     fn push(&mut self, unique: u64, kept: W) {
         let request = QueuedRequest {
             mark: Mark::Unread,
@@ -91,6 +94,7 @@ impl<W: Drop, A: Allocator + Copy> RequestStore<W> for RisingRequests<W, A> {
         self.unread.push_back_reserved(unique);
     }
 
+    #[inline(always)]
     fn put_mark(&mut self, unique: u64, mark: Mark) {
         mark_in(&mut self.requests, unique, mark);
         if !is_unread(mark) {
@@ -98,6 +102,7 @@ impl<W: Drop, A: Allocator + Copy> RequestStore<W> for RisingRequests<W, A> {
         }
     }
 
+    #[inline(always)]
     fn take(&mut self, unique: u64) -> Option<QueuedRequest<W>> {
         drop_number(&mut self.unread, unique);
         self.requests.remove(unique)
@@ -110,6 +115,7 @@ impl<W: Drop, A: Allocator + Copy> RequestStore<W> for RisingRequests<W, A> {
 }
 
 /// Gives the request under a number this mark.
+#[inline(always)]
 fn mark_in<W: Drop, A: Allocator + Copy>(
     requests: &mut RisingTable<QueuedRequest<W>, A>,
     unique: u64,
@@ -141,6 +147,7 @@ fn is_first<A: Allocator>(numbers: &VecDeque<u64, A>, number: u64) -> bool
 }
 
 /// Takes a number out, if it is there. Most that go stand first.
+#[inline(always)]
 fn drop_number<A: Allocator>(numbers: &mut VecDeque<u64, A>, number: u64)
     requires { Rises numbers.old.items }
     ensures items { numbers.new.items ≡ filter (λ n. not (nat_eq number n)) numbers.old.items }

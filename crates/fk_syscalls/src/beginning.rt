@@ -35,6 +35,7 @@ const MAX_TRANSFER: u64 = limits::MAX_TRANSFER as u64;
 /// # Errors
 ///
 /// Out of memory. The call would ask an operation.
+#[inline(always)]
 pub fn begin<A: Allocator + Copy>(
     alloc: A,
     names: &Bindings<A>,
@@ -133,6 +134,7 @@ impl Change {
 }
 
 /// A call of which all words are walked.
+#[inline(always)]
 fn begin_whole<A: Allocator + Copy>(
     alloc: A,
     names: &Bindings<A>,
@@ -235,6 +237,7 @@ fn begin_link<A: Allocator + Copy>(
 }
 
 /// A call walks from the root along the words from a place on.
+#[inline(always)]
 fn start_walk<A: Allocator + Copy>(
     alloc: A,
     names: &Bindings<A>,

@@ -108,6 +108,7 @@ fn second_walk<A: Allocator + Copy>(
 }
 
 /// The first walk has come to a node: the call asks its operation there, or sets out on its second walk.
+#[inline(always)]
 fn walk_finished<A: Allocator + Copy>(
     names: &Bindings<A>,
     clock: u64,

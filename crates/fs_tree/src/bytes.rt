@@ -15,6 +15,7 @@ use std::alloc::{AllocError, Allocator};
 
 impl<A: Allocator + Copy> Tree<A> {
     /// What is known of a file. Of one that is not in the tree: another kind, no bytes, no links.
+    #[inline(always)]
     pub fn getattr(&self, file: u64) -> Attributes
         requires { file < counter_end }
         ensures { result ≡ attributes_of self.now file }

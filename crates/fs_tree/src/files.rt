@@ -86,6 +86,7 @@ impl<A: Allocator + Copy> Files<A> {
     }
 
     /// Of what kind a file is; of a file that is not there, another.
+    #[inline(always)]
     pub(crate) fn kind(&self, file: u64) -> Kind
         ensures { result ≡ kind_of (get self.now file) }
     {

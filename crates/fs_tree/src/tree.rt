@@ -159,6 +159,7 @@ impl<A: Allocator + Copy> Tree<A> {
     }
 
     /// The file to which a name leads; in a file that is no directory there is none.
+    #[inline(always)]
     pub fn file_at(&self, directory: u64, name: &[u8]) -> Option<u64>
         ensures { result ≡ file_at self.now directory name.now }
     {

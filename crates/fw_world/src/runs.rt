@@ -89,6 +89,7 @@ fn run_one<T: Tables>(
 }
 
 /// Collects and records every answer that waits.
+#[inline(always)]
 pub(crate) fn collect_all<T: Tables>(
     world: &mut WorldOf<T>,
     records: &mut Vec<Record<T::Heap>, T::Heap>,
