@@ -1,11 +1,10 @@
 -- The directories of the names of each file, as names come and go.
 use Rattle.std.proofs.Common.{◌≡◌, ℕ, ◌+◌, ◌<◌, Bool, true, false, not, cond, List, [], ◌∷◌, ◌++◌, map, filter, find, count_by, Some, refl, sym, ap, ◌∙◌, nat_eq, length, slice_get, arith}
 use Rattle.std.specs.Option.{option_map}
-use Rattle.std.specs.Ordering.{nat_cmp, is_eq}
-use Rattle.std.specs.Map.{lookup}
 use Rattle.std.proofs.lemmas.List.{map-append, append-nil}
 use Rattle.std.proofs.lemmas.List.Sums.{length-filter}
 use Rattle.std.proofs.lemmas.Grind.{common_steps}
+use Rattle.fuse_spec.specs.Values.Maps.{get}
 use Rattle.fuse_spec.specs.Files.Trees.{Named}
 use Rattle.fs_tree.specs.Stored.{AreKeysBelow, IsRising, AreByFile, parent_of}
 use Rattle.fs_tree.specs.Views.{named_of}
@@ -119,14 +118,14 @@ AreByFile-removed parents after low next names n cookie is rising found by_file 
 
 module _ {A : Type 0} where
   -- the name that a row shows is found by its cookie
-  pub row-found : (cookie : ℕ) (es : List (ℕ × Row A)) (r : Row A) → lookup (λ k. is_eq (nat_cmp cookie k)) es ≡ Some r
+  pub row-found : (cookie : ℕ) (es : List (ℕ × Row A)) (r : Row A) → get es cookie ≡ Some r
       → find (λ n. nat_eq n.cookie cookie) (map named_of es) ≡ Some (named_of (cookie, r))
   row-found cookie [] r found = cc
   row-found cookie (e ∷ es) r found = by (nat_eq cookie e.0) refl (rw (is_eq-nat_cmp cookie e.0) at found)
       (row-found cookie es r)
     where
-      by : (b : Bool) → nat_eq cookie e.0 ≡ b → cond b (Some e.1) (lookup (λ k. is_eq (nat_cmp cookie k)) es) ≡ Some r
-          → (lookup (λ k. is_eq (nat_cmp cookie k)) es ≡ Some r
+      by : (b : Bool) → nat_eq cookie e.0 ≡ b → cond b (Some e.1) (get es cookie) ≡ Some r
+          → (get es cookie ≡ Some r
           → find (λ n. nat_eq n.cookie cookie) (map named_of es) ≡ Some (named_of (cookie, r)))
           → cond (nat_eq e.0 cookie) (Some (named_of e)) (find (λ n. nat_eq n.cookie cookie) (map named_of es))
           ≡ Some (named_of (cookie, r))

@@ -1,5 +1,5 @@
 -- Rows by cookie, kept in a map in rising cookie.
-use Rattle.std.proofs.Common.{◌≡◌, ℕ, ◌<◌, Bool, true, false, not, cond, List, [], ◌∷◌, ◌++◌, filter, refl, sym, ap, ◌∙◌, arith, nat_eq, Less, Greater}
+use Rattle.std.proofs.Common.{◌≡◌, ℕ, ◌<◌, Bool, true, false, not, cond, List, [], ◌∷◌, ◌++◌, filter, refl, sym, ap, ◌∙◌, arith, nat_eq, Less, Greater, None, Some}
 use Rattle.std.specs.Ordering.{nat_cmp, is_eq}
 use Rattle.std.specs.Cmp.{ranked, nat_cmp_is}
 use Rattle.std.specs.Map.{remove_entry, keys_of}
@@ -7,6 +7,7 @@ use Rattle.std.specs.List.{AllByRecursion}
 use Rattle.std.specs.List.Sorted.{IsStrictlySortedBy}
 use Rattle.std.specs.BTreeMap.{insert_entry}
 use Rattle.std.proofs.lemmas.Grind.{common_steps}
+use Rattle.fuse_spec.specs.Values.Maps.{get, put, remove}
 use Rattle.fs_tree.specs.Stored.{AreKeysBelow}
 use Rattle.fs_tree.proofs.FileRows.{is_eq-nat_cmp}
 
@@ -28,6 +29,24 @@ module _ {V : Type 0} where
   put-last (e ∷ es) key v below =
       let higher : e.0 < key = below.0 in
       rw (← nat_cmp_is key e.0 Greater (omega arith)) (ap (λ l. e ∷ l) (put-last es key v below.1))
+
+  -- the same in rows
+  pub put-behind : (es : List (ℕ × V)) (key : ℕ) (v : V) → AreKeysBelow key es → put es key v ≡ es ++ (key, v) ∷ []
+  put-behind [] key v below = refl
+  put-behind (e ∷ es) key v below =
+      let higher : e.0 < key = below.0 in
+      rw (← nat_cmp_is key e.0 Greater (omega arith)) (ap (λ l. e ∷ l) (put-behind es key v below.1))
+
+  -- where a key has no row, it takes none away
+  pub remove-absent : (es : List (ℕ × V)) (key : ℕ) → get es key ≡ None → remove es key ≡ es
+  remove-absent [] key none = refl
+  remove-absent (e ∷ es) key none = by (nat_eq key e.0) refl (rw (is_eq-nat_cmp key e.0) at none)
+      (remove-absent es key)
+    where
+      by : (b : Bool) → nat_eq key e.0 ≡ b → cond b (Some e.1) (get es key) ≡ None
+          → (get es key ≡ None → remove es key ≡ es) → remove (e ∷ es) key ≡ e ∷ es
+      by true same none rest = absurd (cc)
+      by false other none rest = rw (swapped key e.0 false other) (ap (λ l. e ∷ l) (rest none))
 
   -- where all keys are above one, it is not among them
   kept-above : (key : ℕ) (es : List (ℕ × V)) → AllByRecursion (λ y. nat_cmp key y ≡ Less) (keys_of es)

@@ -4,9 +4,9 @@ ghost use Rattle.std.specs.Prelude.{◌≡◌, ℕ, ◌++◌, ◌∷◌, [], fin
 ghost use Rattle.fs_tree.specs.Stored.{AreCookiesRising, IsRising, without_cookie};
 
 use crate::parents::{ParentsByFile, close, open, put_last_in, remove_from};
+use fuse_tables::RisingTable;
 use indexmap::IndexMap;
 use std::alloc::{AllocError, Allocator};
-use std::collections::BTreeMap;
 use std::marker::Model;
 
 /// A name in a directory, and the file to which it leads.
@@ -17,10 +17,11 @@ pub(crate) struct Row<A: Allocator> {
     pub(crate) file: u64,
 }
 
-/// The names by cookie, and for each file the directories of its names.
+/// The names by cookie, and for each file the directories of its names. Cookies rise by 1, so most names stand as far
+/// behind the first as their cookie is above its.
 #[derive(Drop)]
 pub(crate) struct Rows<A: Allocator> {
-    names: BTreeMap<u64, Row<A>, A>,
+    names: RisingTable<Row<A>, A>,
     parents: ParentsByFile<A>,
     alloc: A,
 }
@@ -44,7 +45,7 @@ impl<A: Allocator + Copy> Rows<A> {
         ensures { result ≡ [] }
     {
         Rows {
-            names: BTreeMap::new(alloc),
+            names: RisingTable::new(alloc),
             parents: IndexMap::new(alloc),
             alloc,
         }
@@ -101,11 +102,14 @@ impl<A: Allocator + Copy> Rows<A> {
             name,
             file,
         };
-        match self.names.insert(cookie, row) {
-            Ok(_) => Ok(()),
-            Err(_) => {
+        match self.names.reserve_last(1) {
+            Ok(()) => {
+                self.names.put(cookie, row);
+                Ok(())
+            }
+            Err(error) => {
                 remove_from(&mut self.parents, file, cookie);
-                Err(AllocError)
+                Err(error)
             }
         }
     }
@@ -118,8 +122,7 @@ impl<A: Allocator + Copy> Rows<A> {
         let Some(cookie) = cookie else {
             return;
         };
-        let _len = self.names.len();
-        let Some(row) = self.names.remove(&cookie) else {
+        let Some(row) = self.names.remove(cookie) else {
             return;
         };
         remove_from(&mut self.parents, row.file, cookie);

@@ -2,26 +2,30 @@ use Rattle.std.proofs.Common.{ap, sym, ◌∙◌, map, not, nat_eq, refl}
 use Rattle.fs_tree.specs.Stored.{parents_in}
 use Rattle.fs_tree.specs.Views.{named_of}
 use Rattle.fs_tree.proofs.ListLemmas.{filter-map}
-use Rattle.fs_tree.proofs.CookieRows.{removed-key}
+use Rattle.fs_tree.proofs.CookieRows.{remove-absent}
 use Rattle.fs_tree.proofs.ByFile.{AreByFile-same, AreByFile-removed, row-found}
 use Rattle.fs_tree.proofs.rows.Rows.remove.Goals as goal
 
 pub returns-in_default-remove : goal.returns-in_default-remove
 returns-in_default-remove g c =
-    let gone = removed-key c.in-Some.cookie c.self.inside.names.entries c.len-len.ensures.ordered in
     rw (← c.self.view_is, c.in-Some.is)
-    (ap (map named_of) (c.remove.ensures.entries ∙ gone) ∙ filter-map named_of _
+    (ap (map named_of) c.remove.ensures.entries ∙ filter-map named_of _
     (λ n. not (nat_eq n.cookie c.in-Some.cookie)) (λ e. refl) c.self.inside.names.entries)
+
+pub invariant_of-self : goal.invariant_of-self
+invariant_of-self g c = rw (
+  c.remove.ensures.entries,
+  remove-absent c.self.inside.names.entries c.in-Some.cookie
+      (sym c.remove.ensures.value ∙ c.in_default-remove.is),
+) c.self.invariant
 
 pub invariant_of-self-2 : goal.invariant_of-self-2
 invariant_of-self-2 g c =
     let rising = rw (← c.self.view_is) at c.requires in
-    let gone = removed-key c.in-Some.cookie c.self.inside.names.entries c.len-len.ensures.ordered in
     let found = row-found c.in-Some.cookie c.self.inside.names.entries c.in-Some-remove.row
     (sym c.remove.ensures.value ∙ c.in-Some-remove.is) in
     rw (
       c.remove.ensures.entries,
-      gone,
       filter-map named_of (λ e. not (nat_eq e.0 c.in-Some.cookie))
           (λ n. not (nat_eq n.cookie c.in-Some.cookie)) (λ e. refl) c.self.inside.names.entries,
     )
@@ -32,7 +36,6 @@ invariant_of-self-2 g c =
 
 pub returns : goal.returns
 returns g c =
-    let gone = removed-key c.in-Some.cookie c.self.inside.names.entries c.len-len.ensures.ordered in
     rw (← c.self.view_is, c.in-Some.is)
-    (ap (map named_of) (c.remove.ensures.entries ∙ gone) ∙ filter-map named_of _
+    (ap (map named_of) c.remove.ensures.entries ∙ filter-map named_of _
     (λ n. not (nat_eq n.cookie c.in-Some.cookie)) (λ e. refl) c.self.inside.names.entries)
