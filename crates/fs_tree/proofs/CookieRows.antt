@@ -1,12 +1,14 @@
 -- Rows by cookie, kept in a map in rising cookie.
-use Rattle.std.proofs.Common.{◌≡◌, ℕ, ◌<◌, Bool, true, false, not, cond, List, [], ◌∷◌, ◌++◌, filter, refl, sym, ap, ◌∙◌, arith, nat_eq, Less, Greater, None, Some}
+use Rattle.std.proofs.Common.{◌≡◌, ℕ, ◌<◌, Bool, true, false, not, cond, List, [], ◌∷◌, ◌++◌, filter, refl, sym, ap, ◌∙◌, arith, nat_eq, Less, Greater, Option, None, Some}
 use Rattle.std.specs.Ordering.{nat_cmp, is_eq}
 use Rattle.std.specs.Cmp.{ranked, nat_cmp_is}
+use Rattle.std.specs.Option.{option_to_list}
 use Rattle.std.specs.Map.{remove_entry, keys_of}
 use Rattle.std.specs.List.{AllByRecursion}
 use Rattle.std.specs.List.Sorted.{IsStrictlySortedBy}
 use Rattle.std.specs.BTreeMap.{insert_entry}
 use Rattle.std.proofs.lemmas.Grind.{common_steps}
+use Rattle.std.proofs.lemmas.List.Elements.{filter-append}
 use Rattle.fuse_spec.specs.Values.Maps.{get, put, remove}
 use Rattle.fs_tree.specs.Stored.{AreKeysBelow}
 use Rattle.fs_tree.proofs.FileRows.{is_eq-nat_cmp}
@@ -29,6 +31,13 @@ module _ {V : Type 0} where
   put-last (e ∷ es) key v below =
       let higher : e.0 < key = below.0 in
       rw (← nat_cmp_is key e.0 Greater (omega arith)) (ap (λ l. e ∷ l) (put-last es key v below.1))
+
+  -- the same where the first row may stand outside the map
+  pub put-last-after : (first : Option (ℕ × V)) (es : List (ℕ × V)) (key : ℕ) (v : V)
+      → AreKeysBelow key (option_to_list first ++ es)
+      → option_to_list first ++ insert_entry nat_cmp es key v ≡ (option_to_list first ++ es) ++ (key, v) ∷ []
+  put-last-after None es key v below = put-last es key v below
+  put-last-after (Some e) es key v below = ap (λ l. e ∷ l) (put-last es key v below.1)
 
   -- the same in rows
   pub put-behind : (es : List (ℕ × V)) (key : ℕ) (v : V) → AreKeysBelow key es → put es key v ≡ es ++ (key, v) ∷ []
@@ -72,6 +81,15 @@ module _ {V : Type 0} where
           rw (swapped key e.0 true same) (sym (ap (λ k. filter (λ e. not (nat_eq e.0 k)) es)
           (sym one) ∙ kept-above e.0 es above))
       by false other rest above = rw (swapped key e.0 false other) (ap (λ l. e ∷ l) rest)
+
+  -- the same where the first row may stand outside the map
+  pub removed-after : (key : ℕ) (first left : Option (ℕ × V)) (es : List (ℕ × V))
+      → option_to_list left ≡ filter (λ e. not (nat_eq e.0 key)) (option_to_list first)
+      → IsStrictlySortedBy nat_cmp (keys_of es)
+      → option_to_list left ++ remove_entry (λ k. is_eq (nat_cmp key k)) es
+      ≡ filter (λ e. not (nat_eq e.0 key)) (option_to_list first ++ es)
+  removed-after key first left es is sorted = rw (is, removed-key key es sorted)
+      (sym (filter-append (λ e. not (nat_eq e.0 key)) (option_to_list first) es))
 
   -- a key put last that goes again
   pub put-undone : (es : List (ℕ × V)) (key : ℕ) (v : V) → AreKeysBelow key es

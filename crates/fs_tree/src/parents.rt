@@ -11,17 +11,22 @@ use std::hash::{BuildHasherDefault, FoldHasher};
 use std::marker::Model;
 
 /// The directories of the names that lead to a file, by the cookies of the names.
+///
+/// Nearly every file has one name. It stands here, and takes no memory of its own. A name that comes while there is
+/// another stands in a map, and stays there when the first one goes.
 #[derive(Drop)]
 pub(crate) struct Parents<A: Allocator> {
-    directories: BTreeMap<u64, u64, A>,
+    /// Its cookie and its directory.
+    first: Option<(u64, u64)>,
+    later: BTreeMap<u64, u64, A>,
 }
 
 impl<A: Allocator> Model for Parents<A> {
-    ghost use Rattle.std.specs.Prelude.{List, ℕ};
+    ghost use Rattle.std.specs.Prelude.{List, ℕ, ◌++◌, option_to_list};
 
     ghost Value = { List (ℕ × ℕ) };
 
-    ghost view = { λ p. p.directories.entries };
+    ghost view = { λ p. option_to_list p.first ++ p.later.entries };
 }
 
 pub(crate) type ParentsByFile<A> = IndexMap<u64, Parents<A>, BuildHasherDefault<FoldHasher>, A>;
@@ -31,7 +36,8 @@ impl<A: Allocator + Copy> Parents<A> {
         ensures { result ≡ [] }
     {
         Parents {
-            directories: BTreeMap::new(alloc),
+            first: None,
+            later: BTreeMap::new(alloc),
         }
     }
 
@@ -39,26 +45,37 @@ impl<A: Allocator + Copy> Parents<A> {
     pub(crate) fn len(&self) -> usize
         ensures { result ≡ length self.now }
     {
-        self.directories.len()
+        let later = self.later.len();
+        match self.first {
+            Some(_) => later + 1,
+            None => later,
+        }
     }
 
     /// The directory of the first name.
     pub(crate) fn first(&self) -> Option<u64>
         ensures { result ≡ option_map (λ e. e.1) (slice_get self.now 0) }
     {
-        match self.directories.first_key_value() {
+        if let Some((_, directory)) = self.first {
+            return Some(directory);
+        }
+        match self.later.first_key_value() {
             Some((_, directory)) => Some(*directory),
             None => None,
         }
     }
 
-    /// Puts a name last.
+    /// Puts a name last. Where memory is refused nothing changes.
     fn put_last(&mut self, cookie: u64, directory: u64) -> Result<(), AllocError>
         requires { AreKeysBelow cookie self.old }
         ensures ok { OnOk result (self.new ≡ self.old ++ (cookie, directory) ∷ []) }
         ensures unchanged { OnErr result (self.new ≡ self.old) }
     {
-        let _none = self.directories.insert(cookie, directory)?;
+        if self.first.is_none() && self.later.is_empty() {
+            self.first = Some((cookie, directory));
+            return Ok(());
+        }
+        let _none = self.later.insert(cookie, directory)?;
         Ok(())
     }
 
@@ -66,8 +83,13 @@ impl<A: Allocator + Copy> Parents<A> {
     fn remove(&mut self, cookie: u64)
         ensures { self.new ≡ filter (λ e. not (nat_eq e.0 cookie)) self.old }
     {
-        let _len = self.directories.len();
-        let _directory = self.directories.remove(&cookie);
+        let _len = self.later.len();
+        let _directory = self.later.remove(&cookie);
+        if let Some((first, _)) = self.first {
+            if first == cookie {
+                self.first = None;
+            }
+        }
     }
 }
 
