@@ -178,7 +178,7 @@ fn values_are_replaced_and_keys_kept(rt: HostRuntime) -> Result<(), Fail> {
 }
 
 /// The first key, the last, one where keys have no gaps, one behind gaps, and one that came late. Then one that was taken
-/// out, one between others and one below all, which have no value. Of the 39 other values 34 stay.
+/// out, one between others and one below all, which have no value. Of 39 values 5 are changed.
 #[test]
 fn values_are_changed_in_place(rt: HostRuntime) -> Result<(), Fail> {
     let (changed, unchanged) = change_in_place(rt.alloc())?;
