@@ -313,6 +313,16 @@ def listing(rounds, word):
     return script
 
 
+def made(n):
+    """So many names are made in a directory."""
+    script = Script(LONG, LONG)
+    script.ask("mkdir /l")
+    script.prepare()
+    for name in range(n):
+        script.ask(f"mkdir /l/{name}")
+    return script
+
+
 def pages(n, word, a_page):
     """So many names are made in a directory, which is then listed page by page."""
     script = Script(LONG, LONG)
@@ -440,6 +450,7 @@ def rows(counts):
         ("writes into a file of 65,536 bytes", full_file, SMALL),
         ("`list` of 25 names", lambda n: listing(n, "list"), SMALL),
         ("`listplus` of 25 names", lambda n: listing(n, "listplus"), SMALL),
+        ("names made", made, [256, 1024, 4095]),
         ("names listed page by page", lambda n: pages(n, "list", 100), [256, 1024, 4095]),
         ("the same by READDIRPLUS", lambda n: pages(n, "listplus", 20), [256, 1024, 4095]),
         ("all kinds of lines, drawn", at_random, [1000, 10000, 30000]),
