@@ -325,10 +325,7 @@ def made(n):
 
 def pages(n, word, a_page):
     """So many names are made in a directory, which is then listed page by page."""
-    script = Script(LONG, LONG)
-    script.ask("mkdir /l")
-    for name in range(n):
-        script.ask(f"mkdir /l/{name}")
+    script = made(n)
     script.prepare()
     # Offsets are the names' cookies, which rise by one from that of /l, which is 1.
     for first in range(1, n + 1, a_page):
