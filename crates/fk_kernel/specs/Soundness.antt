@@ -32,7 +32,7 @@ pub record AreFiles {V : Type 0} (calls : Map V) (opens closing : Map Opened) (c
   pub closing_apart : (n : ℕ) → get calls n ≢ None → get closing n ≡ None
   pub closed_once : (n : ℕ) → get opens n ≢ None → get closing n ≡ None
 
--- No node's count has reaches the end of counters, and there is room to queue a forget of each counted node.
+-- No node's count has reached the end of counters, and there is room to queue a forget of each counted node.
 pub record CanForgetAll (nodes : Map Counted) (forgets : ℕ) : Type 0 where
   pub below : HaveCountsInRange nodes
   pub room : length nodes ≤ forgets

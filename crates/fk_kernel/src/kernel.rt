@@ -116,7 +116,7 @@ impl<Q: QueueTable<Purpose> + Drop, C: CountTable<Heap = Q::Heap> + Drop> Kernel
         self.queues.lemma_sound();
     }
 
-    /// No node's count has reaches the end of counters, and nodes stand in rising id. A call without effect, made where
+    /// No node's count has reached the end of counters, and nodes stand in rising id. A call without effect, made where
     /// a proof rests on that.
     pub fn lemma_counts_in_range(&self)
         ensures sorted { T (is_sorted nat_cmp self.now.nodes) }

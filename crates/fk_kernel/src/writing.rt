@@ -23,7 +23,7 @@ impl<Q: QueueTable<Purpose> + Drop, C: CountTable<Heap = Q::Heap> + Drop> Kernel
     /// # Errors
     ///
     /// Of a reply to the request of a call: `Exhausted` where no number is left for the request that would be queued,
-    /// or a node's count would reaches the end of counters, as `write_refusal` says; then `NoMemory`. The kernel is as
+    /// or a node's count would reach the end of counters, as `write_refusal` says; then `NoMemory`. The kernel is as
     /// before.
     pub fn write(&mut self, bytes: &[u8]) -> Result<WriteResult, Refusal>
         ensures err { OnErr result (self.new ≡ self.old) }

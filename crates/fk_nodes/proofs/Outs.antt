@@ -1,4 +1,4 @@
--- Whether a node's count has reaches the end of counters.
+-- Whether a node's count has reached the end of counters.
 use Rattle.std.proofs.Common.{◌≡◌, ℕ, ◌+◌, ◌≤◌, ◌<◌, Bool, true, false, true≢false, cond, List, [], ◌∷◌, length, Option, Some, None, T, refl, ap, sym, subst, ◌∙◌, inl, inr, arith}
 use Rattle.std.specs.Prelude.{nat_le, ◌||◌}
 use Rattle.std.specs.Cmp.{nat_cmp_total}

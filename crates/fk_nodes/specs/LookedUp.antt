@@ -43,7 +43,7 @@ times_listed id generation [] = 0
 times_listed id generation (pair ∷ pairs) = cond (is_of_node id generation (listed_by pair))
     (suc (times_listed id generation pairs)) (times_listed id generation pairs)
 
--- No node's count has reaches the end of counters.
+-- No node's count has reached the end of counters.
 pub record HaveCountsInRange (nodes : Map Counted) : Type 0 where
   pub below : (id : ℕ) (counted : Counted) → get nodes id ≡ Some counted → counted.count < counter_end
 
@@ -51,7 +51,7 @@ pub record HaveCountsInRange (nodes : Map Counted) : Type 0 where
 pub record AreAtMost (most : ℕ) (nodes : Map Counted) : Type 0 where
   pub within : (id : ℕ) (counted : Counted) → get nodes id ≡ Some counted → counted.count ≤ most
 
--- Some node's count has reaches the end of counters.
+-- Some node's count has reached the end of counters.
 pub record SomeOut (nodes : Map Counted) : Type 0 where
   pub id : ℕ
   pub counted : Counted

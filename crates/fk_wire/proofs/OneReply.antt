@@ -188,7 +188,7 @@ record_count_is kind.Records bytes n h = counted_from (length bytes) false n 16 
 record_count_is kind.RecordsPlus bytes n h = counted_from (length bytes) true n 16 bytes h
     (omega (arith, h, ends_beyond true n 16 bytes))
 
--- a kind of replies that a minor version minor_knows
+-- a kind of replies that a minor version knows
 known_kind : (known : Bool) (kind : Option ReplyKind) (k : ReplyKind) → (if known then kind else None) ≡ Some k
     → kind ≡ Some k
 known_kind true kind k e = e
@@ -217,7 +217,7 @@ decoded_reply_is_at minor o bytes t h =
     ap (cast_signed w32) h.5.1.0 ∙ to_z-of_z w32 t.error (error_fits t.error h.1) in
     same_message (decoded_reply o bytes) t h.5.1.1.0 error content
 
--- and so at the minor version that is latest_minor
+-- and so at the latest minor version
 pub decoded_reply_is : (o : Opcode) (bytes : List ℕ) (t : ReplyMessage) → SpellsReply o bytes t
     → decoded_reply o bytes ≡ t
 decoded_reply_is o bytes t h = decoded_reply_is_at latest_minor o bytes t h

@@ -136,7 +136,7 @@ decoded_is_at minor bytes m h =
     (has_node (opcode_of m.content)) m.nodeid bytes (node_at minor bytes m h) in
     same_message (decoded bytes) m h.3.1.1.0 nodeid content
 
--- and so at the minor version that is latest_minor
+-- and so at the latest minor version
 pub decoded_is : (bytes : List ℕ) (m : RequestMessage) → Spells bytes m → decoded bytes ≡ m
 decoded_is bytes m h = decoded_is_at latest_minor bytes m h
 

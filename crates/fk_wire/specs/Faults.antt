@@ -33,7 +33,7 @@ BodyFaultIs shape bytes _ = ⊥
 abbrev pub HasLength : List ℕ → Type 0
 HasLength bytes = (40 ≤ length bytes) × (number_at 0 4 bytes ≡ length bytes)
 
--- A frame has this opcode, and the minor version minor_knows it.
+-- A frame has this opcode, and the minor version knows it.
 abbrev pub HasOpcode : Minor → List ℕ → Opcode → Type 0
 HasOpcode minor bytes o = IsTrue (minor_knows minor o) × (code_of o ≡ number_at 4 4 bytes)
 
@@ -61,7 +61,7 @@ RefusalIsAt minor m faults.Memory = IsTrue (minor_knows minor (opcode_of m.conte
     × HaveNames (request_body m.content)
 RefusalIsAt minor m _ = ⊥
 
--- The same, at the minor version that is latest_minor.
+-- The same, at the latest minor version.
 abbrev pub FaultIs : List ℕ → WireFault → Type 0
 FaultIs = FaultIsAt latest_minor
 

@@ -1,4 +1,4 @@
--- The opcodes: a row of what is fixed for each, and which of them a minor version minor_knows.
+-- The opcodes: a row of what is fixed for each, and which of them a minor version knows.
 use Rattle.std.specs.Prelude.{ℕ, Bool, true, false, ◌==◌, List, [], ◌∷◌, codes, if◌then◌else◌, Option, Some, None}
 use Rattle.fk_wire.specs.declared.opcode.Opcode.{Opcode}
 use Rattle.fk_wire.specs.declared.opcode.Opcode.TheVariants as op
@@ -109,7 +109,7 @@ first_with code (o ∷ os) = if code == code_of o then o else first_with code os
 abbrev pub opcode_from : ℕ → Opcode
 opcode_from code = first_with code opcodes
 
--- whether a minor version minor_knows an opcode
+-- whether a minor version knows an opcode
 abbrev pub minor_knows : Minor → Opcode → Bool
 minor_knows minors.M31 o = true
 minor_knows minors.M15 o = if is_later o then false else true

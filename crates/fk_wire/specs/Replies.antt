@@ -80,7 +80,7 @@ kind_of_content (create_reply e fh) = kind.Create
 kind_of_content (records_reply ds) = kind.Records
 kind_of_content (plus_reply ps) = kind.RecordsPlus
 
--- whether a minor version minor_knows an opcode whose replies have such a body
+-- whether a minor version knows an opcode whose replies have such a body
 abbrev pub knows_kind : Minor → ReplyKind → Bool
 knows_kind minors.M31 k = true
 knows_kind minors.M15 kind.RecordsPlus = false
@@ -189,7 +189,7 @@ WrittenReplyAt minor t bytes = (length bytes ≤ max_frame) × IsErrorNumber t.e
     × HasReplyNames t.content × InRange (reply_fields (length bytes) t) × HaveNames (reply_fields (length bytes) t)
     × (bytes ≡ spellings (reply_fields (length bytes) t))
 
--- The same, at the minor version that is latest_minor.
+-- The same, at the latest minor version.
 abbrev pub SpellsReply : Opcode → List ℕ → ReplyMessage → Type 0
 SpellsReply = SpellsReplyAt latest_minor
 

@@ -261,7 +261,7 @@ module _ (old new : FilesState) (v : Validity) (named : AreNamed new.tree new.no
       by false e = absurd (not_both new v named.rows named.opens x is (no_node x (unheld old v x e))
           (no_number x (unopened old v x e)))
 
-  -- what was discarded_unheld before and is discarded_unheld now is discarded_unheld now alone
+  -- to discard before and then now is to discard now
   pub discarded_unheld_twice : (tree : Tree) → without_unheld (holds new v) (without_unheld (holds old v) tree)
       ≡ without_unheld (holds new v) tree
   discarded_unheld_twice tree =

@@ -199,7 +199,7 @@ impl<S: NodeStore> Nodes<S> {
             && self.most_lookups < COUNTER_END - MOST_NAMES as u64
     }
 
-    /// Whether some node's lookups reaches the end of counters once each of these files is given its node once more.
+    /// Whether some node's lookups reach the end of counters once each of these files is given its node once more.
     /// Only the nodes of these files are looked at.
     pub fn count_overflows(&self, files: &[u64]) -> bool
         requires { AreHeldBelow self.now.table }
@@ -219,7 +219,7 @@ impl<S: NodeStore> Nodes<S> {
         false
     }
 
-    /// Whether some node's lookups reaches the end of counters once each of these entries counts its node once more.
+    /// Whether some node's lookups reach the end of counters once each of these entries counts its node once more.
     /// Only the nodes of these entries are looked at.
     pub fn counts_out_again(&self, entries: &[Entry]) -> bool
         requires { AreHeldBelow self.now.table }
@@ -240,7 +240,7 @@ impl<S: NodeStore> Nodes<S> {
         false
     }
 
-    /// Whether the lookups of a file's node reaches the end of counters once it is given so many times more.
+    /// Whether the lookups of a file's node reach the end of counters once it is given so many times more.
     fn is_counted_out(&self, file: u64, more: usize) -> bool
         requires { AreHeldBelow self.now.table }
         ensures out { result ≡ true → (files : List ℕ) → more ≡ count_by (nat_eq file) files

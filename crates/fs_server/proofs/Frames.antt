@@ -130,7 +130,7 @@ module _ (s : Server) (unique : ℕ) where
   abbrev repeated : Bool
   repeated = is_some (get s.held unique) || is_some (get s.kept unique)
 
-  -- its fault, where the minor knows_nodes what is asked, and its fault
+  -- its fault, where the minor knows what is asked, and its fault
   abbrev fault_by : ℕ → RequestContent → Option ServerFault
   fault_by nodeid content = first_fault (knows_nodes s.nodes nodeid content)
       (forgets_too_many s.nodes nodeid content) repeated

@@ -75,7 +75,7 @@ held_for nodes nodeid content =
     let body = request_body_of nodeid content in
     record { body = body; generations = generations_of nodes body; marked = false }
 
--- Whether the minor knows_nodes what a request of this node asks.
+-- Whether the minor knows what a request of this node asks.
 abbrev pub is_spoken : Minor → ℕ → RequestContent → Bool
 is_spoken minor nodeid content = server.knows minor (request_body_of nodeid content)
 

@@ -29,7 +29,7 @@ use std::alloc::AllocError;
 impl<S: NodeStore> ServerOf<S> {
     /// Why no copy of a kept reply can be sent, want of memory aside: `NoCopy` where no reply is kept under the unique,
     /// or a node or open number that it names is no longer held, the node under the same generation; `Exhausted` where
-    /// a node's lookups would reaches the end of counters, or no copy number is left.
+    /// a node's lookups would reach the end of counters, or no copy number is left.
     pub fn again_refusal(&self, unique: u64) -> Option<Refusal>
         ensures refuses { IfSome result (RefusesAgain self.now unique) }
         ensures none { IfNone result (CanSendAgain self.now unique) }
@@ -55,7 +55,7 @@ impl<S: NodeStore> ServerOf<S> {
     /// # Errors
     ///
     /// `NoCopy` where no reply is kept under the unique, or a node or open number that it names is no longer held, the
-    /// node under the same generation; `Exhausted` where a node's lookups would reaches the end of counters, or no copy
+    /// node under the same generation; `Exhausted` where a node's lookups would reach the end of counters, or no copy
     /// number is left; then `NoMemory`. The server is as before.
     pub fn again(&mut self, unique: u64) -> Result<Sent<S::Heap>, Refusal>
         ensures err { OnErr result (self.new ≡ self.old) }

@@ -68,11 +68,11 @@ abbrev pub AreBefore : ℕ → List Entry → Type 0
 AreBefore next [] = Unit {0}
 AreBefore next (e ∷ entries) = (e.cookie < next) × AreBefore next entries
 
--- The names in a directory, where the directories that have any are listed_names.
+-- The names in a directory, where the directories that have any are listed.
 abbrev pub entries_in : List (ℕ × List Entry) → ℕ → List Entry
 entries_in directories dir = unwrap_or (lookup (nat_eq dir) directories) []
 
--- The directories of the names that lead to a file, by cookie, where the files that have any are listed_names.
+-- The directories of the names that lead to a file, by cookie, where the files that have any are listed.
 abbrev pub parents_in : List (ℕ × List (ℕ × ℕ)) → ℕ → List (ℕ × ℕ)
 parents_in files file = unwrap_or (lookup (nat_eq file) files) []
 

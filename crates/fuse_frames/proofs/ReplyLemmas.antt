@@ -78,7 +78,7 @@ abbrev is_failure : WireReply → Bool
 is_failure (reply.failed errno) = true
 is_failure wire = false
 
--- Of the bodies that are latest_minor each says what its kind says.
+-- Of the bodies that are served each says what its kind says.
 said_kind : (c : ReplyContent) → IsTrue (knows_kind latest_minor (kind_of_content c))
     → kind_of_content c ≡ kind_of_content (body_saying (wire_body c))
 said_kind (entry_reply (missing seconds nanoseconds)) known = refl

@@ -100,7 +100,7 @@ framed_by m = record { unique = m.unique; wire = wire_said m.error m.content }
 
 -- ---- how replies are written
 
--- The mode of a file: octal 040755 of a directory, 0100644 of a regular file. No file of another kind is latest_minor.
+-- The mode of a file: octal 040755 of a directory, 0100644 of a regular file. No file of another kind is served.
 abbrev pub mode_of : Kind → ℕ
 mode_of Directory = 16877
 mode_of Regular = 33188

@@ -26,7 +26,7 @@ pub record IsInTree (tree : Tree) (n : Named) : Type 0 where
   pub not_root : n.file ≢ 0
 
 -- The root is a directory, a directory has one name at most, each name stands, no two names stand at one place, and no
--- file has a inode from the next on.
+-- file has an inode from the next on.
 pub record IsShaped (tree : Tree) : Type 0 where
   pub root : is_directory tree 0 ≡ true
   pub one_name : (file : ℕ) → is_directory tree file ≡ true → names_leading_to tree file ≤ 1

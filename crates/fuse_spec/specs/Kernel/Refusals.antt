@@ -51,7 +51,7 @@ or_no_memory (Some refusal) = refusal
 abbrev pub is_kernel_past_end : Kernel → Bool
 is_kernel_past_end k = nat_lt counter_end k.queues.next || nat_lt counter_end k.vfs.next_call
 
--- Whether a node's lookups have reaches the end of counters.
+-- Whether a node's lookups have reached the end of counters.
 abbrev pub is_counted_out : Map Counted → Bool
 is_counted_out nodes = list_any (λ (node : Counted). nat_le counter_end node.count) (values nodes)
 

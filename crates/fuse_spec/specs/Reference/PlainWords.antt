@@ -54,7 +54,7 @@ pub record GivesUp (c : Vfs ℕ) (after : Vfs ℕ) : Type 0 where
   pub answers : AllAnswered c.calls c.answers (failed econnaborted) after.answers
   pub rest : after ≡ record c { calls = []; names = []; opens = []; answers = after.answers }
 
--- The plain world takes these steps, and in no other way any.
+-- The plain world takes these steps, and in no other way.
 pub data Steps (p : Plain) : Event → Outcome → Plain → Type 0 where
   -- a call begins; once the mount is aborted it is answered ENOTCONN
   begins : (x y : Call) (label : ℕ) (after : Vfs ℕ) (asked : Option (Operation ℕ ℕ)) (q : Plain) → p.aborted ≡ false

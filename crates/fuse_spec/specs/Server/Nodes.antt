@@ -77,7 +77,7 @@ abbrev pub MayChoose : (ℕ → ℕ) → NodeTable → List ℕ → Type 0
 MayChoose choice t [] = Unit {0}
 MayChoose choice t (file ∷ files) = MayName t file (choice file) × MayChoose choice (given t file (choice file)) files
 
--- Whether a node's lookups would reaches the end of counters, once each of these files is named once more. (this
+-- Whether a node's lookups would reach the end of counters, once each of these files is named once more. (this
 -- project's rule)
 abbrev pub count_overflows : NodeTable → List ℕ → Bool
 count_overflows t files = list_any (λ (row : HeldNode). nat_le counter_end (row.count + count_by (nat_eq row.file) files))

@@ -4,7 +4,7 @@ use Rattle.fs_nodes.specs.Slots.{rows_from, AreSmall}
 use Rattle.fs_nodes.proofs.Slots.{listed_places}
 use Rattle.fs_nodes.proofs.slab_rows.list_nodes.Given as goal
 
--- what is listed_nodes, and then the nodes that are left, are all
+-- what is listed, and then the nodes that are left, are all
 abbrev pub invariant-loop-place : goal.invariant-loop-place
 invariant-loop-place g l =
     (goal.iterator-loop-place g).can_next l.place-iterator ×
