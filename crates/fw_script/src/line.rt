@@ -11,10 +11,13 @@ use crate::arguments::{
 };
 use crate::call_line::line_of_call;
 use crate::form::{Form, ReadForm, WordForm, split_form};
+use crate::stop::words_of_fault;
 use fw_world::{Event, Pick};
+use thiserror::Error;
 
 /// Why a line is no event: the first fault in their order.
-#[derive(Clone, Copy, Debug, PartialEq, Eq)]
+#[derive(Clone, Copy, Debug, Drop, Error, PartialEq, Eq)]
+#[error("{}", words_of_fault(*self))]
 pub enum LineFault {
     /// The first word is not known, or, after `call` and `read`, the second.
     UnknownEvent,

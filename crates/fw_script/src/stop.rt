@@ -1,6 +1,6 @@
 //! Why a run ends early: its line on standard error, and its exit status.
 
-ghost use Rattle.std.specs.Prelude.{◌≡◌, ◌≢◌, ◌≤◌, ◌++◌, OnErr, OnOk, Some, codes, length};
+ghost use Rattle.std.specs.Prelude.{◌≡◌, ◌≢◌, ◌≤◌, ◌++◌, OnErr, OnOk, codes, length};
 ghost use Rattle.std.specs.Io.KnownBytes.{Appends};
 ghost use Rattle.fw_script.specs.Outputs.{AppendsSome};
 ghost use Rattle.fw_script.specs.Stops.{bad_line, line_fault_words, status_of, stop_line, unreadable};
@@ -8,8 +8,6 @@ ghost use Rattle.fw_script.specs.Stops.{bad_line, line_fault_words, status_of, s
 use crate::line::LineFault;
 use crate::output::{OutputRefused, write_text};
 use crate::short_text::ShortText;
-use std::error::Error;
-use std::fmt;
 use std::io::Write;
 
 /// Why a run ends early.
@@ -22,7 +20,7 @@ pub(crate) enum Stop<'a> {
 }
 
 /// A line's fault, in words.
-fn words_of_fault(fault: LineFault) -> &'static str
+pub(crate) fn words_of_fault(fault: LineFault) -> &'static str
     ensures words { result.now ≡ line_fault_words fault }
     ensures short { length result.now ≤ 14 }
 {
@@ -33,16 +31,6 @@ fn words_of_fault(fault: LineFault) -> &'static str
         LineFault::BadText => "bad text",
     }
 }
-
-impl fmt::Display for LineFault {
-    ghost output = { λ fault. Some (line_fault_words fault) };
-
-    fn fmt<W: fmt::Write>(&self, f: &mut fmt::Formatter<W>) -> fmt::Result {
-        write!(f, "{}", words_of_fault(*self))
-    }
-}
-
-impl Error for LineFault {}
 
 /// Writes that a file cannot be read.
 fn write_unreadable<F: Write>(faults: &mut F, name: &str) -> Result<(), OutputRefused>
