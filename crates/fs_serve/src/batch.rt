@@ -1,6 +1,7 @@
 //! BATCH_FORGET of more than the 64 pairs that one has here.
 
 ghost use Rattle.std.specs.Prelude.{◌≡◌, ◌+◌, ◌*◌, ◌↔◌, ◌<◌, ◌≤◌, IsTrue, drop, length};
+ghost use Rattle.byteorder.specs.Endian.{little_bytes};
 ghost use Rattle.fk_wire.specs.Fields.{number_at};
 ghost use Rattle.fs_serve.specs.LongBatches.{IsLongBatch, part_of};
 
@@ -50,14 +51,23 @@ pub(crate) fn pairs_in(frame: &[u8]) -> &[u8]
     &frame[HEAD..]
 }
 
+/// A number as a field of a frame.
+fn field_of(number: u32) -> [u8; 4]
+    ensures { result ≡ little_bytes 4 number }
+{
+    let mut field = [0; 4];
+    LittleEndian::write_u32(&mut field, number);
+    field
+}
+
 /// Puts the BATCH_FORGET of some of the pairs in the place of what was there.
 pub(crate) fn put_part(part: &mut ArrayVec<u8, LONGEST>, frame: &[u8], pairs: &[u8])
     requires long { 1072 < length frame.now }
     requires few { length pairs.now ≤ 1024 }
     ensures { part.new.items ≡ part_of frame.now pairs.now }
 {
-    let len = ((HEAD + pairs.len()) as u32).to_le_bytes();
-    let count = ((pairs.len() / 16) as u32).to_le_bytes();
+    let len = field_of((HEAD + pairs.len()) as u32);
+    let count = field_of((pairs.len() / 16) as u32);
     part.clear();
     part.try_extend_from_slice(&len).unwrap();
     part.try_extend_from_slice(&frame[4..40]).unwrap();

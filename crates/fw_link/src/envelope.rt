@@ -3,6 +3,7 @@
 ghost use Rattle.std.specs.Prelude.{◌≡◌, ◌+◌, ◌≤◌, ◌++◌, length, vec_len, vec_capacity, OnOk, OnErr, IsOk};
 ghost use Rattle.fw_link.specs.Envelopes.{envelope_spelling};
 
+use byteorder::{ByteOrder, LittleEndian};
 use std::alloc::{AllocError, Allocator};
 
 /// The most bytes of an envelope.
@@ -37,8 +38,10 @@ pub fn put_envelope<A: Allocator>(
     ensures succeeds { vec_len out.old + (9 + length envelope.now.frame.now) ≤ vec_capacity out.old → IsOk result }
 {
     out.reserve(9 + envelope.frame.len())?;
+    let mut copy = [0; 8];
+    LittleEndian::write_u64(&mut copy, envelope.copy);
     out.push_reserved(envelope.kind);
-    out.extend_from_slice(&envelope.copy.to_le_bytes()).unwrap();
+    out.extend_from_slice(&copy).unwrap();
     out.extend_from_slice(envelope.frame).unwrap();
     Ok(())
 }
