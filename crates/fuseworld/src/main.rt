@@ -30,24 +30,32 @@ use sides::run_side;
 use socket::run_socket;
 use std::fs::File;
 use std::io;
-use std::io::{BufWriter, ErrorKind};
+use std::io::{BufWriter, ErrorKind, Write};
 use std::process::ExitCode;
 use version::{is_version, print_version};
 
-/// Runs the script on standard input, or in a file, and gives the exit status.
+/// Runs the script on standard input, or in a file, and gives the exit status. Where the output gets no buffer its lines
+/// are written one by one, so that a bad line comes before a lack of memory.
 fn run_file(rt: &HostRuntime, file: Option<&str>, hex: bool) -> u8
+    ensures { Contains (0 ∷ 1 ∷ 3 ∷ 5 ∷ []) result }
+{
+    match BufWriter::new(rt.alloc(), io::writer(rt)) {
+        Ok(mut out) => run_input(rt, file, hex, &mut out),
+        Err(_) => run_input(rt, file, hex, &mut io::writer(rt)),
+    }
+}
+
+/// Runs the script on standard input, or in a file, prints to a writer, and gives the exit status.
+fn run_input<W: Write>(rt: &HostRuntime, file: Option<&str>, hex: bool, out: &mut W) -> u8
     ensures { Contains (0 ∷ 1 ∷ 3 ∷ 5 ∷ []) result }
 {
     let alloc = rt.alloc();
     let mut faults = rt.stderr();
-    let Ok(mut out) = BufWriter::new(alloc, io::writer(rt)) else {
-        return no_memory(&mut faults);
-    };
     let Some(path) = file else {
-        return run_script(alloc, "-", hex, &mut rt.reader(), &mut out, &mut faults);
+        return run_script(alloc, "-", hex, &mut rt.reader(), out, &mut faults);
     };
     match File::open(rt, path) {
-        Ok(mut input) => run_script(alloc, path, hex, &mut input, &mut out, &mut faults),
+        Ok(mut input) => run_script(alloc, path, hex, &mut input, out, &mut faults),
         Err(error) if error.kind() == ErrorKind::OutOfMemory => no_memory(&mut faults),
         Err(_) => cannot_read(path, &mut faults),
     }
