@@ -96,6 +96,7 @@ rows: build
 
 docs:
 	@python3 tests/check_docs.py
+	@python3 tests/check_runs.py
 	@if [ -x crates/fuseworld/out/fuseworld ]; then python3 tests/run_tutorial.py; else echo "skipped: their commands, as no program is built"; fi
 
 fmt:
@@ -104,6 +105,7 @@ fmt:
 # The gate's count is the last line again.
 test:
 	@python3 tests/check_docs.py
+	@python3 tests/check_runs.py
 	@log=$$(mktemp); RT_JOBS=$$(nproc) rt ci > "$$log" 2>&1; status=$$?; cat "$$log"; \
 		if [ $$status = 0 ]; then sh tests/run_rows.sh; status=$$?; fi; \
 		if [ $$status = 0 ]; then sh tests/run_frames.sh; status=$$?; fi; \
