@@ -26,12 +26,12 @@ impl<Q: QueueTable<Purpose> + Drop, C: CountTable<Heap = Q::Heap> + Drop> Kernel
         if !self.is_live() {
             return Err(Refusal::NotReady);
         }
-        self.give_up();
+        self.abandon_all();
         Ok(())
     }
 
     /// The mount is over: each unanswered call is answered ECONNABORTED, and all else is given up. Takes no memory.
-    pub(crate) fn give_up(&mut self)
+    pub(crate) fn abandon_all(&mut self)
         ensures { self.new ≡ kernel_aborted self.old }
     {
         answer_all(self.calls.rows(), &mut self.answers);

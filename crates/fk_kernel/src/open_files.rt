@@ -12,7 +12,7 @@ ghost use Rattle.fuse_spec.specs.Calls.Vfs.{CallState as State, answered};
 ghost use Rattle.fuse_spec.specs.Values.Numbers.{counter_end, max_calls};
 ghost use Rattle.fk_syscalls.specs.States.{used_by};
 ghost use Rattle.fk_syscalls.specs.Values.{answer_of};
-ghost use Rattle.fk_kernel.specs.Entries.{EndsWithin, EndsPast};
+ghost use Rattle.fk_kernel.specs.Entries.{HasUniqueForRelease, LacksUniqueForRelease};
 ghost use Rattle.fk_kernel.specs.Refused.{begun_refusal};
 
 use crate::kernel::KernelOf;
@@ -134,7 +134,7 @@ impl<Q: QueueTable<Purpose> + Drop, C: CountTable<Heap = Q::Heap> + Drop> Kernel
     pub(crate) fn end_call(&mut self, unique: u64, call: u64, answer: Answer<Q::Heap>)
         requires waits { is_some (waiting self.old.queues unique) ≡ true }
         requires unanswered { is_some (get self.old.vfs.calls call) ≡ true }
-        requires within { EndsWithin self.old call }
+        requires within { HasUniqueForRelease self.old call }
         ensures { (state : State OpenedFile) → get self.old.vfs.calls call ≡ Some state
             → self.new ≡ after_use (record self.old {
               vfs = answered self.old.vfs call (answer_of answer);
@@ -149,7 +149,7 @@ impl<Q: QueueTable<Purpose> + Drop, C: CountTable<Heap = Q::Heap> + Drop> Kernel
     #[inline(always)]
     pub(crate) fn finish_use(&mut self, call: u64, answer: Answer<Q::Heap>)
         requires unanswered { is_some (get self.old.vfs.calls call) ≡ true }
-        requires within { EndsWithin self.old call }
+        requires within { HasUniqueForRelease self.old call }
         ensures { (state : State OpenedFile) → get self.old.vfs.calls call ≡ Some state
             → self.new ≡ after_use (record self.old { vfs = answered self.old.vfs call (answer_of answer) }) state }
     {
@@ -174,8 +174,8 @@ impl<Q: QueueTable<Purpose> + Drop, C: CountTable<Heap = Q::Heap> + Drop> Kernel
     /// Whether the end of a call would let a closed file go, for whose RELEASE no number is left.
     #[inline(always)]
     pub(crate) fn unique_overflows(&self, call: u64) -> bool
-        ensures past { result ≡ true → EndsPast self.now call }
-        ensures within { result ≡ false → EndsWithin self.now call }
+        ensures past { result ≡ true → LacksUniqueForRelease self.now call }
+        ensures within { result ≡ false → HasUniqueForRelease self.now call }
     {
         if self.queues.numbers_left() != 0 {
             return false;

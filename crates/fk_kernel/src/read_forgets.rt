@@ -7,7 +7,7 @@ ghost use Rattle.fuse_spec.specs.Kernel.Refusals.{or_no_memory};
 ghost use Rattle.fk_kernel.specs.Refused.{read_forgets_refusal, IsForgetFrame};
 
 use crate::kernel::KernelOf;
-use fk_calls::fits_one_frame;
+use fk_calls::may_batch_forgets;
 use fk_lookup_count::CountTable;
 use fk_queues::{Forgets, QueueTable};
 use fuse_frames::RequestFrame;
@@ -18,7 +18,7 @@ impl<Q: QueueTable<Purpose> + Drop, C: CountTable<Heap = Q::Heap> + Drop> Kernel
     fn first_forgets(&self, count: u64) -> Option<(u64, Forgets)>
         ensures { result ≡ forgets_read self.now count }
     {
-        if fits_one_frame(self.minor, count) {
+        if may_batch_forgets(self.minor, count) {
             self.queues.first_forgets(count as usize)
         } else {
             None

@@ -40,7 +40,7 @@ impl Uniques {
 
     /// Draws the coming number, or `None` where none is left. No number is drawn twice.
     pub fn next(&mut self) -> Option<u64>
-        ensures drawn { IfSome result (λ unique. unique ≡ self.old) }
+        ensures allocated { IfSome result (λ unique. unique ≡ self.old) }
         ensures rises { IfSome result (λ unique. self.new ≡ unique + 2) }
         ensures even { IfSome result (λ unique. unique % 2 ≡ 0) }
         ensures low { IfSome result (λ unique. first_number ≤ unique) }

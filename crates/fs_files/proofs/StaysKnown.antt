@@ -8,7 +8,7 @@ use Rattle.fuse_spec.specs.declared.Entry.{Entry}
 use Rattle.fuse_spec.specs.declared.Kind.TheVariants.{Regular}
 use Rattle.fuse_spec.specs.declared.Validity.{Validity}
 use Rattle.fuse_spec.specs.Server.Copies.{row_back}
-use Rattle.fuse_spec.specs.Server.Nodes.{HeldNode, NodeTable, HandleTable, OpenNumber, given, taken_back, row_more, handle_back, handle_more, handle_opened, file_of, file_in, is_file_of, is_open, root_row}
+use Rattle.fuse_spec.specs.Server.Nodes.{HeldNode, NodeTable, HandleTable, FileHandle, given, taken_back, row_more, handle_back, handle_more, handle_opened, file_of, file_in, is_file_of, is_open, root_row}
 use Rattle.fuse_spec.specs.Server.Performs.{file_operation_of, is_open_for}
 use Rattle.fuse_spec.specs.Server.Server.{is_file_held}
 use Rattle.fuse_spec.specs.declared.Opened.{Opened}
@@ -36,7 +36,7 @@ pub nothing_known : (tree : Tree) (nodes : NodeTable) (handles : HandleTable) �
 nothing_known tree nodes handles none empty = record {
   low = λ id row is. absurd (none-some row (ap (λ (m : Map HeldNode). get m id) (sym none) ∙ is));
   there = λ id row is. absurd (none-some row (ap (λ (m : Map HeldNode). get m id) (sym none) ∙ is));
-  regular = λ fh h is. absurd (none-some h (ap (λ (m : Map OpenNumber). get m fh) (sym empty) ∙ is));
+  regular = λ fh h is. absurd (none-some h (ap (λ (m : Map FileHandle). get m fh) (sym empty) ∙ is));
 }
 
 module _ (tree : Tree) (nodes : NodeTable) (handles : HandleTable) (old : AreKnown tree nodes handles) where
@@ -139,7 +139,7 @@ same_kind : (file : ℕ) (tree : Tree) (handles : HandleTable) → AreRegular tr
     → is_open handles fh file ≡ true → kind_of (get tree.files file) ≡ Regular
 same_kind file tree handles known fh is_opened = by (get handles.handles fh) refl is_opened
   where
-    by : (o : Option OpenNumber) → get handles.handles fh ≡ o → is_file_of file o ≡ true
+    by : (o : Option FileHandle) → get handles.handles fh ≡ o → is_file_of file o ≡ true
         → kind_of (get tree.files file) ≡ Regular
     by None e is = absurd (cc)
     by (Some h) e is = regular_kind (kind_of (get tree.files file))

@@ -13,7 +13,7 @@ use Rattle.fuse_spec.specs.declared.Validity.{Validity}
 use Rattle.fuse_spec.specs.Server.Copies.{row_back, rows_counted, handles_counted}
 use Rattle.fuse_spec.specs.Files.FileOperations.{FileOperation, refusal, tree_or, tree_unrefused}
 use Rattle.fuse_spec.specs.Kernel.Messages.{RequestBody, init, asks, release, forget, batch_forget, interrupt}
-use Rattle.fuse_spec.specs.Server.Nodes.{HeldNode, NodeTable, IsUnheld, is_held, given, given_row, all_given, taken_back, rows_less, row_more, rows_more, OpenNumber, HandleTable, is_open, file_of, handle_opened, all_opened, handle_back, handles_less, handle_more, handles_more}
+use Rattle.fuse_spec.specs.Server.Nodes.{HeldNode, NodeTable, IsUnheld, is_held, given, given_row, all_given, taken_back, rows_less, row_more, rows_more, FileHandle, HandleTable, is_open, file_of, handle_opened, all_opened, handle_back, handles_less, handle_more, handles_more}
 use Rattle.fuse_spec.specs.Files.Operations.{Operation}
 use Rattle.fuse_spec.specs.Server.Performs.{file_operation_of, is_open_for, is_still_held}
 use Rattle.fuse_spec.specs.Server.Server.{HeldRequest}
@@ -127,7 +127,7 @@ module _ (t : NodeTable) (sorted : T (is_sorted nat_cmp t.rows)) where
 
 -- ---- open numbers
 
-abbrev number_file : OpenNumber → ℕ
+abbrev number_file : FileHandle → ℕ
 number_file h = h.file
 
 module _ (t : HandleTable) (x : ℕ) where
@@ -138,7 +138,7 @@ module _ (t : HandleTable) (x : ℕ) where
   again_lacks : (fh : ℕ) → IsUnopened (handle_more t fh) x → IsUnopened t x
   again_lacks fh lacks = by (get t.handles fh) refl lacks
     where
-      by : (o : Option OpenNumber) → get t.handles fh ≡ o → Lacks number_file x (handles_more t.handles fh o)
+      by : (o : Option FileHandle) → get t.handles fh ≡ o → Lacks number_file x (handles_more t.handles fh o)
           → Lacks number_file x t.handles
       by None none l = l
       by (Some h) at l = put_over number_file x t.handles fh (record h { count = h.count + 1 }) h at refl l
@@ -147,14 +147,14 @@ module _ (t : HandleTable) (x : ℕ) where
       → IsUnopened t x
   back_lacks fh other lacks = by (get t.handles fh) refl lacks
     where
-      of_number : (h : OpenNumber) → get t.handles fh ≡ Some h → (b : Bool)
+      of_number : (h : FileHandle) → get t.handles fh ≡ Some h → (b : Bool)
           → Lacks number_file x (cond b (put t.handles fh (record h { count = h.count - 1 })) (remove t.handles fh))
           → Lacks number_file x t.handles
       of_number h at true l = put_over number_file x t.handles fh (record h { count = h.count - 1 }) h at refl l
       of_number h at false l = gone_other number_file x t.handles fh h at
           (λ e. other (ap (option_map number_file) at ∙ ap Some e)) l
 
-      by : (o : Option OpenNumber) → get t.handles fh ≡ o → Lacks number_file x (handles_less t.handles fh o)
+      by : (o : Option FileHandle) → get t.handles fh ≡ o → Lacks number_file x (handles_less t.handles fh o)
           → Lacks number_file x t.handles
       by None none l = l
       by (Some h) at l = of_number h at (nat_lt 1 h.count) l
@@ -164,38 +164,38 @@ module _ (t : HandleTable) (sorted : T (is_sorted nat_cmp t.handles))
   again_sorted : (fh : ℕ) → T (is_sorted nat_cmp (handle_more t fh).handles)
   again_sorted fh = by (get t.handles fh)
     where
-      by : (o : Option OpenNumber) → T (is_sorted nat_cmp (handles_more t.handles fh o))
+      by : (o : Option FileHandle) → T (is_sorted nat_cmp (handles_more t.handles fh o))
       by None = sorted
       by (Some h) = sorted_put t.handles fh (record h { count = h.count + 1 }) sorted
 
   again_coming : (fh q : ℕ) → t.next_fh ≤ q → get (handle_more t fh).handles q ≡ None
   again_coming fh q le = by (get t.handles fh) refl
     where
-      by : (o : Option OpenNumber) → get t.handles fh ≡ o → get (handles_more t.handles fh o) q ≡ None
+      by : (o : Option FileHandle) → get t.handles fh ≡ o → get (handles_more t.handles fh o) q ≡ None
       by None at = coming q le
       by (Some h) at = none_put t.handles fh q (coming q le) (record h { count = h.count + 1 }) h at
 
   back_sorted : (fh : ℕ) → T (is_sorted nat_cmp (handle_back t fh).handles)
   back_sorted fh = by (get t.handles fh)
     where
-      of_number : (h : OpenNumber) (b : Bool) → T (is_sorted nat_cmp
+      of_number : (h : FileHandle) (b : Bool) → T (is_sorted nat_cmp
           (cond b (put t.handles fh (record h { count = h.count - 1 })) (remove t.handles fh)))
       of_number h true = sorted_put t.handles fh (record h { count = h.count - 1 }) sorted
       of_number h false = sorted_remove t.handles fh sorted
 
-      by : (o : Option OpenNumber) → T (is_sorted nat_cmp (handles_less t.handles fh o))
+      by : (o : Option FileHandle) → T (is_sorted nat_cmp (handles_less t.handles fh o))
       by None = sorted
       by (Some h) = of_number h (nat_lt 1 h.count)
 
   back_coming : (fh q : ℕ) → t.next_fh ≤ q → get (handle_back t fh).handles q ≡ None
   back_coming fh q le = by (get t.handles fh) refl
     where
-      of_number : (h : OpenNumber) → get t.handles fh ≡ Some h → (b : Bool)
+      of_number : (h : FileHandle) → get t.handles fh ≡ Some h → (b : Bool)
           → get (cond b (put t.handles fh (record h { count = h.count - 1 })) (remove t.handles fh)) q ≡ None
       of_number h at true = none_put t.handles fh q (coming q le) (record h { count = h.count - 1 }) h at
       of_number h at false = none_gone t.handles fh q (coming q le)
 
-      by : (o : Option OpenNumber) → get t.handles fh ≡ o → get (handles_less t.handles fh o) q ≡ None
+      by : (o : Option FileHandle) → get t.handles fh ≡ o → get (handles_less t.handles fh o) q ≡ None
       by None at = coming q le
       by (Some h) at = of_number h at (nat_lt 1 h.count)
 

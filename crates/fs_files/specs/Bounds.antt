@@ -4,7 +4,7 @@ use Rattle.std.specs.FinMap.{is_sorted}
 use Rattle.std.specs.Ordering.{nat_cmp}
 use Rattle.fuse_spec.specs.Values.Maps.{get}
 use Rattle.fuse_spec.specs.Files.Trees.{Tree, is_nameless, kind_of}
-use Rattle.fuse_spec.specs.Server.Nodes.{NodeTable, HeldNode, HandleTable, IsUnheld, OpenNumber}
+use Rattle.fuse_spec.specs.Server.Nodes.{NodeTable, HeldNode, HandleTable, IsUnheld, FileHandle}
 use Rattle.fuse_spec.specs.Values.Numbers.{counter_end}
 use Rattle.fs_tree.specs.Outcomes.{is_regular}
 
@@ -18,7 +18,7 @@ AreHeldBelow nodes = (id : ℕ) (row : HeldNode) → get nodes.rows id ≡ Some 
 
 -- no open number has more uses than this
 abbrev pub AreUsed : ℕ → HandleTable → Type 0
-AreUsed most handles = (fh : ℕ) (handle : OpenNumber) → get handles.handles fh ≡ Some handle → handle.count ≤ most
+AreUsed most handles = (fh : ℕ) (handle : FileHandle) → get handles.handles fh ≡ Some handle → handle.count ≤ most
 
 -- every node's file is below the end of inodes
 abbrev pub AreLow : NodeTable → Type 0
@@ -34,7 +34,7 @@ AreThere tree nodes = (id : ℕ) (row : HeldNode) → get nodes.rows id ≡ Some
 
 -- every open number's file is regular
 abbrev pub AreRegular : Tree → HandleTable → Type 0
-AreRegular tree handles = (fh : ℕ) (handle : OpenNumber) → get handles.handles fh ≡ Some handle
+AreRegular tree handles = (fh : ℕ) (handle : FileHandle) → get handles.handles fh ≡ Some handle
     → IsTrue (is_regular tree handle.file)
 
 -- Nodes are of files of the tree, and open numbers of regular ones.
@@ -45,7 +45,7 @@ pub record AreKnown (tree : Tree) (nodes : NodeTable) (handles : HandleTable) : 
 
 -- no open number is of the file
 abbrev pub IsUnopened : HandleTable → ℕ → Type 0
-IsUnopened handles file = (fh : ℕ) (handle : OpenNumber) → get handles.handles fh ≡ Some handle → handle.file ≢ file
+IsUnopened handles file = (fh : ℕ) (handle : FileHandle) → get handles.handles fh ≡ Some handle → handle.file ≢ file
 
 -- Each file of the tree that has no node and no open number has a name, but for one that is still to be looked at.
 -- Nodes and open numbers are in rising key, and none is in use from the next number on.

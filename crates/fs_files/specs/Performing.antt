@@ -8,7 +8,7 @@ use Rattle.fuse_spec.specs.Files.Operations.{Reply, agreed, done, failed, files_
 use Rattle.fuse_spec.specs.Files.Trees.{Tree}
 use Rattle.fuse_spec.specs.Files.FileOperations.{FileOperation, reply_by, reply_unrefused, tree_after, tree_unrefused}
 use Rattle.fuse_spec.specs.Kernel.Messages.{RequestBody, init, asks, release, forget, batch_forget, interrupt}
-use Rattle.fuse_spec.specs.Server.Nodes.{HandleTable, OpenNumber, file_of, is_open, handle_back, all_given, all_opened}
+use Rattle.fuse_spec.specs.Server.Nodes.{HandleTable, FileHandle, file_of, is_open, handle_back, all_given, all_opened}
 use Rattle.fuse_spec.specs.Server.Server.{Server, HeldRequest}
 use Rattle.fuse_spec.specs.Server.Performs.{PerformResult, flags_known, minor_number, file_operation_of, is_open_for, is_still_held, wire_of}
 use Rattle.fs_tree.specs.Outcomes.{unlinked_by}
@@ -61,7 +61,7 @@ handles_said s held = cond held.marked s.handles
 -- the file that a request takes a name for good or an open number from, if it is performed
 abbrev pub unlinked_or_released : Server → RequestBody → Option ℕ
 unlinked_or_released s (asks operation) = unlinked_by s.tree (file_operation_of s.nodes operation)
-unlinked_or_released s (release o) = option_map (λ (h : OpenNumber). h.file) (get s.handles.handles o.fh)
+unlinked_or_released s (release o) = option_map (λ (h : FileHandle). h.file) (get s.handles.handles o.fh)
 unlinked_or_released s (init flags) = None
 unlinked_or_released s (forget f) = None
 unlinked_or_released s (batch_forget fs) = None

@@ -5,14 +5,14 @@ use Rattle.fuse_spec.specs.Files.Trees.{Tree}
 use Rattle.fuse_spec.specs.Server.Nodes.{NodeTable, HandleTable, count_overflows}
 use Rattle.fuse_spec.specs.Values.Numbers.{counter_end}
 use Rattle.fs_files.specs.Giving.{generations_after}
-use Rattle.fs_files.specs.declared.plan.Plan.{Plan}
+use Rattle.fs_files.specs.declared.plan.Needs.{Needs}
 
 -- What a request draws whose reply and whose tree are these: inodes, cookies, nodes for files, and open numbers.
-pub record DrawsNumbers (tree new : Tree) (reply : Reply ℕ ℕ) (plan : Plan) : Type 0 where
-  pub inodes : new.next_inode ≡ tree.next_inode + plan.inodes
-  pub cookies : new.next_cookie ≡ tree.next_cookie + plan.cookies
-  pub files : files_in_reply reply ≡ plan.files.items
-  pub opens : length (opens_in_reply reply) ≡ plan.opens
+pub record AllocatesNumbers (tree new : Tree) (reply : Reply ℕ ℕ) (needs : Needs) : Type 0 where
+  pub inodes : new.next_inode ≡ tree.next_inode + needs.inodes
+  pub cookies : new.next_cookie ≡ tree.next_cookie + needs.cookies
+  pub files : files_in_reply reply ≡ needs.files.items
+  pub opens : length (opens_in_reply reply) ≡ needs.opens
 
 -- The counters have the numbers of a request whose reply and whose tree are these, and no node's lookups come to the
 -- end of counters. Where it is lost, no node and no open number is given.

@@ -13,7 +13,7 @@ use Rattle.fuse_frames.specs.declared.reply.Reply.{Reply as FrameReply}
 use Rattle.fuse_frames.specs.declared.reply.Reply.TheVariants as said
 use Rattle.fs_files.specs.Listed.{AreRecordBytes, listed_pairs, dirents_in_bytes, pair_listed}
 use Rattle.fs_files.specs.declared.listed_names.ListedNames.{ListedNames}
-use Rattle.fs_files.specs.declared.spare.ReplySpare.{ReplySpare}
+use Rattle.fs_files.specs.declared.spare.ListingBuffers.{ListingBuffers}
 use Rattle.fs_files.specs.declared.replies.Outcome.{Outcome}
 use Rattle.fs_files.specs.declared.replies.Outcome.TheVariants as outcome
 
@@ -27,7 +27,7 @@ SentReply A = FrameReply Entry (Vec ℕ A) (ListedNames A) (Vec ℕ A)
 
 module _ {A : Type 0} where
   -- Room for so many bytes, and so many names' entries.
-  pub record HasSpare (spare : ReplySpare A) (len names : ℕ) : Type 0 where
+  pub record HasSpare (spare : ListingBuffers A) (len names : ℕ) : Type 0 where
     pub no_bytes : spare.bytes.items ≡ []
     pub no_entries : spare.entries.items ≡ []
     pub no_file_entries : spare.file_entries.items ≡ []

@@ -3,7 +3,7 @@
 ghost use Rattle.std.specs.Prelude.{◌≡◌, ◌≤◌, ◌<◌, ◌+◌, ◌^◌, [], nat_lt, false, OnOk, IfOk, IfSome, IfNone, None, is_some, option_map, Some};
 ghost use Rattle.fuse_spec.specs.Values.Maps.{get};
 ghost use Rattle.fuse_spec.specs.declared.Validity.{Validity as ValidityValue};
-ghost use Rattle.fuse_spec.specs.Server.Nodes.{handle_back, handle_more, is_held, row_more, taken_back, OpenNumber};
+ghost use Rattle.fuse_spec.specs.Server.Nodes.{handle_back, handle_more, is_held, row_more, taken_back, FileHandle};
 ghost use Rattle.fuse_spec.specs.Server.Copies.{row_back};
 ghost use Rattle.fuse_spec.specs.Server.Server.{count_in, is_file_held};
 ghost use Rattle.fuse_spec.specs.Values.Numbers.{counter_end};
@@ -121,26 +121,26 @@ impl<S: NodeStore> Files<S> {
     }
 
     /// Gives so many lookups of a node back, if it is held; it has as many.
-    pub fn take_back(&mut self, id: u64, count: u64)
+    pub fn forget(&mut self, id: u64, count: u64)
         requires { count ≤ count_in (get self.old.nodes.rows id) }
         ensures tree { self.new.tree ≡ self.old.tree }
         ensures nodes { self.new.nodes ≡ taken_back self.old.nodes id count }
         ensures handles { self.new.handles ≡ self.old.handles }
     {
-        self.known.nodes.take_back(id, count);
+        self.known.nodes.forget(id, count);
     }
 
     /// Gives the lookup of an entry back, where its node is still held under the entry's generation.
-    pub fn give_back(&mut self, entry: &Entry)
+    pub fn uncount(&mut self, entry: &Entry)
         ensures tree { self.new.tree ≡ self.old.tree }
         ensures nodes { self.new.nodes ≡ row_back self.old.nodes entry.now }
         ensures handles { self.new.handles ≡ self.old.handles }
     {
-        self.known.nodes.give_back(entry);
+        self.known.nodes.uncount(entry);
     }
 
     /// Gives one use of an open number back, if it is in use.
-    pub fn give_number_back(&mut self, fh: u64)
+    pub fn uncount_handle(&mut self, fh: u64)
         ensures tree { self.new.tree ≡ self.old.tree }
         ensures nodes { self.new.nodes ≡ self.old.nodes }
         ensures handles { self.new.handles ≡ handle_back self.old.handles fh }
@@ -170,7 +170,7 @@ impl<S: NodeStore> Files<S> {
 
     /// The file of an open number, if that is in use.
     pub fn number_file(&self, fh: u64) -> Option<u64>
-        ensures { result ≡ option_map (λ (handle : OpenNumber). handle.file) (get self.now.handles.handles fh) }
+        ensures { result ≡ option_map (λ (handle : FileHandle). handle.file) (get self.now.handles.handles fh) }
     {
         self.known.handles.file_of(fh)
     }

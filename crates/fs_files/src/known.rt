@@ -3,7 +3,7 @@
 ghost use Rattle.std.specs.Prelude.{◌≡◌, ◌≤◌, ◌<◌, ◌+◌, ◌^◌, ◌||◌, [], OnOk, nat_eq};
 ghost use Rattle.std.specs.List.{list_any};
 ghost use Rattle.fuse_spec.specs.Values.Maps.{values};
-ghost use Rattle.fuse_spec.specs.Server.Nodes.{HeldNode, OpenNumber};
+ghost use Rattle.fuse_spec.specs.Server.Nodes.{HeldNode, FileHandle};
 ghost use Rattle.fs_files.specs.Values.{no_nodes, no_handles};
 
 use crate::nodes::Nodes;
@@ -69,7 +69,7 @@ impl<S: NodeStore> KnownFiles<S> {
     /// Whether a file has a node or an open number.
     pub(crate) fn holds(&self, file: u64) -> bool
         ensures { result ≡ (list_any (λ (row : HeldNode). nat_eq row.file file) (values self.now.nodes.rows)
-            || list_any (λ (h : OpenNumber). nat_eq h.file file) (values self.now.handles.handles)) }
+            || list_any (λ (h : FileHandle). nat_eq h.file file) (values self.now.handles.handles)) }
     {
         let has_node = self.nodes.has(file);
         let is_open = self.handles.has(file);

@@ -24,4 +24,4 @@ pub use nodes::Nodes;
 pub use replies::{
     Outcome, SentReply, body_len, copied, errno, file_entries, framed, name_count, opened,
 };
-pub use spare::ReplySpare;
+pub use spare::ListingBuffers;

@@ -295,7 +295,7 @@ impl<S: NodeStore> Nodes<S> {
     }
 
     /// Gives so many lookups of a node back, if it is held; it has as many.
-    pub fn take_back(&mut self, id: u64, count: u64)
+    pub fn forget(&mut self, id: u64, count: u64)
         requires { count ≤ count_in (get self.old.table.rows id) }
         ensures { self.new.table ≡ taken_back self.old.table id count }
     {
@@ -303,7 +303,7 @@ impl<S: NodeStore> Nodes<S> {
     }
 
     /// Gives the lookup of an entry back, where its node is still held under the entry's generation.
-    pub fn give_back(&mut self, entry: &Entry)
+    pub fn uncount(&mut self, entry: &Entry)
         ensures { self.new.table ≡ row_back self.old.table entry.now }
     {
         self.store.lemma_sound();

@@ -17,7 +17,7 @@ ghost use Rattle.fs_files.specs.Numbering.{GivesEntry, GivesNumbers, entries_nam
 use crate::files::Files;
 use crate::listed_names::ListedNames;
 use crate::replies::{Outcome, SentReply};
-use crate::spare::ReplySpare;
+use crate::spare::ListingBuffers;
 use fk_wire::Records;
 use fs_nodes::NodeStore;
 use fuse_frames::Reply;
@@ -32,7 +32,7 @@ impl<S: NodeStore> Files<S> {
         &mut self,
         outcome: Outcome<S::Heap>,
         found_ms: u64,
-        spare: ReplySpare<S::Heap>,
+        spare: ListingBuffers<S::Heap>,
     ) -> SentReply<S::Heap>
         requires node_room { 32 ≤ self.old.node_room }
         requires open_room { 0 < self.old.open_room }
@@ -78,7 +78,7 @@ impl<S: NodeStore> Files<S> {
         &mut self,
         records: Vec<u8, S::Heap>,
         found_ms: u64,
-        spare: ReplySpare<S::Heap>,
+        spare: ListingBuffers<S::Heap>,
     ) -> ListedNames<S::Heap>
         requires listable { AreRecordBytes records.items
             × (128 * length (dirents_in_bytes records.items) + length records.items ≤ max_transfer)

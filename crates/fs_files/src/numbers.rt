@@ -9,13 +9,13 @@ ghost use Rattle.fuse_spec.specs.declared.Validity.{Validity as ValidityValue};
 ghost use Rattle.fs_files.specs.Bounds.{AreHeldBelow};
 ghost use Rattle.fs_files.specs.Giving.{generations_after};
 ghost use Rattle.fs_files.specs.Performing.{said, body_reply, tree_by, tree_said};
-ghost use Rattle.fs_files.specs.Plans.{DrawsNumbers, HasNumbers, LacksNumber};
+ghost use Rattle.fs_files.specs.Plans.{AllocatesNumbers, HasNumbers, LacksNumber};
 ghost use Rattle.fs_files.specs.Values.{held_operation_of, server_at};
 
 use crate::answering::are_held;
 use crate::files::Files;
 use crate::held::{HeldBody, HeldOperation, HeldRequest};
-use crate::plan::{Plan, no_numbers, plan_of};
+use crate::plan::{Needs, needs_of, no_numbers};
 use fs_nodes::NodeStore;
 
 impl<S: NodeStore> Files<S> {
@@ -44,10 +44,10 @@ impl<S: NodeStore> Files<S> {
             → LacksNumber (tree_said (server_at m self.now v) held.now) self.now.nodes self.now.handles is_lost
             (said (server_at m self.now v) held.now) }
     {
-        let plan = self.plan_for(held);
-        plan.inodes <= self.tree.inodes_left()
-            && plan.cookies <= self.tree.cookies_left()
-            && (is_lost || (self.can_give_nodes(&plan.files) && self.can_open(plan.opens)))
+        let needs = self.needs_for(held);
+        needs.inodes <= self.tree.inodes_left()
+            && needs.cookies <= self.tree.cookies_left()
+            && (is_lost || (self.can_give_nodes(&needs.files) && self.can_open(needs.opens)))
     }
 
     /// Whether each counter has as many numbers left as any request draws, so that none need be planned.
@@ -66,30 +66,30 @@ impl<S: NodeStore> Files<S> {
     }
 
     /// What performing a held request draws.
-    fn plan_for(&self, held: &HeldRequest<S::Heap>) -> Plan
-        ensures { (v : ValidityValue) (m : MinorValue) → DrawsNumbers self.now.tree
+    fn needs_for(&self, held: &HeldRequest<S::Heap>) -> Needs
+        ensures { (v : ValidityValue) (m : MinorValue) → AllocatesNumbers self.now.tree
             (tree_said (server_at m self.now v) held.now) (said (server_at m self.now v) held.now) result }
     {
         if held.is_marked() || !are_held(&self.known.nodes, held.named()) {
             return no_numbers();
         }
         match held.body() {
-            HeldBody::Asks { operation } => self.plan_asked(operation),
+            HeldBody::Asks { operation } => self.needs_asked(operation),
             HeldBody::Init { .. } => no_numbers(),
             HeldBody::Release { .. } => no_numbers(),
         }
     }
 
     /// What an operation draws: nothing under an open number that is none of its node's file.
-    fn plan_asked(&self, operation: &HeldOperation<S::Heap>) -> Plan
-        ensures { (v : ValidityValue) (m : MinorValue) → DrawsNumbers self.now.tree
+    fn needs_asked(&self, operation: &HeldOperation<S::Heap>) -> Needs
+        ensures { (v : ValidityValue) (m : MinorValue) → AllocatesNumbers self.now.tree
             (tree_by (server_at m self.now v) (asks (held_operation_of operation.now)))
             (body_reply (server_at m self.now v) (asks (held_operation_of operation.now))) result }
     {
         if !self.is_open_for(operation) {
             return no_numbers();
         }
-        plan_of(&self.tree, &self.known.nodes, operation)
+        needs_of(&self.tree, &self.known.nodes, operation)
     }
 
     /// Whether these files can be given nodes, one after another: the generations are enough, and no node's count

@@ -6,7 +6,7 @@ use Rattle.std.specs.Map.{lookup}
 use Rattle.std.specs.Ordering.{nat_cmp}
 use Rattle.std.specs.FinMap.{is_sorted}
 use Rattle.fuse_spec.specs.Values.Maps.{Map, get, put, remove}
-use Rattle.fuse_spec.specs.Server.Nodes.{OpenNumber, HandleTable, handles_less, handles_more, handle_opened, handle_back, handle_more}
+use Rattle.fuse_spec.specs.Server.Nodes.{FileHandle, HandleTable, handles_less, handles_more, handle_opened, handle_back, handle_more}
 use Rattle.fs_handles.specs.declared.open_file.OpenFile.{OpenFile}
 use Rattle.fs_handles.specs.OpenNumbers.{number_of, handles_of, table_of}
 use Rattle.fuse_tables.proofs.Maps.{turned, sorted_put, is_put, is_remove, get-put}
@@ -56,7 +56,7 @@ handles-remove new old fh at =
     (get_written new old fh None at)
 
 -- a table is what its handles are
-of_handles : (next : ℕ) (a b : Map OpenNumber) → a ≡ b
+of_handles : (next : ℕ) (a b : Map FileHandle) → a ≡ b
     → ◌≡◌ {A = HandleTable} (record { handles = a; next_fh = next }) (record { handles = b; next_fh = next })
 of_handles next a b is = λ i. record { handles = is i; next_fh = next }
 
@@ -91,7 +91,7 @@ pub less-none : (opens : List (ℕ × OpenFile)) (next fh : ℕ) → lookup (nat
 less-none opens next fh none = of_handles next _ _
     (sym (ap (handles_less (handles_of opens) fh) (get_there opens fh None none)))
 
-lessened : List (ℕ × OpenFile) → ℕ → OpenFile → Bool → Map OpenNumber
+lessened : List (ℕ × OpenFile) → ℕ → OpenFile → Bool → Map FileHandle
 lessened opens fh old b = cond b (put (handles_of opens) fh (record { file = old.file; count = old.count - 1 }))
     (remove (handles_of opens) fh)
 

@@ -13,7 +13,7 @@ use Rattle.indexmap.specs.IndexMap.{swap_remove_entry}
 use Rattle.indexmap.proofs.MapLemmas.{Found-position, Missing-position, swap_remove_entry-found}
 use Rattle.indexmap.proofs.SetLemmas.{map-swap_remove}
 use Rattle.fuse_spec.specs.Values.Maps.{values}
-use Rattle.fuse_spec.specs.Server.Nodes.{OpenNumber}
+use Rattle.fuse_spec.specs.Server.Nodes.{FileHandle}
 use Rattle.fs_handles.specs.declared.open_file.OpenFile.{OpenFile}
 use Rattle.fs_handles.specs.OpenNumbers.{number_of, handles_of}
 use Rattle.fs_handles.specs.Uses.{handle_use_of, numbers_of, uses_or_none, uses_less, AreUsesCounted}
@@ -235,15 +235,15 @@ is_there n some = grind (arith, some, rules)
 -- a file has a count exactly where some open number is of it
 pub has_is : {opens : List (ℕ × OpenFile)} {uses : List (ℕ × ℕ)} {next : ℕ} (answer : Bool) (file : ℕ)
     → AreUsesCounted opens uses next → answer ≡ is_some (lookup (nat_eq file) uses)
-    → answer ≡ list_any (λ (handle : OpenNumber). nat_eq handle.file file) (values (handles_of opens))
+    → answer ≡ list_any (λ (handle : FileHandle). nat_eq handle.file file) (values (handles_of opens))
 has_is {opens = opens} {uses = uses} answer file table is =
-    any_is answer (handles_of opens) (λ (handle : OpenNumber). nat_eq handle.file file)
+    any_is answer (handles_of opens) (λ (handle : FileHandle). nat_eq handle.file file)
     (sorted_handles opens) there back
   where
     counted_is : answer ≡ is_some (uses_or_none (numbers_of file opens))
     counted_is = is ∙ ap is_some (table.counted file)
 
-    there : answer ≡ true → HasValue (handles_of opens) (λ (handle : OpenNumber). nat_eq handle.file file)
+    there : answer ≡ true → HasValue (handles_of opens) (λ (handle : FileHandle). nat_eq handle.file file)
     there is_so =
         let entry = entry_of file opens (some_is (numbers_of file opens) (sym counted_is ∙ is_so)) in
         record {
@@ -254,7 +254,7 @@ has_is {opens = opens} {uses = uses} answer file table is =
           passes = eq-eqb entry.1.file file entry.3;
         }
 
-    back : HasValue (handles_of opens) (λ (handle : OpenNumber). nat_eq handle.file file) → answer ≡ true
+    back : HasValue (handles_of opens) (λ (handle : FileHandle). nat_eq handle.file file) → answer ≡ true
     back has = by (lookup (nat_eq has.key) opens) refl
       where
         by : (found : Option OpenFile) → lookup (nat_eq has.key) opens ≡ found → answer ≡ true
@@ -263,5 +263,5 @@ has_is {opens = opens} {uses = uses} answer file table is =
             let same : number_of kept ≡ has.value = same_Some _ _
             (sym (get_there opens has.key (Some kept) found) ∙ has.there) in
             let of_file : kept.file ≡ file =
-            ap (λ (h : OpenNumber). h.file) same ∙ eqb-true has.value.file file has.passes in
+            ap (λ (h : FileHandle). h.file) same ∙ eqb-true has.value.file file has.passes in
             counted_is ∙ is_there (numbers_of file opens) (counts file has.key kept opens found of_file)

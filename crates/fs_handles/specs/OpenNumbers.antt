@@ -1,7 +1,7 @@
 -- What contracts see of the table of open numbers.
 use Rattle.std.specs.Prelude.{ℕ, List, [], ◌∷◌}
 use Rattle.fuse_spec.specs.Values.Maps.{Map, put}
-use Rattle.fuse_spec.specs.Server.Nodes.{OpenNumber, HandleTable}
+use Rattle.fuse_spec.specs.Server.Nodes.{FileHandle, HandleTable}
 use Rattle.fs_handles.specs.declared.open_file.OpenFile.{OpenFile}
 
 -- The table, and how many more files can be opened with no memory.
@@ -10,11 +10,11 @@ pub record TableWithRoom : Type 0 where
   pub room : ℕ
 
 -- what the definitions see of what is kept under an open number
-abbrev pub number_of : OpenFile → OpenNumber
+abbrev pub number_of : OpenFile → FileHandle
 number_of kept = record { file = kept.file; count = kept.count }
 
 -- the entries of a hash map, in rising number
-abbrev pub handles_of : List (ℕ × OpenFile) → Map OpenNumber
+abbrev pub handles_of : List (ℕ × OpenFile) → Map FileHandle
 handles_of [] = []
 handles_of (e ∷ es) = put (handles_of es) e.0 (number_of e.1)
 

@@ -5,7 +5,7 @@ ghost use Rattle.std.specs.Option.{ForSome};
 ghost use Rattle.indexmap.specs.IndexMap as map;
 ghost use Rattle.indexmap.specs.IndexMap.{spare};
 ghost use Rattle.fuse_spec.specs.Values.Maps.{get, values};
-ghost use Rattle.fuse_spec.specs.Server.Nodes.{OpenNumber, handle_opened, handle_more, handle_back};
+ghost use Rattle.fuse_spec.specs.Server.Nodes.{FileHandle, handle_opened, handle_more, handle_back};
 ghost use Rattle.fuse_spec.specs.Values.Numbers.{counter_end};
 ghost use Rattle.fs_handles.specs.Uses.{uses_less};
 
@@ -101,7 +101,7 @@ impl<A: Allocator + Copy> HandleTable<A> {
 
     /// Counts one more copy that carries the open number.
     pub fn again(&mut self, fh: u64)
-        requires { ForSome (get self.old.table.handles fh) (λ (handle : OpenNumber). handle.count + 1 < 2 ^ 64) }
+        requires { ForSome (get self.old.table.handles fh) (λ (handle : FileHandle). handle.count + 1 < 2 ^ 64) }
         ensures table { self.new.table ≡ handle_more self.old.table fh }
         ensures room { self.old.room ≤ self.new.room }
     {
@@ -113,7 +113,7 @@ impl<A: Allocator + Copy> HandleTable<A> {
 
     /// Whether the file has an open number.
     pub fn has(&self, file: u64) -> bool
-        ensures { result ≡ list_any (λ (handle : OpenNumber). nat_eq handle.file file) (values self.now.table.handles) }
+        ensures { result ≡ list_any (λ (handle : FileHandle). nat_eq handle.file file) (values self.now.table.handles) }
     {
         self.uses.contains_key(&file)
     }

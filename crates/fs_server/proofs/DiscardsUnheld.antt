@@ -5,7 +5,7 @@ use Rattle.fuse_spec.specs.declared.Minor.{Minor}
 use Rattle.fuse_spec.specs.Server.Copies.{handles_back, row_back, rows_back}
 use Rattle.fuse_spec.specs.Values.Maps.{get}
 use Rattle.fuse_spec.specs.Kernel.Messages.{Forget}
-use Rattle.fuse_spec.specs.Server.Nodes.{HandleTable, HeldNode, IsUnheld, NodeTable, OpenNumber, all_given, all_opened, handle_back, taken_back}
+use Rattle.fuse_spec.specs.Server.Nodes.{HandleTable, HeldNode, IsUnheld, NodeTable, FileHandle, all_given, all_opened, handle_back, taken_back}
 use Rattle.fuse_spec.specs.Files.Operations.{Reply, files_in_reply, opens_in_reply}
 use Rattle.fuse_spec.specs.Server.Server.{HeldRequest, is_file_held}
 use Rattle.fuse_spec.specs.Files.Trees.{Tree}
@@ -58,10 +58,10 @@ module _ (old mid : FilesState) (named : AreNamed old.tree old.nodes old.handles
       (named_row_back old.tree old.nodes old.handles named g)
 
   pub but_number_back : (but : Option ℕ) (fh : ℕ)
-      → but ≡ option_map (λ (h : OpenNumber). h.file) (get old.handles.handles fh) → mid.nodes ≡ old.nodes
+      → but ≡ option_map (λ (h : FileHandle). h.file) (get old.handles.handles fh) → mid.nodes ≡ old.nodes
       → mid.handles ≡ handle_back old.handles fh → AreNamedBut but mid.tree mid.nodes mid.handles
   but_number_back but fh is nodes handles =
-      but_same but (option_map (λ (h : OpenNumber). h.file) (get old.handles.handles fh)) mid old.tree old.nodes
+      but_same but (option_map (λ (h : FileHandle). h.file) (get old.handles.handles fh)) mid old.tree old.nodes
       (handle_back old.handles fh) is tree nodes handles (named_number_back old.tree old.nodes old.handles named fh)
 
 -- what a request leaves is given nodes and open numbers

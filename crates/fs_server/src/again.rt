@@ -17,11 +17,11 @@ ghost use Rattle.fs_server.specs.Effects.{CanSendAgain, RefusesAgain, SendsAgain
 use crate::replies::SentCopy;
 use crate::server::ServerOf;
 use fs_files::{
-    Files, NamedNode, ReplySpare, SentReply, body_len, copied, file_entries, framed, name_count,
-    opened,
+    Files, ListingBuffers, NamedNode, SentReply, body_len, copied, file_entries, framed,
+    name_count, opened,
 };
 use fs_nodes::NodeStore;
-use fuse_frames::{ReplyRoom, Sent};
+use fuse_frames::{ReplyBuffer, Sent};
 use fuse_spec::limits::COUNTER_END;
 use fuse_spec::{Entry, Refusal};
 use std::alloc::AllocError;
@@ -84,8 +84,8 @@ impl<S: NodeStore> ServerOf<S> {
         };
         let reply = kept.reply();
         let len = body_len(reply);
-        let room = ReplyRoom::new(self.alloc, len)?;
-        let spare = ReplySpare::new(self.alloc, len, name_count(reply))?;
+        let room = ReplyBuffer::new(self.alloc, len)?;
+        let spare = ListingBuffers::new(self.alloc, len, name_count(reply))?;
         let number = self.next_copy;
         let copy = Sent::new(number, framed(reply, room, unique));
         let sent = SentCopy::new(unique, copied(reply, spare), kept.first());

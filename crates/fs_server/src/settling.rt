@@ -71,12 +71,12 @@ fn settle_files<S: NodeStore>(
 {
     match settled {
         WriteResult::Accepted => {}
-        WriteResult::NoEntry | WriteResult::Invalid => give_back(files, reply),
+        WriteResult::NoEntry | WriteResult::Invalid => uncount_reply(files, reply),
     }
 }
 
 /// Gives back what a refused copy carried, where it is still held, the node under the entry's generation.
-fn give_back<S: NodeStore>(files: &mut Files<S>, reply: &SentReply<S::Heap>)
+fn uncount_reply<S: NodeStore>(files: &mut Files<S>, reply: &SentReply<S::Heap>)
     requires { AreNamed files.old.tree files.old.nodes files.old.handles }
     ensures gives { GivesBack files.old (sent_wire reply.now) files.new }
     ensures named { AreNamed files.new.tree files.new.nodes files.new.handles }
@@ -101,7 +101,7 @@ fn entry_back<S: NodeStore>(files: &mut Files<S>, entry: &Entry)
     ensures { CountsBack files.old (entry.now ∷ []) [] files.new }
 {
     let file = files.nodes().counted_file(entry.nodeid);
-    files.give_back(entry);
+    files.uncount_reply(entry);
     files.discard_unheld(file);
 }
 
@@ -114,6 +114,6 @@ fn number_back<S: NodeStore>(files: &mut Files<S>, fh: Option<u64>)
         return;
     };
     let file = files.number_file(fh);
-    files.give_number_back(fh);
+    files.uncount_handle(fh);
     files.discard_unheld(file);
 }

@@ -112,7 +112,7 @@ fn forget_one<S: NodeStore>(files: &mut Files<S>, nodeid: u64, nlookup: u64)
     ensures { TakesBack files.old ((nodeid, nlookup) ∷ []) files.new }
 {
     let file = files.nodes().counted_file(nodeid);
-    files.take_back(nodeid, nlookup);
+    files.forget(nodeid, nlookup);
     files.discard_unheld(file);
 }
 

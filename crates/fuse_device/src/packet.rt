@@ -31,7 +31,7 @@ fn write_packet<W: Write>(out: &mut W, frame: &[u8]) -> Result<WriteResult, Devi
 pub struct PacketDevice<R: Read + Drop, W: Write + Drop> {
     reader: R,
     writer: W,
-    gives_up: bool,
+    times_out: bool,
 }
 
 impl<R: Read + Drop, W: Write + Drop> PacketDevice<R, W> {
@@ -42,7 +42,7 @@ impl<R: Read + Drop, W: Write + Drop> PacketDevice<R, W> {
         PacketDevice {
             reader,
             writer,
-            gives_up: false,
+            times_out: false,
         }
     }
 
@@ -53,7 +53,7 @@ impl<R: Read + Drop, W: Write + Drop> PacketDevice<R, W> {
         PacketDevice {
             reader,
             writer,
-            gives_up: true,
+            times_out: true,
         }
     }
 }
@@ -65,7 +65,7 @@ impl<R: Read + Drop, W: Write + Drop> Device for PacketDevice<R, W> {
         old.writer new.writer log };
 
     fn receive(&mut self, room: &mut [u8]) -> Result<usize, DeviceEnd> {
-        read_some(&mut self.reader, room, self.gives_up)
+        read_some(&mut self.reader, room, self.times_out)
     }
 
     fn send(&mut self, frame: &[u8]) -> Result<WriteResult, DeviceEnd> {

@@ -10,7 +10,7 @@ ghost use Rattle.fk_wire.specs.Replies.{reply_body, reply_content, kind_of_conte
 ghost use Rattle.fk_wire.specs.Requests.{known_flags};
 ghost use Rattle.fuse_spec.specs.Values.Numbers.{max_transfer, max_validity};
 ghost use Rattle.fuse_spec.specs.Files.Operations as reply;
-ghost use Rattle.fuse_frames.specs.ReplyTies.{AreWritten, FitsRoom, reply_content_of, dirent_read, dirent_written, pairs_told, wire_body};
+ghost use Rattle.fuse_frames.specs.ReplyTies.{AreWritten, FitsRoom, reply_content_of, dirent_read, dirent_written, direntpluses_of, wire_body};
 ghost use Rattle.fuse_frames.specs.ReplyTies.{attr_of as attr_written};
 
 use crate::listing::put_listing;
@@ -26,11 +26,11 @@ const ROOM: usize = 160;
 /// Room for one reply, seen as how many bytes it holds: a server takes it first, then changes its state, and then
 /// writes the reply, which cannot fail. Any reply of a fixed length has room.
 #[derive(Drop)]
-pub struct ReplyRoom<A: Allocator = Global> {
+pub struct ReplyBuffer<A: Allocator = Global> {
     bytes: Vec<u8, A>,
 }
 
-impl<A: Allocator> Model for ReplyRoom<A> {
+impl<A: Allocator> Model for ReplyBuffer<A> {
     ghost use Rattle.std.specs.Prelude.{◌≡◌, ◌≤◌, ℕ, [], vec_capacity};
     ghost use Rattle.fuse_frames.specs.ReplyTies.{reply_room};
 
@@ -41,14 +41,14 @@ impl<A: Allocator> Model for ReplyRoom<A> {
     ghost invariant = { λ r. (r.bytes.items ≡ []) × (reply_room ≤ vec_capacity r.bytes) };
 }
 
-impl<A: Allocator> ReplyRoom<A> {
+impl<A: Allocator> ReplyBuffer<A> {
     /// Takes the memory for a reply of a fixed length, and for one whose body is this long.
-    pub fn new(alloc: A, len: usize) -> Result<ReplyRoom<A>, AllocError>
+    pub fn new(alloc: A, len: usize) -> Result<ReplyBuffer<A>, AllocError>
         requires { len ≤ max_transfer }
         ensures { IfOk result (λ room. 16 + len ≤ room) }
     {
         let bytes = Vec::with_capacity(alloc, ROOM.max(16 + len))?;
-        Ok(ReplyRoom { bytes })
+        Ok(ReplyBuffer { bytes })
     }
 
     /// The frame of a reply without error.
@@ -160,7 +160,7 @@ impl<A: Allocator> ReplyRoom<A> {
         ensures { result ≡ record {
           unique = unique;
           wire = reply.listed_plus
-              (pairs_told found_ms entries.now (map dirent_read (records_in records.entry)));
+              (direntpluses_of found_ms entries.now (map dirent_read (records_in records.entry)));
         } }
     {
         let mut bytes = self.bytes;

@@ -26,7 +26,7 @@ serves_call (purpose.Call call) = true
 -- The number was drawn, and as long as its request is unanswered, it serves a call and its INTERRUPT was queued.
 pub record IsInterrupted (k : Kernel) (unique : ℕ) : Type 0 where
   pub even : unique % 2 ≡ 0
-  pub drawn : unique < k.queues.next
+  pub allocated : unique < k.queues.next
   pub marked : (request : QueuedRequest Purpose) → request_under k.queues unique ≡ Some request
       → has_interrupt request.mark ≡ true
   pub of_call : (request : QueuedRequest Purpose) → request_under k.queues unique ≡ Some request

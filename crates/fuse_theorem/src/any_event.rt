@@ -12,7 +12,7 @@ ghost use Rattle.std.specs.Prelude.{Ok};
 ghost use Rattle.fuse_theorem.specs.EachEvent.{IsRooted, PlainMoves, Needs};
 ghost use Rattle.fuse_spec.specs.World.Worlds.{World, first_world};
 ghost use Rattle.fuse_spec.specs.Reference.Plain.{Plain, first_plain};
-ghost use Rattle.fuse_spec.specs.Claim.Denotes.{MeansIn};
+ghost use Rattle.fuse_spec.specs.Claim.Denotes.{NodeDenotesIn};
 ghost use Rattle.fuse_spec.specs.Claim.Alike.{Alike};
 ghost use Rattle.std.specs.Prelude.{List};
 ghost use Rattle.fuse_spec.specs.Server.Server.{Server};
@@ -127,8 +127,8 @@ pub fn kept_replies_stay_sent()
 /// After a mount, and after an abort, no node means anything but the root.
 pub fn root_alone()
     ensures { (w : World) (id file : ℕ) → ((found_ms missing_ms : ℕ) (minor : Minor)
-        → MeansIn (after_mount w found_ms missing_ms minor) id file → (id ≡ 1) × (file ≡ 0))
-        × (MeansIn (after_abort w) id file → (id ≡ 1) × (file ≡ 0)) }
+        → NodeDenotesIn (after_mount w found_ms missing_ms minor) id file → (id ≡ 1) × (file ≡ 0))
+        × (NodeDenotesIn (after_abort w) id file → (id ≡ 1) × (file ≡ 0)) }
 {}
 
 /// After a mount, whatever was there, the world meets the conditions of the other laws on numbers and on the tables.

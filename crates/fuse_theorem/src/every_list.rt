@@ -224,7 +224,7 @@ pub fn replies_stay_fit()
 
 /// While the mount is live, the server's count of each open number is the kernel's open files and closing ones with it
 /// and what is in flight, whatever the event (`OpenNumbers.antt` has that and all that keeps it).
-pub fn open_numbers_stay_balanced()
+pub fn file_handles_stay_balanced()
     ensures at_first { OpensSound first_world }
     ensures always { (w : World) (p : Plain) → BothSound w p → ReleasesKnown w → OpensSound w
         → (e : Event) (o : Outcome) (after : World) → Happens w e o after → OpensSound after }
@@ -233,7 +233,7 @@ pub fn open_numbers_stay_balanced()
 /// While the mount is live, the server holds each open number that is in use or on its way. It does so still once a
 /// held RELEASE gives its number back, which is one of its node's file, and once a copy is settled. The numbers that
 /// held requests name are counted often enough for all of them.
-pub fn open_numbers_are_held()
+pub fn file_handles_are_held()
     ensures live { (w : World) (p : Plain) → BothSound w p → OpensSound w → is_live w.kernel.phase ≡ true
         → HoldsOpens w w.server.handles × HeldNumbersOpen w }
     ensures release { (w : World) (p : Plain) → BothSound w p → OpensSound w → is_live w.kernel.phase ≡ true
@@ -272,7 +272,7 @@ pub fn open_files_are_counted_at_rest()
 
 /// While the mount is live, an open number is of one open file at most, open, closing or to be released, whatever the
 /// event. So where nothing is under way, the server counts each once at most.
-pub fn open_numbers_stand_once()
+pub fn file_handles_stand_once()
     ensures at_first { OpensOnceWhileLive first_world }
     ensures always { (w : World) (p : Plain) → BothSound w p → ReleasesKnown w → OpensSound w → OpensOnceWhileLive w
         → (e : Event) (o : Outcome) (after : World) → Happens w e o after → OpensOnceWhileLive after }

@@ -7,7 +7,7 @@ ghost use Rattle.fuse_spec.specs.declared.Refusal.TheVariants.{LinkLost, NoMemor
 ghost use Rattle.fuse_spec.specs.World.Worlds.{World};
 ghost use Rattle.fuse_spec.specs.World.Events.{Event, Outcome};
 ghost use Rattle.fuse_spec.specs.World.Steps.{step, is_past, Happens, MayStep, IsRefused, RefusedWith};
-ghost use Rattle.fuse_spec.specs.World.Refusals.{Leads, Refuses, draws};
+ghost use Rattle.fuse_spec.specs.World.Refusals.{Leads, Refuses, allocates};
 
 /// An event gets a refusal exactly where a case of `Refuses` has it. The server's choice of ids is given.
 pub fn refused_by_cases()
@@ -23,9 +23,9 @@ pub fn accepted_by_cases()
     ensures only { (choice : ℕ → ℕ) (w : World) (e : Event) (o : Outcome) (after : World)
         → step choice w e ≡ Ok (o, after) → Leads choice w e o after }
     ensures within { (choice : ℕ → ℕ) (w : World) (e : Event) (o : Outcome) (after : World)
-        → step choice w e ≡ Ok (o, after) → draws e ≡ true → is_past after ≡ false }
+        → step choice w e ≡ Ok (o, after) → allocates e ≡ true → is_past after ≡ false }
     ensures also { (choice : ℕ → ℕ) (w : World) (e : Event) (o : Outcome) (after : World) → Leads choice w e o after
-        → (draws e ≡ true → is_past after ≡ false) → step choice w e ≡ Ok (o, after) }
+        → (allocates e ≡ true → is_past after ≡ false) → step choice w e ≡ Ok (o, after) }
 {}
 
 /// An event has one refusal at most: no two cases give it different ones.

@@ -70,7 +70,7 @@ impl<A: Allocator + Copy> Watch<A> {
     }
 
     /// The kernel gives a node up: the server may give it for another file.
-    pub(crate) fn give_up(&mut self, node: u64) {
+    pub(crate) fn note_evicted(&mut self, node: u64) {
         let _gone = self.nodes.swap_remove(&node);
     }
 

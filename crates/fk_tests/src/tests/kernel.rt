@@ -155,7 +155,7 @@ fn mounts<Q: RequestQueues, C: LookupCounts<Heap = Q::Heap>>(
     gives(kernel.mount(), wanted)
 }
 
-fn gives_up<Q: RequestQueues, C: LookupCounts<Heap = Q::Heap>>(
+fn aborts_as<Q: RequestQueues, C: LookupCounts<Heap = Q::Heap>>(
     kernel: &mut KernelOf<Q, C>,
     wanted: Result<(), Refusal>,
 ) -> Outcome {
@@ -329,7 +329,7 @@ impl<Q: RequestQueues, C: LookupCounts<Heap = Q::Heap>> Tried<Row, Q::Heap> for 
     fn attempt(&mut self, heap: Q::Heap, alloc: Global, row: Row) -> Outcome {
         match row {
             Row::Mount(wanted) => mounts(self, wanted),
-            Row::Abort(wanted) => gives_up(self, wanted),
+            Row::Abort(wanted) => aborts_as(self, wanted),
             Row::Begin(call, wanted) => begins(self, call, wanted),
             Row::Read(place, wanted) => reads_pending(self, alloc, place, wanted),
             Row::Interrupt(wanted) => reads_interrupt(self, alloc, wanted),

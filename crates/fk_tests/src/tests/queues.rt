@@ -95,11 +95,11 @@ fn reads_forgets<Q: QueueTable<u64>>(queues: &mut Q, frame: Frame) -> bool {
 
 /// Whether these are the forgets of each node from the first up to an end, under the number.
 fn is_of_each(read: Option<(u64, Forgets)>, unique: u64, first: u64, end: u64) -> bool {
-    let Some((drawn, forgets)) = read else {
+    let Some((allocated, forgets)) = read else {
         return false;
     };
     let mut node = first;
-    let mut is_right = drawn == unique;
+    let mut is_right = allocated == unique;
     for pair in forgets.as_slice() {
         is_right = is_right && *pair == (node, lookups_of(node));
         node = node.wrapping_add(1);

@@ -110,8 +110,8 @@ all_answered answer [] answers = answers
 all_answered answer (call ∷ calls) answers = put (all_answered answer calls answers) call.0 answer
 
 -- Every unanswered call is answered ECONNABORTED, and no name and no open file is left. (fuse.rst)
-abbrev pub given_up : {O : Type 0} → Vfs O → Vfs O
-given_up c = record c {
+abbrev pub abandoned : {O : Type 0} → Vfs O → Vfs O
+abandoned c = record c {
   calls = [];
   names = [];
   opens = [];

@@ -15,10 +15,10 @@ use Rattle.fuse_spec.specs.declared.WriteResult.TheVariants.{Accepted, NoEntry, 
 use Rattle.fuse_spec.specs.Kernel.Queues.{pending, processing}
 use Rattle.fuse_spec.specs.Kernel.Messages.{WireReply, RequestBody, Request, init, asks, release, forget, batch_forget, interrupt}
 use Rattle.fuse_spec.specs.Kernel.Kernel.{Kernel, is_live, body_of, nodes_of_state}
-use Rattle.fuse_spec.specs.Server.Nodes.{HeldNode, OpenNumber, row_of, is_open, file_of}
+use Rattle.fuse_spec.specs.Server.Nodes.{HeldNode, FileHandle, row_of, is_open, file_of}
 use Rattle.fuse_spec.specs.Server.Server.{Server, HeldRequest, Copy, count_in, forgotten, forgets_of, fault_of, nodes_of_body}
 use Rattle.fuse_spec.specs.World.Worlds.{World, Sent}
-use Rattle.fuse_spec.specs.Claim.Denotes.{Denotes, MeansIn, MeansOpenIn}
+use Rattle.fuse_spec.specs.Claim.Denotes.{Denotes, NodeDenotesIn, OpenDenotesIn}
 
 -- The kernel's count of a node, which is 0 where it counts none. (libfuse, low-level: lookup)
 abbrev pub counted : Option Counted → ℕ
@@ -84,7 +84,7 @@ open_in_flight w fh =
     + sum_by (result_carries (opens_in fh) w.server) w.results
 
 -- The server's count of an open number, which is 0 where there is none.
-abbrev pub handle_count : Option OpenNumber → ℕ
+abbrev pub handle_count : Option FileHandle → ℕ
 handle_count None = 0
 handle_count (Some handle) = handle.count
 
@@ -99,37 +99,37 @@ OpenBalance w = (fh : ℕ) → handle_count (get w.server.handles.handles fh)
     ≡ open_in_kernel w.kernel fh + open_in_flight w fh
 
 -- The kernel's node means some file.
-abbrev pub IsMeant : World → ℕ → Type 0
-IsMeant w id = (file : ℕ) × MeansIn w id file
+abbrev pub NodeDenotesSome : World → ℕ → Type 0
+NodeDenotesSome w id = (file : ℕ) × NodeDenotesIn w id file
 
 -- The kernel's open file means some file.
-abbrev pub IsOpenMeant : World → Opened → Type 0
-IsOpenMeant w o = (file : ℕ) × MeansOpenIn w o file
+abbrev pub OpenDenotesSome : World → Opened → Type 0
+OpenDenotesSome w o = (file : ℕ) × OpenDenotesIn w o file
 
 -- The entry of a copy denotes some file: the server holds its node under the entry's own generation.
-abbrev pub IsNamed : World → Entry → Type 0
-IsNamed w g = (file : ℕ) × Denotes w.server.nodes g.nodeid g.generation file
+abbrev pub EntryDenotesSome : World → Entry → Type 0
+EntryDenotesSome w g = (file : ℕ) × Denotes w.server.nodes g.nodeid g.generation file
 
 -- The kernel's node of an unanswered RELEASE means some file.
-abbrev pub ReleaseMeant : World → Purpose → Type 0
-ReleaseMeant w purpose.Init = Unit {0}
-ReleaseMeant w (purpose.Release o) = IsMeant w o.nodeid
-ReleaseMeant w (purpose.Call call) = Unit {0}
+abbrev pub ReleaseDenotesSome : World → Purpose → Type 0
+ReleaseDenotesSome w purpose.Init = Unit {0}
+ReleaseDenotesSome w (purpose.Release o) = NodeDenotesSome w o.nodeid
+ReleaseDenotesSome w (purpose.Call call) = Unit {0}
 
 -- In a live mount: the nodes that the kernel counts, those from and to which its names lead, those of its calls, its
 -- open and closed files and its unanswered RELEASEs are held by the server under the kernel's generation, and each
 -- entry on the reply link under its own.
 pub record HeldLive (w : World) : Type 0 where
-  pub nodes : (id : ℕ) (node : Counted) → get w.kernel.nodes id ≡ Some node → IsMeant w id
+  pub nodes : (id : ℕ) (node : Counted) → get w.kernel.nodes id ≡ Some node → NodeDenotesSome w id
   pub names : (directory : ℕ) (name : List ℕ) (bound : Dentry)
-      → get_name w.kernel.vfs.names (directory, name) ≡ Some bound → IsMeant w directory
+      → get_name w.kernel.vfs.names (directory, name) ≡ Some bound → NodeDenotesSome w directory
   pub targets : (directory : ℕ) (name : List ℕ) (bound : Dentry) (id : ℕ)
-      → get_name w.kernel.vfs.names (directory, name) ≡ Some bound → bound.target ≡ Some id → IsMeant w id
-  pub calls : All (λ state. All (IsMeant w) (nodes_of_state state)) (values w.kernel.vfs.calls)
-  pub opens : All (IsOpenMeant w) (values w.kernel.vfs.opens)
-  pub closing : All (IsOpenMeant w) (values w.kernel.closing)
-  pub releases : All (λ (e : ℕ × QueuedRequest Purpose). ReleaseMeant w e.1.kept) w.kernel.queues.requests
-  pub copies : All (λ (sent : Sent). All (IsNamed w) (files_in_reply sent.wire)) w.replies
+      → get_name w.kernel.vfs.names (directory, name) ≡ Some bound → bound.target ≡ Some id → NodeDenotesSome w id
+  pub calls : All (λ state. All (NodeDenotesSome w) (nodes_of_state state)) (values w.kernel.vfs.calls)
+  pub opens : All (OpenDenotesSome w) (values w.kernel.vfs.opens)
+  pub closing : All (OpenDenotesSome w) (values w.kernel.closing)
+  pub releases : All (λ (e : ℕ × QueuedRequest Purpose). ReleaseDenotesSome w e.1.kept) w.kernel.queues.requests
+  pub copies : All (λ (sent : Sent). All (EntryDenotesSome w) (files_in_reply sent.wire)) w.replies
 
 -- The next two are the open files that an operation names, and a request.
 abbrev pub opens_of : Operation ℕ Opened → List Opened
@@ -185,7 +185,7 @@ pub record Settled (w : World) : Type 0 where
   pub opens : (fh : ℕ) → handle_count (get w.server.handles.handles fh)
       ≡ count_by (λ (o : Opened). nat_eq o.fh fh) (values w.kernel.vfs.opens)
   pub once : (fh : ℕ) → handle_count (get w.server.handles.handles fh) ≤ 1
-  pub counted : (fh : ℕ) (handle : OpenNumber) → get w.server.handles.handles fh ≡ Some handle → 1 ≤ handle.count
+  pub counted : (fh : ℕ) (handle : FileHandle) → get w.server.handles.handles fh ≡ Some handle → 1 ≤ handle.count
   pub files : All (λ (o : Opened). is_open w.server.handles o.fh (file_of w.server.nodes o.nodeid) ≡ true)
       (values w.kernel.vfs.opens)
 

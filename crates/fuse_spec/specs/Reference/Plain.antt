@@ -12,7 +12,7 @@ use Rattle.fuse_spec.specs.Calls.Calls.{Call, for_minor, lists_files_at}
 use Rattle.fuse_spec.specs.declared.Minor.{Minor}
 use Rattle.fuse_spec.specs.declared.Minor.TheVariants.{M31}
 use Rattle.fuse_spec.specs.Calls.Answers.{failed}
-use Rattle.fuse_spec.specs.Calls.Vfs.{CallState, Vfs, Advance, answered, begun, given_up, later}
+use Rattle.fuse_spec.specs.Calls.Vfs.{CallState, Vfs, Advance, answered, begun, abandoned, later}
 use Rattle.fuse_spec.specs.Calls.CallReplies.{call_replied}
 
 -- Where an ask stands: not performed yet, performed with this reply, or declined.
@@ -100,12 +100,12 @@ name_dropped p directory name = record p { vfs = record p.vfs { names = remove_n
 
 -- Abort: every unanswered call is answered ECONNABORTED. The asks stay. (fuse.rst)
 abbrev pub plain_aborted : Plain → Plain
-plain_aborted p = record p { vfs = given_up p.vfs; aborted = true }
+plain_aborted p = record p { vfs = abandoned p.vfs; aborted = true }
 
 -- A mount: the asks go, no name and no open file is left, and the validities are set.
 abbrev pub plain_mounted : Plain → Validity → Minor → Plain
 plain_mounted p validity minor = record p {
-  vfs = given_up p.vfs;
+  vfs = abandoned p.vfs;
   asks = [];
   validity = validity;
   minor = minor;

@@ -94,17 +94,17 @@ taken_back t id n = record t { rows = rows_less t.rows id n (get t.rows id) }
 
 -- An open number of the server: its file, and a count of one for each copy that carried it and was neither refused nor
 -- released. (this project's rule)
-pub record OpenNumber : Type 0 where
+pub record FileHandle : Type 0 where
   pub file : ℕ
   pub count : ℕ
 
 -- The open files by number, and the number that is given next; no number is given twice. (this project's rule)
 pub record HandleTable : Type 0 where
-  pub handles : Map OpenNumber
+  pub handles : Map FileHandle
   pub next_fh : ℕ
 
 -- The next two say whether this is an open number of the file. (libfuse, low-level: open)
-abbrev pub is_file_of : ℕ → Option OpenNumber → Bool
+abbrev pub is_file_of : ℕ → Option FileHandle → Bool
 is_file_of file None = false
 is_file_of file (Some handle) = nat_eq handle.file file
 
@@ -124,7 +124,7 @@ all_opened t [] = t
 all_opened t (file ∷ files) = all_opened (handle_opened t file) files
 
 -- The next two give one use of an open number back; at none left it goes. (libfuse, low-level: release)
-abbrev pub handles_less : Map OpenNumber → ℕ → Option OpenNumber → Map OpenNumber
+abbrev pub handles_less : Map FileHandle → ℕ → Option FileHandle → Map FileHandle
 handles_less handles fh None = handles
 handles_less handles fh (Some handle) = cond (nat_lt 1 handle.count)
     (put handles fh (record handle { count = handle.count - 1 })) (remove handles fh)
@@ -133,7 +133,7 @@ abbrev pub handle_back : HandleTable → ℕ → HandleTable
 handle_back t fh = record t { handles = handles_less t.handles fh (get t.handles fh) }
 
 -- The next two count one use more of an open number, for one more copy of the reply that carries it.
-abbrev pub handles_more : Map OpenNumber → ℕ → Option OpenNumber → Map OpenNumber
+abbrev pub handles_more : Map FileHandle → ℕ → Option FileHandle → Map FileHandle
 handles_more handles fh None = handles
 handles_more handles fh (Some handle) = put handles fh (record handle { count = handle.count + 1 })
 

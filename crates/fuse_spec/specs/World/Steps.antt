@@ -160,7 +160,7 @@ takes_memory other = true
 
 -- Out of memory: this is the last refusal, of an event that takes memory and that nothing else refuses.
 pub record OutOfMemory (w : World) (event : Event) (refusal : Refusal) : Type 0 where
-  pub wanting : refusal ≡ NoMemory
+  pub out_of_memory : refusal ≡ NoMemory
   pub takes : takes_memory event ≡ true
   pub last : (other : Refusal) → IsRefused w event other → ⊥
 

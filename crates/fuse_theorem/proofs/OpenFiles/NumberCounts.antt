@@ -7,7 +7,7 @@ use Rattle.std.proofs.lemmas.Bool.Decides.{nat_tests}
 use Rattle.fuse_spec.specs.Values.Maps.{Map, get, put, remove}
 use Rattle.fuse_spec.specs.Kernel.Messages.{WireReply}
 use Rattle.fuse_spec.specs.Files.Operations.{Reply, found, missing, created, opened, attributes, listed, listed_plus, content, written, agreed, done, failed, opens_in_reply}
-use Rattle.fuse_spec.specs.Server.Nodes.{NodeTable, HandleTable, OpenNumber, is_file_of, is_open, handle_opened, all_opened, handles_less, handle_back, handles_more, handle_more}
+use Rattle.fuse_spec.specs.Server.Nodes.{NodeTable, HandleTable, FileHandle, is_file_of, is_open, handle_opened, all_opened, handles_less, handle_back, handles_more, handle_more}
 use Rattle.fuse_spec.specs.Server.Copies.{handles_counted, handles_back}
 use Rattle.fuse_spec.specs.Claim.Counts.{handle_count, opens_in}
 use Rattle.fuse_spec.specs.Server.Performs.{wire_of}
@@ -25,7 +25,7 @@ number_count h fh = handle_count (get h.handles fh)
 abbrev pub one_at : ℕ → ℕ → ℕ
 one_at n fh = cond (nat_eq n fh) 1 0
 
-put_count : (m : Map OpenNumber) (n fh : ℕ) (new : OpenNumber)
+put_count : (m : Map FileHandle) (n fh : ℕ) (new : FileHandle)
     → handle_count (get (put m n new) fh) ≡ cond (nat_eq n fh) new.count (handle_count (get m fh))
 put_count m n fh new = elim (cases_eq n fh) [
   | inl e ↦
@@ -38,7 +38,7 @@ put_count m n fh new = elim (cases_eq n fh) [
       (λ (b : Bool). cond b new.count (handle_count (get m fh))) (sym (other_is n fh ne))
 ]
 
-gone_count : (m : Map OpenNumber) (n fh : ℕ) → handle_count (get (remove m n) fh)
+gone_count : (m : Map FileHandle) (n fh : ℕ) → handle_count (get (remove m n) fh)
     ≡ cond (nat_eq n fh) 0 (handle_count (get m fh))
 gone_count m n fh = elim (cases_eq n fh) [
   | inl e ↦
@@ -64,7 +64,7 @@ back_count h n fh = by (get h.handles n) refl
         key = grind (arith, nat_tests, e)
     tied false e = omega arith
 
-    by : (o : Option OpenNumber) → get h.handles n ≡ o
+    by : (o : Option FileHandle) → get h.handles n ≡ o
         → number_count (record h { handles = handles_less h.handles n o }) fh ≡ number_count h fh - one_at n fh
     by None at = none (nat_eq n fh) refl
       where
@@ -96,7 +96,7 @@ pub more_count : (h : HandleTable) (n fh : ℕ) → get h.handles n ≢ None
     → number_count (handle_more h n) fh ≡ number_count h fh + one_at n fh
 more_count h n fh there = by (get h.handles n) refl
   where
-    tied : (x : OpenNumber) → get h.handles n ≡ Some x → (b : Bool) → nat_eq n fh ≡ b
+    tied : (x : FileHandle) → get h.handles n ≡ Some x → (b : Bool) → nat_eq n fh ≡ b
         → cond b (x.count + 1) (number_count h fh) ≡ number_count h fh + cond b 1 0
     tied x at true e =
         let key : n ≡ fh = grind (arith, nat_tests, e) in
@@ -105,7 +105,7 @@ more_count h n fh there = by (get h.handles n) refl
         omega (arith, mine)
     tied x at false e = omega arith
 
-    by : (o : Option OpenNumber) → get h.handles n ≡ o
+    by : (o : Option FileHandle) → get h.handles n ≡ o
         → number_count (record h { handles = handles_more h.handles n o }) fh ≡ number_count h fh + one_at n fh
     by None at = absurd (there at)
     by (Some x) at = put_count h.handles n fh (record x { count = x.count + 1 }) ∙ tied x at (nat_eq n fh) refl
@@ -159,7 +159,7 @@ pub counted_counts : (h : HandleTable) (wire : WireReply)
     → number_count (handles_counted h (opens_in_reply wire)) fh ≡ number_count h fh + opens_in fh wire
 counted_counts h wire current fh = by (opens_in_reply wire) (opens_one wire) current
   where
-    there : (o : Option OpenNumber) (b : Bool) → (is_some o && b) ≡ true → o ≢ None
+    there : (o : Option FileHandle) (b : Bool) → (is_some o && b) ≡ true → o ≢ None
     there None b e is = true≢false (sym e)
     there (Some x) b e is = absurd (cc (is))
 
@@ -213,7 +213,7 @@ SameFiles h h' = (fh file : ℕ) → get h'.handles fh ≢ None → is_open h fh
 pub back_files : (h : HandleTable) (n : ℕ) → SameFiles h (handle_back h n)
 back_files h n fh file there is = by (get (handle_back h n).handles fh) refl
   where
-    by : (o : Option OpenNumber) → get (handle_back h n).handles fh ≡ o → is_file_of file o ≡ true
+    by : (o : Option FileHandle) → get (handle_back h n).handles fh ≡ o → is_file_of file o ≡ true
     by None at = absurd (there at)
     by (Some y) at =
         let was = number_back h n fh y at in

@@ -9,7 +9,7 @@ use Rattle.fuse_spec.specs.declared.Opened.{Opened}
 use Rattle.fuse_spec.specs.Values.Maps.{Map, get, put, remove, values}
 use Rattle.fuse_spec.specs.Files.Operations.{Operation}
 use Rattle.fuse_spec.specs.Kernel.Messages.{RequestBody, init, asks, release, forget, batch_forget, interrupt}
-use Rattle.fuse_spec.specs.Server.Nodes.{NodeTable, HandleTable, OpenNumber, file_of, is_file_of, is_open, handles_less, handle_back}
+use Rattle.fuse_spec.specs.Server.Nodes.{NodeTable, HandleTable, FileHandle, file_of, is_file_of, is_open, handles_less, handle_back}
 use Rattle.fuse_spec.specs.Server.Server.{HeldRequest}
 use Rattle.fuse_spec.specs.Claim.Counts.{opens_of, opens_of_body, releases_in, handle_count}
 use Rattle.fuse_spec.proofs.Tables.{cmp_same, tie_no, get_put_here, get_put_there, get_gone_there}
@@ -68,20 +68,20 @@ back_count h fh q = elim (cases_eq q fh) [
   | inr ne ↦ let there = ap handle_count (other (get h.handles fh) ne) in omega (arith, there)
 ]
   where
-    counted : (x : OpenNumber) (b : Bool) → nat_lt 1 x.count ≡ b
+    counted : (x : FileHandle) (b : Bool) → nat_lt 1 x.count ≡ b
         → x.count ≤ handle_count (get (cond b (put h.handles fh (record x { count = x.count - 1 }))
         (remove h.handles fh)) fh) + 1
     counted x true many = let is = ap handle_count (get_put_here h.handles fh (record x { count = x.count - 1 })) in
         let low : 1 < x.count = grind (arith, nat_tests, many) in omega (arith, is, low)
     counted x false few = let low : x.count ≤ 1 = grind (arith, nat_tests, few) in omega (arith, low)
 
-    by : (o : Option OpenNumber) → get h.handles fh ≡ o
+    by : (o : Option FileHandle) → get h.handles fh ≡ o
         → handle_count (get h.handles fh) ≤ handle_count (get (handles_less h.handles fh o) fh) + 1
     by None at = let none = ap handle_count at in omega (arith, none)
     by (Some x) at = let is = ap handle_count at in let few =
         counted x (nat_lt 1 x.count) refl in omega (arith, is, few)
 
-    other : (o : Option OpenNumber) → q ≢ fh → get (handles_less h.handles fh o) q ≡ get h.handles q
+    other : (o : Option FileHandle) → q ≢ fh → get (handles_less h.handles fh o) q ≡ get h.handles q
     other None ne = refl
     other (Some x) ne = either (nat_lt 1 x.count)
       where
@@ -95,7 +95,7 @@ still_open : (h : HandleTable) (fh q file : ℕ) → is_open h q file ≡ true
     → 1 ≤ handle_count (get (handle_back h fh).handles q) → is_open (handle_back h fh) q file ≡ true
 still_open h fh q file was counted = by (get (handle_back h fh).handles q) refl counted
   where
-    by : (o : Option OpenNumber) → get (handle_back h fh).handles q ≡ o → 1 ≤ handle_count o → is_file_of file o ≡ true
+    by : (o : Option FileHandle) → get (handle_back h fh).handles q ≡ o → 1 ≤ handle_count o → is_file_of file o ≡ true
     by None at low = absurd (omega (arith, low))
     by (Some y) at low =
         let x = number_back h fh q y at in

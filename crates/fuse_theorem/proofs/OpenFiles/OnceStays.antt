@@ -46,7 +46,7 @@ use Rattle.fuse_theorem.proofs.RefusalCases.Happened.{Happened, by_mount, by_cal
 use Rattle.fuse_theorem.proofs.Replies.KeptOnLink.{stays_absent}
 use Rattle.fuse_theorem.proofs.Lookups.LookupsAfterReply.{wire_usable}
 use Rattle.fuse_theorem.proofs.Lists.MapSums.{worth}
-use Rattle.fuse_theorem.proofs.Requests.NewNumbers.{Draws, performed_draws, counted_next, given_back_next}
+use Rattle.fuse_theorem.proofs.Requests.NewNumbers.{Allocates, performed_allocates, counted_next, given_back_next}
 use Rattle.fuse_theorem.proofs.Nodes.NodesSound.{put_found}
 use Rattle.fuse_theorem.proofs.Requests.NumbersStay.{replying_kernel, unreceived}
 use Rattle.fuse_theorem.proofs.Lists.OpenSums.{has_number, open_sum, counts_opens}
@@ -228,9 +228,9 @@ module _ (choice : ℕ → ℕ) (w : World) (p : Plain) (both : BothSound w p) (
     did : PerformResult
     did = performed choice (record w.server { held = remove w.server.held unique }) t
 
-    draws : Draws (record w.server { held = remove w.server.held unique })
+    allocates : Allocates (record w.server { held = remove w.server.held unique })
         (performed choice (record w.server { held = remove w.server.held unique }) t)
-    draws = performed_draws choice (record w.server { held = remove w.server.held unique }) t
+    allocates = performed_allocates choice (record w.server { held = remove w.server.held unique }) t
 
     -- no file has the coming number
     none_coming : files_with w.server.handles.next_fh w ≡ 0
@@ -315,9 +315,9 @@ module _ (choice : ℕ → ℕ) (w : World) (p : Plain) (both : BothSound w p) (
             (Some (served choice w.server unique t).wire)) old unique
             (λ u fh c. elim (carried _ refl u fh c) [
               | inl e ↦ inl
-                  (e.0, (draws.new fh e.1).0, (draws.new fh e.1).1)
+                  (e.0, (allocates.new fh e.1).0, (allocates.new fh e.1).1)
               | inr d ↦ inr d
-            ]) draws.rises refl none_coming
+            ]) allocates.rises refl none_coming
             (λ fh. let files = performed_files w p both live releases opens.held balanced choice unique t at may
             (Some (served choice w.server unique t).wire) (has_number fh) in omega (arith, files))
 

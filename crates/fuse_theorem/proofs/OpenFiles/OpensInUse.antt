@@ -17,7 +17,7 @@ use Rattle.fuse_spec.specs.Claim.Counts.{handle_count}
 use Rattle.fuse_spec.specs.Claim.Denotes.{Denotes, generation_known}
 use Rattle.fuse_spec.specs.World.Worlds.{World}
 use Rattle.fuse_theorem.specs.AskedRequests.{IsAsked, SentAsked, RequestsAsked}
-use Rattle.fuse_theorem.specs.Conditions.{KnownAreHeld, IsOpenNumber}
+use Rattle.fuse_theorem.specs.Conditions.{KnownAreHeld, IsFileHandle}
 use Rattle.fuse_theorem.specs.KnownNodes.{IsKnown, NodesKnown}
 use Rattle.fuse_theorem.specs.OpenNumbers.{released_for, released_by, all_released, released_pending, released_sent, released_held, open_files, IsOfItsNode, OpensBalanced}
 use Rattle.fuse_theorem.specs.ReleasesKnown.{ReleaseKnown, ReleasesKnown}
@@ -98,7 +98,7 @@ module _ (w : World) (nodes : NodesKnown w.kernel) (releases : ReleasesKnown w) 
 -- ---- what is counted is there
 
 -- Each open file's number is one of the server's.
-pub numbers_there : (w : World) → CountsOpens w → All (λ (o : Opened). IsOpenNumber w.server.handles o.fh) (open_files w)
+pub numbers_there : (w : World) → CountsOpens w → All (λ (o : Opened). IsFileHandle w.server.handles o.fh) (open_files w)
 numbers_there w counts i d lt none =
     let o = get_or (open_files w) i d in
     let sum : has_number o.fh o ≤ sum_by (has_number o.fh) (open_files w) =
@@ -145,7 +145,7 @@ files_still w v known same_nodes held held_after denotes same_files fewer old co
     were : All (λ (o : Opened). was_open o ≡ true) (open_files v)
     were = left was_open old
 
-    still : (o : Opened) → is_known o ≡ true → was_open o ≡ true → IsOpenNumber v.server.handles o.fh
+    still : (o : Opened) → is_known o ≡ true → was_open o ≡ true → IsFileHandle v.server.handles o.fh
         → IsOfItsNode v.server o
     still o some was there = by (generation_known w.kernel.nodes o.nodeid) refl some
       where

@@ -14,7 +14,7 @@ use Rattle.fuse_spec.specs.Kernel.Queues.{pending}
 use Rattle.fuse_spec.specs.Calls.Vfs.{CallState, walking, doing, using, asked}
 use Rattle.fuse_spec.specs.Kernel.Kernel.{body_of, asked_by}
 use Rattle.fuse_spec.specs.Server.Nodes.{file_in, file_of, is_open}
-use Rattle.fuse_spec.specs.Claim.Counts.{opens_of, opens_of_body, IsMeant, IsOpenMeant}
+use Rattle.fuse_spec.specs.Claim.Counts.{opens_of, opens_of_body, NodeDenotesSome, OpenDenotesSome}
 use Rattle.fuse_spec.specs.World.Worlds.{World}
 use Rattle.fuse_theorem.specs.AskedRequests.{RequestsAsked, SentAsked}
 use Rattle.fuse_theorem.specs.OpenNumbers.{OpensApart, IsOfItsNode, released_for, released_by, released_pending, released_sent, released_held, open_files}
@@ -113,7 +113,7 @@ module _ (w : World) (files : All (IsOfItsNode w.server) (open_files w)) where
 -- ---- an open file of a node that means a file
 
 -- It means that file.
-pub open_meant : (w : World) (o : Opened) → IsMeant w o.nodeid → IsOfItsNode w.server o → IsOpenMeant w o
+pub open_meant : (w : World) (o : Opened) → NodeDenotesSome w o.nodeid → IsOfItsNode w.server o → OpenDenotesSome w o
 open_meant w o meant fits =
     let means = meant.1 in
     let denotes = means.denotes in

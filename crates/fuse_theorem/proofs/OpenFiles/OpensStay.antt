@@ -11,7 +11,7 @@ use Rattle.fuse_spec.specs.Server.Copies.{kept_after, after_result}
 use Rattle.fuse_spec.specs.Calls.Calls.{Call, for_minor}
 use Rattle.fuse_spec.specs.Values.Maps.{Map, get, remove}
 use Rattle.fuse_spec.specs.Kernel.Messages.{RequestBody, init, asks, release, forget, batch_forget, interrupt}
-use Rattle.fuse_spec.specs.Calls.Vfs.{Vfs, begun, given_up, later}
+use Rattle.fuse_spec.specs.Calls.Vfs.{Vfs, begun, abandoned, later}
 use Rattle.fuse_spec.specs.Kernel.Kernel.{Kernel, is_live, is_aborted, advanced, closed_by, closing_of, call_begun}
 use Rattle.fuse_spec.specs.Reference.Plain.{Plain}
 use Rattle.fuse_spec.specs.Kernel.Replies.{reply_written}
@@ -46,7 +46,7 @@ use Rattle.fuse_theorem.proofs.Replies.WriteNeeds.{write_met}
 
 -- ---- nothing is open
 
-emptied_apart : (c : Vfs Opened) → OpensApart (given_up c) []
+emptied_apart : (c : Vfs Opened) → OpensApart (abandoned c) []
 emptied_apart c = record {
   once = λ n. omega arith;
   below = λ n high. refl;

@@ -15,7 +15,7 @@ use Rattle.fuse_spec.specs.Kernel.Messages.{RequestBody, init, asks, release, fo
 use Rattle.fuse_spec.specs.Kernel.Kernel.{Kernel, is_live, body_of, is_for, request_of}
 use Rattle.fuse_spec.specs.World.Worlds.{World}
 use Rattle.fuse_spec.specs.Reference.Plain.{Plain, Ask}
-use Rattle.fuse_spec.specs.Claim.Denotes.{MeansIn, MeansOpenIn}
+use Rattle.fuse_spec.specs.Claim.Denotes.{NodeDenotesIn, OpenDenotesIn}
 use Rattle.fuse_spec.specs.Claim.Alike.{RequestBodyAsked, PurposeAsked, Alike}
 use Rattle.fuse_spec.proofs.QueueCounts.{lookup-set_mark_same}
 use Rattle.fuse_spec.proofs.QueueReadings.{request_under-mark_other}
@@ -58,7 +58,7 @@ asked_unsignalled R S all unique signalled (interrupt original) h = h
 
 -- What keeps all alike as the queues change: each pending request is asked as it was, each call has the same request,
 -- and none that bears a signal has an ask on which none is noted.
-pub record QueuesStay (w : World) (p : Plain) (q : QueueState Purpose) : Type 0 where
+pub record QueuesKept (w : World) (p : Plain) (q : QueueState Purpose) : Type 0 where
   pub pending : All (PurposeAsked w p) (pending q)
   pub same_request : (call : ℕ) → request_of (record w.kernel { queues = q }) call ≡ request_of w.kernel call
   pub signalled : is_live w.kernel.phase ≡ true → (unique : ℕ) (request : QueuedRequest Purpose) (ask : Ask)
@@ -66,8 +66,8 @@ pub record QueuesStay (w : World) (p : Plain) (q : QueueState Purpose) : Type 0 
       → ask.noted ≡ true
 
 pub queues_alike : (w : World) (p : Plain) → Alike w p → (q : QueueState Purpose) (requests : List Request)
-    → QueuesStay w p q
-    → All (λ (r : Request). RequestBodyAsked p.asks r.unique false false (MeansIn w) (MeansOpenIn w) r.body) requests
+    → QueuesKept w p q
+    → All (λ (r : Request). RequestBodyAsked p.asks r.unique false false (NodeDenotesIn w) (OpenDenotesIn w) r.body) requests
     → Alike (record w { kernel = record w.kernel { queues = q }; requests = requests }) p
 queues_alike w p same q requests stay sent = record {
   tree = same.tree;
@@ -76,7 +76,7 @@ queues_alike w p same q requests stay sent = record {
     pending = λ i e lt.
         let entry = get_or (pending q) i e in
         subst (λ (o : Option RequestBody). MatchOption o ⊥
-        (RequestBodyAsked p.asks entry.0 (is_signalled entry.1.mark) false (MeansIn w) (MeansOpenIn w)))
+        (RequestBodyAsked p.asks entry.0 (is_signalled entry.1.mark) false (NodeDenotesIn w) (OpenDenotesIn w)))
         (sym (same_body w.kernel q entry.1.kept)) (stay.pending i e lt);
     sent = sent;
     held = same.requests.held;

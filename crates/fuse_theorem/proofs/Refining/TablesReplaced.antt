@@ -20,8 +20,8 @@ use Rattle.fuse_spec.specs.World.Worlds.{World, Sent}
 use Rattle.fuse_spec.specs.Kernel.Messages.{RequestBody, init, asks, release, forget, batch_forget, interrupt, WireReply}
 use Rattle.fuse_spec.specs.Reference.Plain.{Plain, Ask, Stage, waiting, performed, declined}
 use Rattle.fuse_spec.specs.Server.Nodes.{NodeTable, HandleTable, is_open}
-use Rattle.fuse_spec.specs.Claim.Denotes.{WalkPlanAlike, StateAlike, DentryAlike, Names, Opens, Denotes, generation_known, Means, MeansOpen, MeansIn, MeansOpenIn}
-use Rattle.fuse_spec.specs.Claim.Alike.{TreeAlike, VfsAlike, RequestBodyAsked, Meant, MeantOpen, IsStageReplied, Alike}
+use Rattle.fuse_spec.specs.Claim.Denotes.{WalkPlanAlike, StateAlike, DentryAlike, Names, Opens, Denotes, generation_known, NodeDenotes, OpenDenotes, NodeDenotesIn, OpenDenotesIn}
+use Rattle.fuse_spec.specs.Claim.Alike.{TreeAlike, VfsAlike, RequestBodyAsked, StillDenotes, OpenStillDenotes, IsStageReplied, Alike}
 use Rattle.fuse_theorem.specs.Numbering.{IsOneToOne}
 use Rattle.fuse_theorem.proofs.Refining.Asking.{match_more}
 use Rattle.fuse_theorem.proofs.Calls.Meaning.{operation_more, final_within, first_of}
@@ -148,14 +148,14 @@ body_more R R' S S' all unique signalled marked (interrupt original) f k h = h
 
 -- What the tables become, and what is still meant by them.
 pub record Carries (w : World) (p : Plain) (nodes : Map Counted) (t : NodeTable) (h : HandleTable) : Type 0 where
-  pub means : (id file : ℕ) → MeansIn w id file → Means nodes t id file
-  pub opens : (o : Opened) (file : ℕ) → MeansOpenIn w o file → MeansOpen nodes t h o file
-  pub one : IsOneToOne (Means nodes t)
+  pub means : (id file : ℕ) → NodeDenotesIn w id file → NodeDenotes nodes t id file
+  pub opens : (o : Opened) (file : ℕ) → OpenDenotesIn w o file → OpenDenotes nodes t h o file
+  pub one : IsOneToOne (NodeDenotes nodes t)
   pub held_nodes : (unique : ℕ) (x : HeldRequest) → get w.server.held unique ≡ Some x → (id file : ℕ)
-      → Contains (nodes_of_body x.body) id → Meant w.server.nodes x.generations id file → Meant t x.generations id file
+      → Contains (nodes_of_body x.body) id → StillDenotes w.server.nodes x.generations id file → StillDenotes t x.generations id file
   pub held_opens : (unique : ℕ) (x : HeldRequest) → get w.server.held unique ≡ Some x → (o : Opened) (file : ℕ)
-      → Contains (opens_of_body x.body) o → MeantOpen w.server.nodes w.server.handles x.generations o file
-      → MeantOpen t h x.generations o file
+      → Contains (opens_of_body x.body) o → OpenStillDenotes w.server.nodes w.server.handles x.generations o file
+      → OpenStillDenotes t h x.generations o file
   pub kept : is_live w.kernel.phase ≡ true → (unique : ℕ) (k : Kept) (ask : Ask) → get w.server.kept unique ≡ Some k
       → get p.asks unique ≡ Some ask → IsStageReplied w.server.nodes w.server.handles ask.stage k.wire
       → IsStageReplied t h ask.stage k.wire
@@ -173,26 +173,26 @@ pub replaced_tables_refine : (w : World) (p : Plain) → Alike w p
     }) (record p { tree = tree' })
 replaced_tables_refine w p same nodes t h tree tree' carries trees = record {
   tree = trees;
-  vfs = vfs_more (MeansIn w) (Means nodes t) carries.means (MeansOpenIn w)
-      (MeansOpen nodes t h) carries.opens carries.one w.kernel.vfs p.vfs same.vfs;
+  vfs = vfs_more (NodeDenotesIn w) (NodeDenotes nodes t) carries.means (OpenDenotesIn w)
+      (OpenDenotes nodes t h) carries.opens carries.one w.kernel.vfs p.vfs same.vfs;
   requests = record {
     pending = λ i e lt.
         let entry = get_or (pending w.kernel.queues) i e in
         match_more (body_of w.kernel entry.1.kept)
-        (λ body asked. body_more (MeansIn w) (Means nodes t) (MeansOpenIn w) (MeansOpen nodes t h) p.asks entry.0
+        (λ body asked. body_more (NodeDenotesIn w) (NodeDenotes nodes t) (OpenDenotesIn w) (OpenDenotes nodes t h) p.asks entry.0
         (is_signalled entry.1.mark) false body (λ id file among r. carries.means id file r)
         (λ o file among s. carries.opens o file s) asked)
         (same.requests.pending i e lt);
     sent = λ i r lt.
         let request = get_or w.requests i r in
-        body_more (MeansIn w) (Means nodes t) (MeansOpenIn w)
-        (MeansOpen nodes t h) p.asks request.unique false false request.body
+        body_more (NodeDenotesIn w) (NodeDenotes nodes t) (OpenDenotesIn w)
+        (OpenDenotes nodes t h) p.asks request.unique false false request.body
         (λ id file among r. carries.means id file r) (λ o file among s. carries.opens o file s)
         (same.requests.sent i r lt);
     held = λ u x at.
-        body_more (Meant w.server.nodes x.generations) (Meant t x.generations)
-        (MeantOpen w.server.nodes w.server.handles x.generations)
-        (MeantOpen t h x.generations) p.asks u false x.marked x.body (carries.held_nodes u x at)
+        body_more (StillDenotes w.server.nodes x.generations) (StillDenotes t x.generations)
+        (OpenStillDenotes w.server.nodes w.server.handles x.generations)
+        (OpenStillDenotes t h x.generations) p.asks u false x.marked x.body (carries.held_nodes u x at)
         (carries.held_opens u x at)
         (same.requests.held u x at);
   };
@@ -207,8 +207,8 @@ replaced_tables_refine w p same nodes t h tree tree' carries trees = record {
               request = pair.request;
               there = pair.there;
               by = pair.by;
-              same = operation_all (MeansIn w) (Means nodes t) carries.means (MeansOpenIn w)
-                  (MeansOpen nodes t h) carries.opens (asked state) pair.ask.operation pair.same;
+              same = operation_all (NodeDenotesIn w) (NodeDenotes nodes t) carries.means (OpenDenotesIn w)
+                  (OpenDenotes nodes t h) carries.opens (asked state) pair.ask.operation pair.same;
             };
         no_other = old.no_other;
         signalled = old.signalled;
@@ -227,7 +227,7 @@ pub grown : (w : World) (p : Plain) (nodes : Map Counted) (t : NodeTable) (h : H
     → generation_known nodes id ≡ Some generation)
     → ((id generation file : ℕ) → Denotes w.server.nodes id generation file → Denotes t id generation file)
     → ((fh file : ℕ) → is_open w.server.handles fh file ≡ true → is_open h fh file ≡ true)
-    → IsOneToOne (Means nodes t)
+    → IsOneToOne (NodeDenotes nodes t)
     → Carries w p nodes t h
 grown w p nodes t h known denotes open_still one = record {
   means = means;
@@ -249,15 +249,15 @@ grown w p nodes t h known denotes open_still one = record {
       (λ g file among d. denotes g.nodeid g.generation file d) (λ fh file among o. open_still fh file o) told;
 }
   where
-    means : (id file : ℕ) → MeansIn w id file → Means nodes t id file
+    means : (id file : ℕ) → NodeDenotesIn w id file → NodeDenotes nodes t id file
     means id file m = record {
       generation = m.generation;
       known = known id m.generation m.known;
       denotes = denotes id m.generation file m.denotes;
     }
 
-    meant : (generations : List (ℕ × ℕ)) (id file : ℕ) → Meant w.server.nodes generations id file
-        → Meant t generations id file
+    meant : (generations : List (ℕ × ℕ)) (id file : ℕ) → StillDenotes w.server.nodes generations id file
+        → StillDenotes t generations id file
     meant generations id file m = record {
       generation = m.generation;
       then_held = m.then_held;

@@ -50,7 +50,7 @@ by_case choice w e r (counted_too_often unique held there many) =
     record { not_memory = λ is. absurd (cc is); not_link = λ is. absurd (cc is) }
 by_case choice w e r (copied_too_often unique kept there current many) =
     record { not_memory = λ is. absurd (cc is); not_link = λ is. absurd (cc is) }
-by_case choice w e r (past_its_end _ o after drawn leads past) =
+by_case choice w e r (past_its_end _ o after allocated leads past) =
     record { not_memory = λ is. absurd (cc is); not_link = λ is. absurd (cc is) }
 
 judged : (w : World) (e : Event) (r : Refusal) → IsRefused w e r → IsJudged r
@@ -64,4 +64,4 @@ never_memory w e r refused = (judged w e r refused).not_memory
 -- Nor is it for a lost link, and want of memory is no lost link.
 pub never_link_lost : (w : World) (e : Event) (r : Refusal) → RefusedWith w e r → r ≢ LinkLost
 never_link_lost w e r (inl refused) = (judged w e r refused).not_link
-never_link_lost w e r (inr wants) = λ is. absurd (cc (wants.wanting, is))
+never_link_lost w e r (inr wants) = λ is. absurd (cc (wants.out_of_memory, is))

@@ -178,8 +178,8 @@ moves_fewer q r (moves_on a b c first rest) =
     let more = y.rises in
     record {
       rises = omega (arith, low, more);
-      fewer = λ u drawn.
-          let once = x.fewer u drawn in
-          let twice = y.fewer u (omega (arith, drawn, low)) in
+      fewer = λ u allocated.
+          let once = x.fewer u allocated in
+          let twice = y.fewer u (omega (arith, allocated, low)) in
           omega (arith, once, twice);
     }

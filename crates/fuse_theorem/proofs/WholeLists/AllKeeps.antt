@@ -10,7 +10,7 @@ use Rattle.fuse_spec.specs.Kernel.Messages.{RequestBody, Request}
 use Rattle.fuse_spec.specs.Kernel.Queues.{QueueState, pending}
 use Rattle.fuse_spec.specs.Kernel.Kernel.{is_live, body_of}
 use Rattle.fuse_spec.specs.Server.Server.{Server, HeldRequest}
-use Rattle.fuse_spec.specs.Claim.Counts.{opens_of_body, ReleaseMeant, HeldLive, IsServable, Held, Protocol, AtRest, Settled}
+use Rattle.fuse_spec.specs.Claim.Counts.{opens_of_body, ReleaseDenotesSome, HeldLive, IsServable, Held, Protocol, AtRest, Settled}
 use Rattle.fuse_spec.specs.World.Worlds.{World}
 use Rattle.fuse_spec.specs.Reference.Plain.{Plain}
 use Rattle.fuse_theorem.specs.AllSound.{AllSound}
@@ -49,7 +49,7 @@ module _ (w : World) (p : Plain) (all : AllSound w p) where
   -- ---- Held
 
   release_meant : is_live w.kernel.phase ≡ true → (kept : Purpose) → ReleaseKnown w.kernel.nodes kept
-      → ReleaseMeant w kept
+      → ReleaseDenotesSome w kept
   release_meant live purpose.Init known = tt
   release_meant live (purpose.Release o) known = known_meant w p all.both all.releases o.nodeid known
   release_meant live (purpose.Call call) known = tt

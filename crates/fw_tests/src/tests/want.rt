@@ -154,7 +154,7 @@ fn status_of_a_bad_script<A: Allocator + Copy>(alloc: A, outer: Global) -> Optio
 /// A bad line is reported though the list of the lines before it cannot grow; only where the script's text cannot be
 /// kept is memory wanting.
 #[test]
-fn bad_line_comes_before_want_of_memory(rt: HostRuntime) -> Result<(), Fail> {
+fn bad_line_comes_before_out_of_memory(rt: HostRuntime) -> Result<(), Fail> {
     let heap = FailAt::new(rt.alloc());
     let mut last_refused = None;
     let mut runs = 0;

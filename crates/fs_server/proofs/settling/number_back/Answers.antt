@@ -7,13 +7,13 @@ returns-in_default g c = rw c.in_default.is (discards_none c.args.files.now c.re
 
 pub discard_unheld-requires : goal.discard_unheld-requires
 discard_unheld-requires g c =
-    but_number_back c.args.files.now c.give_number_back.new.self c.requires c.give_number_back.ensures.tree c.number_file-file.result c.in-Some.fh c.number_file-file.ensures c.give_number_back.ensures.nodes c.give_number_back.ensures.handles
+    but_number_back c.args.files.now c.uncount_handle.new.self c.requires c.uncount_handle.ensures.tree c.number_file-file.result c.in-Some.fh c.number_file-file.ensures c.uncount_handle.ensures.nodes c.uncount_handle.ensures.handles
 
 pub returns : goal.returns
 returns g c =
     let old = c.args.files.now in
     let discarded_unheld = c.discard_unheld.ensures in
     rw c.in-Some.is
-    (discards_from old c.give_number_back.new.self c.discard_unheld.new.self old.nodes
-    (handle_back old.handles c.in-Some.fh) c.give_number_back.ensures.tree c.give_number_back.ensures.nodes c.give_number_back.ensures.handles discarded_unheld.tree discarded_unheld.nodes
+    (discards_from old c.uncount_handle.new.self c.discard_unheld.new.self old.nodes
+    (handle_back old.handles c.in-Some.fh) c.uncount_handle.ensures.tree c.uncount_handle.ensures.nodes c.uncount_handle.ensures.handles discarded_unheld.tree discarded_unheld.nodes
     discarded_unheld.handles discarded_unheld.named)
