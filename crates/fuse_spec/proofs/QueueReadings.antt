@@ -344,7 +344,7 @@ module _ {W : Type 0} where
 
   -- signals that dequeue nothing
 
-  -- a mark that a test does not tell from the old one moves nothing
+  -- a mark that a test does not distinguish from the old one moves nothing
   kept_entries-set_mark : (q : Mark → Bool) (u : ℕ) (es : List (ℕ × QueuedRequest W)) (r : QueuedRequest W) (m : Mark)
       → lookup (nat_eq u) es ≡ Some r → q m ≡ q r.mark
       → kept_entries (filter (λ e. q e.1.mark) (set_mark u es m)) ≡ kept_entries (filter (λ e. q e.1.mark) es)

@@ -52,7 +52,7 @@ pub enum Operation<S, N = u64, O = Opened> {
     Open {
         node: N,
     },
-    /// The names behind an offset, in at most so many bytes.
+    /// The names behind an offset, in at most this many bytes.
     Readdir {
         directory: N,
         after: u64,

@@ -19,7 +19,7 @@ use Rattle.fuse_spec.specs.World.Worlds.{World, Sent}
 use Rattle.fuse_spec.specs.Reference.Plain.{Plain, Ask, Stage, waiting, performed, declined}
 use Rattle.fuse_spec.specs.Claim.Denotes.{Denotes, NodeDenotesIn, OpenDenotesIn, Names, Opens, StateAlike, DentryAlike}
 
--- The server's tree is the plain tree, less the nameless files that no node and no open number holds.
+-- The server's tree is the plain tree, less the nameless files that no node and no file handle holds.
 pub record TreeAlike (s : Server) (tree : Tree) : Type 0 where
   pub names : s.tree.names ≡ tree.names
   pub next_inode : s.tree.next_inode ≡ tree.next_inode
@@ -87,7 +87,7 @@ pub record StillDenotes (t : NodeTable) (generations : List (ℕ × ℕ)) (id fi
   pub then_held : Contains generations (id, generation)
   pub denotes : Denotes t id generation file
 
--- The same for an open file: its node means this file still, and its number is an open number of it.
+-- So of an open file: its node denotes this file still, and its `fh` is a file handle of it.
 pub record OpenStillDenotes (t : NodeTable) (h : HandleTable) (generations : List (ℕ × ℕ)) (o : Opened)
     (file : ℕ) : Type 0 where
   pub node_meant : StillDenotes t generations o.nodeid file

@@ -153,7 +153,7 @@ call_put k call = call_begun k (for_minor k.lists_files call)
 abbrev pub forgets_read : Kernel → ℕ → Option (ℕ × List Forget)
 forgets_read k n = cond (forgets_singly k.minor && nat_lt 1 n) None (first_forgets k.queues n)
 
--- Everything is given up: calls, names, nodes, open files and the four lists. (this project's rule)
+-- Everything is abandoned: calls, names, nodes, open files and the four lists. (this project's rule)
 abbrev pub all_abandoned : Kernel → Phase → Kernel
 all_abandoned k phase = record {
   phase = phase;
@@ -169,7 +169,7 @@ all_abandoned k phase = record {
 abbrev pub kernel_aborted : Kernel → Kernel
 kernel_aborted k = all_abandoned k Aborted
 
--- A mount gives up everything, without forgets, and queues INIT. (this project's rule)
+-- A mount abandons everything, without forgets, and queues INIT. (this project's rule)
 abbrev pub kernel_mounted : Kernel → Kernel
 kernel_mounted k = record {
   phase = Starting;
@@ -234,6 +234,6 @@ leads_to node (Some target) = nat_eq target node
 abbrev pub is_bound : Kernel → ℕ → Bool
 is_bound k node = list_any (λ (e : (ℕ × List ℕ) × Dentry). nat_eq e.0.0 node || leads_to node e.1.target) k.vfs.names
 
--- The node is given up, and its whole count is to be forgotten. (libfuse, low-level: forget)
+-- The node is evicted, and its whole count is to be forgotten. (libfuse, low-level: forget)
 abbrev pub evicted : Kernel → ℕ → Counted → Kernel
 evicted k node counted = record k { nodes = remove k.nodes node; queues = after_forget k.queues node counted.count }

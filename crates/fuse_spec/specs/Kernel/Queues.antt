@@ -66,14 +66,14 @@ mark_under s unique = option_map (λ r. r.mark) (request_under s unique)
 abbrev pub is_interrupted : {W : Type 0} → QueueState W → ℕ → Bool
 is_interrupted s unique = option_map_or has_interrupt (mark_under s unique) false
 
--- Whether a number was drawn where `next` is the coming one.
+-- Whether a number was allocated where `next` is the coming one.
 abbrev pub was_allocated : ℕ → ℕ → Bool
 was_allocated next unique = nat_le first_number unique && (nat_lt unique next && nat_eq (unique % 2) 0)
 
 -- What is true of the queues after each call.
 pub record IsSound {W : Type 0} (s : QueueState W) : Type 0 where
   pub next : IsNextNumber s.next
-  -- a number that was drawn has one request at most, and no other number has one
+  -- a number that was allocated has one request at most, and no other number has one
   pub requests : (u : ℕ) → count_by (λ e. nat_eq u e.0) s.requests ≤ (if was_allocated s.next u then 1 else 0)
   -- a number stands on the list of INTERRUPTs once at most, and only while its request is read, interrupted and
   -- unanswered

@@ -39,7 +39,7 @@ pub data PutAs : Minor → Call → Call → Type 0 where
   names_alone : (path : List ℕ) (after : ℕ) → PutAs M15 (call.listplus path after) (call.list path after)
   any_other : (x : Call) → ((path : List ℕ) (after : ℕ) → x ≢ call.listplus path after) → PutAs M15 x x
 
--- The calls as the next number is drawn.
+-- The calls as the next number is allocated.
 abbrev pub one_more : Vfs ℕ → Vfs ℕ
 one_more c = record c { next_call = c.next_call + 1 }
 
@@ -54,7 +54,7 @@ pub record Abandons (c : Vfs ℕ) (after : Vfs ℕ) : Type 0 where
   pub answers : AllAnswered c.calls c.answers (failed econnaborted) after.answers
   pub rest : after ≡ record c { calls = []; names = []; opens = []; answers = after.answers }
 
--- The plain world takes these steps, and in no other way.
+-- The steps of the plain world. There are no others.
 pub data Steps (p : Plain) : Event → Outcome → Plain → Type 0 where
   -- a call begins; once the mount is aborted it is answered ENOTCONN
   begins : (x y : Call) (label : ℕ) (after : Vfs ℕ) (asked : Option (Operation ℕ ℕ)) (q : Plain) → p.aborted ≡ false

@@ -135,7 +135,7 @@ pub data NamesNothing (w : World) : Event → Type 0 where
       → NamesNothing w (event.drop_name directory name)
   no_node : (node : ℕ) → get w.kernel.nodes node ≡ None → NamesNothing w (event.evict node)
 
--- Which refusal the event has. The cases are judged in this order: each says that those before it do not apply. Want of
+-- Which refusal the event has. The cases are judged in this order: each says that those before it do not apply. Out of
 -- memory, which comes last, is no matter of the state. (this project's rule)
 pub data Refuses (choice : ℕ → ℕ) (w : World) : Event → Refusal → Type 0 where
   too_long : (found_ms missing_ms : ℕ) (minor : Minor) → max_validity < max found_ms missing_ms
