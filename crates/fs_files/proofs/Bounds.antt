@@ -1,4 +1,4 @@
--- What is true of every node and of every open number, as they are given and given back.
+-- What is true of every node and of every file handle, as they are given and given back.
 use Rattle.std.proofs.Common.{◌≡◌, ℕ, ◌+◌, ◌-◌, Bool, true, false, cond, Option, Some, None, refl, sym, ap, subst, ◌∙◌, inl, inr}
 use Rattle.std.specs.Prelude.{nat_lt}
 use Rattle.std.proofs.lemmas.Bool.{cases_eq}

@@ -86,7 +86,7 @@ module _ (files : FilesState) (v : Validity) where
   held_by_number fh h is x same = or_held (has_node x) (is_opened x)
       (any_there files.handles.handles (λ (g : FileHandle). nat_eq g.file x) fh h is (eq-eqb h.file x same))
 
-  -- what is not held has no node and no open number
+  -- what is not held has no node and no file handle
   pub unheld : (x : ℕ) → holds x ≡ false → IsUnheld files.nodes x
   unheld x none id row is same = true≢false (sym (held_by_node id row is x same) ∙ none)
 

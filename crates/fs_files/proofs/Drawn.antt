@@ -1,4 +1,4 @@
--- What an operation draws, refused or not.
+-- What an operation allocates, refused or not.
 use Rattle.std.proofs.Common.{◌≡◌, ℕ, Bool, true, false, true≢false, cond, List, [], length, Option, Some, None, sym, ap, subst, arith, refl}
 use Rattle.std.specs.Prelude.{is_err, Result, Ok, Err}
 use Rattle.fuse_spec.specs.Values.Numbers.{ebadf, eintr, eio}
@@ -43,7 +43,7 @@ module _ (s : Server) (h : HeldRequest) (unmarked : h.marked ≡ false)
       (subst (λ (r : Reply ℕ ℕ). AllocatesNumbers s.tree (tree_by s body) r needs)
       (sym (λ i. cond (unmarked i) (failed eintr) (cond (still i) (body_reply s (is i)) (failed eio)))) allocates)
 
--- nothing is drawn
+-- nothing is allocated
 abbrev pub nothing : Needs
 nothing = record { inodes = 0; cookies = 0; opens = 0; files = record { items = [] } }
 

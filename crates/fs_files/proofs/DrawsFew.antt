@@ -1,4 +1,4 @@
--- No request draws more than one inode, one cookie and one open number, and no reply names more than 32 files.
+-- No request allocates more than one inode, one cookie and one file handle, and no reply names more than 32 files.
 use Rattle.std.proofs.Common.{◌≡◌, ℕ, ◌+◌, ◌-◌, ◌*◌, ◌≤◌, ◌<◌, ◌^◌, Bool, true, false, cond, ◌||◌, List, [], ◌∷◌, length, Option, Some, None, nat_eq, T, arith, ap, refl}
 use Rattle.std.specs.Prelude.{count_by, min, nat_le}
 use Rattle.std.specs.List.{list_any}
@@ -22,14 +22,14 @@ use Rattle.fs_files.specs.Giving.{generations_after, has_node_already, new_among
 use Rattle.fs_files.specs.Performing.{said, body_reply, tree_said, tree_by}
 use Rattle.fs_files.proofs.FilesListed.{first_few}
 
--- what a request draws at most whose reply and whose tree are these
+-- what a request allocates at most whose reply and whose tree are these
 pub record AllocatesFew (tree new : Tree) (reply : Reply ℕ ℕ) : Type 0 where
   pub inodes : new.next_inode ≤ tree.next_inode + 1
   pub cookies : new.next_cookie ≤ tree.next_cookie + 1
   pub files : length (files_in_reply reply) ≤ 32
   pub opens : length (opens_in_reply reply) ≤ 1
 
--- a reply that names no file and no open number, where the counters of the tree stay
+-- a reply that names no file and no file handle, where the counters of the tree stay
 none_allocated : (tree new : Tree) (reply : Reply ℕ ℕ) → new.next_inode ≡ tree.next_inode
     → new.next_cookie ≡ tree.next_cookie → files_in_reply reply ≡ [] → opens_in_reply reply ≡ []
     → AllocatesFew tree new reply

@@ -1,4 +1,4 @@
--- Nodes stay of files of the tree, and open numbers of regular ones.
+-- Nodes stay of files of the tree, and file handles of regular ones.
 use Rattle.std.proofs.Common.{◌≡◌, ◌≢◌, ℕ, ◌<◌, ◌^◌, Bool, true, false, cond, not, nat_eq, List, [], ◌∷◌, Option, Some, None, Result, Ok, Err, refl, sym, ap, subst, ◌∙◌, arith, inl, inr}
 use Rattle.std.specs.Prelude.{IfOk, OnErr, IsSome, IsTrue, is_some}
 use Rattle.std.proofs.lemmas.Bool.{cases_eq}
@@ -30,7 +30,7 @@ use Rattle.fs_files.proofs.Bounds.{back_each, given_each, more_each, number_more
 
 -- ---- nodes and open numbers
 
--- where no file has a node and none an open number
+-- where no file has a node and none a file handle
 pub nothing_known : (tree : Tree) (nodes : NodeTable) (handles : HandleTable) → nodes.rows ≡ [] → handles.handles ≡ []
     → AreKnown tree nodes handles
 nothing_known tree nodes handles none empty = record {
@@ -134,7 +134,7 @@ pub put_regular : (tree : Tree) (file : ℕ) (bytes : List ℕ)
 put_regular tree file bytes = ap (λ (o : Option Content). is_kind_regular (kind_of o))
     (get_put_here tree.files file (a_file bytes))
 
--- what is written is regular, as open numbers are of regular files
+-- what is written is regular, as file handles are of regular files
 same_kind : (file : ℕ) (tree : Tree) (handles : HandleTable) → AreRegular tree handles → (fh : ℕ)
     → is_open handles fh file ≡ true → kind_of (get tree.files file) ≡ Regular
 same_kind file tree handles known fh is_opened = by (get handles.handles fh) refl is_opened

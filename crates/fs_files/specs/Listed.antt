@@ -16,7 +16,7 @@ dirents_in bytes = dirents_from (count_from (length bytes) false 0 bytes) 0 byte
 abbrev pub AreRecordBytes : List ℕ → Type 0
 AreRecordBytes bytes = AreWritten (dirents_in bytes) bytes
 
--- a name with the file of its inode number, valid for so many milliseconds
+-- a name with the file of its inode number, valid for this many milliseconds
 abbrev pub pair_listed : (valid : ℕ) → Dirent → DirentPlus ℕ
 pair_listed valid d = record { file = Some (d.ino - 1); valid = valid; dirent = d }
 

@@ -1,4 +1,4 @@
--- What performing a held request results in, before nodes and open numbers are given.
+-- What performing a held request results in, before nodes and file handles are given.
 use Rattle.std.specs.Prelude.{◌≡◌, ◌≤◌, ℕ, Option, None, cond, option_map}
 use Rattle.std.specs.Int.RustNames.{bit_and}
 use Rattle.fuse_spec.specs.declared.Validity.{Validity}
@@ -36,7 +36,7 @@ tree_by s (forget f) = s.tree
 tree_by s (batch_forget fs) = s.tree
 tree_by s (interrupt original) = s.tree
 
--- the open numbers after it, before one is given
+-- the file handles after it, before one is given
 abbrev pub handles_by : Server → RequestBody → HandleTable
 handles_by s (release o) = cond (is_open s.handles o.fh (file_of s.nodes o.nodeid))
     (handle_back s.handles o.fh) s.handles
@@ -58,7 +58,7 @@ abbrev pub handles_said : Server → HeldRequest → HandleTable
 handles_said s held = cond held.marked s.handles
     (cond (is_still_held s.nodes held.generations) (handles_by s held.body) s.handles)
 
--- the file that a request takes a name for good or an open number from, if it is performed
+-- the file from which a request takes a name for good or a file handle, if it is performed
 abbrev pub unlinked_or_released : Server → RequestBody → Option ℕ
 unlinked_or_released s (asks operation) = unlinked_by s.tree (file_operation_of s.nodes operation)
 unlinked_or_released s (release o) = option_map (λ (h : FileHandle). h.file) (get s.handles.handles o.fh)
@@ -67,7 +67,7 @@ unlinked_or_released s (forget f) = None
 unlinked_or_released s (batch_forget fs) = None
 unlinked_or_released s (interrupt original) = None
 
--- The files that this reply names are given nodes and open numbers, by which the reply that is sent names them.
+-- The files that this reply names are given nodes and file handles, by which the reply that is sent names them.
 abbrev pub numbering : (ℕ → ℕ) → Server → Reply ℕ ℕ → PerformResult
 numbering choice s reply =
     record {

@@ -21,8 +21,8 @@ use fuse_spec::Entry;
 use std::alloc::AllocError;
 use std::marker::Model;
 
-/// The files that are served: the tree, and the nodes and open numbers by which the kernel knows its files. Contracts
-/// see beside these how many more nodes and open numbers can be given with no memory.
+/// The files that are served: the tree, and the nodes and file handles by which the kernel knows its files. Contracts
+/// see beside these how many more nodes and file handles can be given with no memory.
 #[derive(Drop)]
 pub struct Files<S: NodeStore> {
     pub(crate) alloc: S::Heap,
@@ -70,7 +70,7 @@ impl<S: NodeStore> Files<S> {
         })
     }
 
-    /// Makes room for the nodes and the open number that one more reply gives.
+    /// Makes room for the nodes and the file handle that one more reply gives.
     ///
     /// # Errors
     ///
@@ -113,14 +113,14 @@ impl<S: NodeStore> Files<S> {
         &self.known.nodes
     }
 
-    /// Whether an open number is in use.
+    /// Whether a file handle is in use.
     pub fn has_number(&self, fh: u64) -> bool
         ensures { result ≡ is_some (get self.now.handles.handles fh) }
     {
         self.known.handles.file_of(fh).is_some()
     }
 
-    /// Gives so many lookups of a node back, if it is held; it has as many.
+    /// Forgets this many lookups of a node, if it is held; it has as many.
     pub fn forget(&mut self, id: u64, count: u64)
         requires { count ≤ count_in (get self.old.nodes.rows id) }
         ensures tree { self.new.tree ≡ self.old.tree }
@@ -130,7 +130,7 @@ impl<S: NodeStore> Files<S> {
         self.known.nodes.forget(id, count);
     }
 
-    /// Gives the lookup of an entry back, where its node is still held under the entry's generation.
+    /// Takes back the lookup of an entry, where its node is still held under the entry's generation.
     pub fn uncount(&mut self, entry: &Entry)
         ensures tree { self.new.tree ≡ self.old.tree }
         ensures nodes { self.new.nodes ≡ row_back self.old.nodes entry.now }
@@ -139,7 +139,7 @@ impl<S: NodeStore> Files<S> {
         self.known.nodes.uncount(entry);
     }
 
-    /// Gives one use of an open number back, if it is in use.
+    /// Takes back one use of a file handle, if it is in use.
     pub fn uncount_handle(&mut self, fh: u64)
         ensures tree { self.new.tree ≡ self.old.tree }
         ensures nodes { self.new.nodes ≡ self.old.nodes }
@@ -158,7 +158,7 @@ impl<S: NodeStore> Files<S> {
         self.known.nodes.count_again(id);
     }
 
-    /// Counts one use more of an open number, if it is in use.
+    /// Counts one use more of a file handle, if it is in use.
     pub fn count_number_again(&mut self, fh: u64)
         requires { AreUsed counter_end self.old.handles }
         ensures tree { self.new.tree ≡ self.old.tree }
@@ -168,7 +168,7 @@ impl<S: NodeStore> Files<S> {
         self.known.handles.again(fh);
     }
 
-    /// The file of an open number, if that is in use.
+    /// The file of a file handle, if that is in use.
     pub fn number_file(&self, fh: u64) -> Option<u64>
         ensures { result ≡ option_map (λ (handle : FileHandle). handle.file) (get self.now.handles.handles fh) }
     {
@@ -195,7 +195,7 @@ impl<S: NodeStore> Files<S> {
         self.tree.discard(file);
     }
 
-    /// Drops all nodes and open numbers, and takes all nameless files out of the tree. Counters go on.
+    /// Drops all nodes and file handles, and takes all nameless files out of the tree. Counters go on.
     pub fn clear(&mut self)
         ensures tree { (v : ValidityValue) → self.new.tree
             ≡ without_unheld (is_file_held (server_of self.new v)) self.old.tree }

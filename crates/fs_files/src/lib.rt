@@ -1,4 +1,4 @@
-//! The files that a server serves: a tree, and the nodes and open numbers by which requests name its files. Held
+//! The files that a server serves: a tree, and the nodes and file handles by which requests name its files. Held
 //! requests are performed on them.
 #![tactic(auto)]
 

@@ -1,4 +1,4 @@
-//! Nodes and open numbers are given to the files that a reply names.
+//! Nodes and file handles are given to the files that a reply names.
 
 ghost use Rattle.std.specs.Prelude.{◌≡◌, ◌≢◌, ◌<◌, ◌≤◌, ◌+◌, ◌*◌, ◌^◌, ◌++◌, [], ℕ, All, IsTrue, List, None, Some, cond, length, map, vec_capacity};
 ghost use Rattle.fuse_spec.specs.Server.Nodes.{IsUnheld, handle_opened};
@@ -25,7 +25,7 @@ use fuse_spec::{Entry, is_dots};
 use std::alloc::Allocator;
 
 impl<S: NodeStore> Files<S> {
-    /// Gives the files of an outcome their nodes, a new open number, or both, and names them so in what is sent. Each
+    /// Gives the files of an outcome their nodes, a new file handle, or both, and names them so in what is sent. Each
     /// node is counted once. No memory is taken.
     #[inline(always)]
     pub fn give_numbers(
@@ -232,7 +232,7 @@ impl<S: NodeStore> Files<S> {
         }
     }
 
-    /// Gives a file the next open number.
+    /// Gives a file the next file handle.
     fn open(&mut self, file: u64) -> u64
         requires room { 0 < self.old.open_room }
         requires number { self.old.handles.next_fh < counter_end }

@@ -1,4 +1,4 @@
-//! Whether the counters have the numbers that a held request draws.
+//! Whether the counters have the numbers that a held request allocates.
 
 ghost use Rattle.std.specs.Prelude.{◌≡◌, ◌≤◌, ◌<◌, ◌+◌, ◌⊎◌, ℕ, List, true, false, length, nat_le};
 ghost use Rattle.fuse_spec.specs.Kernel.Messages.{asks};
@@ -19,8 +19,8 @@ use crate::plan::{Needs, needs_of, no_numbers};
 use fs_nodes::NodeStore;
 
 impl<S: NodeStore> Files<S> {
-    /// Whether the counters have the numbers that performing a held request draws. Where its reply is lost it draws
-    /// only those of the tree.
+    /// Whether the counters have the numbers that performing a held request allocates. Where its reply is lost it
+    /// allocates only those of the tree.
     #[inline(always)]
     pub fn has_numbers(&self, held: &HeldRequest<S::Heap>, is_lost: bool) -> bool
         requires { AreHeldBelow self.now.nodes }
@@ -34,7 +34,7 @@ impl<S: NodeStore> Files<S> {
         self.has_numbers_for_any() || self.has_numbers_planned(held, is_lost)
     }
 
-    /// The same, by what performing the request draws.
+    /// As `has_numbers`, by what performing the request allocates.
     fn has_numbers_planned(&self, held: &HeldRequest<S::Heap>, is_lost: bool) -> bool
         requires { AreHeldBelow self.now.nodes }
         ensures has { (v : ValidityValue) (m : MinorValue) → result ≡ true
@@ -50,7 +50,7 @@ impl<S: NodeStore> Files<S> {
             && (is_lost || (self.can_give_nodes(&needs.files) && self.can_open(needs.opens)))
     }
 
-    /// Whether each counter has as many numbers left as any request draws, so that none need be planned.
+    /// Whether each counter has as many numbers left as any request allocates, so that its needs need not be known.
     #[inline(always)]
     fn has_numbers_for_any(&self) -> bool
         ensures inodes { result ≡ true → self.now.tree.next_inode < counter_end }
@@ -65,7 +65,7 @@ impl<S: NodeStore> Files<S> {
             && self.known.nodes.can_give_any()
     }
 
-    /// What performing a held request draws.
+    /// What performing a held request allocates.
     fn needs_for(&self, held: &HeldRequest<S::Heap>) -> Needs
         ensures { (v : ValidityValue) (m : MinorValue) → AllocatesNumbers self.now.tree
             (tree_said (server_at m self.now v) held.now) (said (server_at m self.now v) held.now) result }
@@ -80,7 +80,7 @@ impl<S: NodeStore> Files<S> {
         }
     }
 
-    /// What an operation draws: nothing under an open number that is none of its node's file.
+    /// What an operation allocates: nothing under a file handle that is none of its node's file.
     fn needs_asked(&self, operation: &HeldOperation<S::Heap>) -> Needs
         ensures { (v : ValidityValue) (m : MinorValue) → AllocatesNumbers self.now.tree
             (tree_by (server_at m self.now v) (asks (held_operation_of operation.now)))
@@ -105,7 +105,7 @@ impl<S: NodeStore> Files<S> {
         nodes.new_among(files) as u64 <= nodes.generations_left() && !nodes.count_overflows(files)
     }
 
-    /// Whether so many open numbers are left.
+    /// Whether this many file handles are left.
     fn can_open(&self, opens: u64) -> bool
         ensures { result ≡ nat_le (self.now.handles.next_fh + opens) counter_end }
     {

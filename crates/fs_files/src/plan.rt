@@ -1,4 +1,4 @@
-//! What an operation needs before it is done: that nothing refuses it, and the numbers that it draws.
+//! What an operation needs before it is done: that nothing refuses it, and the numbers that it allocates.
 
 ghost use Rattle.std.specs.Prelude.{◌≡◌, ◌∷◌, [], None, option_to_list};
 ghost use Rattle.fuse_spec.specs.declared.Validity.{Validity as ValidityValue};
@@ -17,7 +17,7 @@ use fs_tree::{MOST_LISTED, Tree, TreeError};
 use fuse_spec::Operation;
 use std::alloc::Allocator;
 
-/// How many inodes, cookies and open numbers an operation draws, and the files to which its reply gives nodes, in
+/// How many inodes, cookies and file handles an operation allocates, and the files to which its reply gives nodes, in
 /// order.
 #[derive(Drop)]
 pub(crate) struct Needs {
@@ -27,7 +27,7 @@ pub(crate) struct Needs {
     pub(crate) files: ArrayVec<u64, MOST_LISTED>,
 }
 
-/// No number.
+/// What an operation needs that allocates nothing.
 pub(crate) fn no_numbers() -> Needs
     ensures { result ≡ record { inodes = 0; cookies = 0; opens = 0; files = record { items = [] } } }
 {
@@ -39,7 +39,7 @@ pub(crate) fn no_numbers() -> Needs
     }
 }
 
-/// One file.
+/// The list of one file.
 fn one_file(file: u64) -> ArrayVec<u64, MOST_LISTED>
     ensures { result.items ≡ file ∷ [] }
 {
@@ -95,7 +95,7 @@ fn may_rename<A: Allocator + Copy>(
     }
 }
 
-/// What an operation draws: nothing if it is refused.
+/// What an operation allocates: nothing if it is refused.
 pub(crate) fn needs_of<A: Allocator + Copy, S: NodeStore>(
     tree: &Tree<A>,
     nodes: &Nodes<S>,
@@ -110,7 +110,7 @@ pub(crate) fn needs_of<A: Allocator + Copy, S: NodeStore>(
     unrefused_needs(tree, nodes, operation)
 }
 
-/// What an operation draws that nothing refuses.
+/// What an operation allocates that nothing refuses.
 fn unrefused_needs<A: Allocator + Copy, S: NodeStore>(
     tree: &Tree<A>,
     nodes: &Nodes<S>,
@@ -156,7 +156,7 @@ fn unrefused_needs<A: Allocator + Copy, S: NodeStore>(
     }
 }
 
-/// What a LOOKUP draws.
+/// What a LOOKUP allocates.
 fn needs_of_lookup<A: Allocator + Copy>(tree: &Tree<A>, directory: u64, name: &[u8]) -> Needs
     requires { refusal tree.now (lookup directory name.now) ≡ None }
     ensures { result ≡ record {
@@ -175,7 +175,7 @@ fn needs_of_lookup<A: Allocator + Copy>(tree: &Tree<A>, directory: u64, name: &[
     }
 }
 
-/// What a MKDIR or a CREATE draws.
+/// What a MKDIR or a CREATE allocates.
 fn needs_of_inode(inode: u64, opens: u64) -> Needs
     ensures { result ≡ record { inodes = 1; cookies = 1; opens = opens; files = record { items = inode ∷ [] } } }
 {
@@ -187,7 +187,7 @@ fn needs_of_inode(inode: u64, opens: u64) -> Needs
     }
 }
 
-/// What a LINK draws.
+/// What a LINK allocates.
 fn needs_of_link(file: u64) -> Needs
     ensures { result ≡ record { inodes = 0; cookies = 1; opens = 0; files = record { items = file ∷ [] } } }
 {
@@ -198,7 +198,7 @@ fn needs_of_link(file: u64) -> Needs
     }
 }
 
-/// What a RENAME draws: nothing, if it is onto another name of the same file.
+/// What a RENAME allocates: nothing, if it is onto another name of the same file.
 fn needs_of_rename<A: Allocator + Copy>(
     tree: &Tree<A>,
     directory: u64,

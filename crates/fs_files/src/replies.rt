@@ -23,8 +23,8 @@ use std::slice::from_ref;
 /// What is sent as a reply: the names of a list are bytes of records, as their frame has them.
 pub type SentReply<A> = Reply<Entry, Vec<u8, A>, ListedNames<A>, Vec<u8, A>>;
 
-/// What performing a request results in: files that are to be given nodes, an open number, or both, or a reply that names
-/// no file and no open number.
+/// What performing a request results in: files that are to be given nodes, a file handle, or both, or a reply that
+/// names no file and no file handle.
 #[derive(Drop)]
 pub enum Outcome<A: Allocator> {
     Entry { file: u64 },
@@ -81,7 +81,7 @@ pub fn name_count<A: Allocator>(reply: &SentReply<A>) -> usize
     }
 }
 
-/// The open number that a reply carries.
+/// The file handle that a reply carries.
 pub fn opened<A: Allocator>(reply: &SentReply<A>) -> Option<u64>
     ensures { result ≡ opened_in reply.now }
 {

@@ -22,7 +22,7 @@ impl<A: Allocator + Copy> ListingBuffers<A> {
     ghost use Rattle.std.specs.Prelude.{IfOk};
     ghost use Rattle.fs_files.specs.Replies.{HasSpare};
 
-    /// Room for so many bytes and names.
+    /// Room for this many bytes and names.
     ///
     /// # Errors
     ///

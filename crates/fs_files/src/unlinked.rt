@@ -17,7 +17,7 @@ use fuse_spec::Operation;
 use std::alloc::Allocator;
 
 impl<S: NodeStore> Files<S> {
-    /// The file that a held request takes a name for good or an open number from, if it is performed. Every other file
+    /// The file from which a held request takes a name for good or a file handle, if it is performed. Every other file
     /// that nothing holds keeps a name.
     #[inline(always)]
     pub fn unlinked_or_released(&self, held: &HeldRequest<S::Heap>) -> Option<u64>

@@ -24,7 +24,7 @@ numbers-cons : (file : ℕ) (e : ℕ × OpenFile) (es : List (ℕ × OpenFile))
     → numbers_of file (e ∷ es) ≡ handle_use_of file e.1 + numbers_of file es
 numbers-cons file e es = sum_by-cons (handle_use_of file) e.1 (values_of es)
 
--- a file with an open number stands in an entry
+-- a file with a file handle has an entry
 entry_of : (file : ℕ) (opens : List (ℕ × OpenFile)) → 0 < numbers_of file opens
     → (fh : ℕ) × (opened : OpenFile) × Contains opens (fh, opened) × (opened.file ≡ file)
 entry_of file [] some = absurd (omega arith)
@@ -201,7 +201,7 @@ given {opens = opens} {uses = uses} {next = next} new more file with table room 
     fresh_at q le = (let none = table.fresh q (omega arith) in let ne : next ≢ q = omega arith in
         grind (arith, none, ne, rules))
 
--- a file has no more open numbers than there are
+-- a file has no more file handles than there are
 pub uses_few : {opens : List (ℕ × OpenFile)} {uses : List (ℕ × ℕ)} {next : ℕ} (file : ℕ) → AreUsesCounted opens uses next
     → unwrap_or (lookup (nat_eq file) uses) 0 < next
 uses_few {opens = opens} {uses = uses} {next = next} file table =
@@ -232,7 +232,7 @@ some_is n some = grind (arith, some, rules)
 is_there : (n : ℕ) → 0 < n → is_some (uses_or_none n) ≡ true
 is_there n some = grind (arith, some, rules)
 
--- a file has a count exactly where some open number is of it
+-- a file has a count exactly where some file handle is of it
 pub has_is : {opens : List (ℕ × OpenFile)} {uses : List (ℕ × ℕ)} {next : ℕ} (answer : Bool) (file : ℕ)
     → AreUsesCounted opens uses next → answer ≡ is_some (lookup (nat_eq file) uses)
     → answer ≡ list_any (λ (handle : FileHandle). nat_eq handle.file file) (values (handles_of opens))

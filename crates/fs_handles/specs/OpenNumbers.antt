@@ -1,4 +1,4 @@
--- What contracts see of the table of open numbers.
+-- What contracts see of the table of file handles.
 use Rattle.std.specs.Prelude.{ℕ, List, [], ◌∷◌}
 use Rattle.fuse_spec.specs.Values.Maps.{Map, put}
 use Rattle.fuse_spec.specs.Server.Nodes.{FileHandle, HandleTable}
@@ -9,7 +9,7 @@ pub record TableWithRoom : Type 0 where
   pub table : HandleTable
   pub room : ℕ
 
--- what the definitions see of what is kept under an open number
+-- what the definitions see of what is kept under a file handle
 abbrev pub number_of : OpenFile → FileHandle
 number_of kept = record { file = kept.file; count = kept.count }
 

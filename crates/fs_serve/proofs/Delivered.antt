@@ -24,7 +24,7 @@ use Rattle.fk_wire.specs.declared.opcode.Opcode.{Opcode}
 use Rattle.fuse_frames.specs.ReplyTies.{IsReplyFrame}
 use Rattle.fs_serve.proofs.BetweenFrames.{IsBetween}
 
--- After what was sent, the counts have risen by what was told, and the server is between frames again.
+-- After what was sent, the counts have risen by what was given, and the server is between frames again.
 pub record Delivered (minor : Minor) (counts : ℕ → ℕ) (log : List Transfer) (new : Server) : Type 0 where
   pub more : ℕ → ℕ
   pub tells : Tells log more

@@ -26,7 +26,7 @@ use Rattle.fs_server.proofs.GivenBack.{forgets, gives_back}
 
 -- ---- what is to be looked at
 
--- the same tree, nodes and open numbers under other names
+-- the same tree, nodes and file handles under other names
 but_same : (but l : Option ℕ) (mid : FilesState) (tree : Tree) (nodes : NodeTable) (handles : HandleTable)
     → but ≡ l → mid.tree ≡ tree → mid.nodes ≡ nodes → mid.handles ≡ handles → AreNamedBut l tree nodes handles
     → AreNamedBut but mid.tree mid.nodes mid.handles
@@ -64,7 +64,7 @@ module _ (old mid : FilesState) (named : AreNamed old.tree old.nodes old.handles
       but_same but (option_map (λ (h : FileHandle). h.file) (get old.handles.handles fh)) mid old.tree old.nodes
       (handle_back old.handles fh) is tree nodes handles (named_number_back old.tree old.nodes old.handles named fh)
 
--- what a request leaves is given nodes and open numbers
+-- what a request leaves is given nodes and file handles
 pub but_numbered : {A : Type 0} (but : Option ℕ) (start one two : FilesState) (v : Validity) (m : Minor)
     (h : HeldRequest) (reply : Reply ℕ ℕ) (sent : SentReply A)
     → AreNamedBut but (tree_said (server_at m start v) h) start.nodes (handles_said (server_at m start v) h)
@@ -167,7 +167,7 @@ no_more_opened handles [] x lacks = lacks
 no_more_opened handles (fh ∷ fhs) x lacks = no_more_opened (handle_back handles fh) fhs x
     (back_each (λ h. h.file ≢ x) handles fh (λ h is. is) lacks)
 
--- an entry is counted back, and then an open number
+-- an entry is counted back, and then a file handle
 counts_both : (old one two : FilesState) (gs : List Entry) (fhs : List ℕ) → CountsBack old gs [] one
     → CountsBack one [] fhs two → CountsBack old gs fhs two
 counts_both old one two gs fhs first second =

@@ -1,4 +1,4 @@
--- Want of memory refuses only what takes memory.
+-- Out of memory refuses only what takes memory.
 use Rattle.std.proofs.Common.{◌≡◌, ℕ, Bool, true, false, true≢false, List, Option, Some, None, Result, Ok, Err, refl, sym, ap, ◌∙◌}
 use Rattle.std.specs.Prelude.{IfErr, OnErr}
 use Rattle.std.proofs.lemmas.Option.{same_Some}
@@ -33,7 +33,7 @@ judged_apart (Some unknown_node) = refl
 judged_apart (Some too_many_forgets) = refl
 judged_apart (Some repeated_unique) = refl
 
--- the fault of a request is no want of memory
+-- the fault of a request is not out of memory
 pub fault_apart : (s : Server) (unique : ℕ) (o : Option RequestBody) (fault : ServerFault)
     → request_fault s unique o ≡ Some fault → fault ≡ Memory → ⊥
 fault_apart s unique None fault is = other_fault fault (sym (ap is_memory_in is))
@@ -48,7 +48,7 @@ held_word s unique (forget f) is = absurd (true≢false (sym is))
 held_word s unique (batch_forget fs) is = absurd (true≢false (sym is))
 held_word s unique (interrupt original) is = absurd (true≢false (sym is))
 
--- nothing refuses the frame but want of memory
+-- nothing refuses the frame but out of memory
 module _ (s : Server) (bytes : List ℕ) (m : RequestMessage) (right : IsTakeable s bytes m) where
   needs_memory_for : (body : RequestBody) → body_in m.nodeid m.content ≡ Some body
       → word_takes_memory (taking s m.unique body).word ≡ true → TakingNeedsMemory s bytes

@@ -24,7 +24,7 @@ use Rattle.fs_server.specs.Effects.{Forgets, GivesBack, SettlesFiles}
 use Rattle.fs_server.specs.Sound.{IsSoundServer}
 use Rattle.fs_server.proofs.Sound.{apart_again, apart_performed, apart_settled, apart_taken, below_all, below_rows, gone_none, used_again, used_all, used_said, used_by_reply}
 
--- files with the same tree, nodes and open numbers
+-- files with the same tree, nodes and file handles
 same_named : (new : FilesState) (tree : Tree) (nodes : NodeTable) (handles : HandleTable) → new.tree ≡ tree
     → new.nodes ≡ nodes → new.handles ≡ handles → AreNamed tree nodes handles → AreNamed new.tree new.nodes new.handles
 same_named new tree nodes handles t n h named =

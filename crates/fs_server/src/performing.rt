@@ -18,8 +18,8 @@ use fuse_tables::RisingTable;
 use std::alloc::{AllocError, Allocator};
 
 impl<S: NodeStore> ServerOf<S> {
-    /// Why a held request cannot be performed, want of memory aside: `NoSuch` where none is held under the unique,
-    /// `Exhausted` where a counter from which it draws is at its end, or the lookups of a node that its reply gives
+    /// Why a held request cannot be performed, out of memory aside: `NoSuch` where none is held under the unique,
+    /// `Exhausted` where a counter from which it allocates is at its end, or the lookups of a node that its reply gives
     /// would come to it.
     #[inline(always)]
     pub fn perform_refusal(&self, unique: u64) -> Option<Refusal>
@@ -39,7 +39,7 @@ impl<S: NodeStore> ServerOf<S> {
     }
 
     /// Performs a held request, and gives the first copy of its reply. A request that an INTERRUPT marked is answered
-    /// EINTR, one whose node is gone EIO. After an abort a request is performed, but no node and no open number is
+    /// EINTR, one whose node is gone EIO. After an abort a request is performed, but no node and no file handle is
     /// given, and no copy is sent.
     ///
     /// # Errors

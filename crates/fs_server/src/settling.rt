@@ -105,7 +105,7 @@ fn entry_back<S: NodeStore>(files: &mut Files<S>, entry: &Entry)
     files.discard_unheld(file);
 }
 
-/// Counts back an open number. A nameless file that nothing holds any longer goes.
+/// Takes back one use of a file handle. A nameless file that nothing holds any longer goes.
 fn number_back<S: NodeStore>(files: &mut Files<S>, fh: Option<u64>)
     requires { AreNamed files.old.tree files.old.nodes files.old.handles }
     ensures { CountsBack files.old [] (option_to_list fh) files.new }

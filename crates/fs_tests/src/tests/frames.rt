@@ -25,7 +25,7 @@ pub enum Asks {
     /// The node that gets the name.
     Link(u64, &'static str),
     Open,
-    /// The open number, the offset and the size.
+    /// The file handle, the offset and the size.
     Read(u64, u64, u32),
     Write(u64, u64, &'static str),
     Release(u64),

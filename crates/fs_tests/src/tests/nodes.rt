@@ -17,7 +17,7 @@ enum Row {
     First(u64, u64, u64),
     /// The same of one more lookup of a file that has this nodeid.
     Again(u64, u64, u64),
-    /// Takes back so many lookups of a nodeid.
+    /// Takes back this many lookups of a nodeid.
     Back(u64, u64, Result<(), TooMany>),
     Clear,
     /// Under a nodeid: its file, its generation and its lookup count.
