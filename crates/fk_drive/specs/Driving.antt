@@ -73,12 +73,12 @@ pub data DriveStep (old : Driven) : List Transfer → Driven → Type 0 where
   -- It is sent, in a frame that spells it.
   sends : (request : Request) → old.turn ≡ picked request → (frame : List ℕ) → SaysRequest frame request
       → (log : List Transfer) → SendsFrame frame log → DriveStep old log (record old { turn = idle })
-  -- Before one that lists a directory, OPENDIR is sent under a number that the kernel never draws.
+  -- Before one that lists a directory, OPENDIR is sent under a number that the kernel never allocates.
   opens : (request : Request) → old.turn ≡ picked request → old.asks ≡ true → (node : ℕ) → ListsNode request.body node
       → (frame : List ℕ) → IsOpendir frame old.next node → (log : List Transfer) → SendsFrame frame log
       → DriveStep old log (record old { next = old.next + 2; turn = opening request old.next node })
-  -- OPENDIR is answered: with an fh; with ENOSYS, and is not asked again; with another error; or with what is no reply to
-  -- it, which counts as EIO (this project's rule).
+  -- OPENDIR is answered: with an fh; with ENOSYS, and is not asked again; with another error; or with what is no reply
+  -- to it, which counts as EIO (this project's rule).
   is_given : (request : Request) (unique node : ℕ) → old.turn ≡ opening request unique node → (frame : List ℕ) (fh : ℕ)
       → GivesHandle frame unique fh → DriveStep old (received frame ∷ []) (record old {
         directories = old.directories ++ (request.unique, record { nodeid = node; fh = fh }) ∷ [];

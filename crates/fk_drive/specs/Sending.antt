@@ -41,7 +41,7 @@ IsRequestSent (Ok _) turn = turn ≡ idle
 IsRequestSent (Err (Refused refusal)) turn = turn ≡ idle
 IsRequestSent (Err (Ended end)) turn = Unit {0}
 
--- The kernel refused to be read as the definitions refuse it, or for want of memory.
+-- The kernel refused to be read as the definitions refuse it, or as out of memory.
 abbrev pub IsReadRefused : Kernel → Pick → NotSent → Type 0
 IsReadRefused k pick (Refused refusal) = refusal ≡ or_no_memory (pick_refusal k pick)
 IsReadRefused k pick (Ended end) = Unit {0}

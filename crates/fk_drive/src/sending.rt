@@ -28,7 +28,7 @@ use fuse_device::Device;
 use fuse_frames::RequestFrame;
 use fuse_spec::Purpose;
 
-/// Sends a request, with what servers want in its free fields.
+/// Sends a request, with what servers expect in its free fields.
 fn send_same<D: Device>(
     device: &mut D,
     frame: &[u8],
@@ -57,8 +57,8 @@ fn send_listing<D: Device>(device: &mut D, frame: &[u8], fh: u64) -> Result<(), 
     send_bytes(device, filled)
 }
 
-/// Sends a request that lists a node, under its number, once its directory is open. Where that fails the kernel takes the
-/// error as its reply.
+/// Sends a request that lists a node, under its number, once its directory is open. Where that fails the kernel takes
+/// the error as its reply.
 fn send_opened<Q: QueueTable<Purpose> + Drop, C: CountTable<Heap = Q::Heap> + Drop, D: Device>(
     kernel: &mut KernelOf<Q, C>,
     connection: &mut Connection<Q::Heap>,

@@ -18,6 +18,6 @@ pub record IsOpendirReply (next : ℕ) (bytes : List ℕ) : Type 0 where
   pub own : first_opendir_unique ≤ head_unique bytes
   pub allocated : head_unique bytes < next
 
--- Either is set aside.
+-- Either is not for the kernel.
 abbrev pub IsOtherFrame : (next : ℕ) → List ℕ → Type 0
 IsOtherFrame next bytes = IsNotification bytes ⊎ IsOpendirReply next bytes

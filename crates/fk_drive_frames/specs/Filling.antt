@@ -19,7 +19,7 @@ IsListing (readdir offset size) = Unit {0}
 IsListing (readdirplus offset size) = Unit {0}
 IsListing content = ⊥
 
--- So many bytes at a place are others, and the rest is the same.
+-- This many bytes at a place are others, and the rest is the same.
 pub record ChangesOnly (place width : ℕ) (old new : List ℕ) : Type 0 where
   pub long : length new ≡ length old
   pub before : take place new ≡ take place old
@@ -33,8 +33,8 @@ create_flags = 0x8042
 abbrev pub with_offered : (flags offer : ℕ) → ℕ
 with_offered flags offer = bit_or flags (bit_and offer (2 ^ 32 - 1 - known_flags))
 
--- The frame of a request that asks this is filled: OPEN and CREATE have their flags, INIT offers flags beside the kernel's
--- own, and any other stays as it is.
+-- The frame of a request that asks this is filled: OPEN and CREATE have their flags, INIT offers flags beside the
+-- kernel's own, and any other stays as it is.
 abbrev pub FillsFor : RequestContent → FreeFields → (old new : List ℕ) → Type 0
 FillsFor opening free_fields old new = ChangesOnly 40 4 old new × (number_at 40 4 new ≡ free_fields.open_flags)
 FillsFor (create name) free_fields old new = ChangesOnly 40 4 old new × (number_at 40 4 new ≡ create_flags)

@@ -7,7 +7,7 @@ use crate::own_requests::FIRST_OPENDIR_UNIQUE;
 use fk_fields::{u32_at, u64_at};
 use fk_wire::ReplyHead;
 
-/// A frame that was set aside.
+/// A frame of a server that is not for the kernel.
 #[derive(Clone, Copy, Debug, PartialEq, Eq)]
 pub enum OtherFrame {
     /// A notification: its code (linux/fuse.h, `enum fuse_notify_code`) and its length.

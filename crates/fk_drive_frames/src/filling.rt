@@ -1,4 +1,4 @@
-//! What real servers want in fields that are free, or in bits that are dropped when read.
+//! What real servers expect in fields that are free, or in bits that are dropped when read.
 
 ghost use Rattle.std.specs.Prelude.{◌≡◌, ◌≤◌, ◌+◌, IfSome, IfNone, length};
 ghost use Rattle.fk_wire.specs.Fields.{number_at};

@@ -1,5 +1,5 @@
-//! The frames of a kernel that drives a server: what servers want in free fields, requests that are not the kernel's, and
-//! frames of a server that are not for the kernel.
+//! The frames of a kernel that drives a server: what servers expect in free fields, requests that are not the kernel's,
+//! and frames of a server that are not for the kernel.
 #![tactic(auto)]
 
 mod agreement;

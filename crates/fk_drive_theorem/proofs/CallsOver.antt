@@ -78,7 +78,7 @@ answers_left a (e ∷ calls) answers call none = get_put (all_answered a calls a
     by true there rest = absurd (cc (there))
     by false there rest = rest there
 
--- Everything is given up: the unanswered calls are answered.
+-- Everything is abandoned: the unanswered calls are answered.
 pub abandons : (c : Vfs Opened) → AnsweredOnce c (abandoned c)
 abandons c = record {
   numbers = omega arith;

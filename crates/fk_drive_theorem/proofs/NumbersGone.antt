@@ -1,4 +1,5 @@
--- A number that was drawn and under which no request waits has none again, whatever becomes of the kernel but a mount.
+-- A number that was allocated and under which no request waits has none again, whatever becomes of the kernel but a
+-- mount.
 use Rattle.std.proofs.Common.{◌≡◌, ℕ, ◌-◌, ◌≤◌, ◌<◌, Bool, true, false, cond, List, [], ◌∷◌, ◌++◌, Option, Some, None, nat_eq, slice_get, option_map, find, refl, ap, sym, subst, ◌∙◌, arith}
 use Rattle.std.specs.Prelude.{◌%◌, nat_lt}
 use Rattle.std.specs.List.{list_any}
@@ -73,7 +74,7 @@ none_marked u v m (x ∷ es) none = by (nat_eq u x.0) (nat_eq v x.0) refl none (
 
 -- ---- the number is gone
 
--- No request waits under the number, which is not to be drawn: it was, or the mount is aborted.
+-- No request waits under the number, which is not to be allocated: it was, or the mount is aborted.
 pub record Gone (u : ℕ) (k : Kernel) : Type 0 where
   pub none : request_under k.queues u ≡ None
   pub allocated : k.queues.next ≤ u → (is_aborted k.phase ≡ true) × (k.queues.requests ≡ [])
@@ -87,7 +88,7 @@ gone_stable u k s = record {
   );
 }
 
--- It was drawn and is gone.
+-- It was allocated and is gone.
 abbrev pub Left : ℕ → QueueState Purpose → Type 0
 Left u q = (u < q.next) × (request_under q u ≡ None)
 
@@ -128,7 +129,7 @@ begun_aborted k call aborted = ap (λ (b : Bool). (closing_of (advanced k k.vfs.
     (cond b None (closed_by k.vfs.opens call))).queues) aborted
 
 module _ (u : ℕ) where
-  -- a number that was drawn is gone
+  -- a number that was allocated is gone
   pub left_gone : (k : Kernel) → Left u k.queues → Gone u k
   left_gone k left = let low = left.0 in record { none = left.1; allocated = λ le. absurd (omega (arith, low, le)) }
 
@@ -142,7 +143,7 @@ module _ (u : ℕ) where
         (ap is_aborted phase ∙ was.0, requests ∙ was.1);
   }
 
-  -- By whether the number was drawn: it was, or the mount is aborted.
+  -- By whether the number was allocated: it was, or the mount is aborted.
   by_allocated : (k : Kernel) → Gone u k → (P : Type 0) → (Left u k.queues → P)
       → (is_aborted k.phase ≡ true → k.queues.requests ≡ [] → P) → P
   by_allocated k gone P allocated aborted = by (nat_lt u k.queues.next) refl

@@ -132,7 +132,7 @@ module _ (id : ℕ) (low : 2 ≤ id) where
 
   -- ---- the reply
 
-  -- So many lookups more, or fewer.
+  -- This many lookups more, or fewer.
   abbrev pub Gains : Kernel → Kernel → ℕ → Type 0
   Gains k l n = lookups id l ≡ lookups id k + n
 

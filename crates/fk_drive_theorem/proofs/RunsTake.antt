@@ -116,7 +116,7 @@ module _ (old : Kernel) (number : ℕ) (new : Kernel) (one : OneEach old.queues)
   even : nat_eq (number % 2) 1 ≡ false
   even = ap (λ (n : ℕ). nat_eq n 1) takes.no_interrupt
 
-  -- what is awaited was drawn
+  -- what is awaited was allocated
   allocated : awaited old number ≢ nothing_awaited → number < old.queues.next
   allocated some = by (nat_lt number old.queues.next) refl
     where

@@ -28,7 +28,7 @@ use fuse_frames::{DecodedReply, Reply, reply_to_call};
 use fuse_spec::{Entry, Operation, Purpose, Refusal};
 
 impl<Q: QueueTable<Purpose> + Drop, C: CountTable<Heap = Q::Heap> + Drop> KernelOf<Q, C> {
-    /// Why `write` would refuse these bytes, want of memory aside: `Exhausted` where no number is left for the request
+    /// Why `write` would refuse these bytes, out of memory aside: `Exhausted` where no number is left for the request
     /// that they would have queued, or a node's count would reach the end of counters. Takes no memory.
     pub fn write_refusal(&self, bytes: &[u8]) -> Option<Refusal>
         ensures refused { IfSome result (λ refusal. (refusal ≡ Refusal.Exhausted) × WritePasses self.now bytes.now) }

@@ -87,7 +87,7 @@ impl<Q: QueueTable<Purpose> + Drop, C: CountTable<Heap = Q::Heap> + Drop> Kernel
         effect
     }
 
-    /// Why the oldest INTERRUPT cannot be read, want of memory aside: `NotReady` where the mount is not live, `NoSuch`
+    /// Why the oldest INTERRUPT cannot be read, out of memory aside: `NotReady` where the mount is not live, `NoSuch`
     /// where none is queued.
     pub(crate) fn read_interrupt_refusal(&self) -> Option<Refusal>
         ensures { result ≡ read_interrupt_refusal self.now }

@@ -72,7 +72,7 @@ module _ (nodes : Map Counted) (id : ℕ) (c : Counted) (file : nat_lt id 2 ≡ 
   counted_listed None = at
   counted_listed (Some g) = listed_once g
 
--- The count of a node after the names of a list: one lookup more for each that tells it under its generation.
+-- The count of a node after the names of a list: one lookup more for each that has it under its generation.
 pub counted_times : (pairs : List (DirentPlus Entry)) (nodes : Map Counted) (id : ℕ) (c : Counted)
     → nat_lt id 2 ≡ false → get nodes id ≡ Some c
     → get (looked_up_from nodes pairs) id ≡ Some (record c { count = c.count + times_listed id c.generation pairs })

@@ -49,7 +49,7 @@ in_turn : (nodes : Map Counted) (o : Option Entry) (files : List Entry)
 in_turn nodes None files = refl
 in_turn nodes (Some g) files = refl
 
--- The counts after the names of a list are those of the files that are told once they are judged.
+-- The counts after the names of a list are those of the files that are listed once they are judged.
 pub looked_up_is : (nodes : Map Counted) (pairs : List (DirentPlus Entry))
     → looked_up nodes (files_listed (pairs_judged nodes pairs)) ≡ looked_up_from nodes pairs
 looked_up_is nodes [] = refl
@@ -162,7 +162,7 @@ stale_settled nodes (pair ∷ pairs) =
     ap (λ (u : Use). stale_in u ++ stale_among (looked_up_by nodes pair) pairs) (alike nodes (listed_by pair) pairs)
     ∙ ap (λ (ns : List ℕ). stale_in (use_of_listed (looked_up_from next pairs) (listed_by pair)) ++ ns) rest
 
--- The names are listed as they were told.
+-- The names are listed as they came.
 dirent_kept : (pair : DirentPlus Entry) (u : Use) → (pair_judged pair u).dirent ≡ pair.dirent
 dirent_kept pair usable = refl
 dirent_kept pair unusable = refl

@@ -57,7 +57,7 @@ IsWalking (walking directory word words plan) = Unit {0}
 IsWalking (doing operation) = ⊥
 IsWalking (using open_call operation) = ⊥
 
--- What a call has asked tells where it stands.
+-- Where a call stands follows from what it has asked.
 pub record LooksUp (directory : ℕ) (word : Name) (state : CallState Opened) : Type 0 where
   pub words : List Name
   pub plan : WalkPlan ℕ

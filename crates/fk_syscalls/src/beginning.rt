@@ -26,7 +26,7 @@ use fuse_spec::limits::{self, MAX_FILE};
 use fuse_spec::{Opened, Operation};
 use std::alloc::{AllocError, Allocator};
 
-/// A read or write has at most so many bytes.
+/// A read or write has at most this many bytes.
 const MAX_TRANSFER: u64 = limits::MAX_TRANSFER as u64;
 
 /// Begins a call on a mount that is not aborted: a fault answers it; a read or write asks at once; else it walks from
@@ -78,7 +78,7 @@ pub fn begin<A: Allocator + Copy>(
             offset,
             bytes,
         } => begin_write(alloc, opens, *open_call, *offset, bytes),
-        // Ruled out: it is no close.
+        // It never comes to this: a close is not begun here.
         Call::Close { .. } => Ok(Next::Answer { errno: EBADF }),
     }
 }

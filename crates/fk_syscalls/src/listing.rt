@@ -49,7 +49,7 @@ impl<A: Allocator> Model for Listing<A> {
 impl<A: Allocator> Listing<A> {
     ghost use Rattle.fk_syscalls.specs.Listings.{listed_dirent, names_left_in};
 
-    /// No names. There is room for so many names, which have so many bytes together.
+    /// No names. There is room for this many names, which have this many bytes together.
     ///
     /// # Errors
     ///

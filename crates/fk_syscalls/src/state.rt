@@ -153,7 +153,7 @@ fn walk_finished<A: Allocator + Copy>(
     }
 }
 
-/// The open file of a node and an open number.
+/// The open file of a node and a file handle.
 fn opened(nodeid: u64, fh: u64) -> Opened
     ensures { result ≡ record { nodeid = nodeid; fh = fh } }
 {
@@ -250,7 +250,7 @@ impl<A: Allocator + Copy> CallState<A> {
             waits_for,
         } = self;
         let WaitsFor::Walks(plan) = waits_for else {
-            // Ruled out: such a call has no word left.
+            // It never comes to this: only a walk has a word left.
             return Next::Answer { errno: ENOENT };
         };
         let next = next_place(&words, at);
@@ -313,7 +313,7 @@ impl<A: Allocator + Copy> CallState<A> {
                     };
                 }
                 let Plan::Last(operation) = plan else {
-                    // Ruled out: a second walk follows the first at once.
+                    // It never comes to this: a second walk follows the first at once.
                     return Operation::Getattr { node: self.node };
                 };
                 operation.at(self.node)

@@ -128,7 +128,7 @@ record_count kind.Records bytes = count_from (length bytes) false 16 bytes
 record_count kind.RecordsPlus bytes = count_from (length bytes) true 16 bytes
 record_count k bytes = 0
 
--- The content of a body, of a kind and with so many records, if it is one.
+-- The content of a body, of a kind and with this many records, if it is one.
 abbrev pub reply_content_at : ReplyKind → ℕ → List ℕ → ReplyContent
 reply_content_at kind.Empty count bytes = empty_reply
 reply_content_at kind.Entry count bytes = entry_reply (entry_at 16 bytes)

@@ -13,7 +13,7 @@ type Frame = (u64, usize, (u64, u64), (u64, u64));
 /// A call, and what it must give. What is kept of a request is a number.
 #[derive(Clone, Copy)]
 enum Row {
-    /// Room for so many requests and forgets is made.
+    /// Room for this many requests and forgets is made.
     Reserve(usize, usize),
     NumbersLeft(u64),
     /// Room is made and a request queued, of which this is kept: its number.
@@ -32,11 +32,11 @@ enum Row {
     ReadInterrupt(Option<u64>),
     Again(u64),
     NoInterrupts,
-    /// Room is made and so many lookups of a node are to be forgotten.
+    /// Room is made and this many lookups of a node are to be forgotten.
     Forget(u64, u64),
     /// The same of each node from the first up to an end, each with lookups of its own.
     ForgetEach(u64, u64),
-    /// So many forgets make no frame, looked at or read.
+    /// This many forgets make no frame, looked at or read.
     NoForgets(usize),
     /// The frame is looked at, and then read.
     Forgets(Frame),
