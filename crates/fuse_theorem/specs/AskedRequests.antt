@@ -23,7 +23,7 @@ serves_call purpose.Init = false
 serves_call (purpose.Release o) = false
 serves_call (purpose.Call call) = true
 
--- The number was drawn, and as long as its request is unanswered, it serves a call and its INTERRUPT was queued.
+-- The number was allocated, and as long as its request is unanswered, it serves a call and its INTERRUPT was queued.
 pub record IsInterrupted (k : Kernel) (unique : ℕ) : Type 0 where
   pub even : unique % 2 ≡ 0
   pub allocated : unique < k.queues.next

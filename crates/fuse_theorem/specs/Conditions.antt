@@ -35,12 +35,12 @@ abbrev pub KnownAreHeld : World → Type 0
 KnownAreHeld w = (id generation : ℕ) → generation_known w.kernel.nodes id ≡ Some generation
     → (file : ℕ) × Denotes w.server.nodes id generation file
 
--- The root stands in no table, and the coming open number is new.
+-- The root stands in no table, and the coming file handle is new.
 pub record TablesSound (s : Server) : Type 0 where
   pub no_root : get s.nodes.rows 1 ≡ None
   pub new_number : get s.handles.handles s.handles.next_fh ≡ None
 
--- The open number of a reply to CREATE or OPEN is one of the file that is created or opened.
+-- The file handle of a reply to CREATE or OPEN is one of the file that is created or opened.
 abbrev pub OpensItsFile : NodeTable → HandleTable → Operation ℕ Opened → WireReply → Type 0
 OpensItsFile t h operation (created g v fh) = (file : ℕ) → Denotes t g.nodeid g.generation file
     → is_open h fh file ≡ true
@@ -67,7 +67,7 @@ pub record CanDecline (w : World) (unique : ℕ) (t : HeldRequest) (operation : 
   pub none_sent : count_by (λ (r : Request). nat_eq unique r.unique) w.requests ≡ 0
 
 -- A RELEASE that the server can perform: no INTERRUPT marked it, its node is held as it was when it was taken, and its
--- open number is one of the node's file.
+-- file handle is one of the node's file.
 pub record CanRelease (w : World) (unique : ℕ) (t : HeldRequest) (o : Opened) : Type 0 where
   pub there : get w.server.held unique ≡ Some t
   pub body_is : t.body ≡ release o
@@ -149,11 +149,11 @@ pub record IsInterrupt (w : World) (p : Plain) (k : ℕ) (r : Request) (original
 abbrev pub IsUnsent : World → ℕ → Type 0
 IsUnsent w node = All (λ (r : Request). list_any (nat_eq node) (nodes_of_body r.body) ≡ false) w.requests
 
--- This open number is one of some file.
+-- This file handle is one of some file.
 abbrev pub IsFileHandle : HandleTable → ℕ → Type 0
 IsFileHandle h fh = get h.handles fh ≢ None
 
--- With this table the server holds the open numbers of the kernel's open files and calls, of the requests on the link
+-- With this table the server holds the file handles of the kernel's open files and calls, of the requests on the link
 -- and of those that it holds, and those that copies and kept replies to unanswered requests name.
 pub record HoldsOpens (w : World) (h : HandleTable) : Type 0 where
   pub opens : (open_call : ℕ) (o : Opened) → get w.kernel.vfs.opens open_call ≡ Some o → IsFileHandle h o.fh

@@ -1,4 +1,4 @@
--- What every world keeps of its numbers: which were drawn, and which request serves which call.
+-- What every world keeps of its numbers: which were allocated, and which request serves which call.
 use Rattle.std.specs.Prelude.{◌≡◌, ◌≤◌, ◌<◌, ℕ, true, false, cond, Some, None, All, count_by, is_some}
 use Rattle.fuse_spec.specs.declared.Purpose.{Purpose}
 use Rattle.fuse_spec.specs.declared.QueuedRequest.{QueuedRequest}
@@ -14,7 +14,7 @@ abbrev pub requests_for : ℕ → QueueState Purpose → ℕ
 requests_for call s = count_by (λ (e : ℕ × QueuedRequest Purpose). is_for call e.1.kept) s.requests
 
 -- No call of the next number or a later one is unanswered; an unanswered call has one request at most, and an answered
--- one none. What is on the links, held or kept bears a number that this mount has drawn.
+-- one none. What is on the links, held or kept has a number that this mount has allocated.
 pub record IsNumbered (w : World) : Type 0 where
   pub queues : IsSound w.kernel.queues
   pub calls_below : (call : ℕ) → w.kernel.vfs.next_call ≤ call → get w.kernel.vfs.calls call ≡ None

@@ -58,8 +58,8 @@ pub fn queues_stay_sound()
         → step choice w e ≡ Ok (o, after) → IsSound after.kernel.queues }
 {}
 
-/// The server's tree and tables are sound at first and remain so, whatever the event and whatever free nodeids the server
-/// gives. So no two nodes have one file, the root stands in no table, and the coming open number is new.
+/// The server's tree and tables are sound at first and remain so, whatever the event and whatever free nodeids the
+/// server gives. So no two nodes have one file, the root stands in no table, and the coming file handle is new.
 pub fn server_stays_sound()
     ensures at_first { ServerSound first_world.server }
     ensures always { (w : World) → ServerSound w.server → (e : Event) (o : Outcome) (after : World)
@@ -67,8 +67,8 @@ pub fn server_stays_sound()
     ensures tables { (s : Server) → ServerSound s → OneId s.nodes × TablesSound s }
 {}
 
-/// The numbers of a live mount are in order, whatever the event: which were drawn, that a call has one request at most,
-/// and that what is on the links, held or kept bears a number that was drawn.
+/// The numbers of a live mount are in order, whatever the event: which were allocated, that a call has one request at
+/// most, and that what is on the links, held or kept has a number that was allocated.
 pub fn numbers_stay_in_order()
     ensures at_first { IsNumberedWhileLive first_world }
     ensures always { (choice : ℕ → ℕ) (w : World) → IsNumberedWhileLive w → (o : Outcome) (after : World) (e : Event)

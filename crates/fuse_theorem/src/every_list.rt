@@ -123,8 +123,8 @@ pub fn held_stay_held()
         → get w.server.held unique ≡ Some t → NodesStillHeld w.server.nodes t }
 {}
 
-/// After an abort each open number that a held request names is one of its node's file, and is counted often enough for
-/// all of them, whatever the event, where that is so while the mount is live. It is where the open numbers are
+/// After an abort each file handle that a held request names is one of its node's file, and is counted often enough for
+/// all of them, whatever the event, where that is so while the mount is live. It is where the file handles are
 /// balanced, those of held RELEASEs are of their nodes' files, and what calls read or write is open in the kernel.
 pub fn held_numbers_stay_open()
     ensures at_first { OpensAfterAbort first_world }
@@ -140,7 +140,7 @@ pub fn held_numbers_stay_open()
 {}
 
 /// The performing of a held request needs no more than that: an operation of a call, live or after an abort, one that
-/// is marked, or INIT. A RELEASE needs beside that its open number is one of its node's file, and that the open numbers
+/// is marked, or INIT. A RELEASE needs beside that its file handle is one of its node's file, and that the file handles
 /// which are used are held without it, which after an abort they are.
 pub fn performs_need_no_more()
     ensures requests { (w : World) (p : Plain) → BothSound w p → StillHeldAfterAbort w → (choice : ℕ → ℕ) (unique : ℕ)
@@ -222,7 +222,7 @@ pub fn replies_stay_fit()
         → All (λ (r : ReplyResult). r.result ≢ Invalid) w.results }
 {}
 
-/// While the mount is live, the server's count of each open number is the kernel's open files and closing ones with it
+/// While the mount is live, the server's count of each file handle is the kernel's open files and closing ones with it
 /// and what is in flight, whatever the event (`OpenNumbers.antt` has that and all that keeps it).
 pub fn file_handles_stay_balanced()
     ensures at_first { OpensSound first_world }
@@ -230,8 +230,8 @@ pub fn file_handles_stay_balanced()
         → (e : Event) (o : Outcome) (after : World) → Happens w e o after → OpensSound after }
 {}
 
-/// While the mount is live, the server holds each open number that is in use or on its way. It does so still once a
-/// held RELEASE gives its number back, which is one of its node's file, and once a copy is settled. The numbers that
+/// While the mount is live, the server holds each file handle that is in use or on its way. It does so still once a
+/// held RELEASE gives its handle back, which is one of its node's file, and once a copy is settled. The handles that
 /// held requests name are counted often enough for all of them.
 pub fn file_handles_are_held()
     ensures live { (w : World) (p : Plain) → BothSound w p → OpensSound w → is_live w.kernel.phase ≡ true
@@ -259,8 +259,8 @@ pub fn nothing_waits_at_rest()
         → w.kernel.vfs.calls ≡ [] }
 {}
 
-/// At rest no closed file waits for its RELEASE. So the server counts each open number as often as the kernel holds it
-/// open, where the open numbers are balanced.
+/// At rest no closed file waits for its RELEASE. So the server counts each file handle as often as the kernel holds it
+/// open, where the file handles are balanced.
 pub fn open_files_are_counted_at_rest()
     ensures closing { (w : World) (p : Plain) → BothSound w p → ReleasesKnown w → ReadAreOnTheirWay w → AtRest w
         → w.kernel.closing ≡ [] }
@@ -270,7 +270,7 @@ pub fn open_files_are_counted_at_rest()
         (values w.kernel.vfs.opens) }
 {}
 
-/// While the mount is live, an open number is of one open file at most, open, closing or to be released, whatever the
+/// While the mount is live, a file handle is of one open file at most, open, closing or to be released, whatever the
 /// event. So where nothing is under way, the server counts each once at most.
 pub fn file_handles_stand_once()
     ensures at_first { OpensOnceWhileLive first_world }

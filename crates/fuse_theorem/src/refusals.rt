@@ -17,8 +17,8 @@ pub fn refused_by_cases()
         → step choice w e ≡ Err r }
 {}
 
-/// An event that is not refused results in exactly what a case of `Leads` has, with no counter past its end where it may
-/// draw a number.
+/// An event that is not refused results in exactly what a case of `Leads` has, with no counter past its end where it
+/// may allocate a number.
 pub fn accepted_by_cases()
     ensures only { (choice : ℕ → ℕ) (w : World) (e : Event) (o : Outcome) (after : World)
         → step choice w e ≡ Ok (o, after) → Leads choice w e o after }
@@ -65,7 +65,7 @@ pub fn happens_or_refused()
         ⊎ ((r : Refusal) × IsRefused w e r) }
 {}
 
-/// No event is refused for a lost link, and by the machine itself none for want of memory.
+/// No event is refused for a lost link, and by the machine itself none as out of memory.
 pub fn never_for_the_link()
     ensures memory { (w : World) (e : Event) (r : Refusal) → IsRefused w e r → r ≢ NoMemory }
     ensures link { (w : World) (e : Event) (r : Refusal) → RefusedWith w e r → r ≢ LinkLost }

@@ -137,7 +137,7 @@ answers_left a (e ∷ calls) answers call none = get_put (all_answered a calls a
     by true there rest = absurd (cc (there))
     by false there rest = rest there
 
--- Everything is given up: the unanswered calls are answered.
+-- Everything is abandoned: the unanswered calls are answered.
 abandons : (c : Vfs Opened) → AnswersSound c → CallsKept false c (abandoned c)
 abandons c sound = record {
   sound = record {

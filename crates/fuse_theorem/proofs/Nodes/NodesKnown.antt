@@ -169,7 +169,7 @@ received_known k old call wire (Some state) there = by (goes_with (asked state) 
     by false = used_known (record k { vfs = answered k.vfs call (answer.failed 5) }) state
         (answered_known k.nodes k.vfs old call (answer.failed 5))
 
--- Everything is given up, and the root is known still.
+-- Everything is abandoned, and the root is known still.
 empty_known : (c : Vfs Opened) → c.root ≡ 1 → VfsKnown [] (abandoned c)
 empty_known c root = record {
   root = subst (IsKnown []) (sym root) (λ e. absurd (cc (e)));

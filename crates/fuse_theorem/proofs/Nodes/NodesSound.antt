@@ -229,7 +229,7 @@ recounted_sound h sound fh x n there counted = record {
   ];
 }
 
--- One use of an open number is given back.
+-- One use of a file handle is released.
 pub back_sound : (h : HandleTable) → HandlesSound h → (fh : ℕ) → HandlesSound (handle_back h fh)
 back_sound h sound fh = by (get h.handles fh) refl
   where
@@ -254,7 +254,7 @@ pub handles_back_sound : (fhs : List ℕ) (h : HandleTable) → HandlesSound h �
 handles_back_sound [] h sound = sound
 handles_back_sound (fh ∷ fhs) h sound = handles_back_sound fhs (handle_back h fh) (back_sound h sound fh)
 
--- One more copy carries these open numbers.
+-- One more copy carries these file handles.
 use_sound : (h : HandleTable) → HandlesSound h → (fh : ℕ) → HandlesSound (handle_more h fh)
 use_sound h sound fh = by (get h.handles fh) refl
   where

@@ -104,7 +104,7 @@ taking_sound s sound unique (interrupt original) =
 
 -- ---- requests are performed
 
--- an open number is of no root
+-- no file handle is of the root
 open_not_root : (h : HandleTable) → HandlesSound h → (fh file : ℕ) → is_open h fh file ≡ true → file ≢ 0
 open_not_root h sound fh file open_is = by (get h.handles fh) refl open_is
   where

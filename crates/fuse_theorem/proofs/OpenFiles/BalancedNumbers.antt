@@ -1,4 +1,4 @@
--- In a live mount whose open numbers are balanced, those that held requests name are counted often enough for all of
+-- In a live mount whose file handles are balanced, those that held requests name are counted often enough for all of
 -- them.
 use Rattle.std.proofs.Common.{◌≡◌, ℕ, ◌≤◌, true, false, [], ◌∷◌, Option, Some, None, zero, suc, refl, ap, subst, ◌∙◌, arith}
 use Rattle.std.specs.Prelude.{Contains}

@@ -398,7 +398,7 @@ received_closes k old call wire (Some state) there = by (goes_with (asked state)
     by false = used_closes (record k { vfs = answered k.vfs call (answer.failed 5) }) state
         (answered_so k.vfs k.closing old call state there (answer.failed 5))
 
--- Everything is given up.
+-- Everything is abandoned.
 none_open : (c : Vfs Opened) → ClosedFiles (abandoned c) []
 none_open c = record {
   calls_in_order = tt;

@@ -1,4 +1,4 @@
--- After an abort the server holds the open numbers that are used, also without those of a RELEASE that it performs.
+-- After an abort the server holds the file handles that are used, also without those of a RELEASE that it performs.
 use Rattle.std.proofs.Common.{◌≡◌, ◌≢◌, ℕ, true, false, true≢false, [], Some, None, ap, sym, subst, ◌∙◌, All}
 use Rattle.std.specs.Prelude.{Contains}
 use Rattle.std.proofs.lemmas.List.Elements.{All-nil}

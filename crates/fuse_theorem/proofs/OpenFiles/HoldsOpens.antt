@@ -1,4 +1,4 @@
--- The server holds each open number that is in use or on its way.
+-- The server holds each file handle that is in use or on its way.
 use Rattle.std.proofs.Common.{◌≡◌, ℕ, Bool, cond, List, ◌++◌, Some, nat_eq, get_or, ap, sym, subst, ◌∙◌, arith, inl, inr, All}
 use Rattle.std.specs.Prelude.{Contains}
 use Rattle.std.proofs.lemmas.List.Elements.{All-nil, All-contains, All-head, All-tail}

@@ -1,4 +1,4 @@
--- How the counts of the server's open numbers change.
+-- How the counts of the server's file handles change.
 use Rattle.std.proofs.Common.{◌≡◌, ◌≢◌, ℕ, ◌+◌, ◌-◌, Bool, true, false, true≢false, ◌&&◌, cond, List, [], ◌∷◌, Option, Some, None, nat_eq, is_some, count_by, refl, ap, sym, subst, ◌∙◌, arith, inl, inr}
 use Rattle.std.specs.Prelude.{nat_lt}
 use Rattle.std.specs.List.{list_all}
@@ -18,7 +18,7 @@ use Rattle.fuse_theorem.proofs.Calls.Finding.{same_is, other_is}
 use Rattle.fuse_theorem.proofs.Refining.Settling.{number_back}
 use Rattle.fuse_theorem.proofs.Lookups.WireCounts.{OneAtMost, nothing, one}
 
--- How often the server counts an open number.
+-- How often the server counts a file handle.
 abbrev pub number_count : HandleTable → ℕ → ℕ
 number_count h fh = handle_count (get h.handles fh)
 

@@ -1,4 +1,4 @@
--- The open numbers of held requests stay open as one is held no longer, and as a RELEASE gives its number back.
+-- The file handles of held requests stay open as one is held no longer, and as a RELEASE gives its handle back.
 use Rattle.std.proofs.Common.{◌≡◌, ◌≢◌, ℕ, ◌+◌, ◌-◌, ◌≤◌, ◌<◌, Bool, true, false, not, cond, [], ◌∷◌, Option, Some, None, zero, suc, nat_eq, refl, ap, sym, subst, ◌∙◌, arith, inl, inr}
 use Rattle.std.specs.Prelude.{Contains, nat_lt, sum_by}
 use Rattle.std.proofs.lemmas.Bool.{cases_eq}

@@ -1,4 +1,4 @@
--- An open number is of one open file at most, whatever happens.
+-- A file handle is of one open file at most, whatever happens.
 use Rattle.fuse_spec.specs.Calls.Calls.{for_minor}
 use Rattle.fuse_spec.specs.declared.Minor.{Minor}
 use Rattle.std.proofs.Common.{◌≡◌, ◌≢◌, ℕ, ◌+◌, ◌-◌, ◌≤◌, ◌<◌, Bool, true, false, true≢false, cond, List, [], ◌++◌, drop, Option, Some, None, nat_eq, slice_get, count_by, refl, ap, sym, subst, ◌∙◌, arith, ◌⊎◌, inl, inr, All}
@@ -68,7 +68,7 @@ one_of : {X : Type 0} (P Q : X → Type 0) (xs : List X) → SomeHas P xs → Al
 one_of P Q xs (here x rest p) h = (x, p, All-head Q x rest h)
 one_of P Q xs (there x rest s) h = one_of P Q rest s (All-tail Q x rest h)
 
--- The number of a request whose reply carries an open number was drawn.
+-- The number of a request whose reply carries a file handle was allocated.
 carries_below : (w : World) → IsNumbered w → is_live w.kernel.phase ≡ true → (unique fh : ℕ) → CarriesOpen w unique fh
     → unique < w.kernel.queues.next
 carries_below w numbered live unique fh (inl kept) = numbered.kept_below live unique kept.0 kept.1
@@ -489,7 +489,7 @@ mounted_once choice w sound dead e o after did live = by e o after did live
     by x r v (by_evict node counted lives found unused) now = absurd (was lives)
     by x r v (by_abort lives) now = absurd (was lives)
 
--- Open numbers stand once, whatever the event.
+-- File handles are of one open file each, whatever the event.
 pub once_stays : (w : World) (p : Plain) → BothSound w p → ReleasesKnown w → OpensSound w → OpensOnceWhileLive w
     → (e : Event) (o : Outcome) (after : World) → Happens w e o after → OpensOnceWhileLive after
 once_stays w p both releases opens old e o after h now = by (is_live w.kernel.phase) refl
@@ -501,7 +501,7 @@ once_stays w p both releases opens old e o after h now = by (is_live w.kernel.ph
     by true live = once_after h.0 w p both releases opens live (old live) e o after h.1 did now
     by false dead = mounted_once h.0 w both.world dead e o after did now
 
--- Where nothing is under way, the server counts each open number once at most.
+-- Where nothing is under way, the server counts each file handle once at most.
 pub once_at_rest : (w : World) → OpensSound w → OpensOnceWhileLive w → AtRest w → (fh : ℕ)
     → handle_count (get w.server.handles.handles fh) ≤ 1
 once_at_rest w opens old rest fh =
@@ -520,7 +520,7 @@ count_front f xs ys =
     let both : count_by f (xs ++ ys) ≡ count_by f xs + count_by f ys = sum_by-append (λ x. cond (f x) 1 0) xs ys in
     omega (arith, both)
 
--- One file of the kernel at most has an open number.
+-- A file handle is of one file of the kernel at most.
 pub once_in_kernel : (w : World) → OpensOnce w → (fh : ℕ) → open_in_kernel w.kernel fh ≤ 1
 once_in_kernel w old fh =
     let has = λ (o : Opened). nat_eq o.fh fh in

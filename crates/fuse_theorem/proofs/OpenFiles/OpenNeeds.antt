@@ -1,4 +1,4 @@
--- What the settling of a copy and the performing of a RELEASE need of open numbers holds.
+-- What the settling of a copy and the performing of a RELEASE need of file handles holds.
 use Rattle.std.proofs.Common.{◌≡◌, ℕ, ◌+◌, ◌≤◌, Bool, true, false, [], Option, Some, slice_get, refl, ap, subst, arith}
 use Rattle.std.specs.Prelude.{sum_by}
 use Rattle.std.proofs.lemmas.List.Elements.{All-contains}

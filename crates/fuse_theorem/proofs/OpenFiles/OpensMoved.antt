@@ -1,4 +1,4 @@
--- Open numbers stay balanced as the kernel goes on and takes replies.
+-- File handles stay balanced as the kernel goes on and takes replies.
 use Rattle.std.proofs.Common.{◌≡◌, ℕ, ◌+◌, Bool, true, false, cond, List, [], ◌∷◌, ◌++◌, drop, take, Option, Some, None, slice_get, refl, ap, ◌∙◌, arith}
 use Rattle.std.specs.Prelude.{sum_by}
 use Rattle.std.specs.List.{remove as without_at}

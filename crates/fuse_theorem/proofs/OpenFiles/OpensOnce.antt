@@ -1,4 +1,4 @@
--- An open number is of one open file at most, as the kernel and the server go on.
+-- A file handle is of one open file at most, as the kernel and the server go on.
 use Rattle.std.proofs.Common.{◌≡◌, ◌≢◌, ℕ, ◌+◌, ◌≤◌, Bool, true, false, cond, List, [], ◌∷◌, ◌++◌, Some, None, nat_eq, slice_get, zero, suc, refl, ap, sym, subst, ◌∙◌, arith, ◌⊎◌, inl, inr}
 use Rattle.std.specs.Prelude.{sum_by}
 use Rattle.std.specs.List.{remove as without_at}

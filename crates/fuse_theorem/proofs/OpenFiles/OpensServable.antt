@@ -1,4 +1,4 @@
--- What `Held` says of open numbers: those that a live kernel uses, and those that requests name, are numbers of their
+-- What `Held` says of file handles: those that a live kernel uses, and those that requests name, are handles of their
 -- nodes' files.
 use Rattle.fuse_spec.specs.Values.Numbers.{init_flags}
 use Rattle.std.proofs.Common.{◌≡◌, ℕ, true, List, ◌++◌, Option, Some, None, refl, ap, sym, subst, ◌∙◌, inl, inr, All}

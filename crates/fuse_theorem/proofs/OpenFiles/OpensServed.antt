@@ -1,4 +1,4 @@
--- Open numbers stay balanced as the server takes requests, performs them, sends copies and settles them.
+-- File handles stay balanced as the server takes requests, performs them, sends copies and settles them.
 use Rattle.std.proofs.Common.{◌≡◌, ℕ, ◌+◌, Bool, true, false, true≢false, ◌&&◌, List, [], ◌∷◌, ◌++◌, Option, Some, None, is_some, slice_get, get_or, refl, ap, sym, ◌∙◌, arith, All}
 use Rattle.std.specs.Prelude.{◌%◌, sum_by}
 use Rattle.std.specs.List.{list_all, remove as without_at}

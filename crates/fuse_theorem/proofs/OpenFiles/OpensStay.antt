@@ -1,4 +1,4 @@
--- Open numbers stay balanced, whatever happens.
+-- File handles stay balanced, whatever happens.
 use Rattle.fuse_spec.specs.declared.Minor.{Minor}
 use Rattle.std.proofs.Common.{◌≡◌, ℕ, Bool, true, false, true≢false, cond, [], Option, Some, None, slice_get, refl, ap, sym, subst, ◌∙◌, arith}
 use Rattle.std.specs.List.{remove as without_at}
@@ -325,7 +325,7 @@ module _ (choice : ℕ → ℕ) (w : World) (p : Plain) (both : BothSound w p) (
   unopened_after e o after (by_evict node counted live there unused) dead = lives_on after.kernel refl live dead
   unopened_after e o after (by_abort live) dead = (refl, refl)
 
--- Open numbers stay balanced, whatever the event.
+-- File handles stay balanced, whatever the event.
 pub opens_stay : (w : World) (p : Plain) → BothSound w p → ReleasesKnown w → OpensSound w
     → (e : Event) (o : Outcome) (after : World) → Happens w e o after → OpensSound after
 opens_stay w p both releases old e o after h =

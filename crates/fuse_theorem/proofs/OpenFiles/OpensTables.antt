@@ -1,4 +1,4 @@
--- Open numbers stay balanced as the tables of the server change.
+-- File handles stay balanced as the tables of the server change.
 use Rattle.std.proofs.Common.{◌≡◌, ℕ, ◌+◌, ◌≤◌, Bool, true, false, true≢false, cond, List, [], ◌∷◌, ◌++◌, Option, Some, None, nat_eq, is_some, slice_get, count_by, refl, ap, sym, subst, ◌∙◌, arith, All}
 use Rattle.std.specs.Prelude.{◌%◌, sum_by}
 use Rattle.std.specs.List.{remove as without_at}
@@ -73,7 +73,7 @@ held_fits w old unique t at o is =
     All-head (IsOfItsNode w.server) o [] (subst (λ (b : RequestBody). All (IsOfItsNode w.server)
     (released_by b)) is mine)
 
--- To take a request changes no open number.
+-- To take a request changes no file handle.
 pub taken_handles : (w : World) (unique : ℕ) (body : RequestBody)
     → (taking w.server unique body).server.handles ≡ w.server.handles
 taken_handles w unique (init flags) = refl

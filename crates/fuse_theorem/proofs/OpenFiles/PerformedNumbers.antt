@@ -1,4 +1,4 @@
--- How a performed request changes the counts of open numbers.
+-- How a performed request changes the counts of file handles.
 use Rattle.fuse_spec.specs.declared.Minor.TheVariants.{M15, M31}
 use Rattle.fuse_spec.specs.declared.Minor.{Minor}
 use Rattle.std.proofs.Common.{◌≡◌, ℕ, ◌+◌, ◌≤◌, Bool, true, false, true≢false, cond, List, [], None, refl, sym, ◌∙◌, arith}

@@ -1,4 +1,4 @@
--- After an abort the open numbers of what the server holds stay open, whatever happens.
+-- After an abort the file handles of what the server holds stay open, whatever happens.
 use Rattle.std.proofs.Common.{◌≡◌, ℕ, Bool, true, false, ◌⊎◌, cond, Option, Some, None, refl, ap, sym, subst, ◌∙◌, arith, inl, inr}
 use Rattle.fuse_spec.specs.declared.Opened.{Opened}
 use Rattle.fuse_spec.specs.Values.Maps.{Map, get, remove}

@@ -1,4 +1,4 @@
--- Everything is given up: the unanswered calls are answered alike in both worlds.
+-- Everything is abandoned: the unanswered calls are answered alike in both worlds.
 use Rattle.std.proofs.Common.{◌≡◌, ℕ, Bool, true, false, cond, [], ◌∷◌, Option, Some, None, is_some, refl, ap, sym, subst, ◌∙◌}
 use Rattle.std.specs.Prelude.{T}
 use Rattle.std.specs.Ordering.{nat_cmp, eq_by_cmp}

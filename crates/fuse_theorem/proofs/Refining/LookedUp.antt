@@ -100,7 +100,7 @@ usable_known nodes g e = by (nat_lt g.nodeid 2) refl e
         ∙ ap (λ (o : Option Counted). option_map (λ (c : Counted). c.generation) o)
         (get_put_here nodes g.nodeid (counted_more g (get nodes g.nodeid))) ∙ counted (get nodes g.nodeid) f
 
--- an open number has one file
+-- a file handle has one file
 opens_one : (h : HandleTable) (fh a b : ℕ) → is_open h fh a ≡ true → is_open h fh b ≡ true → a ≡ b
 opens_one h fh a b x y = by (get h.handles fh) x y
   where

@@ -101,7 +101,7 @@ counted_denotes [] t i generation file d = d
 counted_denotes (g ∷ gs) t i generation file d =
     counted_denotes gs (row_more t g.nodeid) i generation file (more_denotes t g.nodeid i generation file d)
 
--- An open number is one of its file still, as it is counted once more or another is opened.
+-- A file handle is one of its file still, as it is counted once more or another is opened.
 pub more_open : (h : HandleTable) (fh' : ℕ) (fh file : ℕ) → is_open h fh file ≡ true
     → is_open (handle_more h fh') fh file ≡ true
 more_open h fh' fh file o = by (get h.handles fh') refl

@@ -1,4 +1,4 @@
--- Names in a list, with the files that they tell.
+-- Names in a list, with their files.
 use Rattle.std.proofs.Common.{◌≡◌, ℕ, ◌-◌, Bool, true, false, cond, List, [], ◌∷◌, Option, Some, None, map, option_map, suc, refl, ap, sym, subst, ◌+◌, ◌∙◌, arith, All}
 use Rattle.std.specs.Prelude.{Contains, nat_le, sum_by}
 use Rattle.std.proofs.lemmas.List.Sums.{sum_by-cons}
@@ -63,7 +63,7 @@ module _ {F G : Type 0} (R R' : F → G → Type 0) where
   listed_more None (Some y) rest more h = absurd h
   listed_more (Some x) None rest more h = absurd h
 
-  -- What holds of the files that are told alone.
+  -- What holds of the files that are listed alone.
   pub pairs_more : (xs : List (DirentPlus F)) (ys : List (DirentPlus G))
       → ((x : F) (y : G) → Contains (files_listed xs) x → R x y → R' x y) → PairsAlike R xs ys → PairsAlike R' xs ys
   pairs_more [] [] more h = h
@@ -74,7 +74,7 @@ module _ {F G : Type 0} (R R' : F → G → Type 0) where
   pairs_more [] (y ∷ ys) more h = absurd h
   pairs_more (x ∷ xs) [] more h = absurd h
 
--- Where each file that is told is named right, the names are alike.
+-- Where each file that is listed is named right, the names are alike.
 module _ {F G : Type 0} (R : G → F → Type 0) (f : F → G) where
   option_named : (o : Option F) (rest : List F) → All (λ x. R (f x) x) (first_listed o rest)
       → OptionAlike R (option_map f o) o

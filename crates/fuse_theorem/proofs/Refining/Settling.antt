@@ -109,7 +109,7 @@ rows_back_files file (g ∷ gs) t h = by (is_held t g.nodeid g.generation) (rows
         (λ row. refl) e
     by false e = e
 
--- an open number that is left is one of the same file
+-- a file handle that is left is one of the same file
 pub number_back : (t : HandleTable) (q fh : ℕ) (y : FileHandle) → get (handle_back t q).handles fh ≡ Some y
     → (x : FileHandle) × (get t.handles fh ≡ Some x) × (y.file ≡ x.file)
 number_back t q fh y at = by (get t.handles q) refl at
@@ -167,7 +167,7 @@ module _ (w : World) (p : Plain) (same : Alike w p) (one : OneId w.server.nodes)
     (fewer_numbers : (fh : ℕ) (y : FileHandle) → get h.handles fh ≡ Some y
     → (x : FileHandle) × (get w.server.handles.handles fh ≡ Some x) × (y.file ≡ x.file)) (holds : HoldsAll w t)
     (opens : HoldsOpens w h) where
-  -- an open number that is held is one of the same file
+  -- a file handle that is held is one of the same file
   open_still : (fh file : ℕ) → IsFileHandle h fh → is_open w.server.handles fh file ≡ true → is_open h fh file ≡ true
   open_still fh file there old = by (get h.handles fh) refl there
     where

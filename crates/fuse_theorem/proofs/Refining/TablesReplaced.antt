@@ -97,7 +97,7 @@ module _ (R R' : ℕ → ℕ → Type 0) (more : (id file : ℕ) → R id file �
             let same_id : reached.0 ≡ id = (one reached.0 id file file (more reached.0 file reached.1) r).1 refl in
             bound id file name (subst (λ (n : ℕ). R n file) same_id reached.1)
 
--- what a reply says, where the files and open numbers that it names are meant still
+-- what a reply says, where the nodes and file handles that it names denote the same files still
 pub reply_more : (R R' : Entry → ℕ → Type 0) (S S' : ℕ → ℕ → Type 0) (a : WireReply) (b : Reply ℕ ℕ)
     → ((g : Entry) (file : ℕ) → Contains (files_in_reply a) g → R g file → R' g file)
     → ((fh file : ℕ) → Contains (opens_in_reply a) fh → S fh file → S' fh file) → ReplyAlike R S a b

@@ -92,16 +92,16 @@ module _ (R R' : ℕ → ℕ → Type 0) where
     body_within all unique signalled marked (batch_forget fs) f g h = h
     body_within all unique signalled marked (interrupt original) f g h = h
 
--- ---- what is in use is meant still
+-- ---- what is in use denotes its file still
 
 module _ (w : World) (p : Plain) (nodes : Map Counted) (t : NodeTable) (h : HandleTable) where
-  -- what these nodes and open files mean is meant still
+  -- these nodes and open files denote the same files still
   pub record UsedNodesStay (ids : List ℕ) (os : List Opened) : Type 0 where
     pub nodes_stay : (id file : ℕ) → Contains ids id → NodeDenotesIn w id file → NodeDenotes nodes t id file
     pub opens_stay : (o : Opened) (file : ℕ) → Contains ids o.nodeid → Contains os o → OpenDenotesIn w o file
         → OpenDenotes nodes t h o file
 
-  -- What the tables become: nothing is meant that was not, and what is in use is meant still.
+  -- What the tables become: nothing denotes a file that did not, and what is in use denotes its file still.
   pub record Narrows : Type 0 where
     pub back : (id file : ℕ) → NodeDenotes nodes t id file → NodeDenotesIn w id file
     pub root : (file : ℕ) → NodeDenotesIn w w.kernel.vfs.root file → NodeDenotes nodes t w.kernel.vfs.root file

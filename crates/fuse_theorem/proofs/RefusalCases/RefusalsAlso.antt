@@ -112,7 +112,7 @@ module _ (choice : ℕ → ℕ) (w : World) where
       ∙ passed (is_pinned w.kernel node || is_bound w.kernel node) Busy (Ok (o, after)) (λ i. unpinned i || unbound i)
   comes_to e o after (aborts live) = live_passes w (Ok (o, after)) live
 
-  -- what an event leads to that draws no number past its end
+  -- what an event leads to that allocates no number past its end
   pub led_to : (e : Event) (o : Outcome) (after : World) → Leads choice w e o after
       → (allocates e ≡ true → is_past after ≡ false) → step choice w e ≡ Ok (o, after)
   led_to e o after there within = comes_to e o after there ∙ allocated (allocates e) within

@@ -70,7 +70,7 @@ module _ (R : ℕ → ℕ → Type 0) (S : Opened → ℕ → Type 0) (t : NodeT
   wire_goes a b wire reply same told so = goes a b wire reply (same_operation R S a b same)
       (same_reply (Names t) (Opens h) wire reply told) so
 
--- Its open number is one of the file that was created or opened.
+-- Its file handle is one of the file that was created or opened.
 module _ (nodes : Map Counted) (t : NodeTable) (h : HandleTable)
     (held : (id generation : ℕ) → generation_known nodes id ≡ Some generation → (file : ℕ)
     → Denotes t id generation file → (g f : ℕ) → Denotes t id g f → f ≡ file) where

@@ -1,4 +1,4 @@
--- A number that a request bears was drawn, and is even.
+-- The number of a request was allocated, and is even.
 use Rattle.std.proofs.Common.{◌≡◌, ℕ, ◌<◌, ◌≤◌, ◌%◌, Bool, true, false, cond, refl, arith}
 use Rattle.std.proofs.lemmas.Bool.Decides.{nat_tests}
 use Rattle.fuse_spec.specs.declared.Purpose.{Purpose}

@@ -1,4 +1,4 @@
--- The open number that a performed request's reply carries is the coming one.
+-- The file handle that a performed request's reply carries is the coming one.
 use Rattle.fuse_spec.specs.declared.Minor.TheVariants.{M15, M31}
 use Rattle.fuse_spec.specs.declared.Minor.{Minor}
 use Rattle.std.proofs.Common.{◌≡◌, ℕ, ◌+◌, ◌≤◌, Bool, true, false, cond, List, [], ◌∷◌, nat_eq, count_by, refl, ap, arith}

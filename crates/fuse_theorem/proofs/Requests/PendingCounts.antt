@@ -134,7 +134,7 @@ marked_fewer u v (e ∷ es) old m found kept = by (nat_eq v e.0) found (λ f. ma
         let less = rest f in
         omega (arith, was, now, less)
 
--- Numbers that were drawn before are pending no more often, and the coming number never falls.
+-- Numbers that were allocated before are pending no more often, and the coming number never falls.
 pub record Fewer (q r : QueueState Purpose) : Type 0 where
   pub rises : q.next ≤ r.next
   pub fewer : (u : ℕ) → u < q.next → pending_under u r ≤ pending_under u q

@@ -130,7 +130,7 @@ request_even q sound unique r under = by (nat_lt 0 (key_count unique q.requests)
     by true e = number_even q sound unique (grind (arith, nat_tests, e))
     by false e = absurd (cc (under, lookup-no_key unique q.requests (grind (arith, nat_tests, e))))
 
--- and was drawn
+-- and was allocated
 pub request_below : (q : QueueState Purpose) → IsSound q → (unique : ℕ) (r : QueuedRequest Purpose)
     → request_under q unique ≡ Some r → unique < q.next
 request_below q sound unique r under = by (nat_lt 0 (key_count unique q.requests)) refl

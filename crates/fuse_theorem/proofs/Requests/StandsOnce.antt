@@ -91,7 +91,7 @@ abbrev pub is_mount : Event → Bool
 is_mount (event.mount found_ms missing_ms minor) = true
 is_mount e = false
 
--- A bound on how often a number that is not performed stands, which leaves room for numbers that are not drawn yet.
+-- A bound on how often a number that is not performed occurs, which leaves room for numbers that are not allocated yet.
 abbrev pub AtMost : (ℕ → ℕ) → World → Type 0
 AtMost b w = (u : ℕ) → u % 2 ≡ 0 → unperformed w u ≤ b u
 

@@ -29,7 +29,7 @@ use Rattle.fuse_theorem.proofs.OpenFiles.OpensServable.{opens_fit, closing_fit, 
 use Rattle.fuse_theorem.proofs.Replies.RepliesFitStay.{no_wrong_body}
 use Rattle.fuse_theorem.proofs.Lists.Values.{All-found_values}
 
--- Nodes and open numbers together.
+-- Nodes and file handles together.
 servable : (s : Server) (body : RequestBody) → NodesServable s body → All (IsOfItsNode s) (opens_of_body body)
     → IsServable s body
 servable s body nodes opens = record { nodes = nodes; opens = opens }
