@@ -8,7 +8,7 @@ use crate::errors::{EAGAIN, end_of, is_read_again};
 use std::io::Read;
 
 /// Reads into the front of the room by one call, and says how many bytes came. One that the system asks to try again is
-/// tried again; where it gives up, EAGAIN says that the time is over for which the reader waits.
+/// tried again; where it times out, EAGAIN says that the time is over for which the reader waits.
 pub(crate) fn read_some<R: Read>(
     from: &mut R,
     room: &mut [u8],

@@ -146,7 +146,7 @@ impl<R: Read + Drop, W: Write + Drop> StreamDevice<R, W> {
         }
     }
 
-    /// The device of these, over which replies are received: a frame has 16 bytes or more. It gives up where no frame
+    /// The device of these, over which replies are received: a frame has 16 bytes or more. It times out where no frame
     /// comes in the time for which the reader waits, which it shows by EAGAIN.
     pub fn of_replies(reader: R, writer: W) -> Self
         ensures { (result.reader ≡ reader) × (result.writer ≡ writer) × (result.cut.least ≡ 16) }

@@ -45,7 +45,8 @@ pub record SaysTo (operation : Operation ℕ Opened) (bytes : List ℕ) (said : 
   pub goes : goes_with operation (decoded_wire_of said) ≡ true
   pub day : LastsADay said
 
--- Whether a body in a frame of so many bytes is no longer than was asked, nor says that more was written than was sent.
+-- Whether a body in a frame of this many bytes is no longer than was asked, nor says that more was written than was
+-- sent.
 abbrev pub is_within_request : Operation ℕ Opened → ℕ → ReplyContent → Bool
 is_within_request (readdir d after size) len content = nat_le (len - 16) size
 is_within_request (readdirplus d after size) len content = nat_le (len - 16) size

@@ -41,7 +41,7 @@ entry_in nodeid generation a = record { nodeid = nodeid; generation = generation
 abbrev pub no_entry : Entry
 no_entry = record { nodeid = 0; generation = 0; attributes = record { kind = Other; ino = 0; size = 0; nlink = 0 } }
 
--- the kind that a record tells, by its type: 4 is a directory, 8 a regular file
+-- the kind of a record, by its type: 4 is a directory, 8 a regular file
 abbrev pub kind_of_type : ℕ → Kind
 kind_of_type type = cond (nat_eq type 4) Directory (cond (nat_eq type 8) Regular Other)
 

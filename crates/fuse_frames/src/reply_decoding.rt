@@ -51,7 +51,7 @@ fn said_by_entry(entry: &fk_wire::Entry) -> DecodedReply<'static>
     Reply::Entry { file, valid_ms }
 }
 
-/// What an entry with an open number says.
+/// What an entry with a file handle says.
 fn said_by_create(entry: &fk_wire::Entry, fh: u64) -> DecodedReply<'static>
     ensures wire { wire_body (create_reply (entry_content entry.now) fh) ≡ decoded_wire_of result }
     ensures day { LastsADay result }
@@ -127,7 +127,8 @@ pub fn decode_reply<'a>(
     Some(decode_body(body))
 }
 
-/// Whether a body in a frame of so many bytes is no longer than was asked, nor says that more was written than was sent.
+/// Whether a body in a frame of this many bytes is no longer than was asked, nor says that more was written than was
+/// sent.
 #[inline(always)]
 fn is_within_asked(asked: &Operation<&[u8]>, len: usize, body: &ReplyBody<'_>) -> bool
     ensures { result ≡ is_within_request (operation_of (λ s. s.now) asked.now) len (reply_content body.now) }

@@ -82,7 +82,7 @@ impl<A: Allocator> ReplyBuffer<A> {
         self.said(unique, Opcode::Init, body)
     }
 
-    /// The answer to a LOOKUP that found nothing: the name is missing for so many milliseconds, at most a day.
+    /// The answer to a LOOKUP that found nothing: the name is missing for this many milliseconds, at most a day.
     pub fn missing(self, unique: u64, missing_ms: u64) -> ReplyFrame<A>
         requires { missing_ms ≤ max_validity }
         ensures { result ≡ record { unique = unique; wire = reply.missing missing_ms } }
@@ -91,7 +91,7 @@ impl<A: Allocator> ReplyBuffer<A> {
         self.said(unique, Opcode::Lookup, ReplyBody::Entry { entry })
     }
 
-    /// The answer to a LOOKUP, MKDIR or LINK: the name leads to this node for so many milliseconds, at most a day.
+    /// The answer to a LOOKUP, MKDIR or LINK: the name leads to this node for this many milliseconds, at most a day.
     pub fn found(self, unique: u64, entry: &Entry, found_ms: u64) -> ReplyFrame<A>
         requires node { entry.now.nodeid ≢ 0 }
         requires valid { found_ms ≤ max_validity }
@@ -127,8 +127,8 @@ impl<A: Allocator> ReplyBuffer<A> {
         self.said(unique, Opcode::Read, ReplyBody::Bytes { bytes })
     }
 
-    /// The answer to READDIR: the bytes of its records, for which there is room. They are written with zeros behind each
-    /// name, and their types are those of kinds (`type_of`).
+    /// The answer to READDIR: the bytes of its records, for which there is room. They are written with zeros behind
+    /// each name, and their types are those of kinds (`type_of`).
     pub fn listed(self, unique: u64, records: &[u8]) -> ReplyFrame<A>
         requires written { (ds : List DirentContent) × AreWritten ds records.now }
         requires room { 16 + length records.now ≤ self }
@@ -143,8 +143,8 @@ impl<A: Allocator> ReplyBuffer<A> {
     }
 
     /// The answer to READDIRPLUS: the records, for which there is room, each with the entry of its name's file, or with
-    /// one of node 0. Each name leads to its file for so many milliseconds, at most a day. The types are those of kinds
-    /// (`type_of`).
+    /// one of node 0. Each name leads to its file for this many milliseconds, at most a day. The types are those of
+    /// kinds (`type_of`).
     pub fn listed_plus(
         self,
         unique: u64,

@@ -14,7 +14,7 @@ use fw_script::write_record;
 use fw_world::{Answer, Event, Outcome, Record, Refusal, Tables};
 use std::io::Write;
 
-/// The stop at a refusal of a world beside: only want of memory is one.
+/// The stop where a world beside refuses, which is only where memory is out.
 fn stop_beside(_refusal: Refusal) -> Stop {
     Stop::NoMemory
 }

@@ -151,7 +151,7 @@ fn write_judged<W: Write>(out: &mut W, judged: &Judged<'_>, len: usize) -> io::R
     }
 }
 
-/// Counts the lookups that records with entries tell: none under `.` and `..`.
+/// Counts the lookups that records with entries give: none under `.` and `..`.
 fn count_pluses<A: Allocator + Copy>(
     conversation: &mut Conversation<A>,
     records: RecordsPlus<'_>,

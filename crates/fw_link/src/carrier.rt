@@ -33,7 +33,7 @@ fn get_piece<'a, L: Link>(
     Ok(&room[..count])
 }
 
-/// Gets so many bytes of what a side put into the cutter at the other end, through a room for as many as are got in
+/// Gets this many bytes of what a side put into the cutter at the other end, through a room for as many as are got in
 /// one call.
 ///
 /// # Errors

@@ -39,7 +39,7 @@ impl<A: Allocator + Copy> Channel<A> {
         Ok(Channel { held, got: 0 })
     }
 
-    /// Whether so many more bytes have room.
+    /// Whether this many more bytes have room.
     fn has_room(&self, count: usize) -> bool
         ensures { IsTrue result ↔ (length self.now + count ≤ 4185) }
     {
@@ -79,7 +79,7 @@ impl<A: Allocator + Copy> Channel<A> {
     }
 }
 
-/// Takes out the first so many bytes: the others move to the front. The room stays.
+/// Takes out this many of the first bytes: the others move to the front. The room stays.
 fn drop_front<A: Allocator>(held: &mut Vec<u8, A>, count: usize)
     requires { count ≤ vec_len held.old }
     ensures items { held.new.items ≡ drop count held.old.items }

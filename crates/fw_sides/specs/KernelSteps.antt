@@ -47,7 +47,7 @@ KernelDoes old (event.Evict node) (step.Evicted evicted_node count) new =
 KernelDoes old event.Abort step.Aborted new = (abort_refusal old ≡ None) × (new ≡ kernel_aborted old)
 KernelDoes old e s new = ⊥
 
--- Why an event is refused: as the definitions refuse it, or for want of memory, where it takes some.
+-- Why an event is refused: as the definitions refuse it, or as out of memory, where it takes some.
 abbrev pub KernelRefuses : Kernel → KernelEvent → Refusal → Type 0
 KernelRefuses old event.Mount refusal = refusal ≡ or_no_memory (mount_refusal old)
 KernelRefuses old (event.Call call) refusal = refusal ≡ or_no_memory (begin_refusal old (call_of call))

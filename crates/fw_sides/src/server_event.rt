@@ -97,7 +97,7 @@ fn take<S: NodeStore>(
 ///
 /// # Errors
 ///
-/// `BadTime` for a mount with a validity of more than a day, and else as the server's own calls refuse it: want of
+/// `BadTime` for a mount with a validity of more than a day, and else as the server's own calls refuse it: out of
 /// memory last. The server is then as before.
 pub fn step_server<S: NodeStore>(
     server: &mut ServerOf<S>,

@@ -340,7 +340,7 @@ module _ (w : World) (here : IsSoundWorld w) (place : ℕ) (sent : Sent) (found 
       inl (past_written w place sent found past)
   write_refused within r (no_memory none) last = write_out_of_memory within (last refl) NoMemory refl
 
-  -- Where there is no room for its result: what the kernel would refuse it for, or want of memory.
+  -- Where there is no room for its result: what the kernel would refuse it for, or out of memory.
   pub look_refused : is_past w ≡ false → (o : Option Refusal)
       → IfSome o (λ r. (r ≡ Exhausted) × WritePasses w.kernel bytes) → IfNone o (WritePasses w.kernel bytes → ⊥)
       → RefusedWith w (event.write place) (kernel.or_no_memory o)

@@ -57,13 +57,13 @@ use Rattle.fw_world.proofs.Counters.{kernel_low, server_low, count_low, past_by_
 use Rattle.fw_world.proofs.Happening.{mounts, calls, reads, reads_forgets, takes, performs, sends_again}
 use Rattle.fw_world.proofs.Interrupts.{reads_interrupt}
 
--- What an event that can happen is refused for is want of memory.
+-- An event that can happen is refused only as out of memory.
 pub out_of_memory : (w : World) (e : Event) (o : Outcome) (after : World) → takes_memory e ≡ true → Happens w e o after
     → (given : Refusal) → given ≡ refusal.NoMemory → RefusedWith w e given
 out_of_memory w e o after takes happens given is = inr
     (record { out_of_memory = is; takes = takes; last = λ other refused. not_both w e other refused o after happens })
 
--- A refusal that kernel or server gave, or else want of memory, where nothing is judged to refuse the event.
+-- A refusal that kernel or server gave, or else out of memory, where nothing is judged to refuse the event.
 pub judged : (w : World) (e : Event) (judged : Option Refusal) (given : Refusal)
     → ((r : Refusal) → judged ≡ Some r → IsRefused w e r)
     → (judged ≡ None → given ≡ refusal.NoMemory → RefusedWith w e given) → given ≡ kernel.or_no_memory judged
@@ -71,7 +71,7 @@ pub judged : (w : World) (e : Event) (judged : Option Refusal) (given : Refusal)
 judged w e None given refuses else is = else refl is
 judged w e (Some r) given refuses else is = inl (subst (IsRefused w e) (sym is) (refuses r refl))
 
--- What the server judges, or else want of memory.
+-- What the server judges, or else out of memory.
 module _ (w : World) (e : Event) (Refuses : Refusal → Type 0) (Can : Type 0)
     (refused : (r : Refusal) → Refuses r → IsRefused w e r)
     (can_happen : Can → (given : Refusal) → given ≡ refusal.NoMemory → RefusedWith w e given) where
@@ -308,7 +308,7 @@ taken_server w place request = by (taking w.server request.unique request.body).
     by None = refl
     by (Some wire) = refl
 
--- Where nothing but want of memory can refuse the frame of the request at this place.
+-- Where nothing but out of memory can refuse the frame of the request at this place.
 pub take_out_of_memory : (w : World) → is_past w ≡ false → (place : ℕ) (request : Request) (bytes : List ℕ)
     → slice_get w.requests place ≡ Some request → IsRequestFrame bytes request → CanTake w.server bytes
     → (given : Refusal) → given ≡ refusal.NoMemory
@@ -324,8 +324,7 @@ take_out_of_memory w within place request bytes there frame can given is =
     (takes w place request there (past_of w within took.server low after (taken_kernel w place request)
     (taken_server w place request))) given is
 
--- A request on the link has no fault; so it is refused for want of a number, or of memory where nothing else refuses
--- it.
+-- A request on the link has no fault; so it is refused as out of numbers, or of memory where nothing else refuses it.
 pub take_refused : (w : World) → is_past w ≡ false → IsSoundWorld w
     → (place : ℕ) (request : Request) (bytes : List ℕ) (fault : ServerFault)
     → slice_get w.requests place ≡ Some request → IsRequestFrame bytes request → RefusesFrame w.server bytes fault
