@@ -127,7 +127,7 @@ module _ {V : Type 0} (calls : Map V) (opens closing : Map Opened) (coming : ℕ
     ];
   }
 
-  -- a closed file is let go
+  -- a closed file is released
   pub released_files : (open_call : ℕ) → AreFiles calls opens (remove closing open_call) coming
   released_files open_call = record {
     opens_below = old.opens_below;

@@ -1,4 +1,4 @@
-//! Open files: how they are closed and let go, and what uses them.
+//! Open files: how they are closed and released, and what uses them.
 
 ghost use Rattle.std.specs.Prelude.{◌≡◌, ◌<◌, None, Some, true, false, is_some, length, OnOk, OnErr, IfOk, IfErr};
 ghost use Rattle.fuse_spec.specs.Calls.Calls as call;
@@ -128,7 +128,7 @@ impl<Q: QueueTable<Purpose> + Drop, C: CountTable<Heap = Q::Heap> + Drop> Kernel
         let _unique = self.queues.enqueue(Purpose::Release(opened));
     }
 
-    /// The call's request ends, and the call is answered. A closed file that it read or wrote is let go. Takes no
+    /// The call's request ends, and the call is answered. A closed file that it read or wrote is released. Takes no
     /// memory.
     #[inline(always)]
     pub(crate) fn end_call(&mut self, unique: u64, call: u64, answer: Answer<Q::Heap>)
@@ -145,7 +145,7 @@ impl<Q: QueueTable<Purpose> + Drop, C: CountTable<Heap = Q::Heap> + Drop> Kernel
         self.finish_use(call, answer);
     }
 
-    /// The call, whose request is gone, is answered. A closed file that it read or wrote is let go. Takes no memory.
+    /// The call, whose request is gone, is answered. A closed file that it read or wrote is released. Takes no memory.
     #[inline(always)]
     pub(crate) fn finish_use(&mut self, call: u64, answer: Answer<Q::Heap>)
         requires unanswered { is_some (get self.old.vfs.calls call) ≡ true }

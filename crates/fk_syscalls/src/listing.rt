@@ -7,7 +7,7 @@ use fuse_spec::Kind;
 use std::alloc::{AllocError, Allocator, Global};
 use std::marker::Model;
 
-/// A name that a directory lists, with the offset from which to read on. Its bytes are lent.
+/// A name that a directory lists, with the offset from which to read on. Its bytes are borrowed.
 #[derive(Clone, Copy, Debug)]
 pub struct ListedName<'a> {
     pub ino: u64,
@@ -93,7 +93,7 @@ impl<A: Allocator> Listing<A> {
         Ok(())
     }
 
-    /// The names, in their order. They are lent, and no memory is taken.
+    /// The names, in their order. They are borrowed, and no memory is taken.
     pub fn iter(&self) -> ListedNames<'_>
         ensures { names_left_in result ≡ self.now }
     {

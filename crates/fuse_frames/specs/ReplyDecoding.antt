@@ -19,7 +19,7 @@ use Rattle.fuse_frames.specs.declared.reply.Reply.{Reply}
 use Rattle.fuse_frames.specs.declared.reply.Reply.TheVariants as said
 use Rattle.fuse_frames.specs.DecodedReplies.{Says}
 
--- What a reply says, lent from its frame.
+-- What a reply says, borrowed from its frame.
 abbrev pub LentReply : Type 0
 LentReply = Reply Entry Records RecordsPlus (Bor (List ℕ))
 

@@ -36,7 +36,7 @@ body_in nodeid (wire.create name) = Some (asks (operation.create nodeid name))
 body_in nodeid (wire.interrupt unique) = Some (interrupt unique)
 body_in nodeid (wire.batch_forget forgets) = Some (batch_forget forgets)
 
--- The body of the request that asks an operation, whose names and bytes are lent.
+-- The body of the request that asks an operation, whose names and bytes are borrowed.
 abbrev pub body_asking : Asked (Bor (List ℕ)) → RequestBody
 body_asking operation = asks (operation_of (λ s. s.now) operation)
 

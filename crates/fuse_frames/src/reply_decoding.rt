@@ -19,7 +19,7 @@ use crate::reply_body::{attributes_of, entry_named, milliseconds};
 use fk_wire::{Opcode, Records, RecordsPlus, ReplyBody, ReplyHead, read_reply_body};
 use fuse_spec::{Attributes, Entry, Kind, Operation};
 
-/// What a reply says, lent from its frame.
+/// What a reply says, borrowed from its frame.
 pub type DecodedReply<'a> = Reply<Entry, Records<'a>, RecordsPlus<'a>, &'a [u8]>;
 
 /// No file, where an entry names none.

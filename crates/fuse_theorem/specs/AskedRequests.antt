@@ -47,12 +47,12 @@ pub record HeldAsked (k : Kernel) (unique : ℕ) (t : HeldRequest) : Type 0 wher
   pub is_asked : IsAsked k unique t.body
   pub interrupted : t.marked ≡ true → IsInterrupted k unique
 
--- Only requests of calls bear signals.
+-- Only requests of calls have signals.
 abbrev pub SignalsReachCalls : QueueState Purpose → Type 0
 SignalsReachCalls q = All (λ (e : ℕ × QueuedRequest Purpose). is_signalled e.1.mark ≡ true
     → serves_call e.1.kept ≡ true) q.requests
 
--- INIT bears the first number of a mount, and nothing else does.
+-- INIT has the first number of a mount, and nothing else does.
 abbrev pub BearsFirst : ℕ → Purpose → Type 0
 BearsFirst unique purpose.Init = unique ≡ 2
 BearsFirst unique (purpose.Release o) = unique ≢ 2

@@ -136,8 +136,8 @@ pub record HoldsAll (w : World) (t : NodeTable) : Type 0 where
       → EntriesAreHeld t k.wire
   pub copies : All (λ (s : Sent). request_under w.kernel.queues s.unique ≢ None → EntriesAreHeld t s.wire) w.replies
 
--- An INTERRUPT on the link bears its original's number and one. The original stands nowhere else while it is held, and
--- a signal was noted on its ask.
+-- An INTERRUPT on the link has its original's number and one. The original stands nowhere else while it is held, and a
+-- signal was noted on its ask.
 pub record IsInterrupt (w : World) (p : Plain) (k : ℕ) (r : Request) (original : ℕ) : Type 0 where
   pub there : slice_get w.requests k ≡ Some r
   pub body_is : r.body ≡ interrupt original

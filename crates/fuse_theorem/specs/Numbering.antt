@@ -33,6 +33,6 @@ pub record IsNumberedWhileLive (w : World) : Type 0 where
   pub live : is_live w.kernel.phase ≡ true → IsNumbered w
   pub idle : is_live w.kernel.phase ≡ false → w.kernel.queues ≡ empty_queues
 
--- No two nodes mean the same file, and no node means two.
+-- No two nodes denote the same file, and no node denotes two.
 abbrev pub IsOneToOne : (ℕ → ℕ → Type 0) → Type 0
 IsOneToOne R = (a b c d : ℕ) → R a c → R b d → (a ≡ b → c ≡ d) × (c ≡ d → a ≡ b)

@@ -124,7 +124,7 @@ pub fn kept_replies_stay_sent()
         → Happens w e o after → KeptAreSent after }
 {}
 
-/// After a mount, and after an abort, no node means anything but the root.
+/// After a mount, and after an abort, no node denotes anything but the root.
 pub fn root_alone()
     ensures { (w : World) (id file : ℕ) → ((found_ms missing_ms : ℕ) (minor : Minor)
         → NodeDenotesIn (after_mount w found_ms missing_ms minor) id file → (id ≡ 1) × (file ≡ 0))

@@ -42,7 +42,7 @@ ghost use Rattle.fuse_theorem.specs.RepliesFit.{RepliesFitWhileLive};
 ghost use Rattle.fuse_theorem.specs.WorldSound.{WorldSound};
 
 /// What is on the request link or held is what the kernel asks, under the same number, while the mount is live and
-/// whatever the event; what bears an INTERRUPT was signalled. So no request on the link names a node that is evicted.
+/// whatever the event; what has an INTERRUPT was signalled. So no request on the link names a node that is evicted.
 pub fn requests_stay_asked()
     ensures at_first { RequestsAskedWhileLive first_world }
     ensures always { (w : World) → WorldSound w → RequestsAskedWhileLive w → (e : Event) (o : Outcome) (after : World)
@@ -53,7 +53,7 @@ pub fn requests_stay_asked()
 {}
 
 /// While no mount is live, the links are empty, whatever the event; a live one has INIT answered with the minor that
-/// the server speaks, so that it stays live until it is aborted. An INTERRUPT that is taken bears its original's number
+/// the server speaks, so that it stays live until it is aborted. An INTERRUPT that is taken has its original's number
 /// and one, and a signal was noted on its ask.
 pub fn links_stay_sound()
     ensures at_first { LinksSound first_world }
@@ -76,8 +76,8 @@ pub fn asks_stay_served()
         → Alike w p → (choice : ℕ → ℕ) (k : ℕ) → Needs choice w p (event.write k) }
 {}
 
-/// The kernel knows each node that an unanswered call stands on or names, that an open file is of, or that a name in
-/// force stands in or leads to, whatever the event: it counts it, or it is the root.
+/// The kernel knows each node that an unanswered call stands on or names, that an open file is of, or that a cached
+/// name stands in or leads to, whatever the event: it counts it, or it is the root.
 pub fn nodes_stay_known()
     ensures at_first { NodesKnown first_world.kernel }
     ensures always { (w : World) → WorldSound w → NodesKnown w.kernel → (e : Event) (o : Outcome) (after : World)
@@ -203,7 +203,7 @@ pub fn nodes_stay_held()
 
 /// Each forget is of a node from 2 up and of one lookup at least, and each request asks what the minor of the mount
 /// knows, whatever the event. So no request on the link has an opcode that the server doesn't know, names a node that
-/// is gone, gives back more lookups than the server counts, or bears a number that is held or whose reply is kept.
+/// is gone, gives back more lookups than the server counts, or has a number that is held or whose reply is kept.
 pub fn requests_have_no_fault()
     ensures at_first { Faultless first_world }
     ensures always { (w : World) → WorldSound w → RequestsAskedWhileLive w → LinksSound w → Faultless w

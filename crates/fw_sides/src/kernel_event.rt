@@ -10,7 +10,7 @@ use fuse_frames::RequestFrame;
 use fuse_spec::{IntrEffect, Purpose, Refusal, WriteResult};
 use std::alloc::{Allocator, Global};
 
-/// One event of a kernel whose server is another program. Paths, names and bytes are lent.
+/// One event of a kernel whose server is another program. Paths, names and bytes are borrowed.
 #[derive(Clone, Copy, Debug)]
 pub enum KernelEvent<'a> {
     /// The kernel mounts, and queues INIT.

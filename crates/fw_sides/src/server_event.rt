@@ -9,7 +9,7 @@ use fuse_spec::limits::MAX_VALIDITY;
 use fuse_spec::{Minor, Refusal, WriteResult};
 use std::alloc::{Allocator, Global};
 
-/// One event of a server whose kernel is another program. Bytes are lent.
+/// One event of a server whose kernel is another program. Bytes are borrowed.
 #[derive(Clone, Copy, Debug)]
 pub enum ServerEvent<'a> {
     /// A kernel mounts the server, which speaks this minor, with these validities of found and of missing names, in

@@ -4,7 +4,7 @@ use fk_kernel::{Call, Pick};
 use fk_wire::Opcode;
 use fuse_spec::{IntrEffect, Minor, Taken, WriteResult};
 
-/// One event: an atomic step of the world. Paths are lent.
+/// One event: an atomic step of the world. Paths are borrowed.
 #[derive(Clone, Copy, Debug)]
 pub enum Event<'a> {
     /// The kernel mounts, and the server, which speaks this minor, with these validities of found and of missing names,

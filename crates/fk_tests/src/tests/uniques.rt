@@ -3,7 +3,7 @@
 use fk_unique::{Uniques, interrupt_of, original_of};
 use std::test::Fail;
 
-/// Whether the first numbers of a mount are drawn.
+/// Whether the first numbers of a mount are allocated.
 fn allocates(uniques: &mut Uniques) -> bool {
     uniques.numbers_left() == 0x1fff_ffff_ffff_ffff
         && uniques.next() == Some(2)

@@ -58,7 +58,7 @@ pub record AskedBy (asks : Map Ask) (unique : ℕ) (signalled marked : Bool)
   pub same : SameDeed ask.operation
 
 -- Only the request of a call has an ask, under its unique, of the same operation on the files that R and S say its
--- nodes and open files mean.
+-- nodes and open files denote.
 abbrev pub RequestBodyAsked : Map Ask → (unique : ℕ) → (signalled marked : Bool) → (ℕ → ℕ → Type 0)
     → (Opened → ℕ → Type 0) → RequestBody → Type 0
 RequestBodyAsked all unique signalled marked R S (asks operation) =

@@ -38,7 +38,7 @@ has_interrupt Flagged = false
 has_interrupt Read = false
 has_interrupt Interrupted = true
 
--- Whether a request bears a signal to its call: it is flagged, or its INTERRUPT was due. (fuse.rst)
+-- Whether a request has a signal to its call: it is flagged, or its INTERRUPT was due. (fuse.rst)
 abbrev pub is_signalled : Mark → Bool
 is_signalled Unread = false
 is_signalled Flagged = true
@@ -61,7 +61,7 @@ request_under s unique = lookup (nat_eq unique) s.requests
 abbrev pub mark_under : {W : Type 0} → QueueState W → ℕ → Option Mark
 mark_under s unique = option_map (λ r. r.mark) (request_under s unique)
 
--- Whether the request under a number was read, is unanswered, and bears a signal, so that its INTERRUPT was due.
+-- Whether the request under a number was read, is unanswered, and has a signal, so that its INTERRUPT was due.
 -- (fuse.rst)
 abbrev pub is_interrupted : {W : Type 0} → QueueState W → ℕ → Bool
 is_interrupted s unique = option_map_or has_interrupt (mark_under s unique) false

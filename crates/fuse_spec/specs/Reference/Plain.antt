@@ -52,7 +52,7 @@ ask_put p label call (Some operation) = record p {
 abbrev pub going_on : Plain → (label call : ℕ) → Advance ℕ → Plain
 going_on p label call went = ask_put (record p { vfs = went.vfs }) label call went.operation
 
--- A call begins. What it asks bears this label.
+-- A call begins. What it asks has this label.
 abbrev pub plain_call_begun : Plain → (label : ℕ) → Call → Plain
 plain_call_begun p label call = going_on p label p.vfs.next_call (begun p.aborted p.vfs call)
 
@@ -72,7 +72,7 @@ ask_performed p label ask =
 abbrev pub ask_declined : Plain → (label : ℕ) → Ask → Plain
 ask_declined p label ask = record p { asks = put p.asks label (record ask { stage = declined }) }
 
--- A performed ask goes, and its reply reaches its call, which stands here. What the call asks next bears the label
+-- A performed ask goes, and its reply reaches its call, which stands here. What the call asks next has the label
 -- `next`.
 abbrev pub ask_delivered : Plain → (label next : ℕ) → Ask → Reply ℕ ℕ → CallState ℕ → Plain
 ask_delivered p label next ask reply state = going_on (record p { asks = remove p.asks label }) next ask.call

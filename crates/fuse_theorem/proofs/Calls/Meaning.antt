@@ -1,4 +1,4 @@
--- Operations that are alike stay alike where what their files mean is said in another way.
+-- Operations that are alike stay alike where what their nodes denote is said in another way.
 use Rattle.std.proofs.Common.{◌≡◌, ℕ, zero, suc, List, [], ◌∷◌, ◌++◌, Option, Some, None, map, refl, ap, subst, ◌∙◌, arith}
 use Rattle.std.specs.Prelude.{Contains, option_to_list}
 use Rattle.fuse_spec.specs.Files.Operations.{Operation, lookup, getattr, mkdir, create, unlink, rmdir, rename, link, opening, readdir, readdirplus, read, write, files_in, opened_nodes, OptionAlike, OperationAlike}
@@ -99,7 +99,7 @@ module _ (nodes : Map Counted) (t : NodeTable) (h : HandleTable) (ids : List ℕ
   abbrev pub generations_of : List (ℕ × ℕ)
   generations_of = map (λ id. (id, generation_in (row_of t id))) ids
 
-  -- What the kernel's node means is what it meant when the request that names it was taken.
+  -- What the kernel's node denotes is what it denoted when the request that names it was taken.
   pub means_meant : (id file : ℕ) → Contains ids id → NodeDenotes nodes t id file → StillDenotes t generations_of id file
   means_meant id file among means =
       let same : generation_in (row_of t id) ≡ means.generation =

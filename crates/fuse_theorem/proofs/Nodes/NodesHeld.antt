@@ -36,7 +36,7 @@ use Rattle.fuse_theorem.proofs.Nodes.NodesKnown.{All-more, known_some}
 use Rattle.fuse_theorem.proofs.Lists.Values.{All-get}
 
 module _ (w : World) (p : Plain) (both : BothSound w p) (releases : ReleasesKnown w) where
-  -- What the kernel knows means some file.
+  -- What the kernel knows denotes some file.
   pub known_meant : (id : ℕ) → IsKnown w.kernel.nodes id → NodeDenotesSome w id
   known_meant id known =
       let some = known_some w.kernel.nodes id known in

@@ -112,7 +112,7 @@ module _ (w : World) (files : All (IsOfItsNode w.server) (open_files w)) where
 
 -- ---- an open file of a node that means a file
 
--- It means that file.
+-- It denotes that file.
 pub open_meant : (w : World) (o : Opened) → NodeDenotesSome w o.nodeid → IsOfItsNode w.server o → OpenDenotesSome w o
 open_meant w o meant fits =
     let means = meant.1 in

@@ -25,7 +25,7 @@ module _ (w : World) (p : Plain) (root : w.kernel.vfs.root ≡ 1) (sorted : T (i
   roots : NodeDenotesIn (after_abort w) w.kernel.vfs.root p.vfs.root
   roots = root_means w.kernel.nodes [] w.server.nodes w.server.nodes w.kernel.vfs.root p.vfs.root root same.vfs.roots
 
-  -- What the server holds stays asked, as its tables alone say what that means.
+  -- What the server holds stays asked, as its tables alone say what that denotes.
   pub aborted_alike : Alike (after_abort w) (plain_aborted p)
   aborted_alike = record {
     tree = record {

@@ -43,7 +43,7 @@ module _ (w : World) (p : Plain) (one : IsOneToOne (NodeDenotesIn w)) (same : Al
     aborted = same.aborted;
   }
 
-  -- The name of the file that the node means is dropped.
+  -- The name of the file that the node denotes is dropped.
   pub drop_goes : (directory : ℕ) (name : Name) (bound : Dentry)
       → get_name w.kernel.vfs.names (directory, name) ≡ Some bound
       → (q : Plain) × Takes p (event.drop_name directory name) event.dropped q × Alike (after_drop w directory name) q

@@ -56,7 +56,7 @@ same_answers R answer calls calls' answers sorted alike =
     (λ call. answer_of answer calls answers call ∙ ap (λ (b : Bool). cond b (Some answer) (get answers call))
     (both_there R (get calls call) (get calls' call) (alike call)) ∙ sym (answer_of answer calls' answers call))
 
--- Whatever the files' names mean then, as long as the roots are alike.
+-- Whatever the nodes denote then, as long as the roots are alike.
 pub abandoned_alike : {O P : Type 0} (R R' : ℕ → ℕ → Type 0) (S S' : O → P → Type 0) (c : Vfs O) (d : Vfs P)
     → VfsAlike R S c d → T (is_sorted nat_cmp c.answers) → R' c.root d.root → VfsAlike R' S' (abandoned c) (abandoned d)
 abandoned_alike R R' S S' c d same sorted roots = record {
@@ -72,7 +72,7 @@ abandoned_alike R R' S S' c d same sorted roots = record {
   roots = roots;
 }
 
--- What node 1 means is not a matter of the tables.
+-- What node 1 denotes is not a matter of the tables.
 pub root_means : (nodes nodes' : Map Counted) (t t' : NodeTable) (id file : ℕ) → id ≡ 1 → NodeDenotes nodes t id file
     → NodeDenotes nodes' t' id file
 root_means nodes nodes' t t' id file is means = subst (λ (n : ℕ). NodeDenotes nodes' t' n file) (sym is)

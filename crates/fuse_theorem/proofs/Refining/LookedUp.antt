@@ -20,7 +20,7 @@ use Rattle.fuse_theorem.specs.Conditions.{OneId, OpensItsFile, IsUsable}
 use Rattle.fuse_theorem.proofs.Calls.Finding.{other_is}
 use Rattle.fuse_theorem.proofs.Refining.LookupsCounted.{denotes_one}
 
--- Where no two nodes have the same file, no two that the kernel knows mean the same.
+-- Where no two nodes have the same file, no two that the kernel knows denote the same.
 pub one_to_one : (nodes : Map Counted) (t : NodeTable) → OneId t → IsOneToOne (NodeDenotes nodes t)
 one_to_one nodes t one a b c d r s = (
   λ e.

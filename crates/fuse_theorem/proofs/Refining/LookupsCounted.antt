@@ -132,7 +132,7 @@ opened_open h file' none fh file o = elim (cases_eq fh h.next_fh) [
   | inr ne ↦ ap (is_file_of file) (get_put_there h.handles h.next_fh (record { file = file'; count = 1 }) fh ne) ∙ o
 ]
 
--- Where the server holds what the kernel knows, no more is meant as the server's table grows.
+-- Where the server holds what the kernel knows, no more is denoted as the server's table grows.
 pub one_grown : (nodes : Map Counted) (t t' : NodeTable)
     → ((id generation : ℕ) → generation_known nodes id ≡ Some generation → (file : ℕ) × Denotes t id generation file)
     → ((id generation file : ℕ) → Denotes t id generation file → Denotes t' id generation file)

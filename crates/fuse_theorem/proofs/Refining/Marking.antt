@@ -194,7 +194,7 @@ module _ (w : World) (p : Plain) (same : Alike w p) (k : ℕ) (r : Request) (ori
   one_before : r.unique - 1 ≡ original
   one_before = let number = is.number in omega (arith, number)
 
-  -- none on the link bears the original's number, and none that is left
+  -- none on the link has the original's number, and none that is left
   unsent : count_by (λ (x : Request). nat_eq original x.unique) w.requests ≡ 0
       → count_by (λ (x : Request). nat_eq original x.unique) left.requests ≡ 0
   unsent none =

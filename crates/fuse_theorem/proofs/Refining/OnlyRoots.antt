@@ -1,4 +1,4 @@
--- Where the tree is the root alone, the root's node means the root, and nothing else means anything.
+-- Where the tree is the root alone, the root's node denotes the root, and nothing else denotes anything.
 use Rattle.std.proofs.Common.{◌≡◌, ℕ, Bool, cond, [], Some, None, option_map, ap, sym, subst, ◌∙◌, inl, inr}
 use Rattle.std.proofs.lemmas.Bool.{cases_eq}
 use Rattle.fuse_spec.specs.declared.Counted.{Counted}

@@ -37,7 +37,7 @@ same_body k q purpose.Init = refl
 same_body k q (purpose.Release o) = refl
 same_body k q (purpose.Call call) = refl
 
--- an ask of a request that bears a signal is one of a request that bears none
+-- an ask of a request that has a signal is one of a request that has none
 pub asked_unsignalled : (R : ℕ → ℕ → Type 0) (S : Opened → ℕ → Type 0) (all : Map Ask) (unique : ℕ) (signalled : Bool)
     (body : RequestBody)
     → RequestBodyAsked all unique signalled false R S body → RequestBodyAsked all unique false false R S body
@@ -57,7 +57,7 @@ asked_unsignalled R S all unique signalled (batch_forget fs) h = h
 asked_unsignalled R S all unique signalled (interrupt original) h = h
 
 -- What keeps all alike as the queues change: each pending request is asked as it was, each call has the same request,
--- and none that bears a signal has an ask on which none is noted.
+-- and none that has a signal has an ask on which none is noted.
 pub record QueuesKept (w : World) (p : Plain) (q : QueueState Purpose) : Type 0 where
   pub pending : All (PurposeAsked w p) (pending q)
   pub same_request : (call : ℕ) → request_of (record w.kernel { queues = q }) call ≡ request_of w.kernel call
@@ -128,7 +128,7 @@ find_marked call u (e ∷ es) m = by (nat_eq u e.0) (is_for call e.1.kept) refl 
     by false true h rest = rw h refl
     by false false h rest = rw h rest
 
--- a mark that bears no signal bears none on any request, but what bore one
+-- a mark that has no signal has none on any request, but what had one
 module _ (s : QueueState Purpose) (u : ℕ) (old m : Mark)
     (marked : option_map (λ (r : QueuedRequest Purpose). r.mark) (request_under s u) ≡ Some old) where
   pub signal_before : (v : ℕ) (request : QueuedRequest Purpose) → request_under (with_mark s u m) v ≡ Some request

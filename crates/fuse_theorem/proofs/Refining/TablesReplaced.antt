@@ -1,4 +1,4 @@
--- The tables of nodes change, and what was meant by them is meant still: all stays alike.
+-- The tables of nodes change, and what was denoted by them is denoted still: all stays alike.
 use Rattle.fuse_theorem.proofs.Refining.Pairs.{pairs_more}
 use Rattle.std.proofs.Common.{◌≡◌, ℕ, Bool, true, false, List, [], Option, Some, None, get_or, refl, subst, All}
 use Rattle.std.specs.Prelude.{Contains}
@@ -146,7 +146,7 @@ body_more R R' S S' all unique signalled marked (forget x) f k h = h
 body_more R R' S S' all unique signalled marked (batch_forget fs) f k h = h
 body_more R R' S S' all unique signalled marked (interrupt original) f k h = h
 
--- What the tables become, and what is still meant by them.
+-- What the tables become, and what is still denoted by them.
 pub record Carries (w : World) (p : Plain) (nodes : Map Counted) (t : NodeTable) (h : HandleTable) : Type 0 where
   pub means : (id file : ℕ) → NodeDenotesIn w id file → NodeDenotes nodes t id file
   pub opens : (o : Opened) (file : ℕ) → OpenDenotesIn w o file → OpenDenotes nodes t h o file
@@ -221,7 +221,7 @@ replaced_tables_refine w p same nodes t h tree tree' carries trees = record {
   aborted = same.aborted;
 }
 
--- Where nothing that was denoted or open is lost, and the kernel knows no less, all is meant still.
+-- Where nothing that was denoted or open is lost, and the kernel knows no less, all is denoted still.
 pub grown : (w : World) (p : Plain) (nodes : Map Counted) (t : NodeTable) (h : HandleTable)
     → ((id generation : ℕ) → generation_known w.kernel.nodes id ≡ Some generation
     → generation_known nodes id ≡ Some generation)

@@ -1,4 +1,4 @@
--- The tables of nodes change, and nothing that is in use loses its meaning: all stays alike, though some nodes mean
+-- The tables of nodes change, and what is in use denotes its file still: all stays alike, though some nodes denote
 -- nothing any more.
 use Rattle.std.proofs.Common.{◌≡◌, ◌≢◌, ℕ, Bool, true, false, List, Option, Some, None, get_or, refl, All}
 use Rattle.std.specs.Prelude.{Contains, MatchOption}

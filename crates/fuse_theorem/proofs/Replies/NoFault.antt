@@ -95,7 +95,7 @@ module _ (w : World) (p : Plain) (both : BothSound w p) (releases : ReleasesKnow
       let unanswered = sound.unanswered r.unique even (omega (arith, one)) in
       rw (held, unanswered.kept) refl
 
-  -- no request and no kept reply bears an odd number
+  -- no request and no kept reply has an odd number
   odd_new : r.unique % 2 ≡ 1 → (is_some (get w.server.held r.unique) || is_some (get w.server.kept r.unique)) ≡ false
   odd_new odd = by (get w.server.held r.unique) refl (get w.server.kept r.unique) refl
     where

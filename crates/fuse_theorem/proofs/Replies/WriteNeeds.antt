@@ -77,7 +77,7 @@ failed_alike t h errno wire reply is told = by wire reply is (same_reply (Names 
     by _ _ e same_done = absurd (cc (e))
     by _ _ e (same_failed x0 y0 q) = let same : x0 ≡ errno = cc (e) in ap failed (sym q ∙ same)
 
--- A request whose INTERRUPT was due bears a signal.
+-- A request whose INTERRUPT was due has a signal.
 interrupt_signals : (m : Mark) → has_interrupt m ≡ true → is_signalled m ≡ true
 interrupt_signals mark.Unread e = absurd (true≢false (sym e))
 interrupt_signals mark.Flagged e = refl

@@ -40,7 +40,7 @@ use Rattle.fuse_theorem.proofs.Requests.StandsOnce.{is_mount, one_held, bounded_
 
 -- ---- the numbers on the request link
 
--- what the kernel asks bears an even number
+-- what the kernel asks has an even number
 asked_even : (k : Kernel) (kept : Purpose) (body : RequestBody) (unique : ℕ) → body_of k kept ≡ Some body
     → unique % 2 ≡ 0 → BearsNumber unique body
 asked_even k purpose.Init body unique says even = let is : init init_flags ≡ body =

@@ -207,7 +207,7 @@ module _ (b : ℕ → ℕ) (w : World) (room : HasRoom b w) (once : AtMost b w) 
       let other = ap one_if (other_is u (interrupt_number original) (λ e. absurd (omega (arith, e, even)))) in
       omega (arith, old, pushed, other)
 
-  -- Forgets are read: they bear the coming number.
+  -- Forgets are read: they have the coming number.
   forgets_once : is_live w.kernel.phase ≡ true → (n : ℕ) (fs : List Forget)
       → queues.can_read_forgets w.kernel.queues n ≡ true → AtMost b (world_after_read_forgets w n fs)
   forgets_once live n fs can u even = by (queues.can_read_forgets w.kernel.queues n) can
