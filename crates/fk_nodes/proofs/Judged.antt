@@ -12,7 +12,7 @@ use Rattle.fuse_spec.specs.Kernel.Replies.{Use, usable, unusable, stale, use_cou
 use Rattle.fuse_spec.proofs.Tables.{get_put_here, get_put_there}
 use Rattle.fk_nodes.specs.LookedUp.{looked_up_by_use, looked_up_listed, looked_up_from, judged_in, stale_by}
 
--- ---- what a judged name tells
+-- ---- the file of a judged name
 
 abbrev kept_by : Use → Option Entry → Option Entry
 kept_by usable o = o

@@ -72,7 +72,7 @@ pub more_each : (P Q : HeldNode → Type 0) (t : NodeTable) (id : ℕ) → ((row
     → Each Q (row_more t id).rows
 more_each P Q t id still more old = more_rows_each P Q t.rows id still more old
 
--- ---- open numbers
+-- ---- file handles
 
 pub opened_each : (P Q : FileHandle → Type 0) (t : HandleTable) (file : ℕ) → ((h : FileHandle) → P h → Q h)
     → Q (record { file = file; count = 1 }) → Each P t.handles → Each Q (handle_opened t file).handles

@@ -57,7 +57,7 @@ none_allocated tree reply needs files opens is = subst (AllocatesNumbers tree tr
       opens = ap (λ (os : List ℕ). length os) opens;
     })
 
--- ---- operations, under an open number of their file or not
+-- ---- operations, under a file handle of their file or not
 
 module _ (s : Server) (o : Operation ℕ Opened) where
   abbrev on_tree : FileOperation

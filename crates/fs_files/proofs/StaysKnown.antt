@@ -28,7 +28,7 @@ use Rattle.fs_files.specs.declared.replies.Outcome.{Outcome}
 use Rattle.fs_files.proofs.DiscardingUnheld.{unheld, unopened}
 use Rattle.fs_files.proofs.Bounds.{back_each, given_each, more_each, number_more_each, opened_each, row_back_each, taken_each}
 
--- ---- nodes and open numbers
+-- ---- nodes and file handles
 
 -- where no file has a node and none a file handle
 pub nothing_known : (tree : Tree) (nodes : NodeTable) (handles : HandleTable) → nodes.rows ≡ [] → handles.handles ≡ []

@@ -125,7 +125,7 @@ module _ (t : NodeTable) (sorted : T (is_sorted nat_cmp t.rows)) where
       by None = sorted
       by (Some row) = of_row row (nat_lt n row.count)
 
--- ---- open numbers
+-- ---- file handles
 
 abbrev number_file : FileHandle → ℕ
 number_file h = h.file

@@ -42,7 +42,7 @@ delivering_reply p label next ask (performed reply) = delivering_to_call p label
 delivering_reply p label next ask declined = where_so (ask.noted && is_some (get p.vfs.calls ask.call))
     (ask_interrupted p label ask)
 
--- A reply that is accepted is delivered to the call of its ask, and one under a label that no ask has takes no step.
+-- A reply that is accepted is delivered to the call of its ask, and one under a label of no ask takes no step.
 abbrev pub delivering : Plain → (label next : ℕ) → Option Ask → Option Plain
 delivering p label next None = Some p
 delivering p label next (Some ask) = delivering_reply p label next ask ask.stage

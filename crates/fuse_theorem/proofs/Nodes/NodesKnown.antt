@@ -208,7 +208,7 @@ write_known k old root unique wire = by (nat_eq (unique % 2) 1)
     by true = odd (waiting k.queues (unique - 1))
     by false = even (waiting k.queues unique)
 
--- ---- a node is given up
+-- ---- a node is evicted
 
 -- Another node is known still.
 pub still_known : (nodes : Map Counted) (node id : ℕ) → id ≢ node → IsKnown nodes id → IsKnown (remove nodes node) id

@@ -204,7 +204,7 @@ wire_opened choice t tree h none (agreed a b flags) fh = omega arith
 wire_opened choice t tree h none done fh = omega arith
 wire_opened choice t tree h none (failed e) fh = omega arith
 
--- ---- the files of open numbers
+-- ---- the files of file handles
 
 -- A number that is there still is of the same file.
 abbrev pub SameFiles : HandleTable → HandleTable → Type 0

@@ -42,7 +42,7 @@ module _ {F G : Type 0} (f : F → G) where
   files_with g done = refl
   files_with g (failed e) = refl
 
--- ---- names that tell the same files
+-- ---- names with the same files
 
 module _ {X : Type 0} where
   first_in : (x : X) (xs : List X) → Contains (x ∷ xs) x

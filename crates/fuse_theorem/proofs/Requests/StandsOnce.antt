@@ -60,7 +60,7 @@ at_most_one : (b : Bool) → cond b 1 0 ≤ 1
 at_most_one true = omega arith
 at_most_one false = omega arith
 
--- ---- numbers that are not drawn yet
+-- ---- numbers that are not allocated yet
 
 -- Nothing is pending under the coming number.
 next_unpending : (q : QueueState Purpose) → IsSound q → pending_under q.next q ≡ 0
