@@ -7,7 +7,7 @@ use crate::own_requests::FIRST_OPENDIR_UNIQUE;
 use fk_fields::{u32_at, u64_at};
 use fk_wire::ReplyHead;
 
-/// A frame of a server that is not for the kernel.
+/// What a frame is that is not for the kernel.
 #[derive(Clone, Copy, Debug, PartialEq, Eq)]
 pub enum OtherFrame {
     /// A notification: its code (linux/fuse.h, `enum fuse_notify_code`) and its length.
@@ -42,7 +42,7 @@ fn opendir_head_in(next: u64, frame: &[u8]) -> Option<ReplyHead>
     }
 }
 
-/// What a frame is that is not for the kernel.
+/// Says what a frame is, if it is not for the kernel.
 pub fn other_frame_in(next: u64, frame: &[u8]) -> Option<OtherFrame>
     ensures some { IfSome result (λ other_frame. IsOtherFrame next frame.now) }
     ensures none { IfNone result (IsOtherFrame next frame.now → ⊥) }

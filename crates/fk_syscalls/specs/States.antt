@@ -45,7 +45,7 @@ pub record IsSoundCall {A : Type 0} (bytes : List ℕ) (at : Option ℕ) (waits_
   pub left : AreWords bytes at
   pub sound : IsSoundWait at waits_for
 
--- The same of a call that is to be made, whose words and names are borrowed.
+-- So of a call that is to be made, whose words and names are borrowed.
 pub record IsSoundLentCall (bytes : List ℕ) (at : Option ℕ) (plan : Plan (Bor (List ℕ))) : Type 0 where
   pub left : AreWords bytes at
   pub sound : IsSoundPlan (λ s. s.now) plan

@@ -189,7 +189,7 @@ WrittenReplyAt minor t bytes = (length bytes ≤ max_frame) × IsErrorNumber t.e
     × HasReplyNames t.content × InRange (reply_fields (length bytes) t) × HaveNames (reply_fields (length bytes) t)
     × (bytes ≡ spellings (reply_fields (length bytes) t))
 
--- The same, at the latest minor version.
+-- A frame spells a reply at the latest minor version.
 abbrev pub SpellsReply : Opcode → List ℕ → ReplyMessage → Type 0
 SpellsReply = SpellsReplyAt latest_minor
 

@@ -46,7 +46,7 @@ handles_by s (forget f) = s.handles
 handles_by s (batch_forget fs) = s.handles
 handles_by s (interrupt original) = s.handles
 
--- The same of any held request: EINTR of a marked one, and EIO of one whose node is gone.
+-- The reply to any held request: EINTR to a marked one, and EIO to one whose node is gone.
 abbrev pub said : Server → HeldRequest → Reply ℕ ℕ
 said s held = cond held.marked (failed eintr) (cond (is_still_held s.nodes held.generations) (body_reply s held.body)
     (failed eio))

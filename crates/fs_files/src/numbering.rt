@@ -130,7 +130,7 @@ impl<S: NodeStore> Files<S> {
         self.lemma_sound();
     }
 
-    /// Counts a lookup of each file that these records list.
+    /// Counts a lookup of the file of each record, one after another.
     fn give_records(&mut self, records: Records<'_>)
         requires listable { All (IsListable self.old.tree) (listed_in records) }
         requires few { length (listed_in records) ≤ 32 }

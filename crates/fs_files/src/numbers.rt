@@ -1,4 +1,4 @@
-//! Whether the counters have the numbers that a held request allocates.
+//! Numbers that a held request needs: inodes, cookies, file handles, generations, counts.
 
 ghost use Rattle.std.specs.Prelude.{◌≡◌, ◌≤◌, ◌<◌, ◌+◌, ◌⊎◌, ℕ, List, true, false, length, nat_le};
 ghost use Rattle.fuse_spec.specs.Kernel.Messages.{asks};

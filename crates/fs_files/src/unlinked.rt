@@ -31,7 +31,7 @@ impl<S: NodeStore> Files<S> {
         self.unlinked_or_released_by(held.body())
     }
 
-    /// The same of what a request asks.
+    /// The file from which what a request asks takes a name for good or a file handle.
     #[inline(always)]
     fn unlinked_or_released_by(&self, body: &HeldBody<S::Heap>) -> Option<u64>
         ensures { (v : ValidityValue) (m : MinorValue) → result

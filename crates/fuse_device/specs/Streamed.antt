@@ -99,7 +99,7 @@ module _ {R W : Type 0} (remaining : R → Option (List ℕ)) (contents : W → 
   }
 
 module _ {R W : Type 0} (remaining : R → Option (List ℕ)) (contents : W → Option (List ℕ)) where
-  -- The same of a stream that is cut into frames of at least this many bytes, which stays so.
+  -- So of a stream that is cut into frames of at least this many bytes, which stays so.
   pub record IsCutInto (old_least new_least : ℕ) (old_reader new_reader : R) (old_writer new_writer : W)
       (log : List Transfer) : Type 0 where
     pub same : new_least ≡ old_least

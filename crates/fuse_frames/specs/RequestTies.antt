@@ -93,7 +93,7 @@ pub record SaysRequestAt (minor : Minor) (bytes : List ℕ) (request : Request) 
   pub unique : message.unique ≡ request.unique
   pub says : body_in message.nodeid message.content ≡ Some request.body
 
--- The same at 7.31, whose opcodes are all that there are.
+-- The bytes spell this request at 7.31, whose opcodes are all that there are.
 abbrev pub SaysRequest : List ℕ → Request → Type 0
 SaysRequest = SaysRequestAt M31
 

@@ -58,7 +58,7 @@ pub enum Operation<S, N = u64, O = Opened> {
         after: u64,
         size: u32,
     },
-    /// The same, with each name's file.
+    /// The names behind an offset, each with its file, in at most this many bytes.
     Readdirplus {
         directory: N,
         after: u64,
@@ -137,7 +137,7 @@ impl<'a, N: Copy, O: Copy> Operation<&'a [u8], N, O> {
     ghost use Rattle.fuse_spec.specs.Files.Operations.{operation_of};
     ghost use Rattle.fuse_spec.specs.Files.OwnedOperations.{has_more, is_bare};
 
-    /// The same, with names and bytes of its own.
+    /// The operation with a copy of its names and bytes.
     ///
     /// # Errors
     ///

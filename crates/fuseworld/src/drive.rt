@@ -194,7 +194,7 @@ fn drive_device<D: Device, W: Write + Drop>(
     run_drive(alloc, task, device, &mut input, &mut out, &mut faults)
 }
 
-/// The same, with each frame printed on standard error where it is traced.
+/// Drives a server over a device, with each frame printed on standard error where it is traced.
 fn drive_over<D: Device + Drop, W: Write + Drop>(
     rt: &HostRuntime,
     task: Task<'_>,

@@ -75,7 +75,7 @@ ReadingEnds name (stop.CannotRead n) = n.now ≡ name
 ReadingEnds name stop.NoMemory = Unit {0}
 ReadingEnds name other = ⊥
 
--- The same of a script that was to be read, judged and run.
+-- How a run ends whose script was to be read, judged and run.
 abbrev pub InputEnds : {T : Type 0} → (List (List ℕ) → List ℕ → Type 0) → (name : List ℕ)
     → (script : Option (List ℕ)) → Result T Stop → (had has : Option (List ℕ)) → Type 0
 InputEnds IsRun name script (Ok done) had has = PrintsAll IsRun script had has
@@ -107,7 +107,7 @@ SessionEnds IsRun lines (Ok true) had has =
     × AppendsSome had has text
 SessionEnds IsRun lines other had has = RunEnds (IsRun false) lines other had has
 
--- The same of a script that was to be read, judged and run.
+-- How a run ends whose script was to be read, judged and run.
 abbrev pub OverEnds : (Bool → List (List ℕ) → List ℕ → Type 0) → (name : List ℕ) → (script : Option (List ℕ))
     → Result Bool Stop → (had has : Option (List ℕ)) → Type 0
 OverEnds IsRun name script (Ok true) had has = PrintsSome (IsRun true) script had has

@@ -39,7 +39,7 @@ pub enum Asks {
 pub enum Row {
     /// A mount: how long found and missing names are valid, in milliseconds.
     Mount(u64, u64),
-    /// The same of a server that speaks minor 15.
+    /// A mount of a server that speaks minor 15.
     Mount15(u64, u64),
     Abort,
     /// A request is held: its unique, its node and what it asks.

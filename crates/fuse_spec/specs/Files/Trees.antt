@@ -159,6 +159,6 @@ abbrev pub fitting_pairs : ℕ → List (DirentPlus ℕ) → List (DirentPlus �
 fitting_pairs room [] = []
 fitting_pairs room (r ∷ pairs) = cond (nat_le (pair_length r) room) (r ∷ fitting_pairs (room - pair_length r) pairs) []
 
--- The same of the names in a directory as READDIRPLUS lists them. (libfuse, low-level: readdirplus)
+-- The names in a directory behind an offset, as READDIRPLUS lists them. (libfuse, low-level: readdirplus)
 abbrev pub pairs_after : (valid : ℕ) → Tree → ℕ → ℕ → List (DirentPlus ℕ)
 pairs_after valid tree dir after = map (pair_of valid tree) (filter (λ n. nat_lt after n.cookie) (directory_names tree dir))

@@ -110,7 +110,7 @@ released k open_call (Some opened) =
       queues = cond (is_used k open_call) k.queues (after_enqueue k.queues (purpose.Release opened));
     }
 
--- The same for the closed file of this number, if there is one. (libfuse, low-level: release)
+-- The closed file of this number, if there is one, is released so. (libfuse, low-level: release)
 abbrev pub released_if_idle : Kernel → ℕ → Kernel
 released_if_idle k open_call = released k open_call (get k.closing open_call)
 

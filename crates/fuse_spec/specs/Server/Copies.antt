@@ -45,7 +45,7 @@ sent_again s unique kept =
 abbrev pub row_back : NodeTable → Entry → NodeTable
 row_back t g = cond (is_held t g.nodeid g.generation) (taken_back t g.nodeid 1) t
 
--- The same for each of these entries, in turn.
+-- One lookup of the node of each of these entries is given back, in turn.
 abbrev pub rows_back : NodeTable → List Entry → NodeTable
 rows_back t [] = t
 rows_back t (g ∷ gs) = rows_back (row_back t g) gs

@@ -67,7 +67,7 @@ given t file id = record {
   next_generation = generation_after t (get t.rows id);
 }
 
--- The same for each of these files, under the ids that are chosen. (libfuse, low-level: lookup)
+-- One lookup more of each of these files, in turn, under the ids that are chosen. (libfuse, low-level: lookup)
 abbrev pub all_given : (ℕ → ℕ) → NodeTable → List ℕ → NodeTable
 all_given choice t [] = t
 all_given choice t (file ∷ files) = all_given choice (given t file (choice file)) files

@@ -135,7 +135,7 @@ abbrev pub MayChooseFor : (ℕ → ℕ) → World → Option HeldRequest → Typ
 MayChooseFor choice w None = Unit {0}
 MayChooseFor choice w (Some taken) = MayChoose choice w.server.nodes (files_given w.server taken)
 
--- The same for an event: only performing a request gives nodes.
+-- Which ids the server may choose in an event: only performing a request gives nodes.
 abbrev pub MayStep : (ℕ → ℕ) → World → Event → Type 0
 MayStep choice w (event.perform unique) = MayChooseFor choice w (get w.server.held unique)
 MayStep choice w event = Unit {0}
