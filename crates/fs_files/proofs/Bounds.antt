@@ -93,10 +93,10 @@ back_each P t fh less old = by (get t.handles fh) refl
     by None e = old
     by (Some h) e = fewer h e (nat_lt 1 h.count)
 
-pub number_more_each : (P Q : FileHandle → Type 0) (t : HandleTable) (fh : ℕ) → ((h : FileHandle) → P h → Q h)
+pub handle_more_each : (P Q : FileHandle → Type 0) (t : HandleTable) (fh : ℕ) → ((h : FileHandle) → P h → Q h)
     → ((h : FileHandle) → P h → Q (record h { count = h.count + 1 })) → Each P t.handles
     → Each Q (handle_more t fh).handles
-number_more_each P Q t fh still more old = by (get t.handles fh) refl
+handle_more_each P Q t fh still more old = by (get t.handles fh) refl
   where
     by : (o : Option FileHandle) → get t.handles fh ≡ o → Each Q (handles_more t.handles fh o)
     by None e = λ q h is. still h (old q h is)

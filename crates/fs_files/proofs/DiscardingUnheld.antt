@@ -81,9 +81,9 @@ module _ (files : FilesState) (v : Validity) where
   held_by_node id row is x same = held_first (has_node x) (is_opened x)
       (any_there files.nodes.rows (λ (r : HeldNode). nat_eq r.file x) id row is (eq-eqb row.file x same))
 
-  held_by_number : (fh : ℕ) (h : FileHandle) → get files.handles.handles fh ≡ Some h → (x : ℕ) → h.file ≡ x
+  held_by_handle : (fh : ℕ) (h : FileHandle) → get files.handles.handles fh ≡ Some h → (x : ℕ) → h.file ≡ x
       → holds x ≡ true
-  held_by_number fh h is x same = or_held (has_node x) (is_opened x)
+  held_by_handle fh h is x same = or_held (has_node x) (is_opened x)
       (any_there files.handles.handles (λ (g : FileHandle). nat_eq g.file x) fh h is (eq-eqb h.file x same))
 
   -- what is not held has no node and no file handle
@@ -91,7 +91,7 @@ module _ (files : FilesState) (v : Validity) where
   unheld x none id row is same = true≢false (sym (held_by_node id row is x same) ∙ none)
 
   pub unopened : (x : ℕ) → holds x ≡ false → IsUnopened files.handles x
-  unopened x none fh h is same = true≢false (sym (held_by_number fh h is x same) ∙ none)
+  unopened x none fh h is same = true≢false (sym (held_by_handle fh h is x same) ∙ none)
 
   -- and what is held has one
   pub not_both : T (is_sorted nat_cmp files.nodes.rows) → T (is_sorted nat_cmp files.handles.handles) → (x : ℕ)

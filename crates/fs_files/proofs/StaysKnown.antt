@@ -26,7 +26,7 @@ use Rattle.fs_files.specs.Performing.{Operates}
 use Rattle.fs_files.specs.Values.{FilesState, server_of}
 use Rattle.fs_files.specs.declared.replies.Outcome.{Outcome}
 use Rattle.fs_files.proofs.DiscardingUnheld.{unheld, unopened}
-use Rattle.fs_files.proofs.Bounds.{back_each, given_each, more_each, number_more_each, opened_each, row_back_each, taken_each}
+use Rattle.fs_files.proofs.Bounds.{back_each, given_each, more_each, handle_more_each, opened_each, row_back_each, taken_each}
 
 -- ---- nodes and file handles
 
@@ -72,18 +72,18 @@ module _ (tree : Tree) (nodes : NodeTable) (handles : HandleTable) (old : AreKno
     regular = old.regular;
   }
 
-  pub known_number_back : (fh : ℕ) → AreKnown tree nodes (handle_back handles fh)
-  known_number_back fh = record {
+  pub known_handle_back : (fh : ℕ) → AreKnown tree nodes (handle_back handles fh)
+  known_handle_back fh = record {
     low = old.low;
     there = old.there;
     regular = back_each (λ h. IsTrue (is_regular tree h.file)) handles fh (λ h is. is) old.regular;
   }
 
-  pub known_number_more : (fh : ℕ) → AreKnown tree nodes (handle_more handles fh)
-  known_number_more fh = record {
+  pub known_handle_more : (fh : ℕ) → AreKnown tree nodes (handle_more handles fh)
+  known_handle_more fh = record {
     low = old.low;
     there = old.there;
-    regular = number_more_each (λ h. IsTrue (is_regular tree h.file)) (λ h. IsTrue (is_regular tree h.file)) handles fh
+    regular = handle_more_each (λ h. IsTrue (is_regular tree h.file)) (λ h. IsTrue (is_regular tree h.file)) handles fh
         (λ h is. is) (λ h is. is) old.regular;
   }
 

@@ -114,7 +114,7 @@ impl<S: NodeStore> Files<S> {
     }
 
     /// Whether a file handle is in use.
-    pub fn has_number(&self, fh: u64) -> bool
+    pub fn has_handle(&self, fh: u64) -> bool
         ensures { result ≡ is_some (get self.now.handles.handles fh) }
     {
         self.known.handles.file_of(fh).is_some()
@@ -159,7 +159,7 @@ impl<S: NodeStore> Files<S> {
     }
 
     /// Counts one use more of a file handle, if it is in use.
-    pub fn count_number_again(&mut self, fh: u64)
+    pub fn count_handle_again(&mut self, fh: u64)
         requires { AreUsed counter_end self.old.handles }
         ensures tree { self.new.tree ≡ self.old.tree }
         ensures nodes { self.new.nodes ≡ self.old.nodes }
@@ -169,7 +169,7 @@ impl<S: NodeStore> Files<S> {
     }
 
     /// The file of a file handle, if that is in use.
-    pub fn number_file(&self, fh: u64) -> Option<u64>
+    pub fn handle_file(&self, fh: u64) -> Option<u64>
         ensures { result ≡ option_map (λ (handle : FileHandle). handle.file) (get self.now.handles.handles fh) }
     {
         self.known.handles.file_of(fh)

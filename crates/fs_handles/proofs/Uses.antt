@@ -15,7 +15,7 @@ use Rattle.indexmap.proofs.SetLemmas.{map-swap_remove}
 use Rattle.fuse_spec.specs.Values.Maps.{values}
 use Rattle.fuse_spec.specs.Server.Nodes.{FileHandle}
 use Rattle.fs_handles.specs.declared.open_file.OpenFile.{OpenFile}
-use Rattle.fs_handles.specs.OpenNumbers.{number_of, handles_of}
+use Rattle.fs_handles.specs.OpenNumbers.{handle_of, handles_of}
 use Rattle.fs_handles.specs.Uses.{handle_use_of, numbers_of, uses_or_none, uses_less, AreUsesCounted}
 use Rattle.fuse_tables.proofs.Maps.{HasValue, any_is}
 use Rattle.fs_handles.proofs.Handles.{sorted_handles, get_there}
@@ -248,7 +248,7 @@ has_is {opens = opens} {uses = uses} answer file table is =
         let entry = entry_of file opens (some_is (numbers_of file opens) (sym counted_is ∙ is_so)) in
         record {
           key = entry.0;
-          value = number_of entry.1;
+          value = handle_of entry.1;
           there = get_there opens entry.0 (Some entry.1)
               (lookup-from_Contains nat_eq_equiv entry.0 entry.1 opens table.distinct entry.2);
           passes = eq-eqb entry.1.file file entry.3;
@@ -260,7 +260,7 @@ has_is {opens = opens} {uses = uses} answer file table is =
         by : (found : Option OpenFile) → lookup (nat_eq has.key) opens ≡ found → answer ≡ true
         by None none = absurd (none-some has.value (sym (get_there opens has.key None none) ∙ has.there))
         by (Some kept) found =
-            let same : number_of kept ≡ has.value = same_Some _ _
+            let same : handle_of kept ≡ has.value = same_Some _ _
             (sym (get_there opens has.key (Some kept) found) ∙ has.there) in
             let of_file : kept.file ≡ file =
             ap (λ (h : FileHandle). h.file) same ∙ eqb-true has.value.file file has.passes in

@@ -10,13 +10,13 @@ pub record TableWithRoom : Type 0 where
   pub room : ℕ
 
 -- what the definitions see of what is kept under a file handle
-abbrev pub number_of : OpenFile → FileHandle
-number_of kept = record { file = kept.file; count = kept.count }
+abbrev pub handle_of : OpenFile → FileHandle
+handle_of kept = record { file = kept.file; count = kept.count }
 
 -- the entries of a hash map, in rising number
 abbrev pub handles_of : List (ℕ × OpenFile) → Map FileHandle
 handles_of [] = []
-handles_of (e ∷ es) = put (handles_of es) e.0 (number_of e.1)
+handles_of (e ∷ es) = put (handles_of es) e.0 (handle_of e.1)
 
 abbrev pub table_of : List (ℕ × OpenFile) → ℕ → HandleTable
 table_of opens next = record { handles = handles_of opens; next_fh = next }

@@ -19,7 +19,7 @@ use Rattle.fs_files.specs.Numbering.{GivesNumbers}
 use Rattle.fs_files.specs.Values.{FilesState, server_at, server_of}
 use Rattle.fuse_frames.specs.declared.reply.Reply.TheVariants as said
 use Rattle.fs_files.proofs.Bounds.{back_each, row_back_each, taken_each}
-use Rattle.fs_files.proofs.StaysNamed.{named_all_given, named_all_opened, named_less, named_number_back, named_row_back}
+use Rattle.fs_files.proofs.StaysNamed.{named_all_given, named_all_opened, named_less, named_handle_back, named_row_back}
 use Rattle.fs_files.proofs.DiscardingUnheld.{discarded_unheld_none, discarded_unheld_twice}
 use Rattle.fs_server.specs.Effects.{CountsBack, Forgets, GivesBack, DiscardsUnheld, TakesBack}
 use Rattle.fs_server.proofs.GivenBack.{forgets, gives_back}
@@ -57,12 +57,12 @@ module _ (old mid : FilesState) (named : AreNamed old.tree old.nodes old.handles
       (get x.rows g.nodeid)) same) tree nodes handles
       (named_row_back old.tree old.nodes old.handles named g)
 
-  pub but_number_back : (but : Option ℕ) (fh : ℕ)
+  pub but_handle_back : (but : Option ℕ) (fh : ℕ)
       → but ≡ option_map (λ (h : FileHandle). h.file) (get old.handles.handles fh) → mid.nodes ≡ old.nodes
       → mid.handles ≡ handle_back old.handles fh → AreNamedBut but mid.tree mid.nodes mid.handles
-  but_number_back but fh is nodes handles =
+  but_handle_back but fh is nodes handles =
       but_same but (option_map (λ (h : FileHandle). h.file) (get old.handles.handles fh)) mid old.tree old.nodes
-      (handle_back old.handles fh) is tree nodes handles (named_number_back old.tree old.nodes old.handles named fh)
+      (handle_back old.handles fh) is tree nodes handles (named_handle_back old.tree old.nodes old.handles named fh)
 
 -- what a request leaves is given nodes and file handles
 pub but_numbered : {A : Type 0} (but : Option ℕ) (start one two : FilesState) (v : Validity) (m : Minor)

@@ -17,7 +17,7 @@ use Rattle.fuse_spec.proofs.Tables.{get_put_there, get_gone_here, get_gone_there
 use Rattle.fs_files.specs.Bounds.{AreHeldBelow, AreNamed, AreUsed}
 use Rattle.fs_files.specs.Performing.{handles_by, handles_said}
 use Rattle.fs_files.specs.Values.{FilesState, no_handles, no_nodes}
-use Rattle.fs_files.proofs.Bounds.{taken_each, row_back_each, opened_each, back_each, number_more_each}
+use Rattle.fs_files.proofs.Bounds.{taken_each, row_back_each, opened_each, back_each, handle_more_each}
 use Rattle.fs_server.specs.Sound.{IsSoundServer, AreApart}
 
 pub sound_first : {V W X : Type 0} (files : FilesState) → files.nodes ≡ no_nodes → files.handles ≡ no_handles
@@ -86,8 +86,8 @@ module _ (next : ℕ) where
   pub used_again : (t : HandleTable) (wire : WireReply) → AreUsed next t
       → AreUsed (next + 1) (handles_counted t (opens_in_reply wire))
   used_again t (operation.created g valid o) old =
-      number_more_each Use Uses t o (λ h low. omega (arith, low)) (λ h low. omega (arith, low)) old
-  used_again t (operation.opened o) old = number_more_each Use Uses t o (λ h low. omega (arith, low))
+      handle_more_each Use Uses t o (λ h low. omega (arith, low)) (λ h low. omega (arith, low)) old
+  used_again t (operation.opened o) old = handle_more_each Use Uses t o (λ h low. omega (arith, low))
       (λ h low. omega (arith, low)) old
   used_again t (operation.found g valid) old = used_still t old
   used_again t (operation.missing valid) old = used_still t old

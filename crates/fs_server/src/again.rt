@@ -102,11 +102,11 @@ fn is_current<S: NodeStore>(files: &Files<S>, reply: &SentReply<S::Heap>) -> boo
         (files_in_reply (sent_wire reply.now)) && list_all (λ fh. is_some (get files.now.handles.handles fh))
         (opens_in_reply (sent_wire reply.now))) }
 {
-    let has_number = match opened(reply) {
-        Some(fh) => files.has_number(fh),
+    let has_handle = match opened(reply) {
+        Some(fh) => files.has_handle(fh),
         None => true,
     };
-    are_held(files, file_entries(reply)) && has_number
+    are_held(files, file_entries(reply)) && has_handle
 }
 
 /// Whether the node of each entry is held under the entry's generation.
@@ -133,7 +133,7 @@ fn count_again<S: NodeStore>(files: &mut Files<S>, reply: &SentReply<S::Heap>)
 {
     count_nodes_again(files, file_entries(reply));
     if let Some(fh) = opened(reply) {
-        files.count_number_again(fh);
+        files.count_handle_again(fh);
     }
 }
 

@@ -82,7 +82,7 @@ fn uncount_reply<S: NodeStore>(files: &mut Files<S>, reply: &SentReply<S::Heap>)
     ensures named { AreNamed files.new.tree files.new.nodes files.new.handles }
 {
     entries_back(files, file_entries(reply));
-    number_back(files, opened(reply));
+    uncount_handle_if_any(files, opened(reply));
 }
 
 /// Counts back the nodes of entries, one after another. Nameless files that nothing holds any longer go.
@@ -106,14 +106,14 @@ fn entry_back<S: NodeStore>(files: &mut Files<S>, entry: &Entry)
 }
 
 /// Takes back one use of a file handle. A nameless file that nothing holds any longer goes.
-fn number_back<S: NodeStore>(files: &mut Files<S>, fh: Option<u64>)
+fn uncount_handle_if_any<S: NodeStore>(files: &mut Files<S>, fh: Option<u64>)
     requires { AreNamed files.old.tree files.old.nodes files.old.handles }
     ensures { CountsBack files.old [] (option_to_list fh) files.new }
 {
     let Some(fh) = fh else {
         return;
     };
-    let file = files.number_file(fh);
+    let file = files.handle_file(fh);
     files.uncount_handle(fh);
     files.discard_unheld(file);
 }

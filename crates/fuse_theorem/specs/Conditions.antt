@@ -38,7 +38,7 @@ KnownAreHeld w = (id generation : ℕ) → generation_known w.kernel.nodes id �
 -- The root stands in no table, and the coming file handle is new.
 pub record TablesSound (s : Server) : Type 0 where
   pub no_root : get s.nodes.rows 1 ≡ None
-  pub new_number : get s.handles.handles s.handles.next_fh ≡ None
+  pub new_handle : get s.handles.handles s.handles.next_fh ≡ None
 
 -- The file handle of a reply to CREATE or OPEN is one of the file that is created or opened.
 abbrev pub OpensItsFile : NodeTable → HandleTable → Operation ℕ Opened → WireReply → Type 0

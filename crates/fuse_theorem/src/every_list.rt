@@ -32,7 +32,7 @@ ghost use Rattle.fuse_theorem.specs.HeldKnown.{HeldKnownWhileLive};
 ghost use Rattle.fuse_theorem.specs.KnownNodes.{NodesKnown};
 ghost use Rattle.fuse_theorem.specs.OnTheWay.{ReadAreOnTheirWay};
 ghost use Rattle.fuse_theorem.specs.StillHeld.{HeldReleasesKnown, NodesStillHeld, StillHeldAfterAbort};
-ghost use Rattle.fuse_theorem.specs.StillOpen.{HeldNumbersOpen, OpensAfterAbort};
+ghost use Rattle.fuse_theorem.specs.StillOpen.{HeldHandlesOpen, OpensAfterAbort};
 ghost use Rattle.fuse_theorem.specs.NodesHeld.{NodesHeld, TakenServable};
 ghost use Rattle.fuse_theorem.specs.OpenNumbers.{OpensSound};
 ghost use Rattle.fuse_theorem.specs.OpensOnce.{OpensOnceWhileLive};
@@ -126,17 +126,17 @@ pub fn held_stay_held()
 /// After an abort each file handle that a held request names is one of its node's file, and is counted often enough for
 /// all of them, whatever the event, where that is so while the mount is live. It is where the file handles are
 /// balanced, those of held RELEASEs are of their nodes' files, and what calls read or write is open in the kernel.
-pub fn held_numbers_stay_open()
+pub fn held_handles_stay_open()
     ensures at_first { OpensAfterAbort first_world }
     ensures always { (w : World) → WorldSound w → RequestsAskedWhileLive w → LinksSound w
-        → (is_live w.kernel.phase ≡ true → HeldNumbersOpen w) → OpensAfterAbort w
+        → (is_live w.kernel.phase ≡ true → HeldHandlesOpen w) → OpensAfterAbort w
         → (e : Event) (o : Outcome) (after : World) → Happens w e o after → OpensAfterAbort after }
     ensures balanced { (w : World) (p : Plain) → Alike w p → RequestsAskedWhileLive w → is_live w.kernel.phase ≡ true
         → OpenBalance w →
         ((unique : ℕ) (t : HeldRequest) → get w.server.held unique ≡ Some t → (o : Opened) → t.body ≡ release o
         → is_open w.server.handles o.fh (file_of w.server.nodes o.nodeid) ≡ true) →
         ((call : ℕ) (state : CallState Opened) → get w.kernel.vfs.calls call ≡ Some state → (o : Opened)
-        → Contains (opens_of (asked state)) o → 1 ≤ open_in_kernel w.kernel o.fh) → HeldNumbersOpen w }
+        → Contains (opens_of (asked state)) o → 1 ≤ open_in_kernel w.kernel o.fh) → HeldHandlesOpen w }
 {}
 
 /// The performing of a held request needs no more than that: an operation of a call, live or after an abort, one that
@@ -235,7 +235,7 @@ pub fn file_handles_stay_balanced()
 /// held requests name are counted often enough for all of them.
 pub fn file_handles_are_held()
     ensures live { (w : World) (p : Plain) → BothSound w p → OpensSound w → is_live w.kernel.phase ≡ true
-        → HoldsOpens w w.server.handles × HeldNumbersOpen w }
+        → HoldsOpens w w.server.handles × HeldHandlesOpen w }
     ensures release { (w : World) (p : Plain) → BothSound w p → OpensSound w → is_live w.kernel.phase ≡ true
         → (unique : ℕ) (t : HeldRequest) → get w.server.held unique ≡ Some t → (o : Opened) → t.body ≡ release o →
         (is_open w.server.handles o.fh (file_of w.server.nodes o.nodeid) ≡ true)

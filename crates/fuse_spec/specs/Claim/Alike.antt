@@ -91,7 +91,7 @@ pub record StillDenotes (t : NodeTable) (generations : List (ℕ × ℕ)) (id fi
 pub record OpenStillDenotes (t : NodeTable) (h : HandleTable) (generations : List (ℕ × ℕ)) (o : Opened)
     (file : ℕ) : Type 0 where
   pub node_meant : StillDenotes t generations o.nodeid file
-  pub is_number : is_open h o.fh file ≡ true
+  pub is_handle : is_open h o.fh file ≡ true
 
 -- In any mount, also after an abort: each request that is pending, on its link or held by the server has its ask, which
 -- waits.

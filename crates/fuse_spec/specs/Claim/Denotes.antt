@@ -31,7 +31,7 @@ pub record NodeDenotes (nodes : Map Counted) (t : NodeTable) (id file : ℕ) : T
 -- The kernel's open file denotes this file: so does its node, and its `fh` is a file handle of that same file.
 pub record OpenDenotes (nodes : Map Counted) (t : NodeTable) (h : HandleTable) (o : Opened) (file : ℕ) : Type 0 where
   pub node_means : NodeDenotes nodes t o.nodeid file
-  pub is_number : is_open h o.fh file ≡ true
+  pub is_handle : is_open h o.fh file ≡ true
 
 -- The entry of a copy denotes this file.
 abbrev pub Names : NodeTable → Entry → ℕ → Type 0

@@ -116,5 +116,5 @@ module _ (nodes : Map Counted) (t : NodeTable) (h : HandleTable) (ids : List ℕ
       → OpenStillDenotes t h generations_of o file
   means_open_meant o file among means = record {
     node_meant = means_meant o.nodeid file among means.node_means;
-    is_number = means.is_number;
+    is_handle = means.is_handle;
   }

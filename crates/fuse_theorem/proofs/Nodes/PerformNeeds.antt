@@ -23,7 +23,7 @@ use Rattle.fuse_theorem.specs.StillHeld.{IsHeldMarked, NodesStillHeld, StillHeld
 use Rattle.fuse_theorem.specs.StillOpen.{OpensAfterAbort}
 use Rattle.fuse_theorem.proofs.Nodes.HeldKnown.{all_still_held}
 use Rattle.fuse_theorem.proofs.Nodes.HeldNodes.{nodes_held}
-use Rattle.fuse_theorem.proofs.OpenFiles.HeldNumbers.{number_open, numbers_held}
+use Rattle.fuse_theorem.proofs.OpenFiles.HeldNumbers.{handle_open, handles_held}
 use Rattle.fuse_theorem.proofs.Refining.LookedUp.{one_to_one}
 use Rattle.fuse_theorem.proofs.Requests.LinksSound.{none_in}
 use Rattle.fuse_theorem.proofs.Lookups.LookupsStay.{known_held}
@@ -199,5 +199,5 @@ any_met w p both releases still opens unique live_opens choice may t there =
     by o is true live = let numbers = live_opens live t o there is in
         release_met w p both releases still choice unique t o there is numbers.0 numbers.1
     by o is false dead = release_met w p both releases still choice unique t o there is
-        (number_open w both.links opens dead unique t there o is)
-        (numbers_held w both.links opens dead unique t there o is)
+        (handle_open w both.links opens dead unique t there o is)
+        (handles_held w both.links opens dead unique t there o is)

@@ -364,5 +364,5 @@ pub tables_sound : (s : Server) → ServerSound s → TablesSound s
 tables_sound s sound = let handles = sound.handles in
     record {
       no_root = no_node s.nodes sound.nodes 1 (omega arith);
-      new_number = handles.numbers s.handles.next_fh (omega arith);
+      new_handle = handles.numbers s.handles.next_fh (omega arith);
     }

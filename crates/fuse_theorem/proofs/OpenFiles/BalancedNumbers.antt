@@ -18,7 +18,7 @@ use Rattle.fuse_spec.specs.World.Worlds.{World}
 use Rattle.fuse_spec.specs.Reference.Plain.{Plain}
 use Rattle.fuse_spec.specs.Claim.Alike.{Alike, RequestBodyAsked, StillDenotes, OpenStillDenotes}
 use Rattle.fuse_theorem.specs.AskedRequests.{IsAsked, RequestsAskedWhileLive}
-use Rattle.fuse_theorem.specs.StillOpen.{HeldNumbersOpen}
+use Rattle.fuse_theorem.specs.StillOpen.{HeldHandlesOpen}
 use Rattle.fuse_theorem.proofs.Refining.Performing.{open_for}
 
 module _ (w : World) (p : Plain) (same : Alike w p) (requests : RequestsAskedWhileLive w)
@@ -86,7 +86,7 @@ module _ (w : World) (p : Plain) (same : Alike w p) (requests : RequestsAskedWhi
         by (purpose.Release x) says = absurd (cc)
         by (purpose.Call call) says = of_call call (get w.kernel.vfs.calls call) refl says
 
-  pub balanced_open : HeldNumbersOpen w
+  pub balanced_open : HeldHandlesOpen w
   balanced_open = record {
     files = λ unique t there o among. of_body unique t there o t.body refl among;
     released = λ fh. let whole = balance fh in omega (arith, whole);

@@ -14,7 +14,7 @@ use Rattle.fuse_spec.specs.Claim.Counts.{opens_of_body}
 use Rattle.fuse_spec.specs.World.Worlds.{World, Sent}
 use Rattle.fuse_theorem.specs.Conditions.{IsFileHandle, HoldsOpens}
 use Rattle.fuse_theorem.specs.Links.{LinksSound}
-use Rattle.fuse_theorem.specs.StillOpen.{NumbersStillOpen, OpensAfterAbort}
+use Rattle.fuse_theorem.specs.StillOpen.{HandlesStillOpen, OpensAfterAbort}
 use Rattle.fuse_theorem.proofs.Requests.LinksSound.{none_in}
 use Rattle.fuse_theorem.proofs.Calls.Meaning.{first_of}
 use Rattle.fuse_theorem.proofs.OpenFiles.NumbersLeft.{released_open}
@@ -26,18 +26,18 @@ is_file_handle h fh file is none = true≢false (sym is ∙ ap (is_file_of file)
 module _ (w : World) (links : LinksSound w) (old : OpensAfterAbort w) (dead : is_live w.kernel.phase ≡ false)
     (unique : ℕ) (t : HeldRequest) (there : get w.server.held unique ≡ Some t) (o : Opened)
     (body_is : t.body ≡ release o) where
-  pub number_open : is_open w.server.handles o.fh (file_of w.server.nodes o.nodeid) ≡ true
-  number_open = let now = (old dead).numbers in now.files unique t there o
+  pub handle_open : is_open w.server.handles o.fh (file_of w.server.nodes o.nodeid) ≡ true
+  handle_open = let now = (old dead).numbers in now.files unique t there o
       (subst (λ (b : RequestBody). Contains (opens_of_body b) o) (sym body_is) (first_of o []))
 
   abbrev back : HandleTable
   back = handle_back w.server.handles o.fh
 
-  pub numbers_held : HoldsOpens (unheld w unique) back
-  numbers_held =
+  pub handles_held : HoldsOpens (unheld w unique) back
+  handles_held =
       let idle = links.idle dead in
       let left = old dead in
-      let now : NumbersStillOpen w.server.nodes back (remove w.server.held unique) =
+      let now : HandlesStillOpen w.server.nodes back (remove w.server.held unique) =
       released_open w.server.nodes w.server.handles w.server.held left.numbers unique t there o body_is in
       record {
         opens = λ open_call x at. none_in w.kernel.vfs.opens open_call x left.opens at;

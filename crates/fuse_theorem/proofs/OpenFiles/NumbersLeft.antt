@@ -13,10 +13,10 @@ use Rattle.fuse_spec.specs.Server.Nodes.{NodeTable, HandleTable, FileHandle, fil
 use Rattle.fuse_spec.specs.Server.Server.{HeldRequest}
 use Rattle.fuse_spec.specs.Claim.Counts.{opens_of, opens_of_body, releases_in, handle_count}
 use Rattle.fuse_spec.proofs.Tables.{cmp_same, tie_no, get_put_here, get_put_there, get_gone_there}
-use Rattle.fuse_theorem.specs.StillOpen.{releases_held, NumbersStillOpen}
+use Rattle.fuse_theorem.specs.StillOpen.{releases_held, HandlesStillOpen}
 use Rattle.fuse_theorem.proofs.Calls.Finding.{same_is, other_is}
 use Rattle.fuse_theorem.proofs.Nodes.NodesSound.{left_found}
-use Rattle.fuse_theorem.proofs.Refining.Settling.{number_back}
+use Rattle.fuse_theorem.proofs.Refining.Settling.{handle_back_left}
 
 -- ---- sums over a map that loses a key
 
@@ -98,14 +98,14 @@ still_open h fh q file was counted = by (get (handle_back h fh).handles q) refl 
     by : (o : Option FileHandle) → get (handle_back h fh).handles q ≡ o → 1 ≤ handle_count o → is_file_of file o ≡ true
     by None at low = absurd (omega (arith, low))
     by (Some y) at low =
-        let x = number_back h fh q y at in
+        let x = handle_back_left h fh q y at in
         let same : is_file_of file (Some x.0) ≡ true = ap (is_file_of file) (sym x.1) ∙ was in
         ap (λ (n : ℕ). nat_eq n file) x.2 ∙ same
 
 -- ---- what is held
 
 module _ (nodes : NodeTable) (handles : HandleTable) (held : Map HeldRequest)
-    (old : NumbersStillOpen nodes handles held) (unique : ℕ) where
+    (old : HandlesStillOpen nodes handles held) (unique : ℕ) where
   abbrev left : Map HeldRequest
   left = remove held unique
 
@@ -122,7 +122,7 @@ module _ (nodes : NodeTable) (handles : HandleTable) (held : Map HeldRequest)
   fewer_left fh = let few = sum_left (λ (x : HeldRequest). releases_in fh x.body) held unique in omega (arith, few)
 
   -- One is held no longer.
-  pub left_open : NumbersStillOpen nodes handles left
+  pub left_open : HandlesStillOpen nodes handles left
   left_open = record {
     files = λ u x at o among. old.files u x (left_found held unique u x at) o among;
     released = λ fh. let few = fewer_left fh in let enough = old.released fh in omega (arith, few, enough);
@@ -177,7 +177,7 @@ module _ (nodes : NodeTable) (handles : HandleTable) (held : Map HeldRequest)
     counted_still u x at o (interrupt original) is among = absurd (let lt = among.1 in omega (arith, lt))
 
     -- A RELEASE is held no longer, and its number is given back.
-    pub released_open : NumbersStillOpen nodes back left
+    pub released_open : HandlesStillOpen nodes back left
     released_open = record {
       files = λ u x at o among. still_open handles given.fh o.fh (file_of nodes o.nodeid)
           (old.files u x (left_found held unique u x at) o among) (counted_still u x at o x.body refl among);

@@ -49,7 +49,7 @@ use Rattle.fuse_theorem.proofs.Lists.MapSums.{worth}
 use Rattle.fuse_theorem.proofs.Requests.NewNumbers.{Allocates, performed_allocates, counted_next, given_back_next}
 use Rattle.fuse_theorem.proofs.Nodes.NodesSound.{put_found}
 use Rattle.fuse_theorem.proofs.Requests.NumbersStay.{replying_kernel, unreceived}
-use Rattle.fuse_theorem.proofs.Lists.OpenSums.{has_number, open_sum, counts_opens}
+use Rattle.fuse_theorem.proofs.Lists.OpenSums.{has_handle, open_sum, counts_opens}
 use Rattle.fuse_theorem.proofs.OpenFiles.OpensAfterReply.{ReceivesOpens, read_sum, written_received}
 use Rattle.fuse_theorem.proofs.OpenFiles.OpensKept.{begun_keeps, signalled_keeps}
 use Rattle.fuse_theorem.proofs.OpenFiles.OpensMoved.{SameOpen, open_same, keeps_same, interrupt_same, pending_same, forgets_same}
@@ -118,7 +118,7 @@ module _ (choice : ℕ → ℕ) (w : World) (p : Plain) (both : BothSound w p) (
       → ((u fh : ℕ) → CarriesOpen w u fh → request_under k.queues u ≢ None → request_under w.kernel.queues u ≢ None)
       → OpensOnce (record w { kernel = k; requests = requests })
   moved k requests same still = none_new w (record w { kernel = k; requests = requests }) old (omega arith)
-      (λ u fh c. c) still (λ fh. let sum = open_same w k requests same (has_number fh) in omega (arith, sum))
+      (λ u fh c. c) still (λ fh. let sum = open_same w k requests same (has_handle fh) in omega (arith, sum))
 
   forgets_under : (n u : ℕ) (b : Bool) → request_under
       (cond b (record w.kernel.queues {
@@ -161,7 +161,7 @@ module _ (choice : ℕ → ℕ) (w : World) (p : Plain) (both : BothSound w p) (
       let same = ap (λ (h : HandleTable). h.next_fh) (taken_handles w r.unique r.body) in
       none_new w (after_take w k r.unique took) old (omega (arith, next, same)) (taken_carries k r.unique r.body)
       (λ u fh c waits e. waits (ap (λ (l : Kernel). request_under l.queues u) kernel ∙ e))
-      (λ fh. let files = taken_files w p both live releases opens.held balanced k r at (has_number fh) in
+      (λ fh. let files = taken_files w p both live releases opens.held balanced k r at (has_handle fh) in
       omega (arith, files))
 
   again_once : (unique : ℕ) (kept : Kept) → get w.server.kept unique ≡ Some kept → OpensOnce (after_again w unique kept)
@@ -319,7 +319,7 @@ module _ (choice : ℕ → ℕ) (w : World) (p : Plain) (both : BothSound w p) (
               | inr d ↦ inr d
             ]) allocates.rises refl none_coming
             (λ fh. let files = performed_files w p both live releases opens.held balanced choice unique t at may
-            (Some (served choice w.server unique t).wire) (has_number fh) in omega (arith, files))
+            (Some (served choice w.server unique t).wire) (has_handle fh) in omega (arith, files))
 
   -- ---- a reply is written
 
@@ -388,20 +388,20 @@ module _ (choice : ℕ → ℕ) (w : World) (p : Plain) (both : BothSound w p) (
         by None e =
             none_new w written old (omega arith) carried (answered_still
             (reply_written w.kernel sent.unique sent.wire).1.queues moves)
-            (λ fh. let sum = files (has_number fh) in let none = ap (worth (has_number fh)) e in
+            (λ fh. let sum = files (has_handle fh) in let none = ap (worth (has_handle fh)) e in
             omega (arith, sum, none))
         by (Some o) e =
             let serves = reply_received.fits o e in
             let request = waiting_is w.kernel.queues sent.unique (purpose.Call serves.0) serves.2 in
             let counted = reply_received.counts o.fh in
-            let worth_is = ap (worth (has_number o.fh)) e in
-            let itself : has_number o.fh o ≡ 1 = ap {B = ℕ} (λ (b : Bool). cond b 1 0) (same_is o.fh) in
+            let worth_is = ap (worth (has_handle o.fh)) e in
+            let itself : has_handle o.fh o ≡ 1 = ap {B = ℕ} (λ (b : Bool). cond b 1 0) (same_is o.fh) in
             one_opened w written old sent.unique o (omega arith) carried
             (answered_still (reply_written w.kernel sent.unique sent.wire).1.queues moves)
             (inr (has_at (λ (x : Sent). (x.unique ≡ sent.unique) × (1 ≤ opens_in o.fh x.wire)) w.replies k sent at
             (refl, omega (arith, counted, worth_is, itself))))
             (λ none. absurd (cc (none, request.under))) (ends serves.0 serves.1 serves.2)
-            (λ fh. let sum = files (has_number fh) in let is = ap (worth (has_number fh)) e in
+            (λ fh. let sum = files (has_handle fh) in let is = ap (worth (has_handle fh)) e in
             omega (arith, sum, is))
 
   -- ---- every event

@@ -28,7 +28,7 @@ use Rattle.fuse_theorem.proofs.Nodes.NodesKnown.{All-more}
 use Rattle.fuse_theorem.proofs.OpenFiles.NumberCounts.{SameFiles}
 use Rattle.fuse_theorem.proofs.OpenFiles.ReleasesStay.{release_known}
 use Rattle.fuse_theorem.proofs.Lists.Values.{All-found_values}
-use Rattle.fuse_theorem.proofs.Lists.OpenSums.{has_number, CountsOpens, opens_counted, fewer_pass}
+use Rattle.fuse_theorem.proofs.Lists.OpenSums.{has_handle, CountsOpens, opens_counted, fewer_pass}
 
 -- ---- what holds of each open file
 
@@ -98,12 +98,12 @@ module _ (w : World) (nodes : NodesKnown w.kernel) (releases : ReleasesKnown w) 
 -- ---- what is counted is there
 
 -- Each open file's number is one of the server's.
-pub numbers_there : (w : World) → CountsOpens w → All (λ (o : Opened). IsFileHandle w.server.handles o.fh) (open_files w)
-numbers_there w counts i d lt none =
+pub handles_there : (w : World) → CountsOpens w → All (λ (o : Opened). IsFileHandle w.server.handles o.fh) (open_files w)
+handles_there w counts i d lt none =
     let o = get_or (open_files w) i d in
-    let sum : has_number o.fh o ≤ sum_by (has_number o.fh) (open_files w) =
-    get_or-le-sum_by (has_number o.fh) (open_files w) i d lt in
-    let here : has_number o.fh o ≡ 1 = ap {B = ℕ} (λ (b : Bool). cond b 1 0) (same_is o.fh) in
+    let sum : has_handle o.fh o ≤ sum_by (has_handle o.fh) (open_files w) =
+    get_or-le-sum_by (has_handle o.fh) (open_files w) i d lt in
+    let here : has_handle o.fh o ≡ 1 = ap {B = ℕ} (λ (b : Bool). cond b 1 0) (same_is o.fh) in
     let whole = counts o.fh in
     let zero_here : handle_count (get w.server.handles.handles o.fh) ≡ 0 = ap handle_count none in
     absurd (omega (arith, sum, here, whole, zero_here))
@@ -121,7 +121,7 @@ pub files_still : (w v : World) → All (λ (o : Opened). IsKnown w.kernel.nodes
 files_still w v known same_nodes held held_after denotes same_files fewer old counts = record {
   balance = opens_counted v counts;
   files = λ i d lt. let o = get_or (open_files v) i d in
-      still o (known_left i d lt) (were i d lt) (numbers_there v counts i d lt);
+      still o (known_left i d lt) (were i d lt) (handles_there v counts i d lt);
 }
   where
     is_known : Opened → Bool

@@ -11,7 +11,7 @@ use Rattle.fuse_theorem.specs.Copies.{SomeHas, here, there}
 use Rattle.fuse_theorem.specs.OpenNumbers.{open_files}
 use Rattle.fuse_theorem.specs.OpensOnce.{CarriesOpen, OpensOnce}
 use Rattle.fuse_theorem.proofs.Calls.Finding.{other_is}
-use Rattle.fuse_theorem.proofs.Lists.OpenSums.{has_number}
+use Rattle.fuse_theorem.proofs.Lists.OpenSums.{has_handle}
 
 -- ---- an element that has a property
 
@@ -44,7 +44,7 @@ module _ {X : Type 0} (P : X → Type 0) where
 
 -- How many open files have the number.
 abbrev pub files_with : ℕ → World → ℕ
-files_with fh w = sum_by (has_number fh) (open_files w)
+files_with fh w = sum_by (has_handle fh) (open_files w)
 
 module _ (w v : World) (old : OpensOnce w) where
   -- No more replies carry a number, no more files are open, and what is awaited was awaited.
@@ -106,7 +106,7 @@ module _ (w v : World) (old : OpensOnce w) where
       → ((u fh : ℕ) → CarriesOpen w u fh → request_under v.kernel.queues u ≢ None → request_under w.kernel.queues u ≢ None)
       → CarriesOpen w unique o.fh → request_under w.kernel.queues unique ≢ None
       → request_under v.kernel.queues unique ≡ None → ((fh : ℕ)
-      → files_with fh v ≡ files_with fh w + has_number fh o) → OpensOnce v
+      → files_with fh v ≡ files_with fh w + has_handle fh o) → OpensOnce v
   one_opened unique o rises carried awaited mine waited ended more = record {
     below = λ u fh c. let was = old.below u fh (carried u fh c) in omega (arith, rises, was);
     one = λ a b fh c d. old.one a b fh (carried a fh c) (carried b fh d);

@@ -121,7 +121,7 @@ open_meant w o meant fits =
       meant.0,
       record {
         node_means = means;
-        is_number =
+        is_handle =
             subst (λ (file : ℕ). is_open w.server.handles o.fh file ≡ true) same fits;
       },
     )

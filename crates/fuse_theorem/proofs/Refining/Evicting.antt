@@ -145,7 +145,7 @@ module _ (w : World) (p : Plain) (same : Alike w p) (node : ℕ) (root : w.kerne
     opens_stay = λ o file among opened m. record {
       node_means =
           still o.nodeid file (not_among node ids o.nodeid none among) m.node_means;
-      is_number = m.is_number;
+      is_handle = m.is_handle;
     };
   }
 
@@ -169,7 +169,7 @@ module _ (w : World) (p : Plain) (same : Alike w p) (node : ℕ) (root : w.kerne
         record {
           node_means = still o.nodeid file (λ e. true≢false
               (sym (subst (λ (n : ℕ). nat_eq n node ≡ true) (sym e) (same_is node)) ∙ other)) m.node_means;
-          is_number = m.is_number;
+          is_handle = m.is_handle;
         };
     calls = λ call state at. stays (nodes_of_state state) (opens_of (asked state))
         (found_fails OfCalls w.kernel.vfs.calls call state pins.0 at);

@@ -184,12 +184,12 @@ module _ (w : World) (p : Plain) (same : Alike w p) (t : NodeTable)
   pub carries_fewer : Carries w p w.kernel.nodes t w.server.handles
   carries_fewer = record {
     means = means;
-    opens = λ o file m. record { node_means = means o.nodeid file m.node_means; is_number = m.is_number };
+    opens = λ o file m. record { node_means = means o.nodeid file m.node_means; is_handle = m.is_handle };
     one = one_to_one w.kernel.nodes t one_left;
     held_nodes = λ u x at id file among m. meant u x at id file m;
     held_opens = λ u x at o file among m. record {
       node_meant = meant u x at o.nodeid file m.node_meant;
-      is_number = m.is_number;
+      is_handle = m.is_handle;
     };
     kept = λ live u k ask at there told.
         stage_more w.server.nodes t w.server.handles w.server.handles ask.stage k.wire

@@ -178,7 +178,7 @@ received_fits nodes t h (create d name) asked (created g v fh) (created file v' 
           known = known;
           denotes = subst (λ (n : ℕ). Denotes t g.nodeid g.generation n) one_file told.0;
         };
-        is_number = told.2;
+        is_handle = told.2;
       },
     )
 received_fits nodes t h (opening node) (opening file) (opened fh) (opened o) goes used its same told =
@@ -189,7 +189,7 @@ received_fits nodes t h (opening node) (opening file) (opened fh) (opened o) goe
         known = same.known;
         denotes = subst (λ (n : ℕ). Denotes t node same.generation n) one_file same.denotes;
       };
-      is_number = told;
+      is_handle = told;
     }
 received_fits nodes t h operation asked (attributes a) (attributes b) goes used its same told = told
 received_fits nodes t h operation asked (listed xs) (listed ys) goes used its same told = told

@@ -79,8 +79,8 @@ all_given_nodes choice (f ∷ files) t no_root may =
     (λ e. not_the_root t no_root f (choice f) may.0 (sym e)) ∙ no_root) may.1)
 
 -- the number that an open file is given
-pub opened_number : (h : HandleTable) (file : ℕ) → is_open (handle_opened h file) h.next_fh file ≡ true
-opened_number h file = ap (is_file_of file) (get_put_here h.handles h.next_fh
+pub opened_handle : (h : HandleTable) (file : ℕ) → is_open (handle_opened h file) h.next_fh file ≡ true
+opened_handle h file = ap (is_file_of file) (get_put_here h.handles h.next_fh
     (record { file = file; count = 1 })) ∙ same_is file
 
 -- A reply as it is sent says what the tree replied.
@@ -91,8 +91,8 @@ pub named_alike : (choice : ℕ → ℕ) (t : NodeTable) (h : HandleTable) (tree
 named_alike choice t h tree (found file v) no_root may = (given_node t no_root file (choice file) may.0, refl)
 named_alike choice t h tree (missing v) no_root may = refl
 named_alike choice t h tree (created file v o) no_root may =
-    (given_node t no_root file (choice file) may.0, refl, opened_number h o)
-named_alike choice t h tree (opened o) no_root may = opened_number h o
+    (given_node t no_root file (choice file) may.0, refl, opened_handle h o)
+named_alike choice t h tree (opened o) no_root may = opened_handle h o
 named_alike choice t h tree (attributes a) no_root may = refl
 named_alike choice t h tree (listed xs) no_root may = refl
 named_alike choice t h tree (listed_plus pairs) no_root may =

@@ -72,10 +72,10 @@ module _ (w : World) (p : Plain) (same : Alike w p) where
         → Stands p.tree w.server.tree.files Kept_if same.tree.files file
     opened_stands o file m = stands o.nodeid file m.node_meant
 
-    number_open : (o : Opened) (file : ℕ) → OpenStillDenotes w.server.nodes w.server.handles generations o file
+    handle_open : (o : Opened) (file : ℕ) → OpenStillDenotes w.server.nodes w.server.handles generations o file
         → is_open w.server.handles o.fh (file_of w.server.nodes o.nodeid) ≡ true
-    number_open o file m = ap (λ (f : ℕ). is_open w.server.handles o.fh f)
-        (denoted w.server.nodes o.nodeid m.node_meant.generation file m.node_meant.denotes) ∙ m.is_number
+    handle_open o file m = ap (λ (f : ℕ). is_open w.server.handles o.fh f)
+        (denoted w.server.nodes o.nodeid m.node_meant.generation file m.node_meant.denotes) ∙ m.is_handle
 
     operation_stands : (a : Operation ℕ Opened) (b : FileOperation)
         → OperationAlike (StillDenotes w.server.nodes generations) (OpenStillDenotes w.server.nodes w.server.handles generations) a b
@@ -109,8 +109,8 @@ module _ (w : World) (p : Plain) (same : Alike w p) where
     open_for (opening x) b h = refl
     open_for (readdir d after size) b h = refl
     open_for (readdirplus d after size) b h = refl
-    open_for (read o offset size) (read file offset' size') h = number_open o file h.0
-    open_for (write o offset bytes) (write file offset' bytes') h = number_open o file h.0
+    open_for (read o offset size) (read file offset' size') h = handle_open o file h.0
+    open_for (write o offset bytes) (write file offset' bytes') h = handle_open o file h.0
     open_for (read o offset size) b h = absurd h
     open_for (write o offset bytes) b h = absurd h
 
@@ -338,8 +338,8 @@ module _ (w : World) (p : Plain) (same : Alike w p) (choice : ℕ → ℕ) (uniq
 
     opens_still : (r : Reply ℕ ℕ) (fh file : ℕ) → is_open w.server.handles fh file ≡ true
         → is_open (all_opened w.server.handles (opens_in_reply r)) fh file ≡ true
-    opens_still (created x v o) fh file h = opened_open w.server.handles o tables.new_number fh file h
-    opens_still (opened o) fh file h = opened_open w.server.handles o tables.new_number fh file h
+    opens_still (created x v o) fh file h = opened_open w.server.handles o tables.new_handle fh file h
+    opens_still (opened o) fh file h = opened_open w.server.handles o tables.new_handle fh file h
     opens_still (found x v) fh file h = h
     opens_still (missing v) fh file h = h
     opens_still (attributes a) fh file h = h

@@ -17,7 +17,7 @@ use Rattle.fuse_spec.specs.Claim.Alike.{RequestBodyAsked, StillDenotes, OpenStil
 use Rattle.fuse_theorem.specs.Conditions.{OneId, HoldsAll, HoldsOpens, CanRelease}
 use Rattle.fuse_theorem.proofs.Refining.UnusedNodesDropped.{Narrows, fewer_nodes_refine}
 use Rattle.fuse_theorem.proofs.Refining.Serving.{unheld_alike, replied_alike}
-use Rattle.fuse_theorem.proofs.Refining.Settling.{number_back, handle_back_files, narrows_fewer}
+use Rattle.fuse_theorem.proofs.Refining.Settling.{handle_back_left, handle_back_files, narrows_fewer}
 use Rattle.fuse_theorem.proofs.Trees.NamelessDiscarded.{discarded_unheld_alike}
 
 -- the world in which a request is held no longer
@@ -135,5 +135,5 @@ module _ (w : World) (p : Plain) (same : Alike w p) (choice : ℕ → ℕ) (uniq
       (λ (b : Bool). cond b (record { server = record s1 { handles = numbers }; wire = done })
       (refusing s1 9)) can.number)
       (narrows_fewer (unheld w unique) p (unheld_alike w p same unique) one w.server.nodes numbers
-      (λ i generation file d. d) (number_back w.server.handles o.fh) holds opens)
+      (λ i generation file d. d) (handle_back_left w.server.handles o.fh) holds opens)
       (λ file h. handle_back_files file o.fh w.server.handles h)

@@ -110,9 +110,9 @@ rows_back_files file (g ∷ gs) t h = by (is_held t g.nodeid g.generation) (rows
     by false e = e
 
 -- a file handle that is left is one of the same file
-pub number_back : (t : HandleTable) (q fh : ℕ) (y : FileHandle) → get (handle_back t q).handles fh ≡ Some y
+pub handle_back_left : (t : HandleTable) (q fh : ℕ) (y : FileHandle) → get (handle_back t q).handles fh ≡ Some y
     → (x : FileHandle) × (get t.handles fh ≡ Some x) × (y.file ≡ x.file)
-number_back t q fh y at = by (get t.handles q) refl at
+handle_back_left t q fh y at = by (get t.handles q) refl at
   where
     counted : (x : FileHandle) (b : Bool) → get t.handles q ≡ Some x
         → get (cond b (put t.handles q (record x { count = x.count - 1 })) (remove t.handles q)) fh ≡ Some y
@@ -134,12 +134,12 @@ number_back t q fh y at = by (get t.handles q) refl at
     by None there h = (y, h, refl)
     by (Some x) there h = counted x (nat_lt 1 x.count) there h
 
-numbers_back : (fhs : List ℕ) (t : HandleTable) (fh : ℕ) (y : FileHandle)
+handles_back_left : (fhs : List ℕ) (t : HandleTable) (fh : ℕ) (y : FileHandle)
     → get (handles_back t fhs).handles fh ≡ Some y → (x : FileHandle) × (get t.handles fh ≡ Some x) × (y.file ≡ x.file)
-numbers_back [] t fh y at = (y, at, refl)
-numbers_back (q ∷ fhs) t fh y at =
-    let z = numbers_back fhs (handle_back t q) fh y at in
-    let x = number_back t q fh z.0 z.1 in
+handles_back_left [] t fh y at = (y, at, refl)
+handles_back_left (q ∷ fhs) t fh y at =
+    let z = handles_back_left fhs (handle_back t q) fh y at in
+    let x = handle_back_left t q fh z.0 z.1 in
     (x.0, x.1, z.2 ∙ x.2)
 
 pub handle_back_files : (file q : ℕ) (t : HandleTable)
@@ -190,7 +190,7 @@ module _ (w : World) (p : Plain) (same : Alike w p) (one : OneId w.server.nodes)
     targets = λ id name bound at target file is m. means w p same t fewer one holds target file m;
     opens = λ open_call o at file m. record {
       node_means = means w p same t fewer one holds o.nodeid file m.node_means;
-      is_number = open_still o.fh file (opens.opens open_call o at) m.is_number;
+      is_handle = open_still o.fh file (opens.opens open_call o at) m.is_handle;
     };
     calls = λ call state at.
         record {
@@ -198,8 +198,8 @@ module _ (w : World) (p : Plain) (same : Alike w p) (one : OneId w.server.nodes)
           opens_stay = λ o file node among m. record {
             node_means =
                 means w p same t fewer one holds o.nodeid file m.node_means;
-            is_number =
-                open_still o.fh file (opens.calls call state at o among) m.is_number;
+            is_handle =
+                open_still o.fh file (opens.calls call state at o among) m.is_handle;
           };
         };
     sent = λ i r lt.
@@ -208,16 +208,16 @@ module _ (w : World) (p : Plain) (same : Alike w p) (one : OneId w.server.nodes)
           opens_stay = λ o file node among m. record {
             node_means =
                 means w p same t fewer one holds o.nodeid file m.node_means;
-            is_number =
-                open_still o.fh file (opens.sent i r lt o among) m.is_number;
+            is_handle =
+                open_still o.fh file (opens.sent i r lt o among) m.is_handle;
           };
         };
     held_nodes = λ u x at id file among m. meant w p same t fewer one holds u x at id file m;
     held_opens = λ u x at o file among m. record {
       node_meant =
           meant w p same t fewer one holds u x at o.nodeid file m.node_meant;
-      is_number =
-          open_still o.fh file (opens.held u x at o among) m.is_number;
+      is_handle =
+          open_still o.fh file (opens.held u x at o among) m.is_handle;
     };
     kept = λ live u k ask at there told.
         let waits = unanswered w p same t fewer one holds live u ask there in
@@ -254,7 +254,7 @@ given_back_alike w p one same wire holds opens =
     (handles_back_files file (opens_in_reply wire) w.server.handles)) in
     fewer_nodes_refine w p same w.kernel.nodes t h (without_unheld_files s).tree p.tree
     (narrows_fewer w p same one t h (rows_back_denotes (files_in_reply wire) w.server.nodes)
-    (numbers_back (opens_in_reply wire) w.server.handles) holds opens) trees
+    (handles_back_left (opens_in_reply wire) w.server.handles) holds opens) trees
   where
     both : (a b c d : Bool) → (a || b) ≡ true → (a ≡ true → c ≡ true) → (b ≡ true → d ≡ true) → (c || d) ≡ true
     both true b c d h f g = ap (λ (x : Bool). x || d) (f refl)

@@ -233,13 +233,13 @@ grown w p nodes t h known denotes open_still one = record {
   means = means;
   opens = λ o file m. record {
     node_means = means o.nodeid file m.node_means;
-    is_number = open_still o.fh file m.is_number;
+    is_handle = open_still o.fh file m.is_handle;
   };
   one = one;
   held_nodes = λ u x at id file among m. meant x.generations id file m;
   held_opens = λ u x at o file among m. record {
     node_meant = meant x.generations o.nodeid file m.node_meant;
-    is_number = open_still o.fh file m.is_number;
+    is_handle = open_still o.fh file m.is_handle;
   };
   kept = λ live u k ask at there told. stage_more w.server.nodes t w.server.handles h ask.stage k.wire
       (λ g file among d. denotes g.nodeid g.generation file d) (λ fh file among o. open_still fh file o) told;

@@ -1,13 +1,13 @@
 use Rattle.fuse_spec.specs.Server.Nodes.{handle_back}
-use Rattle.fs_server.proofs.DiscardsUnheld.{but_number_back, discards_from, discards_none}
-use Rattle.fs_server.proofs.settling.number_back.Goals as goal
+use Rattle.fs_server.proofs.DiscardsUnheld.{but_handle_back, discards_from, discards_none}
+use Rattle.fs_server.proofs.settling.uncount_handle_if_any.Goals as goal
 
 pub returns-in_default : goal.returns-in_default
 returns-in_default g c = rw c.in_default.is (discards_none c.args.files.now c.requires)
 
 pub discard_unheld-requires : goal.discard_unheld-requires
 discard_unheld-requires g c =
-    but_number_back c.args.files.now c.uncount_handle.new.self c.requires c.uncount_handle.ensures.tree c.number_file-file.result c.in-Some.fh c.number_file-file.ensures c.uncount_handle.ensures.nodes c.uncount_handle.ensures.handles
+    but_handle_back c.args.files.now c.uncount_handle.new.self c.requires c.uncount_handle.ensures.tree c.handle_file-file.result c.in-Some.fh c.handle_file-file.ensures c.uncount_handle.ensures.nodes c.uncount_handle.ensures.handles
 
 pub returns : goal.returns
 returns g c =
