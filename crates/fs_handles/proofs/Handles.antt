@@ -33,7 +33,7 @@ pub get_there : (es : List (ℕ × OpenFile)) (fh : ℕ) (found : Option OpenFil
     → get (handles_of es) fh ≡ option_map handle_of found
 get_there es fh found is = get-handles_of es fh ∙ ap (option_map handle_of) is
 
--- what a look-up finds where what stands under a number was written
+-- what a look-up finds where what stands under a handle was written
 get_written : (new old : List (ℕ × OpenFile)) (fh : ℕ) (kept : Option OpenFile)
     → ((q : ℕ) → lookup (nat_eq q) new ≡ cond (nat_eq fh q) kept (lookup (nat_eq q) old))
     → (q : ℕ) → get (handles_of new) q ≡ cond (nat_eq fh q) (option_map handle_of kept) (get (handles_of old) q)

@@ -72,7 +72,7 @@ numbers-swap_remove file test es old is = by (position test (keys_of es)) refl
         let one = ap (handle_use_of file) value in
         omega (arith, out, sums, one)
 
--- a write of another count under a number in use
+-- a write of another count under a handle in use
 pub recounted : {opens : List (ℕ × OpenFile)} {uses : List (ℕ × ℕ)} {next : ℕ} (new : List (ℕ × OpenFile)) (fh : ℕ)
     (old with : OpenFile) → AreUsesCounted opens uses next
     → lookup (nat_eq fh) opens ≡ Some old → with.file ≡ old.file → new ≡ set_value (nat_eq fh) opens with
@@ -98,7 +98,7 @@ recounted {opens = opens} {uses = uses} {next = next} new fh old with table is s
       | inr ne ↦ (let none = table.fresh q le in grind (arith, ne, none, rules))
     ]
 
--- the last use of a number is taken back
+-- the last use of a handle is taken back
 pub ended : {opens : List (ℕ × OpenFile)} {uses : List (ℕ × ℕ)} {next : ℕ} (new : List (ℕ × OpenFile))
     (fewer : List (ℕ × ℕ)) (fh : ℕ) (old : OpenFile) → AreUsesCounted opens uses next
     → lookup (nat_eq fh) opens ≡ Some old → new ≡ swap_remove_entry (nat_eq fh) opens
@@ -146,7 +146,7 @@ ended {opens = opens} {uses = uses} {next = next} new fewer fh old table is remo
     fresh_at : (q : ℕ) → next ≤ q → cond (nat_eq fh q) None (lookup (nat_eq q) opens) ≡ None
     fresh_at q le = (let none = table.fresh q le in grind (arith, none, rules))
 
--- a number is given
+-- a handle is given
 pub given : {opens : List (ℕ × OpenFile)} {uses : List (ℕ × ℕ)} {next : ℕ} (new : List (ℕ × OpenFile))
     (more : List (ℕ × ℕ)) (file : ℕ) (with : OpenFile) → AreUsesCounted opens uses next
     → next < 2 ^ 62 → with.file ≡ file → new ≡ opens ++ (next, with) ∷ []

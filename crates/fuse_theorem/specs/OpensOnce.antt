@@ -15,7 +15,7 @@ abbrev pub CarriesOpen : World → (unique fh : ℕ) → Type 0
 CarriesOpen w unique fh = ((k : Kept) × (get w.server.kept unique ≡ Some k) × (1 ≤ opens_in fh k.wire))
     ⊎ SomeHas (λ (s : Sent). (s.unique ≡ unique) × (1 ≤ opens_in fh s.wire)) w.replies
 
--- A number is of one open file at most. Replies to one request alone carry it, and until that is answered no open file
+-- A handle is of one open file at most. Replies to one request alone carry it, and until that is answered no open file
 -- has it.
 pub record OpensOnce (w : World) : Type 0 where
   pub below : (unique fh : ℕ) → CarriesOpen w unique fh → fh < w.server.handles.next_fh

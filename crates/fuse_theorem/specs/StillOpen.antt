@@ -27,7 +27,7 @@ pub record HandlesStillOpen (nodes : NodeTable) (handles : HandleTable) (held : 
 abbrev pub HeldHandlesOpen : World → Type 0
 HeldHandlesOpen w = HandlesStillOpen w.server.nodes w.server.handles w.server.held
 
--- No call is unanswered, no file is open, and the numbers that held requests name are open still.
+-- No call is unanswered, no file is open, and the handles that held requests name are open still.
 pub record OpensLeft (w : World) : Type 0 where
   pub numbers : HeldHandlesOpen w
   pub calls : w.kernel.vfs.calls ≡ []

@@ -24,7 +24,7 @@ use Rattle.fuse_theorem.proofs.Lists.Values.{All-get}
 
 -- ---- what is counted is held
 
--- Each number that a copy carries is one of the server's.
+-- Each handle that a copy carries is one of the server's.
 pub copies_there : (w : World) → CountsOpens w → All
     (λ (s : Sent). (fh : ℕ) → Contains (opens_in_reply s.wire) fh → IsFileHandle w.server.handles fh) w.replies
 copies_there w counts i s lt fh named none =

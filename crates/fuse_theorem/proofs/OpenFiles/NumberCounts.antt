@@ -50,9 +50,9 @@ gone_count m n fh = elim (cases_eq n fh) [
       (λ (b : Bool). cond b 0 (handle_count (get m fh))) (sym (other_is n fh ne))
 ]
 
--- ---- one number
+-- ---- one handle
 
--- One use of a number is given back.
+-- One use of a handle is given back.
 pub back_count : (h : HandleTable) (n fh : ℕ) → fh_count (handle_back h n) fh ≡ fh_count h fh - one_at n fh
 back_count h n fh = by (get h.handles n) refl
   where
@@ -91,7 +91,7 @@ back_count h n fh = by (get h.handles n) refl
             gone_count h.handles n fh ∙ ap (λ (m : ℕ). cond (nat_eq n fh) m (fh_count h fh)) none ∙ sym
             (tied (nat_eq n fh) refl)
 
--- A number that is there is counted once more.
+-- A handle that is there is counted once more.
 pub more_count : (h : HandleTable) (n fh : ℕ) → get h.handles n ≢ None
     → fh_count (handle_more h n) fh ≡ fh_count h fh + one_at n fh
 more_count h n fh there = by (get h.handles n) refl
@@ -110,7 +110,7 @@ more_count h n fh there = by (get h.handles n) refl
     by None at = absurd (there at)
     by (Some x) at = put_count h.handles n fh (record x { count = x.count + 1 }) ∙ tied x at (nat_eq n fh) refl
 
--- A new number is counted once.
+-- A new handle is counted once.
 pub new_count : (h : HandleTable) (file fh : ℕ) → get h.handles h.next_fh ≡ None
     → fh_count (handle_opened h file) fh ≡ fh_count h fh + one_at h.next_fh fh
 new_count h file fh none = put_count h.handles h.next_fh fh (record { file = file; count = 1 }) ∙ tied
@@ -146,7 +146,7 @@ tie_back a b = elim (cases_eq a b) [
   | inr ne ↦ other_is a b ne ∙ sym (other_is b a (λ e. ne (sym e)))
 ]
 
--- A number in a list of one.
+-- A handle in a list of one.
 pub number_alone : (n fh : ℕ) → one_at n fh ≡ count_by (nat_eq fh) (n ∷ [])
 number_alone n fh =
     let alone = count_by-cons (nat_eq fh) n [] in
@@ -206,7 +206,7 @@ wire_opened choice t tree h none (failed e) fh = omega arith
 
 -- ---- the files of file handles
 
--- A number that is there still is of the same file.
+-- A handle that is there still is of the same file.
 abbrev pub SameFiles : HandleTable → HandleTable → Type 0
 SameFiles h h' = (fh file : ℕ) → get h'.handles fh ≢ None → is_open h fh file ≡ true → is_open h' fh file ≡ true
 

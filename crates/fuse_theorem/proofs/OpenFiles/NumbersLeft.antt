@@ -49,7 +49,7 @@ module _ {X : Type 0} (f : X → ℕ) where
             omega (arith, whole, stays, more, found, rest)
       ]
 
--- ---- a number is given back
+-- ---- a handle is given back
 
 -- how often it is given back where it is this one
 abbrev back_if : ℕ → ℕ → ℕ
@@ -90,7 +90,7 @@ back_count h fh q = elim (cases_eq q fh) [
         either true = get_put_there h.handles fh (record x { count = x.count - 1 }) q ne
         either false = get_gone_there h.handles fh q ne
 
--- A number that is counted still is one of the same file.
+-- A handle that is counted still is one of the same file.
 still_open : (h : HandleTable) (fh q file : ℕ) → is_open h q file ≡ true
     → 1 ≤ handle_count (get (handle_back h fh).handles q) → is_open (handle_back h fh) q file ≡ true
 still_open h fh q file was counted = by (get (handle_back h fh).handles q) refl counted
@@ -109,7 +109,7 @@ module _ (nodes : NodeTable) (handles : HandleTable) (held : Map HeldRequest)
   abbrev left : Map HeldRequest
   left = remove held unique
 
-  -- those that are left release no number more often
+  -- those that are left release no handle more often
   releases_left : (fh : ℕ) (t : HeldRequest) → get held unique ≡ Some t
       → releases_held left fh + releases_in fh t.body ≤ releases_held held fh
   releases_left fh t there =
@@ -176,7 +176,7 @@ module _ (nodes : NodeTable) (handles : HandleTable) (held : Map HeldRequest)
     counted_still u x at o (batch_forget fs) is among = absurd (let lt = among.1 in omega (arith, lt))
     counted_still u x at o (interrupt original) is among = absurd (let lt = among.1 in omega (arith, lt))
 
-    -- A RELEASE is held no longer, and its number is given back.
+    -- A RELEASE is held no longer, and its handle is given back.
     pub released_open : HandlesStillOpen nodes back left
     released_open = record {
       files = λ u x at o among. still_open handles given.fh o.fh (file_of nodes o.nodeid)

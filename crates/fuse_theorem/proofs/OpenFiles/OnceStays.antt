@@ -61,7 +61,7 @@ use Rattle.fuse_theorem.proofs.Requests.QueueMoves.{QueueMoves, read_moves, begu
 use Rattle.fuse_theorem.proofs.Refining.Queuing.{All-at}
 use Rattle.fuse_theorem.proofs.Refining.Settling.{kept_was}
 
--- ---- what carries a number
+-- ---- what carries a handle
 
 -- What holds of each holds of the one that has a property.
 one_of : {X : Type 0} (P Q : X → Type 0) (xs : List X) → SomeHas P xs → All Q xs → (x : X) × P x × Q x
@@ -232,7 +232,7 @@ module _ (choice : ℕ → ℕ) (w : World) (p : Plain) (both : BothSound w p) (
         (performed choice (record w.server { held = remove w.server.held unique }) t)
     allocates = performed_allocates choice (record w.server { held = remove w.server.held unique }) t
 
-    -- no file has the coming number
+    -- no file has the coming handle
     none_coming : files_with w.server.handles.next_fh w ≡ 0
     none_coming =
         let server = lookups.server in

@@ -48,7 +48,7 @@ module _ (w : World) (p : Plain) (both : BothSound w p) (old : OpensSound w)
   counts : CountsOpens w
   counts = counts_opens w balanced.balance
 
-  -- The server holds the numbers that are in use and on their way.
+  -- The server holds the handles that are in use and on their way.
   pub opens_held : HoldsOpens w w.server.handles
   opens_held = counted_held w w.server.handles old.apart (both.asked live) both.kept (handles_there w counts)
       (copies_there w counts)
@@ -57,11 +57,11 @@ module _ (w : World) (p : Plain) (both : BothSound w p) (old : OpensSound w)
 
   module _ (unique : ℕ) (t : HeldRequest) (at : get w.server.held unique ≡ Some t) (o : Opened)
       (is : t.body ≡ release o) where
-    -- Its number is one of its node's file.
+    -- Its handle is one of its node's file.
     pub release_handle : is_open w.server.handles o.fh (file_of w.server.nodes o.nodeid) ≡ true
     release_handle = held_fits w balanced.files unique t at o is
 
-    -- the world where it is not held any longer, and its number is given back
+    -- the world where it is not held any longer, and its handle is given back
     abbrev after : World
     after = record w {
       server = record w.server {
@@ -103,7 +103,7 @@ module _ (w : World) (p : Plain) (both : BothSound w p) (old : OpensSound w)
       first = asked.first;
     }
 
-    -- The server holds the other numbers still.
+    -- The server holds the other handles still.
     pub released_held_still : HoldsOpens unheld (handle_back w.server.handles o.fh)
     released_held_still =
         let held = counted_held after (handle_back w.server.handles o.fh) old.apart asked_after both.kept
@@ -119,7 +119,7 @@ module _ (w : World) (p : Plain) (both : BothSound w p) (old : OpensSound w)
 
   -- ---- what held requests name
 
-  -- Each number that a held request names is counted often enough for all of them.
+  -- Each handle that a held request names is counted often enough for all of them.
   pub held_handles : HeldHandlesOpen w
   held_handles =
       balanced_open w p both.alike both.asked live balanced.balance
@@ -133,7 +133,7 @@ module _ (w : World) (p : Plain) (both : BothSound w p) (old : OpensSound w)
 
 -- ---- a copy is settled
 
--- After a copy is settled the server holds the numbers that are in use and on their way.
+-- After a copy is settled the server holds the handles that are in use and on their way.
 pub settled_held : (w : World) (p : Plain) → BothSound w p → ReleasesKnown w → OpensSound w
     → (k : ℕ) (result : ReplyResult) (copy : Copy) → slice_get w.results k ≡ Some result
     → get w.server.copies result.number ≡ Some copy

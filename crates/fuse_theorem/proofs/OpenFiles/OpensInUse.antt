@@ -1,4 +1,4 @@
--- The number of each open file stays one of its node's file as the server's tables change.
+-- The handle of each open file stays one of its node's file as the server's tables change.
 use Rattle.std.proofs.Common.{◌≡◌, ◌≢◌, ℕ, ◌≤◌, Bool, true, true≢false, cond, List, [], ◌∷◌, ◌++◌, Option, Some, None, is_some, get_or, refl, ap, sym, subst, ◌∙◌, arith, All}
 use Rattle.std.specs.Prelude.{sum_by}
 use Rattle.std.proofs.lemmas.List.Elements.{All-nil, All-cons, All-head, All-tail, All-append}
@@ -97,7 +97,7 @@ module _ (w : World) (nodes : NodesKnown w.kernel) (releases : ReleasesKnown w) 
 
 -- ---- what is counted is there
 
--- Each open file's number is one of the server's.
+-- Each open file's handle is one of the server's.
 pub handles_there : (w : World) → CountsOpens w → All (λ (o : Opened). IsFileHandle w.server.handles o.fh) (open_files w)
 handles_there w counts i d lt none =
     let o = get_or (open_files w) i d in
@@ -110,7 +110,7 @@ handles_there w counts i d lt none =
 
 -- ---- the tables change
 
--- No more files are open than were, and those that are known are held as before: each number that is there still is one
+-- No more files are open than were, and those that are known are held as before: each handle that is there still is one
 -- of its node's file.
 pub files_still : (w v : World) → All (λ (o : Opened). IsKnown w.kernel.nodes o.nodeid) (open_files w)
     → v.kernel.nodes ≡ w.kernel.nodes → KnownAreHeld w → KnownAreHeld v

@@ -151,7 +151,7 @@ module _ (w : World) (old : OpensBalanced w) (copies : CopiesSound w) (k : ℕ) 
   abbrev was_open : Opened → Bool
   was_open o = is_open w.server.handles o.fh (file_of w.server.nodes o.nodeid)
 
-  -- the file that is opened has a number of its node's file
+  -- the file that is opened has a handle of its node's file
   new_fits : (o : Option Opened) → ((x : Opened) → o ≡ Some x → IsOfItsNode w.server x) → worth (failing was_open) o ≡ 0
   new_fits None each = refl
   new_fits (Some x) each = ap {B = ℕ} (λ (b : Bool). cond b 0 1) (each x refl)

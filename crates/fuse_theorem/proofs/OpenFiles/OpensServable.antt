@@ -90,7 +90,7 @@ module _ (w : World) (files : All (IsOfItsNode w.server) (open_files w)) where
         cc in subst (λ (b : RequestBody). All Fits (opens_of_body b)) same released
     kept_fit (purpose.Call call) released body is = called_fit call (get w.kernel.vfs.calls call) refl body is
 
-    -- The numbers that pending requests name.
+    -- The handles that pending requests name.
     pub pending_servable : (e : ℕ × QueuedRequest Purpose) → All Fits (released_for e.1.kept) → (body : RequestBody)
         → body_of w.kernel e.1.kept ≡ Some body → All Fits (opens_of_body body)
     pending_servable e released body is = kept_fit e.1.kept released body is

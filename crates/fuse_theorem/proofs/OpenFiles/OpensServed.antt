@@ -28,7 +28,7 @@ use Rattle.fuse_theorem.proofs.Lists.MapSums.{Rises, worth, sum_put}
 use Rattle.fuse_theorem.proofs.OpenFiles.NumberCounts.{fh_count, counted_counts, given_back_counts}
 use Rattle.fuse_theorem.proofs.Lists.OpenSums.{has_handle, held_sum, open_sum, CountsOpens}
 
--- How often copies on the reply link carry a number, and how often the refused ones did.
+-- How often copies on the reply link carry a handle, and how often the refused ones did.
 abbrev pub replies_carry : ℕ → List Sent → ℕ
 replies_carry fh replies = sum_by (λ (s : Sent). opens_in fh s.wire) replies
 

@@ -19,14 +19,14 @@ use Rattle.fuse_theorem.proofs.OpenFiles.NumberCounts.{fh_count, back_count, ope
 use Rattle.fuse_theorem.proofs.Lists.OpenSums.{has_handle}
 use Rattle.fuse_theorem.proofs.Lookups.WireCounts.{OneAtMost, nothing, one}
 
--- The numbers that the reply carries are counted once more, and the one that is released once less; those that are left
+-- The handles that the reply carries are counted once more, and the one that is released once less; those that are left
 -- are of the same files.
 pub record Numbers (s : Server) (body : RequestBody) (did : PerformResult) : Type 0 where
   pub counts : (fh : ℕ) → fh_count did.server.handles fh + sum_by (has_handle fh) (released_by body)
       ≡ fh_count s.handles fh + opens_in fh did.wire
   pub files : SameFiles s.handles did.server.handles
 
--- What is needed of a RELEASE: that it is performed, and its number is counted.
+-- What is needed of a RELEASE: that it is performed, and its handle is counted.
 pub record Releases (s : Server) (t : HeldRequest) (o : Opened) : Type 0 where
   pub unmarked : t.marked ≡ false
   pub still : is_still_held s.nodes t.generations ≡ true

@@ -24,7 +24,7 @@ use Rattle.fuse_theorem.proofs.Requests.PerformedRest.{performed_rest}
 
 -- ---- a request is performed after an abort
 
--- No number is given, and a RELEASE gives its number back or is refused.
+-- No handle is given, and a RELEASE gives its handle back or is refused.
 abbrev HandlesAfter : Server → RequestBody → HandleTable → Type 0
 HandlesAfter s body h = (h ≡ s.handles) ⊎ ((o : Opened) × (body ≡ release o) × (h ≡ handle_back s.handles o.fh))
 
@@ -116,7 +116,7 @@ module _ (w : World) (sound : WorldSound w) (live_open : is_live w.kernel.phase 
         opens = ap (λ (l : Kernel). l.vfs.opens) kernel ∙ was.opens;
       }
 
--- After an abort the numbers of what is held stay open, whatever the event.
+-- After an abort the handles of what is held stay open, whatever the event.
 pub held_handles_stay_open : (w : World) → WorldSound w → RequestsAskedWhileLive w → LinksSound w
     → (is_live w.kernel.phase ≡ true → HeldHandlesOpen w) → OpensAfterAbort w
     → (e : Event) (o : Outcome) (after : World) → Happens w e o after → OpensAfterAbort after
