@@ -4,8 +4,11 @@
 A lone word in backticks has to be a word of a source outside its comments, or in the name of a file, a folder or a crate.
 In the tables whose second column is "Definition", each rule has to lead to a definition, a function and a test.
 Each sample of Rust has to be lines of crates/callers, and the version has to be the program's everywhere. Each row with
-a line has to begin with a comment that says what it shows. Prints a line for each fault, and ends with status 1 where
-there is one.
+a line has to begin with a comment that says what it shows.
+
+Comments of sources, definitions and proofs name an identifier in backticks, or it is a name of linux/fuse.h; they have
+none of the words of the last column of WORDS.md, and no verb that a renaming broke. Prints a line for each fault, and
+ends with status 1 where there is one.
 """
 import re
 import sys
@@ -21,7 +24,19 @@ TARGETS = set(re.findall(r"^([\w-]+):", (TOP / "Makefile").read_text(), re.M))
 # Words with a hyphen that are no rows and no edits, a word of `rt plant`, and how the names of calls that take a minor end.
 WORDS = {"must-fail", "not-run", "proves", "_at"}
 # Pages with names of linux/fuse.h, which are in comments of the sources.
-OF_LINUX = {"PROTOCOL.md", "DIFFERENCES.md"}
+OF_LINUX = {"PROTOCOL.md", "DIFFERENCES.md", "WORDS.md"}
+# What comments may name without backticks: names of linux/fuse.h and of open(2) and socket(2) in capitals, its structs, and these
+# fields of them.
+CAPITALS = re.compile(r"(FUSE|O|SOCK)_[A-Z0-9_]+|BATCH_FORGET|NOTIFY_REPLY|ASYNC_READ|DO_READDIRPLUS|PARALLEL_DIROPS")
+FIELDS = set("""attr_valid attr_valid_nsec congestion_threshold entry_out entry_valid entry_valid_nsec getattr_flags lock_owner
+    map_alignment max_background max_pages max_readahead max_write open_flags read_flags release_flags time_gran
+    write_flags""".split())
+STRUCTS = set("""attr attr_out batch_forget_in create_in dirent direntplus entry_out forget_in forget_one getattr_in in_header
+    init_in init_out interrupt_in link_in mkdir_in notify_code opcode open_in open_out out_header read_in release_in rename_in
+    write_in write_out""".split())
+BROKEN = re.compile(r"\b(has|have|would|can) (?!themselves\b|thousands\b)\w+(ches|nds|kes|ves)\b")
+# The crates that draw pictures, and may say so.
+PICTURES = {"fw_draw", "fuseworld"}
 MODULES = {}
 for file in [*TOP.glob("crates/*/specs/**/*.antt"), *TOP.glob("crates/*/proofs/*.antt"), *TOP.glob("crates/fuse_theorem/proofs/*/[A-Z]*.antt")]:
     MODULES[file.stem] = MODULES.get(file.stem, "") + file.read_text()
@@ -105,11 +120,41 @@ def versions():
     yield "CHANGELOG.md", program[1], re.search(r"^## (\S+)", (TOP / "CHANGELOG.md").read_text(), re.M)[1]
     yield "man/fuseworld.1", f"fuseworld {program[1]}", re.search(r'^\.TH .*?"(.*?)"', (TOP / "man/fuseworld.1").read_text(), re.M)[1]
 
+def refused_words():
+    """The words of the last column of WORDS.md, which comments may not have."""
+    cells = [line.split("|")[1:-1] for line in (TOP / "docs/WORDS.md").read_text().split("\n") if line.startswith("| ")]
+    words = [word.strip() for row in cells if len(row) == 5 and row[4].strip() not in ("", "Not") for word in row[4].split(",")]
+    return re.compile(rf"\b({'|'.join(words)})\b", re.I)
+
+def comments(file):
+    """The comments of a source, a paragraph at a time, without what is in backticks: its first line, and its text."""
+    sign = "//[/!]?" if file.suffix == ".rt" else "--"
+    found = []
+    for number, line in enumerate(file.read_text().split("\n"), 1):
+        if match := re.match(rf"\s*{sign}(.*)", line) or re.match(rf'[^"]*\s{sign}\s(.*)', line):
+            is_next = found and found[-1][1] == number - 1 and match[1].strip()
+            found[-1:] = [*found[-1:], (number, number, match[1])] if not is_next else [(found[-1][0], number, f"{found[-1][2]}{match[1]}")]
+    return [(first, re.sub(r"`[^`]*`", "`", text)) for first, _, text in found]
+
+def is_of_linux(word):
+    return CAPITALS.fullmatch(word) or word in FIELDS or word.startswith("fuse_") and word[5:] in STRUCTS
+
+def comment_faults():
+    refused = refused_words()
+    for file in SOURCES:
+        name = file.relative_to(TOP)
+        may_draw = name.parts[1] in PICTURES
+        for number, text in comments(file):
+            words = [word for word in re.findall(r"\w*_\w+", text) if not is_of_linux(word)]
+            words += [match[0] for match in refused.finditer(text) if not (may_draw and match[0].lower().startswith("draw"))]
+            words += [match[0] for match in BROKEN.finditer(text)]
+            yield from (f"{name}:{number}: the comment says {word}" for word in words)
 
 def main():
     wrong = [f"{place}: {there}, and fuseworld --version has {program}" for place, program, there in versions() if program != there]
     wrong += [f"{page.relative_to(TOP)}: no lines of crates/callers: {sample}" for page in PAGES for sample in unlike_callers(page)]
     wrong += [f"{script.relative_to(TOP)}: no comment at its head" for script in uncommented_rows()]
+    wrong += comment_faults()
     for page in PAGES:
         in_rules = False
         for number, line in enumerate(page.read_text().split("\n"), 1):

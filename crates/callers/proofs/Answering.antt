@@ -33,7 +33,7 @@ answered_by frame old new request reply spells is goes (bytes, written, appended
     replied request spells bytes (subst (SpellsReply (opcode_of request.content) bytes) is
     (spells_reply latest_minor (opcode_of request.content) reply bytes goes written)) appended
 
--- Where only memory can be wanting for the reply, that is the fault.
+-- Where only memory for the reply can be out, that is the fault.
 pub unsent : (frame : List ℕ) (request : RequestMessage) (reply : ReplyMessage) → Spells frame request
     → reply_kind_of (opcode_of request.content) ≢ None
     → ((fault : WireFault) → ReplyRefusalIs reply fault → fault ≡ MemoryFault)

@@ -45,7 +45,7 @@ abbrev pub AsksReply : List ℕ → Type 0
 AsksReply frame = (request : RequestMessage) × Spells frame request
     × (reply_kind_of (opcode_of request.content) ≢ None)
 
--- Why a frame is not answered: its first fault, or want of memory for the reply that it asks.
+-- Why a frame is not answered: its first fault, or out of memory for the reply that it asks.
 abbrev pub AnswerFaultIs : List ℕ → WireFault → Type 0
 AnswerFaultIs frame faults.Memory = AsksReply frame
 AnswerFaultIs frame fault = FaultIs frame fault

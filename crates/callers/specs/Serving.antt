@@ -46,7 +46,7 @@ pub record ServesOne (old : Server) (frame : List ℕ) (copy : Option Sent) (new
   pub sends : Sends old request copy new
 
 -- A frame spells a request that is held under this number, and cannot be performed now: for a counter at its end, or
--- else for want of memory.
+-- else as out of memory.
 pub record Holds (old : Server) (frame : List ℕ) (unique : ℕ) (new : Server) : Type 0 where
   pub request : Request
   pub says : SaysRequest frame request
@@ -56,7 +56,7 @@ pub record Holds (old : Server) (frame : List ℕ) (unique : ℕ) (new : Server)
   pub refusal : Refusal
   pub refused : RefusesHeld new unique refusal ⊎ ((refusal ≡ NoMemory) × CanPerform new unique)
 
--- The server once it is told the result of a copy: where no copy of this number waits for one nothing changes.
+-- The server once it is given the result of a copy: where no copy of this number waits for one nothing changes.
 abbrev pub settled_if : Server → ℕ → WriteResult → Option Copy → Server
 settled_if s number result None = s
 settled_if s number result (Some copy) = settled s number copy result

@@ -54,7 +54,7 @@ pub fn reply<A: Allocator + Copy>(
         IsReplied kernel.old bytes.now (option_map (λ r. (r.0, answer_of r.1)) given) kernel.new) }
     ensures err { OnErr result (kernel.new ≡ kernel.old) }
     ensures refused { HasReplyHead bytes.now → IfErr result (WriteRefused kernel.old bytes.now) }
-    // Want of memory comes last.
+    // Out of memory comes last.
     ensures memory { IfErr result (λ refusal. refusal ≡ Refusal.NoMemory → WritePasses kernel.old bytes.now → ⊥) }
 
     // Bytes that are no reply, or one that nothing awaits, answer no call and change nothing.

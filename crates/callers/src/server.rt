@@ -25,7 +25,7 @@ pub fn answer<A: Allocator>(frame: &[u8], out: &mut Vec<u8, A>) -> Result<(), Wi
     // What is appended is a frame that spells the reply to the request, under its number.
     ensures answered { OnOk result (AnswersRequest frame.now out.old.items out.new.items) }
     ensures refused { OnErr result (out.new.items ≡ out.old.items) }
-    // An error is the frame's first fault, or want of memory for the reply that it asks.
+    // An error is the frame's first fault, or out of memory for the reply that it asks.
     ensures fault { IfErr result (AnswerFaultIs frame.now) }
     // Where the vector has room for the reply, memory does not run out.
     ensures room { (request : RequestMessage) → Spells frame.now request
@@ -56,7 +56,7 @@ fn reply_to(request: &Request<'_>) -> Reply<'static>
     requires replies { is_some (reply_kind_of (opcode_of (request_content request.now.body))) ≡ true }
     ensures reply { reply_message result ≡ reply_to (request_message request.now) }
     ensures goes { GoesWith latest_minor (opcode_of (request_content request.now.body)) (reply_message result) }
-    // Only want of memory can keep it from being written.
+    // Only out of memory can keep it from being written.
     ensures fits { (fault : WireFault) → ReplyRefusalIs (reply_message result) fault → fault ≡ MemoryFault }
 {
     let unique = request.unique;

@@ -7,7 +7,7 @@ use crate::FailAt;
 use std::alloc::Allocator;
 
 /// Turns in which one growth is refused: in the first turn the first one, in the second the second one, and so on. The
-/// last turn is the one in which every growth is met, or the last of so many.
+/// last turn is the one in which every growth is met, or the last of this many.
 pub struct EachGrowth<'a, B: Allocator> {
     heap: &'a FailAt<B>,
     turn: u64,
@@ -15,7 +15,7 @@ pub struct EachGrowth<'a, B: Allocator> {
 }
 
 impl<B: Allocator> FailAt<B> {
-    /// At most so many turns. Where that many come, not every growth was refused.
+    /// At most this many turns. Where that many come, not every growth was refused.
     pub fn each_growth(&self, most: u64) -> EachGrowth<'_, B> {
         EachGrowth {
             heap: self,

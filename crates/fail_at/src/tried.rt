@@ -79,7 +79,7 @@ fn first_wrong_in<A: Copy, R: Copy, T: Tried<R, A>>(
     None
 }
 
-/// Tries a row of a run in which the next growth but so many is refused. Where it was refused here, the row is refused
+/// Tries a row of a run in which the growth after this many is refused. Where it was refused here, the row is refused
 /// memory, and right when it is tried again.
 fn holds<A: Copy, R: Copy, T: Tried<R, A>>(
     subject: &mut T,

@@ -10,7 +10,7 @@ mod stored_answer;
 mod uses;
 
 pub use answers::{answer, answer_all, is_interrupted, result_of};
-pub use limit::{fits_one_frame, is_full};
+pub use limit::{is_full, may_batch_forgets};
 pub use names::{bind_missing, unbind};
 pub use pins::is_node_in_use;
 pub use stored_answer::StoredAnswer;

@@ -17,8 +17,8 @@ pub fn is_full<A: Allocator + Copy>(calls: &Table<CallState<A>, A>) -> bool
     calls.len() >= MAX_CALLS
 }
 
-/// Whether so many forgets may go as one frame at a minor: 7.15 has no BATCH_FORGET (linux/fuse.h, FUSE_BATCH_FORGET).
-pub fn fits_one_frame(minor: Minor, count: u64) -> bool
+/// Whether this many forgets may be read at once: 7.15 has no BATCH_FORGET (linux/fuse.h, FUSE_BATCH_FORGET), so one.
+pub fn may_batch_forgets(minor: Minor, count: u64) -> bool
     ensures { result ≡ not (forgets_singly minor && nat_lt 1 count) }
 {
     match minor {

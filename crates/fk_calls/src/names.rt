@@ -41,7 +41,7 @@ pub fn unbind<A: Allocator + Copy>(
     }
 }
 
-/// A name is missing for so many milliseconds from a time on.
+/// A name is missing for this many milliseconds from a time on.
 ///
 /// # Errors
 ///

@@ -7,7 +7,7 @@ use Rattle.fuse_spec.specs.Kernel.Kernel.{Kernel}
 use Rattle.fuse_spec.specs.Kernel.Messages.{Request}
 use Rattle.fuse_device.specs.Transfers.{Transfer, received}
 use Rattle.fk_drive_frames.specs.Agreements.{IsHandedOn}
-use Rattle.fk_drive_frames.specs.Asides.{IsAside}
+use Rattle.fk_drive_frames.specs.Asides.{IsOtherFrame}
 use Rattle.fk_drive_frames.specs.OwnRequests.{GivesHandle, IsReleasedir}
 use Rattle.fk_drive.specs.Driven.{driven}
 use Rattle.fk_drive.specs.Driving.{Driven, SendsFrame, DriveStep, Turn, is_given, opened, opening, releases, sets_aside, waits, writes}
@@ -32,17 +32,17 @@ abbrev pub bytes : {A : Type 0} → Vec ℕ A → List ℕ
 bytes frame = frame.items
 
 module _ {A : Type 0} (kernel : Kernel) (old new : Connection A) where
-  pub noted : new ≡ record old { asides = new.asides } → (turn : Turn) → driven kernel new turn ≡ driven kernel old turn
+  pub noted : new ≡ record old { other_frames = new.other_frames } → (turn : Turn) → driven kernel new turn ≡ driven kernel old turn
   noted same turn = ap (λ (c : Connection A). driven kernel c turn) same
 
-  pub step_aside : new ≡ record old { asides = new.asides } → (turn : Turn) (frame : List ℕ) → IsAside old.next frame
+  pub other_frame_step : new ≡ record old { other_frames = new.other_frames } → (turn : Turn) (frame : List ℕ) → IsOtherFrame old.next frame
       → DriveStep (driven kernel old turn) (received frame ∷ []) (driven kernel new turn)
-  step_aside same turn frame is =
+  other_frame_step same turn frame is =
       subst (λ (s : Driven). DriveStep (driven kernel old turn) (received frame ∷ []) s) (sym (noted same turn))
       (sets_aside frame is)
 
   pub step_waits : (frame : Vec ℕ A) → new.waiting.items ≡ old.waiting.items ++ frame ∷ []
-      → new ≡ record old { waiting = new.waiting } → (turn : Turn) → (IsAside old.next frame.items → ⊥)
+      → new ≡ record old { waiting = new.waiting } → (turn : Turn) → (IsOtherFrame old.next frame.items → ⊥)
       → DriveStep (driven kernel old turn) (received frame.items ∷ []) (driven kernel new turn)
   step_waits frame items same turn is =
       let to : driven kernel new turn ≡ state kernel (map bytes old.waiting.items ++ frame.items ∷ []) old.next old.asks

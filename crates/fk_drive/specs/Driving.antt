@@ -14,9 +14,9 @@ use Rattle.fk_kernel.specs.declared.pick.Pick.{Pick}
 use Rattle.fuse_device.specs.Transfers.{Transfer, received, sent, unsent, stopped}
 use Rattle.fuse_device.specs.declared.device.DeviceEnd.{DeviceEnd}
 use Rattle.fk_drive_frames.specs.Agreements.{IsHandedOn}
-use Rattle.fk_drive_frames.specs.Asides.{IsAside}
+use Rattle.fk_drive_frames.specs.Asides.{IsOtherFrame}
 use Rattle.fk_drive.specs.KernelSteps.{ActsAlone, IsReplyTaken}
-use Rattle.fk_drive_frames.specs.OwnRequests.{GivesError, GivesHandle, GivesNothing, IsOpendir, IsReleasedir, ListsNode, first_own, eio_error, not_known}
+use Rattle.fk_drive_frames.specs.OwnRequests.{GivesError, GivesHandle, GivesNothing, IsOpendir, IsReleasedir, ListsNode, first_opendir_unique, eio_error, not_known}
 
 -- What becomes of a request that the kernel's read gave, until it is sent.
 pub data Turn : Type 0 where
@@ -49,7 +49,7 @@ abbrev pub first_driven : Bool → Driven
 first_driven asks = record {
   kernel = first_kernel;
   waiting = [];
-  next = first_own;
+  next = first_opendir_unique;
   asks = asks;
   directories = [];
   turn = idle;
@@ -73,12 +73,12 @@ pub data DriveStep (old : Driven) : List Transfer → Driven → Type 0 where
   -- It is sent, in a frame that spells it.
   sends : (request : Request) → old.turn ≡ picked request → (frame : List ℕ) → SaysRequest frame request
       → (log : List Transfer) → SendsFrame frame log → DriveStep old log (record old { turn = idle })
-  -- Before one that lists a directory, OPENDIR is sent under a number that the kernel never draws.
+  -- Before one that lists a directory, OPENDIR is sent under a number that the kernel never allocates.
   opens : (request : Request) → old.turn ≡ picked request → old.asks ≡ true → (node : ℕ) → ListsNode request.body node
       → (frame : List ℕ) → IsOpendir frame old.next node → (log : List Transfer) → SendsFrame frame log
       → DriveStep old log (record old { next = old.next + 2; turn = opening request old.next node })
-  -- OPENDIR is answered: with an fh; with ENOSYS, and is not asked again; with another error; or with what is no reply to
-  -- it, which counts as EIO (this project's rule).
+  -- OPENDIR is answered: with an fh; with ENOSYS, and is not asked again; with another error; or with what is no reply
+  -- to it, which counts as EIO (this project's rule).
   is_given : (request : Request) (unique node : ℕ) → old.turn ≡ opening request unique node → (frame : List ℕ) (fh : ℕ)
       → GivesHandle frame unique fh → DriveStep old (received frame ∷ []) (record old {
         directories = old.directories ++ (request.unique, record { nodeid = node; fh = fh }) ∷ [];
@@ -103,10 +103,10 @@ pub data DriveStep (old : Driven) : List Transfer → Driven → Type 0 where
       → (result : WriteResult) (new : Kernel) → IsReplyTaken old.kernel bytes result new
       → DriveStep old [] (record old { kernel = new; turn = idle })
   -- A frame is received that is for the kernel: it waits behind those that came before it.
-  waits : (frame : List ℕ) → (IsAside old.next frame → ⊥)
+  waits : (frame : List ℕ) → (IsOtherFrame old.next frame → ⊥)
       → DriveStep old (received frame ∷ []) (record old { waiting = old.waiting ++ frame ∷ [] })
   -- One is received that is not for the kernel, and is set aside.
-  sets_aside : (frame : List ℕ) → IsAside old.next frame → DriveStep old (received frame ∷ []) old
+  sets_aside : (frame : List ℕ) → IsOtherFrame old.next frame → DriveStep old (received frame ∷ []) old
   -- The first frame that waits is written to the kernel.
   writes : (frame : List ℕ) (rest : List (List ℕ)) → old.waiting ≡ frame ∷ rest → (handed : List ℕ)
       → IsHandedOn frame handed → (result : WriteResult) (new : Kernel) → IsReplyTaken old.kernel handed result new

@@ -7,7 +7,7 @@ use Rattle.fk_wire.specs.Fields.{number_at}
 use Rattle.fk_wire.specs.Requests.{RequestMessage, Spells}
 use Rattle.fuse_frames.specs.RequestTies.{SaysRequest}
 use Rattle.fk_drive_frames.specs.Filling.{FillsFor}
-use Rattle.fk_drive_frames.specs.declared.filling.Choices.{Choices}
+use Rattle.fk_drive_frames.specs.declared.filling.FreeFields.{FreeFields}
 use Rattle.fuse_device.specs.Transfers.{Transfer}
 use Rattle.fk_kernel.specs.Picks.{pick_refusal}
 use Rattle.fk_kernel.specs.declared.pick.Pick.{Pick}
@@ -17,10 +17,10 @@ use Rattle.fk_drive.specs.declared.end.NotSent.{NotSent}
 use Rattle.fk_drive.specs.declared.end.NotSent.TheVariants.{Refused, Ended}
 
 -- A frame is sent that says what these bytes say, filled as is chosen.
-pub record SendsSame (bytes : List ℕ) (choices : Choices) (log : List Transfer) : Type 0 where
+pub record SendsSame (bytes : List ℕ) (free_fields : FreeFields) (log : List Transfer) : Type 0 where
   pub frame : List ℕ
   pub same : (request : Request) → SaysRequest bytes request → SaysRequest frame request
-  pub filled : (m : RequestMessage) → Spells bytes m → FillsFor m.content choices bytes frame
+  pub filled : (m : RequestMessage) → Spells bytes m → FillsFor m.content free_fields bytes frame
   pub sends : SendsFrame frame log
 
 -- One is sent that says it with this fh.
@@ -41,7 +41,7 @@ IsRequestSent (Ok _) turn = turn ≡ idle
 IsRequestSent (Err (Refused refusal)) turn = turn ≡ idle
 IsRequestSent (Err (Ended end)) turn = Unit {0}
 
--- The kernel refused to be read as the definitions refuse it, or for want of memory.
+-- The kernel refused to be read as the definitions refuse it, or as out of memory.
 abbrev pub IsReadRefused : Kernel → Pick → NotSent → Type 0
 IsReadRefused k pick (Refused refusal) = refusal ≡ or_no_memory (pick_refusal k pick)
 IsReadRefused k pick (Ended end) = Unit {0}

@@ -2,7 +2,7 @@
 
 ghost use Rattle.std.specs.Prelude.{◌≡◌};
 
-use fk_drive_frames::{Aside, FIRST_OWN};
+use fk_drive_frames::{FIRST_OPENDIR_UNIQUE, OtherFrame};
 use fuse_spec::Opened;
 use std::alloc::Allocator;
 
@@ -21,7 +21,7 @@ pub struct Connection<A: Allocator + Copy> {
     pub(crate) next: u64,
     pub(crate) asks: bool,
     pub(crate) directories: Vec<Directory, A>,
-    pub(crate) asides: Vec<Aside, A>,
+    pub(crate) other_frames: Vec<OtherFrame, A>,
 }
 
 impl<A: Allocator + Copy> Connection<A> {
@@ -37,18 +37,18 @@ impl<A: Allocator + Copy> Connection<A> {
         Connection {
             alloc,
             waiting: Vec::new(alloc),
-            next: FIRST_OWN,
+            next: FIRST_OPENDIR_UNIQUE,
             asks,
             directories: Vec::new(alloc),
-            asides: Vec::new(alloc),
+            other_frames: Vec::new(alloc),
         }
     }
 
     /// The frames that were set aside since this was last asked, the oldest first. They are gone then.
-    pub fn take_asides(&mut self) -> Vec<Aside, A>
+    pub fn take_other_frames(&mut self) -> Vec<OtherFrame, A>
         ensures { Keeps self.old self.new }
     {
         let empty = Vec::new(self.alloc);
-        std::mem::replace(&mut self.asides, empty)
+        std::mem::replace(&mut self.other_frames, empty)
     }
 }

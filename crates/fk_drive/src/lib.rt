@@ -11,6 +11,6 @@ mod writing;
 
 pub use connection::{Connection, Directory};
 pub use end::{DriveEnd, NotSent};
-pub use fk_drive_frames::{Aside, Choices};
+pub use fk_drive_frames::{FreeFields, OtherFrame};
 pub use sending::send_next;
 pub use writing::{Written, write_next};

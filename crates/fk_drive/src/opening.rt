@@ -13,7 +13,7 @@ ghost use Rattle.fk_drive.specs.Rooms.{HasRoomForFrame};
 use crate::connection::{Connection, Directory};
 use crate::end::DriveEnd;
 use crate::exchange::{receive_frame, send_bytes};
-use fk_drive_frames::{END_OF_OWN, OpendirSaid, opendir, said_in};
+use fk_drive_frames::{OPENDIR_UNIQUES_END, OpendirSaid, opendir, said_in};
 use fuse_device::Device;
 use fuse_spec::Opened;
 use std::alloc::Allocator;
@@ -40,7 +40,7 @@ pub(crate) struct Listing {
 pub(crate) fn is_opened_first<A: Allocator + Copy>(connection: &Connection<A>) -> bool
     ensures { result ≡ true → (connection.now.asks ≡ true) × (connection.now.next < 2 ^ 63) }
 {
-    connection.asks && connection.next < END_OF_OWN
+    connection.asks && connection.next < OPENDIR_UNIQUES_END
 }
 
 impl<A: Allocator + Copy> Connection<A> {

@@ -10,7 +10,7 @@ ghost use Rattle.fk_drive.specs.Rooms.{HasRoomForFrame};
 use crate::connection::Connection;
 use crate::end::DriveEnd;
 use crate::exchange::receive_frame;
-use fk_drive_frames::{Aside, aside_in};
+use fk_drive_frames::{OtherFrame, other_frame_in};
 use fuse_device::Device;
 use std::alloc::Allocator;
 
@@ -21,19 +21,19 @@ impl<A: Allocator + Copy> Connection<A> {
         ensures room { OnOk result (HasRoomForFrame self.new) }
     {
         let waiting = self.waiting.reserve(1);
-        let asides = self.asides.reserve(1);
+        let other_frames = self.other_frames.reserve(1);
         let directories = self.directories.reserve(1);
-        match (waiting, asides, directories) {
+        match (waiting, other_frames, directories) {
             (Ok(()), Ok(()), Ok(())) => Ok(()),
             _ => Err(DriveEnd::Memory),
         }
     }
 
     /// Notes a frame that was set aside.
-    fn note_aside(&mut self, aside: Aside)
-        ensures { self.new ≡ record self.old { asides = self.new.asides } }
+    fn note_other_frame(&mut self, other_frame: OtherFrame)
+        ensures { self.new ≡ record self.old { other_frames = self.new.other_frames } }
     {
-        let _noted = self.asides.push(aside);
+        let _noted = self.other_frames.push(other_frame);
     }
 
     /// Has a frame wait for the kernel.
@@ -51,8 +51,8 @@ impl<A: Allocator + Copy> Connection<A> {
         ensures { (kernel : KernelState) (turn : Turn) → DriveStep (driven kernel self.old turn) (received frame.items ∷ [])
             (driven kernel self.new turn) }
     {
-        match aside_in(self.next, frame.as_slice()) {
-            Some(aside) => self.note_aside(aside),
+        match other_frame_in(self.next, frame.as_slice()) {
+            Some(other_frame) => self.note_other_frame(other_frame),
             None => self.have_wait(frame),
         }
     }

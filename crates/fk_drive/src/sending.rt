@@ -19,7 +19,7 @@ use crate::connection::Connection;
 use crate::end::{DriveEnd, NotSent};
 use crate::exchange::send_bytes;
 use crate::opening::{Awaited, Listing, is_opened_first, open_directory};
-use fk_drive_frames::{Choices, OpendirSaid, fill, fill_handle, node_listed};
+use fk_drive_frames::{FreeFields, OpendirSaid, fill, fill_handle, node_listed};
 use fk_kernel::{KernelOf, Pick};
 use fk_lookup_count::CountTable;
 use fk_queues::QueueTable;
@@ -28,15 +28,19 @@ use fuse_device::Device;
 use fuse_frames::RequestFrame;
 use fuse_spec::Purpose;
 
-/// Sends a request, with what servers want in its free fields.
-fn send_same<D: Device>(device: &mut D, frame: &[u8], choices: Choices) -> Result<(), DriveEnd>
+/// Sends a request, with what servers expect in its free fields.
+fn send_same<D: Device>(
+    device: &mut D,
+    frame: &[u8],
+    free_fields: FreeFields,
+) -> Result<(), DriveEnd>
     requires { length frame.now ≤ 4176 }
-    ensures { WentOver D.logs device.old device.new (SendsSame frame.now choices) }
+    ensures { WentOver D.logs device.old device.new (SendsSame frame.now free_fields) }
 {
     let mut room = [0u8; MAX_FRAME];
     let filled = &mut room[..frame.len()];
     filled.copy_from_slice(frame);
-    fill(filled, choices);
+    fill(filled, free_fields);
     send_bytes(device, filled)
 }
 
@@ -53,14 +57,14 @@ fn send_listing<D: Device>(device: &mut D, frame: &[u8], fh: u64) -> Result<(), 
     send_bytes(device, filled)
 }
 
-/// Sends a request that lists a node, under its number, once its directory is open. Where that fails the kernel takes the
-/// error as its reply.
+/// Sends a request that lists a node, under its number, once its directory is open. Where that fails the kernel takes
+/// the error as its reply.
 fn send_opened<Q: QueueTable<Purpose> + Drop, C: CountTable<Heap = Q::Heap> + Drop, D: Device>(
     kernel: &mut KernelOf<Q, C>,
     connection: &mut Connection<Q::Heap>,
     device: &mut D,
     frame: &[u8],
-    choices: Choices,
+    free_fields: FreeFields,
     listing: Listing,
 ) -> Result<(), DriveEnd>
     requires short { length frame.now ≤ 4176 }
@@ -79,7 +83,7 @@ fn send_opened<Q: QueueTable<Purpose> + Drop, C: CountTable<Heap = Q::Heap> + Dr
     };
     match said {
         OpendirSaid::Handle(fh) => send_listing(device, frame, fh),
-        OpendirSaid::NotKnown => send_same(device, frame, choices),
+        OpendirSaid::NotKnown => send_same(device, frame, free_fields),
         OpendirSaid::Failed(error) => answer(kernel, listing.unique, error),
     }
 }
@@ -108,7 +112,7 @@ fn send_read<Q: QueueTable<Purpose> + Drop, C: CountTable<Heap = Q::Heap> + Drop
     connection: &mut Connection<Q::Heap>,
     device: &mut D,
     frame: &[u8],
-    choices: Choices,
+    free_fields: FreeFields,
     unique: u64,
 ) -> Result<(), DriveEnd>
     requires short { length frame.now ≤ 4176 }
@@ -125,10 +129,10 @@ fn send_read<Q: QueueTable<Purpose> + Drop, C: CountTable<Heap = Q::Heap> + Drop
             connection,
             device,
             frame,
-            choices,
+            free_fields,
             Listing { unique, node },
         ),
-        _ => send_same(device, frame, choices),
+        _ => send_same(device, frame, free_fields),
     }
 }
 
@@ -142,7 +146,7 @@ pub fn send_next<Q: QueueTable<Purpose> + Drop, C: CountTable<Heap = Q::Heap> + 
     connection: &mut Connection<Q::Heap>,
     device: &mut D,
     pick: Pick,
-    choices: Choices,
+    free_fields: FreeFields,
 ) -> Result<RequestFrame<Q::Heap>, NotSent>
     ensures drives { (turn : Turn) × IsRequestSent result turn × DrivesOver D.logs device.old device.new
         (driven kernel.old connection.old idle) (driven kernel.new connection.new turn) }
@@ -155,7 +159,14 @@ pub fn send_next<Q: QueueTable<Purpose> + Drop, C: CountTable<Heap = Q::Heap> + 
         Err(refusal) => return Err(NotSent::Refused(refusal)),
     };
     let (unique, _opcode) = frame.head();
-    match send_read(kernel, connection, device, frame.bytes(), choices, unique) {
+    match send_read(
+        kernel,
+        connection,
+        device,
+        frame.bytes(),
+        free_fields,
+        unique,
+    ) {
         Ok(()) => Ok(frame),
         Err(end) => Err(NotSent::Ended(end)),
     }

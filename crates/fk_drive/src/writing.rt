@@ -12,7 +12,7 @@ use crate::connection::{Connection, Directory};
 use crate::end::DriveEnd;
 use crate::exchange::send_bytes;
 use crate::receiving::receive_next;
-use fk_drive_frames::{END_OF_OWN, is_older_agreement, raised_of, releasedir};
+use fk_drive_frames::{OPENDIR_UNIQUES_END, is_older_agreement, raised_of, releasedir};
 use fk_kernel::KernelOf;
 use fk_lookup_count::CountTable;
 use fk_queues::QueueTable;
@@ -104,7 +104,9 @@ fn release_directory<A: Allocator + Copy, D: Device>(
         (driven kernel connection.old turn) (driven kernel connection.new turn) }
 {
     match place_of(&connection.directories, unique) {
-        Some(place) if connection.next < END_OF_OWN => release_at(connection, device, place),
+        Some(place) if connection.next < OPENDIR_UNIQUES_END => release_at(
+            connection, device, place,
+        ),
         _ => Ok(()),
     }
 }

@@ -8,7 +8,7 @@ use Rattle.fuse_spec.specs.Kernel.Messages.{Request}
 use Rattle.fuse_frames.specs.RequestTies.{SaysRequest}
 use Rattle.fk_wire.specs.declared.opcode.Minor.{Minor}
 use Rattle.fk_drive_frames.specs.Filling.{ChangesOnly, FillsFor, IsFilled, IsListing, create_flags, with_offered}
-use Rattle.fk_drive_frames.specs.declared.filling.Choices.{Choices}
+use Rattle.fk_drive_frames.specs.declared.filling.FreeFields.{FreeFields}
 use Rattle.fk_drive_frames.specs.declared.filling.Filled.{Filled}
 use Rattle.fk_drive_frames.specs.declared.filling.Filled.TheVariants as filled
 use Rattle.fk_drive_frames.proofs.OneField.{reads_after, reads_around}
@@ -143,45 +143,45 @@ pub says_listing : Decodes → (old new : List ℕ) → ChangesOnly 40 8 old new
 says_listing decodes old new only = says_still decodes old new IsListing
     (λ m is spells. listing_still old new m.unique m.nodeid m.content is only spells)
 
-open_filled : (old new : List ℕ) (choices : Choices) → ChangesOnly 40 4 old new → number_at 40 4 new ≡ choices.open_flags
-    → (content : RequestContent) → IsFilled filled.Open content → FillsFor content choices old new
-open_filled old new choices only value opening is = (only, value)
-open_filled old new choices only value other is = absurd is
+open_filled : (old new : List ℕ) (free_fields : FreeFields) → ChangesOnly 40 4 old new → number_at 40 4 new ≡ free_fields.open_flags
+    → (content : RequestContent) → IsFilled filled.Open content → FillsFor content free_fields old new
+open_filled old new free_fields only value opening is = (only, value)
+open_filled old new free_fields only value other is = absurd is
 
-create_filled : (old new : List ℕ) (choices : Choices) → ChangesOnly 40 4 old new → number_at 40 4 new ≡ create_flags
-    → (content : RequestContent) → IsFilled filled.Create content → FillsFor content choices old new
-create_filled old new choices only value (create name) is = (only, value)
-create_filled old new choices only value other is = absurd is
+create_filled : (old new : List ℕ) (free_fields : FreeFields) → ChangesOnly 40 4 old new → number_at 40 4 new ≡ create_flags
+    → (content : RequestContent) → IsFilled filled.Create content → FillsFor content free_fields old new
+create_filled old new free_fields only value (create name) is = (only, value)
+create_filled old new free_fields only value other is = absurd is
 
-init_filled : (old new : List ℕ) (choices : Choices) → ChangesOnly 52 4 old new
-    → number_at 52 4 new ≡ with_offered (number_at 52 4 old) choices.offer
-    → (content : RequestContent) → IsFilled filled.Init content → FillsFor content choices old new
-init_filled old new choices only value (init major minor flags) is = (only, value)
-init_filled old new choices only value other is = absurd is
+init_filled : (old new : List ℕ) (free_fields : FreeFields) → ChangesOnly 52 4 old new
+    → number_at 52 4 new ≡ with_offered (number_at 52 4 old) free_fields.offer
+    → (content : RequestContent) → IsFilled filled.Init content → FillsFor content free_fields old new
+init_filled old new free_fields only value (init major minor flags) is = (only, value)
+init_filled old new free_fields only value other is = absurd is
 
-pub fills_open : Decodes → (old new : List ℕ) (choices : Choices) → ChangesOnly 40 4 old new
-    → number_at 40 4 new ≡ choices.open_flags → (m : RequestMessage) × Spells old m × IsFilled filled.Open m.content
-    → (m : RequestMessage) → Spells old m → FillsFor m.content choices old new
-fills_open decodes old new choices only value kind m spells =
-    open_filled old new choices only value m.content (of_spelled decodes old (IsFilled filled.Open) kind m spells)
+pub fills_open : Decodes → (old new : List ℕ) (free_fields : FreeFields) → ChangesOnly 40 4 old new
+    → number_at 40 4 new ≡ free_fields.open_flags → (m : RequestMessage) × Spells old m × IsFilled filled.Open m.content
+    → (m : RequestMessage) → Spells old m → FillsFor m.content free_fields old new
+fills_open decodes old new free_fields only value kind m spells =
+    open_filled old new free_fields only value m.content (of_spelled decodes old (IsFilled filled.Open) kind m spells)
 
-pub fills_create : Decodes → (old new : List ℕ) (choices : Choices) → ChangesOnly 40 4 old new
+pub fills_create : Decodes → (old new : List ℕ) (free_fields : FreeFields) → ChangesOnly 40 4 old new
     → number_at 40 4 new ≡ create_flags → (m : RequestMessage) × Spells old m × IsFilled filled.Create m.content
-    → (m : RequestMessage) → Spells old m → FillsFor m.content choices old new
-fills_create decodes old new choices only value kind m spells =
-    create_filled old new choices only value m.content (of_spelled decodes old (IsFilled filled.Create) kind m spells)
+    → (m : RequestMessage) → Spells old m → FillsFor m.content free_fields old new
+fills_create decodes old new free_fields only value kind m spells =
+    create_filled old new free_fields only value m.content (of_spelled decodes old (IsFilled filled.Create) kind m spells)
 
-pub fills_init : Decodes → (old new : List ℕ) (choices : Choices) → ChangesOnly 52 4 old new
-    → number_at 52 4 new ≡ with_offered (number_at 52 4 old) choices.offer
+pub fills_init : Decodes → (old new : List ℕ) (free_fields : FreeFields) → ChangesOnly 52 4 old new
+    → number_at 52 4 new ≡ with_offered (number_at 52 4 old) free_fields.offer
     → (m : RequestMessage) × Spells old m × IsFilled filled.Init m.content
-    → (m : RequestMessage) → Spells old m → FillsFor m.content choices old new
-fills_init decodes old new choices only value kind m spells =
-    init_filled old new choices only value m.content (of_spelled decodes old (IsFilled filled.Init) kind m spells)
+    → (m : RequestMessage) → Spells old m → FillsFor m.content free_fields old new
+fills_init decodes old new free_fields only value kind m spells =
+    init_filled old new free_fields only value m.content (of_spelled decodes old (IsFilled filled.Init) kind m spells)
 
 -- What is none of these stays as it is.
-pub fills_nothing : (old : List ℕ) (choices : Choices) (content : RequestContent)
-    → ((kind : Filled) → IsFilled kind content → ⊥) → FillsFor content choices old old
-fills_nothing old choices opening none = absurd (none filled.Open tt)
-fills_nothing old choices (create name) none = absurd (none filled.Create tt)
-fills_nothing old choices (init major minor flags) none = absurd (none filled.Init tt)
-fills_nothing old choices other none = refl
+pub fills_nothing : (old : List ℕ) (free_fields : FreeFields) (content : RequestContent)
+    → ((kind : Filled) → IsFilled kind content → ⊥) → FillsFor content free_fields old old
+fills_nothing old free_fields opening none = absurd (none filled.Open tt)
+fills_nothing old free_fields (create name) none = absurd (none filled.Create tt)
+fills_nothing old free_fields (init major minor flags) none = absurd (none filled.Init tt)
+fills_nothing old free_fields other none = refl

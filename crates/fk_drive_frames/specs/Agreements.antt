@@ -13,8 +13,8 @@ pub record IsOlderAgreement (bytes : List ℕ) : Type 0 where
   pub from : 23 ≤ number_at 20 4 bytes
   pub to : number_at 20 4 bytes ≤ 30
 
--- The same that agrees on 7.31: the frames that the kernel sends and takes are the same from 7.23 on. (this project's
--- rule; linux/fuse.h, its history of minor versions)
+-- An agreement on 7.23 to 7.30 as one on 7.31: the frames that the kernel sends and takes are the same from 7.23 on.
+-- (this project's rule; linux/fuse.h, its history of minor versions)
 abbrev pub raised : List ℕ → List ℕ
 raised bytes = slice_set bytes 20 31
 

@@ -3,7 +3,7 @@ use Rattle.std.specs.Prelude.{◌≡◌, ◌≤◌, ◌<◌, ◌^◌, ◌⊎◌,
 use Rattle.fk_wire.specs.Fields.{number_at}
 use Rattle.fk_wire.specs.ReplyFaults.{HasReplyLength}
 use Rattle.fuse_frames.specs.DecodedReplies.{HasReplyHead, head_unique}
-use Rattle.fk_drive_frames.specs.OwnRequests.{first_own}
+use Rattle.fk_drive_frames.specs.OwnRequests.{first_opendir_unique}
 
 -- A notification: it has number 0, and a positive code where a reply has its error. (linux/fuse.h, fuse_notify_code)
 pub record IsNotification (bytes : List ℕ) : Type 0 where
@@ -13,11 +13,11 @@ pub record IsNotification (bytes : List ℕ) : Type 0 where
   pub positive : number_at 4 4 bytes < 2 ^ 31
 
 -- A reply to a request that is not the kernel's: it has a number of those before the coming one.
-pub record IsOwnReply (next : ℕ) (bytes : List ℕ) : Type 0 where
+pub record IsOpendirReply (next : ℕ) (bytes : List ℕ) : Type 0 where
   pub head : HasReplyHead bytes
-  pub own : first_own ≤ head_unique bytes
-  pub drawn : head_unique bytes < next
+  pub own : first_opendir_unique ≤ head_unique bytes
+  pub allocated : head_unique bytes < next
 
--- Either is set aside.
-abbrev pub IsAside : (next : ℕ) → List ℕ → Type 0
-IsAside next bytes = IsNotification bytes ⊎ IsOwnReply next bytes
+-- Either is not for the kernel.
+abbrev pub IsOtherFrame : (next : ℕ) → List ℕ → Type 0
+IsOtherFrame next bytes = IsNotification bytes ⊎ IsOpendirReply next bytes

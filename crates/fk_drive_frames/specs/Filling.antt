@@ -2,7 +2,7 @@
 use Rattle.std.specs.Prelude.{◌≡◌, ◌+◌, ◌-◌, ◌^◌, ℕ, List, drop, length, take, bit_and, bit_or}
 use Rattle.fk_wire.specs.Fields.{number_at}
 use Rattle.fk_wire.specs.Requests.{RequestContent, create, init, known_flags, opening, readdir, readdirplus}
-use Rattle.fk_drive_frames.specs.declared.filling.Choices.{Choices}
+use Rattle.fk_drive_frames.specs.declared.filling.FreeFields.{FreeFields}
 use Rattle.fk_drive_frames.specs.declared.filling.Filled.{Filled}
 use Rattle.fk_drive_frames.specs.declared.filling.Filled.TheVariants.{Open, Create, Init}
 
@@ -19,7 +19,7 @@ IsListing (readdir offset size) = Unit {0}
 IsListing (readdirplus offset size) = Unit {0}
 IsListing content = ⊥
 
--- So many bytes at a place are others, and the rest is the same.
+-- This many bytes at a place are others, and the rest is the same.
 pub record ChangesOnly (place width : ℕ) (old new : List ℕ) : Type 0 where
   pub long : length new ≡ length old
   pub before : take place new ≡ take place old
@@ -33,11 +33,11 @@ create_flags = 0x8042
 abbrev pub with_offered : (flags offer : ℕ) → ℕ
 with_offered flags offer = bit_or flags (bit_and offer (2 ^ 32 - 1 - known_flags))
 
--- The frame of a request that asks this is filled: OPEN and CREATE have their flags, INIT offers flags beside the kernel's
--- own, and any other stays as it is.
-abbrev pub FillsFor : RequestContent → Choices → (old new : List ℕ) → Type 0
-FillsFor opening choices old new = ChangesOnly 40 4 old new × (number_at 40 4 new ≡ choices.open_flags)
-FillsFor (create name) choices old new = ChangesOnly 40 4 old new × (number_at 40 4 new ≡ create_flags)
-FillsFor (init major minor flags) choices old new = ChangesOnly 52 4 old new
-    × (number_at 52 4 new ≡ with_offered (number_at 52 4 old) choices.offer)
-FillsFor other choices old new = new ≡ old
+-- The frame of a request that asks this is filled: OPEN and CREATE have their flags, INIT offers flags beside the
+-- kernel's own, and any other stays as it is.
+abbrev pub FillsFor : RequestContent → FreeFields → (old new : List ℕ) → Type 0
+FillsFor opening free_fields old new = ChangesOnly 40 4 old new × (number_at 40 4 new ≡ free_fields.open_flags)
+FillsFor (create name) free_fields old new = ChangesOnly 40 4 old new × (number_at 40 4 new ≡ create_flags)
+FillsFor (init major minor flags) free_fields old new = ChangesOnly 52 4 old new
+    × (number_at 52 4 new ≡ with_offered (number_at 52 4 old) free_fields.offer)
+FillsFor other free_fields old new = new ≡ old

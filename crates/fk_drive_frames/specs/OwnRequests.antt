@@ -12,8 +12,8 @@ use Rattle.fk_drive_frames.specs.declared.opendir_reply.OpendirSaid.{OpendirSaid
 use Rattle.fk_drive_frames.specs.declared.opendir_reply.OpendirSaid.TheVariants as said
 
 -- The first number of such a request. The kernel's own end below it. (this project's rule)
-abbrev pub first_own : ℕ
-first_own = 2 ^ 62
+abbrev pub first_opendir_unique : ℕ
+first_opendir_unique = 2 ^ 62
 
 -- A request lists this node: READDIR and READDIRPLUS.
 pub data ListsNode : RequestBody → ℕ → Type 0 where

@@ -21,7 +21,7 @@ pub fn is_older_agreement(frame: &[u8]) -> bool
         && u32_at(frame, 20) <= 30
 }
 
-/// The same frame, which agrees on 7.31.
+/// An agreement on 7.23 to 7.30 as one on 7.31.
 pub fn raised_of(frame: &[u8]) -> [u8; 80]
     requires { IsOlderAgreement frame.now }
     ensures { result ≡ raised frame.now }

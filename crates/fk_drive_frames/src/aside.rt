@@ -1,19 +1,19 @@
 //! Frames of a server that are not for the kernel.
 
 ghost use Rattle.std.specs.Prelude.{◌↔◌, IfSome, IfNone, IsSome, IsTrue};
-ghost use Rattle.fk_drive_frames.specs.Asides.{IsAside, IsNotification, IsOwnReply};
+ghost use Rattle.fk_drive_frames.specs.Asides.{IsOtherFrame, IsNotification, IsOpendirReply};
 
-use crate::own_requests::FIRST_OWN;
+use crate::own_requests::FIRST_OPENDIR_UNIQUE;
 use fk_fields::{u32_at, u64_at};
 use fk_wire::ReplyHead;
 
-/// A frame that was set aside.
+/// What a frame is that is not for the kernel.
 #[derive(Clone, Copy, Debug, PartialEq, Eq)]
-pub enum Aside {
+pub enum OtherFrame {
     /// A notification: its code (linux/fuse.h, `enum fuse_notify_code`) and its length.
     Notification { code: u32, len: usize },
     /// A reply to a request that is not the kernel's, OPENDIR or RELEASEDIR.
-    OwnReply { unique: u64, error: i32, len: usize },
+    OpendirReply { unique: u64, error: i32, len: usize },
 }
 
 /// Whether a frame is a notification.
@@ -28,32 +28,32 @@ fn is_notification(frame: &[u8]) -> bool
 }
 
 /// The head of a frame that is a reply to a request that is not the kernel's.
-fn own_head_in(next: u64, frame: &[u8]) -> Option<ReplyHead>
-    ensures some { IsSome result → IsOwnReply next frame.now }
-    ensures none { IsOwnReply next frame.now → IsSome result }
+fn opendir_head_in(next: u64, frame: &[u8]) -> Option<ReplyHead>
+    ensures some { IsSome result → IsOpendirReply next frame.now }
+    ensures none { IsOpendirReply next frame.now → IsSome result }
 {
     let Ok(head) = ReplyHead::read(frame) else {
         return None;
     };
-    if FIRST_OWN <= head.unique && head.unique < next {
+    if FIRST_OPENDIR_UNIQUE <= head.unique && head.unique < next {
         Some(head)
     } else {
         None
     }
 }
 
-/// What a frame is that is not for the kernel.
-pub fn aside_in(next: u64, frame: &[u8]) -> Option<Aside>
-    ensures some { IfSome result (λ aside. IsAside next frame.now) }
-    ensures none { IfNone result (IsAside next frame.now → ⊥) }
+/// Says what a frame is, if it is not for the kernel.
+pub fn other_frame_in(next: u64, frame: &[u8]) -> Option<OtherFrame>
+    ensures some { IfSome result (λ other_frame. IsOtherFrame next frame.now) }
+    ensures none { IfNone result (IsOtherFrame next frame.now → ⊥) }
 {
     let len = frame.len();
     if is_notification(frame) {
         let code = u32_at(frame, 4);
-        return Some(Aside::Notification { code, len });
+        return Some(OtherFrame::Notification { code, len });
     }
-    let head = own_head_in(next, frame)?;
-    Some(Aside::OwnReply {
+    let head = opendir_head_in(next, frame)?;
+    Some(OtherFrame::OpendirReply {
         unique: head.unique,
         error: head.error,
         len,

@@ -1,4 +1,4 @@
-//! What real servers want in fields that are free, or in bits that are dropped when read.
+//! What real servers expect in fields that are free, or in bits that are dropped when read.
 
 ghost use Rattle.std.specs.Prelude.{◌≡◌, ◌≤◌, ◌+◌, IfSome, IfNone, length};
 ghost use Rattle.fk_wire.specs.Fields.{number_at};
@@ -16,7 +16,7 @@ use fk_wire::{RequestBody, read_request, spelled_is_decoded};
 
 /// What is said in fields that are free, or in bits that are dropped when read.
 #[derive(Clone, Copy, Debug, PartialEq, Eq)]
-pub struct Choices {
+pub struct FreeFields {
     /// The flags of OPEN, as of open(2).
     pub open_flags: u32,
     /// The flags that INIT offers beside the kernel's own.
@@ -89,18 +89,18 @@ fn init_flags(frame: &[u8]) -> u32
 }
 
 /// Fills the flags of OPEN and CREATE, and those that INIT offers: a frame spells the same request as before.
-pub fn fill(frame: &mut [u8], choices: Choices)
+pub fn fill(frame: &mut [u8], free_fields: FreeFields)
     ensures long { length frame.new ≡ length frame.old }
     ensures same { (request : Request) → SaysRequest frame.old request → SaysRequest frame.new request }
-    ensures filled { (m : RequestMessage) → Spells frame.old m → FillsFor m.content choices frame.old frame.new }
+    ensures filled { (m : RequestMessage) → Spells frame.old m → FillsFor m.content free_fields frame.old frame.new }
     ensures unread { ((m : RequestMessage) → Spells frame.old m → ⊥) → frame.new ≡ frame.old }
 {
     spelled_is_decoded();
     match filled_in(frame) {
-        Some(Filled::Open) => put_u32(frame, 40, choices.open_flags),
+        Some(Filled::Open) => put_u32(frame, 40, free_fields.open_flags),
         Some(Filled::Create) => put_u32(frame, 40, CREATE_FLAGS),
         Some(Filled::Init) => {
-            let flags = offering(init_flags(frame), choices.offer);
+            let flags = offering(init_flags(frame), free_fields.offer);
             put_u32(frame, 52, flags);
         }
         None => {}

@@ -1,5 +1,5 @@
-//! The frames of a kernel that drives a server: what servers want in free fields, requests that are not the kernel's, and
-//! frames of a server that are not for the kernel.
+//! The frames of a kernel that drives a server: what servers expect in free fields, requests that are not the kernel's,
+//! and frames of a server that are not for the kernel.
 #![tactic(auto)]
 
 mod agreement;
@@ -9,7 +9,7 @@ mod opendir_reply;
 mod own_requests;
 
 pub use agreement::{is_older_agreement, raised_of};
-pub use aside::{Aside, aside_in};
-pub use filling::{Choices, fill, fill_handle};
+pub use aside::{OtherFrame, other_frame_in};
+pub use filling::{FreeFields, fill, fill_handle};
 pub use opendir_reply::{OpendirSaid, node_listed, said_in};
-pub use own_requests::{END_OF_OWN, FIRST_OWN, opendir, releasedir};
+pub use own_requests::{FIRST_OPENDIR_UNIQUE, OPENDIR_UNIQUES_END, opendir, releasedir};

@@ -7,10 +7,10 @@ use byteorder::{ByteOrder, LittleEndian};
 use fuse_spec::Opened;
 
 /// The first number of requests that are not the kernel's, 2^62.
-pub const FIRST_OWN: u64 = 4_611_686_018_427_387_904;
+pub const FIRST_OPENDIR_UNIQUE: u64 = 4_611_686_018_427_387_904;
 
 /// Where these numbers end, 2^63: from then on none is asked.
-pub const END_OF_OWN: u64 = 9_223_372_036_854_775_808;
+pub const OPENDIR_UNIQUES_END: u64 = 9_223_372_036_854_775_808;
 
 /// O_DIRECTORY, of open(2).
 const O_DIRECTORY: u32 = 0x1_0000;

@@ -12,7 +12,7 @@ use Rattle.fuse_spec.specs.Calls.Answers.{Answer}
 use Rattle.fuse_spec.specs.Calls.Answers as answer
 use Rattle.fuse_spec.specs.Calls.Calls.{Call}
 use Rattle.fuse_spec.specs.Calls.CallReplies.{call_replied}
-use Rattle.fuse_spec.specs.Calls.Vfs.{asked, CallState, Vfs, answered, begun, all_answered, given_up}
+use Rattle.fuse_spec.specs.Calls.Vfs.{asked, CallState, Vfs, answered, begun, all_answered, abandoned}
 use Rattle.fuse_spec.specs.Kernel.Kernel.{Kernel, kernel_aborted, is_aborted, advanced, after_use, closed_by, call_begun, after_signal, signalled_at, call_signalled, request_of}
 use Rattle.fuse_spec.specs.Kernel.Messages.{WireReply}
 use Rattle.fuse_spec.specs.Files.Operations.{done, failed, files_in_reply}
@@ -78,9 +78,9 @@ answers_left a (e ∷ calls) answers call none = get_put (all_answered a calls a
     by true there rest = absurd (cc (there))
     by false there rest = rest there
 
--- Everything is given up: the unanswered calls are answered.
-pub gives_up : (c : Vfs Opened) → AnsweredOnce c (given_up c)
-gives_up c = record {
+-- Everything is abandoned: the unanswered calls are answered.
+pub abandons : (c : Vfs Opened) → AnsweredOnce c (abandoned c)
+abandons c = record {
   numbers = omega arith;
   over = λ q low none. refl;
   same = λ q low none a at. sym (answers_left (answer.failed 103) c.calls c.answers q none) ∙ at;
@@ -156,7 +156,7 @@ reply_receives k unique wire = by (nat_eq (unique % 2) 1)
       where
         agreed_or : (b : Bool) → AnsweredOnce q.vfs (cond b (made_ready q wire) (kernel_aborted q)).vfs
         agreed_or true = as_they_were q.vfs
-        agreed_or false = gives_up q.vfs
+        agreed_or false = abandons q.vfs
     ended q (purpose.Release o) = as_they_were q.vfs
     ended q (purpose.Call call) = call_receives q call wire (get q.vfs.calls call) refl
 

@@ -1,4 +1,5 @@
--- A number that was drawn and under which no request waits has none again, whatever becomes of the kernel but a mount.
+-- A number that was allocated and under which no request waits has none again, whatever becomes of the kernel but a
+-- mount.
 use Rattle.std.proofs.Common.{◌≡◌, ℕ, ◌-◌, ◌≤◌, ◌<◌, Bool, true, false, cond, List, [], ◌∷◌, ◌++◌, Option, Some, None, nat_eq, slice_get, option_map, find, refl, ap, sym, subst, ◌∙◌, arith}
 use Rattle.std.specs.Prelude.{◌%◌, nat_lt}
 use Rattle.std.specs.List.{list_any}
@@ -73,21 +74,21 @@ none_marked u v m (x ∷ es) none = by (nat_eq u x.0) (nat_eq v x.0) refl none (
 
 -- ---- the number is gone
 
--- No request waits under the number, which is not to be drawn: it was, or the mount is aborted.
+-- No request waits under the number, which is not to be allocated: it was, or the mount is aborted.
 pub record Gone (u : ℕ) (k : Kernel) : Type 0 where
   pub none : request_under k.queues u ≡ None
-  pub drawn : k.queues.next ≤ u → (is_aborted k.phase ≡ true) × (k.queues.requests ≡ [])
+  pub allocated : k.queues.next ≤ u → (is_aborted k.phase ≡ true) × (k.queues.requests ≡ [])
 
 pub gone_stable : (u : ℕ) (k : Kernel) → Stable (Gone u k)
 gone_stable u k s = record {
   none = is_nothing (request_under k.queues u) (λ no. s (λ gone. no gone.none));
-  drawn = λ le. (
-    same_truth (is_aborted k.phase) true (λ no. s (λ gone. no (gone.drawn le).0)),
-    is_empty k.queues.requests (λ no. s (λ gone. no (gone.drawn le).1)),
+  allocated = λ le. (
+    same_truth (is_aborted k.phase) true (λ no. s (λ gone. no (gone.allocated le).0)),
+    is_empty k.queues.requests (λ no. s (λ gone. no (gone.allocated le).1)),
   );
 }
 
--- It was drawn and is gone.
+-- It was allocated and is gone.
 abbrev pub Left : ℕ → QueueState Purpose → Type 0
 Left u q = (u < q.next) × (request_under q u ≡ None)
 
@@ -128,36 +129,36 @@ begun_aborted k call aborted = ap (λ (b : Bool). (closing_of (advanced k k.vfs.
     (cond b None (closed_by k.vfs.opens call))).queues) aborted
 
 module _ (u : ℕ) where
-  -- a number that was drawn is gone
+  -- a number that was allocated is gone
   pub left_gone : (k : Kernel) → Left u k.queues → Gone u k
-  left_gone k left = let low = left.0 in record { none = left.1; drawn = λ le. absurd (omega (arith, low, le)) }
+  left_gone k left = let low = left.0 in record { none = left.1; allocated = λ le. absurd (omega (arith, low, le)) }
 
   -- the same requests, and no number given back
   pub same_gone : (k l : Kernel) → Gone u k → l.queues.requests ≡ k.queues.requests → k.queues.next ≤ l.queues.next
       → l.phase ≡ k.phase → Gone u l
   same_gone k l gone requests later phase = record {
     none = ap (λ (es : Requests). lookup (nat_eq u) es) requests ∙ gone.none;
-    drawn = λ le.
-        let was = gone.drawn (omega (arith, le, later)) in
+    allocated = λ le.
+        let was = gone.allocated (omega (arith, le, later)) in
         (ap is_aborted phase ∙ was.0, requests ∙ was.1);
   }
 
-  -- By whether the number was drawn: it was, or the mount is aborted.
-  by_drawn : (k : Kernel) → Gone u k → (P : Type 0) → (Left u k.queues → P)
+  -- By whether the number was allocated: it was, or the mount is aborted.
+  by_allocated : (k : Kernel) → Gone u k → (P : Type 0) → (Left u k.queues → P)
       → (is_aborted k.phase ≡ true → k.queues.requests ≡ [] → P) → P
-  by_drawn k gone P drawn aborted = by (nat_lt u k.queues.next) refl
+  by_allocated k gone P allocated aborted = by (nat_lt u k.queues.next) refl
     where
       by : (b : Bool) → nat_lt u k.queues.next ≡ b → P
-      by true e = drawn (grind (arith, nat_tests, e), gone.none)
-      by false e = let was = gone.drawn (grind (arith, nat_tests, e)) in aborted was.0 was.1
+      by true e = allocated (grind (arith, nat_tests, e), gone.none)
+      by false e = let was = gone.allocated (grind (arith, nat_tests, e)) in aborted was.0 was.1
 
   -- An abort ends them all.
   pub aborted_gone : (k : Kernel) → Gone u (kernel_aborted k)
-  aborted_gone k = record { none = refl; drawn = λ le. (refl, refl) }
+  aborted_gone k = record { none = refl; allocated = λ le. (refl, refl) }
 
   -- A call begins, which asks nothing once the mount is aborted.
   pub begun_gone : (k : Kernel) (call : Call) → Gone u k → Gone u (call_begun k call)
-  begun_gone k call gone = by_drawn k gone (Gone u (call_begun k call))
+  begun_gone k call gone = by_allocated k gone (Gone u (call_begun k call))
       (λ left. left_gone (call_begun k call)
       (moves_left _ u k.queues (call_begun k call).queues (begun_reads_none k call) left))
       (λ aborted empty.
@@ -168,7 +169,7 @@ module _ (u : ℕ) where
   -- A signal reaches a call.
   pub signalled_gone : (k : Kernel) (call : ℕ) (state : CallState Opened) (fatal : Bool) → Gone u k
       → Gone u (call_signalled k call state fatal).1
-  signalled_gone k call state fatal gone = by_drawn k gone (Gone u (call_signalled k call state fatal).1)
+  signalled_gone k call state fatal gone = by_allocated k gone (Gone u (call_signalled k call state fatal).1)
       (λ left. left_gone (call_signalled k call state fatal).1
       (moves_left _ u k.queues (call_signalled k call state fatal).1.queues
       (signalled_reads_none k call state fatal) left))
@@ -186,14 +187,14 @@ module _ (u : ℕ) where
           → Gone u (record k { queues = record k.queues { requests = set_mark v k.queues.requests m } })
       marked v m = record {
         none = none_marked u v m k.queues.requests gone.none;
-        drawn = λ le.
-            let was = gone.drawn le in
+        allocated = λ le.
+            let was = gone.allocated le in
             (was.0, ap (λ (es : Requests). set_mark v es m) was.1);
       }
 
       read_as : (v : ℕ) (m : Mark) → Gone u (record k { queues = after_reading k.queues v m })
       read_as v mark.Unread = marked v mark.Read
-      read_as v mark.Flagged = let now = marked v mark.Interrupted in record { none = now.none; drawn = now.drawn }
+      read_as v mark.Flagged = let now = marked v mark.Interrupted in record { none = now.none; allocated = now.allocated }
       read_as v mark.Read = gone
       read_as v mark.Interrupted = gone
 
@@ -208,8 +209,8 @@ module _ (u : ℕ) where
   pub without_gone : (k : Kernel) (v : ℕ) → Gone u k → Gone u (record k { queues = without k.queues v })
   without_gone k v gone = record {
     none = none_removed u (nat_eq v) k.queues.requests gone.none;
-    drawn = λ le.
-        let was = gone.drawn le in
+    allocated = λ le.
+        let was = gone.allocated le in
         (was.0, ap (λ (es : Requests). remove_entry (nat_eq v) es) was.1);
   }
 
@@ -219,8 +220,8 @@ module _ (u : ℕ) where
     reply_same original reply gone = by (mark_under k.queues original)
       where
         effect : (x : InterruptReplyEffect) → Gone u (record k { queues = after_reply_effect k.queues original x })
-        effect QueuedAgain = record { none = gone.none; drawn = gone.drawn }
-        effect TurnedOff = record { none = gone.none; drawn = gone.drawn }
+        effect QueuedAgain = record { none = gone.none; allocated = gone.allocated }
+        effect TurnedOff = record { none = gone.none; allocated = gone.allocated }
         effect NoReplyEffect = gone
 
         by : (o : Option Mark) → Gone u (record k {
@@ -257,7 +258,7 @@ module _ (u : ℕ) where
 
     -- A reply is written.
     pub written_gone : Gone u k → Gone u (reply_written k unique wire).1
-    written_gone gone = by_drawn k gone (Gone u (reply_written k unique wire).1)
+    written_gone gone = by_allocated k gone (Gone u (reply_written k unique wire).1)
         (λ left. by left (nat_eq (unique % 2) 1))
         (λ aborted empty. subst (Gone u) (sym (none_taken k unique wire empty)) gone)
       where

@@ -1,4 +1,4 @@
--- A number has one request at most, and none before it is drawn, in any run from before the first mount.
+-- A number has one request at most, and none before it is allocated, in any run from before the first mount.
 use Rattle.std.proofs.Common.{◌≡◌, ℕ, ◌+◌, ◌≤◌, Bool, true, false, cond, List, [], ◌∷◌, Option, Some, None, drop, nat_eq, slice_get, refl, ap, sym, subst, ◌∙◌, arith}
 use Rattle.std.specs.Prelude.{nat_lt}
 use Rattle.std.specs.Map.{lookup, remove_entry}
@@ -33,7 +33,7 @@ use Rattle.fk_drive_theorem.proofs.WrittenCounted.{EmptyUnlessLive, written_empt
 abbrev Requests : Type 0
 Requests = List (ℕ × QueuedRequest Purpose)
 
--- A number has one request at most, and none before it is drawn.
+-- A number has one request at most, and none before it is allocated.
 abbrev pub OneEach : QueueState Purpose → Type 0
 OneEach q = (u : ℕ) → key_count u q.requests ≤ cond (nat_lt u q.next) 1 0
 

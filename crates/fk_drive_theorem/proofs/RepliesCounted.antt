@@ -86,10 +86,10 @@ module _ (id : ℕ) (low : 2 ≤ id) where
   told None = 0
   told (Some g) = time_named g
 
-  first_told : (o : Option Entry) (files : List Entry)
+  first_listed_counted : (o : Option Entry) (files : List Entry)
       → entries_of id (first_listed o files) ≡ told o + entries_of id files
-  first_told None files = omega arith
-  first_told (Some g) files = count_by-cons (λ (x : Entry). nat_eq x.nodeid id) g files
+  first_listed_counted None files = omega arith
+  first_listed_counted (Some g) files = count_by-cons (λ (x : Entry). nat_eq x.nodeid id) g files
 
   pair_counted : (nodes : Map Counted) (pair : DirentPlus Entry)
       → told (listed_by (pair_judged pair (use_of_listed nodes (listed_by pair))))
@@ -125,14 +125,14 @@ module _ (id : ℕ) (low : 2 ≤ id) where
       let after = looked_up_by nodes pair in
       let one = pair_counted nodes pair in
       let rest = pairs_counted pairs after in
-      let now = first_told (listed_by (pair_judged pair u)) (files_listed (pairs_judged after pairs)) in
-      let was = first_told (listed_by pair) (files_listed pairs) in
+      let now = first_listed_counted (listed_by (pair_judged pair u)) (files_listed (pairs_judged after pairs)) in
+      let was = first_listed_counted (listed_by pair) (files_listed pairs) in
       let left = times_append (stale_in u) (stale_among after pairs) in
       omega (arith, one, rest, now, was, left)
 
   -- ---- the reply
 
-  -- So many lookups more, or fewer.
+  -- This many lookups more, or fewer.
   abbrev pub Gains : Kernel → Kernel → ℕ → Type 0
   Gains k l n = lookups id l ≡ lookups id k + n
 

@@ -17,7 +17,7 @@ use Rattle.fk_drive_theorem.specs.AnsweredOnce.{AnsweredOnce}
 use Rattle.fk_drive_theorem.proofs.Stable.{Stable, at_most, is_nothing, is_something}
 use Rattle.fk_drive_theorem.proofs.SameAnswers.{same_answer}
 use Rattle.fk_drive_theorem.proofs.Taken.{TakenAs, refused_whole, request_ends, is_read, holds_as_taken}
-use Rattle.fk_drive_theorem.proofs.CallsOver.{as_they_were, and_then, answers_given, gives_up, call_begins, call_signals, reply_receives}
+use Rattle.fk_drive_theorem.proofs.CallsOver.{as_they_were, and_then, answers_given, abandons, call_begins, call_signals, reply_receives}
 
 -- That calls are over so holds as soon as it is not false.
 stays_stable : (c d : Vfs Opened) → Stable (AnsweredOnce c d)
@@ -43,7 +43,7 @@ taken_once old bytes result new taken =
         to _ (sym (ap (λ (r : WriteResult × Kernel). r.1) same)) (reply_receives old (head_unique bytes) wire)
 
 alone_once : (old new : Kernel) → ActsAlone old new → AnsweredOnce old.vfs new.vfs
-alone_once old new (mounts may) = gives_up old.vfs
+alone_once old new (mounts may) = abandons old.vfs
 alone_once old new (begins call may) = call_begins old (for_minor old.lists_files call)
 alone_once old new (is_signalled call fatal effect q may is) =
     subst (λ (r : IntrEffect × Kernel). AnsweredOnce old.vfs r.1.vfs) is.signalled
@@ -51,7 +51,7 @@ alone_once old new (is_signalled call fatal effect q may is) =
 alone_once old new (ticks ms may) = answers_given old.vfs _ refl refl (λ q a at. at)
 alone_once old new (drops_name directory name may) = answers_given old.vfs _ refl refl (λ q a at. at)
 alone_once old new (evicts node counted may there) = as_they_were old.vfs
-alone_once old new (aborts may) = gives_up old.vfs
+alone_once old new (aborts may) = abandons old.vfs
 alone_once old new (gives_answer call) =
     answers_given old.vfs _ refl refl (λ q a at. left_found old.vfs.answers call q a at)
 

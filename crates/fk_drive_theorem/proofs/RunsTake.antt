@@ -116,9 +116,9 @@ module _ (old : Kernel) (number : ℕ) (new : Kernel) (one : OneEach old.queues)
   even : nat_eq (number % 2) 1 ≡ false
   even = ap (λ (n : ℕ). nat_eq n 1) takes.no_interrupt
 
-  -- what is awaited was drawn
-  drawn : awaited old number ≢ nothing_awaited → number < old.queues.next
-  drawn some = by (nat_lt number old.queues.next) refl
+  -- what is awaited was allocated
+  allocated : awaited old number ≢ nothing_awaited → number < old.queues.next
+  allocated some = by (nat_lt number old.queues.next) refl
     where
       by : (b : Bool) → nat_lt number old.queues.next ≡ b → number < old.queues.next
       by true e = grind (arith, nat_tests, e)
@@ -132,7 +132,7 @@ module _ (old : Kernel) (number : ℕ) (new : Kernel) (one : OneEach old.queues)
 
   -- its request ends
   less : awaited old number ≢ nothing_awaited → Left number (without old.queues number)
-  less some = (drawn some, one_removed number old.queues one)
+  less some = (allocated some, one_removed number old.queues one)
 
   read_ends : (o : Opcode) (wire : WireReply) → awaited old number ≡ reply_to o
       → Gone number (reply_written old number wire).1

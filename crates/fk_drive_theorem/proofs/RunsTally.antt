@@ -101,10 +101,10 @@ module _ (id : ℕ) (low : 2 ≤ id) where
     }
 
     -- in a mount that is live after it
-    written_so : (new : Kernel) → EmptyUnlessLive new
+    reply_written_is : (new : Kernel) → EmptyUnlessLive new
         → (is_live new.phase ≡ true → lookups id new + tally.forgotten ≡ more.gathered)
         → Tallied id new (tally_written id old bytes result new tally)
-    written_so new empty balance = by (is_live new.phase) refl
+    reply_written_is new empty balance = by (is_live new.phase) refl
       where
         by : (b : Bool) → is_live new.phase ≡ b → Tallied id new (cond b more no_lookups)
         by true live = record { balance = balance live; empty = empty }
@@ -144,9 +144,9 @@ module _ (id : ℕ) (low : 2 ≤ id) where
     taken_tallied new taken = holds_as_taken old bytes result new taken _ (tallied_stable id new _) by
       where
         by : TakenAs old bytes result new → Tallied id new (tally_written id old bytes result new tally)
-        by (refused_whole refused no_entry same) = written_so new (subst EmptyUnlessLive (sym same) was.empty)
+        by (refused_whole refused no_entry same) = reply_written_is new (subst EmptyUnlessLive (sym same) was.empty)
             (λ live. same_lookups new (ap (lookups id) same) (refused_none result _ refused))
-        by (request_ends is same) = written_so new
+        by (request_ends is same) = reply_written_is new
             (subst EmptyUnlessLive (sym same) (λ dead.
             let e = was.empty dead in
             let less : List (ℕ × QueuedRequest Purpose) → List (ℕ × QueuedRequest Purpose) =
@@ -158,7 +158,7 @@ module _ (id : ℕ) (low : 2 ≤ id) where
             ap (λ (r : WriteResult × Kernel). r.1) same in
             let results : (reply_written old (head_unique bytes) wire).0 ≡ result =
             ap (λ (r : WriteResult × Kernel). r.0) same in
-            written_so new (subst EmptyUnlessLive after (written_empty old (head_unique bytes) wire was.empty))
+            reply_written_is new (subst EmptyUnlessLive after (written_empty old (head_unique bytes) wire was.empty))
             (λ live.
             let gains : lookups id new ≡ lookups id old + where_accepted result (times_named id wire) =
             subst (λ (r : WriteResult × Kernel). lookups id r.1

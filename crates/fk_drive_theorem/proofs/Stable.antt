@@ -1,4 +1,4 @@
--- What holds as soon as it is not false: what cannot be told of the bytes of a reply does not matter to it.
+-- What holds as soon as it is not false: what cannot be said of the bytes of a reply does not matter to it.
 use Rattle.std.proofs.Common.{◌≡◌, ℕ, ◌≤◌, Bool, true, false, List, [], ◌∷◌, Option, Some, None, refl, ap, arith}
 use Rattle.std.specs.Prelude.{nat_le}
 use Rattle.std.proofs.lemmas.Bool.Decides.{nat_tests}

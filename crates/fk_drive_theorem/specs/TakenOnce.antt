@@ -32,7 +32,7 @@ abbrev pub TakesNone : ℕ → Kernel → Type 0
 TakesNone number k = (bytes : List ℕ) → HasReplyHead bytes → request_number (head_unique bytes) ≡ number
     → (result : WriteResult) (after : Kernel) → IsReplyTaken k bytes result after → (result ≡ NoEntry) × (after ≡ k)
 
--- A number that was drawn and under which no request waits has none again, and no reply to it is taken.
+-- A number that was allocated and under which no request waits has none again, and no reply to it is taken.
 pub record NoneAgain (old new : Kernel) : Type 0 where
   pub none_waits : (number : ℕ) → number < old.queues.next → request_under old.queues number ≡ None
       → request_under new.queues number ≡ None

@@ -25,7 +25,7 @@ pub fn lemma_each_call_answered_once()
         → get old.kernel.vfs.answers call ≡ None → get new.kernel.vfs.answers call ≡ None }
 {}
 
-/// No reply is taken twice without a mount in between. A number that was drawn and under which no request waits has
+/// No reply is taken twice without a mount in between. A number that was allocated and under which no request waits has
 /// none again, and a reply to it or to its INTERRUPT is `NoEntry` and changes nothing. In any run from before the first
 /// mount, a reply that was taken ends its request, so none is taken to it again.
 pub fn lemma_no_reply_taken_twice()

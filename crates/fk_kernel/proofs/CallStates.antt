@@ -1,4 +1,4 @@
--- What a call has asked, and what goes with it, tell where it stands.
+-- Where a call stands follows from what it has asked, and what goes with it.
 use Rattle.std.proofs.Common.{◌≡◌, ◌≢◌, ℕ, true, false, true≢false, List, Option, Some, None, refl, ap, sym, ◌∙◌}
 use Rattle.std.specs.Prelude.{Bool, is_some, not}
 use Rattle.fuse_spec.specs.declared.Entry.{Entry}

@@ -121,7 +121,7 @@ module _ (k : Kernel) (open_call : ℕ) (going : is_aborted k.phase ≡ false)
       → new ≡ record k { vfs = new.vfs } → new ≡ call_begun k (call.close open_call)
   closed_none new vfs same = same ∙ ap (λ (v : Vfs Opened). record k { vfs = v }) vfs ∙ sym closes_none
 
--- a closed file that is used waits, and one that is not is let go
+-- a closed file that is used waits, and one that is not is released
 module _ (k : Kernel) (open_call : ℕ) where
   abbrev by_use : Bool → Opened → Kernel
   by_use b opened = record k {

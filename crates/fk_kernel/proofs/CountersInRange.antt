@@ -19,10 +19,10 @@ use Rattle.fuse_spec.specs.Calls.Paths.{Name}
 use Rattle.fuse_spec.specs.Calls.Vfs.{CallState, walking, doing, using, asked, Advance, bound, walks_on}
 use Rattle.fuse_spec.specs.Calls.Walks.{WalkPlan}
 use Rattle.fk_syscalls.specs.States.{StandsAt}
-use Rattle.fk_kernel.specs.Entries.{Awaits, EndsWithin, mkdirs, links}
+use Rattle.fk_kernel.specs.Entries.{Awaits, HasUniqueForRelease, mkdirs, links}
 use Rattle.fuse_spec.specs.Kernel.Refusals.{is_kernel_past_end}
 use Rattle.fuse_frames.specs.declared.reply.Reply.TheVariants as said
-use Rattle.fuse_frames.specs.ReplyDecoding.{LentReply, lent_wire_of}
+use Rattle.fuse_frames.specs.ReplyDecoding.{LentReply, decoded_wire_of}
 use Rattle.fk_kernel.proofs.Phases.{none_past_end, within_ends}
 use Rattle.fk_kernel.proofs.CallStates.{LooksNone, makes_found, none_agreed}
 use Rattle.fk_kernel.proofs.Walking.{asks_within, walk_numbers}
@@ -38,7 +38,7 @@ Keeps r = is_kernel_past_end r.1 ≡ false
 
 module _ (k : Kernel) (unique call : ℕ) (even : nat_eq (unique % 2) 1 ≡ false)
     (waits : waiting k.queues unique ≡ Some (Call call)) (same : is_kernel_past_end k ≡ false) where
-  module _ (ends : EndsWithin k call) where
+  module _ (ends : HasUniqueForRelease k call) where
     let_go : (open_call : ℕ) (operation : Operation ℕ Opened) (a : answer.Answer)
         → get k.vfs.calls call ≡ Some (using open_call operation) → (o : Option Opened) → get k.closing open_call ≡ o
         → is_kernel_past_end (released (ended k unique k.vfs call a) open_call o) ≡ false
@@ -157,7 +157,7 @@ module _ (k : Kernel) (unique call : ℕ) (even : nat_eq (unique % 2) 1 ≡ fals
         (made_found k unique call even waits m.operation m.place m.makes (aw.at ∙ m.is) g valid is) ∙ same
 
 -- What was made of a reply that is no entry alone.
-pub no_entry_said : (s : LentReply) → ((g : Entry) (valid : ℕ) → s ≡ said.Entry g valid → ⊥) → IsNoEntry (lent_wire_of s)
+pub no_entry_said : (s : LentReply) → ((g : Entry) (valid : ℕ) → s ≡ said.Entry g valid → ⊥) → IsNoEntry (decoded_wire_of s)
 no_entry_said (said.Failed errno) other = tt
 no_entry_said (said.Negative valid) other = tt
 no_entry_said (said.Entry g valid) other = absurd (other g valid refl)

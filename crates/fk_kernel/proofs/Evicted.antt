@@ -1,4 +1,4 @@
--- Nodes in use, and nodes that are given up.
+-- Nodes in use, and nodes that are evicted.
 use Rattle.std.proofs.Common.{◌≡◌, ◌≢◌, ℕ, ◌+◌, ◌≤◌, Bool, true, false, ◌||◌, [], ◌∷◌, Option, Some, None, Bor, refl, sym, ap, ◌∙◌, arith, inl, inr, true≢false}
 use Rattle.std.specs.Prelude.{option_map, ◌&&◌, not, cond, nat_eq}
 use Rattle.std.specs.Option.{option_copied}
@@ -54,7 +54,7 @@ pub copied_is : {X : Type 0} (o : Option (Bor X)) → is_some (option_copied o) 
 copied_is None = refl
 copied_is (Some x) = refl
 
--- a node that is counted, not in use and not named is given up
+-- a node that is counted, not in use and not named is evicted
 pub unrefused : (k : Kernel) (node : ℕ) → is_live k.phase ≡ true → is_some (get k.nodes node) ≡ true
     → (is_pinned k node || is_bound k node) ≡ false → None ≡ evict_refusal k node
 unrefused k node live there idle = rw live (by (get k.nodes node) there)

@@ -92,7 +92,7 @@ module _ {V : Type 0} where
 same_number : (a b : ℕ) → nat_eq a b ≡ true → a ≡ b
 same_number a b e = grind (arith, nat_tests, e)
 
--- what is told of an entry that can be used
+-- what is said of an entry that can be used
 alike_by : (below same : Bool) (node : ℕ) → cond below unusable (cond same usable (stale node)) ≡ usable → same ≡ true
 alike_by true same node can = cc
 alike_by false true node can = refl

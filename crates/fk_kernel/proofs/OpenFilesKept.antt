@@ -23,7 +23,7 @@ some_not_none {X} o x is none =
 
 module _ {V : Type 0} (calls : Map V) (opens closing : Map Opened) (coming : ℕ)
     (old : AreFiles calls opens closing coming) where
-  -- the next number is drawn
+  -- the next number is allocated
   pub numbered_files : AreFiles calls opens closing (coming + 1)
   numbered_files = record {
     opens_below = λ n le. old.opens_below n (omega arith);
@@ -127,7 +127,7 @@ module _ {V : Type 0} (calls : Map V) (opens closing : Map Opened) (coming : ℕ
     ];
   }
 
-  -- a closed file is let go
+  -- a closed file is released
   pub released_files : (open_call : ℕ) → AreFiles calls opens (remove closing open_call) coming
   released_files open_call = record {
     opens_below = old.opens_below;

@@ -73,7 +73,7 @@ module _ (k : Kernel) (unique : ℕ) (bytes : List ℕ) where
           true≢false (sym (p.past wire (said wire says)) ∙ each wire s)
 
   module _ (same : is_kernel_past k ≡ false) where
-    -- A reply to an INTERRUPT draws no number,
+    -- A reply to an INTERRUPT allocates no number,
     marked_within : (original : ℕ) (reply : InterruptReply) (o : Option Mark)
         → is_kernel_past (record k {
           queues = option_map_or (λ m. after_reply_effect k.queues original
@@ -149,7 +149,7 @@ wrong_to_call (readdirplus d a z) = refl
 wrong_to_call (read o f z) = refl
 wrong_to_call (write o f b) = refl
 
--- Where want of memory is refused, the bytes do not go past the end.
+-- Where memory is out, the bytes do not go past the end.
 pub memory_last : {X : Type 0} (k : Kernel) (unique : ℕ) (bytes : List ℕ) (awaits : Awaited) (r : Result X Refusal)
     → (WritePasses k bytes → PassesEnd k unique bytes awaits)
     → IfErr r (λ refusal. refusal ≡ NoMemory → PassesEnd k unique bytes awaits → ⊥)

@@ -20,7 +20,7 @@ use Rattle.fuse_spec.specs.Calls.Vfs.{Vfs, Advance, CallState, walking, doing, u
 use Rattle.fuse_spec.specs.Calls.Walks.{WalkPlan}
 use Rattle.fk_syscalls.specs.States.{StandsAt}
 use Rattle.fk_calls.specs.Names.{names_left}
-use Rattle.fk_kernel.specs.Entries.{Awaits, EndsPast, MakesName, mkdirs, links}
+use Rattle.fk_kernel.specs.Entries.{Awaits, LacksUniqueForRelease, MakesName, mkdirs, links}
 use Rattle.fk_kernel.specs.AwaitedReplies.{IsJudged}
 use Rattle.fuse_spec.specs.Kernel.Refusals.{is_kernel_past, is_kernel_past_end, is_counted_out}
 use Rattle.fk_kernel.proofs.Closes.{released_some}
@@ -446,7 +446,7 @@ judged_op (write o f b) = tt
 
 -- The end of a call that lets a closed file go needs a number.
 module _ (k : Kernel) (unique call : ℕ) (even : nat_eq (unique % 2) 1 ≡ false)
-    (waits : waiting k.queues unique ≡ Some (Call call)) (p : EndsPast k call)
+    (waits : waiting k.queues unique ≡ Some (Call call)) (p : LacksUniqueForRelease k call)
     (s : StandsAt p.operation (using p.open_call p.operation)) where
   abbrev over : answer.Answer → Kernel
   over a = ended k unique k.vfs call a

@@ -12,7 +12,7 @@ use Rattle.fuse_spec.specs.Kernel.Messages.{WireReply}
 use Rattle.fuse_spec.specs.Kernel.QueueCalls.{waiting, without}
 use Rattle.fuse_spec.specs.Kernel.Replies.{reply_written, request_reply_written, interrupt_reply_written, interrupt_replied, is_empty_reply}
 use Rattle.fuse_frames.specs.declared.reply.Reply.TheVariants as said
-use Rattle.fuse_frames.specs.ReplyDecoding.{LentReply, lent_wire_of}
+use Rattle.fuse_frames.specs.ReplyDecoding.{LentReply, decoded_wire_of}
 use Rattle.fk_kernel.specs.AwaitedReplies.{Says, IsNoReply, Awaited, nothing, gone, reply_to, awaited, awaited_by, awaited_by_interrupt, wrong_body, wrong_body_to, IsJudged, IsReplyWritten}
 
 abbrev pub opcode_in : Awaited → Opcode
@@ -107,8 +107,8 @@ even_test u v same even = subst (λ (n : ℕ). nat_eq (n % 2) 1 ≡ false) same
     (elim (eqb_tells (u % 2) 1) [ inl h ↦ absurd (even h.1) | inr h ↦ h.0 ])
 
 -- A reply to an INTERRUPT that is no error is accepted, and changes nothing.
-pub interrupt_done : (k : Kernel) (original : ℕ) (s : LentReply) → is_empty_reply (lent_wire_of s) ≡ true
-    → ((errno : ℕ) → s ≡ said.Failed errno → ⊥) → interrupt_replied k original (lent_wire_of s) ≡ (Accepted, k)
+pub interrupt_done : (k : Kernel) (original : ℕ) (s : LentReply) → is_empty_reply (decoded_wire_of s) ≡ true
+    → ((errno : ℕ) → s ≡ said.Failed errno → ⊥) → interrupt_replied k original (decoded_wire_of s) ≡ (Accepted, k)
 interrupt_done k original (said.Failed errno) is other = absurd (other errno refl)
 interrupt_done k original said.Done is other = refl
 interrupt_done k original s is other = absurd (true≢false (sym is))

@@ -23,7 +23,7 @@ use Rattle.fuse_spec.specs.Kernel.QueueCalls.{waiting, interrupt_effect, after_d
 use Rattle.fuse_spec.specs.Kernel.Signals.{signal_effect}
 use Rattle.fuse_spec.specs.Calls.Vfs.{CallState, using, answered}
 use Rattle.fk_queues.specs.Room.{Room, KeepsRoom}
-use Rattle.fk_kernel.specs.Entries.{EndsPast}
+use Rattle.fk_kernel.specs.Entries.{LacksUniqueForRelease}
 use Rattle.std.specs.Prelude.{Result}
 use Rattle.fuse_spec.specs.declared.Refusal.{Refusal}
 use Rattle.fuse_spec.specs.Kernel.Refusals.{unless, found, refusal_in, accepted, is_kernel_past_end}
@@ -132,7 +132,7 @@ requested k call state fatal unique at = ap (signalled_at k call state fatal) at
 
 -- A signal that lets a closed file go needs a number.
 module _ (k : Kernel) (call unique : ℕ) (fatal : Bool) (current : request_of k call ≡ Some unique)
-    (effect : interrupt_effect k.queues unique fatal ≡ Dequeued) (p : EndsPast k call) where
+    (effect : interrupt_effect k.queues unique fatal ≡ Dequeued) (p : LacksUniqueForRelease k call) where
   abbrev over : Kernel
   over = record k { vfs = answered k.vfs call (failed eintr); queues = after_dequeue k.queues unique }
 

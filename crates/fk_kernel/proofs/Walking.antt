@@ -34,7 +34,7 @@ pub asked_left : (unique call : ℕ) → (nat_lt (2 ^ 62) (unique + 2) || nat_lt
     → 0 < (2 ^ 62 - unique) / 2
 asked_left unique call within = grind (arith, nat_tests)
 
--- a walk draws no call's number
+-- a walk allocates no call's number
 pub walk_numbers : (c : Vfs Opened) (call file : ℕ) (words : List Name) (plan : WalkPlan ℕ)
     → (walks_on c call file words plan).vfs.next_call ≡ c.next_call
 walk_numbers c call file words plan = by (walk (look c) c.root file words plan)

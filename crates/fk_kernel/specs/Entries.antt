@@ -54,15 +54,15 @@ pub record IsOpening (standing : Option (CallState Opened)) : Type 0 where
   pub node : ℕ
   pub is : standing ≡ Some (doing (opening node))
 
--- Where the end of this call lets a closed file go, a number is left for its RELEASE.
-abbrev pub EndsWithin : Kernel → ℕ → Type 0
-EndsWithin k call =
+-- Where the end of this call releases a closed file, a number is left for its RELEASE.
+abbrev pub HasUniqueForRelease : Kernel → ℕ → Type 0
+HasUniqueForRelease k call =
     (open_call : ℕ) (operation : Operation ℕ Opened) → get k.vfs.calls call ≡ Some (using open_call operation)
     → is_some (get k.closing open_call) ≡ true
     → list_any (is_using open_call) (values (remove k.vfs.calls call)) ≡ false → 0 < numbers_left_from k.queues.next
 
--- The end of this call lets a closed file go, and no number is left for its RELEASE.
-pub record EndsPast (k : Kernel) (call : ℕ) : Type 0 where
+-- The end of this call releases a closed file, and no number is left for its RELEASE.
+pub record LacksUniqueForRelease (k : Kernel) (call : ℕ) : Type 0 where
   pub open_call : ℕ
   pub operation : Operation ℕ Opened
   pub is : get k.vfs.calls call ≡ Some (using open_call operation)

@@ -1,5 +1,5 @@
 -- Which refusal each call of the kernel gets: that of the definitions, then that of a counter which would pass its end.
--- Want of memory comes last. And what each results in where it has none.
+-- Out of memory comes last. And what each results in where it has none.
 use Rattle.std.specs.Prelude.{◌≡◌, ℕ, List, Bool, true, Option, Some, Result, ◌∷◌}
 use Rattle.fuse_spec.specs.Calls.Calls.{Call, for_minor}
 use Rattle.fuse_spec.specs.Kernel.Kernel.{Kernel, body_of, call_begun, call_signalled, forgets_read}
@@ -38,7 +38,7 @@ begin_refusal k call = begun_refusal k (for_minor k.lists_files call)
 abbrev pub read_refusal : Kernel → ℕ → Option Refusal
 read_refusal k place = refusal_in (to_read_pending k place (λ unique body. accepted))
 
--- of a read of so many forgets as one frame
+-- of a read of this many forgets as one frame
 abbrev pub read_forgets_refusal : Kernel → ℕ → Option Refusal
 read_forgets_refusal k count = refusal_in (to_read_forgets k count
     (λ read. within_counters (record k { queues = after_read_forgets k.queues count })))
@@ -52,7 +52,7 @@ abbrev pub signal_refusal : Kernel → ℕ → Bool → Option Refusal
 signal_refusal k call fatal =
     refusal_in (to_signal k call (λ state. within_counters (call_signalled k call state fatal).1))
 
--- of a clock that goes on so many milliseconds
+-- of a clock that goes on this many milliseconds
 abbrev pub tick_refusal : Kernel → ℕ → Option Refusal
 tick_refusal k ms = refusal_in (to_pass k ms accepted)
 
@@ -60,7 +60,7 @@ tick_refusal k ms = refusal_in (to_pass k ms accepted)
 abbrev pub drop_refusal : Kernel → ℕ → Name → Option Refusal
 drop_refusal k directory name = refusal_in (to_drop k directory name (λ bound. accepted))
 
--- of a node that is given up
+-- of a node that is evicted
 abbrev pub evict_refusal : Kernel → ℕ → Option Refusal
 evict_refusal k node = refusal_in (to_evict k node (λ counted. accepted))
 
@@ -81,12 +81,12 @@ pub record PassesEnd (k : Kernel) (unique : ℕ) (bytes : List ℕ) (awaiting : 
   pub awaits : awaiting ≡ reply_to opcode
   pub past : (wire : WireReply) → ReadsReply opcode bytes wire → is_kernel_past (reply_written k unique wire).1 ≡ true
 
--- Why bytes under a unique are refused, by what awaits a reply under it. Want of memory comes last.
+-- Why bytes under a unique are refused, by what awaits a reply under it. Out of memory comes last.
 pub data IsWriteRefusal (k : Kernel) (unique : ℕ) (bytes : List ℕ) (awaiting : Awaited) : Refusal → Type 0 where
   no_memory : (PassesEnd k unique bytes awaiting → ⊥) → IsWriteRefusal k unique bytes awaiting NoMemory
   exhausted : PassesEnd k unique bytes awaiting → IsWriteRefusal k unique bytes awaiting Exhausted
 
--- Why bytes are refused: want of memory, or of a number, or a count that would end.
+-- Why bytes are refused: out of memory, out of numbers, or a count that would end.
 abbrev pub WriteRefused : Kernel → List ℕ → Refusal → Type 0
 WriteRefused k bytes = IsWriteRefusal k (head_unique bytes) bytes (awaited k (head_unique bytes))
 
@@ -108,7 +108,7 @@ pub record IsInterruptFrame (k : Kernel) (frame : Request) : Type 0 where
   pub first : k.queues.interrupts ≡ original ∷ rest
   pub is : frame ≡ record { unique = interrupt_number original; body = interrupt original }
 
--- The frame of the first so many forgets, under the coming number.
+-- The frame of this many of the first forgets, under the coming number.
 pub record IsForgetFrame (k : Kernel) (count : ℕ) (frame : Request) : Type 0 where
   pub forgets : List Forget
   pub first : forgets_read k count ≡ Some (frame.unique, forgets)

@@ -11,8 +11,8 @@ use fk_queues::QueueTable;
 use fuse_spec::{Phase, Purpose, Refusal};
 
 impl<Q: QueueTable<Purpose> + Drop, C: CountTable<Heap = Q::Heap> + Drop> KernelOf<Q, C> {
-    /// Aborts the mount (fuse.rst). Each unanswered call is answered ECONNABORTED, and cached names, nodes, open
-    /// files and all that is queued are given up. Takes no memory: the answers have their room since the calls began.
+    /// Aborts the mount (fuse.rst). Each unanswered call is answered ECONNABORTED, and cached names, nodes, open files
+    /// and all that is queued are abandoned. Takes no memory: the answers have their room since the calls began.
     ///
     /// # Errors
     ///
@@ -26,12 +26,12 @@ impl<Q: QueueTable<Purpose> + Drop, C: CountTable<Heap = Q::Heap> + Drop> Kernel
         if !self.is_live() {
             return Err(Refusal::NotReady);
         }
-        self.give_up();
+        self.abandon_all();
         Ok(())
     }
 
-    /// The mount is over: each unanswered call is answered ECONNABORTED, and all else is given up. Takes no memory.
-    pub(crate) fn give_up(&mut self)
+    /// The mount is over: each unanswered call is answered ECONNABORTED, and all else is abandoned. Takes no memory.
+    pub(crate) fn abandon_all(&mut self)
         ensures { self.new ≡ kernel_aborted self.old }
     {
         answer_all(self.calls.rows(), &mut self.answers);

@@ -11,7 +11,7 @@ use fuse_spec::limits::CLOCK_END;
 use fuse_spec::{Purpose, Refusal};
 
 impl<Q: QueueTable<Purpose> + Drop, C: CountTable<Heap = Q::Heap> + Drop> KernelOf<Q, C> {
-    /// The clock goes on so many milliseconds. Gives the new time. Takes no memory.
+    /// The clock goes on this many milliseconds. Gives the new time. Takes no memory.
     ///
     /// # Errors
     ///

@@ -1,4 +1,4 @@
-//! How replies are taken that name a file: by an entry, by an open number, or by both.
+//! How replies are taken that name a file: by an entry, by a file handle, or by both.
 
 ghost use Rattle.std.specs.Prelude.{◌≡◌, ◌≢◌, ◌<◌, ◌^◌, ◌+◌, [], ◌∷◌, ◌≤◌, ◌%◌, ℕ, length, List, Some, None, Ok, OnOk, OnErr, IfOk, IfErr, true, false, is_some, nat_eq};
 ghost use Rattle.fuse_spec.specs.Calls.Answers.{failed};
@@ -137,7 +137,8 @@ impl<Q: QueueTable<Purpose> + Drop, C: CountTable<Heap = Q::Heap> + Drop> Kernel
         }
     }
 
-    /// What a reply to a CREATE says reaches the call: where the entry cannot be used the open number is given up.
+    /// What a reply to a CREATE says reaches the call: where the entry cannot be used the file handle is dropped
+    /// without a RELEASE.
     pub(crate) fn file_created(
         &mut self,
         unique: u64,
@@ -212,7 +213,7 @@ impl<Q: QueueTable<Purpose> + Drop, C: CountTable<Heap = Q::Heap> + Drop> Kernel
         Ok(())
     }
 
-    /// The word that a call looks up leads to the node of an entry, for so many milliseconds from now on. The call
+    /// The word that a call looks up leads to the node of an entry, for this many milliseconds from now on. The call
     /// walks on.
     fn walk_on(
         &mut self,
@@ -254,7 +255,7 @@ impl<Q: QueueTable<Purpose> + Drop, C: CountTable<Heap = Q::Heap> + Drop> Kernel
         Ok(())
     }
 
-    /// The name that a call has made leads to the node of an entry, for so many milliseconds from now on. The call is
+    /// The name that a call has made leads to the node of an entry, for this many milliseconds from now on. The call is
     /// answered that it is done.
     fn name_is_made(
         &mut self,
@@ -281,7 +282,7 @@ impl<Q: QueueTable<Purpose> + Drop, C: CountTable<Heap = Q::Heap> + Drop> Kernel
         Ok(())
     }
 
-    /// The new file of a call leads to the node of an entry, for so many milliseconds from now on, and is open under
+    /// The new file of a call leads to the node of an entry, for this many milliseconds from now on, and is open under
     /// the call's number. The call is answered that it is done.
     fn file_is_made(
         &mut self,
@@ -347,8 +348,8 @@ impl<Q: QueueTable<Purpose> + Drop, C: CountTable<Heap = Q::Heap> + Drop> Kernel
         node_opened_by(waiting)
     }
 
-    /// The word that a call looks up is missing for so many milliseconds from now on, and the call is answered that no
-    /// such file is there.
+    /// The word that a call looks up is missing for this many milliseconds from now on, and the call is answered that
+    /// no such file is there.
     pub(crate) fn word_is_missing(
         &mut self,
         unique: u64,
@@ -369,7 +370,7 @@ impl<Q: QueueTable<Purpose> + Drop, C: CountTable<Heap = Q::Heap> + Drop> Kernel
         Ok(())
     }
 
-    /// The word that a call looks up is missing for so many milliseconds from now on.
+    /// The word that a call looks up is missing for this many milliseconds from now on.
     fn name_is_missing(&mut self, call: u64, valid_ms: u64) -> Result<(), Refusal>
         requires day { valid_ms ≤ max_validity }
         ensures err { OnErr result (self.new ≡ self.old) }

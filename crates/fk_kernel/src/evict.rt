@@ -1,4 +1,4 @@
-//! How a node is given up.
+//! How a node is evicted.
 
 ghost use Rattle.std.specs.Prelude.{◌≡◌, Some, None, OnOk, OnErr, IfOk, IfErr};
 ghost use Rattle.fuse_spec.specs.Kernel.Kernel.{evicted};
@@ -13,7 +13,7 @@ use fk_queues::QueueTable;
 use fuse_spec::{Purpose, Refusal};
 
 impl<Q: QueueTable<Purpose> + Drop, C: CountTable<Heap = Q::Heap> + Drop> KernelOf<Q, C> {
-    /// Why a node cannot be given up: `NotReady` where the mount is not live, `NoSuch` where the node is not counted,
+    /// Why a node cannot be evicted: `NotReady` where the mount is not live, `NoSuch` where the node is not counted,
     /// `Busy` where it is pinned or a cached name, valid or not, names it.
     pub fn evict_refusal(&self, node: u64) -> Option<Refusal>
         ensures { result ≡ evict_refusal self.now node }
@@ -31,7 +31,7 @@ impl<Q: QueueTable<Purpose> + Drop, C: CountTable<Heap = Q::Heap> + Drop> Kernel
         None
     }
 
-    /// Gives a node up and queues the forget of its whole count, which is given (libfuse, low-level: forget). Takes no
+    /// Evicts a node and queues the forget of its whole count, which is given (libfuse, low-level: forget). Takes no
     /// memory.
     ///
     /// # Errors
@@ -52,7 +52,7 @@ impl<Q: QueueTable<Purpose> + Drop, C: CountTable<Heap = Q::Heap> + Drop> Kernel
                 self.queues.forget(node, count);
                 Ok(count)
             }
-            // Ruled out: it is counted.
+            // It never comes to this: `evict_refusal` found the node counted.
             None => Err(Refusal::NoSuch),
         }
     }

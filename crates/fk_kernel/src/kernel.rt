@@ -151,7 +151,7 @@ impl<Q: QueueTable<Purpose> + Drop, C: CountTable<Heap = Q::Heap> + Drop> Kernel
         is_phase_aborted(self.phase)
     }
 
-    /// Mounts anew: everything of the old mount is given up, without forgets, and INIT is queued. Until it is answered
+    /// Mounts anew: everything of the old mount is abandoned, without forgets, and INIT is queued. Until it is answered
     /// nothing is used beyond what 7.15 has (this project's rule).
     ///
     /// # Errors

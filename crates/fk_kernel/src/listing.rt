@@ -21,9 +21,9 @@ use fk_wire::RecordsPlus;
 use fuse_spec::{Operation, Purpose, Refusal, WriteResult};
 
 impl<Q: QueueTable<Purpose> + Drop, C: CountTable<Heap = Q::Heap> + Drop> KernelOf<Q, C> {
-    /// The call is answered the names that a directory lists with their files. Each is counted and cached from now
-    /// on, but for those that tell no file, the root, or a node that is counted under another generation, of which one
-    /// lookup is forgotten.
+    /// The call is answered the names that a directory lists with their files. Each is counted and cached from now on,
+    /// but for those with no file, the root, or a node that is counted under another generation, of which one lookup is
+    /// forgotten.
     pub(crate) fn pairs_listed(
         &mut self,
         unique: u64,

@@ -1,4 +1,4 @@
-//! Open files: how they are closed and let go, and what uses them.
+//! Open files: how they are closed and released, and what uses them.
 
 ghost use Rattle.std.specs.Prelude.{◌≡◌, ◌<◌, None, Some, true, false, is_some, length, OnOk, OnErr, IfOk, IfErr};
 ghost use Rattle.fuse_spec.specs.Calls.Calls as call;
@@ -12,7 +12,7 @@ ghost use Rattle.fuse_spec.specs.Calls.Vfs.{CallState as State, answered};
 ghost use Rattle.fuse_spec.specs.Values.Numbers.{counter_end, max_calls};
 ghost use Rattle.fk_syscalls.specs.States.{used_by};
 ghost use Rattle.fk_syscalls.specs.Values.{answer_of};
-ghost use Rattle.fk_kernel.specs.Entries.{EndsWithin, EndsPast};
+ghost use Rattle.fk_kernel.specs.Entries.{HasUniqueForRelease, LacksUniqueForRelease};
 ghost use Rattle.fk_kernel.specs.Refused.{begun_refusal};
 
 use crate::kernel::KernelOf;
@@ -128,13 +128,13 @@ impl<Q: QueueTable<Purpose> + Drop, C: CountTable<Heap = Q::Heap> + Drop> Kernel
         let _unique = self.queues.enqueue(Purpose::Release(opened));
     }
 
-    /// The call's request ends, and the call is answered. A closed file that it read or wrote is let go. Takes no
+    /// The call's request ends, and the call is answered. A closed file that it read or wrote is released. Takes no
     /// memory.
     #[inline(always)]
     pub(crate) fn end_call(&mut self, unique: u64, call: u64, answer: Answer<Q::Heap>)
         requires waits { is_some (waiting self.old.queues unique) ≡ true }
         requires unanswered { is_some (get self.old.vfs.calls call) ≡ true }
-        requires within { EndsWithin self.old call }
+        requires within { HasUniqueForRelease self.old call }
         ensures { (state : State OpenedFile) → get self.old.vfs.calls call ≡ Some state
             → self.new ≡ after_use (record self.old {
               vfs = answered self.old.vfs call (answer_of answer);
@@ -145,11 +145,11 @@ impl<Q: QueueTable<Purpose> + Drop, C: CountTable<Heap = Q::Heap> + Drop> Kernel
         self.finish_use(call, answer);
     }
 
-    /// The call, whose request is gone, is answered. A closed file that it read or wrote is let go. Takes no memory.
+    /// The call, whose request is gone, is answered. A closed file that it read or wrote is released. Takes no memory.
     #[inline(always)]
     pub(crate) fn finish_use(&mut self, call: u64, answer: Answer<Q::Heap>)
         requires unanswered { is_some (get self.old.vfs.calls call) ≡ true }
-        requires within { EndsWithin self.old call }
+        requires within { HasUniqueForRelease self.old call }
         ensures { (state : State OpenedFile) → get self.old.vfs.calls call ≡ Some state
             → self.new ≡ after_use (record self.old { vfs = answered self.old.vfs call (answer_of answer) }) state }
     {
@@ -174,8 +174,8 @@ impl<Q: QueueTable<Purpose> + Drop, C: CountTable<Heap = Q::Heap> + Drop> Kernel
     /// Whether the end of a call would let a closed file go, for whose RELEASE no number is left.
     #[inline(always)]
     pub(crate) fn unique_overflows(&self, call: u64) -> bool
-        ensures past { result ≡ true → EndsPast self.now call }
-        ensures within { result ≡ false → EndsWithin self.now call }
+        ensures past { result ≡ true → LacksUniqueForRelease self.now call }
+        ensures within { result ≡ false → HasUniqueForRelease self.now call }
     {
         if self.queues.numbers_left() != 0 {
             return false;

@@ -16,14 +16,14 @@ use fuse_spec::{Purpose, Refusal};
 pub enum Pick {
     /// The oldest INTERRUPT.
     Interrupt,
-    /// So many of the oldest forgets as one request: FORGET for 1, else BATCH_FORGET, for 64 at most.
+    /// This many of the oldest forgets as one request: FORGET for 1, else BATCH_FORGET, for 64 at most.
     Forgets(u64),
     /// The pending request at a place, counted from 0 in order of queuing.
     Pending(u64),
 }
 
 impl<Q: QueueTable<Purpose> + Drop, C: CountTable<Heap = Q::Heap> + Drop> KernelOf<Q, C> {
-    /// Why this cannot be read, want of memory aside: `NotReady` where the mount is not live; `InterruptFirst` for
+    /// Why this cannot be read, out of memory aside: `NotReady` where the mount is not live; `InterruptFirst` for
     /// forgets and a pending request while an INTERRUPT is queued; `NoSuch` where no INTERRUPT is queued, where no
     /// request is pending at the place, and for 0 forgets, for more than 64, for more than are queued and for more than
     /// 1 at 7.15; `Exhausted` where no number is left for the frame of forgets.
@@ -39,7 +39,7 @@ impl<Q: QueueTable<Purpose> + Drop, C: CountTable<Heap = Q::Heap> + Drop> Kernel
     }
 
     /// Reads one message: the oldest INTERRUPT, under the number of its request with the lowest bit set; the oldest
-    /// forgets as one frame, which draws a number; or a pending request, which is in processing from then on (the
+    /// forgets as one frame, which allocates a number; or a pending request, which is in processing from then on (the
     /// kernel's `fuse.rst`).
     ///
     /// # Errors

@@ -31,7 +31,7 @@ pub(crate) fn reserve_request<Q: QueueTable<Purpose>>(
     }
 }
 
-/// Makes room to queue a forget of each counted node, and so many more.
+/// Makes room to queue a forget of each counted node, and this many more.
 ///
 /// # Errors
 ///

@@ -7,7 +7,7 @@ ghost use Rattle.fuse_spec.specs.Kernel.Refusals.{or_no_memory};
 ghost use Rattle.fk_kernel.specs.Refused.{read_forgets_refusal, IsForgetFrame};
 
 use crate::kernel::KernelOf;
-use fk_calls::fits_one_frame;
+use fk_calls::may_batch_forgets;
 use fk_lookup_count::CountTable;
 use fk_queues::{Forgets, QueueTable};
 use fuse_frames::RequestFrame;
@@ -18,7 +18,7 @@ impl<Q: QueueTable<Purpose> + Drop, C: CountTable<Heap = Q::Heap> + Drop> Kernel
     fn first_forgets(&self, count: u64) -> Option<(u64, Forgets)>
         ensures { result ≡ forgets_read self.now count }
     {
-        if fits_one_frame(self.minor, count) {
+        if may_batch_forgets(self.minor, count) {
             self.queues.first_forgets(count as usize)
         } else {
             None
@@ -46,7 +46,7 @@ impl<Q: QueueTable<Purpose> + Drop, C: CountTable<Heap = Q::Heap> + Drop> Kernel
         Ok(read)
     }
 
-    /// Why so many forgets cannot be read as one frame, want of memory aside: `NotReady` where the mount is not live,
+    /// Why this many forgets cannot be read as one frame, out of memory aside: `NotReady` where the mount is not live,
     /// `InterruptFirst` while an INTERRUPT is queued, `NoSuch` for 0, for more than 64 and for more than are queued,
     /// and for more than 1 after 7.15, `Exhausted` where no number is left.
     pub(crate) fn read_forgets_refusal(&self, count: u64) -> Option<Refusal>
@@ -58,7 +58,8 @@ impl<Q: QueueTable<Purpose> + Drop, C: CountTable<Heap = Q::Heap> + Drop> Kernel
         }
     }
 
-    /// Reads the first so many forgets as one frame, which draws a number: a FORGET for 1, a BATCH_FORGET for more.
+    /// Reads this many of the first forgets as one frame, which allocates a number: a FORGET for 1, a BATCH_FORGET for
+    /// more.
     ///
     /// # Errors
     ///

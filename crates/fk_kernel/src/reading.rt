@@ -48,7 +48,7 @@ impl<Q: QueueTable<Purpose> + Drop, C: CountTable<Heap = Q::Heap> + Drop> Kernel
         }
     }
 
-    /// Why the pending request at a place cannot be read, want of memory aside: `NotReady` where the mount is not live,
+    /// Why the pending request at a place cannot be read, out of memory aside: `NotReady` where the mount is not live,
     /// `InterruptFirst` while an INTERRUPT is queued, `NoSuch` where no request is pending there.
     pub(crate) fn read_pending_refusal(&self, place: u64) -> Option<Refusal>
         ensures { result ≡ read_refusal self.now place }

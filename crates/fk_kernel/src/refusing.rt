@@ -10,11 +10,11 @@ ghost use Rattle.fuse_spec.specs.Kernel.QueueCalls.{waiting};
 ghost use Rattle.fuse_spec.specs.Kernel.Uniques.{numbers_left_from};
 ghost use Rattle.fuse_spec.specs.Calls.Vfs.{asked};
 ghost use Rattle.fuse_spec.specs.Kernel.Replies.{usable, first_use, use_of, reply_written};
-ghost use Rattle.fk_kernel.specs.Entries.{Awaits, EndsWithin, StandsAtLookup, looked_up_by_all, nodes_after_reply};
+ghost use Rattle.fk_kernel.specs.Entries.{Awaits, HasUniqueForRelease, StandsAtLookup, looked_up_by_all, nodes_after_reply};
 ghost use Rattle.fuse_spec.specs.Kernel.Refusals.{is_counted_out, is_kernel_past, is_kernel_past_end};
 ghost use Rattle.fk_kernel.specs.CallReplies.{IsCallReply, SaysNone};
 ghost use Rattle.fk_kernel.specs.Refused.{PassesEnd, WritePasses};
-ghost use Rattle.fuse_frames.specs.ReplyDecoding.{lent_wire_of, LastsADay};
+ghost use Rattle.fuse_frames.specs.ReplyDecoding.{decoded_wire_of, LastsADay};
 ghost use Rattle.fk_kernel.specs.AwaitedReplies.{awaited_by_call};
 
 use crate::entries::looks_up;
@@ -28,7 +28,7 @@ use fuse_frames::{DecodedReply, Reply, reply_to_call};
 use fuse_spec::{Entry, Operation, Purpose, Refusal};
 
 impl<Q: QueueTable<Purpose> + Drop, C: CountTable<Heap = Q::Heap> + Drop> KernelOf<Q, C> {
-    /// Why `write` would refuse these bytes, want of memory aside: `Exhausted` where no number is left for the request
+    /// Why `write` would refuse these bytes, out of memory aside: `Exhausted` where no number is left for the request
     /// that they would have queued, or a node's count would reach the end of counters. Takes no memory.
     pub fn write_refusal(&self, bytes: &[u8]) -> Option<Refusal>
         ensures refused { IfSome result (λ refusal. (refusal ≡ Refusal.Exhausted) × WritePasses self.now bytes.now) }
@@ -98,7 +98,7 @@ impl<Q: QueueTable<Purpose> + Drop, C: CountTable<Heap = Q::Heap> + Drop> Kernel
             (awaited_by_call (get self.now.vfs.calls call))) }
         ensures stays { OnOk result (PassesEnd self.now head.unique bytes.now
             (awaited_by_call (get self.now.vfs.calls call)) → ⊥) }
-        ensures ends { OnOk result (EndsWithin self.now call) }
+        ensures ends { OnOk result (HasUniqueForRelease self.now call) }
         ensures said { IfOk result (λ said. IfSome said
             (IsCallReply self.now head.unique call (asked state.now) bytes.now)) }
         ensures none { IfOk result (λ said. IfNone said (SaysNone (asked state.now) bytes.now)) }
@@ -111,7 +111,7 @@ impl<Q: QueueTable<Purpose> + Drop, C: CountTable<Heap = Q::Heap> + Drop> Kernel
         }
         match said {
             Some(said) => {
-                if self.said_past(head.unique, call, state, &said) {
+                if self.reply_exceeds(head.unique, call, state, &said) {
                     return Err(Refusal::Exhausted);
                 }
                 Ok(Some(said))
@@ -123,7 +123,7 @@ impl<Q: QueueTable<Purpose> + Drop, C: CountTable<Heap = Q::Heap> + Drop> Kernel
     /// Whether what is said to a call that stands so would bring a node's count to the end of counters, or have a
     /// request queued for which no number is left.
     #[inline(always)]
-    fn said_past(
+    fn reply_exceeds(
         &self,
         unique: u64,
         call: u64,
@@ -133,28 +133,28 @@ impl<Q: QueueTable<Purpose> + Drop, C: CountTable<Heap = Q::Heap> + Drop> Kernel
         requires even { nat_eq (unique % 2) 1 ≡ false }
         requires waits { waiting self.now.queues unique ≡ Some (Purpose.Call call) }
         requires unanswered { get self.now.vfs.calls call ≡ Some state.now }
-        requires awaits { Awaits (get self.now.vfs.calls call) (lent_wire_of said.now) }
+        requires awaits { Awaits (get self.now.vfs.calls call) (decoded_wire_of said.now) }
         requires day { LastsADay said.now }
-        requires ends { EndsWithin self.now call }
-        ensures past { result ≡ true → is_kernel_past (reply_written self.now unique (lent_wire_of said.now)).1 ≡ true }
-        ensures stays { result ≡ false → is_kernel_past (reply_written self.now unique (lent_wire_of said.now)).1 ≡ false }
-        ensures within { result ≡ false → is_kernel_past_end (reply_written self.now unique (lent_wire_of said.now)).1 ≡ false }
-        ensures counts { result ≡ false → is_counted_out (nodes_after_reply self.now.nodes (lent_wire_of said.now)) ≡ false }
+        requires ends { HasUniqueForRelease self.now call }
+        ensures past { result ≡ true → is_kernel_past (reply_written self.now unique (decoded_wire_of said.now)).1 ≡ true }
+        ensures stays { result ≡ false → is_kernel_past (reply_written self.now unique (decoded_wire_of said.now)).1 ≡ false }
+        ensures within { result ≡ false → is_kernel_past_end (reply_written self.now unique (decoded_wire_of said.now)).1 ≡ false }
+        ensures counts { result ≡ false → is_counted_out (nodes_after_reply self.now.nodes (decoded_wire_of said.now)) ≡ false }
     {
-        if self.counts_past(said) {
+        if self.counts_exceed(said) {
             return true;
         }
-        self.walks_past(unique, call, state, said)
+        self.walk_exceeds(unique, call, state, said)
     }
 
     /// Whether what is said to a call would bring a node's count to the end of counters.
-    fn counts_past(&self, said: &DecodedReply<'_>) -> bool
-        ensures { result ≡ is_counted_out (nodes_after_reply self.now.nodes (lent_wire_of said.now)) }
+    fn counts_exceed(&self, said: &DecodedReply<'_>) -> bool
+        ensures { result ≡ is_counted_out (nodes_after_reply self.now.nodes (decoded_wire_of said.now)) }
     {
         self.lemma_counts_in_range();
         match said {
-            Reply::Entry { file, .. } => self.entry_past(file),
-            Reply::Created { file, .. } => self.entry_past(file),
+            Reply::Entry { file, .. } => self.entry_exceeds(file),
+            Reply::Created { file, .. } => self.entry_exceeds(file),
             Reply::ListedPlus(pairs) => self.nodes.listed_count_out(*pairs),
             _ => false,
         }
@@ -162,7 +162,7 @@ impl<Q: QueueTable<Purpose> + Drop, C: CountTable<Heap = Q::Heap> + Drop> Kernel
 
     /// Whether an entry would bring its node's count to the end of counters.
     #[inline(always)]
-    fn entry_past(&self, entry: &Entry) -> bool
+    fn entry_exceeds(&self, entry: &Entry) -> bool
         ensures { result ≡ is_counted_out (looked_up_by_all self.now.nodes (entry.now ∷ [])
             (first_use (use_of self.now.nodes entry.now) usable)) }
     {
@@ -175,7 +175,7 @@ impl<Q: QueueTable<Purpose> + Drop, C: CountTable<Heap = Q::Heap> + Drop> Kernel
     }
 
     /// Whether a call that stands so and gets this reply would walk on to a request for which no number is left.
-    fn walks_past(
+    fn walk_exceeds(
         &self,
         unique: u64,
         call: u64,
@@ -185,23 +185,23 @@ impl<Q: QueueTable<Purpose> + Drop, C: CountTable<Heap = Q::Heap> + Drop> Kernel
         requires even { nat_eq (unique % 2) 1 ≡ false }
         requires waits { waiting self.now.queues unique ≡ Some (Purpose.Call call) }
         requires unanswered { get self.now.vfs.calls call ≡ Some state.now }
-        requires awaits { Awaits (get self.now.vfs.calls call) (lent_wire_of said.now) }
+        requires awaits { Awaits (get self.now.vfs.calls call) (decoded_wire_of said.now) }
         requires day { LastsADay said.now }
-        requires ends { EndsWithin self.now call }
-        ensures past { result ≡ true → is_kernel_past_end (reply_written self.now unique (lent_wire_of said.now)).1 ≡ true }
-        ensures within { result ≡ false → is_kernel_past_end (reply_written self.now unique (lent_wire_of said.now)).1 ≡ false }
+        requires ends { HasUniqueForRelease self.now call }
+        ensures past { result ≡ true → is_kernel_past_end (reply_written self.now unique (decoded_wire_of said.now)).1 ≡ true }
+        ensures within { result ≡ false → is_kernel_past_end (reply_written self.now unique (decoded_wire_of said.now)).1 ≡ false }
     {
         self.lemma_in_range();
         match said {
             Reply::Entry { file, valid_ms } => {
-                self.found_past(unique, call, state, file, *valid_ms)
+                self.found_entry_exceeds(unique, call, state, file, *valid_ms)
             }
             _ => false,
         }
     }
 
     /// Whether a call that stands so, and is given this entry, would walk on to a request for which no number is left.
-    fn found_past(
+    fn found_entry_exceeds(
         &self,
         unique: u64,
         call: u64,
@@ -226,7 +226,7 @@ impl<Q: QueueTable<Purpose> + Drop, C: CountTable<Heap = Q::Heap> + Drop> Kernel
         match self.use_of(entry) {
             EntryUse::Usable => {
                 if looks_up(state) {
-                    self.runs_out(unique, call, state, entry, valid_ms)
+                    self.next_request_exceeds(unique, call, state, entry, valid_ms)
                 } else {
                     false
                 }
@@ -237,7 +237,7 @@ impl<Q: QueueTable<Purpose> + Drop, C: CountTable<Heap = Q::Heap> + Drop> Kernel
     }
 
     /// Whether a call that looks up a word would ask anew from the node of an entry, while no number is left.
-    fn runs_out(
+    fn next_request_exceeds(
         &self,
         unique: u64,
         call: u64,

@@ -7,10 +7,10 @@ ghost use Rattle.fuse_spec.specs.Files.Operations as reply;
 ghost use Rattle.fuse_spec.specs.Kernel.QueueCalls.{waiting};
 ghost use Rattle.fuse_spec.specs.Kernel.Replies.{reply_written};
 ghost use Rattle.fuse_spec.specs.declared.Opened.{Opened as OpenedFile};
-ghost use Rattle.fk_kernel.specs.Entries.{Awaits, EndsWithin, nodes_after_reply};
+ghost use Rattle.fk_kernel.specs.Entries.{Awaits, HasUniqueForRelease, nodes_after_reply};
 ghost use Rattle.fuse_spec.specs.Kernel.Refusals.{is_counted_out, is_kernel_past_end};
 ghost use Rattle.fk_kernel.specs.Refused.{IsWriteRefusal, PassesEnd};
-ghost use Rattle.fuse_frames.specs.ReplyDecoding.{lent_wire_of, LastsADay};
+ghost use Rattle.fuse_frames.specs.ReplyDecoding.{decoded_wire_of, LastsADay};
 ghost use Rattle.fk_kernel.specs.AwaitedReplies.{Says, IsNoReply, awaited_by_call, wrong_body, IsReplyWritten};
 ghost use Rattle.fk_wire.specs.Records.{records_in};
 ghost use Rattle.fuse_frames.specs.ReplyTies.{dirent_read};
@@ -71,14 +71,14 @@ impl<Q: QueueTable<Purpose> + Drop, C: CountTable<Heap = Q::Heap> + Drop> Kernel
     fn replied(&mut self, unique: u64, call: u64, said: DecodedReply<'_>) -> Result<(), Refusal>
         requires even { nat_eq (unique % 2) 1 ≡ false }
         requires waits { waiting self.old.queues unique ≡ Some (Purpose.Call call) }
-        requires awaits { Awaits (get self.old.vfs.calls call) (lent_wire_of said) }
+        requires awaits { Awaits (get self.old.vfs.calls call) (decoded_wire_of said) }
         requires day { LastsADay said }
-        requires ends { EndsWithin self.old call }
-        requires within { is_kernel_past_end (reply_written self.old unique (lent_wire_of said)).1 ≡ false }
-        requires counts { is_counted_out (nodes_after_reply self.old.nodes (lent_wire_of said)) ≡ false }
+        requires ends { HasUniqueForRelease self.old call }
+        requires within { is_kernel_past_end (reply_written self.old unique (decoded_wire_of said)).1 ≡ false }
+        requires counts { is_counted_out (nodes_after_reply self.old.nodes (decoded_wire_of said)) ≡ false }
         ensures err { OnErr result (self.new ≡ self.old) }
         ensures refusal { IfErr result (λ refusal. refusal ≡ Refusal.NoMemory) }
-        ensures ok { OnOk result (reply_written self.old unique (lent_wire_of said.entry)
+        ensures ok { OnOk result (reply_written self.old unique (decoded_wire_of said.entry)
             ≡ (WriteResult.Accepted, self.new)) }
     {
         match said {
@@ -117,7 +117,7 @@ impl<Q: QueueTable<Purpose> + Drop, C: CountTable<Heap = Q::Heap> + Drop> Kernel
         requires even { nat_eq (unique % 2) 1 ≡ false }
         requires waits { waiting self.old.queues unique ≡ Some (Purpose.Call call) }
         requires awaits { Awaits (get self.old.vfs.calls call) (reply.listed (map dirent_read (records_in records))) }
-        requires within { EndsWithin self.old call }
+        requires within { HasUniqueForRelease self.old call }
         ensures err { OnErr result (self.new ≡ self.old) }
         ensures refusal { IfErr result (λ refusal. refusal ≡ Refusal.NoMemory) }
         ensures ok { OnOk result (reply_written self.old unique
@@ -135,7 +135,7 @@ impl<Q: QueueTable<Purpose> + Drop, C: CountTable<Heap = Q::Heap> + Drop> Kernel
         requires even { nat_eq (unique % 2) 1 ≡ false }
         requires waits { waiting self.old.queues unique ≡ Some (Purpose.Call call) }
         requires awaits { Awaits (get self.old.vfs.calls call) (reply.content bytes.now) }
-        requires within { EndsWithin self.old call }
+        requires within { HasUniqueForRelease self.old call }
         ensures err { OnErr result (self.new ≡ self.old) }
         ensures refusal { IfErr result (λ refusal. refusal ≡ Refusal.NoMemory) }
         ensures ok { OnOk result (reply_written self.old unique (reply.content bytes.now)

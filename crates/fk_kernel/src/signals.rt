@@ -6,7 +6,7 @@ ghost use Rattle.fuse_spec.specs.Values.Maps.{get};
 ghost use Rattle.fuse_spec.specs.Kernel.QueueCalls.{after_read_interrupt, interrupt_effect};
 ghost use Rattle.fuse_spec.specs.Calls.Vfs.{CallState as State};
 ghost use Rattle.fuse_spec.specs.declared.Opened.{Opened};
-ghost use Rattle.fk_kernel.specs.Entries.{EndsPast, EndsWithin};
+ghost use Rattle.fk_kernel.specs.Entries.{LacksUniqueForRelease, HasUniqueForRelease};
 ghost use Rattle.fuse_spec.specs.Kernel.Refusals.{or_no_memory};
 ghost use Rattle.fk_kernel.specs.Refused.{signal_refusal, IsSignalled, read_interrupt_refusal, IsInterruptFrame};
 
@@ -46,7 +46,7 @@ impl<Q: QueueTable<Purpose> + Drop, C: CountTable<Heap = Q::Heap> + Drop> Kernel
             self.lemma_in_range();
             return Ok(IntrEffect::None);
         };
-        if self.signal_ends_past(unique, call, fatal) {
+        if self.signal_exceeds(unique, call, fatal) {
             return Err(Refusal::Exhausted);
         }
         let effect = self.signal(unique, call, fatal);
@@ -55,12 +55,12 @@ impl<Q: QueueTable<Purpose> + Drop, C: CountTable<Heap = Q::Heap> + Drop> Kernel
     }
 
     /// Whether a signal to the request of a call would let a closed file go, for whose RELEASE no number is left.
-    fn signal_ends_past(&self, unique: u64, call: u64, fatal: bool) -> bool
+    fn signal_exceeds(&self, unique: u64, call: u64, fatal: bool) -> bool
         requires current { request_of self.now call ≡ Some unique }
         ensures past { result ≡ true → (interrupt_effect self.now.queues unique fatal ≡ IntrEffect.Dequeued)
-            × EndsPast self.now call }
+            × LacksUniqueForRelease self.now call }
         ensures within { result ≡ false → interrupt_effect self.now.queues unique fatal ≡ IntrEffect.Dequeued
-            → EndsWithin self.now call }
+            → HasUniqueForRelease self.now call }
     {
         if !fatal {
             return false;
@@ -76,7 +76,7 @@ impl<Q: QueueTable<Purpose> + Drop, C: CountTable<Heap = Q::Heap> + Drop> Kernel
         requires current { request_of self.old call ≡ Some unique }
         requires unanswered { is_some (get self.old.vfs.calls call) ≡ true }
         requires within { interrupt_effect self.old.queues unique fatal ≡ IntrEffect.Dequeued
-            → EndsWithin self.old call }
+            → HasUniqueForRelease self.old call }
         ensures { (state : State Opened) → get self.old.vfs.calls call ≡ Some state
             → call_signalled self.old call state fatal ≡ (result, self.new) }
     {
@@ -87,7 +87,7 @@ impl<Q: QueueTable<Purpose> + Drop, C: CountTable<Heap = Q::Heap> + Drop> Kernel
         effect
     }
 
-    /// Why the oldest INTERRUPT cannot be read, want of memory aside: `NotReady` where the mount is not live, `NoSuch`
+    /// Why the oldest INTERRUPT cannot be read, out of memory aside: `NotReady` where the mount is not live, `NoSuch`
     /// where none is queued.
     pub(crate) fn read_interrupt_refusal(&self) -> Option<Refusal>
         ensures { result ≡ read_interrupt_refusal self.now }

@@ -103,7 +103,7 @@ impl<Q: QueueTable<Purpose> + Drop, C: CountTable<Heap = Q::Heap> + Drop> Kernel
             → reply_written self.old head.unique (wrong_body_to Opcode.Init) ≡ (result, self.new) }
     {
         let Some(said) = decode_reply(Opcode::Init, head, bytes) else {
-            self.give_up();
+            self.abandon_all();
             return WriteResult::Invalid;
         };
         if agrees(&said) {
@@ -112,7 +112,7 @@ impl<Q: QueueTable<Purpose> + Drop, C: CountTable<Heap = Q::Heap> + Drop> Kernel
             self.lists_files = files_agreed(&said);
             self.phase = Phase::Ready;
         } else {
-            self.give_up();
+            self.abandon_all();
         }
         WriteResult::Accepted
     }

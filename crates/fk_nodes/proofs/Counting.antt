@@ -55,8 +55,8 @@ module _ (nodes : Map Counted) (id : ℕ) (c : Counted) (file : nat_lt id 2 ≡ 
     | inr ne ↦ other m n ne ∙ sym (other n m (λ e. ne (sym e)))
   ]
 
-  told_once : (g : Entry) → get (looked_up_listed nodes (Some g)) id ≡ Some (more_if (is_of_node id c.generation (Some g)) c)
-  told_once g = elim (cases_eq g.nodeid id) [
+  listed_once : (g : Entry) → get (looked_up_listed nodes (Some g)) id ≡ Some (more_if (is_of_node id c.generation (Some g)) c)
+  listed_once g = elim (cases_eq g.nodeid id) [
     | inl same ↦
         ap (λ (u : Use). get (looked_up_by_use nodes g u) id) (use_here g same) ∙ here_by g same
         (nat_eq c.generation g.generation) refl
@@ -68,17 +68,17 @@ module _ (nodes : Map Counted) (id : ℕ) (c : Counted) (file : nat_lt id 2 ≡ 
         (λ (b : Bool). Some (more_if (b && nat_eq g.generation c.generation) c)) (sym (other g.nodeid id ne))
   ]
 
-  pub counted_told : (o : Option Entry) → get (looked_up_listed nodes o) id ≡ Some (more_if (is_of_node id c.generation o) c)
-  counted_told None = at
-  counted_told (Some g) = told_once g
+  pub counted_listed : (o : Option Entry) → get (looked_up_listed nodes o) id ≡ Some (more_if (is_of_node id c.generation o) c)
+  counted_listed None = at
+  counted_listed (Some g) = listed_once g
 
--- The count of a node after the names of a list: one lookup more for each that tells it under its generation.
+-- The count of a node after the names of a list: one lookup more for each that has it under its generation.
 pub counted_times : (pairs : List (DirentPlus Entry)) (nodes : Map Counted) (id : ℕ) (c : Counted)
     → nat_lt id 2 ≡ false → get nodes id ≡ Some c
     → get (looked_up_from nodes pairs) id ≡ Some (record c { count = c.count + times_listed id c.generation pairs })
 counted_times [] nodes id c file at = at ∙ ap (λ (n : ℕ). Some (record c { count = n })) (omega arith)
 counted_times (pair ∷ pairs) nodes id c file at =
-    by (is_of_node id c.generation (listed_by pair)) (counted_told nodes id c file at (listed_by pair))
+    by (is_of_node id c.generation (listed_by pair)) (counted_listed nodes id c file at (listed_by pair))
     (λ (d : Counted) here. counted_times pairs (looked_up_listed nodes (listed_by pair)) id d file here)
   where
     by : (b : Bool) → get (looked_up_listed nodes (listed_by pair)) id ≡ Some (more_if b c)
@@ -105,15 +105,15 @@ low_by nodes g id low = elim (cases_eq id g.nodeid) [
   | inr ne ↦ other_node nodes g (use_of nodes g) id ne
 ]
 
-low_told : (nodes : Map Counted) (o : Option Entry) (id : ℕ) → nat_lt id 2 ≡ true
+low_listed : (nodes : Map Counted) (o : Option Entry) (id : ℕ) → nat_lt id 2 ≡ true
     → get (looked_up_listed nodes o) id ≡ get nodes id
-low_told nodes None id low = refl
-low_told nodes (Some g) id low = low_by nodes g id low
+low_listed nodes None id low = refl
+low_listed nodes (Some g) id low = low_by nodes g id low
 
 low_stays : (pairs : List (DirentPlus Entry)) (nodes : Map Counted) (id : ℕ) → nat_lt id 2 ≡ true
     → get (looked_up_from nodes pairs) id ≡ get nodes id
 low_stays [] nodes id low = refl
-low_stays (pair ∷ pairs) nodes id low = low_stays pairs (looked_up_listed nodes (listed_by pair)) id low ∙ low_told nodes
+low_stays (pair ∷ pairs) nodes id low = low_stays pairs (looked_up_listed nodes (listed_by pair)) id low ∙ low_listed nodes
     (listed_by pair) id low
 
 -- ---- a node that is new
@@ -148,16 +148,16 @@ fresh_by nodes g usable id none = elim (cases_eq id g.nodeid) [
 fresh_by nodes g unusable id none = subst IsFresh (sym none) tt
 fresh_by nodes g (stale node) id none = subst IsFresh (sym none) tt
 
-fresh_told : (nodes : Map Counted) (o : Option Entry) (id : ℕ) → get nodes id ≡ None
+fresh_listed : (nodes : Map Counted) (o : Option Entry) (id : ℕ) → get nodes id ≡ None
     → IsFresh (get (looked_up_listed nodes o) id)
-fresh_told nodes None id none = subst IsFresh (sym none) tt
-fresh_told nodes (Some g) id none = fresh_by nodes g (use_of nodes g) id none
+fresh_listed nodes None id none = subst IsFresh (sym none) tt
+fresh_listed nodes (Some g) id none = fresh_by nodes g (use_of nodes g) id none
 
 new_few : (pairs : List (DirentPlus Entry)) (nodes : Map Counted) (id : ℕ) (c : Counted) → nat_lt id 2 ≡ false
     → get nodes id ≡ None → get (looked_up_from nodes pairs) id ≡ Some c → c.count ≤ length pairs
 new_few [] nodes id c file none at = absurd (cc (none, at))
 new_few (pair ∷ pairs) nodes id c file none at =
-    by (get (looked_up_listed nodes (listed_by pair)) id) refl (fresh_told nodes (listed_by pair) id none)
+    by (get (looked_up_listed nodes (listed_by pair)) id) refl (fresh_listed nodes (listed_by pair) id none)
     (λ is. new_few pairs (looked_up_listed nodes (listed_by pair)) id c file is at)
   where
     by : (o : Option Counted) → get (looked_up_listed nodes (listed_by pair)) id ≡ o → IsFresh o

@@ -12,7 +12,7 @@ use Rattle.fuse_spec.specs.Kernel.Replies.{Use, usable, unusable, stale, use_cou
 use Rattle.fuse_spec.proofs.Tables.{get_put_here, get_put_there}
 use Rattle.fk_nodes.specs.LookedUp.{looked_up_by_use, looked_up_listed, looked_up_from, judged_in, stale_by}
 
--- ---- what a judged name tells
+-- ---- the file of a judged name
 
 abbrev kept_by : Use → Option Entry → Option Entry
 kept_by usable o = o
@@ -23,10 +23,10 @@ tells_none : (b : Bool) → ◌≡◌ {A = Option Entry} (cond b None None) None
 tells_none true = refl
 tells_none false = refl
 
-told_judged : (pair : DirentPlus Entry) (u : Use) → listed_by (pair_judged pair u) ≡ kept_by u (listed_by pair)
-told_judged pair usable = refl
-told_judged pair unusable = tells_none (is_dots pair.dirent.name)
-told_judged pair (stale node) = tells_none (is_dots pair.dirent.name)
+listed_judged : (pair : DirentPlus Entry) (u : Use) → listed_by (pair_judged pair u) ≡ kept_by u (listed_by pair)
+listed_judged pair usable = refl
+listed_judged pair unusable = tells_none (is_dots pair.dirent.name)
+listed_judged pair (stale node) = tells_none (is_dots pair.dirent.name)
 
 looked_up_kept : (nodes : Map Counted) (g : Entry) (u : Use)
     → looked_up nodes (first_listed (kept_by u (Some g)) []) ≡ looked_up_by_use nodes g u
@@ -42,14 +42,14 @@ kept_is nodes (Some g) = looked_up_kept nodes g (use_of nodes g)
 pub looked_up_by_is : (nodes : Map Counted) (pair : DirentPlus Entry)
     → looked_up_by nodes pair ≡ looked_up_listed nodes (listed_by pair)
 looked_up_by_is nodes pair = ap (λ (o : Option Entry). looked_up nodes (first_listed o []))
-    (told_judged pair (use_of_listed nodes (listed_by pair))) ∙ kept_is nodes (listed_by pair)
+    (listed_judged pair (use_of_listed nodes (listed_by pair))) ∙ kept_is nodes (listed_by pair)
 
 in_turn : (nodes : Map Counted) (o : Option Entry) (files : List Entry)
     → looked_up nodes (first_listed o files) ≡ looked_up (looked_up nodes (first_listed o [])) files
 in_turn nodes None files = refl
 in_turn nodes (Some g) files = refl
 
--- The counts after the names of a list are those of the files that are told once they are judged.
+-- The counts after the names of a list are those of the files that are listed once they are judged.
 pub looked_up_is : (nodes : Map Counted) (pairs : List (DirentPlus Entry))
     → looked_up nodes (files_listed (pairs_judged nodes pairs)) ≡ looked_up_from nodes pairs
 looked_up_is nodes [] = refl
@@ -85,16 +85,16 @@ stays_by nodes g usable id generation at = elim (cases_eq id g.nodeid) [
 stays_by nodes g unusable id generation at = at
 stays_by nodes g (stale node) id generation at = at
 
-stays_told : (nodes : Map Counted) (o : Option Entry) (id generation : ℕ) → generation_in nodes id ≡ Some generation
+stays_listed : (nodes : Map Counted) (o : Option Entry) (id generation : ℕ) → generation_in nodes id ≡ Some generation
     → generation_in (looked_up_listed nodes o) id ≡ Some generation
-stays_told nodes None id generation at = at
-stays_told nodes (Some g) id generation at = stays_by nodes g (use_of nodes g) id generation at
+stays_listed nodes None id generation at = at
+stays_listed nodes (Some g) id generation at = stays_by nodes g (use_of nodes g) id generation at
 
 stays : (pairs : List (DirentPlus Entry)) (nodes : Map Counted) (id generation : ℕ)
     → generation_in nodes id ≡ Some generation → generation_in (looked_up_from nodes pairs) id ≡ Some generation
 stays [] nodes id generation at = at
 stays (pair ∷ pairs) nodes id generation at = stays pairs (looked_up_listed nodes (listed_by pair)) id generation
-    (stays_told nodes (listed_by pair) id generation at)
+    (stays_listed nodes (listed_by pair) id generation at)
 
 -- ---- an entry is judged alike by any later counts
 
@@ -162,7 +162,7 @@ stale_settled nodes (pair ∷ pairs) =
     ap (λ (u : Use). stale_in u ++ stale_among (looked_up_by nodes pair) pairs) (alike nodes (listed_by pair) pairs)
     ∙ ap (λ (ns : List ℕ). stale_in (use_of_listed (looked_up_from next pairs) (listed_by pair)) ++ ns) rest
 
--- The names are listed as they were told.
+-- The names are listed as they came.
 dirent_kept : (pair : DirentPlus Entry) (u : Use) → (pair_judged pair u).dirent ≡ pair.dirent
 dirent_kept pair usable = refl
 dirent_kept pair unusable = refl

@@ -65,33 +65,33 @@ one_saturated nodes g most more old low fits is = one_more nodes g most more old
     (fits_by g most more (get nodes g.nodeid) (old.within g.nodeid) fits is)
 
 -- a name that gives a file, or none
-one_told : (nodes : Map Counted) (o : Option Entry) (most : ℕ) → AreAtMost most nodes
+one_listed : (nodes : Map Counted) (o : Option Entry) (most : ℕ) → AreAtMost most nodes
     → AreAtMost (most + 1) (looked_up_listed nodes o)
-one_told nodes None most old = record { within = λ id c at. let within = old.within id c at in omega (arith, within) }
-one_told nodes (Some g) most old = one_more_by nodes g most (most + 1) old (omega arith)
+one_listed nodes None most old = record { within = λ id c at. let within = old.within id c at in omega (arith, within) }
+one_listed nodes (Some g) most old = one_more_by nodes g most (most + 1) old (omega arith)
     (more_by g most (get nodes g.nodeid) (old.within g.nodeid)) (use_of nodes g)
 
 -- the names of a list
-pub all_told : (pairs : List (DirentPlus Entry)) (nodes : Map Counted) (most : ℕ) → AreAtMost most nodes
+pub all_listed : (pairs : List (DirentPlus Entry)) (nodes : Map Counted) (most : ℕ) → AreAtMost most nodes
     → AreAtMost (most + length pairs) (looked_up_from nodes pairs)
-all_told [] nodes most old = record { within = λ id c at. let within = old.within id c at in omega (arith, within) }
-all_told (pair ∷ pairs) nodes most old =
+all_listed [] nodes most old = record { within = λ id c at. let within = old.within id c at in omega (arith, within) }
+all_listed (pair ∷ pairs) nodes most old =
     let next = looked_up_listed nodes (listed_by pair) in
-    let rest = all_told pairs next (most + 1) (one_told nodes (listed_by pair) most old) in
+    let rest = all_listed pairs next (most + 1) (one_listed nodes (listed_by pair) most old) in
     record { within = λ id c at. let within = rest.within id c at in omega (arith, within) }
 
 -- far from the end of counters
 pub all_below : (pairs : List (DirentPlus Entry)) (nodes : Map Counted) (most more : ℕ) → AreAtMost most nodes
     → more ≡ min (most + length pairs) (2 ^ 64 - 1) → more < counter_end → HaveCountsInRange (looked_up_from nodes pairs)
 all_below pairs nodes most more old is low =
-    let all = all_told pairs nodes most old in
+    let all = all_listed pairs nodes most old in
     record { below = λ id c at. let within = all.within id c at in omega (arith, within, is, low) }
 
 pub all_saturated : (pairs : List (DirentPlus Entry)) (nodes : Map Counted) (most more : ℕ) → AreAtMost most nodes
     → HaveCountsInRange (looked_up_from nodes pairs) → more ≡ min (most + length pairs) (2 ^ 64 - 1)
     → AreAtMost more (looked_up_from nodes pairs)
 all_saturated pairs nodes most more old below is =
-    let all = all_told pairs nodes most old in
+    let all = all_listed pairs nodes most old in
     record {
       within = λ id c at.
           let within = all.within id c at in

@@ -1,4 +1,4 @@
--- Room for the nodes that names of a list tell, made for one after another.
+-- Room for the nodes of the names of a list, made for one after another.
 use Rattle.std.proofs.Common.{◌≡◌, ℕ, List, [], ◌∷◌, ◌++◌, Option, Some, None, append_assoc, append-nil, refl, ap, sym, subst, ◌∙◌}
 use Rattle.fuse_spec.specs.declared.Entry.{Entry}
 use Rattle.fuse_spec.specs.Files.Operations.{DirentPlus, listed_by}

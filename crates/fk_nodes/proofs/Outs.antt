@@ -111,15 +111,15 @@ sorted_by m g usable sorted = is_sorted-put nat_cmp nat_cmp_total g.nodeid (coun
 sorted_by m g unusable sorted = sorted
 sorted_by m g (stale node) sorted = sorted
 
-sorted_told : (m : Map Counted) (o : Option Entry) → T (is_sorted nat_cmp m) → T (is_sorted nat_cmp (looked_up_listed m o))
-sorted_told m None sorted = sorted
-sorted_told m (Some g) sorted = sorted_by m g (use_of m g) sorted
+sorted_listed : (m : Map Counted) (o : Option Entry) → T (is_sorted nat_cmp m) → T (is_sorted nat_cmp (looked_up_listed m o))
+sorted_listed m None sorted = sorted
+sorted_listed m (Some g) sorted = sorted_by m g (use_of m g) sorted
 
 pub sorted_from : (pairs : List (DirentPlus Entry)) (m : Map Counted) → T (is_sorted nat_cmp m)
     → T (is_sorted nat_cmp (looked_up_from m pairs))
 sorted_from [] m sorted = sorted
 sorted_from (pair ∷ pairs) m sorted = sorted_from pairs (looked_up_listed m (listed_by pair))
-    (sorted_told m (listed_by pair) sorted)
+    (sorted_listed m (listed_by pair) sorted)
 
 -- how many nodes there are then
 long_by : (m : Map Counted) (g : Entry) (u : Use) → length (looked_up_by_use m g u) ≤ length m + 1
@@ -127,16 +127,16 @@ long_by m g usable = length_put m g.nodeid (counted_more g (get m g.nodeid))
 long_by m g unusable = omega arith
 long_by m g (stale node) = omega arith
 
-long_told : (m : Map Counted) (o : Option Entry) → length (looked_up_listed m o) ≤ length m + 1
-long_told m None = omega arith
-long_told m (Some g) = long_by m g (use_of m g)
+long_listed : (m : Map Counted) (o : Option Entry) → length (looked_up_listed m o) ≤ length m + 1
+long_listed m None = omega arith
+long_listed m (Some g) = long_by m g (use_of m g)
 
 pub long_from : (pairs : List (DirentPlus Entry)) (m : Map Counted)
     → length (looked_up_from m pairs) ≤ length m + length pairs
 long_from [] m = omega arith
 long_from (pair ∷ pairs) m =
     let rest = long_from pairs (looked_up_listed m (listed_by pair)) in
-    let one = long_told m (listed_by pair) in
+    let one = long_listed m (listed_by pair) in
     omega (arith, rest, one)
 
 pub or_none : (a b : Bool) → a ≡ false → b ≡ false → (a || b) ≡ false

@@ -21,7 +21,7 @@ abbrev pub HasNameRoom : NamesInForce → (directory : ℕ) → DirentPlus Entry
 HasNameRoom names directory pair None = Unit {0}
 HasNameRoom names directory pair (Some g) = HasRoom names (directory, pair.dirent.name)
 
--- Each name of a list that tells a file has room.
+-- Each name of a list that has a file has room.
 abbrev pub HaveNameRoom : NamesInForce → (directory : ℕ) → List (DirentPlus Entry) → Type 0
 HaveNameRoom names directory [] = Unit {0}
 HaveNameRoom names directory (pair ∷ pairs) = HasNameRoom names directory pair (listed_by pair)

@@ -13,7 +13,7 @@ looked_up_by_use nodes g usable = put nodes g.nodeid (counted_more g (get nodes 
 looked_up_by_use nodes g unusable = nodes
 looked_up_by_use nodes g (stale node) = nodes
 
--- The counts after a name that tells this file, or none.
+-- The counts after a name with this file, or with none.
 abbrev pub looked_up_listed : Map Counted → Option Entry → Map Counted
 looked_up_listed nodes None = nodes
 looked_up_listed nodes (Some g) = looked_up_by_use nodes g (use_of nodes g)
@@ -27,7 +27,7 @@ looked_up_from nodes (pair ∷ pairs) = looked_up_from (looked_up_listed nodes (
 abbrev pub judged_in : Map Counted → DirentPlus Entry → DirentPlus Entry
 judged_in nodes pair = pair_judged pair (use_of_listed nodes (listed_by pair))
 
--- The nodes that names of a list tell under another generation than these counts have.
+-- The nodes of the names of a list that have another generation than these counts.
 abbrev pub stale_by : Map Counted → List (DirentPlus Entry) → List ℕ
 stale_by nodes [] = []
 stale_by nodes (pair ∷ pairs) = stale_in (use_of_listed nodes (listed_by pair)) ++ stale_by nodes pairs
@@ -58,8 +58,8 @@ pub record SomeOut (nodes : Map Counted) : Type 0 where
   pub at : get nodes id ≡ Some counted
   pub out : counter_end ≤ counted.count
 
--- Where this name tells a counted node under its generation, all of these names that tell it so leave its count below
--- the end.
+-- Where this name has a counted node under its generation, all of these names that have it so leave its count below the
+-- end.
 abbrev pub LeavesBelow : Map Counted → List (DirentPlus Entry) → Option Entry → Type 0
 LeavesBelow nodes pairs None = Unit {0}
 LeavesBelow nodes pairs (Some g) = (c : Counted) → nat_lt g.nodeid 2 ≡ false → get nodes g.nodeid ≡ Some c

@@ -140,7 +140,7 @@ impl<C: CountTable> CountedNodes<C> {
                 }
                 Ok(())
             }
-            // Ruled out: it is counted under this generation, or under none.
+            // It never comes to this: the node is counted under this generation, or not at all.
             Err(_) => Ok(()),
         }
     }
@@ -214,7 +214,7 @@ impl<C: CountTable> CountedNodes<C> {
         Ok(())
     }
 
-    /// Gives a node up, and gives its whole count, if it is counted.
+    /// Evicts a node, and gives its whole count, if it is counted.
     pub fn evict(&mut self, id: u64) -> Option<u64>
         ensures count { result ≡ option_map (λ counted. counted.count) (get self.old id) }
         ensures nodes { self.new ≡ remove self.old id }

@@ -1,4 +1,4 @@
-//! Whether entries can be used.
+//! What the kernel does with an entry.
 
 /// Whether an entry can be used.
 #[derive(Clone, Copy)]

@@ -40,7 +40,7 @@ fn reserve_name<A: Allocator + Copy>(
     }
 }
 
-/// Makes room for each name of a list that tells a file.
+/// Makes room for each name of a list that has a file.
 ///
 /// # Errors
 ///

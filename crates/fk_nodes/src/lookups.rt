@@ -1,4 +1,4 @@
-//! How the nodes that the names of a list tell are counted in a table.
+//! How the nodes of the names of a list are counted in a table.
 
 ghost use Rattle.std.specs.Prelude.{◌≡◌, ◌<◌, ◌+◌, ◌^◌, ℕ, length, nat_lt, is_none, OnOk};
 ghost use Rattle.std.specs.Option.{ForSome};
@@ -31,7 +31,7 @@ fn reserve_node<C: CountTable>(table: &mut C, pair: &DirentPlus<'_>) -> Result<(
     }
 }
 
-/// Makes room for the nodes that names of a list tell.
+/// Makes room for the nodes of the names of a list.
 pub(crate) fn reserve_nodes<C: CountTable>(
     table: &mut C,
     pairs: RecordsPlus<'_>,
@@ -59,7 +59,7 @@ fn count_one<C: CountTable>(table: &mut C, entry: &Entry) -> bool
         Ok(Ok(is_new)) => is_new,
         // It is counted under another generation, and nothing changed.
         Ok(Err(_)) => false,
-        // Ruled out: it has room.
+        // It never comes to this: room was made before.
         Err(_) => false,
     }
 }
@@ -88,7 +88,7 @@ fn count_pair<C: CountTable>(table: &mut C, len: usize, pair: &DirentPlus<'_>) -
     len
 }
 
-/// Counts the nodes that names of a list tell, each judged by the counts that those before it left. Is given how many
+/// Counts the nodes of the names of a list, each judged by the counts that those before it left. Is given how many
 /// nodes are counted, and gives how many are then. Takes no memory.
 pub(crate) fn count_all<C: CountTable>(table: &mut C, len: usize, pairs: RecordsPlus<'_>) -> usize
     requires room { HaveNodeRoom (C.has_room table.old) (pairs_left_in pairs) }
@@ -114,7 +114,7 @@ fn is_pair_of(pair: &DirentPlus<'_>, id: u64, generation: u64) -> bool
     }
 }
 
-/// Whether more than so many names of a list tell a node under a generation.
+/// Whether more than this many names of a list have a node under a generation.
 pub(crate) fn lists_more_than(pairs: RecordsPlus<'_>, id: u64, generation: u64, limit: u64) -> bool
     ensures { result ≡ nat_lt limit (times_listed id generation (pairs_left_in pairs.entry)) }
 {

@@ -14,7 +14,7 @@ use Rattle.std.proofs.lemmas.List.Elements.{All-cons, All-head, All-tail}
 use Rattle.std.proofs.lemmas.Option.{same_Some, slice_get_within, get_or_from_slice_get}
 use Rattle.fuse_spec.specs.declared.Mark.{Mark}
 use Rattle.fuse_spec.specs.declared.QueuedRequest.{QueuedRequest}
-use Rattle.fuse_spec.specs.Kernel.Queues.{is_unread, was_drawn}
+use Rattle.fuse_spec.specs.Kernel.Queues.{is_unread, was_allocated}
 use Rattle.fuse_spec.specs.Kernel.QueueCalls.{set_mark}
 use Rattle.fuse_spec.proofs.QueueCounts.{count_by-cons}
 use Rattle.fuse_spec.specs.Values.Maps.{get, put, remove}
@@ -108,11 +108,11 @@ is_true : (b : Bool) → T b → b ≡ true
 is_true true h = refl
 is_true false h = absurd h
 
-drawn_below : (n u : ℕ) (b : Bool) → was_drawn n u ≡ b → 1 ≤ cond b 1 0 → u < n
-drawn_below n u true q few =
-    let drawn : T (was_drawn n u) = subst T (sym q) tt in
-    ltb-true u n (is_true (nat_lt u n) (both_first _ _ (both_second _ _ drawn)))
-drawn_below n u false q few = absurd (omega arith)
+allocated_below : (n u : ℕ) (b : Bool) → was_allocated n u ≡ b → 1 ≤ cond b 1 0 → u < n
+allocated_below n u true q few =
+    let allocated : T (was_allocated n u) = subst T (sym q) tt in
+    ltb-true u n (is_true (nat_lt u n) (both_first _ _ (both_second _ _ allocated)))
+allocated_below n u false q few = absurd (omega arith)
 
 module _ {X : Type 0} where
   pub above_none : (u : ℕ) (es : List (ℕ × X)) → All (λ e. e.0 < u) es → lookup (nat_eq u) es ≡ None
@@ -122,15 +122,15 @@ module _ {X : Type 0} where
       rw (apart u e.0 (omega arith)) (above_none u es (All-tail (λ (e : ℕ × X). e.0 < u) e es h))
 
   -- each request's number is below the coming one
-  pub drawn_all_below : (n : ℕ) (es : List (ℕ × X))
-      → ((u : ℕ) → count_by (λ e. nat_eq u e.0) es ≤ (if was_drawn n u then 1 else 0)) → All (λ e. e.0 < n) es
-  drawn_all_below n [] bound = λ k d lt. absurd (omega arith)
-  drawn_all_below n (e ∷ es) bound =
+  pub allocated_all_below : (n : ℕ) (es : List (ℕ × X))
+      → ((u : ℕ) → count_by (λ e. nat_eq u e.0) es ≤ (if was_allocated n u then 1 else 0)) → All (λ e. e.0 < n) es
+  allocated_all_below n [] bound = λ k d lt. absurd (omega arith)
+  allocated_all_below n (e ∷ es) bound =
       let counted = count_by-cons (λ (x : ℕ × X). nat_eq e.0 x.0) e es in
       let here = tied e.0 e.0 refl in
-      let one : 1 ≤ cond (was_drawn n e.0) 1 0 = omega (arith, bound e.0, counted, ap {B = ℕ} (λ b. cond b 1 0) here) in
-      All-cons (λ (x : ℕ × X). x.0 < n) e es (drawn_below n e.0 (was_drawn n e.0) refl one)
-      (drawn_all_below n es (λ u. omega (arith, bound u, count_by-cons (λ (x : ℕ × X). nat_eq u x.0) e es)))
+      let one : 1 ≤ cond (was_allocated n e.0) 1 0 = omega (arith, bound e.0, counted, ap {B = ℕ} (λ b. cond b 1 0) here) in
+      All-cons (λ (x : ℕ × X). x.0 < n) e es (allocated_below n e.0 (was_allocated n e.0) refl one)
+      (allocated_all_below n es (λ u. omega (arith, bound u, count_by-cons (λ (x : ℕ × X). nat_eq u x.0) e es)))
 
 -- ---- putting
 

@@ -24,9 +24,9 @@ use Rattle.fk_syscalls.specs.Words.{words_from, behind_first}
 use Rattle.fk_syscalls.specs.Plans.{IsLast, IsSoundPlan, NamesEnd, names_end, plan_of}
 use Rattle.fk_syscalls.specs.declared.plan.Plan.{Plan}
 use Rattle.fk_syscalls.specs.declared.plan.Plan.TheVariants.{Last, Rename, Link}
-use Rattle.fk_syscalls.specs.States.{IsSoundAim, walking_at, state_of, HasCachedNames, BeginsAsking}
-use Rattle.fk_syscalls.specs.declared.state.Aim.{Aim}
-use Rattle.fk_syscalls.specs.declared.state.Aim.TheVariants.{Walks, Reads, Writes}
+use Rattle.fk_syscalls.specs.States.{IsSoundWait, walking_at, state_of, HasCachedNames, BeginsAsking}
+use Rattle.fk_syscalls.specs.declared.state.WaitsFor.{WaitsFor}
+use Rattle.fk_syscalls.specs.declared.state.WaitsFor.TheVariants.{Walks, Reads, Writes}
 use Rattle.std.proofs.lemmas.Bool.Decides.{nat_tests}
 
 module _ (c : Vfs Opened) (names : NameMap Dentry) (clock : ℕ) (has : HasCachedNames c names clock) (call : ℕ) where
@@ -262,8 +262,8 @@ plan_ends (Link words at name) sound = tt
 itself : (node at : ℕ) → at ≡ node → nat_eq node at ≡ true
 itself node at same = grind (arith, nat_tests)
 
-pub names_self : {A : Type 0} (node at : ℕ) (words : List Name) (place : Option ℕ) (aim : Aim A)
-    → IsSoundAim place aim → at ≡ node
+pub names_self : {A : Type 0} (node at : ℕ) (words : List Name) (place : Option ℕ) (aim : WaitsFor A)
+    → IsSoundWait place aim → at ≡ node
     → list_any (nat_eq node) (nodes_of_state (state_of at words aim)) ≡ true
 names_self node at words place (Walks plan) sound same =
     names_walked node at words (plan_of (λ s. s.items) plan) (plan_ends plan sound.0) ∙ ap

@@ -13,8 +13,8 @@ use Rattle.fuse_spec.specs.declared.Opened.{Opened}
 use Rattle.fk_syscalls.specs.Words.{AreWords}
 use Rattle.fk_syscalls.specs.Plans.{plan_of, IsSoundPlan, IsLast}
 use Rattle.fk_syscalls.specs.declared.plan.Plan.{Plan}
-use Rattle.fk_syscalls.specs.declared.state.Aim.{Aim}
-use Rattle.fk_syscalls.specs.declared.state.Aim.TheVariants.{Walks, Reads, Writes}
+use Rattle.fk_syscalls.specs.declared.state.WaitsFor.{WaitsFor}
+use Rattle.fk_syscalls.specs.declared.state.WaitsFor.TheVariants.{Walks, Reads, Writes}
 
 -- A call whose walk has led to its end. With a second walk to come none stands there.
 abbrev pub at_end : ℕ → WalkPlan ℕ → CallState Opened
@@ -28,24 +28,24 @@ walking_at node [] plan = at_end node plan
 walking_at node (word ∷ words) plan = walking node word words plan
 
 -- A call at a node: it walks, or waits for a read or write of an open file of that node.
-abbrev pub state_of : {A : Type 0} → ℕ → List Name → Aim A → CallState Opened
+abbrev pub state_of : {A : Type 0} → ℕ → List Name → WaitsFor A → CallState Opened
 state_of node words (Walks plan) = walking_at node words (plan_of (λ s. s.items) plan)
 state_of node words (Reads open_call fh offset size) =
     using open_call (op.read (record { nodeid = node; fh = fh }) offset size)
 state_of node words (Writes open_call fh offset bytes) =
     using open_call (op.write (record { nodeid = node; fh = fh }) offset bytes.items)
 
-abbrev pub IsSoundAim : {A : Type 0} → Option ℕ → Aim A → Type 0
-IsSoundAim at (Walks plan) = IsSoundPlan (λ s. s.items) plan × (at ≡ None → IsLast (plan_of (λ s. s.items) plan))
-IsSoundAim at (Reads open_call fh offset size) = Unit {0}
-IsSoundAim at (Writes open_call fh offset bytes) = Unit {0}
+abbrev pub IsSoundWait : {A : Type 0} → Option ℕ → WaitsFor A → Type 0
+IsSoundWait at (Walks plan) = IsSoundPlan (λ s. s.items) plan × (at ≡ None → IsLast (plan_of (λ s. s.items) plan))
+IsSoundWait at (Reads open_call fh offset size) = Unit {0}
+IsSoundWait at (Writes open_call fh offset bytes) = Unit {0}
 
 -- Only words without a fault are asked for, and a second walk follows the first at once.
-pub record IsSoundCall {A : Type 0} (bytes : List ℕ) (at : Option ℕ) (aim : Aim A) : Type 0 where
+pub record IsSoundCall {A : Type 0} (bytes : List ℕ) (at : Option ℕ) (waits_for : WaitsFor A) : Type 0 where
   pub left : AreWords bytes at
-  pub sound : IsSoundAim at aim
+  pub sound : IsSoundWait at waits_for
 
--- The same of a call that is to be made, whose words and names are lent.
+-- So of a call that is to be made, whose words and names are borrowed.
 pub record IsSoundLentCall (bytes : List ℕ) (at : Option ℕ) (plan : Plan (Bor (List ℕ))) : Type 0 where
   pub left : AreWords bytes at
   pub sound : IsSoundPlan (λ s. s.now) plan
@@ -57,7 +57,7 @@ IsWalking (walking directory word words plan) = Unit {0}
 IsWalking (doing operation) = ⊥
 IsWalking (using open_call operation) = ⊥
 
--- What a call has asked tells where it stands.
+-- Where a call stands follows from what it has asked.
 pub record LooksUp (directory : ℕ) (word : Name) (state : CallState Opened) : Type 0 where
   pub words : List Name
   pub plan : WalkPlan ℕ

@@ -26,7 +26,7 @@ use fuse_spec::limits::{self, MAX_FILE};
 use fuse_spec::{Opened, Operation};
 use std::alloc::{AllocError, Allocator};
 
-/// A read or write has at most so many bytes.
+/// A read or write has at most this many bytes.
 const MAX_TRANSFER: u64 = limits::MAX_TRANSFER as u64;
 
 /// Begins a call on a mount that is not aborted: a fault answers it; a read or write asks at once; else it walks from
@@ -46,7 +46,7 @@ pub fn begin<A: Allocator + Copy>(
     requires { ClosesNone call.now }
     ensures begun { IfOk result (λ next. (c : Vfs Opened) → HasCachedNames c names.now.names clock
         → c.opens ≡ opens.now.entries → begun false c (call_of call.now) ≡ comes_to (numbered c) c.next_call next) }
-    ensures wanting { OnErr result ((c : Vfs Opened) → HasCachedNames c names.now.names clock → c.opens ≡ opens.now.entries
+    ensures out_of_memory { OnErr result ((c : Vfs Opened) → HasCachedNames c names.now.names clock → c.opens ≡ opens.now.entries
         → (state : State Opened) × (begun false c (call_of call.now) ≡ asking (numbered c) c.next_call state)) }
 {
     match call {
@@ -78,7 +78,7 @@ pub fn begin<A: Allocator + Copy>(
             offset,
             bytes,
         } => begin_write(alloc, opens, *open_call, *offset, bytes),
-        // Ruled out: it is no close.
+        // It never comes to this: a close is not begun here.
         Call::Close { .. } => Ok(Next::Answer { errno: EBADF }),
     }
 }
@@ -145,7 +145,7 @@ fn begin_whole<A: Allocator + Copy>(
     requires { IsSoundFinal (λ s. s.now) operation }
     ensures begun { IfOk result (IsBegun names.now.names clock
         (whole_path path.now (λ words. sets_out words (last (operation_of (λ s. s.now) operation.entry))))) }
-    ensures wanting { OnErr result (BeginsAsking names.now.names clock
+    ensures out_of_memory { OnErr result (BeginsAsking names.now.names clock
         (whole_path path.now (λ words. sets_out words (last (operation_of (λ s. s.now) operation.entry))))) }
 {
     match first_word(path) {
@@ -164,7 +164,7 @@ fn begin_change<A: Allocator + Copy>(
 ) -> Result<Next<A>, AllocError>
     ensures begun { IfOk result (IsBegun names.now.names clock
         (parent_path path.now (λ words name. sets_out words (last (changes change name))))) }
-    ensures wanting { OnErr result (BeginsAsking names.now.names clock
+    ensures out_of_memory { OnErr result (BeginsAsking names.now.names clock
         (parent_path path.now (λ words name. sets_out words (last (changes change name))))) }
 {
     match parent_of(path) {
@@ -187,7 +187,7 @@ fn begin_rename<A: Allocator + Copy>(
 ) -> Result<Next<A>, AllocError>
     ensures begun { IfOk result (IsBegun names.now.names clock
         (parent_path old.now (λ words from. parent_path new.now (λ more to. sets_out words (rename from more to))))) }
-    ensures wanting { OnErr result (BeginsAsking names.now.names clock
+    ensures out_of_memory { OnErr result (BeginsAsking names.now.names clock
         (parent_path old.now (λ words from. parent_path new.now (λ more to. sets_out words (rename from more to))))) }
 {
     let from = match parent_of(old) {
@@ -217,7 +217,7 @@ fn begin_link<A: Allocator + Copy>(
 ) -> Result<Next<A>, AllocError>
     ensures begun { IfOk result (IsBegun names.now.names clock
         (whole_path old.now (λ words. parent_path new.now (λ more name. sets_out words (link more name))))) }
-    ensures wanting { OnErr result (BeginsAsking names.now.names clock
+    ensures out_of_memory { OnErr result (BeginsAsking names.now.names clock
         (whole_path old.now (λ words. parent_path new.now (λ more name. sets_out words (link more name))))) }
 {
     let at = match first_word(old) {
@@ -250,7 +250,7 @@ fn start_walk<A: Allocator + Copy>(
     requires plan { IsSoundPlan (λ s. s.now) plan }
     ensures begun { IfOk result (IsBegun names.now.names clock
         (sets_out (words_from words.now at) (plan_of (λ s. s.now) plan.entry))) }
-    ensures wanting { OnErr result (BeginsAsking names.now.names clock
+    ensures out_of_memory { OnErr result (BeginsAsking names.now.names clock
         (sets_out (words_from words.now at) (plan_of (λ s. s.now) plan.entry))) }
 {
     let Some(stop) = walk(names, clock, ROOT, words, at) else {
@@ -303,7 +303,7 @@ fn set_out_again<A: Allocator + Copy>(
     requires sound { IsSoundFinal (λ s. s.now) operation }
     ensures begun { IfOk result (IsBegun names.now.names clock
         (sets_out (words_from words.now at) (last (operation_of (λ s. s.now) operation.entry)))) }
-    ensures wanting { OnErr result (BeginsAsking names.now.names clock
+    ensures out_of_memory { OnErr result (BeginsAsking names.now.names clock
         (sets_out (words_from words.now at) (last (operation_of (λ s. s.now) operation.entry)))) }
 {
     match walk(names, clock, ROOT, words, at) {
@@ -348,7 +348,7 @@ fn begin_write<A: Allocator + Copy>(
     ensures begun { IfOk result (λ next. (c : Vfs Opened) (call : ℕ)
         → after_beginning c call (using_file open_call (get opens.now.entries open_call) offset (length bytes.now)
         (λ opened. op.write opened offset bytes.now)) ≡ comes_to c call next) }
-    ensures wanting { OnErr result ((c : Vfs Opened) (call : ℕ)
+    ensures out_of_memory { OnErr result ((c : Vfs Opened) (call : ℕ)
         → (state : State Opened) × (after_beginning c call
         (using_file open_call (get opens.now.entries open_call) offset (length bytes.now)
         (λ opened. op.write opened offset bytes.now)) ≡ asking c call state)) }

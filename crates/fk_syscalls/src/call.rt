@@ -8,7 +8,7 @@ use crate::listing::Listing;
 use fuse_spec::Attributes;
 use std::alloc::{Allocator, Global};
 
-/// A system call. Its paths and bytes are lent. An open file is known by the number of the call that opened it.
+/// A system call. Its paths and bytes are borrowed. An open file is known by the number of the call that opened it.
 #[derive(Clone, Copy, Debug)]
 pub enum Call<'a> {
     /// The attributes of the file at a path.

@@ -7,7 +7,7 @@ use fuse_spec::Kind;
 use std::alloc::{AllocError, Allocator, Global};
 use std::marker::Model;
 
-/// A name that a directory lists, with the offset from which to read on. Its bytes are lent.
+/// A name that a directory lists, with the offset from which to read on. Its bytes are borrowed.
 #[derive(Clone, Copy, Debug)]
 pub struct ListedName<'a> {
     pub ino: u64,
@@ -49,7 +49,7 @@ impl<A: Allocator> Model for Listing<A> {
 impl<A: Allocator> Listing<A> {
     ghost use Rattle.fk_syscalls.specs.Listings.{listed_dirent, names_left_in};
 
-    /// No names. There is room for so many names, which have so many bytes together.
+    /// No names. There is room for this many names, which have this many bytes together.
     ///
     /// # Errors
     ///
@@ -93,7 +93,7 @@ impl<A: Allocator> Listing<A> {
         Ok(())
     }
 
-    /// The names, in their order. They are lent, and no memory is taken.
+    /// The names, in their order. They are borrowed, and no memory is taken.
     pub fn iter(&self) -> ListedNames<'_>
         ensures { names_left_in result ≡ self.now }
     {

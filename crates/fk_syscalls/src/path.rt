@@ -66,7 +66,7 @@ pub(crate) fn first_word(path: &[u8]) -> Result<Option<usize>, u32>
 
 /// The words before the last one, and the last one.
 #[derive(Drop)]
-pub(crate) struct Parent<'a> {
+pub(crate) struct ParentAndName<'a> {
     pub words: &'a [u8],
     /// Where the words begin, if there are some.
     pub at: Option<usize>,
@@ -74,7 +74,7 @@ pub(crate) struct Parent<'a> {
 }
 
 /// Parts the last word from those before it, of the words from a place on.
-pub(crate) fn split_last_word(words: &[u8], first: usize) -> Parent<'_>
+pub(crate) fn split_last_word(words: &[u8], first: usize) -> ParentAndName<'_>
     requires { AreWords words.now (Some first) }
     ensures parts { parent_and_last (words_from words.now (Some first))
         ≡ Some (words_from result.words.now result.at, result.name.now) }
@@ -87,14 +87,14 @@ pub(crate) fn split_last_word(words: &[u8], first: usize) -> Parent<'_>
         match next {
             Some(next) => last = next,
             None if last == first => {
-                return Parent {
+                return ParentAndName {
                     words,
                     at: None,
                     name,
                 };
             }
             None => {
-                return Parent {
+                return ParentAndName {
                     words: &words[..last - 1],
                     at: Some(first),
                     name,
@@ -105,7 +105,7 @@ pub(crate) fn split_last_word(words: &[u8], first: usize) -> Parent<'_>
 }
 
 /// The words of a path before its last one, and the last one; or the path's first fault, as an error number.
-pub(crate) fn parent_of(path: &[u8]) -> Result<Parent<'_>, u32>
+pub(crate) fn parent_of(path: &[u8]) -> Result<ParentAndName<'_>, u32>
     ensures parts { MatchResult result (λ parent. (then : List Name → Name → Beginning ℕ Opened)
         → parent_path path.now then ≡ then (words_from parent.words.now parent.at) parent.name.now)
         (λ errno. (then : List Name → Name → Beginning ℕ Opened) → parent_path path.now then ≡ faulty errno) }

@@ -9,11 +9,12 @@ use fuse_spec::{NoOpenFile, Operation};
 use std::alloc::{AllocError, Allocator};
 
 /// The operation at the end of a call's walks, on no open file. A node that it names is one to which an earlier walk
-/// has led, or is none: then it is the one to which the last walk leads. `S` holds a name: lent from the call, or owned.
+/// has led, or is none: then it is the one to which the last walk leads. `S` holds a name: borrowed from the call, or
+/// owned.
 pub(crate) type FinalOperation<S> = Operation<S, Option<u64>, NoOpenFile>;
 
 /// What a call's walk is for: an operation at its end, or a second walk, along the words from a place on. `S` holds
-/// words or a name: lent from the call, or owned.
+/// words or a name: borrowed from the call, or owned.
 #[derive(Drop)]
 pub(crate) enum Plan<S> {
     Last(FinalOperation<S>),

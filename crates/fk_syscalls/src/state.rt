@@ -30,7 +30,7 @@ pub(crate) const ROOT: u64 = 1;
 
 /// What a call waits for: the end of its walks, or bytes of an open file.
 #[derive(Drop)]
-pub(crate) enum Aim<A: Allocator> {
+pub(crate) enum WaitsFor<A: Allocator> {
     Walks(Plan<Vec<u8, A>>),
     Reads {
         open_call: u64,
@@ -54,7 +54,7 @@ pub struct CallState<A: Allocator = Global> {
     words: Vec<u8, A>,
     /// Where in `words` the walk stands, if a word is left.
     at: Option<usize>,
-    aim: Aim<A>,
+    waits_for: WaitsFor<A>,
 }
 
 impl<A: Allocator> Model for CallState<A> {
@@ -68,9 +68,9 @@ impl<A: Allocator> Model for CallState<A> {
 
     ghost coded = { Prim.hlevel (codes) };
 
-    ghost view = { λ s. state_of s.node (words_from s.words.items s.at) s.aim };
+    ghost view = { λ s. state_of s.node (words_from s.words.items s.at) s.waits_for };
 
-    ghost invariant = { λ s. IsSoundCall s.words.items s.at s.aim };
+    ghost invariant = { λ s. IsSoundCall s.words.items s.at s.waits_for };
 }
 
 /// Where a step leaves a call.
@@ -101,7 +101,7 @@ fn second_walk<A: Allocator + Copy>(
             node: stop.node,
             words,
             at: stop.at,
-            aim: Aim::Walks(Plan::Last(operation)),
+            waits_for: WaitsFor::Walks(Plan::Last(operation)),
         }),
         None => Next::Answer { errno: ENOENT },
     }
@@ -126,7 +126,7 @@ fn walk_finished<A: Allocator + Copy>(
             node,
             words,
             at: None,
-            aim: Aim::Walks(Plan::Last(operation)),
+            waits_for: WaitsFor::Walks(Plan::Last(operation)),
         }),
         Plan::Rename {
             old,
@@ -153,7 +153,7 @@ fn walk_finished<A: Allocator + Copy>(
     }
 }
 
-/// The open file of a node and an open number.
+/// The open file of a node and a file handle.
 fn opened(nodeid: u64, fh: u64) -> Opened
     ensures { result ≡ record { nodeid = nodeid; fh = fh } }
 {
@@ -180,13 +180,13 @@ impl<A: Allocator + Copy> CallState<A> {
                 node,
                 words: words[place..].to_vec(alloc)?,
                 at: Some(0),
-                aim: Aim::Walks(plan),
+                waits_for: WaitsFor::Walks(plan),
             }),
             None => Ok(CallState {
                 node,
                 words: Vec::new(alloc),
                 at: None,
-                aim: Aim::Walks(plan),
+                waits_for: WaitsFor::Walks(plan),
             }),
         }
     }
@@ -200,7 +200,7 @@ impl<A: Allocator + Copy> CallState<A> {
             node: nodeid,
             words: Vec::new(alloc),
             at: None,
-            aim: Aim::Reads {
+            waits_for: WaitsFor::Reads {
                 open_call,
                 fh,
                 offset,
@@ -225,7 +225,7 @@ impl<A: Allocator + Copy> CallState<A> {
             node: nodeid,
             words: Vec::new(alloc),
             at: None,
-            aim: Aim::Writes {
+            waits_for: WaitsFor::Writes {
                 open_call,
                 fh,
                 offset,
@@ -247,10 +247,10 @@ impl<A: Allocator + Copy> CallState<A> {
             node: _,
             words,
             at,
-            aim,
+            waits_for,
         } = self;
-        let Aim::Walks(plan) = aim else {
-            // Ruled out: such a call has no word left.
+        let WaitsFor::Walks(plan) = waits_for else {
+            // It never comes to this: only a walk has a word left.
             return Next::Answer { errno: ENOENT };
         };
         let next = next_place(&words, at);
@@ -262,7 +262,7 @@ impl<A: Allocator + Copy> CallState<A> {
                 node: stop.node,
                 words,
                 at: stop.at,
-                aim: Aim::Walks(plan),
+                waits_for: WaitsFor::Walks(plan),
             });
         }
         walk_finished(names, clock, stop.node, words, plan)
@@ -275,7 +275,7 @@ impl<A: Allocator + Copy> CallState<A> {
             → HasCachedNames c (with_new_name names.now.names new.now) clock → self.now ≡ walking directory word words plan
             → is_some (walks_on c call new.now.node words plan).operation ≡ result }
     {
-        let Aim::Walks(plan) = &self.aim else {
+        let WaitsFor::Walks(plan) = &self.waits_for else {
             return false;
         };
         let next = next_place(&self.words, self.at);
@@ -303,8 +303,8 @@ impl<A: Allocator + Copy> CallState<A> {
         ensures stands { StandsAt (operation_of (λ s. s.now) result) self.now }
         ensures word { AsksWord result }
     {
-        match &self.aim {
-            Aim::Walks(plan) => {
+        match &self.waits_for {
+            WaitsFor::Walks(plan) => {
                 if let Some(place) = self.at {
                     let (name, _) = word_at(&self.words, place);
                     return Operation::Lookup {
@@ -313,12 +313,12 @@ impl<A: Allocator + Copy> CallState<A> {
                     };
                 }
                 let Plan::Last(operation) = plan else {
-                    // Ruled out: a second walk follows the first at once.
+                    // It never comes to this: a second walk follows the first at once.
                     return Operation::Getattr { node: self.node };
                 };
                 operation.at(self.node)
             }
-            Aim::Reads {
+            WaitsFor::Reads {
                 fh,
                 offset,
                 size,
@@ -328,7 +328,7 @@ impl<A: Allocator + Copy> CallState<A> {
                 offset: *offset,
                 size: *size,
             },
-            Aim::Writes {
+            WaitsFor::Writes {
                 fh,
                 offset,
                 bytes,
@@ -348,9 +348,9 @@ impl<A: Allocator + Copy> CallState<A> {
         if self.node == node {
             return true;
         }
-        match &self.aim {
-            Aim::Walks(plan) => plan.names_node(node),
-            Aim::Reads { .. } | Aim::Writes { .. } => false,
+        match &self.waits_for {
+            WaitsFor::Walks(plan) => plan.names_node(node),
+            WaitsFor::Reads { .. } | WaitsFor::Writes { .. } => false,
         }
     }
 
@@ -358,9 +358,11 @@ impl<A: Allocator + Copy> CallState<A> {
     pub fn open_call(&self) -> Option<u64>
         ensures { result ≡ used_by self.now }
     {
-        match &self.aim {
-            Aim::Walks(_) => None,
-            Aim::Reads { open_call, .. } | Aim::Writes { open_call, .. } => Some(*open_call),
+        match &self.waits_for {
+            WaitsFor::Walks(_) => None,
+            WaitsFor::Reads { open_call, .. } | WaitsFor::Writes { open_call, .. } => Some(
+                *open_call,
+            ),
         }
     }
 }

@@ -1,7 +1,7 @@
 //! Request numbers of a mount, named uniques: even, rising by 2 from 2, below 2^62.
 //!
-//! An INTERRUPT draws no number: it carries that of the request it interrupts, with the lowest bit set (the kernel's
-//! `fuse.rst`).
+//! An INTERRUPT allocates no number: it carries that of the request it interrupts, with the lowest bit set (the
+//! kernel's `fuse.rst`).
 #![tactic(auto)]
 
 ghost use Rattle.std.specs.Prelude.{◌≡◌, ◌+◌, ◌%◌, ◌<◌, ◌≤◌, IfSome, IsSome, ◌↔◌};
@@ -10,8 +10,8 @@ ghost use Rattle.fuse_spec.specs.Kernel.Uniques.{first_number, number_limit, num
 use fuse_spec::limits::COUNTER_END;
 use std::marker::Model;
 
-/// The numbers that a mount has not drawn yet (this project's rule: they start at 2 and end below 2^62). Contracts see
-/// the coming one; at 2^62 none is left.
+/// The numbers that a mount has not allocated yet (this project's rule: they start at 2 and end below 2^62). Contracts
+/// see the coming one; at 2^62 none is left.
 #[derive(Drop)]
 pub struct Uniques {
     next: u64,
@@ -38,9 +38,9 @@ impl Uniques {
         Uniques { next: 2 }
     }
 
-    /// Draws the coming number, or `None` where none is left. No number is drawn twice.
+    /// Allocates the coming number, or `None` where none is left. No number is allocated twice.
     pub fn next(&mut self) -> Option<u64>
-        ensures drawn { IfSome result (λ unique. unique ≡ self.old) }
+        ensures allocated { IfSome result (λ unique. unique ≡ self.old) }
         ensures rises { IfSome result (λ unique. self.new ≡ unique + 2) }
         ensures even { IfSome result (λ unique. unique % 2 ≡ 0) }
         ensures low { IfSome result (λ unique. first_number ≤ unique) }
@@ -57,7 +57,7 @@ impl Uniques {
         Some(unique)
     }
 
-    /// The coming number: what `next` draws, or 2^62 where none is left.
+    /// The coming number: what `next` allocates, or 2^62 where none is left.
     pub fn coming(&self) -> u64
         ensures coming { result ≡ self.now }
         ensures next { IsNextNumber self.now }
@@ -65,7 +65,7 @@ impl Uniques {
         self.next
     }
 
-    /// How many numbers can still be drawn.
+    /// How many numbers can still be allocated.
     pub fn numbers_left(&self) -> u64
         ensures left { result ≡ numbers_left_from self.now }
         ensures next { IsNextNumber self.now }

@@ -28,7 +28,7 @@ count_of (records_reply ds) = length ds
 count_of (plus_reply ps) = length ps
 count_of content = 0
 
--- So many records reach the end of a body of this kind.
+-- This many records reach the end of a body of this kind.
 abbrev CountIs : ReplyKind → List ℕ → ℕ → Type 0
 CountIs kind.Records bytes count = end_from false count 16 bytes ≡ length bytes
 CountIs kind.RecordsPlus bytes count = end_from true count 16 bytes ≡ length bytes

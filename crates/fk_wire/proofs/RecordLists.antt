@@ -1,4 +1,4 @@
--- Lists of records in a frame, each after so many other bytes.
+-- Lists of records in a frame, each after this many other bytes.
 use Rattle.std.proofs.Common.{◌≡◌, ℕ, Bool, true, false, zero, suc, ◌+◌, ◌-◌, ◌*◌, ◌≤◌, ◌<◌, List, [], ◌∷◌, length, refl, sym, ap, subst, ◌∙◌, arith, add-one}
 use Rattle.std.proofs.Common.{drop, take}
 use Rattle.std.specs.Prelude.{◌↔◌}
@@ -58,7 +58,7 @@ pub none_yet : (plus : Bool) (place : ℕ) (bytes : List ℕ) → end_from plus 
 unfolding end_from
 none_yet plus place bytes = refl
 
--- where records do not reach the end after so many, none more do, if the next does not fit
+-- where records do not reach the end after this many, none more do, if the next does not fit
 pub no_records : (plus : Bool) (n place : ℕ) (bytes : List ℕ) (count : ℕ) → end_from plus n place bytes < length bytes
     → length bytes < record_place plus (end_from plus n place bytes) + 24 + padded
     (name_length (record_place plus (end_from plus n place bytes)) bytes)

@@ -55,12 +55,12 @@ dirent_at place bytes = record {
   name = name_at place bytes;
 }
 
--- so many records from a place on
+-- this many records from a place on
 abbrev pub dirents_from : ℕ → ℕ → List ℕ → List DirentContent
 dirents_from zero place bytes = []
 dirents_from (suc count) place bytes = dirent_at place bytes ∷ dirents_from count (record_end false place bytes) bytes
 
--- so many pairs of an entry and a record from a place on
+-- this many pairs of an entry and a record from a place on
 abbrev pub direntpluses_from : ℕ → ℕ → List ℕ → List DirentPlusContent
 direntpluses_from zero place bytes = []
 direntpluses_from (suc count) place bytes = record {

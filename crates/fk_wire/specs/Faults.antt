@@ -61,7 +61,7 @@ RefusalIsAt minor m faults.Memory = IsTrue (minor_knows minor (opcode_of m.conte
     × HaveNames (request_body m.content)
 RefusalIsAt minor m _ = ⊥
 
--- The same, at the latest minor version.
+-- The fault of a request at the latest minor version.
 abbrev pub FaultIs : List ℕ → WireFault → Type 0
 FaultIs = FaultIsAt latest_minor
 

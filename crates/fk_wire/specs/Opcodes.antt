@@ -9,11 +9,11 @@ use Rattle.fk_wire.specs.declared.reply.ReplyKind.TheVariants as kind
 
 -- The shape of a request's frame, header included.
 pub data Shape : Type 0 where
-  -- so many bytes
+  -- this many bytes
   exactly : (size : ℕ) → Shape
-  -- so many bytes, and a name to the end
+  -- this many bytes, and a name to the end
   name_after : (size : ℕ) → Shape
-  -- so many bytes, and two names to the end
+  -- this many bytes, and two names to the end
   names_after : (size : ℕ) → Shape
   -- 80 bytes, and as many as the number at 56 says
   sized : Shape

@@ -128,7 +128,7 @@ record_count kind.Records bytes = count_from (length bytes) false 16 bytes
 record_count kind.RecordsPlus bytes = count_from (length bytes) true 16 bytes
 record_count k bytes = 0
 
--- The content of a body, of a kind and with so many records, if it is one.
+-- The content of a body, of a kind and with this many records, if it is one.
 abbrev pub reply_content_at : ReplyKind → ℕ → List ℕ → ReplyContent
 reply_content_at kind.Empty count bytes = empty_reply
 reply_content_at kind.Entry count bytes = entry_reply (entry_at 16 bytes)
@@ -189,7 +189,7 @@ WrittenReplyAt minor t bytes = (length bytes ≤ max_frame) × IsErrorNumber t.e
     × HasReplyNames t.content × InRange (reply_fields (length bytes) t) × HaveNames (reply_fields (length bytes) t)
     × (bytes ≡ spellings (reply_fields (length bytes) t))
 
--- The same, at the latest minor version.
+-- A frame spells a reply at the latest minor version.
 abbrev pub SpellsReply : Opcode → List ℕ → ReplyMessage → Type 0
 SpellsReply = SpellsReplyAt latest_minor
 

@@ -88,7 +88,7 @@ ReplyRefusalIsAt minor t faults.Memory = IsErrorNumber t.error × IsTrue (knows_
     × FitsReply t × HasReplyNames t.content
 ReplyRefusalIsAt minor t _ = ⊥
 
--- The same, at the latest minor version.
+-- The fault of a reply at the latest minor version.
 abbrev pub ReplyFaultIs : Opcode → List ℕ → WireFault → Type 0
 ReplyFaultIs = ReplyFaultIsAt latest_minor
 

@@ -204,7 +204,7 @@ WrittenAt minor m bytes = (length bytes ≤ max_frame) × IsTrue (minor_knows mi
     × IsNodeOf (has_node (opcode_of m.content)) m.nodeid × InRange (request_fields (length bytes) m)
     × HaveNames (request_fields (length bytes) m) × (bytes ≡ spellings (request_fields (length bytes) m))
 
--- The same, at the latest minor version.
+-- A frame spells a message at the latest minor version.
 abbrev pub Spells : List ℕ → RequestMessage → Type 0
 Spells = SpellsAt latest_minor
 

@@ -58,8 +58,8 @@ pub(crate) fn put_direntpluses<A: Allocator>(out: &mut Vec<u8, A>, records: Reco
     }
 }
 
-/// Appends the head of a reply without error whose body has so many bytes, at most `MAX_FRAME` less the head's 16, into
-/// room that is there: `struct fuse_out_header`.
+/// Appends the head of a reply without error whose body has this many bytes, at most `MAX_FRAME` less the head's 16,
+/// into room that is there: `struct fuse_out_header`.
 #[tactic(auto, using(std::proofs::Common::append_assoc))]
 pub fn put_listing_head<A: Allocator>(out: &mut Vec<u8, A>, unique: u64, size: usize)
     requires room { vec_len out.old + 16 ≤ vec_capacity out.old }

@@ -30,7 +30,7 @@ pub(crate) fn init_size(major: u32, minor: u32) -> usize
     if major == 7 && minor == 15 { 40 } else { 80 }
 }
 
-/// A frame of so many bytes.
+/// A frame of this many bytes.
 fn reply_of_size(bytes: &[u8], size: usize) -> Result<(), WireFault>
     ensures ok { OnOk result (length bytes.now ≡ size) }
     ensures err { IfErr result (λ f. (f ≡ BodyFault) × (length bytes.now ≢ size)) }
@@ -63,7 +63,7 @@ fn init_of(bytes: &[u8]) -> Result<ReplyBody<'_>, WireFault>
     })
 }
 
-/// The entry with which the body of a frame of so many bytes begins.
+/// The entry with which the body of a frame of this many bytes begins.
 #[inline(always)]
 fn first_entry(bytes: &[u8], size: usize) -> Result<Entry, WireFault>
     requires { 144 ≤ size }

@@ -1,4 +1,4 @@
-//! The frames that tell what became of a reply. This project's own: FUSE has none.
+//! The frames that say what became of a reply. This project's own: FUSE has none.
 
 ghost use Rattle.std.specs.Prelude.{◌≡◌, ◌≢◌, ◌≤◌, ◌+◌, ◌++◌, ℕ, ℤ, length, OnOk, OnErr};
 ghost use Rattle.std.specs.Prelude.{IfOk, IfErr, IsOkAnd, vec_len, vec_capacity};

@@ -1,4 +1,4 @@
--- What is true of every node and of every open number, as they are given and given back.
+-- What is true of every node and of every file handle, as they are given and given back.
 use Rattle.std.proofs.Common.{◌≡◌, ℕ, ◌+◌, ◌-◌, Bool, true, false, cond, Option, Some, None, refl, sym, ap, subst, ◌∙◌, inl, inr}
 use Rattle.std.specs.Prelude.{nat_lt}
 use Rattle.std.proofs.lemmas.Bool.{cases_eq}
@@ -6,7 +6,7 @@ use Rattle.std.proofs.lemmas.Option.{none-some, same_Some}
 use Rattle.fuse_spec.specs.Values.Maps.{Map, get, put, remove}
 use Rattle.fuse_spec.specs.declared.Entry.{Entry}
 use Rattle.fuse_spec.specs.Server.Copies.{row_back}
-use Rattle.fuse_spec.specs.Server.Nodes.{HeldNode, NodeTable, is_held, given, given_row, taken_back, rows_less, row_more, rows_more, OpenNumber, HandleTable, handle_opened, handle_back, handles_less, handle_more, handles_more}
+use Rattle.fuse_spec.specs.Server.Nodes.{HeldNode, NodeTable, is_held, given, given_row, taken_back, rows_less, row_more, rows_more, FileHandle, HandleTable, handle_opened, handle_back, handles_less, handle_more, handles_more}
 use Rattle.fuse_spec.proofs.Tables.{get_put_here, get_put_there, get_gone_here, get_gone_there}
 
 -- each value of a map has it
@@ -72,33 +72,33 @@ pub more_each : (P Q : HeldNode → Type 0) (t : NodeTable) (id : ℕ) → ((row
     → Each Q (row_more t id).rows
 more_each P Q t id still more old = more_rows_each P Q t.rows id still more old
 
--- ---- open numbers
+-- ---- file handles
 
-pub opened_each : (P Q : OpenNumber → Type 0) (t : HandleTable) (file : ℕ) → ((h : OpenNumber) → P h → Q h)
+pub opened_each : (P Q : FileHandle → Type 0) (t : HandleTable) (file : ℕ) → ((h : FileHandle) → P h → Q h)
     → Q (record { file = file; count = 1 }) → Each P t.handles → Each Q (handle_opened t file).handles
 opened_each P Q t file still new old = each_put Q t.handles t.next_fh (record { file = file; count = 1 }) new
     (λ q h is. still h (old q h is))
 
-pub back_each : (P : OpenNumber → Type 0) (t : HandleTable) (fh : ℕ)
-    → ((h : OpenNumber) → P h → P (record h { count = h.count - 1 })) → Each P t.handles
+pub back_each : (P : FileHandle → Type 0) (t : HandleTable) (fh : ℕ)
+    → ((h : FileHandle) → P h → P (record h { count = h.count - 1 })) → Each P t.handles
     → Each P (handle_back t fh).handles
 back_each P t fh less old = by (get t.handles fh) refl
   where
-    fewer : (h : OpenNumber) → get t.handles fh ≡ Some h → (b : Bool)
+    fewer : (h : FileHandle) → get t.handles fh ≡ Some h → (b : Bool)
         → Each P (cond b (put t.handles fh (record h { count = h.count - 1 })) (remove t.handles fh))
     fewer h e true = each_put P t.handles fh (record h { count = h.count - 1 }) (less h (old fh h e)) old
     fewer h e false = each_gone P t.handles fh old
 
-    by : (o : Option OpenNumber) → get t.handles fh ≡ o → Each P (handles_less t.handles fh o)
+    by : (o : Option FileHandle) → get t.handles fh ≡ o → Each P (handles_less t.handles fh o)
     by None e = old
     by (Some h) e = fewer h e (nat_lt 1 h.count)
 
-pub number_more_each : (P Q : OpenNumber → Type 0) (t : HandleTable) (fh : ℕ) → ((h : OpenNumber) → P h → Q h)
-    → ((h : OpenNumber) → P h → Q (record h { count = h.count + 1 })) → Each P t.handles
+pub handle_more_each : (P Q : FileHandle → Type 0) (t : HandleTable) (fh : ℕ) → ((h : FileHandle) → P h → Q h)
+    → ((h : FileHandle) → P h → Q (record h { count = h.count + 1 })) → Each P t.handles
     → Each Q (handle_more t fh).handles
-number_more_each P Q t fh still more old = by (get t.handles fh) refl
+handle_more_each P Q t fh still more old = by (get t.handles fh) refl
   where
-    by : (o : Option OpenNumber) → get t.handles fh ≡ o → Each Q (handles_more t.handles fh o)
+    by : (o : Option FileHandle) → get t.handles fh ≡ o → Each Q (handles_more t.handles fh o)
     by None e = λ q h is. still h (old q h is)
     by (Some h) e = each_put Q t.handles fh (record h { count = h.count + 1 }) (more h (old fh h e))
         (λ q g is. still g (old q g is))

@@ -7,7 +7,7 @@ use Rattle.std.specs.FinMap.Entries.{find-where_key}
 use Rattle.std.specs.Ordering.{nat_cmp, is_eq}
 use Rattle.std.proofs.lemmas.Option.{none-some, same_Some}
 use Rattle.fuse_spec.specs.Values.Maps.{Map, get, remove, values}
-use Rattle.fuse_spec.specs.Server.Nodes.{HeldNode, NodeTable, HandleTable, OpenNumber, IsUnheld}
+use Rattle.fuse_spec.specs.Server.Nodes.{HeldNode, NodeTable, HandleTable, FileHandle, IsUnheld}
 use Rattle.fuse_spec.specs.Server.Server.{is_file_held}
 use Rattle.fuse_spec.specs.Files.Trees.{Content, Tree, is_nameless}
 use Rattle.fuse_spec.specs.declared.Validity.{Validity}
@@ -74,24 +74,24 @@ module _ (files : FilesState) (v : Validity) where
   has_node x = list_any (λ (row : HeldNode). nat_eq row.file x) (values files.nodes.rows)
 
   abbrev is_opened : ℕ → Bool
-  is_opened x = list_any (λ (h : OpenNumber). nat_eq h.file x) (values files.handles.handles)
+  is_opened x = list_any (λ (h : FileHandle). nat_eq h.file x) (values files.handles.handles)
 
   held_by_node : (id : ℕ) (row : HeldNode) → get files.nodes.rows id ≡ Some row → (x : ℕ) → row.file ≡ x
       → holds x ≡ true
   held_by_node id row is x same = held_first (has_node x) (is_opened x)
       (any_there files.nodes.rows (λ (r : HeldNode). nat_eq r.file x) id row is (eq-eqb row.file x same))
 
-  held_by_number : (fh : ℕ) (h : OpenNumber) → get files.handles.handles fh ≡ Some h → (x : ℕ) → h.file ≡ x
+  held_by_handle : (fh : ℕ) (h : FileHandle) → get files.handles.handles fh ≡ Some h → (x : ℕ) → h.file ≡ x
       → holds x ≡ true
-  held_by_number fh h is x same = or_held (has_node x) (is_opened x)
-      (any_there files.handles.handles (λ (g : OpenNumber). nat_eq g.file x) fh h is (eq-eqb h.file x same))
+  held_by_handle fh h is x same = or_held (has_node x) (is_opened x)
+      (any_there files.handles.handles (λ (g : FileHandle). nat_eq g.file x) fh h is (eq-eqb h.file x same))
 
-  -- what is not held has no node and no open number
+  -- what is not held has no node and no file handle
   pub unheld : (x : ℕ) → holds x ≡ false → IsUnheld files.nodes x
   unheld x none id row is same = true≢false (sym (held_by_node id row is x same) ∙ none)
 
   pub unopened : (x : ℕ) → holds x ≡ false → IsUnopened files.handles x
-  unopened x none fh h is same = true≢false (sym (held_by_number fh h is x same) ∙ none)
+  unopened x none fh h is same = true≢false (sym (held_by_handle fh h is x same) ∙ none)
 
   -- and what is held has one
   pub not_both : T (is_sorted nat_cmp files.nodes.rows) → T (is_sorted nat_cmp files.handles.handles) → (x : ℕ)
@@ -101,7 +101,7 @@ module _ (files : FilesState) (v : Validity) where
       (λ any. true≢false (sym any ∙ sym (any_is false files.nodes.rows (λ (r : HeldNode). nat_eq r.file x) rows
       (λ e. absurd (true≢false (sym e))) (λ has. absurd
       (no_node has.key has.value has.there (same_number has.value.file x has.passes))))))
-      (λ any. true≢false (sym any ∙ sym (any_is false files.handles.handles (λ (h : OpenNumber). nat_eq h.file x) opens
+      (λ any. true≢false (sym any ∙ sym (any_is false files.handles.handles (λ (h : FileHandle). nat_eq h.file x) opens
       (λ e. absurd (true≢false (sym e))) (λ has. absurd
       (no_number has.key has.value has.there (same_number has.value.file x has.passes))))))
 
@@ -208,7 +208,7 @@ module _ (tree : Tree) (nodes : NodeTable) (handles : HandleTable) where
       left
       ∙ (λ i. record tree { files = filter (λ e. sym (or_none (not (is_nameless tree e.0))) i) tree.files })
       ∙ (λ i. without_unheld (λ x. list_any (λ (row : HeldNode). nat_eq row.file x) (values (sym no_nodes i).rows)
-      || list_any (λ (h : OpenNumber). nat_eq h.file x) (values (sym no_handles i).handles)) tree)
+      || list_any (λ (h : FileHandle). nat_eq h.file x) (values (sym no_handles i).handles)) tree)
 
   pub cleared_named : AreNamed (without_nameless tree) (record nodes { rows = [] }) (record handles { handles = [] })
   cleared_named = record {

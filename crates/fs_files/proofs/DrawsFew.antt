@@ -1,4 +1,4 @@
--- No request draws more than one inode, one cookie and one open number, and no reply names more than 32 files.
+-- No request allocates more than one inode, one cookie and one file handle, and no reply names more than 32 files.
 use Rattle.std.proofs.Common.{◌≡◌, ℕ, ◌+◌, ◌-◌, ◌*◌, ◌≤◌, ◌<◌, ◌^◌, Bool, true, false, cond, ◌||◌, List, [], ◌∷◌, length, Option, Some, None, nat_eq, T, arith, ap, refl}
 use Rattle.std.specs.Prelude.{count_by, min, nat_le}
 use Rattle.std.specs.List.{list_any}
@@ -22,18 +22,18 @@ use Rattle.fs_files.specs.Giving.{generations_after, has_node_already, new_among
 use Rattle.fs_files.specs.Performing.{said, body_reply, tree_said, tree_by}
 use Rattle.fs_files.proofs.FilesListed.{first_few}
 
--- what a request draws at most whose reply and whose tree are these
-pub record DrawsFew (tree new : Tree) (reply : Reply ℕ ℕ) : Type 0 where
+-- what a request allocates at most whose reply and whose tree are these
+pub record AllocatesFew (tree new : Tree) (reply : Reply ℕ ℕ) : Type 0 where
   pub inodes : new.next_inode ≤ tree.next_inode + 1
   pub cookies : new.next_cookie ≤ tree.next_cookie + 1
   pub files : length (files_in_reply reply) ≤ 32
   pub opens : length (opens_in_reply reply) ≤ 1
 
--- a reply that names no file and no open number, where the counters of the tree stay
-none_drawn : (tree new : Tree) (reply : Reply ℕ ℕ) → new.next_inode ≡ tree.next_inode
+-- a reply that names no file and no file handle, where the counters of the tree stay
+none_allocated : (tree new : Tree) (reply : Reply ℕ ℕ) → new.next_inode ≡ tree.next_inode
     → new.next_cookie ≡ tree.next_cookie → files_in_reply reply ≡ [] → opens_in_reply reply ≡ []
-    → DrawsFew tree new reply
-none_drawn tree new reply inodes cookies files opens =
+    → AllocatesFew tree new reply
+none_allocated tree new reply inodes cookies files opens =
     let no_files = ap (λ (xs : List ℕ). length xs) files in
     let no_opens = ap (λ (xs : List ℕ). length xs) opens in
     record {
@@ -43,15 +43,15 @@ none_drawn tree new reply inodes cookies files opens =
       opens = omega (arith, no_opens);
     }
 
-refused_few : (tree : Tree) (errno : ℕ) → DrawsFew tree tree (failed errno)
-refused_few tree errno = none_drawn tree tree (failed errno) refl refl refl refl
+refused_few : (tree : Tree) (errno : ℕ) → AllocatesFew tree tree (failed errno)
+refused_few tree errno = none_allocated tree tree (failed errno) refl refl refl refl
 
 -- ---- a list of names
 
-told_few : (ps : List (DirentPlus ℕ)) → length (files_listed ps) ≤ length ps
-told_few [] = omega arith
-told_few (p ∷ ps) =
-    let rest = told_few ps in
+listed_few : (ps : List (DirentPlus ℕ)) → length (files_listed ps) ≤ length ps
+listed_few [] = omega arith
+listed_few (p ∷ ps) =
+    let rest = listed_few ps in
     let first = first_few (listed_by p) (files_listed ps) in
     omega (arith, rest, first)
 
@@ -70,8 +70,8 @@ pairs_few room (p ∷ ps) = by (nat_le (pair_length p) room) refl (pairs_few (ro
 
 -- ---- operations
 
-looked_up_few : (v : Validity) (tree : Tree) (o : Option ℕ) → DrawsFew tree tree (lookup_reply v o)
-looked_up_few v tree None = none_drawn _ _ _ refl refl refl refl
+looked_up_few : (v : Validity) (tree : Tree) (o : Option ℕ) → AllocatesFew tree tree (lookup_reply v o)
+looked_up_few v tree None = none_allocated _ _ _ refl refl refl refl
 looked_up_few v tree (Some file) = record {
   inodes = omega arith;
   cookies = omega arith;
@@ -80,9 +80,9 @@ looked_up_few v tree (Some file) = record {
 }
 
 renamed_few : (v : Validity) (tree : Tree) (d : ℕ) (old : List ℕ) (e : ℕ) (new : List ℕ) (b : Bool) (o : Option ℕ)
-    → DrawsFew tree (cond b tree (renamed tree d old e new o)) done
-renamed_few v tree d old e new true o = none_drawn _ _ _ refl refl refl refl
-renamed_few v tree d old e new false None = none_drawn _ _ _ refl refl refl refl
+    → AllocatesFew tree (cond b tree (renamed tree d old e new o)) done
+renamed_few v tree d old e new true o = none_allocated _ _ _ refl refl refl refl
+renamed_few v tree d old e new false None = none_allocated _ _ _ refl refl refl refl
 renamed_few v tree d old e new false (Some file) = record {
   inodes = omega arith;
   cookies = omega arith;
@@ -91,13 +91,13 @@ renamed_few v tree d old e new false (Some file) = record {
 }
 
 unrefused_few : (v : Validity) (tree : Tree) (operation : FileOperation)
-    → DrawsFew tree (tree_unrefused tree operation) (reply_unrefused v tree operation)
+    → AllocatesFew tree (tree_unrefused tree operation) (reply_unrefused v tree operation)
 unrefused_few v tree (lookup d name) = looked_up_few v tree (file_at tree d name)
 unrefused_few v tree (rename d old e new) = renamed_few v tree d old e new
     (is_same (file_at tree d old) (file_at tree e new)) (file_at tree d old)
 unrefused_few v tree (readdirplus d after size) =
     let pairs = fitting_pairs (min size max_transfer) (pairs_after v.found_ms tree d after) in
-    let told = told_few pairs in
+    let told = listed_few pairs in
     let few = pairs_few (min size max_transfer) (pairs_after v.found_ms tree d after) in
     record {
       inodes = omega arith;
@@ -105,7 +105,7 @@ unrefused_few v tree (readdirplus d after size) =
       files = omega (arith, told, few);
       opens = omega arith;
     }
-unrefused_few v tree (getattr file) = none_drawn _ _ _ refl refl refl refl
+unrefused_few v tree (getattr file) = none_allocated _ _ _ refl refl refl refl
 unrefused_few v tree (mkdir d name) = record {
   inodes = omega arith;
   cookies = omega arith;
@@ -118,8 +118,8 @@ unrefused_few v tree (create d name) = record {
   files = omega arith;
   opens = omega arith;
 }
-unrefused_few v tree (unlink d name) = none_drawn _ _ _ refl refl refl refl
-unrefused_few v tree (rmdir d name) = none_drawn _ _ _ refl refl refl refl
+unrefused_few v tree (unlink d name) = none_allocated _ _ _ refl refl refl refl
+unrefused_few v tree (rmdir d name) = none_allocated _ _ _ refl refl refl refl
 unrefused_few v tree (link file d name) = record {
   inodes = omega arith;
   cookies = omega arith;
@@ -132,44 +132,44 @@ unrefused_few v tree (opening file) = record {
   files = omega arith;
   opens = omega arith;
 }
-unrefused_few v tree (readdir d after size) = none_drawn _ _ _ refl refl refl refl
-unrefused_few v tree (read file offset size) = none_drawn _ _ _ refl refl refl refl
-unrefused_few v tree (write file offset []) = none_drawn _ _ _ refl refl refl refl
-unrefused_few v tree (write file offset (b ∷ bytes)) = none_drawn _ _ _ refl refl refl refl
+unrefused_few v tree (readdir d after size) = none_allocated _ _ _ refl refl refl refl
+unrefused_few v tree (read file offset size) = none_allocated _ _ _ refl refl refl refl
+unrefused_few v tree (write file offset []) = none_allocated _ _ _ refl refl refl refl
+unrefused_few v tree (write file offset (b ∷ bytes)) = none_allocated _ _ _ refl refl refl refl
 
 operation_few : (v : Validity) (tree : Tree) (operation : FileOperation)
-    → DrawsFew tree (tree_after tree operation) (reply_by v tree operation)
+    → AllocatesFew tree (tree_after tree operation) (reply_by v tree operation)
 operation_few v tree operation = by (refusal tree operation)
   where
-    by : (o : Option ℕ) → DrawsFew tree (tree_or tree (tree_unrefused tree operation) o)
+    by : (o : Option ℕ) → AllocatesFew tree (tree_or tree (tree_unrefused tree operation) o)
         (reply_or (reply_unrefused v tree operation) o)
     by None = unrefused_few v tree operation
     by (Some errno) = refused_few tree errno
 
 -- ---- requests
 
-body_few : (s : Server) (body : RequestBody) → DrawsFew s.tree (tree_by s body) (body_reply s body)
+body_few : (s : Server) (body : RequestBody) → AllocatesFew s.tree (tree_by s body) (body_reply s body)
 body_few s (asks operation) = by (is_open_for s operation)
   where
-    by : (b : Bool) → DrawsFew s.tree (cond b (tree_after s.tree (file_operation_of s.nodes operation)) s.tree)
+    by : (b : Bool) → AllocatesFew s.tree (cond b (tree_after s.tree (file_operation_of s.nodes operation)) s.tree)
         (cond b (reply_by s.validity s.tree (file_operation_of s.nodes operation)) (failed ebadf))
     by true = operation_few s.validity s.tree (file_operation_of s.nodes operation)
     by false = refused_few s.tree ebadf
 body_few s (release o) = by (is_open s.handles o.fh (file_of s.nodes o.nodeid))
   where
-    by : (b : Bool) → DrawsFew s.tree s.tree (cond b done (failed ebadf))
-    by true = none_drawn s.tree s.tree done refl refl refl refl
+    by : (b : Bool) → AllocatesFew s.tree s.tree (cond b done (failed ebadf))
+    by true = none_allocated s.tree s.tree done refl refl refl refl
     by false = refused_few s.tree ebadf
-body_few s (init flags) = none_drawn _ _ _ refl refl refl refl
+body_few s (init flags) = none_allocated _ _ _ refl refl refl refl
 body_few s (forget f) = refused_few s.tree eio
 body_few s (batch_forget fs) = refused_few s.tree eio
 body_few s (interrupt original) = refused_few s.tree eio
 
 -- any held request
-pub draws_few : (s : Server) (h : HeldRequest) → DrawsFew s.tree (tree_said s h) (said s h)
-draws_few s h = by h.marked (is_still_held s.nodes h.generations)
+pub allocates_few : (s : Server) (h : HeldRequest) → AllocatesFew s.tree (tree_said s h) (said s h)
+allocates_few s h = by h.marked (is_still_held s.nodes h.generations)
   where
-    by : (m b : Bool) → DrawsFew s.tree (cond m s.tree (cond b (tree_by s h.body) s.tree))
+    by : (m b : Bool) → AllocatesFew s.tree (cond m s.tree (cond b (tree_by s h.body) s.tree))
         (cond m (failed eintr) (cond b (body_reply s h.body) (failed eio)))
     by true b = refused_few s.tree eintr
     by false true = body_few s h.body

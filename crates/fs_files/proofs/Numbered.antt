@@ -1,4 +1,4 @@
--- Nodes and open numbers are given to the files that a reply names.
+-- Nodes and file handles are given to the files that a reply names.
 use Rattle.std.proofs.Common.{◌≡◌, ℕ, refl, sym, ap, ◌∙◌}
 use Rattle.fuse_spec.specs.Server.Nodes.{NodeTable, HandleTable, handle_opened}
 use Rattle.fuse_spec.specs.Files.Operations as operation

@@ -8,7 +8,7 @@ use Rattle.fuse_spec.specs.Server.Performs.{entry_for}
 use Rattle.fuse_spec.specs.Files.Trees.{Tree}
 use Rattle.fuse_spec.specs.declared.Entry.{Entry}
 use Rattle.fs_nodes.specs.Sound.{IsSoundNodeTable}
-use Rattle.fuse_frames.specs.ReplyTies.{dirent_read, entry_told, pairs_told}
+use Rattle.fuse_frames.specs.ReplyTies.{dirent_read, entry_listed, direntpluses_of}
 use Rattle.fs_files.specs.Giving.{GivenEach, node_in}
 use Rattle.fs_files.specs.Listed.{dirents_in, listed_pairs, dirents_in_bytes, pair_listed}
 use Rattle.fs_files.specs.Numbering.{GivesNumbers, entries_named, entry_named}
@@ -18,17 +18,17 @@ use Rattle.fuse_frames.specs.declared.reply.Reply.TheVariants.{ListedPlus}
 use Rattle.fs_files.proofs.GivenEach.{all_each, may_each, no_zero}
 
 module _ (tree : Tree) (nodes : NodeTable) (sound : IsSoundNodeTable nodes) where
-  some_entry : (d : Dirent) → entry_told (entry_named tree nodes d) ≡ Some (entry_named tree nodes d)
+  some_entry : (d : Dirent) → entry_listed (entry_named tree nodes d) ≡ Some (entry_named tree nodes d)
   some_entry d = ap (λ (b : Bool). cond b None (Some (entry_named tree nodes d))) (no_zero nodes sound (d.ino - 1))
 
   -- the pairs that are sent
-  pub pairs_are : (ms : ℕ) (ds : List Dirent) → pairs_told ms (map (entry_named tree nodes) ds) ds
+  pub pairs_are : (ms : ℕ) (ds : List Dirent) → direntpluses_of ms (map (entry_named tree nodes) ds) ds
       ≡ map (pair_with (entry_for (node_in nodes.rows) nodes tree)) (map (pair_listed ms) ds)
   pairs_are ms [] = refl
   pairs_are ms (d ∷ ds) = λ i. record { file = some_entry d i; valid = ms; dirent = d } ∷ pairs_are ms ds i
 
   -- the entries of names that name a file
-  pub file_entries_are : (ms : ℕ) (ds : List Dirent) → files_listed (pairs_told ms (map (entry_named tree nodes) ds) ds)
+  pub file_entries_are : (ms : ℕ) (ds : List Dirent) → files_listed (direntpluses_of ms (map (entry_named tree nodes) ds) ds)
       ≡ files_listed (entries_named tree nodes ds)
   file_entries_are ms [] = refl
   file_entries_are ms (d ∷ ds) = λ i. first_listed (cond (is_dots d.name) None (some_entry d i))
@@ -58,7 +58,7 @@ gives_listed one two ms bytes listing given sound entries records valid tree han
       nodes_is = all_each two.nodes sound one.nodes files each;
       handles_is = handles;
       wire_is =
-          (λ i. operation.listed_plus (pairs_told (valid i) (entries i) (dirents_in_bytes (records i))))
+          (λ i. operation.listed_plus (direntpluses_of (valid i) (entries i) (dirents_in_bytes (records i))))
           ∙ ap (λ pairs. operation.listed_plus pairs) (pairs_are two.tree two.nodes sound ms names)
           ∙ ap (λ (t : Tree). operation.listed_plus (map (pair_with (entry_for (node_in two.nodes.rows) two.nodes t))
           (map (pair_listed ms) names))) tree;
@@ -84,4 +84,4 @@ module _ (tree : Tree) (nodes : NodeTable) (bytes view : List ℕ) (same : view 
       → file_entries ≡ files_listed (listed_pairs ms entries bytes)
   file_entries_so sound ms file_entries are_files =
       are_files ∙ sym (file_entries_are tree nodes sound ms (dirents_in_bytes view)) ∙
-      (λ i. files_listed (pairs_told ms (sym is_entries i) (dirents_in_bytes (same i))))
+      (λ i. files_listed (direntpluses_of ms (sym is_entries i) (dirents_in_bytes (same i))))

@@ -1,4 +1,4 @@
--- Performing a held request is answering it on the tree, and then giving nodes and open numbers to its files.
+-- Performing a held request is answering it on the tree, and then giving nodes and file handles to its files.
 use Rattle.std.proofs.Common.{◌≡◌, ℕ, Bool, true, false, cond, not, ◌||◌, List, [], refl, ap, ◌∙◌}
 use Rattle.fuse_spec.specs.declared.Opened.{Opened}
 use Rattle.fuse_spec.specs.Values.Maps.{Map}

@@ -1,4 +1,4 @@
--- Nodes stay of files of the tree, and open numbers of regular ones.
+-- Nodes stay of files of the tree, and file handles of regular ones.
 use Rattle.std.proofs.Common.{◌≡◌, ◌≢◌, ℕ, ◌<◌, ◌^◌, Bool, true, false, cond, not, nat_eq, List, [], ◌∷◌, Option, Some, None, Result, Ok, Err, refl, sym, ap, subst, ◌∙◌, arith, inl, inr}
 use Rattle.std.specs.Prelude.{IfOk, OnErr, IsSome, IsTrue, is_some}
 use Rattle.std.proofs.lemmas.Bool.{cases_eq}
@@ -8,7 +8,7 @@ use Rattle.fuse_spec.specs.declared.Entry.{Entry}
 use Rattle.fuse_spec.specs.declared.Kind.TheVariants.{Regular}
 use Rattle.fuse_spec.specs.declared.Validity.{Validity}
 use Rattle.fuse_spec.specs.Server.Copies.{row_back}
-use Rattle.fuse_spec.specs.Server.Nodes.{HeldNode, NodeTable, HandleTable, OpenNumber, given, taken_back, row_more, handle_back, handle_more, handle_opened, file_of, file_in, is_file_of, is_open, root_row}
+use Rattle.fuse_spec.specs.Server.Nodes.{HeldNode, NodeTable, HandleTable, FileHandle, given, taken_back, row_more, handle_back, handle_more, handle_opened, file_of, file_in, is_file_of, is_open, root_row}
 use Rattle.fuse_spec.specs.Server.Performs.{file_operation_of, is_open_for}
 use Rattle.fuse_spec.specs.Server.Server.{is_file_held}
 use Rattle.fuse_spec.specs.declared.Opened.{Opened}
@@ -26,17 +26,17 @@ use Rattle.fs_files.specs.Performing.{Operates}
 use Rattle.fs_files.specs.Values.{FilesState, server_of}
 use Rattle.fs_files.specs.declared.replies.Outcome.{Outcome}
 use Rattle.fs_files.proofs.DiscardingUnheld.{unheld, unopened}
-use Rattle.fs_files.proofs.Bounds.{back_each, given_each, more_each, number_more_each, opened_each, row_back_each, taken_each}
+use Rattle.fs_files.proofs.Bounds.{back_each, given_each, more_each, handle_more_each, opened_each, row_back_each, taken_each}
 
--- ---- nodes and open numbers
+-- ---- nodes and file handles
 
--- where no file has a node and none an open number
+-- where no file has a node and none a file handle
 pub nothing_known : (tree : Tree) (nodes : NodeTable) (handles : HandleTable) → nodes.rows ≡ [] → handles.handles ≡ []
     → AreKnown tree nodes handles
 nothing_known tree nodes handles none empty = record {
   low = λ id row is. absurd (none-some row (ap (λ (m : Map HeldNode). get m id) (sym none) ∙ is));
   there = λ id row is. absurd (none-some row (ap (λ (m : Map HeldNode). get m id) (sym none) ∙ is));
-  regular = λ fh h is. absurd (none-some h (ap (λ (m : Map OpenNumber). get m fh) (sym empty) ∙ is));
+  regular = λ fh h is. absurd (none-some h (ap (λ (m : Map FileHandle). get m fh) (sym empty) ∙ is));
 }
 
 module _ (tree : Tree) (nodes : NodeTable) (handles : HandleTable) (old : AreKnown tree nodes handles) where
@@ -72,18 +72,18 @@ module _ (tree : Tree) (nodes : NodeTable) (handles : HandleTable) (old : AreKno
     regular = old.regular;
   }
 
-  pub known_number_back : (fh : ℕ) → AreKnown tree nodes (handle_back handles fh)
-  known_number_back fh = record {
+  pub known_handle_back : (fh : ℕ) → AreKnown tree nodes (handle_back handles fh)
+  known_handle_back fh = record {
     low = old.low;
     there = old.there;
     regular = back_each (λ h. IsTrue (is_regular tree h.file)) handles fh (λ h is. is) old.regular;
   }
 
-  pub known_number_more : (fh : ℕ) → AreKnown tree nodes (handle_more handles fh)
-  known_number_more fh = record {
+  pub known_handle_more : (fh : ℕ) → AreKnown tree nodes (handle_more handles fh)
+  known_handle_more fh = record {
     low = old.low;
     there = old.there;
-    regular = number_more_each (λ h. IsTrue (is_regular tree h.file)) (λ h. IsTrue (is_regular tree h.file)) handles fh
+    regular = handle_more_each (λ h. IsTrue (is_regular tree h.file)) (λ h. IsTrue (is_regular tree h.file)) handles fh
         (λ h is. is) (λ h is. is) old.regular;
   }
 
@@ -134,12 +134,12 @@ pub put_regular : (tree : Tree) (file : ℕ) (bytes : List ℕ)
 put_regular tree file bytes = ap (λ (o : Option Content). is_kind_regular (kind_of o))
     (get_put_here tree.files file (a_file bytes))
 
--- what is written is regular, as open numbers are of regular files
+-- what is written is regular, as file handles are of regular files
 same_kind : (file : ℕ) (tree : Tree) (handles : HandleTable) → AreRegular tree handles → (fh : ℕ)
     → is_open handles fh file ≡ true → kind_of (get tree.files file) ≡ Regular
 same_kind file tree handles known fh is_opened = by (get handles.handles fh) refl is_opened
   where
-    by : (o : Option OpenNumber) → get handles.handles fh ≡ o → is_file_of file o ≡ true
+    by : (o : Option FileHandle) → get handles.handles fh ≡ o → is_file_of file o ≡ true
         → kind_of (get tree.files file) ≡ Regular
     by None e is = absurd (cc)
     by (Some h) e is = regular_kind (kind_of (get tree.files file))

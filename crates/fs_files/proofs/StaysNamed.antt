@@ -13,7 +13,7 @@ use Rattle.fuse_spec.specs.declared.Validity.{Validity}
 use Rattle.fuse_spec.specs.Server.Copies.{row_back, rows_counted, handles_counted}
 use Rattle.fuse_spec.specs.Files.FileOperations.{FileOperation, refusal, tree_or, tree_unrefused}
 use Rattle.fuse_spec.specs.Kernel.Messages.{RequestBody, init, asks, release, forget, batch_forget, interrupt}
-use Rattle.fuse_spec.specs.Server.Nodes.{HeldNode, NodeTable, IsUnheld, is_held, given, given_row, all_given, taken_back, rows_less, row_more, rows_more, OpenNumber, HandleTable, is_open, file_of, handle_opened, all_opened, handle_back, handles_less, handle_more, handles_more}
+use Rattle.fuse_spec.specs.Server.Nodes.{HeldNode, NodeTable, IsUnheld, is_held, given, given_row, all_given, taken_back, rows_less, row_more, rows_more, FileHandle, HandleTable, is_open, file_of, handle_opened, all_opened, handle_back, handles_less, handle_more, handles_more}
 use Rattle.fuse_spec.specs.Files.Operations.{Operation}
 use Rattle.fuse_spec.specs.Server.Performs.{file_operation_of, is_open_for, is_still_held}
 use Rattle.fuse_spec.specs.Server.Server.{HeldRequest}
@@ -125,79 +125,79 @@ module _ (t : NodeTable) (sorted : T (is_sorted nat_cmp t.rows)) where
       by None = sorted
       by (Some row) = of_row row (nat_lt n row.count)
 
--- ---- open numbers
+-- ---- file handles
 
-abbrev number_file : OpenNumber → ℕ
-number_file h = h.file
+abbrev handle_file : FileHandle → ℕ
+handle_file h = h.file
 
 module _ (t : HandleTable) (x : ℕ) where
   opened_lacks : (file : ℕ) → get t.handles t.next_fh ≡ None → IsUnopened (handle_opened t file) x → IsUnopened t x
-  opened_lacks file none lacks = put_new number_file x t.handles t.next_fh
+  opened_lacks file none lacks = put_new handle_file x t.handles t.next_fh
       (record { file = file; count = 1 }) none lacks
 
   again_lacks : (fh : ℕ) → IsUnopened (handle_more t fh) x → IsUnopened t x
   again_lacks fh lacks = by (get t.handles fh) refl lacks
     where
-      by : (o : Option OpenNumber) → get t.handles fh ≡ o → Lacks number_file x (handles_more t.handles fh o)
-          → Lacks number_file x t.handles
+      by : (o : Option FileHandle) → get t.handles fh ≡ o → Lacks handle_file x (handles_more t.handles fh o)
+          → Lacks handle_file x t.handles
       by None none l = l
-      by (Some h) at l = put_over number_file x t.handles fh (record h { count = h.count + 1 }) h at refl l
+      by (Some h) at l = put_over handle_file x t.handles fh (record h { count = h.count + 1 }) h at refl l
 
-  back_lacks : (fh : ℕ) → (option_map number_file (get t.handles fh) ≡ Some x → ⊥) → IsUnopened (handle_back t fh) x
+  back_lacks : (fh : ℕ) → (option_map handle_file (get t.handles fh) ≡ Some x → ⊥) → IsUnopened (handle_back t fh) x
       → IsUnopened t x
   back_lacks fh other lacks = by (get t.handles fh) refl lacks
     where
-      of_number : (h : OpenNumber) → get t.handles fh ≡ Some h → (b : Bool)
-          → Lacks number_file x (cond b (put t.handles fh (record h { count = h.count - 1 })) (remove t.handles fh))
-          → Lacks number_file x t.handles
-      of_number h at true l = put_over number_file x t.handles fh (record h { count = h.count - 1 }) h at refl l
-      of_number h at false l = gone_other number_file x t.handles fh h at
-          (λ e. other (ap (option_map number_file) at ∙ ap Some e)) l
+      of_handle : (h : FileHandle) → get t.handles fh ≡ Some h → (b : Bool)
+          → Lacks handle_file x (cond b (put t.handles fh (record h { count = h.count - 1 })) (remove t.handles fh))
+          → Lacks handle_file x t.handles
+      of_handle h at true l = put_over handle_file x t.handles fh (record h { count = h.count - 1 }) h at refl l
+      of_handle h at false l = gone_other handle_file x t.handles fh h at
+          (λ e. other (ap (option_map handle_file) at ∙ ap Some e)) l
 
-      by : (o : Option OpenNumber) → get t.handles fh ≡ o → Lacks number_file x (handles_less t.handles fh o)
-          → Lacks number_file x t.handles
+      by : (o : Option FileHandle) → get t.handles fh ≡ o → Lacks handle_file x (handles_less t.handles fh o)
+          → Lacks handle_file x t.handles
       by None none l = l
-      by (Some h) at l = of_number h at (nat_lt 1 h.count) l
+      by (Some h) at l = of_handle h at (nat_lt 1 h.count) l
 
 module _ (t : HandleTable) (sorted : T (is_sorted nat_cmp t.handles))
     (coming : (fh : ℕ) → t.next_fh ≤ fh → get t.handles fh ≡ None) where
   again_sorted : (fh : ℕ) → T (is_sorted nat_cmp (handle_more t fh).handles)
   again_sorted fh = by (get t.handles fh)
     where
-      by : (o : Option OpenNumber) → T (is_sorted nat_cmp (handles_more t.handles fh o))
+      by : (o : Option FileHandle) → T (is_sorted nat_cmp (handles_more t.handles fh o))
       by None = sorted
       by (Some h) = sorted_put t.handles fh (record h { count = h.count + 1 }) sorted
 
   again_coming : (fh q : ℕ) → t.next_fh ≤ q → get (handle_more t fh).handles q ≡ None
   again_coming fh q le = by (get t.handles fh) refl
     where
-      by : (o : Option OpenNumber) → get t.handles fh ≡ o → get (handles_more t.handles fh o) q ≡ None
+      by : (o : Option FileHandle) → get t.handles fh ≡ o → get (handles_more t.handles fh o) q ≡ None
       by None at = coming q le
       by (Some h) at = none_put t.handles fh q (coming q le) (record h { count = h.count + 1 }) h at
 
   back_sorted : (fh : ℕ) → T (is_sorted nat_cmp (handle_back t fh).handles)
   back_sorted fh = by (get t.handles fh)
     where
-      of_number : (h : OpenNumber) (b : Bool) → T (is_sorted nat_cmp
+      of_handle : (h : FileHandle) (b : Bool) → T (is_sorted nat_cmp
           (cond b (put t.handles fh (record h { count = h.count - 1 })) (remove t.handles fh)))
-      of_number h true = sorted_put t.handles fh (record h { count = h.count - 1 }) sorted
-      of_number h false = sorted_remove t.handles fh sorted
+      of_handle h true = sorted_put t.handles fh (record h { count = h.count - 1 }) sorted
+      of_handle h false = sorted_remove t.handles fh sorted
 
-      by : (o : Option OpenNumber) → T (is_sorted nat_cmp (handles_less t.handles fh o))
+      by : (o : Option FileHandle) → T (is_sorted nat_cmp (handles_less t.handles fh o))
       by None = sorted
-      by (Some h) = of_number h (nat_lt 1 h.count)
+      by (Some h) = of_handle h (nat_lt 1 h.count)
 
   back_coming : (fh q : ℕ) → t.next_fh ≤ q → get (handle_back t fh).handles q ≡ None
   back_coming fh q le = by (get t.handles fh) refl
     where
-      of_number : (h : OpenNumber) → get t.handles fh ≡ Some h → (b : Bool)
+      of_handle : (h : FileHandle) → get t.handles fh ≡ Some h → (b : Bool)
           → get (cond b (put t.handles fh (record h { count = h.count - 1 })) (remove t.handles fh)) q ≡ None
-      of_number h at true = none_put t.handles fh q (coming q le) (record h { count = h.count - 1 }) h at
-      of_number h at false = none_gone t.handles fh q (coming q le)
+      of_handle h at true = none_put t.handles fh q (coming q le) (record h { count = h.count - 1 }) h at
+      of_handle h at false = none_gone t.handles fh q (coming q le)
 
-      by : (o : Option OpenNumber) → get t.handles fh ≡ o → get (handles_less t.handles fh o) q ≡ None
+      by : (o : Option FileHandle) → get t.handles fh ≡ o → get (handles_less t.handles fh o) q ≡ None
       by None at = coming q le
-      by (Some h) at = of_number h at (nat_lt 1 h.count)
+      by (Some h) at = of_handle h at (nat_lt 1 h.count)
 
 -- ---- holders that come
 
@@ -295,9 +295,9 @@ module _ (tree : Tree) (nodes : NodeTable) (handles : HandleTable) (old : AreNam
       by true = named_less g.nodeid 1
       by false = named_but (option_map row_file (get nodes.rows g.nodeid))
 
-  pub named_number_back : (fh : ℕ) → AreNamedBut (option_map number_file (get handles.handles fh)) tree nodes
+  pub named_handle_back : (fh : ℕ) → AreNamedBut (option_map handle_file (get handles.handles fh)) tree nodes
       (handle_back handles fh)
-  named_number_back fh = record {
+  named_handle_back fh = record {
     rows = old.rows;
     opens = back_sorted handles old.opens old.coming fh;
     coming = back_coming handles old.opens old.coming fh;
@@ -338,10 +338,10 @@ module _ (files : FilesState) (v : Validity) (m : Minor) (known : AreKnown files
   of_asked o false opened = unchanged (unlinked_by files.tree (file_operation_of files.nodes o))
 
   of_release : (o : Opened) (b : Bool) → AreNamedBut
-      (option_map number_file (get files.handles.handles o.fh)) files.tree files.nodes
+      (option_map handle_file (get files.handles.handles o.fh)) files.tree files.nodes
       (cond b (handle_back files.handles o.fh) files.handles)
-  of_release o true = named_number_back files.tree files.nodes files.handles old o.fh
-  of_release o false = unchanged (option_map number_file (get files.handles.handles o.fh))
+  of_release o true = named_handle_back files.tree files.nodes files.handles old o.fh
+  of_release o false = unchanged (option_map handle_file (get files.handles.handles o.fh))
 
   of_body : (body : RequestBody) → AreNamedBut (unlinked_or_released (server_at m files v) body)
       (tree_by (server_at m files v) body) files.nodes (handles_by (server_at m files v) body)

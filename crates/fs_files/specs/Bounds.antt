@@ -1,10 +1,10 @@
--- How far counts and inodes go, and what is known of the files that have nodes and open numbers.
+-- How far counts and inodes go, and what is known of the files that have nodes and file handles.
 use Rattle.std.specs.Prelude.{◌≡◌, ◌≢◌, ◌<◌, ◌≤◌, ℕ, false, Option, None, Some, IsSome, IsTrue, T}
 use Rattle.std.specs.FinMap.{is_sorted}
 use Rattle.std.specs.Ordering.{nat_cmp}
 use Rattle.fuse_spec.specs.Values.Maps.{get}
 use Rattle.fuse_spec.specs.Files.Trees.{Tree, is_nameless, kind_of}
-use Rattle.fuse_spec.specs.Server.Nodes.{NodeTable, HeldNode, HandleTable, IsUnheld, OpenNumber}
+use Rattle.fuse_spec.specs.Server.Nodes.{NodeTable, HeldNode, HandleTable, IsUnheld, FileHandle}
 use Rattle.fuse_spec.specs.Values.Numbers.{counter_end}
 use Rattle.fs_tree.specs.Outcomes.{is_regular}
 
@@ -16,9 +16,9 @@ HaveCountsUpTo most nodes = (id : ℕ) (row : HeldNode) → get nodes.rows id �
 abbrev pub AreHeldBelow : NodeTable → Type 0
 AreHeldBelow nodes = (id : ℕ) (row : HeldNode) → get nodes.rows id ≡ Some row → row.count < counter_end
 
--- no open number has more uses than this
+-- no file handle has more uses than this
 abbrev pub AreUsed : ℕ → HandleTable → Type 0
-AreUsed most handles = (fh : ℕ) (handle : OpenNumber) → get handles.handles fh ≡ Some handle → handle.count ≤ most
+AreUsed most handles = (fh : ℕ) (handle : FileHandle) → get handles.handles fh ≡ Some handle → handle.count ≤ most
 
 -- every node's file is below the end of inodes
 abbrev pub AreLow : NodeTable → Type 0
@@ -32,23 +32,23 @@ IsThere tree file = IsSome (get tree.files file)
 abbrev pub AreThere : Tree → NodeTable → Type 0
 AreThere tree nodes = (id : ℕ) (row : HeldNode) → get nodes.rows id ≡ Some row → IsThere tree row.file
 
--- every open number's file is regular
+-- every file handle's file is regular
 abbrev pub AreRegular : Tree → HandleTable → Type 0
-AreRegular tree handles = (fh : ℕ) (handle : OpenNumber) → get handles.handles fh ≡ Some handle
+AreRegular tree handles = (fh : ℕ) (handle : FileHandle) → get handles.handles fh ≡ Some handle
     → IsTrue (is_regular tree handle.file)
 
--- Nodes are of files of the tree, and open numbers of regular ones.
+-- Nodes are of files of the tree, and file handles of regular ones.
 pub record AreKnown (tree : Tree) (nodes : NodeTable) (handles : HandleTable) : Type 0 where
   pub low : AreLow nodes
   pub there : AreThere tree nodes
   pub regular : AreRegular tree handles
 
--- no open number is of the file
+-- no file handle is of the file
 abbrev pub IsUnopened : HandleTable → ℕ → Type 0
-IsUnopened handles file = (fh : ℕ) (handle : OpenNumber) → get handles.handles fh ≡ Some handle → handle.file ≢ file
+IsUnopened handles file = (fh : ℕ) (handle : FileHandle) → get handles.handles fh ≡ Some handle → handle.file ≢ file
 
--- Each file of the tree that has no node and no open number has a name, but for one that is still to be looked at.
--- Nodes and open numbers are in rising key, and none is in use from the next number on.
+-- Each file of the tree that has no node and no file handle has a name, but for one that is still to be looked at.
+-- Nodes and file handles are in rising key, and none is in use from the next number on.
 pub record AreNamedBut (but : Option ℕ) (tree : Tree) (nodes : NodeTable) (handles : HandleTable) : Type 0 where
   pub rows : T (is_sorted nat_cmp nodes.rows)
   pub opens : T (is_sorted nat_cmp handles.handles)
@@ -56,7 +56,7 @@ pub record AreNamedBut (but : Option ℕ) (tree : Tree) (nodes : NodeTable) (han
   pub named : (file : ℕ) → (but ≡ Some file → ⊥) → IsThere tree file → IsUnheld nodes file → IsUnopened handles file
       → is_nameless tree file ≡ false
 
--- Each file of the tree that has no node and no open number has a name.
+-- Each file of the tree that has no node and no file handle has a name.
 abbrev pub AreNamed : Tree → NodeTable → HandleTable → Type 0
 AreNamed tree nodes handles = AreNamedBut None tree nodes handles
 

@@ -1,4 +1,4 @@
--- How nodes and open numbers are given to the files that a reply names.
+-- How nodes and file handles are given to the files that a reply names.
 use Rattle.std.specs.Prelude.{◌≡◌, ℕ, ◌-◌, List, Some, map}
 use Rattle.fuse_spec.specs.Files.Operations.{Dirent, DirentPlus, Reply, files_in_reply, opens_in_reply}
 use Rattle.fuse_spec.specs.Server.Nodes.{NodeTable, MayName, MayChoose, all_given, all_opened, given}
@@ -24,7 +24,7 @@ entry_named tree nodes d = entry_for (node_in nodes.rows) nodes tree (d.ino - 1)
 abbrev pub entries_named : Tree → NodeTable → List Dirent → List (DirentPlus Entry)
 entries_named tree nodes ds = map (λ d. record { file = Some (entry_named tree nodes d); valid = 0; dirent = d }) ds
 
--- The files of this reply are given nodes and open numbers, and this is sent.
+-- The files of this reply are given nodes and file handles, and this is sent.
 pub record GivesNumbers {A : Type 0} (old : FilesState) (reply : Reply ℕ ℕ) (sent : SentReply A)
     (new : FilesState) : Type 0 where
   pub choice : ℕ → ℕ

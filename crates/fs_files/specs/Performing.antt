@@ -1,4 +1,4 @@
--- What performing a held request results in, before nodes and open numbers are given.
+-- What performing a held request results in, before nodes and file handles are given.
 use Rattle.std.specs.Prelude.{◌≡◌, ◌≤◌, ℕ, Option, None, cond, option_map}
 use Rattle.std.specs.Int.RustNames.{bit_and}
 use Rattle.fuse_spec.specs.declared.Validity.{Validity}
@@ -8,7 +8,7 @@ use Rattle.fuse_spec.specs.Files.Operations.{Reply, agreed, done, failed, files_
 use Rattle.fuse_spec.specs.Files.Trees.{Tree}
 use Rattle.fuse_spec.specs.Files.FileOperations.{FileOperation, reply_by, reply_unrefused, tree_after, tree_unrefused}
 use Rattle.fuse_spec.specs.Kernel.Messages.{RequestBody, init, asks, release, forget, batch_forget, interrupt}
-use Rattle.fuse_spec.specs.Server.Nodes.{HandleTable, OpenNumber, file_of, is_open, handle_back, all_given, all_opened}
+use Rattle.fuse_spec.specs.Server.Nodes.{HandleTable, FileHandle, file_of, is_open, handle_back, all_given, all_opened}
 use Rattle.fuse_spec.specs.Server.Server.{Server, HeldRequest}
 use Rattle.fuse_spec.specs.Server.Performs.{PerformResult, flags_known, minor_number, file_operation_of, is_open_for, is_still_held, wire_of}
 use Rattle.fs_tree.specs.Outcomes.{unlinked_by}
@@ -36,7 +36,7 @@ tree_by s (forget f) = s.tree
 tree_by s (batch_forget fs) = s.tree
 tree_by s (interrupt original) = s.tree
 
--- the open numbers after it, before one is given
+-- the file handles after it, before one is given
 abbrev pub handles_by : Server → RequestBody → HandleTable
 handles_by s (release o) = cond (is_open s.handles o.fh (file_of s.nodes o.nodeid))
     (handle_back s.handles o.fh) s.handles
@@ -46,7 +46,7 @@ handles_by s (forget f) = s.handles
 handles_by s (batch_forget fs) = s.handles
 handles_by s (interrupt original) = s.handles
 
--- The same of any held request: EINTR of a marked one, and EIO of one whose node is gone.
+-- The reply to any held request: EINTR to a marked one, and EIO to one whose node is gone.
 abbrev pub said : Server → HeldRequest → Reply ℕ ℕ
 said s held = cond held.marked (failed eintr) (cond (is_still_held s.nodes held.generations) (body_reply s held.body)
     (failed eio))
@@ -58,16 +58,16 @@ abbrev pub handles_said : Server → HeldRequest → HandleTable
 handles_said s held = cond held.marked s.handles
     (cond (is_still_held s.nodes held.generations) (handles_by s held.body) s.handles)
 
--- the file that a request takes a name for good or an open number from, if it is performed
+-- the file from which a request takes a name for good or a file handle, if it is performed
 abbrev pub unlinked_or_released : Server → RequestBody → Option ℕ
 unlinked_or_released s (asks operation) = unlinked_by s.tree (file_operation_of s.nodes operation)
-unlinked_or_released s (release o) = option_map (λ (h : OpenNumber). h.file) (get s.handles.handles o.fh)
+unlinked_or_released s (release o) = option_map (λ (h : FileHandle). h.file) (get s.handles.handles o.fh)
 unlinked_or_released s (init flags) = None
 unlinked_or_released s (forget f) = None
 unlinked_or_released s (batch_forget fs) = None
 unlinked_or_released s (interrupt original) = None
 
--- The files that this reply names are given nodes and open numbers, by which the reply that is sent names them.
+-- The files that this reply names are given nodes and file handles, by which the reply that is sent names them.
 abbrev pub numbering : (ℕ → ℕ) → Server → Reply ℕ ℕ → PerformResult
 numbering choice s reply =
     record {

@@ -13,7 +13,7 @@ use Rattle.fuse_frames.specs.declared.reply.Reply.{Reply as FrameReply}
 use Rattle.fuse_frames.specs.declared.reply.Reply.TheVariants as said
 use Rattle.fs_files.specs.Listed.{AreRecordBytes, listed_pairs, dirents_in_bytes, pair_listed}
 use Rattle.fs_files.specs.declared.listed_names.ListedNames.{ListedNames}
-use Rattle.fs_files.specs.declared.spare.ReplySpare.{ReplySpare}
+use Rattle.fs_files.specs.declared.spare.ListingBuffers.{ListingBuffers}
 use Rattle.fs_files.specs.declared.replies.Outcome.{Outcome}
 use Rattle.fs_files.specs.declared.replies.Outcome.TheVariants as outcome
 
@@ -26,8 +26,8 @@ abbrev pub SentReply : Type 0 → Type 0
 SentReply A = FrameReply Entry (Vec ℕ A) (ListedNames A) (Vec ℕ A)
 
 module _ {A : Type 0} where
-  -- Room for so many bytes, and so many names' entries.
-  pub record HasSpare (spare : ReplySpare A) (len names : ℕ) : Type 0 where
+  -- Room for this many bytes, and this many names' entries.
+  pub record HasSpare (spare : ListingBuffers A) (len names : ℕ) : Type 0 where
     pub no_bytes : spare.bytes.items ≡ []
     pub no_entries : spare.entries.items ≡ []
     pub no_file_entries : spare.file_entries.items ≡ []
@@ -52,7 +52,7 @@ module _ {A : Type 0} where
   sent_names (said.ListedPlus names) = length names.entries.items
   sent_names reply = 0
 
-  -- the open number that it carries
+  -- the file handle that it carries
   abbrev pub opened_in : SentReply A → Option ℕ
   opened_in (said.Created entry valid fh) = Some fh
   opened_in (said.Opened fh) = Some fh
@@ -68,7 +68,7 @@ module _ {A : Type 0} where
   IsSendable (said.Failed errno) = (1 ≤ errno) × (errno ≤ 511)
   IsSendable reply = Unit {0}
 
-  -- A reply that names no file and no open number.
+  -- A reply that names no file and no file handle.
   abbrev pub NamesNoFile : SentReply A → Type 0
   NamesNoFile (said.Entry entry valid) = ⊥
   NamesNoFile (said.Created entry valid fh) = ⊥

@@ -29,7 +29,7 @@ HeldOperation A = Asked (Vec ℕ A)
 abbrev pub no_nodes : NodeTable
 no_nodes = record { rows = []; next_generation = 1 }
 
--- no open number is given
+-- no file handle is given
 abbrev pub no_handles : HandleTable
 no_handles = record { handles = []; next_fh = 1 }
 
@@ -38,7 +38,7 @@ pub record HeldNodes : Type 0 where
   pub table : NodeTable
   pub room : ℕ
 
--- the held nodes and the open numbers, and how many more of each can be given with no memory
+-- the held nodes and the file handles, and how many more of each can be given with no memory
 pub record KnownState : Type 0 where
   pub nodes : NodeTable
   pub handles : HandleTable

@@ -101,7 +101,7 @@ impl<S: NodeStore> Files<S> {
         )
     }
 
-    /// Whether the open number that a READ or WRITE names is one of its node's file.
+    /// Whether the file handle that a READ or WRITE names is one of its node's file.
     pub(crate) fn is_open_for(&self, operation: &HeldOperation<S::Heap>) -> bool
         ensures { (v : ValidityValue) → result ≡ is_open_for (server_of self.now v) (held_operation_of operation.now) }
     {
@@ -113,7 +113,7 @@ impl<S: NodeStore> Files<S> {
         }
     }
 
-    /// Whether an open number is one of its node's file.
+    /// Whether a file handle is one of its node's file.
     pub(crate) fn is_open(&self, opened: Opened) -> bool
         ensures { result ≡ is_open self.now.handles opened.fh (file_of self.now.nodes opened.nodeid) }
     {

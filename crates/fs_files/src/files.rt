@@ -3,7 +3,7 @@
 ghost use Rattle.std.specs.Prelude.{◌≡◌, ◌≤◌, ◌<◌, ◌+◌, ◌^◌, [], nat_lt, false, OnOk, IfOk, IfSome, IfNone, None, is_some, option_map, Some};
 ghost use Rattle.fuse_spec.specs.Values.Maps.{get};
 ghost use Rattle.fuse_spec.specs.declared.Validity.{Validity as ValidityValue};
-ghost use Rattle.fuse_spec.specs.Server.Nodes.{handle_back, handle_more, is_held, row_more, taken_back, OpenNumber};
+ghost use Rattle.fuse_spec.specs.Server.Nodes.{handle_back, handle_more, is_held, row_more, taken_back, FileHandle};
 ghost use Rattle.fuse_spec.specs.Server.Copies.{row_back};
 ghost use Rattle.fuse_spec.specs.Server.Server.{count_in, is_file_held};
 ghost use Rattle.fuse_spec.specs.Values.Numbers.{counter_end};
@@ -21,8 +21,8 @@ use fuse_spec::Entry;
 use std::alloc::AllocError;
 use std::marker::Model;
 
-/// The files that are served: the tree, and the nodes and open numbers by which the kernel knows its files. Contracts
-/// see beside these how many more nodes and open numbers can be given with no memory.
+/// The files that are served: the tree, and the nodes and file handles by which the kernel knows its files. Contracts
+/// see beside these how many more nodes and file handles can be given with no memory.
 #[derive(Drop)]
 pub struct Files<S: NodeStore> {
     pub(crate) alloc: S::Heap,
@@ -70,7 +70,7 @@ impl<S: NodeStore> Files<S> {
         })
     }
 
-    /// Makes room for the nodes and the open number that one more reply gives.
+    /// Makes room for the nodes and the file handle that one more reply gives.
     ///
     /// # Errors
     ///
@@ -113,34 +113,34 @@ impl<S: NodeStore> Files<S> {
         &self.known.nodes
     }
 
-    /// Whether an open number is in use.
-    pub fn has_number(&self, fh: u64) -> bool
+    /// Whether a file handle is in use.
+    pub fn has_handle(&self, fh: u64) -> bool
         ensures { result ≡ is_some (get self.now.handles.handles fh) }
     {
         self.known.handles.file_of(fh).is_some()
     }
 
-    /// Gives so many lookups of a node back, if it is held; it has as many.
-    pub fn take_back(&mut self, id: u64, count: u64)
+    /// Forgets this many lookups of a node, if it is held; it has as many.
+    pub fn forget(&mut self, id: u64, count: u64)
         requires { count ≤ count_in (get self.old.nodes.rows id) }
         ensures tree { self.new.tree ≡ self.old.tree }
         ensures nodes { self.new.nodes ≡ taken_back self.old.nodes id count }
         ensures handles { self.new.handles ≡ self.old.handles }
     {
-        self.known.nodes.take_back(id, count);
+        self.known.nodes.forget(id, count);
     }
 
-    /// Gives the lookup of an entry back, where its node is still held under the entry's generation.
-    pub fn give_back(&mut self, entry: &Entry)
+    /// Takes back the lookup of an entry, where its node is still held under the entry's generation.
+    pub fn uncount(&mut self, entry: &Entry)
         ensures tree { self.new.tree ≡ self.old.tree }
         ensures nodes { self.new.nodes ≡ row_back self.old.nodes entry.now }
         ensures handles { self.new.handles ≡ self.old.handles }
     {
-        self.known.nodes.give_back(entry);
+        self.known.nodes.uncount(entry);
     }
 
-    /// Gives one use of an open number back, if it is in use.
-    pub fn give_number_back(&mut self, fh: u64)
+    /// Takes back one use of a file handle, if it is in use.
+    pub fn uncount_handle(&mut self, fh: u64)
         ensures tree { self.new.tree ≡ self.old.tree }
         ensures nodes { self.new.nodes ≡ self.old.nodes }
         ensures handles { self.new.handles ≡ handle_back self.old.handles fh }
@@ -158,8 +158,8 @@ impl<S: NodeStore> Files<S> {
         self.known.nodes.count_again(id);
     }
 
-    /// Counts one use more of an open number, if it is in use.
-    pub fn count_number_again(&mut self, fh: u64)
+    /// Counts one use more of a file handle, if it is in use.
+    pub fn count_handle_again(&mut self, fh: u64)
         requires { AreUsed counter_end self.old.handles }
         ensures tree { self.new.tree ≡ self.old.tree }
         ensures nodes { self.new.nodes ≡ self.old.nodes }
@@ -168,9 +168,9 @@ impl<S: NodeStore> Files<S> {
         self.known.handles.again(fh);
     }
 
-    /// The file of an open number, if that is in use.
-    pub fn number_file(&self, fh: u64) -> Option<u64>
-        ensures { result ≡ option_map (λ (handle : OpenNumber). handle.file) (get self.now.handles.handles fh) }
+    /// The file of a file handle, if that is in use.
+    pub fn handle_file(&self, fh: u64) -> Option<u64>
+        ensures { result ≡ option_map (λ (handle : FileHandle). handle.file) (get self.now.handles.handles fh) }
     {
         self.known.handles.file_of(fh)
     }
@@ -195,7 +195,7 @@ impl<S: NodeStore> Files<S> {
         self.tree.discard(file);
     }
 
-    /// Drops all nodes and open numbers, and takes all nameless files out of the tree. Counters go on.
+    /// Drops all nodes and file handles, and takes all nameless files out of the tree. Counters go on.
     pub fn clear(&mut self)
         ensures tree { (v : ValidityValue) → self.new.tree
             ≡ without_unheld (is_file_held (server_of self.new v)) self.old.tree }

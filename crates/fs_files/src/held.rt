@@ -39,7 +39,7 @@ pub enum HeldBody<A: Allocator> {
     Init { flags: InitFlags },
     /// An operation.
     Asks { operation: HeldOperation<A> },
-    /// RELEASE of an open number.
+    /// RELEASE of a file handle.
     Release { opened: Opened },
 }
 

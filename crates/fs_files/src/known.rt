@@ -1,9 +1,9 @@
-//! By what the kernel identifies files: nodes and open numbers.
+//! By what the kernel identifies files: nodes and file handles.
 
 ghost use Rattle.std.specs.Prelude.{◌≡◌, ◌≤◌, ◌<◌, ◌+◌, ◌^◌, ◌||◌, [], OnOk, nat_eq};
 ghost use Rattle.std.specs.List.{list_any};
 ghost use Rattle.fuse_spec.specs.Values.Maps.{values};
-ghost use Rattle.fuse_spec.specs.Server.Nodes.{HeldNode, OpenNumber};
+ghost use Rattle.fuse_spec.specs.Server.Nodes.{HeldNode, FileHandle};
 ghost use Rattle.fs_files.specs.Values.{no_nodes, no_handles};
 
 use crate::nodes::Nodes;
@@ -12,7 +12,7 @@ use fs_nodes::NodeStore;
 use std::alloc::AllocError;
 use std::marker::Model;
 
-/// The nodes and the open numbers by which files are known.
+/// The nodes and the file handles by which files are known.
 #[derive(Drop)]
 pub(crate) struct KnownFiles<S: NodeStore> {
     pub(crate) nodes: Nodes<S>,
@@ -46,7 +46,7 @@ impl<S: NodeStore> KnownFiles<S> {
         }
     }
 
-    /// Makes room for as many more nodes as one reply gives at most, and for one more open number.
+    /// Makes room for as many more nodes as one reply gives at most, and for one more file handle.
     pub(crate) fn reserve(&mut self) -> Result<(), AllocError>
         ensures nodes { self.new.nodes ≡ self.old.nodes }
         ensures handles { self.new.handles ≡ self.old.handles }
@@ -57,7 +57,7 @@ impl<S: NodeStore> KnownFiles<S> {
         self.handles.reserve()
     }
 
-    /// Drops all nodes and open numbers. Their counters go on.
+    /// Drops all nodes and file handles. Their counters go on.
     pub(crate) fn clear(&mut self)
         ensures nodes { self.new.nodes ≡ record self.old.nodes { rows = [] } }
         ensures handles { self.new.handles ≡ record self.old.handles { handles = [] } }
@@ -66,10 +66,10 @@ impl<S: NodeStore> KnownFiles<S> {
         self.handles.clear();
     }
 
-    /// Whether a file has a node or an open number.
+    /// Whether a file has a node or a file handle.
     pub(crate) fn holds(&self, file: u64) -> bool
         ensures { result ≡ (list_any (λ (row : HeldNode). nat_eq row.file file) (values self.now.nodes.rows)
-            || list_any (λ (h : OpenNumber). nat_eq h.file file) (values self.now.handles.handles)) }
+            || list_any (λ (h : FileHandle). nat_eq h.file file) (values self.now.handles.handles)) }
     {
         let has_node = self.nodes.has(file);
         let is_open = self.handles.has(file);

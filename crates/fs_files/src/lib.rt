@@ -1,4 +1,4 @@
-//! The files that a server serves: a tree, and the nodes and open numbers by which requests name its files. Held
+//! The files that a server serves: a tree, and the nodes and file handles by which requests name its files. Held
 //! requests are performed on them.
 #![tactic(auto)]
 
@@ -24,4 +24,4 @@ pub use nodes::Nodes;
 pub use replies::{
     Outcome, SentReply, body_len, copied, errno, file_entries, framed, name_count, opened,
 };
-pub use spare::ReplySpare;
+pub use spare::ListingBuffers;

@@ -240,7 +240,7 @@ impl<S: NodeStore> Nodes<S> {
         false
     }
 
-    /// Whether the lookups of a file's node reach the end of counters once it is given so many times more.
+    /// Whether the lookups of a file's node reach the end of counters once it is given this many times more.
     fn is_counted_out(&self, file: u64, more: usize) -> bool
         requires { AreHeldBelow self.now.table }
         ensures out { result ≡ true → (files : List ℕ) → more ≡ count_by (nat_eq file) files
@@ -294,16 +294,16 @@ impl<S: NodeStore> Nodes<S> {
         self.store.give(file);
     }
 
-    /// Gives so many lookups of a node back, if it is held; it has as many.
-    pub fn take_back(&mut self, id: u64, count: u64)
+    /// Forgets this many lookups of a node, if it is held; it has as many.
+    pub fn forget(&mut self, id: u64, count: u64)
         requires { count ≤ count_in (get self.old.table.rows id) }
         ensures { self.new.table ≡ taken_back self.old.table id count }
     {
         let _ = self.store.take_back(id, count);
     }
 
-    /// Gives the lookup of an entry back, where its node is still held under the entry's generation.
-    pub fn give_back(&mut self, entry: &Entry)
+    /// Takes back the lookup of an entry, where its node is still held under the entry's generation.
+    pub fn uncount(&mut self, entry: &Entry)
         ensures { self.new.table ≡ row_back self.old.table entry.now }
     {
         self.store.lemma_sound();

@@ -1,4 +1,4 @@
-//! Nodes and open numbers are given to the files that a reply names.
+//! Nodes and file handles are given to the files that a reply names.
 
 ghost use Rattle.std.specs.Prelude.{◌≡◌, ◌≢◌, ◌<◌, ◌≤◌, ◌+◌, ◌*◌, ◌^◌, ◌++◌, [], ℕ, All, IsTrue, List, None, Some, cond, length, map, vec_capacity};
 ghost use Rattle.fuse_spec.specs.Server.Nodes.{IsUnheld, handle_opened};
@@ -17,7 +17,7 @@ ghost use Rattle.fs_files.specs.Numbering.{GivesEntry, GivesNumbers, entries_nam
 use crate::files::Files;
 use crate::listed_names::ListedNames;
 use crate::replies::{Outcome, SentReply};
-use crate::spare::ReplySpare;
+use crate::spare::ListingBuffers;
 use fk_wire::Records;
 use fs_nodes::NodeStore;
 use fuse_frames::Reply;
@@ -25,14 +25,14 @@ use fuse_spec::{Entry, is_dots};
 use std::alloc::Allocator;
 
 impl<S: NodeStore> Files<S> {
-    /// Gives the files of an outcome their nodes, a new open number, or both, and names them so in what is sent. Each
+    /// Gives the files of an outcome their nodes, a new file handle, or both, and names them so in what is sent. Each
     /// node is counted once. No memory is taken.
     #[inline(always)]
     pub fn give_numbers(
         &mut self,
         outcome: Outcome<S::Heap>,
         found_ms: u64,
-        spare: ReplySpare<S::Heap>,
+        spare: ListingBuffers<S::Heap>,
     ) -> SentReply<S::Heap>
         requires node_room { 32 ≤ self.old.node_room }
         requires open_room { 0 < self.old.open_room }
@@ -78,7 +78,7 @@ impl<S: NodeStore> Files<S> {
         &mut self,
         records: Vec<u8, S::Heap>,
         found_ms: u64,
-        spare: ReplySpare<S::Heap>,
+        spare: ListingBuffers<S::Heap>,
     ) -> ListedNames<S::Heap>
         requires listable { AreRecordBytes records.items
             × (128 * length (dirents_in_bytes records.items) + length records.items ≤ max_transfer)
@@ -130,7 +130,7 @@ impl<S: NodeStore> Files<S> {
         self.lemma_sound();
     }
 
-    /// Counts a lookup of each file that these records list.
+    /// Counts a lookup of the file of each record, one after another.
     fn give_records(&mut self, records: Records<'_>)
         requires listable { All (IsListable self.old.tree) (listed_in records) }
         requires few { length (listed_in records) ≤ 32 }
@@ -232,7 +232,7 @@ impl<S: NodeStore> Files<S> {
         }
     }
 
-    /// Gives a file the next open number.
+    /// Gives a file the next file handle.
     fn open(&mut self, file: u64) -> u64
         requires room { 0 < self.old.open_room }
         requires number { self.old.handles.next_fh < counter_end }

@@ -1,4 +1,4 @@
-//! Whether the counters have the numbers that a held request draws.
+//! Numbers that a held request needs: inodes, cookies, file handles, generations, counts.
 
 ghost use Rattle.std.specs.Prelude.{◌≡◌, ◌≤◌, ◌<◌, ◌+◌, ◌⊎◌, ℕ, List, true, false, length, nat_le};
 ghost use Rattle.fuse_spec.specs.Kernel.Messages.{asks};
@@ -9,18 +9,18 @@ ghost use Rattle.fuse_spec.specs.declared.Validity.{Validity as ValidityValue};
 ghost use Rattle.fs_files.specs.Bounds.{AreHeldBelow};
 ghost use Rattle.fs_files.specs.Giving.{generations_after};
 ghost use Rattle.fs_files.specs.Performing.{said, body_reply, tree_by, tree_said};
-ghost use Rattle.fs_files.specs.Plans.{DrawsNumbers, HasNumbers, LacksNumber};
+ghost use Rattle.fs_files.specs.Plans.{AllocatesNumbers, HasNumbers, LacksNumber};
 ghost use Rattle.fs_files.specs.Values.{held_operation_of, server_at};
 
 use crate::answering::are_held;
 use crate::files::Files;
 use crate::held::{HeldBody, HeldOperation, HeldRequest};
-use crate::plan::{Plan, no_numbers, plan_of};
+use crate::plan::{Needs, needs_of, no_numbers};
 use fs_nodes::NodeStore;
 
 impl<S: NodeStore> Files<S> {
-    /// Whether the counters have the numbers that performing a held request draws. Where its reply is lost it draws
-    /// only those of the tree.
+    /// Whether the counters have the numbers that performing a held request allocates. Where its reply is lost it
+    /// allocates only those of the tree.
     #[inline(always)]
     pub fn has_numbers(&self, held: &HeldRequest<S::Heap>, is_lost: bool) -> bool
         requires { AreHeldBelow self.now.nodes }
@@ -34,7 +34,7 @@ impl<S: NodeStore> Files<S> {
         self.has_numbers_for_any() || self.has_numbers_planned(held, is_lost)
     }
 
-    /// The same, by what performing the request draws.
+    /// As `has_numbers`, by what performing the request allocates.
     fn has_numbers_planned(&self, held: &HeldRequest<S::Heap>, is_lost: bool) -> bool
         requires { AreHeldBelow self.now.nodes }
         ensures has { (v : ValidityValue) (m : MinorValue) → result ≡ true
@@ -44,13 +44,13 @@ impl<S: NodeStore> Files<S> {
             → LacksNumber (tree_said (server_at m self.now v) held.now) self.now.nodes self.now.handles is_lost
             (said (server_at m self.now v) held.now) }
     {
-        let plan = self.plan_for(held);
-        plan.inodes <= self.tree.inodes_left()
-            && plan.cookies <= self.tree.cookies_left()
-            && (is_lost || (self.can_give_nodes(&plan.files) && self.can_open(plan.opens)))
+        let needs = self.needs_for(held);
+        needs.inodes <= self.tree.inodes_left()
+            && needs.cookies <= self.tree.cookies_left()
+            && (is_lost || (self.can_give_nodes(&needs.files) && self.can_open(needs.opens)))
     }
 
-    /// Whether each counter has as many numbers left as any request draws, so that none need be planned.
+    /// Whether each counter has as many numbers left as any request allocates, so that its needs need not be known.
     #[inline(always)]
     fn has_numbers_for_any(&self) -> bool
         ensures inodes { result ≡ true → self.now.tree.next_inode < counter_end }
@@ -65,31 +65,31 @@ impl<S: NodeStore> Files<S> {
             && self.known.nodes.can_give_any()
     }
 
-    /// What performing a held request draws.
-    fn plan_for(&self, held: &HeldRequest<S::Heap>) -> Plan
-        ensures { (v : ValidityValue) (m : MinorValue) → DrawsNumbers self.now.tree
+    /// What performing a held request allocates.
+    fn needs_for(&self, held: &HeldRequest<S::Heap>) -> Needs
+        ensures { (v : ValidityValue) (m : MinorValue) → AllocatesNumbers self.now.tree
             (tree_said (server_at m self.now v) held.now) (said (server_at m self.now v) held.now) result }
     {
         if held.is_marked() || !are_held(&self.known.nodes, held.named()) {
             return no_numbers();
         }
         match held.body() {
-            HeldBody::Asks { operation } => self.plan_asked(operation),
+            HeldBody::Asks { operation } => self.needs_asked(operation),
             HeldBody::Init { .. } => no_numbers(),
             HeldBody::Release { .. } => no_numbers(),
         }
     }
 
-    /// What an operation draws: nothing under an open number that is none of its node's file.
-    fn plan_asked(&self, operation: &HeldOperation<S::Heap>) -> Plan
-        ensures { (v : ValidityValue) (m : MinorValue) → DrawsNumbers self.now.tree
+    /// What an operation allocates: nothing under a file handle that is none of its node's file.
+    fn needs_asked(&self, operation: &HeldOperation<S::Heap>) -> Needs
+        ensures { (v : ValidityValue) (m : MinorValue) → AllocatesNumbers self.now.tree
             (tree_by (server_at m self.now v) (asks (held_operation_of operation.now)))
             (body_reply (server_at m self.now v) (asks (held_operation_of operation.now))) result }
     {
         if !self.is_open_for(operation) {
             return no_numbers();
         }
-        plan_of(&self.tree, &self.known.nodes, operation)
+        needs_of(&self.tree, &self.known.nodes, operation)
     }
 
     /// Whether these files can be given nodes, one after another: the generations are enough, and no node's count
@@ -105,7 +105,7 @@ impl<S: NodeStore> Files<S> {
         nodes.new_among(files) as u64 <= nodes.generations_left() && !nodes.count_overflows(files)
     }
 
-    /// Whether so many open numbers are left.
+    /// Whether this many file handles are left.
     fn can_open(&self, opens: u64) -> bool
         ensures { result ≡ nat_le (self.now.handles.next_fh + opens) counter_end }
     {

@@ -1,4 +1,4 @@
-//! What an operation needs before it is done: that nothing refuses it, and the numbers that it draws.
+//! What an operation needs before it is done: that nothing refuses it, and the numbers that it allocates.
 
 ghost use Rattle.std.specs.Prelude.{◌≡◌, ◌∷◌, [], None, option_to_list};
 ghost use Rattle.fuse_spec.specs.declared.Validity.{Validity as ValidityValue};
@@ -6,7 +6,7 @@ ghost use Rattle.fuse_spec.specs.Files.FileOperations.{refusal, reply_by, reply_
 ghost use Rattle.fuse_spec.specs.Files.Operations.{lookup, rename};
 ghost use Rattle.fuse_spec.specs.Files.Trees.{file_at};
 ghost use Rattle.fs_tree.specs.Outcomes.{RefusesWith};
-ghost use Rattle.fs_files.specs.Plans.{DrawsNumbers};
+ghost use Rattle.fs_files.specs.Plans.{AllocatesNumbers};
 ghost use Rattle.fs_files.specs.Values.{on_files};
 
 use crate::held::HeldOperation;
@@ -17,21 +17,21 @@ use fs_tree::{MOST_LISTED, Tree, TreeError};
 use fuse_spec::Operation;
 use std::alloc::Allocator;
 
-/// How many inodes, cookies and open numbers an operation draws, and the files to which its reply gives nodes, in
+/// How many inodes, cookies and file handles an operation allocates, and the files to which its reply gives nodes, in
 /// order.
 #[derive(Drop)]
-pub(crate) struct Plan {
+pub(crate) struct Needs {
     pub(crate) inodes: u64,
     pub(crate) cookies: u64,
     pub(crate) opens: u64,
     pub(crate) files: ArrayVec<u64, MOST_LISTED>,
 }
 
-/// No number.
-pub(crate) fn no_numbers() -> Plan
+/// What an operation needs that allocates nothing.
+pub(crate) fn no_numbers() -> Needs
     ensures { result ≡ record { inodes = 0; cookies = 0; opens = 0; files = record { items = [] } } }
 {
-    Plan {
+    Needs {
         inodes: 0,
         cookies: 0,
         opens: 0,
@@ -39,7 +39,7 @@ pub(crate) fn no_numbers() -> Plan
     }
 }
 
-/// One file.
+/// The list of one file.
 fn one_file(file: u64) -> ArrayVec<u64, MOST_LISTED>
     ensures { result.items ≡ file ∷ [] }
 {
@@ -95,37 +95,37 @@ fn may_rename<A: Allocator + Copy>(
     }
 }
 
-/// What an operation draws: nothing if it is refused.
-pub(crate) fn plan_of<A: Allocator + Copy, S: NodeStore>(
+/// What an operation allocates: nothing if it is refused.
+pub(crate) fn needs_of<A: Allocator + Copy, S: NodeStore>(
     tree: &Tree<A>,
     nodes: &Nodes<S>,
     operation: &HeldOperation<A>,
-) -> Plan
-    ensures { (v : ValidityValue) → DrawsNumbers tree.now (tree_after tree.now (on_files nodes.now.table operation.now))
+) -> Needs
+    ensures { (v : ValidityValue) → AllocatesNumbers tree.now (tree_after tree.now (on_files nodes.now.table operation.now))
         (reply_by v tree.now (on_files nodes.now.table operation.now)) result }
 {
     if may_do(tree, nodes, operation).is_err() {
         return no_numbers();
     }
-    unrefused_plan(tree, nodes, operation)
+    unrefused_needs(tree, nodes, operation)
 }
 
-/// What an operation draws that nothing refuses.
-fn unrefused_plan<A: Allocator + Copy, S: NodeStore>(
+/// What an operation allocates that nothing refuses.
+fn unrefused_needs<A: Allocator + Copy, S: NodeStore>(
     tree: &Tree<A>,
     nodes: &Nodes<S>,
     operation: &HeldOperation<A>,
-) -> Plan
+) -> Needs
     requires unrefused { refusal tree.now (on_files nodes.now.table operation.now) ≡ None }
-    ensures { (v : ValidityValue) → DrawsNumbers tree.now (tree_unrefused tree.now (on_files nodes.now.table operation.now))
+    ensures { (v : ValidityValue) → AllocatesNumbers tree.now (tree_unrefused tree.now (on_files nodes.now.table operation.now))
         (reply_unrefused v tree.now (on_files nodes.now.table operation.now)) result }
 {
     match operation {
         Operation::Lookup { directory, name } => {
-            plan_of_lookup(tree, nodes.file_of(*directory), name)
+            needs_of_lookup(tree, nodes.file_of(*directory), name)
         }
-        Operation::Mkdir { .. } => plan_of_inode(tree.next_inode(), 0),
-        Operation::Create { .. } => plan_of_inode(tree.next_inode(), 1),
+        Operation::Mkdir { .. } => needs_of_inode(tree.next_inode(), 0),
+        Operation::Create { .. } => needs_of_inode(tree.next_inode(), 1),
         Operation::Rename {
             directory,
             old,
@@ -133,10 +133,10 @@ fn unrefused_plan<A: Allocator + Copy, S: NodeStore>(
             new,
         } => {
             let from = nodes.file_of(*directory);
-            plan_of_rename(tree, from, old, nodes.file_of(*newdir), new)
+            needs_of_rename(tree, from, old, nodes.file_of(*newdir), new)
         }
-        Operation::Link { node, .. } => plan_of_link(nodes.file_of(*node)),
-        Operation::Open { .. } => Plan {
+        Operation::Link { node, .. } => needs_of_link(nodes.file_of(*node)),
+        Operation::Open { .. } => Needs {
             opens: 1,
             ..no_numbers()
         },
@@ -144,7 +144,7 @@ fn unrefused_plan<A: Allocator + Copy, S: NodeStore>(
             directory,
             after,
             size,
-        } => Plan {
+        } => Needs {
             files: tree.files_listed(nodes.file_of(*directory), *after, *size),
             ..no_numbers()
         },
@@ -156,8 +156,8 @@ fn unrefused_plan<A: Allocator + Copy, S: NodeStore>(
     }
 }
 
-/// What a LOOKUP draws.
-fn plan_of_lookup<A: Allocator + Copy>(tree: &Tree<A>, directory: u64, name: &[u8]) -> Plan
+/// What a LOOKUP allocates.
+fn needs_of_lookup<A: Allocator + Copy>(tree: &Tree<A>, directory: u64, name: &[u8]) -> Needs
     requires { refusal tree.now (lookup directory name.now) ≡ None }
     ensures { result ≡ record {
       inodes = 0;
@@ -167,7 +167,7 @@ fn plan_of_lookup<A: Allocator + Copy>(tree: &Tree<A>, directory: u64, name: &[u
     } }
 {
     match tree.lookup(directory, name) {
-        Ok(Some(file)) => Plan {
+        Ok(Some(file)) => Needs {
             files: one_file(file),
             ..no_numbers()
         },
@@ -175,11 +175,11 @@ fn plan_of_lookup<A: Allocator + Copy>(tree: &Tree<A>, directory: u64, name: &[u
     }
 }
 
-/// What a MKDIR or a CREATE draws.
-fn plan_of_inode(inode: u64, opens: u64) -> Plan
+/// What a MKDIR or a CREATE allocates.
+fn needs_of_inode(inode: u64, opens: u64) -> Needs
     ensures { result ≡ record { inodes = 1; cookies = 1; opens = opens; files = record { items = inode ∷ [] } } }
 {
-    Plan {
+    Needs {
         inodes: 1,
         cookies: 1,
         opens,
@@ -187,34 +187,34 @@ fn plan_of_inode(inode: u64, opens: u64) -> Plan
     }
 }
 
-/// What a LINK draws.
-fn plan_of_link(file: u64) -> Plan
+/// What a LINK allocates.
+fn needs_of_link(file: u64) -> Needs
     ensures { result ≡ record { inodes = 0; cookies = 1; opens = 0; files = record { items = file ∷ [] } } }
 {
-    Plan {
+    Needs {
         cookies: 1,
         files: one_file(file),
         ..no_numbers()
     }
 }
 
-/// What a RENAME draws: nothing, if it is onto another name of the same file.
-fn plan_of_rename<A: Allocator + Copy>(
+/// What a RENAME allocates: nothing, if it is onto another name of the same file.
+fn needs_of_rename<A: Allocator + Copy>(
     tree: &Tree<A>,
     directory: u64,
     old: &[u8],
     new_directory: u64,
     new: &[u8],
-) -> Plan
+) -> Needs
     requires unrefused { refusal tree.now (rename directory old.now new_directory new.now) ≡ None }
-    ensures { (v : ValidityValue) → DrawsNumbers tree.now (tree_unrefused tree.now
+    ensures { (v : ValidityValue) → AllocatesNumbers tree.now (tree_unrefused tree.now
         (rename directory old.now new_directory new.now))
         (reply_unrefused v tree.now (rename directory old.now new_directory new.now)) result }
 {
     if tree.are_same(directory, old, new_directory, new) {
         return no_numbers();
     }
-    Plan {
+    Needs {
         cookies: 1,
         ..no_numbers()
     }

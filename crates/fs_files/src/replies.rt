@@ -12,10 +12,10 @@ ghost use Rattle.fs_files.specs.Listed.{AreRecordBytes, dirents_in};
 ghost use Rattle.fs_files.specs.Replies.{opened_in, sent_len, sent_names, sent_wire, HasSpare, NamesNoFile, IsSendable};
 
 use crate::listed_names::ListedNames;
-use crate::spare::ReplySpare;
+use crate::spare::ListingBuffers;
 use bitflags::Flags;
 use fk_wire::InitFlags;
-use fuse_frames::{Reply, ReplyFrame, ReplyRoom};
+use fuse_frames::{Reply, ReplyBuffer, ReplyFrame};
 use fuse_spec::{Entry, Minor};
 use std::alloc::Allocator;
 use std::slice::from_ref;
@@ -23,8 +23,8 @@ use std::slice::from_ref;
 /// What is sent as a reply: the names of a list are bytes of records, as their frame has them.
 pub type SentReply<A> = Reply<Entry, Vec<u8, A>, ListedNames<A>, Vec<u8, A>>;
 
-/// What performing a request results in: files that are to be given nodes, an open number, or both, or a reply that names
-/// no file and no open number.
+/// What performing a request results in: files that are to be given nodes, a file handle, or both, or a reply that
+/// names no file and no file handle.
 #[derive(Drop)]
 pub enum Outcome<A: Allocator> {
     Entry { file: u64 },
@@ -81,7 +81,7 @@ pub fn name_count<A: Allocator>(reply: &SentReply<A>) -> usize
     }
 }
 
-/// The open number that a reply carries.
+/// The file handle that a reply carries.
 pub fn opened<A: Allocator>(reply: &SentReply<A>) -> Option<u64>
     ensures { result ≡ opened_in reply.now }
 {
@@ -104,7 +104,7 @@ pub fn body_len<A: Allocator>(reply: &SentReply<A>) -> usize
 
 /// This reply once more, in room that is there.
 #[inline(always)]
-pub fn copied<A: Allocator>(reply: &SentReply<A>, spare: ReplySpare<A>) -> SentReply<A>
+pub fn copied<A: Allocator>(reply: &SentReply<A>, spare: ListingBuffers<A>) -> SentReply<A>
     requires { HasSpare spare (sent_len reply.now) (sent_names reply.now) }
     ensures wire { sent_wire result ≡ sent_wire reply.now }
     ensures sendable { IsSendable reply.now → IsSendable result }
@@ -144,7 +144,11 @@ pub fn copied<A: Allocator>(reply: &SentReply<A>, spare: ReplySpare<A>) -> SentR
 
 /// The frame of a reply.
 #[inline(always)]
-pub fn framed<A: Allocator>(reply: &SentReply<A>, room: ReplyRoom<A>, unique: u64) -> ReplyFrame<A>
+pub fn framed<A: Allocator>(
+    reply: &SentReply<A>,
+    room: ReplyBuffer<A>,
+    unique: u64,
+) -> ReplyFrame<A>
     requires sendable { IsSendable reply.now }
     requires room { 16 + sent_len reply.now ≤ room }
     ensures { result ≡ record { unique = unique; wire = sent_wire reply.now } }
@@ -202,7 +206,7 @@ fn with_bytes<A: Allocator>(spare: Vec<u8, A>, bytes: &[u8]) -> Vec<u8, A>
 }
 
 /// The reply to a READDIR in its frame.
-fn listed<A: Allocator>(records: &[u8], room: ReplyRoom<A>, unique: u64) -> ReplyFrame<A>
+fn listed<A: Allocator>(records: &[u8], room: ReplyBuffer<A>, unique: u64) -> ReplyFrame<A>
     requires some { AreRecordBytes records.now }
     requires most { length records.now ≤ max_transfer }
     requires room { 16 + length records.now ≤ room }

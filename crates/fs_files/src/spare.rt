@@ -6,23 +6,23 @@ ghost use Rattle.fuse_spec.specs.Files.Operations.{files_listed};
 
 use crate::listed_names::ListedNames;
 use fk_wire::Records;
-use fuse_frames::{ReplyFrame, ReplyRoom};
+use fuse_frames::{ReplyBuffer, ReplyFrame};
 use fuse_spec::Entry;
 use std::alloc::{AllocError, Allocator};
 
 /// Room for what a reply says that is of no fixed length: its bytes, and the entries of names.
 #[derive(Drop)]
-pub struct ReplySpare<A: Allocator> {
+pub struct ListingBuffers<A: Allocator> {
     pub(crate) bytes: Vec<u8, A>,
     pub(crate) entries: Vec<Entry, A>,
     pub(crate) file_entries: Vec<Entry, A>,
 }
 
-impl<A: Allocator + Copy> ReplySpare<A> {
+impl<A: Allocator + Copy> ListingBuffers<A> {
     ghost use Rattle.std.specs.Prelude.{IfOk};
     ghost use Rattle.fs_files.specs.Replies.{HasSpare};
 
-    /// Room for so many bytes and names.
+    /// Room for this many bytes and names.
     ///
     /// # Errors
     ///
@@ -33,13 +33,13 @@ impl<A: Allocator + Copy> ReplySpare<A> {
     {
         // Most replies are of a fixed length.
         if len == 0 && names == 0 {
-            return Ok(ReplySpare {
+            return Ok(ListingBuffers {
                 bytes: Vec::new(alloc),
                 entries: Vec::new(alloc),
                 file_entries: Vec::new(alloc),
             });
         }
-        Ok(ReplySpare {
+        Ok(ListingBuffers {
             bytes: Vec::with_capacity(alloc, len)?,
             entries: Vec::with_capacity(alloc, names)?,
             file_entries: Vec::with_capacity(alloc, names)?,
@@ -75,12 +75,12 @@ impl<A: Allocator> ListedNames<A> {
     }
 
     /// These names once more, in room that is there.
-    pub fn copied(&self, spare: ReplySpare<A>) -> ListedNames<A>
+    pub fn copied(&self, spare: ListingBuffers<A>) -> ListedNames<A>
         requires { HasSpare spare (length self.now.records.items) (length self.now.entries.items) }
         ensures { listed_pairs result.found_ms result.entries.items result.records.items
             ≡ listed_pairs self.now.found_ms self.now.entries.items self.now.records.items }
     {
-        let ReplySpare {
+        let ListingBuffers {
             mut bytes,
             mut entries,
             mut file_entries,
@@ -97,7 +97,7 @@ impl<A: Allocator> ListedNames<A> {
     }
 
     /// Its frame.
-    pub fn framed(&self, room: ReplyRoom<A>, unique: u64) -> ReplyFrame<A>
+    pub fn framed(&self, room: ReplyBuffer<A>, unique: u64) -> ReplyFrame<A>
         requires { 16 + (128 * length self.now.entries.items + length self.now.records.items) ≤ room }
         ensures { result ≡ record {
           unique = unique;

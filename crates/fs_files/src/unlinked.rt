@@ -17,7 +17,7 @@ use fuse_spec::Operation;
 use std::alloc::Allocator;
 
 impl<S: NodeStore> Files<S> {
-    /// The file that a held request takes a name for good or an open number from, if it is performed. Every other file
+    /// The file from which a held request takes a name for good or a file handle, if it is performed. Every other file
     /// that nothing holds keeps a name.
     #[inline(always)]
     pub fn unlinked_or_released(&self, held: &HeldRequest<S::Heap>) -> Option<u64>
@@ -31,7 +31,7 @@ impl<S: NodeStore> Files<S> {
         self.unlinked_or_released_by(held.body())
     }
 
-    /// The same of what a request asks.
+    /// The file from which what a request asks takes a name for good or a file handle.
     #[inline(always)]
     fn unlinked_or_released_by(&self, body: &HeldBody<S::Heap>) -> Option<u64>
         ensures { (v : ValidityValue) (m : MinorValue) → result

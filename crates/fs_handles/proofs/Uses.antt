@@ -13,9 +13,9 @@ use Rattle.indexmap.specs.IndexMap.{swap_remove_entry}
 use Rattle.indexmap.proofs.MapLemmas.{Found-position, Missing-position, swap_remove_entry-found}
 use Rattle.indexmap.proofs.SetLemmas.{map-swap_remove}
 use Rattle.fuse_spec.specs.Values.Maps.{values}
-use Rattle.fuse_spec.specs.Server.Nodes.{OpenNumber}
+use Rattle.fuse_spec.specs.Server.Nodes.{FileHandle}
 use Rattle.fs_handles.specs.declared.open_file.OpenFile.{OpenFile}
-use Rattle.fs_handles.specs.OpenNumbers.{number_of, handles_of}
+use Rattle.fs_handles.specs.OpenNumbers.{handle_of, handles_of}
 use Rattle.fs_handles.specs.Uses.{handle_use_of, numbers_of, uses_or_none, uses_less, AreUsesCounted}
 use Rattle.fuse_tables.proofs.Maps.{HasValue, any_is}
 use Rattle.fs_handles.proofs.Handles.{sorted_handles, get_there}
@@ -24,7 +24,7 @@ numbers-cons : (file : ℕ) (e : ℕ × OpenFile) (es : List (ℕ × OpenFile))
     → numbers_of file (e ∷ es) ≡ handle_use_of file e.1 + numbers_of file es
 numbers-cons file e es = sum_by-cons (handle_use_of file) e.1 (values_of es)
 
--- a file with an open number stands in an entry
+-- a file with a file handle has an entry
 entry_of : (file : ℕ) (opens : List (ℕ × OpenFile)) → 0 < numbers_of file opens
     → (fh : ℕ) × (opened : OpenFile) × Contains opens (fh, opened) × (opened.file ≡ file)
 entry_of file [] some = absurd (omega arith)
@@ -72,7 +72,7 @@ numbers-swap_remove file test es old is = by (position test (keys_of es)) refl
         let one = ap (handle_use_of file) value in
         omega (arith, out, sums, one)
 
--- a write of another count under a number in use
+-- a write of another count under a handle in use
 pub recounted : {opens : List (ℕ × OpenFile)} {uses : List (ℕ × ℕ)} {next : ℕ} (new : List (ℕ × OpenFile)) (fh : ℕ)
     (old with : OpenFile) → AreUsesCounted opens uses next
     → lookup (nat_eq fh) opens ≡ Some old → with.file ≡ old.file → new ≡ set_value (nat_eq fh) opens with
@@ -98,7 +98,7 @@ recounted {opens = opens} {uses = uses} {next = next} new fh old with table is s
       | inr ne ↦ (let none = table.fresh q le in grind (arith, ne, none, rules))
     ]
 
--- the last use of a number is taken back
+-- the last use of a handle is taken back
 pub ended : {opens : List (ℕ × OpenFile)} {uses : List (ℕ × ℕ)} {next : ℕ} (new : List (ℕ × OpenFile))
     (fewer : List (ℕ × ℕ)) (fh : ℕ) (old : OpenFile) → AreUsesCounted opens uses next
     → lookup (nat_eq fh) opens ≡ Some old → new ≡ swap_remove_entry (nat_eq fh) opens
@@ -146,7 +146,7 @@ ended {opens = opens} {uses = uses} {next = next} new fewer fh old table is remo
     fresh_at : (q : ℕ) → next ≤ q → cond (nat_eq fh q) None (lookup (nat_eq q) opens) ≡ None
     fresh_at q le = (let none = table.fresh q le in grind (arith, none, rules))
 
--- a number is given
+-- a handle is given
 pub given : {opens : List (ℕ × OpenFile)} {uses : List (ℕ × ℕ)} {next : ℕ} (new : List (ℕ × OpenFile))
     (more : List (ℕ × ℕ)) (file : ℕ) (with : OpenFile) → AreUsesCounted opens uses next
     → next < 2 ^ 62 → with.file ≡ file → new ≡ opens ++ (next, with) ∷ []
@@ -201,7 +201,7 @@ given {opens = opens} {uses = uses} {next = next} new more file with table room 
     fresh_at q le = (let none = table.fresh q (omega arith) in let ne : next ≢ q = omega arith in
         grind (arith, none, ne, rules))
 
--- a file has no more open numbers than there are
+-- a file has no more file handles than there are
 pub uses_few : {opens : List (ℕ × OpenFile)} {uses : List (ℕ × ℕ)} {next : ℕ} (file : ℕ) → AreUsesCounted opens uses next
     → unwrap_or (lookup (nat_eq file) uses) 0 < next
 uses_few {opens = opens} {uses = uses} {next = next} file table =
@@ -232,36 +232,36 @@ some_is n some = grind (arith, some, rules)
 is_there : (n : ℕ) → 0 < n → is_some (uses_or_none n) ≡ true
 is_there n some = grind (arith, some, rules)
 
--- a file has a count exactly where some open number is of it
+-- a file has a count exactly where some file handle is of it
 pub has_is : {opens : List (ℕ × OpenFile)} {uses : List (ℕ × ℕ)} {next : ℕ} (answer : Bool) (file : ℕ)
     → AreUsesCounted opens uses next → answer ≡ is_some (lookup (nat_eq file) uses)
-    → answer ≡ list_any (λ (handle : OpenNumber). nat_eq handle.file file) (values (handles_of opens))
+    → answer ≡ list_any (λ (handle : FileHandle). nat_eq handle.file file) (values (handles_of opens))
 has_is {opens = opens} {uses = uses} answer file table is =
-    any_is answer (handles_of opens) (λ (handle : OpenNumber). nat_eq handle.file file)
+    any_is answer (handles_of opens) (λ (handle : FileHandle). nat_eq handle.file file)
     (sorted_handles opens) there back
   where
     counted_is : answer ≡ is_some (uses_or_none (numbers_of file opens))
     counted_is = is ∙ ap is_some (table.counted file)
 
-    there : answer ≡ true → HasValue (handles_of opens) (λ (handle : OpenNumber). nat_eq handle.file file)
+    there : answer ≡ true → HasValue (handles_of opens) (λ (handle : FileHandle). nat_eq handle.file file)
     there is_so =
         let entry = entry_of file opens (some_is (numbers_of file opens) (sym counted_is ∙ is_so)) in
         record {
           key = entry.0;
-          value = number_of entry.1;
+          value = handle_of entry.1;
           there = get_there opens entry.0 (Some entry.1)
               (lookup-from_Contains nat_eq_equiv entry.0 entry.1 opens table.distinct entry.2);
           passes = eq-eqb entry.1.file file entry.3;
         }
 
-    back : HasValue (handles_of opens) (λ (handle : OpenNumber). nat_eq handle.file file) → answer ≡ true
+    back : HasValue (handles_of opens) (λ (handle : FileHandle). nat_eq handle.file file) → answer ≡ true
     back has = by (lookup (nat_eq has.key) opens) refl
       where
         by : (found : Option OpenFile) → lookup (nat_eq has.key) opens ≡ found → answer ≡ true
         by None none = absurd (none-some has.value (sym (get_there opens has.key None none) ∙ has.there))
         by (Some kept) found =
-            let same : number_of kept ≡ has.value = same_Some _ _
+            let same : handle_of kept ≡ has.value = same_Some _ _
             (sym (get_there opens has.key (Some kept) found) ∙ has.there) in
             let of_file : kept.file ≡ file =
-            ap (λ (h : OpenNumber). h.file) same ∙ eqb-true has.value.file file has.passes in
+            ap (λ (h : FileHandle). h.file) same ∙ eqb-true has.value.file file has.passes in
             counted_is ∙ is_there (numbers_of file opens) (counts file has.key kept opens found of_file)

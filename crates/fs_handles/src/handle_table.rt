@@ -1,11 +1,11 @@
-//! Open numbers, each with its file and its count.
+//! File handles (`fh`), each with its file and its count.
 ghost use Rattle.std.specs.Prelude.{◌≡◌, ℕ, ◌+◌, ◌^◌, ◌<◌, ◌≤◌, if◌then◌else◌, [], None, nat_eq, Some, IsOk, OnOk, option_map};
 ghost use Rattle.std.specs.List.{list_any};
 ghost use Rattle.std.specs.Option.{ForSome};
 ghost use Rattle.indexmap.specs.IndexMap as map;
 ghost use Rattle.indexmap.specs.IndexMap.{spare};
 ghost use Rattle.fuse_spec.specs.Values.Maps.{get, values};
-ghost use Rattle.fuse_spec.specs.Server.Nodes.{OpenNumber, handle_opened, handle_more, handle_back};
+ghost use Rattle.fuse_spec.specs.Server.Nodes.{FileHandle, handle_opened, handle_more, handle_back};
 ghost use Rattle.fuse_spec.specs.Values.Numbers.{counter_end};
 ghost use Rattle.fs_handles.specs.Uses.{uses_less};
 
@@ -18,7 +18,7 @@ use std::marker::Model;
 
 type Builder = BuildHasherDefault<FoldHasher>;
 
-/// The open numbers in use, each of a file and with its count. Numbers rise from 1, and none is given twice, also not
+/// The file handles in use, each of a file and with its count. They rise from 1, and none is given twice, also not
 /// after `clear`.
 ///
 /// Contracts see it as the table of the definitions and its room: how many more files can be opened with no memory.
@@ -27,7 +27,7 @@ type Builder = BuildHasherDefault<FoldHasher>;
 #[derive(Drop)]
 pub struct HandleTable<A: Allocator = Global> {
     opens: IndexMap<u64, OpenFile, Builder, A>,
-    // how many open numbers each open file has
+    // how many file handles each open file has
     uses: IndexMap<u64, u64, Builder, A>,
     next: u64,
 }
@@ -49,7 +49,7 @@ impl<A: Allocator> Model for HandleTable<A> {
 }
 
 impl<A: Allocator + Copy> HandleTable<A> {
-    /// A table with no open number. The first is 1.
+    /// A table with no file handle. The first is 1.
     pub fn new(alloc: A) -> Self
         ensures { result.table ≡ record { handles = []; next_fh = 1 } }
     {
@@ -75,14 +75,14 @@ impl<A: Allocator + Copy> HandleTable<A> {
         self.uses.reserve(1)
     }
 
-    /// How many open numbers are left to give.
+    /// How many file handles are left to give.
     pub fn numbers_left(&self) -> u64
         ensures { result + self.now.table.next_fh ≡ counter_end }
     {
         COUNTER_END - self.next
     }
 
-    /// Gives an open number to a file, with a count of 1: one copy of the reply to OPEN or CREATE carries it.
+    /// Gives a file handle to a file, with a count of 1: one copy of the reply to OPEN or CREATE carries it.
     pub fn open(&mut self, file: u64) -> u64
         requires room { 0 < self.old.room }
         requires numbers { self.old.table.next_fh < counter_end }
@@ -99,9 +99,9 @@ impl<A: Allocator + Copy> HandleTable<A> {
         fh
     }
 
-    /// Counts one more copy that carries the open number.
+    /// Counts one more copy that carries the file handle.
     pub fn again(&mut self, fh: u64)
-        requires { ForSome (get self.old.table.handles fh) (λ (handle : OpenNumber). handle.count + 1 < 2 ^ 64) }
+        requires { ForSome (get self.old.table.handles fh) (λ (handle : FileHandle). handle.count + 1 < 2 ^ 64) }
         ensures table { self.new.table ≡ handle_more self.old.table fh }
         ensures room { self.old.room ≤ self.new.room }
     {
@@ -111,14 +111,14 @@ impl<A: Allocator + Copy> HandleTable<A> {
         open_file.count += 1;
     }
 
-    /// Whether the file has an open number.
+    /// Whether the file has a file handle.
     pub fn has(&self, file: u64) -> bool
-        ensures { result ≡ list_any (λ (handle : OpenNumber). nat_eq handle.file file) (values self.now.table.handles) }
+        ensures { result ≡ list_any (λ (handle : FileHandle). nat_eq handle.file file) (values self.now.table.handles) }
     {
         self.uses.contains_key(&file)
     }
 
-    /// Takes one from the count of an open number. With none left it goes.
+    /// Takes one from the count of a file handle. With none left it goes.
     pub fn take_back(&mut self, fh: u64)
         ensures table { self.new.table ≡ handle_back self.old.table fh }
         ensures room { self.old.room ≤ self.new.room }
@@ -135,14 +135,14 @@ impl<A: Allocator + Copy> HandleTable<A> {
         use_less(&mut self.uses, file);
     }
 
-    /// The file of an open number.
+    /// The file of a file handle.
     pub fn file_of(&self, fh: u64) -> Option<u64>
         ensures { result ≡ option_map (λ handle. handle.file) (get self.now.table.handles fh) }
     {
         self.opens.get(&fh).map(|open_file| open_file.file)
     }
 
-    /// Takes all open numbers out of use. Numbers go on, and the room stays.
+    /// Takes all file handles out of use. Their numbers go on, and the room stays.
     pub fn clear(&mut self)
         ensures table { self.new.table ≡ record self.old.table { handles = [] } }
         ensures room { self.old.room ≤ self.new.room }
@@ -164,7 +164,7 @@ fn put<V: Drop, A: Allocator + Copy>(entries: &mut IndexMap<u64, V, Builder, A>,
     let _old = entries.insert(key, value).unwrap();
 }
 
-/// Takes one open number of a file out of the count.
+/// Takes one file handle of a file out of the count.
 fn use_less<A: Allocator + Copy>(uses: &mut IndexMap<u64, u64, Builder, A>, file: u64)
     ensures less { (other : ℕ) → map.get nat_eq uses.new other
         ≡ (if nat_eq file other then uses_less (map.get nat_eq uses.old file) else map.get nat_eq uses.old other) }

@@ -1,4 +1,4 @@
-//! The server's table of open files: each open number (`fh`) with its file and its count.
+//! The server's table of open files: each file handle (`fh`) with its file and its count.
 #![tactic(auto)]
 
 mod handle_table;

@@ -1,6 +1,6 @@
-//! What is kept under an open number.
+//! What is kept under a file handle.
 
-/// The file of an open number, and its count: how many copies of replies carry the number or wait for its RELEASE.
+/// The file of a file handle, and its count: how many copies of replies carry the handle or wait for its RELEASE.
 #[derive(Clone, Copy, Debug, PartialEq, Eq)]
 pub struct OpenFile {
     pub file: u64,

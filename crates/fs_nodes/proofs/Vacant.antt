@@ -68,7 +68,7 @@ pub some_there : (slots seen : List (Option StoredNode)) (place : ℕ) (o : Opti
 some_there slots seen place o same is some = ap (λ s. is_some (at_place s place)) (sym same) ∙ ap is_some
     (sym is) ∙ some
 
--- a slot was written: the length stays, and so many nodes went and came
+-- a slot was written: the length stays, and as many nodes went as came
 pub record Counts (new slots : List (Option StoredNode)) (gone come : ℕ) : Type 0 where
   pub len : length new ≡ length slots
   pub count : count_by is_some new + gone ≡ count_by is_some slots + come

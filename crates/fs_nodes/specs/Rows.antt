@@ -32,7 +32,7 @@ abbrev pub room_for : Option HeldNode → ℕ
 room_for None = 1
 room_for (Some row) = 0
 
--- the node is held, with at least so many lookups
+-- the node is held, with at least this many lookups
 abbrev pub HasCount : Option HeldNode → ℕ → Type 0
 HasCount None n = ⊥
 HasCount (Some row) n = n ≤ row.count

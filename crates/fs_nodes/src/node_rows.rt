@@ -26,7 +26,7 @@ pub trait NodeRows {
     fn new(alloc: Self::Heap) -> Self
         ensures { rows result ≡ [] };
 
-    /// Makes room for so many more nodes. Only this call and `nodes` take memory.
+    /// Makes room for this many more nodes. Only this call and `nodes` take memory.
     ///
     /// # Errors
     ///

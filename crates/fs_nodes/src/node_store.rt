@@ -59,7 +59,7 @@ pub trait NodeStore {
         ensures table { table self.new ≡ given (table self.old) file result.0 }
         ensures room { room self.old ≤ room self.new + room_for (get (table self.old).rows result.0) };
 
-    /// Takes so many lookups of a node back. With none left the node goes.
+    /// Takes this many lookups of a node back. With none left the node goes.
     ///
     /// # Errors
     ///

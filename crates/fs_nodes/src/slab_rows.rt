@@ -51,7 +51,7 @@ impl<A: Allocator + Copy> NodeRows for SlabRows<A> {
         }
         self.places.reserve(more)?;
         self.nodes.reserve(more)?;
-        // no clause of the slab bounds its capacity; no memory holds so many places
+        // no clause of the slab bounds its capacity; no memory holds as many places
         if self.nodes.capacity() > MOST {
             return Err(AllocError);
         }

@@ -24,7 +24,7 @@ use Rattle.fk_wire.specs.declared.opcode.Opcode.{Opcode}
 use Rattle.fuse_frames.specs.ReplyTies.{IsReplyFrame}
 use Rattle.fs_serve.proofs.BetweenFrames.{IsBetween}
 
--- After what was sent, the counts have risen by what was told, and the server is between frames again.
+-- After what was sent, the counts have risen by what was given, and the server is between frames again.
 pub record Delivered (minor : Minor) (counts : ℕ → ℕ) (log : List Transfer) (new : Server) : Type 0 where
   pub more : ℕ → ℕ
   pub tells : Tells log more
@@ -88,7 +88,7 @@ module _ (minor : Minor) (counts : ℕ → ℕ) (copy : Sent) (s : Server) (send
     kept = by_kept result;
     copies = by_copies result;
     live = by_live result;
-    for_minor = by_spoken result;
+    for_minor = by_minor result;
   }
     where
       by_held : (r : WriteResult) → (after_result without_it copy.wire r).held ≡ []
@@ -111,10 +111,10 @@ module _ (minor : Minor) (counts : ℕ → ℕ) (copy : Sent) (s : Server) (send
       by_live NoEntry = sends.live
       by_live Invalid = sends.live
 
-      by_spoken : (r : WriteResult) → (after_result without_it copy.wire r).minor ≡ minor
-      by_spoken Accepted = sends.for_minor
-      by_spoken NoEntry = sends.for_minor
-      by_spoken Invalid = sends.for_minor
+      by_minor : (r : WriteResult) → (after_result without_it copy.wire r).minor ≡ minor
+      by_minor Accepted = sends.for_minor
+      by_minor NoEntry = sends.for_minor
+      by_minor Invalid = sends.for_minor
 
   -- a refused copy's lookups are given back
   back : (id : ℕ) → count_in (get (rows_back s.nodes (files_in_reply copy.wire)).rows id) ≡ counts id

@@ -46,8 +46,8 @@ pub data FrameGivesBack (minor : Minor) (counts : ℕ → ℕ) (frame : List ℕ
       → MayForget counts (forgets_of request.body) → forgets_of request.body ≡ [])
       → FrameGivesBack minor counts frame (λ id. 0)
 
--- How many lookups of each node are told by what is sent after a frame: as many as entries of an accepted reply name it.
--- A refused reply tells none, and an error none. One at which the device came to its end is counted as accepted, since
+-- How many lookups of each node what is sent after a frame gives: as many as entries of an accepted reply name it. A
+-- refused reply gives none, and an error none. One at which the device came to its end is counted as accepted, since
 -- nobody knows.
 pub data Tells : List Transfer → (ℕ → ℕ) → Type 0 where
   nothing_sent : Tells [] (λ id. 0)
@@ -62,7 +62,7 @@ pub data Tells : List Transfer → (ℕ → ℕ) → Type 0 where
       → WrittenReply (record { unique = unique; error = code; content = empty_reply }) bytes
       → (log : List Transfer) → SendsBytes bytes log → Tells log (λ id. 0)
 
--- After a frame each count has risen by what was told and fallen by what was given back.
+-- After a frame each count has risen by what was given and fallen by what was given back.
 pub record FollowsFrame (minor : Minor) (old : ℕ → ℕ) (frame : List ℕ) (log : List Transfer) (new : ℕ → ℕ) : Type 0 where
   pub back : ℕ → ℕ
   pub gives_back : FrameGivesBack minor old frame back
@@ -92,8 +92,8 @@ pub data Follows (minor : Minor) (old : ℕ → ℕ) : List Transfer → (ℕ �
   end : (before : List Transfer) (mid : ℕ → ℕ) → Follows minor old before mid → (end : DeviceEnd)
       → Follows minor old (before ++ stopped end ∷ []) mid
 
--- All that went over a device is served so. Of a server that was just mounted the lookup counts follow it, and no pair of
--- nodeid and generation is given twice.
+-- All that went over a device is served so. Of a server that was just mounted the lookup counts follow it, and no pair
+-- of nodeid and generation is given twice.
 pub record IsServed (old : Server) (log : List Transfer) (new : Server) : Type 0 where
   pub serves : Serves old log new
   pub counts : IsFresh old → Follows old.minor (lookup_count old) log (lookup_count new)

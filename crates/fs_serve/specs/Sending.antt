@@ -41,7 +41,7 @@ pub data SendsFault (minor : Minor) (frame : List ℕ) (fault : ServerFault) : L
       → SendsFault minor frame fault log
   unreplied : (IsAnswerable frame fault → ⊥) → SendsFault minor frame fault []
 
--- The server is told the result of a copy: it is settled where it is there, and else nothing changes.
+-- The server is given the result of a copy: it is settled where it is there, and else nothing changes.
 abbrev pub IsSettled : Server → (number : ℕ) → WriteResult → Server → Type 0
 IsSettled old number result new = Settles old number result new
     ⊎ ((refusal : Refusal) × HasNoCopy old number refusal × (new ≡ old))

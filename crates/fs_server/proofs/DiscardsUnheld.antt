@@ -5,7 +5,7 @@ use Rattle.fuse_spec.specs.declared.Minor.{Minor}
 use Rattle.fuse_spec.specs.Server.Copies.{handles_back, row_back, rows_back}
 use Rattle.fuse_spec.specs.Values.Maps.{get}
 use Rattle.fuse_spec.specs.Kernel.Messages.{Forget}
-use Rattle.fuse_spec.specs.Server.Nodes.{HandleTable, HeldNode, IsUnheld, NodeTable, OpenNumber, all_given, all_opened, handle_back, taken_back}
+use Rattle.fuse_spec.specs.Server.Nodes.{HandleTable, HeldNode, IsUnheld, NodeTable, FileHandle, all_given, all_opened, handle_back, taken_back}
 use Rattle.fuse_spec.specs.Files.Operations.{Reply, files_in_reply, opens_in_reply}
 use Rattle.fuse_spec.specs.Server.Server.{HeldRequest, is_file_held}
 use Rattle.fuse_spec.specs.Files.Trees.{Tree}
@@ -19,14 +19,14 @@ use Rattle.fs_files.specs.Numbering.{GivesNumbers}
 use Rattle.fs_files.specs.Values.{FilesState, server_at, server_of}
 use Rattle.fuse_frames.specs.declared.reply.Reply.TheVariants as said
 use Rattle.fs_files.proofs.Bounds.{back_each, row_back_each, taken_each}
-use Rattle.fs_files.proofs.StaysNamed.{named_all_given, named_all_opened, named_less, named_number_back, named_row_back}
+use Rattle.fs_files.proofs.StaysNamed.{named_all_given, named_all_opened, named_less, named_handle_back, named_row_back}
 use Rattle.fs_files.proofs.DiscardingUnheld.{discarded_unheld_none, discarded_unheld_twice}
 use Rattle.fs_server.specs.Effects.{CountsBack, Forgets, GivesBack, DiscardsUnheld, TakesBack}
 use Rattle.fs_server.proofs.GivenBack.{forgets, gives_back}
 
 -- ---- what is to be looked at
 
--- the same tree, nodes and open numbers under other names
+-- the same tree, nodes and file handles under other names
 but_same : (but l : Option ℕ) (mid : FilesState) (tree : Tree) (nodes : NodeTable) (handles : HandleTable)
     → but ≡ l → mid.tree ≡ tree → mid.nodes ≡ nodes → mid.handles ≡ handles → AreNamedBut l tree nodes handles
     → AreNamedBut but mid.tree mid.nodes mid.handles
@@ -57,14 +57,14 @@ module _ (old mid : FilesState) (named : AreNamed old.tree old.nodes old.handles
       (get x.rows g.nodeid)) same) tree nodes handles
       (named_row_back old.tree old.nodes old.handles named g)
 
-  pub but_number_back : (but : Option ℕ) (fh : ℕ)
-      → but ≡ option_map (λ (h : OpenNumber). h.file) (get old.handles.handles fh) → mid.nodes ≡ old.nodes
+  pub but_handle_back : (but : Option ℕ) (fh : ℕ)
+      → but ≡ option_map (λ (h : FileHandle). h.file) (get old.handles.handles fh) → mid.nodes ≡ old.nodes
       → mid.handles ≡ handle_back old.handles fh → AreNamedBut but mid.tree mid.nodes mid.handles
-  but_number_back but fh is nodes handles =
-      but_same but (option_map (λ (h : OpenNumber). h.file) (get old.handles.handles fh)) mid old.tree old.nodes
-      (handle_back old.handles fh) is tree nodes handles (named_number_back old.tree old.nodes old.handles named fh)
+  but_handle_back but fh is nodes handles =
+      but_same but (option_map (λ (h : FileHandle). h.file) (get old.handles.handles fh)) mid old.tree old.nodes
+      (handle_back old.handles fh) is tree nodes handles (named_handle_back old.tree old.nodes old.handles named fh)
 
--- what a request leaves is given nodes and open numbers
+-- what a request leaves is given nodes and file handles
 pub but_numbered : {A : Type 0} (but : Option ℕ) (start one two : FilesState) (v : Validity) (m : Minor)
     (h : HeldRequest) (reply : Reply ℕ ℕ) (sent : SentReply A)
     → AreNamedBut but (tree_said (server_at m start v) h) start.nodes (handles_said (server_at m start v) h)
@@ -167,7 +167,7 @@ no_more_opened handles [] x lacks = lacks
 no_more_opened handles (fh ∷ fhs) x lacks = no_more_opened (handle_back handles fh) fhs x
     (back_each (λ h. h.file ≢ x) handles fh (λ h is. is) lacks)
 
--- an entry is counted back, and then an open number
+-- an entry is counted back, and then a file handle
 counts_both : (old one two : FilesState) (gs : List Entry) (fhs : List ℕ) → CountsBack old gs [] one
     → CountsBack one [] fhs two → CountsBack old gs fhs two
 counts_both old one two gs fhs first second =

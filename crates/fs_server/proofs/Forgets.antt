@@ -31,7 +31,7 @@ forgotten_there id node n fs ne =
     let none : cond (nat_eq node id) n 0 ≡ 0 = ap {B = ℕ} (λ (b : Bool). cond b n 0) (other_number node id ne) in
     omega (arith, more, none)
 
--- a node of which nothing is told, or one of a pair
+-- a node of which nothing is said, or one of a pair
 told : (id : ℕ) (fs : List Forget) → list_any (λ f. nat_eq f.0 id) fs ≡ false → forgotten id fs ≡ 0
 told id [] none = refl
 told id (f ∷ fs) none = by (nat_eq f.0 id) refl none (told id fs)

@@ -47,7 +47,7 @@ module _ (s : Server) (bytes : List ℕ) (m : RequestMessage) (spells : Spells b
       by none (Some body) is = absurd (none (record { unique = m.unique; body = body })
           (record { message = m; spells = spells; unique = refl; says = is }))
 
-  -- It is refused for want of a number or of memory, where it asks this and has no fault.
+  -- It is refused as out of numbers or of memory, where it asks this and has no fault.
   pub refuses_for : (body : RequestBody) (fault : ServerFault) → body_in m.nodeid m.content ≡ Some body
       → fault_in s m ≡ None → fault ≡ past_or_memory (is_server_past_end (taking s m.unique body).server)
       → RefusesFrame s bytes fault

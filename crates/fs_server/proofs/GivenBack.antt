@@ -1,4 +1,4 @@
--- Nameless files that nothing holds go, once lookups and open numbers are given back.
+-- Nameless files that nothing holds go, once lookups and file handles are given back.
 use Rattle.std.proofs.Common.{◌≡◌, ℕ, Bool, false, List, [], ap, ◌∙◌}
 use Rattle.fuse_spec.specs.declared.Minor.{Minor}
 use Rattle.fuse_spec.specs.declared.Minor.TheVariants.{M31}

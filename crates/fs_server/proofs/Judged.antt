@@ -52,7 +52,7 @@ module _ (s : Server) (unique : ℕ) where
   silent (forget f) e = refl
   silent (batch_forget fs) e = refl
 
--- nothing refuses the frame but want of memory
+-- nothing refuses the frame but out of memory
 module _ (s : Server) (bytes : List ℕ) (m : RequestMessage) (right : IsTakeable s bytes m) where
   pub answers_frame : (b : Bool) → b ≡ answers s m.nodeid m.content → IsTrue b ↔ AnswersFrame s bytes
   answers_frame true e = (

@@ -1,4 +1,4 @@
--- Want of memory refuses only what takes memory.
+-- Out of memory refuses only what takes memory.
 use Rattle.std.proofs.Common.{◌≡◌, ℕ, Bool, true, false, true≢false, List, Option, Some, None, Result, Ok, Err, refl, sym, ap, ◌∙◌}
 use Rattle.std.specs.Prelude.{IfErr, OnErr}
 use Rattle.std.proofs.lemmas.Option.{same_Some}
@@ -33,7 +33,7 @@ judged_apart (Some unknown_node) = refl
 judged_apart (Some too_many_forgets) = refl
 judged_apart (Some repeated_unique) = refl
 
--- the fault of a request is no want of memory
+-- the fault of a request is not out of memory
 pub fault_apart : (s : Server) (unique : ℕ) (o : Option RequestBody) (fault : ServerFault)
     → request_fault s unique o ≡ Some fault → fault ≡ Memory → ⊥
 fault_apart s unique None fault is = other_fault fault (sym (ap is_memory_in is))
@@ -48,11 +48,11 @@ held_word s unique (forget f) is = absurd (true≢false (sym is))
 held_word s unique (batch_forget fs) is = absurd (true≢false (sym is))
 held_word s unique (interrupt original) is = absurd (true≢false (sym is))
 
--- nothing refuses the frame but want of memory
+-- nothing refuses the frame but out of memory
 module _ (s : Server) (bytes : List ℕ) (m : RequestMessage) (right : IsTakeable s bytes m) where
-  wants_for : (body : RequestBody) → body_in m.nodeid m.content ≡ Some body
+  needs_memory_for : (body : RequestBody) → body_in m.nodeid m.content ≡ Some body
       → word_takes_memory (taking s m.unique body).word ≡ true → TakingNeedsMemory s bytes
-  wants_for body is takes request says =
+  needs_memory_for body is takes request says =
       let one = right.only says.message says.spells in
       let unique : m.unique ≡ request.unique = ap (λ (n : RequestMessage). n.unique) one ∙ says.unique in
       let asked : Some body ≡ Some request.body = sym is ∙ ap
@@ -60,25 +60,25 @@ module _ (s : Server) (bytes : List ℕ) (m : RequestMessage) (right : IsTakeabl
       let body_is : body ≡ request.body = same_Some body request.body asked in
       sym (λ i. word_takes_memory (taking s (unique i) (body_is i)).word) ∙ takes
 
-  held_wants : holds_request m.nodeid m.content ≡ true → TakingNeedsMemory s bytes
-  held_wants is = wants_for (request_body_of m.nodeid m.content) (asked_body s bytes m right)
+  held_needs_memory : holds_request m.nodeid m.content ≡ true → TakingNeedsMemory s bytes
+  held_needs_memory is = needs_memory_for (request_body_of m.nodeid m.content) (asked_body s bytes m right)
       (ap word_takes_memory (held_word s m.unique (request_body_of m.nodeid m.content) is))
 
-  interrupt_wants : (original : ℕ) → m.content ≡ wire.interrupt original
+  interrupt_needs_memory : (original : ℕ) → m.content ≡ wire.interrupt original
       → (taking s m.unique (interrupt original)).word ≡ Again → TakingNeedsMemory s bytes
-  interrupt_wants original is word = wants_for (interrupt original) (ap (body_in m.nodeid) is) (ap word_takes_memory word)
+  interrupt_needs_memory original is word = needs_memory_for (interrupt original) (ap (body_in m.nodeid) is) (ap word_takes_memory word)
 
   -- the same of what comes of it
-  pub hold_wants : {T : Type 0} → holds_request m.nodeid m.content ≡ true → (r : Result T ServerFault)
+  pub hold_needs_memory : {T : Type 0} → holds_request m.nodeid m.content ≡ true → (r : Result T ServerFault)
       → IfErr r (λ fault. fault ≡ Memory → TakingNeedsMemory s bytes)
-  hold_wants is (Ok taken) = tt
-  hold_wants is (Err fault) = λ memory. held_wants is
+  hold_needs_memory is (Ok taken) = tt
+  hold_needs_memory is (Err fault) = λ memory. held_needs_memory is
 
-  pub answer_wants : {T : Type 0} (original : ℕ) → m.content ≡ wire.interrupt original → (r : Result T ServerFault)
+  pub answer_needs_memory : {T : Type 0} (original : ℕ) → m.content ≡ wire.interrupt original → (r : Result T ServerFault)
       → OnErr r ((taking s m.unique (interrupt original)).word ≡ Again)
       → IfErr r (λ fault. fault ≡ Memory → TakingNeedsMemory s bytes)
-  answer_wants original is (Ok taken) word = tt
-  answer_wants original is (Err fault) word = λ memory. interrupt_wants original is word
+  answer_needs_memory original is (Ok taken) word = tt
+  answer_needs_memory original is (Err fault) word = λ memory. interrupt_needs_memory original is word
 
   pub memory_can : {T : Type 0} → (r : Result T ServerFault) → IfErr r (λ fault. fault ≡ Memory → CanTake s bytes)
   memory_can (Ok taken) = tt

@@ -19,7 +19,7 @@ use Rattle.fs_files.specs.Values.{names_for, most_names_of}
 use Rattle.fs_files.specs.declared.replies.Outcome.{Outcome}
 use Rattle.fs_files.specs.declared.replies.Outcome.TheVariants as outcome
 use Rattle.fuse_frames.specs.declared.reply.Reply.TheVariants as said
-use Rattle.fs_files.specs.declared.spare.ReplySpare.{ReplySpare}
+use Rattle.fs_files.specs.declared.spare.ListingBuffers.{ListingBuffers}
 
 pub errno_said : {A : Type 0} (ms : ℕ) (o : Outcome A) → outcome_errno o ≡ errno_of (outcome_reply ms o)
 errno_said ms (outcome.Entry file) = refl
@@ -151,7 +151,7 @@ pub as_few : (n : ℕ) {m most : ℕ} → n ≡ m → m ≤ most → n ≤ most
 as_few n same fits = omega (arith, same, fits)
 
 -- room for more is room for less
-pub less_spare : {A : Type 0} (spare : ReplySpare A) (len names l n : ℕ) → HasSpare spare len names → l ≤ len
+pub less_spare : {A : Type 0} (spare : ListingBuffers A) (len names l n : ℕ) → HasSpare spare len names → l ≤ len
     → n ≤ names → HasSpare spare l n
 less_spare spare len names l n has fewer less =
     let bytes = has.bytes in

@@ -8,7 +8,7 @@ use Rattle.fuse_spec.specs.Values.Maps.{Map, get, put, remove}
 use Rattle.fuse_spec.specs.declared.Entry.{Entry}
 use Rattle.fuse_spec.specs.Server.Copies.{row_back, rows_back, handles_back, handles_counted}
 use Rattle.fuse_spec.specs.Kernel.Messages.{Forget, RequestBody, WireReply, init, asks, release, forget, batch_forget, interrupt}
-use Rattle.fuse_spec.specs.Server.Nodes.{NodeTable, HeldNode, HandleTable, OpenNumber, all_opened, file_of, handle_back, is_open, taken_back}
+use Rattle.fuse_spec.specs.Server.Nodes.{NodeTable, HeldNode, HandleTable, FileHandle, all_opened, file_of, handle_back, is_open, taken_back}
 use Rattle.fuse_spec.specs.Files.Operations as operation
 use Rattle.fuse_spec.specs.Files.Operations.{Reply, opens_in_reply}
 use Rattle.fuse_spec.specs.Server.Performs.{is_still_held}
@@ -17,7 +17,7 @@ use Rattle.fuse_spec.proofs.Tables.{get_put_there, get_gone_here, get_gone_there
 use Rattle.fs_files.specs.Bounds.{AreHeldBelow, AreNamed, AreUsed}
 use Rattle.fs_files.specs.Performing.{handles_by, handles_said}
 use Rattle.fs_files.specs.Values.{FilesState, no_handles, no_nodes}
-use Rattle.fs_files.proofs.Bounds.{taken_each, row_back_each, opened_each, back_each, number_more_each}
+use Rattle.fs_files.proofs.Bounds.{taken_each, row_back_each, opened_each, back_each, handle_more_each}
 use Rattle.fs_server.specs.Sound.{IsSoundServer, AreApart}
 
 pub sound_first : {V W X : Type 0} (files : FilesState) → files.nodes ≡ no_nodes → files.handles ≡ no_handles
@@ -55,10 +55,10 @@ below_rows t (g ∷ gs) old = below_rows (row_back t g) gs (below_back t g old)
 -- ---- uses
 
 module _ (next : ℕ) where
-  abbrev Use : OpenNumber → Type 0
+  abbrev Use : FileHandle → Type 0
   Use h = h.count ≤ next
 
-  abbrev Uses : OpenNumber → Type 0
+  abbrev Uses : FileHandle → Type 0
   Uses h = h.count ≤ next + 1
 
   used_still : (t : HandleTable) → AreUsed next t → AreUsed (next + 1) t
@@ -67,27 +67,27 @@ module _ (next : ℕ) where
   used_one : (t : HandleTable) (file : ℕ) → AreUsed next t → AreUsed (next + 1) (all_opened t (file ∷ []))
   used_one t file old = opened_each Use Uses t file (λ h low. omega (arith, low)) (omega arith) old
 
-  pub used_told : (t : HandleTable) (reply : Reply ℕ ℕ) → AreUsed next t
+  pub used_by_reply : (t : HandleTable) (reply : Reply ℕ ℕ) → AreUsed next t
       → AreUsed (next + 1) (all_opened t (opens_in_reply reply))
-  used_told t (operation.created file valid o) old = used_one t o old
-  used_told t (operation.opened o) old = used_one t o old
-  used_told t (operation.found file valid) old = used_still t old
-  used_told t (operation.missing valid) old = used_still t old
-  used_told t (operation.attributes a) old = used_still t old
-  used_told t (operation.listed records) old = used_still t old
-  used_told t (operation.listed_plus pairs) old = used_still t old
-  used_told t (operation.content bytes) old = used_still t old
-  used_told t (operation.written size) old = used_still t old
-  used_told t (operation.agreed major minor flags) old = used_still t old
-  used_told t operation.done old = used_still t old
-  used_told t (operation.failed errno) old = used_still t old
+  used_by_reply t (operation.created file valid o) old = used_one t o old
+  used_by_reply t (operation.opened o) old = used_one t o old
+  used_by_reply t (operation.found file valid) old = used_still t old
+  used_by_reply t (operation.missing valid) old = used_still t old
+  used_by_reply t (operation.attributes a) old = used_still t old
+  used_by_reply t (operation.listed records) old = used_still t old
+  used_by_reply t (operation.listed_plus pairs) old = used_still t old
+  used_by_reply t (operation.content bytes) old = used_still t old
+  used_by_reply t (operation.written size) old = used_still t old
+  used_by_reply t (operation.agreed major minor flags) old = used_still t old
+  used_by_reply t operation.done old = used_still t old
+  used_by_reply t (operation.failed errno) old = used_still t old
 
   -- once one more copy of a reply is sent
   pub used_again : (t : HandleTable) (wire : WireReply) → AreUsed next t
       → AreUsed (next + 1) (handles_counted t (opens_in_reply wire))
   used_again t (operation.created g valid o) old =
-      number_more_each Use Uses t o (λ h low. omega (arith, low)) (λ h low. omega (arith, low)) old
-  used_again t (operation.opened o) old = number_more_each Use Uses t o (λ h low. omega (arith, low))
+      handle_more_each Use Uses t o (λ h low. omega (arith, low)) (λ h low. omega (arith, low)) old
+  used_again t (operation.opened o) old = handle_more_each Use Uses t o (λ h low. omega (arith, low))
       (λ h low. omega (arith, low)) old
   used_again t (operation.found g valid) old = used_still t old
   used_again t (operation.missing valid) old = used_still t old

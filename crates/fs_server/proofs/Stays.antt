@@ -22,9 +22,9 @@ use Rattle.fs_files.proofs.HeldBelow.{within_first, within_given}
 use Rattle.fs_files.proofs.StaysNamed.{named_all_again, named_all_counted}
 use Rattle.fs_server.specs.Effects.{Forgets, GivesBack, SettlesFiles}
 use Rattle.fs_server.specs.Sound.{IsSoundServer}
-use Rattle.fs_server.proofs.Sound.{apart_again, apart_performed, apart_settled, apart_taken, below_all, below_rows, gone_none, used_again, used_all, used_said, used_told}
+use Rattle.fs_server.proofs.Sound.{apart_again, apart_performed, apart_settled, apart_taken, below_all, below_rows, gone_none, used_again, used_all, used_said, used_by_reply}
 
--- files with the same tree, nodes and open numbers
+-- files with the same tree, nodes and file handles
 same_named : (new : FilesState) (tree : Tree) (nodes : NodeTable) (handles : HandleTable) → new.tree ≡ tree
     → new.nodes ≡ nodes → new.handles ≡ handles → AreNamed tree nodes handles → AreNamed new.tree new.nodes new.handles
 same_named new tree nodes handles t n h named =
@@ -171,7 +171,7 @@ module _ {V W X : Type 0} (files : FilesState) (held : Map V) (kept : Map W) (co
             (λ (t : NodeTable). count_overflows t (files_in_reply reply)) nodes ∙ none)));
         used = subst (AreUsed (next + 1)) (sym (left_handles ∙ gives.handles_is ∙ ap
             (λ (t : HandleTable). all_opened t (opens_in_reply reply)) handles))
-            (used_told next (handles_said (server_of files v) h) reply (used_said next (server_of files v) h old.used));
+            (used_by_reply next (handles_said (server_of files v) h) reply (used_said next (server_of files v) h old.used));
         named = named;
         numbers = omega (arith, low);
         found_day = old.found_day;

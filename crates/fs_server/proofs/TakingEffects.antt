@@ -1,4 +1,4 @@
--- What becomes of a request that nothing refuses but want of memory.
+-- What becomes of a request that nothing refuses but out of memory.
 use Rattle.std.proofs.Common.{◌≡◌, ℕ, ◌+◌, ◌<◌, ◌≤◌, ◌^◌, Bool, true, false, true≢false, not, ◌||◌, List, [], ◌∷◌, Option, Some, None, Result, Ok, Err, refl, sym, ap, ◌∙◌, arith, inr}
 use Rattle.std.specs.Prelude.{IfErr, IfOk, OnOk, MatchResult, is_some, nat_lt}
 use Rattle.std.proofs.lemmas.Bool.{le-ltb}
@@ -31,7 +31,7 @@ no_fault s unique nodeid content right =
     sym (judged_so s unique nodeid content right.for_minor right.known right.few false
     (λ i. is_some (right.unheld i) || is_some (right.unkept i)))
 
--- forgets draw no generation
+-- forgets allocate no generation
 same_generations : (t : NodeTable) (fs : List Forget) → (all_taken_back t fs).next_generation ≡ t.next_generation
 same_generations t [] = refl
 same_generations t (f ∷ fs) = same_generations (taken_back t f.0 f.1) fs
@@ -60,7 +60,7 @@ module _ (s : Server) (unique : ℕ) (inside : is_server_past_end s ≡ false) w
       (nat_lt counter_end (s.next_copy + 1)) inside (le-ltb counter_end (s.next_copy + 1)
       (let low = number refl in omega (arith, low)))
 
-  -- what is taken draws no number but that of a copy
+  -- what is taken allocates no number but that of a copy
   past_taken : (body : RequestBody) → (is_answered_now s body ≡ true → s.next_copy < 2 ^ 62)
       → is_server_past_end (taking s unique body).server ≡ false
   past_taken (init flags) number = inside
@@ -70,7 +70,7 @@ module _ (s : Server) (unique : ℕ) (inside : is_server_past_end s ≡ false) w
   past_taken (batch_forget fs) number = past_forgotten fs
   past_taken (interrupt original) number = past_interrupting original (get s.held original) (get s.kept original) number
 
--- what is answered at once draws a copy number
+-- what is answered at once allocates a copy number
 past_answered : (s : Server) (unique : ℕ) (body : RequestBody) → is_answered_now s body ≡ true → 2 ^ 62 ≤ s.next_copy
     → is_server_past_end (taking s unique body).server ≡ true
 past_answered s unique (interrupt original) answered over = by (get s.held original) (get s.kept original) answered

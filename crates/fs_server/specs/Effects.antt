@@ -36,13 +36,13 @@ as_fault (Some unknown_node) = Some UnknownNode
 as_fault (Some too_many_forgets) = Some TooManyForgets
 as_fault (Some repeated_unique) = Some RepeatedUnique
 
--- What is wrong with a request under this unique, want of memory and of a number aside. Where the machine has no such
+-- What is wrong with a request under this unique, out of memory and out of numbers aside. Where the machine has no such
 -- request it isn't served.
 abbrev pub request_fault : Server → ℕ → Option RequestBody → Option ServerFault
 request_fault s unique None = Some Wire
 request_fault s unique (Some body) = as_fault (fault_of s (record { unique = unique; body = body }))
 
--- what a request is refused for that has no fault: a counter at its end, or else want of memory
+-- what a request is refused for that has no fault: a counter at its end, or else out of memory
 abbrev pub past_or_memory : Bool → ServerFault
 past_or_memory true = fault.Exhausted
 past_or_memory false = Memory
@@ -86,8 +86,8 @@ pub record TakesFrame {A : Type 0} (old : Server) (bytes : List ℕ) (taken : Ta
   pub after : new ≡ (taking old request.unique request.body).server
   pub copy : taken.sent ≡ copy_of old.next_copy request.unique (taking old request.unique request.body).reply
 
--- A frame is refused for the first fault of the request that it spells, or for want of a number or of memory, and where
--- it spells none as no request.
+-- A frame is refused for the first fault of the request that it spells, or as out of numbers or of memory, and where it
+-- spells none as no request.
 pub record RefusesFrame (old : Server) (bytes : List ℕ) (fault : ServerFault) : Type 0 where
   pub of_request : (request : Request) → SaysRequest bytes request → fault ≡ refused_for old request
   pub of_none : ((request : Request) → SaysRequest bytes request → ⊥) → fault ≡ Wire
@@ -105,7 +105,7 @@ abbrev pub TakingNeedsMemory : Server → List ℕ → Type 0
 TakingNeedsMemory s bytes = (request : Request) → SaysRequest bytes request
     → word_takes_memory (taking s request.unique request.body).word ≡ true
 
--- These nodes and open numbers are left, and nameless files that nothing holds have gone.
+-- These nodes and file handles are left, and nameless files that nothing holds have gone.
 pub record DiscardsUnheld (old : FilesState) (nodes : NodeTable) (handles : HandleTable)
     (new : FilesState) : Type 0 where
   pub tree : (v : Validity) → new.tree ≡ without_unheld (is_file_held (server_of new v)) old.tree
@@ -117,7 +117,7 @@ pub record DiscardsUnheld (old : FilesState) (nodes : NodeTable) (handles : Hand
 abbrev pub TakesBack : FilesState → List Forget → FilesState → Type 0
 TakesBack old fs new = DiscardsUnheld old (all_taken_back old.nodes fs) old.handles new
 
--- What these entries and open numbers counted is given back, and nameless files that nothing holds have gone.
+-- What these entries and file handles counted is given back, and nameless files that nothing holds have gone.
 abbrev pub CountsBack : FilesState → List Entry → List ℕ → FilesState → Type 0
 CountsBack old gs fhs new = DiscardsUnheld old (rows_back old.nodes gs) (handles_back old.handles fhs) new
 
@@ -151,7 +151,7 @@ abbrev pub is_of_copy : Option Kept → ℕ → Bool
 is_of_copy None first = false
 is_of_copy (Some kept) first = nat_eq kept.first first
 
--- Why a held request can't be performed: as the definitions have it, or for a counter at its end. Want of memory aside.
+-- Why a held request can't be performed: as the definitions have it, or for a counter at its end. Out of memory aside.
 pub data RefusesHeld (s : Server) (unique : ℕ) : Refusal → Type 0 where
   as_judged : (refusal : Refusal) → refusal_in (to_perform s unique (λ held. accepted)) ≡ Some refusal
       → RefusesHeld s unique refusal
@@ -175,7 +175,7 @@ pub record PerformsHeld (old : Server) (unique errno : ℕ) (copy : Option Sent)
   pub copy_is : copy ≡ first_copy old.aborted old.next_copy unique (served choice old unique held).wire
   pub errno_is : errno ≡ errno_of (served choice old unique held).wire
 
--- Why no copy of a kept reply can be sent: as the definitions have it, or for a counter at its end. Want of memory
+-- Why no copy of a kept reply can be sent: as the definitions have it, or for a counter at its end. Out of memory
 -- aside.
 pub data RefusesAgain (s : Server) (unique : ℕ) : Refusal → Type 0 where
   judged_again : (refusal : Refusal) → refusal_in (to_send_again s unique (λ kept. accepted)) ≡ Some refusal
@@ -183,7 +183,7 @@ pub data RefusesAgain (s : Server) (unique : ℕ) : Refusal → Type 0 where
   no_number : (kept : Kept) → get s.kept unique ≡ Some kept → is_current s kept.wire ≡ true
       → is_server_past_end (sent_again s unique kept) ≡ true → RefusesAgain s unique Exhausted
 
--- A reply is kept under this unique, each node and open number that it names is still held, and a copy number is left.
+-- A reply is kept under this unique, each node and file handle that it names is still held, and a copy number is left.
 pub record CanSendAgain (s : Server) (unique : ℕ) : Type 0 where
   pub kept : Kept
   pub there : get s.kept unique ≡ Some kept

@@ -16,7 +16,7 @@ pub record Interrupts {A : Type 0} (old : Server) (unique original : ℕ) (taken
   pub after : new ≡ (taking old unique (interrupt original)).server
   pub copy : taken.sent ≡ copy_of old.next_copy unique (taking old unique (interrupt original)).reply
 
--- The same of one that is answered EAGAIN.
+-- An INTERRUPT is answered EAGAIN so.
 pub record AsksAgain {A : Type 0} (old : Server) (unique : ℕ) (taken : Taken A) (new : Server) : Type 0 where
   pub under : taken.unique ≡ unique
   pub word : taken.word ≡ Again

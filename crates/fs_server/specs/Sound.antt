@@ -12,8 +12,8 @@ pub record AreApart {V W X : Type 0} (held : Map V) (kept : Map W) (copies : Map
   pub apart : (n : ℕ) → get held n ≢ None → get kept n ≡ None
   pub copies_below : (n : ℕ) → coming ≤ n → get copies n ≡ None
 
--- No node's lookups have come to their end, and no open number has more uses than copies were sent; each file that has
--- no node and no open number has a name; a name is valid for a day at most.
+-- No node's lookups have come to their end, and no file handle has more uses than copies were sent; each file that has
+-- no node and no file handle has a name; a name is valid for a day at most.
 pub record IsSoundServer {V W X : Type 0} (files : FilesState) (held : Map V) (kept : Map W) (copies : Map X)
     (coming : ℕ) (validity : Validity) : Type 0 where
   pub requests : AreApart held kept copies coming

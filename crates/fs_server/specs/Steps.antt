@@ -10,8 +10,8 @@ use Rattle.fuse_spec.specs.Values.Numbers.{counter_end}
 use Rattle.fs_files.specs.Performing.{said, tree_said}
 use Rattle.fs_files.specs.Plans.{HasNumbers}
 
--- A request is held under this unique, and the counters have the numbers that performing it draws. Nodes are in rising
--- nodeid.
+-- A request is held under this unique, and the counters have the numbers that performing it allocates. Nodes are in
+-- rising nodeid.
 pub record CanPerform (s : Server) (unique : ℕ) : Type 0 where
   pub held : HeldRequest
   pub there : get s.held unique ≡ Some held

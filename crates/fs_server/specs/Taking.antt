@@ -88,7 +88,7 @@ pub record IsFaultless (s : Server) (unique nodeid : ℕ) (content : RequestCont
   pub unkept : get s.kept unique ≡ None
 
 -- A frame spells this message and no other. It is a request with nothing wrong, no counter is past its end, and the
--- copy number is left that it draws.
+-- copy number is left that it allocates.
 pub record IsTakeable (s : Server) (bytes : List ℕ) (m : RequestMessage) : Type 0 where
   pub spells : Spells bytes m
   pub only : (n : RequestMessage) → Spells bytes n → m ≡ n

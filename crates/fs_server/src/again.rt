@@ -17,18 +17,18 @@ ghost use Rattle.fs_server.specs.Effects.{CanSendAgain, RefusesAgain, SendsAgain
 use crate::replies::SentCopy;
 use crate::server::ServerOf;
 use fs_files::{
-    Files, NamedNode, ReplySpare, SentReply, body_len, copied, file_entries, framed, name_count,
-    opened,
+    Files, ListingBuffers, NamedNode, SentReply, body_len, copied, file_entries, framed,
+    name_count, opened,
 };
 use fs_nodes::NodeStore;
-use fuse_frames::{ReplyRoom, Sent};
+use fuse_frames::{ReplyBuffer, Sent};
 use fuse_spec::limits::COUNTER_END;
 use fuse_spec::{Entry, Refusal};
 use std::alloc::AllocError;
 
 impl<S: NodeStore> ServerOf<S> {
-    /// Why no copy of a kept reply can be sent, want of memory aside: `NoCopy` where no reply is kept under the unique,
-    /// or a node or open number that it names is no longer held, the node under the same generation; `Exhausted` where
+    /// Why no copy of a kept reply can be sent, out of memory aside: `NoCopy` where no reply is kept under the unique,
+    /// or a node or file handle that it names is no longer held, the node under the same generation; `Exhausted` where
     /// a node's lookups would reach the end of counters, or no copy number is left.
     pub fn again_refusal(&self, unique: u64) -> Option<Refusal>
         ensures refuses { IfSome result (RefusesAgain self.now unique) }
@@ -50,11 +50,11 @@ impl<S: NodeStore> ServerOf<S> {
         None
     }
 
-    /// Sends one more copy of a kept reply, and counts once more each node and the open number that it names.
+    /// Sends one more copy of a kept reply, and counts once more each node and the file handle that it names.
     ///
     /// # Errors
     ///
-    /// `NoCopy` where no reply is kept under the unique, or a node or open number that it names is no longer held, the
+    /// `NoCopy` where no reply is kept under the unique, or a node or file handle that it names is no longer held, the
     /// node under the same generation; `Exhausted` where a node's lookups would reach the end of counters, or no copy
     /// number is left; then `NoMemory`. The server is as before.
     pub fn again(&mut self, unique: u64) -> Result<Sent<S::Heap>, Refusal>
@@ -84,8 +84,8 @@ impl<S: NodeStore> ServerOf<S> {
         };
         let reply = kept.reply();
         let len = body_len(reply);
-        let room = ReplyRoom::new(self.alloc, len)?;
-        let spare = ReplySpare::new(self.alloc, len, name_count(reply))?;
+        let room = ReplyBuffer::new(self.alloc, len)?;
+        let spare = ListingBuffers::new(self.alloc, len, name_count(reply))?;
         let number = self.next_copy;
         let copy = Sent::new(number, framed(reply, room, unique));
         let sent = SentCopy::new(unique, copied(reply, spare), kept.first());
@@ -96,17 +96,17 @@ impl<S: NodeStore> ServerOf<S> {
     }
 }
 
-/// Whether each node and open number that a reply names is still held, the node under the same generation.
+/// Whether each node and file handle that a reply names is still held, the node under the same generation.
 fn is_current<S: NodeStore>(files: &Files<S>, reply: &SentReply<S::Heap>) -> bool
     ensures { result ≡ (list_all (λ (g : ReplyEntry). is_held files.now.nodes g.nodeid g.generation)
         (files_in_reply (sent_wire reply.now)) && list_all (λ fh. is_some (get files.now.handles.handles fh))
         (opens_in_reply (sent_wire reply.now))) }
 {
-    let has_number = match opened(reply) {
-        Some(fh) => files.has_number(fh),
+    let has_handle = match opened(reply) {
+        Some(fh) => files.has_handle(fh),
         None => true,
     };
-    are_held(files, file_entries(reply)) && has_number
+    are_held(files, file_entries(reply)) && has_handle
 }
 
 /// Whether the node of each entry is held under the entry's generation.
@@ -121,7 +121,7 @@ fn are_held<S: NodeStore>(files: &Files<S>, entries: &[Entry]) -> bool
     })
 }
 
-/// Counts once more each node and the open number that a reply names.
+/// Counts once more each node and the file handle that a reply names.
 fn count_again<S: NodeStore>(files: &mut Files<S>, reply: &SentReply<S::Heap>)
     requires counts { count_overflows files.old.nodes (files_of files.old.nodes (files_in_reply (sent_wire reply.now)))
         ≡ false }
@@ -133,7 +133,7 @@ fn count_again<S: NodeStore>(files: &mut Files<S>, reply: &SentReply<S::Heap>)
 {
     count_nodes_again(files, file_entries(reply));
     if let Some(fh) = opened(reply) {
-        files.count_number_again(fh);
+        files.count_handle_again(fh);
     }
 }
 

@@ -26,7 +26,7 @@ impl<S: NodeStore> ServerOf<S> {
     /// The error reply to a frame that this server refuses with a fault, for the end of its link to send: a `struct
     /// fuse_out_header` alone, under the frame's unique, with ENOSYS where the server's minor does not know the opcode
     /// and else EIO. There is none to a frame of under 40 bytes or of another length than it says, to FORGET, INTERRUPT
-    /// and BATCH_FORGET, and for a repeated unique, a counter at its end or want of memory. No memory is taken. This
+    /// and BATCH_FORGET, and for a repeated unique, a counter at its end or out of memory. No memory is taken. This
     /// project's rule.
     pub fn fault_reply(&self, frame: &[u8], fault: ServerFault) -> Option<[u8; 16]>
         ensures { MatchOption result (IsAnswerable frame.now fault → ⊥)

@@ -61,7 +61,7 @@ fn named_nodes<A: Allocator, S: NodeStore>(nodes: &Nodes<S>, body: &HeldBody<A>)
     }
 }
 
-/// The same of an operation.
+/// The nodes that an operation names, with their generations.
 fn nodes_of_operation<A: Allocator, S: NodeStore>(
     nodes: &Nodes<S>,
     operation: &HeldOperation<A>,

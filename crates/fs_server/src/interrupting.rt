@@ -15,7 +15,7 @@ use crate::replies::SentCopy;
 use crate::server::{ServerFault, ServerOf, Taken};
 use fs_files::framed;
 use fs_nodes::NodeStore;
-use fuse_frames::{Reply, ReplyRoom, Sent};
+use fuse_frames::{Reply, ReplyBuffer, Sent};
 use fuse_spec::Taken as TakenWord;
 use fuse_spec::errno::EAGAIN;
 use std::alloc::Allocator;
@@ -72,7 +72,7 @@ impl<S: NodeStore> ServerOf<S> {
         let Ok(()) = self.copies.reserve(1) else {
             return Err(ServerFault::Memory);
         };
-        let Ok(room) = ReplyRoom::new(self.alloc, 0) else {
+        let Ok(room) = ReplyBuffer::new(self.alloc, 0) else {
             return Err(ServerFault::Memory);
         };
         let reply = Reply::Failed { errno: EAGAIN };

@@ -22,7 +22,7 @@ use fuse_spec::Minor;
 use fuse_spec::limits::COUNTER_END;
 
 impl<S: NodeStore> ServerOf<S> {
-    /// Why `take` refuses a frame, want of memory aside. Where it gives none, only memory can run out.
+    /// Why `take` refuses a frame, out of memory aside. Where it gives none, only memory can run out.
     pub fn take_refusal(&self, bytes: &[u8]) -> Option<ServerFault>
         ensures refuses { IfSome result (RefusesFrame self.now bytes.now) }
         ensures other { IfSome result (λ fault. fault ≡ MemoryFault → ⊥) }
@@ -46,7 +46,7 @@ impl<S: NodeStore> ServerOf<S> {
         }
     }
 
-    /// The request that a frame spells, if nothing but want of memory can refuse it.
+    /// The request that a frame spells, if nothing but out of memory can refuse it.
     #[inline(always)]
     pub(crate) fn judged<'a>(&self, bytes: &'a [u8]) -> Result<Request<'a>, ServerFault>
         ensures takeable { IfOk result (λ request. IsTakeable self.now bytes.now (request_message request)) }
@@ -76,7 +76,7 @@ impl<S: NodeStore> ServerOf<S> {
         }
     }
 
-    /// What is wrong with a request, want of memory and of a number aside.
+    /// What is wrong with a request, out of memory and out of numbers aside.
     #[inline(always)]
     fn request_fault(&self, request: &Request<'_>) -> Option<ServerFault>
         ensures fault { result ≡ request_fault self.now request.now.unique

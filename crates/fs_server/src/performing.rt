@@ -9,17 +9,17 @@ ghost use Rattle.fs_server.specs.Steps.{CanPerform};
 
 use crate::replies::{KeptReply, SentCopy};
 use crate::server::{Done, ServerOf};
-use fs_files::{Files, HeldRequest, ReplySpare, copied, errno, framed};
+use fs_files::{Files, HeldRequest, ListingBuffers, copied, errno, framed};
 use fs_nodes::NodeStore;
-use fuse_frames::{ReplyRoom, Sent};
+use fuse_frames::{ReplyBuffer, Sent};
 use fuse_spec::Refusal;
 use fuse_spec::limits::COUNTER_END;
 use fuse_tables::RisingTable;
 use std::alloc::{AllocError, Allocator};
 
 impl<S: NodeStore> ServerOf<S> {
-    /// Why a held request cannot be performed, want of memory aside: `NoSuch` where none is held under the unique,
-    /// `Exhausted` where a counter from which it draws is at its end, or the lookups of a node that its reply gives
+    /// Why a held request cannot be performed, out of memory aside: `NoSuch` where none is held under the unique,
+    /// `Exhausted` where a counter from which it allocates is at its end, or the lookups of a node that its reply gives
     /// would come to it.
     #[inline(always)]
     pub fn perform_refusal(&self, unique: u64) -> Option<Refusal>
@@ -39,7 +39,7 @@ impl<S: NodeStore> ServerOf<S> {
     }
 
     /// Performs a held request, and gives the first copy of its reply. A request that an INTERRUPT marked is answered
-    /// EINTR, one whose node is gone EIO. After an abort a request is performed, but no node and no open number is
+    /// EINTR, one whose node is gone EIO. After an abort a request is performed, but no node and no file handle is
     /// given, and no copy is sent.
     ///
     /// # Errors
@@ -100,7 +100,7 @@ impl<S: NodeStore> ServerOf<S> {
         let memory = memory_for(self.alloc, held)?;
         let file = self.files.unlinked_or_released(held);
         let outcome = self.files.answer(held, self.validity, self.minor)?;
-        let ReplyMemory {
+        let ReplyBuffers {
             room,
             spare,
             spare_copy,
@@ -126,17 +126,17 @@ impl<S: NodeStore> ServerOf<S> {
 
 /// Memory for a reply: for its frame, for what it lists, and for its copy's list.
 #[derive(Drop)]
-struct ReplyMemory<A: Allocator> {
-    room: ReplyRoom<A>,
-    spare: ReplySpare<A>,
-    spare_copy: ReplySpare<A>,
+struct ReplyBuffers<A: Allocator> {
+    room: ReplyBuffer<A>,
+    spare: ListingBuffers<A>,
+    spare_copy: ListingBuffers<A>,
 }
 
 /// Takes the memory for the reply to a held request.
 fn memory_for<A: Allocator + Copy>(
     alloc: A,
     held: &HeldRequest<A>,
-) -> Result<ReplyMemory<A>, AllocError>
+) -> Result<ReplyBuffers<A>, AllocError>
     ensures room { IfOk result (λ memory. 16 + reply_room_for held.now.body ≤ memory.room) }
     ensures spare { IfOk result (λ memory. HasSpare memory.spare 0 (names_for held.now.body)) }
     ensures spare_copy { IfOk result (λ memory.
@@ -144,10 +144,10 @@ fn memory_for<A: Allocator + Copy>(
 {
     let len = held.reply_len();
     let names = held.reply_names();
-    Ok(ReplyMemory {
-        room: ReplyRoom::new(alloc, len)?,
-        spare: ReplySpare::new(alloc, 0, names)?,
-        spare_copy: ReplySpare::new(alloc, len, names)?,
+    Ok(ReplyBuffers {
+        room: ReplyBuffer::new(alloc, len)?,
+        spare: ListingBuffers::new(alloc, 0, names)?,
+        spare_copy: ListingBuffers::new(alloc, len, names)?,
     })
 }
 

@@ -123,9 +123,9 @@ impl<S: NodeStore> ServerOf<S> {
         self.files.lemma_in_range();
     }
 
-    /// After each call a file without a name is that of a node or of an open number. Each held node has a generation,
-    /// and each open number and copy a number, that was given before the coming one. What a call gives is the coming
-    /// one, and none goes back, so no pair of nodeid and generation and no open number is given twice (libfuse's
+    /// After each call a file without a name is that of a node or of a file handle. Each held node has a generation,
+    /// and each file handle and copy a number, that was given before the coming one. What a call gives is the coming
+    /// one, and none goes back, so no pair of nodeid and generation and no file handle is given twice (libfuse's
     /// low-level notes ask this of a server).
     pub fn lemma_sound(&self)
         ensures named { AreNamed self.now.tree self.now.nodes self.now.handles }
@@ -159,8 +159,8 @@ impl<S: NodeStore> ServerOf<S> {
         self.is_aborted = true;
     }
 
-    /// A new mount: the nodes, open numbers, held requests, kept replies and copies go, and so do nameless files; the
-    /// tree stays, and generations, open numbers and copy numbers go on. Validities are in milliseconds; the minor is
+    /// A new mount: the nodes, file handles, held requests, kept replies and copies go, and so do nameless files; the
+    /// tree stays, and generations, file handles and copy numbers go on. Validities are in milliseconds; the minor is
     /// the one in use.
     pub fn remount(&mut self, found_ms: u64, missing_ms: u64, minor: Minor)
         requires found { found_ms ≤ max_validity }

@@ -71,18 +71,18 @@ fn settle_files<S: NodeStore>(
 {
     match settled {
         WriteResult::Accepted => {}
-        WriteResult::NoEntry | WriteResult::Invalid => give_back(files, reply),
+        WriteResult::NoEntry | WriteResult::Invalid => uncount_reply(files, reply),
     }
 }
 
 /// Gives back what a refused copy carried, where it is still held, the node under the entry's generation.
-fn give_back<S: NodeStore>(files: &mut Files<S>, reply: &SentReply<S::Heap>)
+fn uncount_reply<S: NodeStore>(files: &mut Files<S>, reply: &SentReply<S::Heap>)
     requires { AreNamed files.old.tree files.old.nodes files.old.handles }
     ensures gives { GivesBack files.old (sent_wire reply.now) files.new }
     ensures named { AreNamed files.new.tree files.new.nodes files.new.handles }
 {
     entries_back(files, file_entries(reply));
-    number_back(files, opened(reply));
+    uncount_handle_if_any(files, opened(reply));
 }
 
 /// Counts back the nodes of entries, one after another. Nameless files that nothing holds any longer go.
@@ -101,19 +101,19 @@ fn entry_back<S: NodeStore>(files: &mut Files<S>, entry: &Entry)
     ensures { CountsBack files.old (entry.now ∷ []) [] files.new }
 {
     let file = files.nodes().counted_file(entry.nodeid);
-    files.give_back(entry);
+    files.uncount_reply(entry);
     files.discard_unheld(file);
 }
 
-/// Counts back an open number. A nameless file that nothing holds any longer goes.
-fn number_back<S: NodeStore>(files: &mut Files<S>, fh: Option<u64>)
+/// Takes back one use of a file handle. A nameless file that nothing holds any longer goes.
+fn uncount_handle_if_any<S: NodeStore>(files: &mut Files<S>, fh: Option<u64>)
     requires { AreNamed files.old.tree files.old.nodes files.old.handles }
     ensures { CountsBack files.old [] (option_to_list fh) files.new }
 {
     let Some(fh) = fh else {
         return;
     };
-    let file = files.number_file(fh);
-    files.give_number_back(fh);
+    let file = files.handle_file(fh);
+    files.uncount_handle(fh);
     files.discard_unheld(file);
 }

@@ -92,7 +92,7 @@ fn is_forget(body: &RequestBody<'_>) -> bool
     )
 }
 
-/// The same of the files that are served; each node has as many lookups.
+/// Forgets what a request gives back of the files that are served; each node has as many lookups.
 fn forget<S: NodeStore>(files: &mut Files<S>, nodeid: u64, body: &RequestBody<'_>)
     requires enough { forgets_too_many files.old.nodes nodeid (request_content body.now) ≡ false }
     requires named { AreNamed files.old.tree files.old.nodes files.old.handles }
@@ -112,7 +112,7 @@ fn forget_one<S: NodeStore>(files: &mut Files<S>, nodeid: u64, nlookup: u64)
     ensures { TakesBack files.old ((nodeid, nlookup) ∷ []) files.new }
 {
     let file = files.nodes().counted_file(nodeid);
-    files.take_back(nodeid, nlookup);
+    files.forget(nodeid, nlookup);
     files.discard_unheld(file);
 }
 

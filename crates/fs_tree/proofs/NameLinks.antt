@@ -14,7 +14,7 @@ use Rattle.fuse_spec.specs.Files.Operations.{Dirent, first_listed, listed_by}
 use Rattle.fuse_spec.specs.Files.Trees.{same_name, record_length}
 use Rattle.fs_tree.specs.Stored.{Entry, AreBefore, AreKeysBelow, AreNamedOnce, IsRising, files_led, fitting_with, in_directory, lead_pair, without_key}
 use Rattle.fs_tree.specs.EntryViews.{leaf_entry, link_of, entry_link, link_in, AreLinked}
-use Rattle.fs_tree.specs.declared.entries.Leaf.{Leaf}
+use Rattle.fs_tree.specs.declared.entries.NamedFile.{NamedFile}
 use Rattle.fs_tree.specs.declared.entries.Link.{Link}
 use Rattle.fs_tree.proofs.ListLemmas.{filter-map}
 use Rattle.fs_tree.proofs.ByDirectory.{filter-append, filter-none}
@@ -119,14 +119,14 @@ AreNamedOnce-put es x once =
 -- ---- cookies
 
 module _ {A : Type 0} where
-  kept-above : (cookie : ℕ) (es : List (ℕ × Leaf A)) → AllByRecursion (λ y. nat_cmp cookie y ≡ Less) (keys_of es)
+  kept-above : (cookie : ℕ) (es : List (ℕ × NamedFile A)) → AllByRecursion (λ y. nat_cmp cookie y ≡ Less) (keys_of es)
       → filter (λ e. not (nat_eq e.cookie cookie)) (map leaf_entry es) ≡ map leaf_entry es
   kept-above cookie [] above = refl
   kept-above cookie (e ∷ es) above =
       let lower : cookie < e.0 = ranked cookie e.0 Less (sym above.0) in
       rw (other_back cookie e.0 lower) (ap (λ l. leaf_entry e ∷ l) (kept-above cookie es above.1))
 
-  above-found : (p : Entry → Bool) (cookie : ℕ) (es : List (ℕ × Leaf A)) (x : Entry)
+  above-found : (p : Entry → Bool) (cookie : ℕ) (es : List (ℕ × NamedFile A)) (x : Entry)
       → AllByRecursion (λ y. nat_cmp cookie y ≡ Less) (keys_of es) → find p (map leaf_entry es) ≡ Some x
       → cookie < x.cookie
   above-found p cookie [] x above found = cc
@@ -139,7 +139,7 @@ module _ {A : Type 0} where
       by false found rest = rest found
 
   -- a name is left out by its cookie
-  pub name-cookie : (name : List ℕ) (es : List (ℕ × Leaf A)) (x : Entry) → IsStrictlySortedBy nat_cmp (keys_of es)
+  pub name-cookie : (name : List ℕ) (es : List (ℕ × NamedFile A)) (x : Entry) → IsStrictlySortedBy nat_cmp (keys_of es)
       → AreNamedOnce (map leaf_entry es) → find (λ e. same_name e.name name) (map leaf_entry es) ≡ Some x
       → filter (λ e. not (nat_eq e.cookie x.cookie)) (map leaf_entry es)
       ≡ filter (λ e. not (same_name e.name name)) (map leaf_entry es)
@@ -172,7 +172,7 @@ module _ {A : Type 0} where
           (above-found (λ d. same_name d.name name) e.0 es x sorted.0 found) in
           rw other (ap (λ l. leaf_entry e ∷ l) (rest found))
 
-  pub below-entries : (next : ℕ) (es : List (ℕ × Leaf A)) → AreBefore next (map leaf_entry es) → AreKeysBelow next es
+  pub below-entries : (next : ℕ) (es : List (ℕ × NamedFile A)) → AreBefore next (map leaf_entry es) → AreKeysBelow next es
   below-entries next [] before = tt
   below-entries next (e ∷ es) before = (before.0, below-entries next es before.1)
 
@@ -259,7 +259,7 @@ module _ {A : Type 0} where
           (filter (λ e. not (same_name e.name x.name)) es) x apart
           ∙ find-kept (λ e. same_name e.name n) (λ e. same_name e.name x.name) (apart_names x.name n apart) es))
 
-module _ {A : Type 0} (name : List ℕ) (es : List (ℕ × Leaf A)) (once : AreNamedOnce (map leaf_entry es))
+module _ {A : Type 0} (name : List ℕ) (es : List (ℕ × NamedFile A)) (once : AreNamedOnce (map leaf_entry es))
     (sorted : IsStrictlySortedBy nat_cmp (keys_of es)) where
   gone-by : (o : Option Entry) → find (λ e. same_name e.name name) (map leaf_entry es) ≡ o
       → map leaf_entry (without_key (option_map (λ e. e.cookie) o) es)
@@ -274,7 +274,7 @@ module _ {A : Type 0} (name : List ℕ) (es : List (ℕ × Leaf A)) (once : AreN
       ≡ filter (λ e. not (same_name e.name name)) (map leaf_entry es)
   removed-entries = gone-by (find (λ e. same_name e.name name) (map leaf_entry es)) refl
 
-  put-by : (cookie : ℕ) (leaf : Leaf A) → AreBefore cookie (map leaf_entry es) → (o : Option Entry)
+  put-by : (cookie : ℕ) (leaf : NamedFile A) → AreBefore cookie (map leaf_entry es) → (o : Option Entry)
       → find (λ e. same_name e.name name) (map leaf_entry es) ≡ o
       → without_key (option_map (λ e. e.cookie) o) (es ++ (cookie, leaf) ∷ [])
       ≡ without_key (option_map (λ e. e.cookie) o) es ++ (cookie, leaf) ∷ []
@@ -286,7 +286,7 @@ module _ {A : Type 0} (name : List ℕ) (es : List (ℕ × Leaf A)) (once : AreN
       filter-append (λ e. not (nat_eq e.0 x.cookie)) es ((cookie, leaf) ∷ []) ∙ rw other refl
 
   -- a name put last, and the one before it taken away
-  pub put-entries : (cookie : ℕ) (leaf : Leaf A) → AreBefore cookie (map leaf_entry es)
+  pub put-entries : (cookie : ℕ) (leaf : NamedFile A) → AreBefore cookie (map leaf_entry es)
       → map leaf_entry (without_key (option_map (λ e. e.cookie) (find (λ e. same_name e.name name) (map leaf_entry es)))
       (insert_entry nat_cmp es cookie leaf)) ≡ filter (λ e. not (same_name e.name name)) (map leaf_entry es)
       ++ leaf_entry (cookie, leaf) ∷ []
@@ -315,7 +315,7 @@ and_true false = refl
 
 module _ {A : Type 0} where
   -- the names over a cookie
-  pub names-after : (after : ℕ) (es : List (ℕ × Leaf A))
+  pub names-after : (after : ℕ) (es : List (ℕ × NamedFile A))
       → map (in_directory 0) (map leaf_entry (filter (λ e. is_lt (nat_cmp after e.0) && true) es))
       ≡ filter (λ n. nat_lt after n.cookie) (map (in_directory 0) (map leaf_entry es))
   names-after after [] = refl

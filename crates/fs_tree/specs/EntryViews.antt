@@ -5,7 +5,7 @@ use Rattle.std.specs.Map.{lookup}
 use Rattle.std.specs.Cmp.Lexicographic.{pointwise}
 use Rattle.fuse_spec.specs.Files.Trees.{same_name}
 use Rattle.fs_tree.specs.Stored.{Entry}
-use Rattle.fs_tree.specs.declared.entries.Leaf.{Leaf}
+use Rattle.fs_tree.specs.declared.entries.NamedFile.{NamedFile}
 use Rattle.fs_tree.specs.declared.entries.Link.{Link}
 
 -- The file to which a name leads, and its cookie.
@@ -16,7 +16,7 @@ abbrev pub entry_link : Entry → ℕ × ℕ
 entry_link e = (e.file, e.cookie)
 
 module _ {A : Type 0} where
-  abbrev pub leaf_entry : ℕ × Leaf A → Entry
+  abbrev pub leaf_entry : ℕ × NamedFile A → Entry
   leaf_entry e = record { name = e.1.name.items; file = e.1.file; cookie = e.0 }
 
   -- The file to which a name leads, and its cookie, among links by name.

@@ -32,7 +32,7 @@ pub(crate) struct Link {
 
 /// A name, and the file to which it leads.
 #[derive(Drop)]
-pub(crate) struct Leaf<A: Allocator> {
+pub(crate) struct NamedFile<A: Allocator> {
     pub(crate) name: Vec<u8, A>,
     pub(crate) file: u64,
 }
@@ -40,7 +40,7 @@ pub(crate) struct Leaf<A: Allocator> {
 /// The names in a directory by cookie, and their links by name.
 #[derive(Drop)]
 pub(crate) struct Entries<A: Allocator> {
-    names: BTreeMap<u64, Leaf<A>, A>,
+    names: BTreeMap<u64, NamedFile<A>, A>,
     links: IndexMap<Vec<u8, A>, Link, BuildHasherDefault<FoldHasher>, A>,
 }
 
@@ -116,7 +116,7 @@ impl<A: Allocator + Copy> Entries<A> {
         let replaced = self.cookie_at(&name);
         let copy = copy_of(&name, *self.links.allocator())?;
         self.links.reserve(1)?;
-        let leaf = Leaf {
+        let leaf = NamedFile {
             name: copy,
             file: link.file,
         };
@@ -192,7 +192,7 @@ fn list_file(listed: &mut ArrayVec<u64, MOST_LISTED>, name: &[u8], file: u64)
 }
 
 /// Takes the name with this cookie away, if there is one.
-fn take_away<A: Allocator>(names: &mut BTreeMap<u64, Leaf<A>, A>, cookie: Option<u64>)
+fn take_away<A: Allocator>(names: &mut BTreeMap<u64, NamedFile<A>, A>, cookie: Option<u64>)
     ensures entries { names.new.entries ≡ without_key cookie names.old.entries }
     ensures was_ordered { IsOrdered nat_cmp names.old }
 {

@@ -20,7 +20,7 @@ ReadsPacket (stopped end) bytes = bytes ≡ []
 abbrev pub stated_len : List ℕ → ℕ
 stated_len bytes = little_number 4 bytes
 
--- the bytes are one whole frame, by its length: a header of so many bytes, and what it says follows
+-- the bytes are one whole frame, by its length: a header of this many bytes, and what it says follows
 pub record IsWholeFrame (least : ℕ) (bytes : List ℕ) : Type 0 where
   pub header : least ≤ length bytes
   pub stated : stated_len bytes ≡ length bytes
@@ -41,8 +41,8 @@ accepted_bytes frame Accepted = frame
 accepted_bytes frame NoEntry = []
 accepted_bytes frame Invalid = []
 
--- A call wrote these bytes: the frame that was accepted, nothing of one that was refused, and some of one that was to be
--- sent as the device came to its end.
+-- A call wrote these bytes: the frame that was accepted, nothing of one that was refused, and some of one that was to
+-- be sent as the device came to its end.
 abbrev pub Writes : Transfer → List ℕ → Type 0
 Writes (received frame) bytes = bytes ≡ []
 Writes (sent frame result) bytes = bytes ≡ accepted_bytes frame result
@@ -99,7 +99,7 @@ module _ {R W : Type 0} (remaining : R → Option (List ℕ)) (contents : W → 
   }
 
 module _ {R W : Type 0} (remaining : R → Option (List ℕ)) (contents : W → Option (List ℕ)) where
-  -- The same of a stream that is cut into frames of at least so many bytes, which stays so.
+  -- So of a stream that is cut into frames of at least this many bytes, which stays so.
   pub record IsCutInto (old_least new_least : ℕ) (old_reader new_reader : R) (old_writer new_writer : W)
       (log : List Transfer) : Type 0 where
     pub same : new_least ≡ old_least

@@ -27,7 +27,7 @@ pub trait Device {
     ghost logs: { (old new : Self) → List Transfer → Type 0 };
 
     /// Receives one frame into the front of the room, and says how many bytes it has. A call that the system asks to
-    /// try again is tried again here, but for a device that gives up where no frame comes in time.
+    /// try again is tried again here, but for a device that times out where no frame comes in time.
     ///
     /// # Errors
     ///

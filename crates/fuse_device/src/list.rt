@@ -6,9 +6,9 @@ use crate::device::{Device, DeviceEnd};
 use fuse_spec::WriteResult;
 use std::alloc::{Allocator, Global};
 
-/// A device that gives the frames of a list in turn, and then ends. It keeps the bytes of what was sent, one frame after
-/// another. Every send is accepted but one, of which it is given what to say. A frame that is longer than the room, and
-/// want of memory for what is sent, are failures.
+/// A device that gives the frames of a list in turn, and then ends. It keeps the bytes of what was sent, one frame
+/// after another. Every send is accepted but one, of which it is given what to say. A frame that is longer than the
+/// room, and memory that is out for what is sent, are failures.
 #[derive(Drop)]
 pub struct ListDevice<'a, A: Allocator = Global> {
     frames: &'a [&'a [u8]],

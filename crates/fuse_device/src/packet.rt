@@ -25,13 +25,13 @@ fn write_packet<W: Write>(out: &mut W, frame: &[u8]) -> Result<WriteResult, Devi
 
 /// A device over a reader and a writer of packets, as /dev/fuse and a SOCK_SEQPACKET socket: each read gives one frame,
 /// and each write takes one. A read of no byte, ENODEV, EPIPE, ECONNABORTED and ECONNRESET are the other side's end; a
-/// read that gives EINTR, EAGAIN or ENOENT is tried again. A device that gives up does not try a read again that gave
+/// read that gives EINTR, EAGAIN or ENOENT is tried again. A device that times out does not try a read again that gave
 /// EAGAIN: its reader waits for so long, and no longer.
 #[derive(Drop)]
 pub struct PacketDevice<R: Read + Drop, W: Write + Drop> {
     reader: R,
     writer: W,
-    gives_up: bool,
+    times_out: bool,
 }
 
 impl<R: Read + Drop, W: Write + Drop> PacketDevice<R, W> {
@@ -42,18 +42,18 @@ impl<R: Read + Drop, W: Write + Drop> PacketDevice<R, W> {
         PacketDevice {
             reader,
             writer,
-            gives_up: false,
+            times_out: false,
         }
     }
 
-    /// The device of these, which gives up where no frame comes in time.
+    /// The device of these, which times out where no frame comes in time.
     pub fn giving_up(reader: R, writer: W) -> Self
         ensures { (result.reader ≡ reader) × (result.writer ≡ writer) }
     {
         PacketDevice {
             reader,
             writer,
-            gives_up: true,
+            times_out: true,
         }
     }
 }
@@ -65,7 +65,7 @@ impl<R: Read + Drop, W: Write + Drop> Device for PacketDevice<R, W> {
         old.writer new.writer log };
 
     fn receive(&mut self, room: &mut [u8]) -> Result<usize, DeviceEnd> {
-        read_some(&mut self.reader, room, self.gives_up)
+        read_some(&mut self.reader, room, self.times_out)
     }
 
     fn send(&mut self, frame: &[u8]) -> Result<WriteResult, DeviceEnd> {

@@ -8,11 +8,11 @@ use crate::errors::{EAGAIN, end_of, is_read_again};
 use std::io::Read;
 
 /// Reads into the front of the room by one call, and says how many bytes came. One that the system asks to try again is
-/// tried again; where it gives up, EAGAIN says that the time is over for which the reader waits.
+/// tried again; where it times out, EAGAIN says that the time is over for which the reader waits.
 pub(crate) fn read_some<R: Read>(
     from: &mut R,
     room: &mut [u8],
-    gives_up: bool,
+    times_out: bool,
 ) -> Result<usize, DeviceEnd>
     ensures count { IfOk result (λ n. (0 < n) × (n ≤ length room.new)) }
     ensures bytes { IfOk result (λ n. Consumes (R.remaining from.old) (R.remaining from.new) (take n room.new)) }
@@ -24,7 +24,7 @@ pub(crate) fn read_some<R: Read>(
             Ok(count) => return Ok(count),
             Err(error) => {
                 let number = error.raw_os_error().unwrap_or(0);
-                if gives_up && number == EAGAIN {
+                if times_out && number == EAGAIN {
                     return Err(DeviceEnd::TimedOut);
                 }
                 if !is_read_again(number) {

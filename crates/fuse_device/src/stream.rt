@@ -26,7 +26,7 @@ struct Cut {
     /// The fewest bytes that a frame may state.
     least: usize,
     /// Whether EAGAIN of a read says that no frame came in time.
-    gives_up: bool,
+    times_out: bool,
     ghost has_length: { 4 ≤ least },
 }
 
@@ -35,7 +35,7 @@ fn read_at<R: Read>(
     from: &mut R,
     room: &mut [u8],
     at: usize,
-    gives_up: bool,
+    times_out: bool,
 ) -> Result<usize, DeviceEnd>
     requires { at ≤ length room.old }
     ensures count { IfOk result (λ n. (0 < n) × (at + n ≤ length room.new)) }
@@ -43,11 +43,11 @@ fn read_at<R: Read>(
         × Consumes (R.remaining from.old) (R.remaining from.new) bytes) }
     ensures end { OnErr result (Consumes (R.remaining from.old) (R.remaining from.new) []) }
 {
-    read_some(from, &mut room[at..], gives_up)
+    read_some(from, &mut room[at..], times_out)
 }
 
 /// Fills the room. Where the stream ends before its first byte that is given, and else it is a failure.
-fn fill<R: Read>(from: &mut R, room: &mut [u8], gives_up: bool) -> Result<(), DeviceEnd>
+fn fill<R: Read>(from: &mut R, room: &mut [u8], times_out: bool) -> Result<(), DeviceEnd>
     ensures ok { OnOk result (Consumes (R.remaining from.old) (R.remaining from.new) room.new) }
     ensures ended { IsErrOf result DeviceEnd.Ended → Consumes (R.remaining from.old) (R.remaining from.new) [] }
     ensures timed_out { IsErrOf result DeviceEnd.TimedOut → Consumes (R.remaining from.old) (R.remaining from.new) [] }
@@ -56,7 +56,7 @@ fn fill<R: Read>(from: &mut R, room: &mut [u8], gives_up: bool) -> Result<(), De
 {
     let mut done = 0;
     while done < room.len() {
-        match read_at(from, room, done, gives_up) {
+        match read_at(from, room, done, times_out) {
             Ok(count) => done += count,
             Err(end) if done == 0 => return Err(end),
             Err(_) => return Err(DeviceEnd::Failed),
@@ -76,12 +76,12 @@ fn read_frame<R: Read>(from: &mut R, room: &mut [u8], cut: Cut) -> Result<usize,
     if room.len() < cut.least {
         return Err(DeviceEnd::Failed);
     }
-    fill(from, &mut room[..LEN_BYTES], cut.gives_up)?;
+    fill(from, &mut room[..LEN_BYTES], cut.times_out)?;
     let len = LittleEndian::read_u32(room) as usize;
     if len < cut.least || room.len() < len {
         return Err(DeviceEnd::Failed);
     }
-    match fill(from, &mut room[LEN_BYTES..len], cut.gives_up) {
+    match fill(from, &mut room[LEN_BYTES..len], cut.times_out) {
         Ok(()) => Ok(len),
         Err(_) => Err(DeviceEnd::Failed),
     }
@@ -141,12 +141,12 @@ impl<R: Read + Drop, W: Write + Drop> StreamDevice<R, W> {
             writer,
             cut: Cut {
                 least: REQUEST_HEADER,
-                gives_up: false,
+                times_out: false,
             },
         }
     }
 
-    /// The device of these, over which replies are received: a frame has 16 bytes or more. It gives up where no frame
+    /// The device of these, over which replies are received: a frame has 16 bytes or more. It times out where no frame
     /// comes in the time for which the reader waits, which it shows by EAGAIN.
     pub fn of_replies(reader: R, writer: W) -> Self
         ensures { (result.reader ≡ reader) × (result.writer ≡ writer) × (result.cut.least ≡ 16) }
@@ -156,7 +156,7 @@ impl<R: Read + Drop, W: Write + Drop> StreamDevice<R, W> {
             writer,
             cut: Cut {
                 least: REPLY_HEADER,
-                gives_up: true,
+                times_out: true,
             },
         }
     }

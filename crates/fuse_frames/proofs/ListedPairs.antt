@@ -22,7 +22,7 @@ use Rattle.fuse_spec.specs.declared.Kind.TheVariants.{Directory, Regular, Other}
 use Rattle.fuse_spec.specs.declared.Attributes.{Attributes}
 use Rattle.fuse_spec.specs.Values.Numbers.{max_validity}
 use Rattle.fuse_spec.specs.Files.Operations.{DirentPlus}
-use Rattle.fuse_frames.specs.ReplyTies.{pairs_listed, pairs_told, entry_told, written_entry_for, file_named, valid_in, pair_in, written_pair, dirent_read, dirent_written, attr_of, attributes_in, kind_of_mode, mode_of, milliseconds, framed_by, message_of}
+use Rattle.fuse_frames.specs.ReplyTies.{pairs_listed, direntpluses_of, entry_listed, written_entry_for, file_named, valid_in, pair_in, written_pair, dirent_read, dirent_written, attr_of, attributes_in, kind_of_mode, mode_of, milliseconds, framed_by, message_of}
 use Rattle.fuse_frames.proofs.ReplyLemmas.{reads_as_itself}
 
 -- ---- how they are written
@@ -126,7 +126,7 @@ unfolding by
 valid_by true nodeid generation seconds nanoseconds attr = refl
 valid_by false nodeid generation seconds nanoseconds attr = refl
 
-file_listed : (valid : ℕ) (e : Entry) (d : DirentContent) → file_named (listed valid e d).entry_out ≡ entry_told e
+file_listed : (valid : ℕ) (e : Entry) (d : DirentContent) → file_named (listed valid e d).entry_out ≡ entry_listed e
 unfolding by
 file_listed valid e d = file_by (eqb e.nodeid 0) e (valid / 1000) (valid % 1000 * 1000000)
 
@@ -137,7 +137,7 @@ valid_listed valid e d most = valid_by (eqb e.nodeid 0) e.nodeid e.generation (v
     (attr_of e.attributes) ∙ reads_as_itself valid most
 
 pub pairs_say : (valid : ℕ) (es : List Entry) (ds : List DirentContent) → valid ≤ max_validity
-    → map pair_in (pairs_listed valid es ds) ≡ pairs_told valid es (map dirent_read ds)
+    → map pair_in (pairs_listed valid es ds) ≡ direntpluses_of valid es (map dirent_read ds)
 pairs_say valid (e ∷ es) (d ∷ ds) most =
     λ i. record {
       file = file_listed valid e d i;
@@ -154,7 +154,7 @@ for_by true valid e = refl
 for_by false valid e = refl
 
 -- an entry that is read is written as it stood
-entry_back : (valid : ℕ) (e : Entry) → written_entry_for valid (entry_told e)
+entry_back : (valid : ℕ) (e : Entry) → written_entry_for valid (entry_listed e)
     ≡ entry_of e.nodeid e.generation (valid / 1000) (valid % 1000 * 1000000) (attr_of e.attributes)
 unfolding by
 entry_back valid e = for_by (eqb e.nodeid 0) valid e
@@ -163,7 +163,7 @@ first_same : {X : Type 0} {x y : X} {xs ys : List X} → x ∷ xs ≡ y ∷ ys �
 first_same e = (cc, cc)
 
 pairs_back : (valid : ℕ) (es : List Entry) (ds : List DirentContent) → map dirent_written (map dirent_read ds) ≡ ds
-    → map written_pair (pairs_told valid es (map dirent_read ds)) ≡ pairs_listed valid es ds
+    → map written_pair (direntpluses_of valid es (map dirent_read ds)) ≡ pairs_listed valid es ds
 pairs_back valid (e ∷ es) (d ∷ ds) types =
     let same = first_same types in
     λ i. record { entry_out = entry_back valid e i; dirent = same.0 i } ∷ pairs_back valid es ds same.1 i

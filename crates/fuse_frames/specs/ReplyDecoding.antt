@@ -19,7 +19,7 @@ use Rattle.fuse_frames.specs.declared.reply.Reply.{Reply}
 use Rattle.fuse_frames.specs.declared.reply.Reply.TheVariants as said
 use Rattle.fuse_frames.specs.DecodedReplies.{Says}
 
--- What a reply says, lent from its frame.
+-- What a reply says, borrowed from its frame.
 abbrev pub LentReply : Type 0
 LentReply = Reply Entry Records RecordsPlus (Bor (List ℕ))
 
@@ -29,8 +29,8 @@ names_lent records = map dirent_read (records_in records)
 abbrev pub pairs_lent : RecordsPlus → List (reply.DirentPlus Entry)
 pairs_lent records = map pair_in (pluses_in records)
 
-abbrev pub lent_wire_of : LentReply → WireReply
-lent_wire_of said = reply_of (λ (entry : Entry). entry) names_lent pairs_lent (λ (bytes : Bor (List ℕ)). bytes.now) said
+abbrev pub decoded_wire_of : LentReply → WireReply
+decoded_wire_of said = reply_of (λ (entry : Entry). entry) names_lent pairs_lent (λ (bytes : Bor (List ℕ)). bytes.now) said
 
 -- a name is valid for a day at most
 abbrev pub LastsADay : LentReply → Type 0
@@ -41,11 +41,12 @@ LastsADay other = Unit {0}
 
 -- The bytes say this to the operation, and it goes with it.
 pub record SaysTo (operation : Operation ℕ Opened) (bytes : List ℕ) (said : LentReply) : Type 0 where
-  pub says : Says (asked_opcode (asks operation)) bytes (lent_wire_of said)
-  pub goes : goes_with operation (lent_wire_of said) ≡ true
+  pub says : Says (asked_opcode (asks operation)) bytes (decoded_wire_of said)
+  pub goes : goes_with operation (decoded_wire_of said) ≡ true
   pub day : LastsADay said
 
--- Whether a body in a frame of so many bytes is no longer than was asked, nor says that more was written than was sent.
+-- Whether a body in a frame of this many bytes is no longer than was asked, nor says that more was written than was
+-- sent.
 abbrev pub is_within_request : Operation ℕ Opened → ℕ → ReplyContent → Bool
 is_within_request (readdir d after size) len content = nat_le (len - 16) size
 is_within_request (readdirplus d after size) len content = nat_le (len - 16) size

@@ -41,7 +41,7 @@ entry_in nodeid generation a = record { nodeid = nodeid; generation = generation
 abbrev pub no_entry : Entry
 no_entry = record { nodeid = 0; generation = 0; attributes = record { kind = Other; ino = 0; size = 0; nlink = 0 } }
 
--- the kind that a record tells, by its type: 4 is a directory, 8 a regular file
+-- the kind of a record, by its type: 4 is a directory, 8 a regular file
 abbrev pub kind_of_type : ℕ → Kind
 kind_of_type type = cond (nat_eq type 4) Directory (cond (nat_eq type 8) Regular Other)
 
@@ -142,17 +142,17 @@ abbrev pub written_pair : DirentPlus Entry → DirentPlusContent
 written_pair p = record { entry_out = written_entry_for p.valid p.file; dirent = dirent_written p.dirent }
 
 -- The next three are names in a list with their entries, one to each name, where one of node 0 is of no file.
-abbrev pub entry_told : Entry → Option Entry
-entry_told e = cond (nat_eq e.nodeid 0) None (Some e)
+abbrev pub entry_listed : Entry → Option Entry
+entry_listed e = cond (nat_eq e.nodeid 0) None (Some e)
 
-abbrev pub pairs_told : (valid : ℕ) → List Entry → List Dirent → List (DirentPlus Entry)
-pairs_told valid (e ∷ entries) (d ∷ dirents) = record {
-  file = entry_told e;
+abbrev pub direntpluses_of : (valid : ℕ) → List Entry → List Dirent → List (DirentPlus Entry)
+direntpluses_of valid (e ∷ entries) (d ∷ dirents) = record {
+  file = entry_listed e;
   valid = valid;
   dirent = d;
-} ∷ pairs_told valid entries dirents
-pairs_told valid [] dirents = []
-pairs_told valid (e ∷ entries) [] = []
+} ∷ direntpluses_of valid entries dirents
+direntpluses_of valid [] dirents = []
+direntpluses_of valid (e ∷ entries) [] = []
 
 abbrev pub pairs_listed : (valid : ℕ) → List Entry → List DirentContent → List DirentPlusContent
 pairs_listed valid (e ∷ entries) (d ∷ ds) = record {

@@ -36,7 +36,7 @@ body_in nodeid (wire.create name) = Some (asks (operation.create nodeid name))
 body_in nodeid (wire.interrupt unique) = Some (interrupt unique)
 body_in nodeid (wire.batch_forget forgets) = Some (batch_forget forgets)
 
--- The body of the request that asks an operation, whose names and bytes are lent.
+-- The body of the request that asks an operation, whose names and bytes are borrowed.
 abbrev pub body_asking : Asked (Bor (List ℕ)) → RequestBody
 body_asking operation = asks (operation_of (λ s. s.now) operation)
 
@@ -93,7 +93,7 @@ pub record SaysRequestAt (minor : Minor) (bytes : List ℕ) (request : Request) 
   pub unique : message.unique ≡ request.unique
   pub says : body_in message.nodeid message.content ≡ Some request.body
 
--- The same at 7.31, whose opcodes are all that there are.
+-- The bytes spell this request at 7.31, whose opcodes are all that there are.
 abbrev pub SaysRequest : List ℕ → Request → Type 0
 SaysRequest = SaysRequestAt M31
 

@@ -3,7 +3,7 @@
 ghost use Rattle.std.specs.Prelude.{◌≡◌};
 ghost use Rattle.fuse_spec.specs.Kernel.Replies.{is_agreement};
 ghost use Rattle.fuse_spec.specs.Kernel.Replies.{minor_agreed as minor_said, files_agreed as files_said};
-ghost use Rattle.fuse_frames.specs.ReplyDecoding.{lent_wire_of};
+ghost use Rattle.fuse_frames.specs.ReplyDecoding.{decoded_wire_of};
 
 use crate::reply::Reply;
 use crate::reply_decoding::DecodedReply;
@@ -13,7 +13,7 @@ use fuse_spec::Minor;
 
 /// Whether a reply agrees on major 7, and on minor 15 or one from 31 up (this project's rule).
 pub fn agrees(said: &DecodedReply<'_>) -> bool
-    ensures { result ≡ is_agreement (lent_wire_of said.now) }
+    ensures { result ≡ is_agreement (decoded_wire_of said.now) }
 {
     match said {
         Reply::Agreed { major, minor, .. } => *major == 7 && (*minor == 15 || *minor >= 31),
@@ -23,7 +23,7 @@ pub fn agrees(said: &DecodedReply<'_>) -> bool
 
 /// The minor that is agreed on: one from 31 up is taken as 31 (this project's rule).
 pub fn minor_agreed(said: &DecodedReply<'_>) -> Minor
-    ensures { result ≡ minor_said (lent_wire_of said.now) }
+    ensures { result ≡ minor_said (decoded_wire_of said.now) }
 {
     match said {
         Reply::Agreed { minor: 15, .. } => Minor::M15,
@@ -35,7 +35,7 @@ pub fn minor_agreed(said: &DecodedReply<'_>) -> Minor
 /// which has no READDIRPLUS (linux/fuse.h).
 #[tactic(auto, using(crate::proofs::Agreements::readdirplus_known))]
 pub fn files_agreed(said: &DecodedReply<'_>) -> bool
-    ensures { result ≡ files_said (lent_wire_of said.now) }
+    ensures { result ≡ files_said (decoded_wire_of said.now) }
 {
     match said {
         Reply::Agreed { minor, flags, .. } => {

@@ -22,6 +22,6 @@ pub use reply::Reply;
 pub use reply_body::{kind_of_type, listed_by};
 pub use reply_decoding::{DecodedReply, decode_reply, reply_to_call};
 pub use reply_frame::ReplyFrame;
-pub use reply_room::ReplyRoom;
+pub use reply_room::ReplyBuffer;
 pub use request_frame::RequestFrame;
 pub use sent::Sent;

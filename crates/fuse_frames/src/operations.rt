@@ -8,7 +8,7 @@ ghost use Rattle.fuse_frames.specs.RequestTies.{RequestAsks, AsksNothing, IsTran
 use fk_wire::{Opcode, RequestBody};
 use fuse_spec::{Opened, Operation};
 
-/// The operation that the body of a request of a node asks, its names or bytes lent from the frame. INIT, RELEASE,
+/// The operation that the body of a request of a node asks, its names or bytes borrowed from the frame. INIT, RELEASE,
 /// INTERRUPT and forgets ask none (linux/fuse.h, enum fuse_opcode).
 pub fn operation_asked<'a>(nodeid: u64, body: &RequestBody<'a>) -> Option<Operation<&'a [u8]>>
     ensures some { IfSome result (RequestAsks (body_in nodeid (request_content body.now))) }

@@ -4,8 +4,8 @@ use fk_wire::InitFlags;
 use fuse_spec::Attributes;
 
 /// What a reply says: its body, or an error number alone (linux/fuse.h, struct fuse_out_header). `F` names a file, `L`
-/// holds the names of a list, `P` holds names with their files, and `S` holds bytes: lent from a frame, or owned. What
-/// a name leads to is valid for so many milliseconds.
+/// holds the names of a list, `P` holds names with their files, and `S` holds bytes: borrowed from a frame, or owned.
+/// What a name leads to is valid for this many milliseconds.
 #[derive(Drop)]
 pub enum Reply<F, L, P, S> {
     /// The name leads to a file.

@@ -3,9 +3,9 @@
 ghost use Rattle.std.specs.Prelude.{◌≡◌};
 ghost use Rattle.fk_wire.specs.Entries.{entry_content};
 ghost use Rattle.fk_wire.specs.Records.{direntplus_content};
-ghost use Rattle.fuse_spec.specs.Files.Operations.{listed_by as file_told};
+ghost use Rattle.fuse_spec.specs.Files.Operations.{listed_by as file_in_pair};
 ghost use Rattle.fuse_frames.specs.ReplyTies.{attributes_in, file_named, kind_of_mode, pair_in, valid_in};
-ghost use Rattle.fuse_frames.specs.ReplyTies.{kind_of_type as kind_told};
+ghost use Rattle.fuse_frames.specs.ReplyTies.{kind_of_type as kind_in_type};
 ghost use Rattle.fuse_frames.specs.ReplyTies.{milliseconds as milliseconds_in};
 
 use fk_wire::{Attr, DirentPlus};
@@ -49,7 +49,7 @@ pub(crate) fn milliseconds(seconds: u64, nanoseconds: u32) -> u64
 /// The kind of a record, by its type.
 #[inline(always)]
 pub fn kind_of_type(type_number: u32) -> Kind
-    ensures { result ≡ kind_told type_number }
+    ensures { result ≡ kind_in_type type_number }
 {
     match type_number {
         4 => Kind::Directory,
@@ -91,7 +91,7 @@ fn valid_of(entry: &fk_wire::Entry) -> u64
 /// The file that a name in a list gives, and for how many milliseconds the name leads there. `.` and `..` give none,
 /// nor does an entry of node id 0 (linux/fuse.h, struct fuse_direntplus).
 pub fn listed_by(pair: &DirentPlus<'_>) -> (Option<Entry>, u64)
-    ensures file { result.0 ≡ file_told (pair_in (direntplus_content pair.now)) }
+    ensures file { result.0 ≡ file_in_pair (pair_in (direntplus_content pair.now)) }
     ensures valid { result.1 ≡ (pair_in (direntplus_content pair.now)).valid }
 {
     let valid_ms = valid_of(&pair.entry_out);

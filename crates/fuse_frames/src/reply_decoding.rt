@@ -11,7 +11,7 @@ ghost use Rattle.fuse_frames.specs.ReplyTies.{wire_body, wire_said, no_entry};
 ghost use Rattle.fuse_frames.specs.RequestTies.{asked_opcode};
 ghost use Rattle.fuse_spec.specs.Files.Operations.{operation_of};
 ghost use Rattle.fuse_frames.specs.DecodedReplies.{Says, IsNoReply};
-ghost use Rattle.fuse_frames.specs.ReplyDecoding.{lent_wire_of, LastsADay, SaysTo, is_within_request};
+ghost use Rattle.fuse_frames.specs.ReplyDecoding.{decoded_wire_of, LastsADay, SaysTo, is_within_request};
 
 use crate::operations::opcode_asked;
 use crate::reply::Reply;
@@ -19,7 +19,7 @@ use crate::reply_body::{attributes_of, entry_named, milliseconds};
 use fk_wire::{Opcode, Records, RecordsPlus, ReplyBody, ReplyHead, read_reply_body};
 use fuse_spec::{Attributes, Entry, Kind, Operation};
 
-/// What a reply says, lent from its frame.
+/// What a reply says, borrowed from its frame.
 pub type DecodedReply<'a> = Reply<Entry, Records<'a>, RecordsPlus<'a>, &'a [u8]>;
 
 /// No file, where an entry names none.
@@ -40,7 +40,7 @@ fn no_file() -> Entry
 
 /// What an entry says: with node id 0 the name is missing.
 fn said_by_entry(entry: &fk_wire::Entry) -> DecodedReply<'static>
-    ensures wire { wire_body (entry_reply (entry_content entry.now)) ≡ lent_wire_of result }
+    ensures wire { wire_body (entry_reply (entry_content entry.now)) ≡ decoded_wire_of result }
     ensures day { LastsADay result }
 {
     let valid_ms = milliseconds(entry.entry_valid, entry.entry_valid_nsec);
@@ -51,9 +51,9 @@ fn said_by_entry(entry: &fk_wire::Entry) -> DecodedReply<'static>
     Reply::Entry { file, valid_ms }
 }
 
-/// What an entry with an open number says.
+/// What an entry with a file handle says.
 fn said_by_create(entry: &fk_wire::Entry, fh: u64) -> DecodedReply<'static>
-    ensures wire { wire_body (create_reply (entry_content entry.now) fh) ≡ lent_wire_of result }
+    ensures wire { wire_body (create_reply (entry_content entry.now) fh) ≡ decoded_wire_of result }
     ensures day { LastsADay result }
 {
     let valid_ms = milliseconds(entry.entry_valid, entry.entry_valid_nsec);
@@ -68,7 +68,7 @@ fn said_by_create(entry: &fk_wire::Entry, fh: u64) -> DecodedReply<'static>
 /// What a body says.
 #[inline(always)]
 fn decode_body(body: ReplyBody<'_>) -> DecodedReply<'_>
-    ensures wire { wire_body (reply_content body.entry) ≡ lent_wire_of result }
+    ensures wire { wire_body (reply_content body.entry) ≡ decoded_wire_of result }
     ensures day { LastsADay result }
 {
     match body {
@@ -114,7 +114,7 @@ pub fn decode_reply<'a>(
     bytes: &'a [u8],
 ) -> Option<DecodedReply<'a>>
     requires { IsReplyHead bytes.now head }
-    ensures said { IfSome result (λ said. Says opcode bytes.now (lent_wire_of said)) }
+    ensures said { IfSome result (λ said. Says opcode bytes.now (decoded_wire_of said)) }
     ensures day { IfSome result LastsADay }
     ensures none { IfNone result (IsNoReply opcode bytes.now) }
 {
@@ -127,7 +127,8 @@ pub fn decode_reply<'a>(
     Some(decode_body(body))
 }
 
-/// Whether a body in a frame of so many bytes is no longer than was asked, nor says that more was written than was sent.
+/// Whether a body in a frame of this many bytes is no longer than was asked, nor says that more was written than was
+/// sent.
 #[inline(always)]
 fn is_within_asked(asked: &Operation<&[u8]>, len: usize, body: &ReplyBody<'_>) -> bool
     ensures { result ≡ is_within_request (operation_of (λ s. s.now) asked.now) len (reply_content body.now) }

@@ -10,7 +10,7 @@ ghost use Rattle.fk_wire.specs.Replies.{reply_body, reply_content, kind_of_conte
 ghost use Rattle.fk_wire.specs.Requests.{known_flags};
 ghost use Rattle.fuse_spec.specs.Values.Numbers.{max_transfer, max_validity};
 ghost use Rattle.fuse_spec.specs.Files.Operations as reply;
-ghost use Rattle.fuse_frames.specs.ReplyTies.{AreWritten, FitsRoom, reply_content_of, dirent_read, dirent_written, pairs_told, wire_body};
+ghost use Rattle.fuse_frames.specs.ReplyTies.{AreWritten, FitsRoom, reply_content_of, dirent_read, dirent_written, direntpluses_of, wire_body};
 ghost use Rattle.fuse_frames.specs.ReplyTies.{attr_of as attr_written};
 
 use crate::listing::put_listing;
@@ -26,11 +26,11 @@ const ROOM: usize = 160;
 /// Room for one reply, seen as how many bytes it holds: a server takes it first, then changes its state, and then
 /// writes the reply, which cannot fail. Any reply of a fixed length has room.
 #[derive(Drop)]
-pub struct ReplyRoom<A: Allocator = Global> {
+pub struct ReplyBuffer<A: Allocator = Global> {
     bytes: Vec<u8, A>,
 }
 
-impl<A: Allocator> Model for ReplyRoom<A> {
+impl<A: Allocator> Model for ReplyBuffer<A> {
     ghost use Rattle.std.specs.Prelude.{◌≡◌, ◌≤◌, ℕ, [], vec_capacity};
     ghost use Rattle.fuse_frames.specs.ReplyTies.{reply_room};
 
@@ -41,14 +41,14 @@ impl<A: Allocator> Model for ReplyRoom<A> {
     ghost invariant = { λ r. (r.bytes.items ≡ []) × (reply_room ≤ vec_capacity r.bytes) };
 }
 
-impl<A: Allocator> ReplyRoom<A> {
+impl<A: Allocator> ReplyBuffer<A> {
     /// Takes the memory for a reply of a fixed length, and for one whose body is this long.
-    pub fn new(alloc: A, len: usize) -> Result<ReplyRoom<A>, AllocError>
+    pub fn new(alloc: A, len: usize) -> Result<ReplyBuffer<A>, AllocError>
         requires { len ≤ max_transfer }
         ensures { IfOk result (λ room. 16 + len ≤ room) }
     {
         let bytes = Vec::with_capacity(alloc, ROOM.max(16 + len))?;
-        Ok(ReplyRoom { bytes })
+        Ok(ReplyBuffer { bytes })
     }
 
     /// The frame of a reply without error.
@@ -82,7 +82,7 @@ impl<A: Allocator> ReplyRoom<A> {
         self.said(unique, Opcode::Init, body)
     }
 
-    /// The answer to a LOOKUP that found nothing: the name is missing for so many milliseconds, at most a day.
+    /// The answer to a LOOKUP that found nothing: the name is missing for this many milliseconds, at most a day.
     pub fn missing(self, unique: u64, missing_ms: u64) -> ReplyFrame<A>
         requires { missing_ms ≤ max_validity }
         ensures { result ≡ record { unique = unique; wire = reply.missing missing_ms } }
@@ -91,7 +91,7 @@ impl<A: Allocator> ReplyRoom<A> {
         self.said(unique, Opcode::Lookup, ReplyBody::Entry { entry })
     }
 
-    /// The answer to a LOOKUP, MKDIR or LINK: the name leads to this node for so many milliseconds, at most a day.
+    /// The answer to a LOOKUP, MKDIR or LINK: the name leads to this node for this many milliseconds, at most a day.
     pub fn found(self, unique: u64, entry: &Entry, found_ms: u64) -> ReplyFrame<A>
         requires node { entry.now.nodeid ≢ 0 }
         requires valid { found_ms ≤ max_validity }
@@ -127,8 +127,8 @@ impl<A: Allocator> ReplyRoom<A> {
         self.said(unique, Opcode::Read, ReplyBody::Bytes { bytes })
     }
 
-    /// The answer to READDIR: the bytes of its records, for which there is room. They are written with zeros behind each
-    /// name, and their types are those of kinds (`type_of`).
+    /// The answer to READDIR: the bytes of its records, for which there is room. They are written with zeros behind
+    /// each name, and their types are those of kinds (`type_of`).
     pub fn listed(self, unique: u64, records: &[u8]) -> ReplyFrame<A>
         requires written { (ds : List DirentContent) × AreWritten ds records.now }
         requires room { 16 + length records.now ≤ self }
@@ -143,8 +143,8 @@ impl<A: Allocator> ReplyRoom<A> {
     }
 
     /// The answer to READDIRPLUS: the records, for which there is room, each with the entry of its name's file, or with
-    /// one of node 0. Each name leads to its file for so many milliseconds, at most a day. The types are those of kinds
-    /// (`type_of`).
+    /// one of node 0. Each name leads to its file for this many milliseconds, at most a day. The types are those of
+    /// kinds (`type_of`).
     pub fn listed_plus(
         self,
         unique: u64,
@@ -160,7 +160,7 @@ impl<A: Allocator> ReplyRoom<A> {
         ensures { result ≡ record {
           unique = unique;
           wire = reply.listed_plus
-              (pairs_told found_ms entries.now (map dirent_read (records_in records.entry)));
+              (direntpluses_of found_ms entries.now (map dirent_read (records_in records.entry)));
         } }
     {
         let mut bytes = self.bytes;

@@ -170,7 +170,7 @@ impl<A: Allocator + Copy> RequestFrame<A> {
         }
     }
 
-    /// FORGET of so many lookups of a node.
+    /// FORGET of this many lookups of a node.
     fn forget(alloc: A, unique: u64, node: u64, count: u64) -> Result<RequestFrame<A>, AllocError>
         ensures { IfOk result (λ frame. frame ≡ record { unique = unique; body = forget (node, count) }) }
     {

@@ -11,7 +11,7 @@ use Rattle.fuse_spec.specs.declared.InterruptReply.TheVariants.{Again, NotSuppor
 use Rattle.fuse_spec.specs.Kernel.Signals.{signal_effect, reply_effect}
 use Rattle.fuse_spec.specs.declared.QueuedRequest.{QueuedRequest}
 use Rattle.fuse_spec.specs.Kernel.QueueLaws.{AddsOne, mark_read, kept_entries}
-use Rattle.fuse_spec.specs.Kernel.Queues.{QueueState, request_under, pending, processing, is_unread, IsSound, was_drawn, is_interrupted, mark_under, has_interrupt}
+use Rattle.fuse_spec.specs.Kernel.Queues.{QueueState, request_under, pending, processing, is_unread, IsSound, was_allocated, is_interrupted, mark_under, has_interrupt}
 use Rattle.fuse_spec.specs.Kernel.QueueCalls.{after_enqueue, set_mark, with_mark, after_read_pending, without, waiting, after_answer, interrupt_effect, after_interrupt, after_effect, after_interrupt_reply, after_reply_effect, after_no_interrupts, with_interrupt}
 use Rattle.fuse_spec.proofs.QueueCounts.{key_count, key_count-found, lookup-found, count_by-cons, lookup-no_key, lookup-remove_entry_other, lookup-set_mark_other}
 use Rattle.fuse_spec.proofs.QueueSoundness.{lookup-next}
@@ -81,7 +81,7 @@ module _ {X : Type 0} where
 module _ {W : Type 0} where
   -- no number has two requests
   pub key_count-le-one : (s : QueueState W) (u : ℕ) → IsSound s → key_count u s.requests ≤ 1
-  key_count-le-one s u sound = by (was_drawn s.next u) (sound.requests u)
+  key_count-le-one s u sound = by (was_allocated s.next u) (sound.requests u)
     where
       by : {n : ℕ} (b : Bool) → n ≤ cond b 1 0 → n ≤ 1
       by true le = le
@@ -344,7 +344,7 @@ module _ {W : Type 0} where
 
   -- signals that dequeue nothing
 
-  -- a mark that a test does not tell from the old one moves nothing
+  -- a mark that a test does not distinguish from the old one moves nothing
   kept_entries-set_mark : (q : Mark → Bool) (u : ℕ) (es : List (ℕ × QueuedRequest W)) (r : QueuedRequest W) (m : Mark)
       → lookup (nat_eq u) es ≡ Some r → q m ≡ q r.mark
       → kept_entries (filter (λ e. q e.1.mark) (set_mark u es m)) ≡ kept_entries (filter (λ e. q e.1.mark) es)

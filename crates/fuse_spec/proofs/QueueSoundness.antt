@@ -6,7 +6,7 @@ use Rattle.std.specs.List.{list_any}
 use Rattle.std.specs.Map.{lookup, remove_entry}
 use Rattle.std.specs.Option.{option_map_or}
 use Rattle.fuse_spec.specs.Kernel.Uniques.{IsNextNumber}
-use Rattle.fuse_spec.specs.Kernel.Queues.{QueueState, has_interrupt, mark_under, is_unread, pending, is_interrupted, IsSound, was_drawn}
+use Rattle.fuse_spec.specs.Kernel.Queues.{QueueState, has_interrupt, mark_under, is_unread, pending, is_interrupted, IsSound, was_allocated}
 use Rattle.fuse_spec.specs.Kernel.QueueCalls.{after_enqueue, with_mark, with_interrupt, after_read_interrupt, without}
 use Rattle.fuse_spec.specs.declared.Mark.{Mark}
 use Rattle.fuse_spec.specs.declared.Mark.TheVariants.{Unread, Flagged, Read, Interrupted}
@@ -15,14 +15,14 @@ use Rattle.fuse_spec.proofs.QueueCounts.{key_count, key_count-set_mark, lookup-s
 
 -- numbers
 
-was_drawn-later : (n u : ℕ) → was_drawn n u ≡ true → was_drawn (n + 2) u ≡ true
-was_drawn-later n u drawn = grind (arith, nat_tests, drawn)
+was_allocated-later : (n u : ℕ) → was_allocated n u ≡ true → was_allocated (n + 2) u ≡ true
+was_allocated-later n u allocated = grind (arith, nat_tests, allocated)
 
-was_drawn-self : (n : ℕ) → was_drawn n n ≡ false
-was_drawn-self n = grind (arith, nat_tests)
+was_allocated-self : (n : ℕ) → was_allocated n n ≡ false
+was_allocated-self n = grind (arith, nat_tests)
 
-was_drawn-here : (n : ℕ) → IsNextNumber n → was_drawn (n + 2) n ≡ true
-was_drawn-here n is = grind (arith, nat_tests, is.even, is.low)
+was_allocated-here : (n : ℕ) → IsNextNumber n → was_allocated (n + 2) n ≡ true
+was_allocated-here n is = grind (arith, nat_tests, is.even, is.low)
 
 -- bounds by a test
 
@@ -104,7 +104,7 @@ module _ {W : Type 0} where
   pub IsSound-enqueue : (s : QueueState W) (w : W) → IsSound s → IsNextNumber (s.next + 2) → IsSound (after_enqueue s w)
   IsSound-enqueue s w sound next = record {
     next = next;
-    requests = λ u. drawn u (nat_eq u s.next) refl;
+    requests = λ u. allocated u (nat_eq u s.next) refl;
     interrupts = λ u. below_later _ _ (is_interrupted s u) (is_interrupted (after_enqueue s w) u) (omega arith)
         (sound.interrupts u) (still u);
   }
@@ -112,21 +112,21 @@ module _ {W : Type 0} where
       new : ℕ × QueuedRequest W
       new = (s.next, record { mark = Unread; kept = w })
 
-      drawn : (u : ℕ) (b : Bool) → nat_eq u s.next ≡ b
-          → key_count u (s.requests ++ new ∷ []) ≤ cond (was_drawn (s.next + 2) u) 1 0
-      drawn u true e =
+      allocated : (u : ℕ) (b : Bool) → nat_eq u s.next ≡ b
+          → key_count u (s.requests ++ new ∷ []) ≤ cond (was_allocated (s.next + 2) u) 1 0
+      allocated u true e =
           let pushed = count_by-push (λ d. nat_eq u d.0) s.requests new in
           let same : u ≡ s.next = grind (arith, nat_tests, e) in
-          let before : key_count u s.requests ≤ cond (was_drawn s.next s.next) 1 0 =
-          subst (λ (n : ℕ). key_count u s.requests ≤ cond (was_drawn s.next n) 1 0) same (sound.requests u) in
-          let none : key_count u s.requests ≤ 0 = rw was_drawn-self at before in
-          let here : was_drawn (s.next + 2) u ≡ true = rw same (was_drawn-here s.next sound.next) in
+          let before : key_count u s.requests ≤ cond (was_allocated s.next s.next) 1 0 =
+          subst (λ (n : ℕ). key_count u s.requests ≤ cond (was_allocated s.next n) 1 0) same (sound.requests u) in
+          let none : key_count u s.requests ≤ 0 = rw was_allocated-self at before in
+          let here : was_allocated (s.next + 2) u ≡ true = rw same (was_allocated-here s.next sound.next) in
           rw (here, pushed, e) (omega arith)
-      drawn u false e =
+      allocated u false e =
           let pushed = count_by-push (λ d. nat_eq u d.0) s.requests new in
           let same : key_count u (s.requests ++ new ∷ []) ≤ key_count u s.requests = rw (pushed, e) (omega arith) in
-          below_later _ _ (was_drawn s.next u) (was_drawn (s.next + 2) u) same (sound.requests u)
-          (was_drawn-later s.next u)
+          below_later _ _ (was_allocated s.next u) (was_allocated (s.next + 2) u) same (sound.requests u)
+          (was_allocated-later s.next u)
 
       still : (u : ℕ) → is_interrupted s u ≡ true → is_interrupted (after_enqueue s w) u ≡ true
       still u was = by (lookup (nat_eq u) s.requests) refl
@@ -225,8 +225,8 @@ module _ {W : Type 0} where
       → IsSound (record s { forgets = forgets; next = s.next + 2 })
   IsSound-draw s forgets sound next = record {
     next = next;
-    requests = λ u. below_later _ _ (was_drawn s.next u) (was_drawn (s.next + 2) u) (omega arith) (sound.requests u)
-        (was_drawn-later s.next u);
+    requests = λ u. below_later _ _ (was_allocated s.next u) (was_allocated (s.next + 2) u) (omega arith) (sound.requests u)
+        (was_allocated-later s.next u);
     interrupts = sound.interrupts;
   }
 
@@ -234,7 +234,7 @@ module _ {W : Type 0} where
   pub lookup-next : (s : QueueState W) → IsSound s → lookup (nat_eq s.next) s.requests ≡ None
   lookup-next s sound =
       let bound = sound.requests s.next in
-      let none : key_count s.next s.requests ≤ 0 = rw was_drawn-self at bound in
+      let none : key_count s.next s.requests ≤ 0 = rw was_allocated-self at bound in
       lookup-no_key s.next s.requests (omega arith)
 
   -- the INTERRUPT of a request that is marked so is queued
@@ -254,7 +254,7 @@ module _ {W : Type 0} where
       → slice_get (pending s) place ≡ Some e → mark_under s e.0 ≡ Some e.1.mark
   mark_under-pending s place e sound found =
       let bound = sound.requests e.0 in
-      let few : key_count e.0 s.requests ≤ 1 = by (was_drawn s.next e.0) bound in
+      let few : key_count e.0 s.requests ≤ 1 = by (was_allocated s.next e.0) bound in
       ap (option_map (λ r. r.mark)) (lookup-found (λ d. is_unread d.1.mark) s.requests place e found few)
     where
       by : {n : ℕ} (b : Bool) → n ≤ cond b 1 0 → n ≤ 1

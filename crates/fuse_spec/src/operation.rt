@@ -10,8 +10,8 @@ use std::alloc::{AllocError, Allocator};
 #[derive(Clone, Copy, Drop)]
 pub enum NoOpenFile {}
 
-/// One operation of a call, by its opcode (linux/fuse.h, enum fuse_opcode). `S` holds a name or bytes: lent from a call
-/// or from a frame, or owned. `N` names a file, by its nodeid where nothing else is said, and `O` an open file.
+/// One operation of a call, by its opcode (linux/fuse.h, enum fuse_opcode). `S` holds a name or bytes: borrowed from a
+/// call or from a frame, or owned. `N` names a file, by its nodeid where nothing else is said, and `O` an open file.
 #[derive(Debug, Drop)]
 pub enum Operation<S, N = u64, O = Opened> {
     Lookup {
@@ -52,13 +52,13 @@ pub enum Operation<S, N = u64, O = Opened> {
     Open {
         node: N,
     },
-    /// The names behind an offset, in at most so many bytes.
+    /// The names behind an offset, in at most this many bytes.
     Readdir {
         directory: N,
         after: u64,
         size: u32,
     },
-    /// The same, with each name's file.
+    /// The names behind an offset, each with its file, in at most this many bytes.
     Readdirplus {
         directory: N,
         after: u64,
@@ -137,7 +137,7 @@ impl<'a, N: Copy, O: Copy> Operation<&'a [u8], N, O> {
     ghost use Rattle.fuse_spec.specs.Files.Operations.{operation_of};
     ghost use Rattle.fuse_spec.specs.Files.OwnedOperations.{has_more, is_bare};
 
-    /// The same, with names and bytes of its own.
+    /// The operation with a copy of its names and bytes.
     ///
     /// # Errors
     ///
@@ -264,7 +264,7 @@ impl<A: Allocator> Operation<Vec<u8, A>, Option<u64>, NoOpenFile> {
     ghost use Rattle.fuse_spec.specs.Files.Operations.{operation_of};
     ghost use Rattle.fuse_spec.specs.Files.OwnedOperations.{has_more};
 
-    /// The operation that is asked once the last walk has led to a node. Its names are lent.
+    /// The operation that is asked once the last walk has led to a node. Its names are borrowed.
     pub fn at(&self, node: u64) -> Operation<&[u8]>
         ensures { operation_of (λ s. s.now) result ≡ operation_at (operation_of (λ s. s.items) self.now) node }
     {

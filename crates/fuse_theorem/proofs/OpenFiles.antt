@@ -1,4 +1,4 @@
--- Open files and open numbers, and their counts.
+-- Open files and file handles, and their counts.
 pub mod NumbersLeft
 pub mod StillOpen
 pub mod HeldNumbers

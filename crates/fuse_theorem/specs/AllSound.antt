@@ -12,7 +12,7 @@ use Rattle.fuse_theorem.specs.RepliesFit.{RepliesFitWhileLive}
 use Rattle.fuse_theorem.specs.StillHeld.{StillHeldAfterAbort}
 use Rattle.fuse_theorem.specs.StillOpen.{OpensAfterAbort}
 
--- They are alike and sound, the server holds what requests name, forgets and replies are right, and open numbers are
+-- They are alike and sound, the server holds what requests name, forgets and replies are right, and file handles are
 -- balanced and of one open file each.
 pub record AllSound (w : World) (p : Plain) : Type 0 where
   pub both : BothSound w p

@@ -23,10 +23,10 @@ serves_call purpose.Init = false
 serves_call (purpose.Release o) = false
 serves_call (purpose.Call call) = true
 
--- The number was drawn, and as long as its request is unanswered, it serves a call and its INTERRUPT was queued.
+-- The number was allocated, and as long as its request is unanswered, it serves a call and its INTERRUPT was queued.
 pub record IsInterrupted (k : Kernel) (unique : ℕ) : Type 0 where
   pub even : unique % 2 ≡ 0
-  pub drawn : unique < k.queues.next
+  pub allocated : unique < k.queues.next
   pub marked : (request : QueuedRequest Purpose) → request_under k.queues unique ≡ Some request
       → has_interrupt request.mark ≡ true
   pub of_call : (request : QueuedRequest Purpose) → request_under k.queues unique ≡ Some request
@@ -47,12 +47,12 @@ pub record HeldAsked (k : Kernel) (unique : ℕ) (t : HeldRequest) : Type 0 wher
   pub is_asked : IsAsked k unique t.body
   pub interrupted : t.marked ≡ true → IsInterrupted k unique
 
--- Only requests of calls bear signals.
+-- Only requests of calls have signals.
 abbrev pub SignalsReachCalls : QueueState Purpose → Type 0
 SignalsReachCalls q = All (λ (e : ℕ × QueuedRequest Purpose). is_signalled e.1.mark ≡ true
     → serves_call e.1.kept ≡ true) q.requests
 
--- INIT bears the first number of a mount, and nothing else does.
+-- INIT has the first number of a mount, and nothing else does.
 abbrev pub BearsFirst : ℕ → Purpose → Type 0
 BearsFirst unique purpose.Init = unique ≡ 2
 BearsFirst unique (purpose.Release o) = unique ≢ 2

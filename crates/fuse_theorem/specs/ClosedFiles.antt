@@ -21,7 +21,7 @@ pub record UsesFile (c : Vfs Opened) (closing : Map Opened) (open_call : ℕ) (o
   pub of_open : (o : Opened) → get c.opens open_call ≡ Some o → opens_of operation ≡ o ∷ []
   pub of_closed : (o : Opened) → get closing open_call ≡ Some o → opens_of operation ≡ o ∷ []
 
--- An open file bears the number of the answered call that opened it. A call that uses one names it, and a closed file
+-- An open file has the number of the answered call that opened it. A call that uses one names it, and a closed file
 -- whose RELEASE is not queued is used.
 pub record ClosedFiles (c : Vfs Opened) (closing : Map Opened) : Type 0 where
   pub calls_in_order : T (is_sorted nat_cmp c.calls)

@@ -23,7 +23,7 @@ use Rattle.fuse_spec.specs.Kernel.QueueCalls.{waiting}
 use Rattle.fuse_spec.specs.World.Worlds.{World, Sent}
 use Rattle.fuse_spec.specs.Reference.Plain.{Plain, Ask}
 use Rattle.fuse_spec.specs.Reference.Plain as plain
-use Rattle.fuse_spec.specs.Claim.Denotes.{Denotes, MeansIn, MeansOpenIn, generation_known, Names, Opens}
+use Rattle.fuse_spec.specs.Claim.Denotes.{Denotes, NodeDenotesIn, OpenDenotesIn, generation_known, Names, Opens}
 use Rattle.fuse_theorem.specs.Unperformed.{unperformed}
 
 -- No two nodes of the server's table have the same file.
@@ -35,12 +35,12 @@ abbrev pub KnownAreHeld : World → Type 0
 KnownAreHeld w = (id generation : ℕ) → generation_known w.kernel.nodes id ≡ Some generation
     → (file : ℕ) × Denotes w.server.nodes id generation file
 
--- The root stands in no table, and the coming open number is new.
+-- The root stands in no table, and the coming file handle is new.
 pub record TablesSound (s : Server) : Type 0 where
   pub no_root : get s.nodes.rows 1 ≡ None
-  pub new_number : get s.handles.handles s.handles.next_fh ≡ None
+  pub new_handle : get s.handles.handles s.handles.next_fh ≡ None
 
--- The open number of a reply to CREATE or OPEN is one of the file that is created or opened.
+-- The file handle of a reply to CREATE or OPEN is one of the file that is created or opened.
 abbrev pub OpensItsFile : NodeTable → HandleTable → Operation ℕ Opened → WireReply → Type 0
 OpensItsFile t h operation (created g v fh) = (file : ℕ) → Denotes t g.nodeid g.generation file
     → is_open h fh file ≡ true
@@ -67,7 +67,7 @@ pub record CanDecline (w : World) (unique : ℕ) (t : HeldRequest) (operation : 
   pub none_sent : count_by (λ (r : Request). nat_eq unique r.unique) w.requests ≡ 0
 
 -- A RELEASE that the server can perform: no INTERRUPT marked it, its node is held as it was when it was taken, and its
--- open number is one of the node's file.
+-- file handle is one of the node's file.
 pub record CanRelease (w : World) (unique : ℕ) (t : HeldRequest) (o : Opened) : Type 0 where
   pub there : get w.server.held unique ≡ Some t
   pub body_is : t.body ≡ release o
@@ -95,7 +95,7 @@ pub record IsReplyToCall (w : World) (p : Plain) (sent : Sent) (call : ℕ) (sta
   pub ask : Ask
   pub there : get p.asks sent.unique ≡ Some ask
   pub by_call : ask.call ≡ call
-  pub same : OperationAlike (MeansIn w) (MeansOpenIn w) (asked state) ask.operation
+  pub same : OperationAlike (NodeDenotesIn w) (OpenDenotesIn w) (asked state) ask.operation
   pub stage : ask.stage ≡ plain.performed reply
   pub told : ReplyAlike (Names w.server.nodes) (Opens w.server.handles) sent.wire reply
   pub goes : goes_with (asked state) sent.wire ≡ true
@@ -136,8 +136,8 @@ pub record HoldsAll (w : World) (t : NodeTable) : Type 0 where
       → EntriesAreHeld t k.wire
   pub copies : All (λ (s : Sent). request_under w.kernel.queues s.unique ≢ None → EntriesAreHeld t s.wire) w.replies
 
--- An INTERRUPT on the link bears its original's number and one. The original stands nowhere else while it is held, and
--- a signal was noted on its ask.
+-- An INTERRUPT on the link has its original's number and one. The original stands nowhere else while it is held, and a
+-- signal was noted on its ask.
 pub record IsInterrupt (w : World) (p : Plain) (k : ℕ) (r : Request) (original : ℕ) : Type 0 where
   pub there : slice_get w.requests k ≡ Some r
   pub body_is : r.body ≡ interrupt original
@@ -149,23 +149,23 @@ pub record IsInterrupt (w : World) (p : Plain) (k : ℕ) (r : Request) (original
 abbrev pub IsUnsent : World → ℕ → Type 0
 IsUnsent w node = All (λ (r : Request). list_any (nat_eq node) (nodes_of_body r.body) ≡ false) w.requests
 
--- This open number is one of some file.
-abbrev pub IsOpenNumber : HandleTable → ℕ → Type 0
-IsOpenNumber h fh = get h.handles fh ≢ None
+-- This file handle is one of some file.
+abbrev pub IsFileHandle : HandleTable → ℕ → Type 0
+IsFileHandle h fh = get h.handles fh ≢ None
 
--- With this table the server holds the open numbers of the kernel's open files and calls, of the requests on the link
+-- With this table the server holds the file handles of the kernel's open files and calls, of the requests on the link
 -- and of those that it holds, and those that copies and kept replies to unanswered requests name.
 pub record HoldsOpens (w : World) (h : HandleTable) : Type 0 where
-  pub opens : (open_call : ℕ) (o : Opened) → get w.kernel.vfs.opens open_call ≡ Some o → IsOpenNumber h o.fh
+  pub opens : (open_call : ℕ) (o : Opened) → get w.kernel.vfs.opens open_call ≡ Some o → IsFileHandle h o.fh
   pub calls : (call : ℕ) (state : CallState Opened) → get w.kernel.vfs.calls call ≡ Some state → (o : Opened)
-      → Contains (opens_of (asked state)) o → IsOpenNumber h o.fh
-  pub sent : All (λ (r : Request). (o : Opened) → Contains (opens_of_body r.body) o → IsOpenNumber h o.fh) w.requests
+      → Contains (opens_of (asked state)) o → IsFileHandle h o.fh
+  pub sent : All (λ (r : Request). (o : Opened) → Contains (opens_of_body r.body) o → IsFileHandle h o.fh) w.requests
   pub held : (unique : ℕ) (x : HeldRequest) → get w.server.held unique ≡ Some x → (o : Opened)
-      → Contains (opens_of_body x.body) o → IsOpenNumber h o.fh
+      → Contains (opens_of_body x.body) o → IsFileHandle h o.fh
   pub kept : (unique : ℕ) (k : Kept) → get w.server.kept unique ≡ Some k → request_under w.kernel.queues unique ≢ None
-      → (fh : ℕ) → Contains (opens_in_reply k.wire) fh → IsOpenNumber h fh
+      → (fh : ℕ) → Contains (opens_in_reply k.wire) fh → IsFileHandle h fh
   pub copies : All (λ (s : Sent). request_under w.kernel.queues s.unique ≢ None → (fh : ℕ)
-      → Contains (opens_in_reply s.wire) fh → IsOpenNumber h fh) w.replies
+      → Contains (opens_in_reply s.wire) fh → IsFileHandle h fh) w.replies
 
 -- What awaits a reply under a number: a request that was read, or with an odd number the request whose INTERRUPT it is.
 abbrev pub awaiting : Kernel → ℕ → Option Purpose

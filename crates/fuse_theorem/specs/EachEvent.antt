@@ -23,7 +23,7 @@ use Rattle.fuse_spec.specs.World.Events.{Event, Outcome}
 use Rattle.fuse_spec.specs.World.Events as event
 use Rattle.fuse_spec.specs.Reference.Plain.{Plain, Ask}
 use Rattle.fuse_spec.specs.Reference.PlainSteps.{Takes}
-use Rattle.fuse_spec.specs.Claim.Denotes.{MeansIn}
+use Rattle.fuse_spec.specs.Claim.Denotes.{NodeDenotesIn}
 use Rattle.fuse_spec.specs.Claim.Alike.{Alike}
 use Rattle.fuse_theorem.specs.Numbering.{IsNumbered, IsNumberedWhileLive, IsOneToOne}
 use Rattle.fuse_theorem.specs.Conditions.{OneId, KnownAreHeld, TablesSound, CanPerformCall, CanDecline, CanRelease, IsReplyToCall, IsDeclined, UnreadAreUnsent, HoldsAll, HoldsOpens, IsInterrupt, IsUnsent, awaiting}
@@ -54,7 +54,7 @@ pub data CanServe (choice : ℕ → ℕ) (w : World) (p : Plain) (unique : ℕ) 
       → ((ask : Ask) → get p.asks unique ≡ Some ask → MayChoose choice w.server.nodes
       (files_in_reply (reply_by p.validity p.tree ask.operation))) → CanServe choice w p unique t
   performs_unreceived : (operation : Operation ℕ Opened) → CanPerformCall w unique t operation → w.server.aborted ≡ true
-      → IsOneToOne (MeansIn w) → CanServe choice w p unique t
+      → IsOneToOne (NodeDenotesIn w) → CanServe choice w p unique t
   declines : (operation : Operation ℕ Opened) → CanDecline w unique t operation → CanServe choice w p unique t
   initiates : (flags : ℕ) → t.body ≡ init flags → t.marked ≡ false → is_still_held w.server.nodes t.generations ≡ true
       → CanServe choice w p unique t
@@ -90,7 +90,7 @@ CanSettle w k result copy = HoldsAll (after_settle w k result (Some copy))
 
 abbrev pub Needs : (ℕ → ℕ) → World → Plain → Event → Type 0
 Needs choice w p (event.mount found_ms missing_ms minor) = IsRooted w.kernel.vfs
-Needs choice w p (event.call call) = IsNumberedWhileLive w × IsOneToOne (MeansIn w)
+Needs choice w p (event.call call) = IsNumberedWhileLive w × IsOneToOne (NodeDenotesIn w)
 Needs choice w p event.read_interrupt = IsSound w.kernel.queues
 Needs choice w p (event.read_forgets n) = IsSound w.kernel.queues
 Needs choice w p (event.read_pending k) = IsSound w.kernel.queues
@@ -104,6 +104,6 @@ Needs choice w p (event.settle k) = OneId w.server.nodes
     → get w.server.copies result.number ≡ Some copy → CanSettle w k result copy)
 Needs choice w p (event.intr call fatal) = IsNumberedWhileLive w × (OneId w.server.nodes × UnreadAreUnsent w)
 Needs choice w p (event.tick ms) = Unit {0}
-Needs choice w p (event.drop_name directory name) = IsOneToOne (MeansIn w)
+Needs choice w p (event.drop_name directory name) = IsOneToOne (NodeDenotesIn w)
 Needs choice w p (event.evict node) = IsRooted w.kernel.vfs × IsUnsent w node
 Needs choice w p event.abort = IsRooted w.kernel.vfs

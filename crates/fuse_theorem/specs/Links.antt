@@ -8,7 +8,7 @@ use Rattle.fuse_spec.specs.Kernel.Kernel.{is_live}
 use Rattle.fuse_spec.specs.Server.Server.{HeldRequest, Kept}
 use Rattle.fuse_spec.specs.World.Worlds.{World, Sent}
 
--- INIT bears the first number of a mount. Each copy of its reply says the minor that the server speaks, and so does the
+-- INIT has the first number of a mount. Each copy of its reply says the minor that the server speaks, and so does the
 -- kept reply.
 pub record InitAgreed (w : World) : Type 0 where
   pub copies : All (λ (s : Sent). s.unique ≡ 2 → s.wire ≡ init_reply w.server.minor init_flags) w.replies

@@ -8,7 +8,7 @@ use Rattle.fuse_spec.specs.declared.Counted.{Counted}
 use Rattle.fuse_spec.specs.declared.Opened.{Opened}
 use Rattle.fuse_spec.specs.declared.Purpose.{Purpose}
 use Rattle.fuse_spec.specs.declared.QueuedRequest.{QueuedRequest}
-use Rattle.fuse_spec.specs.Claim.Counts.{IsMeant, IsNamed}
+use Rattle.fuse_spec.specs.Claim.Counts.{NodeDenotesSome, EntryDenotesSome}
 use Rattle.fuse_spec.specs.Kernel.Kernel.{is_live, body_of, nodes_of_state}
 use Rattle.fuse_spec.specs.Values.Maps.{get, get_name, values}
 use Rattle.fuse_spec.specs.Kernel.Messages.{RequestBody, Request}
@@ -22,15 +22,15 @@ use Rattle.fuse_spec.specs.World.Worlds.{World, Sent}
 -- What the kernel counts, binds, opens or waits on is held by the server under the kernel's generation, and so is each
 -- entry on the reply link.
 pub record NodesHeldLive (w : World) : Type 0 where
-  pub nodes : (id : ℕ) (node : Counted) → get w.kernel.nodes id ≡ Some node → IsMeant w id
+  pub nodes : (id : ℕ) (node : Counted) → get w.kernel.nodes id ≡ Some node → NodeDenotesSome w id
   pub names : (directory : ℕ) (name : List ℕ) (bound : Dentry)
-      → get_name w.kernel.vfs.names (directory, name) ≡ Some bound → IsMeant w directory
+      → get_name w.kernel.vfs.names (directory, name) ≡ Some bound → NodeDenotesSome w directory
   pub targets : (directory : ℕ) (name : List ℕ) (bound : Dentry) (id : ℕ)
-      → get_name w.kernel.vfs.names (directory, name) ≡ Some bound → bound.target ≡ Some id → IsMeant w id
-  pub calls : All (λ (state : CallState Opened). All (IsMeant w) (nodes_of_state state)) (values w.kernel.vfs.calls)
-  pub opens : All (λ (o : Opened). IsMeant w o.nodeid) (values w.kernel.vfs.opens)
-  pub closing : All (λ (o : Opened). IsMeant w o.nodeid) (values w.kernel.closing)
-  pub copies : All (λ (sent : Sent). All (IsNamed w) (files_in_reply sent.wire)) w.replies
+      → get_name w.kernel.vfs.names (directory, name) ≡ Some bound → bound.target ≡ Some id → NodeDenotesSome w id
+  pub calls : All (λ (state : CallState Opened). All (NodeDenotesSome w) (nodes_of_state state)) (values w.kernel.vfs.calls)
+  pub opens : All (λ (o : Opened). NodeDenotesSome w o.nodeid) (values w.kernel.vfs.opens)
+  pub closing : All (λ (o : Opened). NodeDenotesSome w o.nodeid) (values w.kernel.closing)
+  pub copies : All (λ (sent : Sent). All (EntryDenotesSome w) (files_in_reply sent.wire)) w.replies
 
 -- Each node that the request names is in the server's table.
 abbrev pub NodesServable : Server → RequestBody → Type 0

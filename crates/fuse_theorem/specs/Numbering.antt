@@ -1,4 +1,4 @@
--- What every world keeps of its numbers: which were drawn, and which request serves which call.
+-- What every world keeps of its numbers: which were allocated, and which request serves which call.
 use Rattle.std.specs.Prelude.{◌≡◌, ◌≤◌, ◌<◌, ℕ, true, false, cond, Some, None, All, count_by, is_some}
 use Rattle.fuse_spec.specs.declared.Purpose.{Purpose}
 use Rattle.fuse_spec.specs.declared.QueuedRequest.{QueuedRequest}
@@ -14,7 +14,7 @@ abbrev pub requests_for : ℕ → QueueState Purpose → ℕ
 requests_for call s = count_by (λ (e : ℕ × QueuedRequest Purpose). is_for call e.1.kept) s.requests
 
 -- No call of the next number or a later one is unanswered; an unanswered call has one request at most, and an answered
--- one none. What is on the links, held or kept bears a number that this mount has drawn.
+-- one none. What is on the links, held or kept has a number that this mount has allocated.
 pub record IsNumbered (w : World) : Type 0 where
   pub queues : IsSound w.kernel.queues
   pub calls_below : (call : ℕ) → w.kernel.vfs.next_call ≤ call → get w.kernel.vfs.calls call ≡ None
@@ -33,6 +33,6 @@ pub record IsNumberedWhileLive (w : World) : Type 0 where
   pub live : is_live w.kernel.phase ≡ true → IsNumbered w
   pub idle : is_live w.kernel.phase ≡ false → w.kernel.queues ≡ empty_queues
 
--- No two nodes mean the same file, and no node means two.
+-- No two nodes denote the same file, and no node denotes two.
 abbrev pub IsOneToOne : (ℕ → ℕ → Type 0) → Type 0
 IsOneToOne R = (a b c d : ℕ) → R a c → R b d → (a ≡ b → c ≡ d) × (c ≡ d → a ≡ b)

@@ -74,17 +74,17 @@ abbrev pub open_files : World → List Opened
 open_files w = values w.kernel.vfs.opens ++ values w.kernel.closing ++ released_pending w.kernel.queues
     ++ released_sent w.requests ++ released_held w.server.held
 
--- The open number is one of its node's file.
+-- The file handle is one of its node's file.
 abbrev pub IsOfItsNode : Server → Opened → Type 0
 IsOfItsNode s o = is_open s.handles o.fh (file_of s.nodes o.nodeid) ≡ true
 
--- The server's count of each open number is the open files with it, and the copies that carry it, refused ones among
--- them. The number of each open file is one of its node's file.
+-- The server's count of each file handle is the open files with it, and the copies that carry it, refused ones among
+-- them. The handle of each open file is one of its node's file.
 pub record OpensBalanced (w : World) : Type 0 where
   pub balance : OpenBalance w
   pub files : All (IsOfItsNode w.server) (open_files w)
 
--- While the mount is live the open numbers are balanced; else no file is open or closing. The rest is what keeps it so.
+-- While the mount is live the file handles are balanced; else no file is open or closing. The rest is what keeps it so.
 pub record OpensSound (w : World) : Type 0 where
   pub apart : OpensApart w.kernel.vfs w.kernel.closing
   pub held : T (is_sorted nat_cmp w.server.held)

@@ -1,4 +1,4 @@
--- How often open numbers stand, whatever happened.
+-- How often a file handle occurs, whatever happened.
 use Rattle.std.specs.Prelude.{◌≡◌, ◌≢◌, ◌≤◌, ◌<◌, ◌⊎◌, ℕ, true, Some, None, nat_eq, count_by}
 use Rattle.fuse_spec.specs.declared.Opened.{Opened}
 use Rattle.fuse_spec.specs.Claim.Counts.{opens_in}
@@ -10,12 +10,12 @@ use Rattle.fuse_spec.specs.World.Worlds.{World, Sent}
 use Rattle.fuse_theorem.specs.Copies.{SomeHas}
 use Rattle.fuse_theorem.specs.OpenNumbers.{open_files}
 
--- The kept reply to this request carries the open number, or a copy on the reply link does.
+-- The kept reply to this request carries the file handle, or a copy on the reply link does.
 abbrev pub CarriesOpen : World → (unique fh : ℕ) → Type 0
 CarriesOpen w unique fh = ((k : Kept) × (get w.server.kept unique ≡ Some k) × (1 ≤ opens_in fh k.wire))
     ⊎ SomeHas (λ (s : Sent). (s.unique ≡ unique) × (1 ≤ opens_in fh s.wire)) w.replies
 
--- A number is of one open file at most. Replies to one request alone carry it, and until that is answered no open file
+-- A handle is of one open file at most. Replies to one request alone carry it, and until that is answered no open file
 -- has it.
 pub record OpensOnce (w : World) : Type 0 where
   pub below : (unique fh : ℕ) → CarriesOpen w unique fh → fh < w.server.handles.next_fh

@@ -2,7 +2,7 @@
 use Rattle.std.specs.Prelude.{◌≡◌, ◌≢◌, ◌≤◌, ◌<◌, ℕ, Some, None, All}
 use Rattle.fuse_spec.specs.Values.Maps.{get}
 use Rattle.fuse_spec.specs.Files.Trees.{Tree, Named, a_directory}
-use Rattle.fuse_spec.specs.Server.Nodes.{NodeTable, HeldNode, HandleTable, OpenNumber}
+use Rattle.fuse_spec.specs.Server.Nodes.{NodeTable, HeldNode, HandleTable, FileHandle}
 use Rattle.fuse_spec.specs.Server.Server.{Server}
 
 -- The root is a directory to which no name leads, and no coming file is it.
@@ -23,8 +23,8 @@ pub record NodesSound (t : NodeTable) : Type 0 where
 -- No number from the next on is open. An open one is of a file that is not the root, and counted.
 pub record HandlesSound (h : HandleTable) : Type 0 where
   pub numbers : (fh : ℕ) → h.next_fh ≤ fh → get h.handles fh ≡ None
-  pub files : (fh : ℕ) (open_call : OpenNumber) → get h.handles fh ≡ Some open_call → open_call.file ≢ 0
-  pub counts : (fh : ℕ) (open_call : OpenNumber) → get h.handles fh ≡ Some open_call → 1 ≤ open_call.count
+  pub files : (fh : ℕ) (open_call : FileHandle) → get h.handles fh ≡ Some open_call → open_call.file ≢ 0
+  pub counts : (fh : ℕ) (open_call : FileHandle) → get h.handles fh ≡ Some open_call → 1 ≤ open_call.count
 
 -- The tree and the tables are sound, and no number from the next on is that of a copy.
 pub record ServerSound (s : Server) : Type 0 where

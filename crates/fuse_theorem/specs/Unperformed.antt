@@ -14,12 +14,12 @@ unperformed w unique =
     count_by (λ (e : ℕ × QueuedRequest Purpose). nat_eq unique e.0) (pending w.kernel.queues) + count_by
     (λ (r : Request). nat_eq unique r.unique) w.requests + cond (is_some (get w.server.held unique)) 1 0
 
--- Under an even number one request at most is pending, on the link or held. INTERRUPTs, which bear odd numbers, may be
+-- Under an even number one request at most is pending, on the link or held. INTERRUPTs, which have odd numbers, may be
 -- queued anew.
 abbrev pub StandsOnce : World → Type 0
 StandsOnce w = (unique : ℕ) → unique % 2 ≡ 0 → unperformed w unique ≤ 1
 
--- An INTERRUPT bears its original's number with the lowest bit set, and any other request an even number.
+-- An INTERRUPT has its original's number with the lowest bit set, and any other request an even number.
 abbrev pub BearsNumber : ℕ → RequestBody → Type 0
 BearsNumber unique (interrupt original) = unique ≡ interrupt_number original
 BearsNumber unique (init flags) = unique % 2 ≡ 0

@@ -12,7 +12,7 @@ ghost use Rattle.std.specs.Prelude.{Ok};
 ghost use Rattle.fuse_theorem.specs.EachEvent.{IsRooted, PlainMoves, Needs};
 ghost use Rattle.fuse_spec.specs.World.Worlds.{World, first_world};
 ghost use Rattle.fuse_spec.specs.Reference.Plain.{Plain, first_plain};
-ghost use Rattle.fuse_spec.specs.Claim.Denotes.{MeansIn};
+ghost use Rattle.fuse_spec.specs.Claim.Denotes.{NodeDenotesIn};
 ghost use Rattle.fuse_spec.specs.Claim.Alike.{Alike};
 ghost use Rattle.std.specs.Prelude.{List};
 ghost use Rattle.fuse_spec.specs.Server.Server.{Server};
@@ -58,8 +58,8 @@ pub fn queues_stay_sound()
         → step choice w e ≡ Ok (o, after) → IsSound after.kernel.queues }
 {}
 
-/// The server's tree and tables are sound at first and remain so, whatever the event and whatever free nodeids the server
-/// gives. So no two nodes have one file, the root stands in no table, and the coming open number is new.
+/// The server's tree and tables are sound at first and remain so, whatever the event and whatever free nodeids the
+/// server gives. So no two nodes have one file, the root stands in no table, and the coming file handle is new.
 pub fn server_stays_sound()
     ensures at_first { ServerSound first_world.server }
     ensures always { (w : World) → ServerSound w.server → (e : Event) (o : Outcome) (after : World)
@@ -67,8 +67,8 @@ pub fn server_stays_sound()
     ensures tables { (s : Server) → ServerSound s → OneId s.nodes × TablesSound s }
 {}
 
-/// The numbers of a live mount are in order, whatever the event: which were drawn, that a call has one request at most,
-/// and that what is on the links, held or kept bears a number that was drawn.
+/// The numbers of a live mount are in order, whatever the event: which were allocated, that a call has one request at
+/// most, and that what is on the links, held or kept has a number that was allocated.
 pub fn numbers_stay_in_order()
     ensures at_first { IsNumberedWhileLive first_world }
     ensures always { (choice : ℕ → ℕ) (w : World) → IsNumberedWhileLive w → (o : Outcome) (after : World) (e : Event)
@@ -124,11 +124,11 @@ pub fn kept_replies_stay_sent()
         → Happens w e o after → KeptAreSent after }
 {}
 
-/// After a mount, and after an abort, no node means anything but the root.
+/// After a mount, and after an abort, no node denotes anything but the root.
 pub fn root_alone()
     ensures { (w : World) (id file : ℕ) → ((found_ms missing_ms : ℕ) (minor : Minor)
-        → MeansIn (after_mount w found_ms missing_ms minor) id file → (id ≡ 1) × (file ≡ 0))
-        × (MeansIn (after_abort w) id file → (id ≡ 1) × (file ≡ 0)) }
+        → NodeDenotesIn (after_mount w found_ms missing_ms minor) id file → (id ≡ 1) × (file ≡ 0))
+        × (NodeDenotesIn (after_abort w) id file → (id ≡ 1) × (file ≡ 0)) }
 {}
 
 /// After a mount, whatever was there, the world meets the conditions of the other laws on numbers and on the tables.

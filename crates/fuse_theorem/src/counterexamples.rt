@@ -53,14 +53,14 @@ pub fn a_run_begins_before()
         (outcome (event.now 1) ∷ []) a_millisecond_later q → ⊥ }
 {}
 
-/// Where no mount is live a copy may stand on its link under a number that was not drawn since:
+/// Where no mount is live a copy may stand on its link under a number that was not allocated since:
 /// `any_event::numbers_stay_in_order` speaks of live mounts.
 pub fn numbers_need_a_mount()
     ensures { IsNumberedWhileLive with_a_copy_left × Happens with_a_copy_left (event.tick 1) (event.now 1)
         (after_tick with_a_copy_left 1) × (IsNumbered (after_tick with_a_copy_left 1) → ⊥) }
 {}
 
-/// A nodeid in use by another file draws no generation, so what every free one is refused for it is not:
+/// A nodeid in use by another file allocates no generation, so what every free one is refused for it is not:
 /// `refusals::refused_for_any_choice` speaks of ids that the server may choose.
 pub fn free_ids_alone_are_refused_alike()
     ensures { IsRefused with_no_generation (event.perform 2) Exhausted × (choice : ℕ → ℕ)

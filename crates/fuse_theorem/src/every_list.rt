@@ -32,7 +32,7 @@ ghost use Rattle.fuse_theorem.specs.HeldKnown.{HeldKnownWhileLive};
 ghost use Rattle.fuse_theorem.specs.KnownNodes.{NodesKnown};
 ghost use Rattle.fuse_theorem.specs.OnTheWay.{ReadAreOnTheirWay};
 ghost use Rattle.fuse_theorem.specs.StillHeld.{HeldReleasesKnown, NodesStillHeld, StillHeldAfterAbort};
-ghost use Rattle.fuse_theorem.specs.StillOpen.{HeldNumbersOpen, OpensAfterAbort};
+ghost use Rattle.fuse_theorem.specs.StillOpen.{HeldHandlesOpen, OpensAfterAbort};
 ghost use Rattle.fuse_theorem.specs.NodesHeld.{NodesHeld, TakenServable};
 ghost use Rattle.fuse_theorem.specs.OpenNumbers.{OpensSound};
 ghost use Rattle.fuse_theorem.specs.OpensOnce.{OpensOnceWhileLive};
@@ -42,7 +42,7 @@ ghost use Rattle.fuse_theorem.specs.RepliesFit.{RepliesFitWhileLive};
 ghost use Rattle.fuse_theorem.specs.WorldSound.{WorldSound};
 
 /// What is on the request link or held is what the kernel asks, under the same number, while the mount is live and
-/// whatever the event; what bears an INTERRUPT was signalled. So no request on the link names a node that is evicted.
+/// whatever the event; what has an INTERRUPT was signalled. So no request on the link names a node that is evicted.
 pub fn requests_stay_asked()
     ensures at_first { RequestsAskedWhileLive first_world }
     ensures always { (w : World) → WorldSound w → RequestsAskedWhileLive w → (e : Event) (o : Outcome) (after : World)
@@ -53,7 +53,7 @@ pub fn requests_stay_asked()
 {}
 
 /// While no mount is live, the links are empty, whatever the event; a live one has INIT answered with the minor that
-/// the server speaks, so that it stays live until it is aborted. An INTERRUPT that is taken bears its original's number
+/// the server speaks, so that it stays live until it is aborted. An INTERRUPT that is taken has its original's number
 /// and one, and a signal was noted on its ask.
 pub fn links_stay_sound()
     ensures at_first { LinksSound first_world }
@@ -76,8 +76,8 @@ pub fn asks_stay_served()
         → Alike w p → (choice : ℕ → ℕ) (k : ℕ) → Needs choice w p (event.write k) }
 {}
 
-/// The kernel knows each node that an unanswered call stands on or names, that an open file is of, or that a name in
-/// force stands in or leads to, whatever the event: it counts it, or it is the root.
+/// The kernel knows each node that an unanswered call stands on or names, that an open file is of, or that a cached
+/// name stands in or leads to, whatever the event: it counts it, or it is the root.
 pub fn nodes_stay_known()
     ensures at_first { NodesKnown first_world.kernel }
     ensures always { (w : World) → WorldSound w → NodesKnown w.kernel → (e : Event) (o : Outcome) (after : World)
@@ -123,24 +123,24 @@ pub fn held_stay_held()
         → get w.server.held unique ≡ Some t → NodesStillHeld w.server.nodes t }
 {}
 
-/// After an abort each open number that a held request names is one of its node's file, and is counted often enough for
-/// all of them, whatever the event, where that is so while the mount is live. It is where the open numbers are
+/// After an abort each file handle that a held request names is one of its node's file, and is counted often enough for
+/// all of them, whatever the event, where that is so while the mount is live. It is where the file handles are
 /// balanced, those of held RELEASEs are of their nodes' files, and what calls read or write is open in the kernel.
-pub fn held_numbers_stay_open()
+pub fn held_handles_stay_open()
     ensures at_first { OpensAfterAbort first_world }
     ensures always { (w : World) → WorldSound w → RequestsAskedWhileLive w → LinksSound w
-        → (is_live w.kernel.phase ≡ true → HeldNumbersOpen w) → OpensAfterAbort w
+        → (is_live w.kernel.phase ≡ true → HeldHandlesOpen w) → OpensAfterAbort w
         → (e : Event) (o : Outcome) (after : World) → Happens w e o after → OpensAfterAbort after }
     ensures balanced { (w : World) (p : Plain) → Alike w p → RequestsAskedWhileLive w → is_live w.kernel.phase ≡ true
         → OpenBalance w →
         ((unique : ℕ) (t : HeldRequest) → get w.server.held unique ≡ Some t → (o : Opened) → t.body ≡ release o
         → is_open w.server.handles o.fh (file_of w.server.nodes o.nodeid) ≡ true) →
         ((call : ℕ) (state : CallState Opened) → get w.kernel.vfs.calls call ≡ Some state → (o : Opened)
-        → Contains (opens_of (asked state)) o → 1 ≤ open_in_kernel w.kernel o.fh) → HeldNumbersOpen w }
+        → Contains (opens_of (asked state)) o → 1 ≤ open_in_kernel w.kernel o.fh) → HeldHandlesOpen w }
 {}
 
 /// The performing of a held request needs no more than that: an operation of a call, live or after an abort, one that
-/// is marked, or INIT. A RELEASE needs beside that its open number is one of its node's file, and that the open numbers
+/// is marked, or INIT. A RELEASE needs beside that its file handle is one of its node's file, and that the file handles
 /// which are used are held without it, which after an abort they are.
 pub fn performs_need_no_more()
     ensures requests { (w : World) (p : Plain) → BothSound w p → StillHeldAfterAbort w → (choice : ℕ → ℕ) (unique : ℕ)
@@ -203,7 +203,7 @@ pub fn nodes_stay_held()
 
 /// Each forget is of a node from 2 up and of one lookup at least, and each request asks what the minor of the mount
 /// knows, whatever the event. So no request on the link has an opcode that the server doesn't know, names a node that
-/// is gone, gives back more lookups than the server counts, or bears a number that is held or whose reply is kept.
+/// is gone, gives back more lookups than the server counts, or has a number that is held or whose reply is kept.
 pub fn requests_have_no_fault()
     ensures at_first { Faultless first_world }
     ensures always { (w : World) → WorldSound w → RequestsAskedWhileLive w → LinksSound w → Faultless w
@@ -222,20 +222,20 @@ pub fn replies_stay_fit()
         → All (λ (r : ReplyResult). r.result ≢ Invalid) w.results }
 {}
 
-/// While the mount is live, the server's count of each open number is the kernel's open files and closing ones with it
+/// While the mount is live, the server's count of each file handle is the kernel's open files and closing ones with it
 /// and what is in flight, whatever the event (`OpenNumbers.antt` has that and all that keeps it).
-pub fn open_numbers_stay_balanced()
+pub fn file_handles_stay_balanced()
     ensures at_first { OpensSound first_world }
     ensures always { (w : World) (p : Plain) → BothSound w p → ReleasesKnown w → OpensSound w
         → (e : Event) (o : Outcome) (after : World) → Happens w e o after → OpensSound after }
 {}
 
-/// While the mount is live, the server holds each open number that is in use or on its way. It does so still once a
-/// held RELEASE gives its number back, which is one of its node's file, and once a copy is settled. The numbers that
+/// While the mount is live, the server holds each file handle that is in use or on its way. It does so still once a
+/// held RELEASE gives its handle back, which is one of its node's file, and once a copy is settled. The handles that
 /// held requests name are counted often enough for all of them.
-pub fn open_numbers_are_held()
+pub fn file_handles_are_held()
     ensures live { (w : World) (p : Plain) → BothSound w p → OpensSound w → is_live w.kernel.phase ≡ true
-        → HoldsOpens w w.server.handles × HeldNumbersOpen w }
+        → HoldsOpens w w.server.handles × HeldHandlesOpen w }
     ensures release { (w : World) (p : Plain) → BothSound w p → OpensSound w → is_live w.kernel.phase ≡ true
         → (unique : ℕ) (t : HeldRequest) → get w.server.held unique ≡ Some t → (o : Opened) → t.body ≡ release o →
         (is_open w.server.handles o.fh (file_of w.server.nodes o.nodeid) ≡ true)
@@ -259,8 +259,8 @@ pub fn nothing_waits_at_rest()
         → w.kernel.vfs.calls ≡ [] }
 {}
 
-/// At rest no closed file waits for its RELEASE. So the server counts each open number as often as the kernel holds it
-/// open, where the open numbers are balanced.
+/// At rest no closed file waits for its RELEASE. So the server counts each file handle as often as the kernel holds it
+/// open, where the file handles are balanced.
 pub fn open_files_are_counted_at_rest()
     ensures closing { (w : World) (p : Plain) → BothSound w p → ReleasesKnown w → ReadAreOnTheirWay w → AtRest w
         → w.kernel.closing ≡ [] }
@@ -270,9 +270,9 @@ pub fn open_files_are_counted_at_rest()
         (values w.kernel.vfs.opens) }
 {}
 
-/// While the mount is live, an open number is of one open file at most, open, closing or to be released, whatever the
+/// While the mount is live, a file handle is of one open file at most, open, closing or to be released, whatever the
 /// event. So where nothing is under way, the server counts each once at most.
-pub fn open_numbers_stand_once()
+pub fn file_handles_stand_once()
     ensures at_first { OpensOnceWhileLive first_world }
     ensures always { (w : World) (p : Plain) → BothSound w p → ReleasesKnown w → OpensSound w → OpensOnceWhileLive w
         → (e : Event) (o : Outcome) (after : World) → Happens w e o after → OpensOnceWhileLive after }

@@ -24,10 +24,10 @@ pub fn all_stays_sound()
     ensures collecting { (w : World) (p : Plain) → AllSound w p → AllSound (collected w) (plain_collected p) }
 {}
 
-/// The reference protocol holds of each world that a list of events reached: the counts of nodes and of open numbers
-/// are balanced, the server holds what a live kernel uses and no request names a node or an open number that is gone,
-/// no request has a fault, no copy was refused for its body, and where nothing is under way no call is unanswered and
-/// the two sides count the same.
+/// The reference protocol holds of each world that a list of events reached: the counts of nodes and of file handles
+/// are balanced, the server holds what a live kernel uses and no request names a node or a file handle that is gone, no
+/// request has a fault, no copy was refused for its body, and where nothing is under way no call is unanswered and the
+/// two sides count the same.
 pub fn protocol_is_kept()
     ensures { (w : World) (p : Plain) → AllSound w p → Protocol w }
 {}
@@ -45,8 +45,8 @@ pub fn every_list_runs()
         × CallsEnd w records after }
 {}
 
-/// Every list of events has records, from any world: each event happens or is refused. There are records with no want
-/// of memory.
+/// Every list of events has records, from any world: each event happens or is refused. There are records in which
+/// nothing is out of memory.
 pub fn every_list_has_records()
     ensures some { (w : World) (events : List Event)
         → (records : List Record) × (after : World) × Recorded w events records after }

@@ -7,7 +7,7 @@ ghost use Rattle.fuse_spec.specs.declared.Refusal.TheVariants.{LinkLost, NoMemor
 ghost use Rattle.fuse_spec.specs.World.Worlds.{World};
 ghost use Rattle.fuse_spec.specs.World.Events.{Event, Outcome};
 ghost use Rattle.fuse_spec.specs.World.Steps.{step, is_past, Happens, MayStep, IsRefused, RefusedWith};
-ghost use Rattle.fuse_spec.specs.World.Refusals.{Leads, Refuses, draws};
+ghost use Rattle.fuse_spec.specs.World.Refusals.{Leads, Refuses, allocates};
 
 /// An event gets a refusal exactly where a case of `Refuses` has it. The server's choice of ids is given.
 pub fn refused_by_cases()
@@ -17,15 +17,15 @@ pub fn refused_by_cases()
         → step choice w e ≡ Err r }
 {}
 
-/// An event that is not refused results in exactly what a case of `Leads` has, with no counter past its end where it may
-/// draw a number.
+/// An event that is not refused results in exactly what a case of `Leads` has, with no counter past its end where it
+/// may allocate a number.
 pub fn accepted_by_cases()
     ensures only { (choice : ℕ → ℕ) (w : World) (e : Event) (o : Outcome) (after : World)
         → step choice w e ≡ Ok (o, after) → Leads choice w e o after }
     ensures within { (choice : ℕ → ℕ) (w : World) (e : Event) (o : Outcome) (after : World)
-        → step choice w e ≡ Ok (o, after) → draws e ≡ true → is_past after ≡ false }
+        → step choice w e ≡ Ok (o, after) → allocates e ≡ true → is_past after ≡ false }
     ensures also { (choice : ℕ → ℕ) (w : World) (e : Event) (o : Outcome) (after : World) → Leads choice w e o after
-        → (draws e ≡ true → is_past after ≡ false) → step choice w e ≡ Ok (o, after) }
+        → (allocates e ≡ true → is_past after ≡ false) → step choice w e ≡ Ok (o, after) }
 {}
 
 /// An event has one refusal at most: no two cases give it different ones.
@@ -65,7 +65,7 @@ pub fn happens_or_refused()
         ⊎ ((r : Refusal) × IsRefused w e r) }
 {}
 
-/// No event is refused for a lost link, and by the machine itself none for want of memory.
+/// No event is refused for a lost link, and by the machine itself none as out of memory.
 pub fn never_for_the_link()
     ensures memory { (w : World) (e : Event) (r : Refusal) → IsRefused w e r → r ≢ NoMemory }
     ensures link { (w : World) (e : Event) (r : Refusal) → RefusedWith w e r → r ≢ LinkLost }

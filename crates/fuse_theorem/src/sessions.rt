@@ -34,8 +34,8 @@ pub fn lost_once()
         → SessionRecorded (linked w) events records after → after.is_lost ≡ true → LostIn w events records after.world }
 {}
 
-/// Where anything is on the links between the two sides, a mount is live and an abort is accepted. So a link that is
-/// lost in the event that sends can be given up at once.
+/// Where anything is on the links between the two sides, a mount is live and an abort is accepted. So where a link is
+/// lost in the event that sends, the mount can be aborted at once.
 pub fn abort_follows()
     ensures { (w : World) (p : Plain) → AllSound w p → ((w.requests ≡ []) × (w.replies ≡ []) × (w.results ≡ []) → ⊥)
         → (last : World) × Happens w abort aborted last }

@@ -12,7 +12,7 @@ use crate::arguments::{flag, needed, option, optional, time_argument};
 use crate::values::{is_set, number, text, text_or_none};
 use clap::{Arg, ArgMatches, Command};
 use fuse_device::{Device, PacketDevice, StreamDevice};
-use fw_drive::{Choices, DriveTrace, Form, Task, run_drive};
+use fw_drive::{DriveTrace, Form, FreeFields, Task, run_drive};
 use fw_script::{cannot_read, no_memory, socket_failed};
 use std::alloc::{AllocError, Global};
 use std::fs::File;
@@ -194,7 +194,7 @@ fn drive_device<D: Device, W: Write + Drop>(
     run_drive(alloc, task, device, &mut input, &mut out, &mut faults)
 }
 
-/// The same, with each frame printed on standard error where it is traced.
+/// Drives a server over a device, with each frame printed on standard error where it is traced.
 fn drive_over<D: Device + Drop, W: Write + Drop>(
     rt: &HostRuntime,
     task: Task<'_>,
@@ -251,7 +251,7 @@ pub fn run_drive_task(rt: &HostRuntime, asked: DriveTask<'_>) -> u8
         name: asked.file,
         form: asked.form,
         opens_directories: asked.opens_directories,
-        choices: Choices {
+        free_fields: FreeFields {
             open_flags: OPEN_FLAGS,
             offer: hex_number(asked.offer.as_bytes()) | DONT_MASK,
         },

@@ -71,7 +71,7 @@ fn with_data(opcode: u32, request: &Request<'_>, place: usize, len: usize) -> Fl
     }
 }
 
-/// The struct of a request about so many bytes from an offset of an open file or a directory.
+/// The struct of a request about this many bytes from an offset of an open file or a directory.
 fn with_range(opcode: u32, request: &Request<'_>, fh: u64, offset: u64, size: u32) -> FlatRequest
     ensures head { (result.opcode ≡ opcode) × (result.unique ≡ request.now.unique)
         × (result.nodeid ≡ request.now.nodeid) }

@@ -13,7 +13,7 @@ use crate::status::{BODY, OPCODE, PLACE};
 use bitflags::Flags;
 use fk_wire::{InitFlags, Opcode, Pairs, Request, RequestBody, opcode_of_code};
 
-/// So many bytes from a place on, if there are so many.
+/// This many bytes from a place on, if there are as many.
 #[tactic(auto, unfolding(fk_fields::specs::Fields::bytes_at))]
 pub(crate) fn part(bytes: &[u8], offset: usize, len: usize) -> Option<&[u8]>
     ensures { MatchOption result (length bytes.now < offset + len)

@@ -73,7 +73,7 @@ pub extern "C" fn fuseworld_write_request(
     ensures ok { (v : Minor) → minor_number_of v ≡ minor → result ≡ 0 → (m : RequestMessage)
         × IsRequestStruct request.now bytes.now m × WrittenAt v m (take wanted.new buffer.new)
         × (drop wanted.new buffer.new ≡ drop wanted.new buffer.old) }
-    // Too small a buffer: so many bytes are wanted.
+    // Too small a buffer: this many bytes are needed.
     ensures room { result ≡ 9 → (m : RequestMessage) × IsRequestStruct request.now bytes.now m
         × (wanted.new ≡ 40 + sizes (request_body m.content)) × (length buffer.old < wanted.new) }
     // Else the answer is the first fault that applies, or there is no such request.

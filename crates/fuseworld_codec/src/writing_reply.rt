@@ -81,7 +81,7 @@ pub extern "C" fn fuseworld_write_reply(
         → (t : ReplyMessage) × GoesWith v o t × IsReplyStruct reply.now bytes.now t
         × WrittenReplyAt v t (take wanted.new buffer.new)
         × (drop wanted.new buffer.new ≡ drop wanted.new buffer.old) }
-    // Too small a buffer: so many bytes are wanted.
+    // Too small a buffer: this many bytes are needed.
     ensures room { result ≡ 9 → (t : ReplyMessage) × IsReplyStruct reply.now bytes.now t
         × (wanted.new ≡ 16 + sizes (reply_body t.content)) × (length buffer.old < wanted.new) }
     // Else there is no such reply, or the answer is the first fault that applies.

@@ -57,12 +57,12 @@ pub(crate) struct Layout {
     pub(crate) height: u64,
 }
 
-/// How wide so many things of this width are.
+/// How wide this many things of this width are.
 fn wide(count: usize, width: u64) -> u64 {
     (count as u64).saturating_mul(width)
 }
 
-/// The column of a link at the right of an x, with so many lanes.
+/// The column of a link at the right of an x, with this many lanes.
 fn link_column(left: u64, lanes: usize) -> LinkColumn {
     let x = left.saturating_add(BESIDE_LINK);
     let inner = wide(lanes, MESSAGE_LANE);

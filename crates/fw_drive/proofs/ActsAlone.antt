@@ -21,7 +21,7 @@ acts_alone old (event.Interrupt call fatal) (outcome.Interrupted signalled effec
 acts_alone old (event.Tick ms) (outcome.Now clock) new (may, is, same) = to old new _ same (ticks ms may)
 acts_alone old (event.DropName directory name) outcome.Dropped new (may, same) =
     to old new _ same (drops_name directory name.now may)
-acts_alone old (event.Evict node) (outcome.Evicted given_up count) new (may, is, (counted, there, counts, same)) =
+acts_alone old (event.Evict node) (outcome.Evicted evicted_node count) new (may, is, (counted, there, counts, same)) =
     to old new _ same (evicts node counted may there)
 acts_alone old event.Abort outcome.Aborted new (may, same) = to old new _ same (aborts may)
 acts_alone old e o new acts = absurd acts

@@ -25,8 +25,8 @@ Acts old (event.DropName directory name) outcome.Dropped new =
     (drop_refusal old directory name.now ≡ None) × (new ≡ record old {
       vfs = record old.vfs { names = remove_name old.vfs.names (directory, name.now) };
     })
-Acts old (event.Evict node) (outcome.Evicted given_up count) new =
-    (evict_refusal old node ≡ None) × (given_up ≡ node) × ((counted : Counted)
+Acts old (event.Evict node) (outcome.Evicted evicted_node count) new =
+    (evict_refusal old node ≡ None) × (evicted_node ≡ node) × ((counted : Counted)
     × (get old.nodes node ≡ Some counted) × (counted.count ≡ count) × (new ≡ evicted old node counted))
 Acts old event.Abort outcome.Aborted new = (abort_refusal old ≡ None) × (new ≡ kernel_aborted old)
 Acts old e o new = ⊥

@@ -7,7 +7,9 @@ ghost use Rattle.fw_drive.specs.Acts.{Acts};
 ghost use Rattle.fw_drive.specs.Runs.{GoesOn, Keeps};
 
 use crate::acting::act;
-use fk_drive::{Aside, Choices, Connection, DriveEnd, NotSent, Written, send_next, write_next};
+use fk_drive::{
+    Connection, DriveEnd, FreeFields, NotSent, OtherFrame, Written, send_next, write_next,
+};
 use fk_kernel::{Answer, KernelOf, Pick};
 use fuse_device::Device;
 use fuse_frames::RequestFrame;
@@ -22,7 +24,7 @@ pub(crate) struct Driver<T: Tables> {
     alloc: T::Heap,
     kernel: KernelOf<T::Queues, T::Counts>,
     connection: Connection<T::Heap>,
-    choices: Choices,
+    free_fields: FreeFields,
 }
 
 // What is driven, between requests.
@@ -40,14 +42,14 @@ impl<T: Tables> Model for Driver<T> {
 
 impl<T: Tables> Driver<T> {
     /// A kernel before its first mount. OPENDIR goes before what lists a directory if it `asks`.
-    pub(crate) fn new(alloc: T::Heap, asks: bool, choices: Choices) -> Self
+    pub(crate) fn new(alloc: T::Heap, asks: bool, free_fields: FreeFields) -> Self
         ensures { result ≡ first_driven asks }
     {
         Driver {
             alloc,
             kernel: KernelOf::new(alloc),
             connection: Connection::new(alloc, asks),
-            choices,
+            free_fields,
         }
     }
 
@@ -57,7 +59,7 @@ impl<T: Tables> Driver<T> {
             alloc: _,
             kernel,
             connection,
-            choices: _,
+            free_fields: _,
         } = self;
         kernel.end();
         drop(connection);
@@ -67,7 +69,7 @@ impl<T: Tables> Driver<T> {
     pub(crate) fn open_with(&mut self, flags: u32)
         ensures { Keeps self.old self.new }
     {
-        self.choices.open_flags = flags;
+        self.free_fields.open_flags = flags;
     }
 
     /// An event happens that moves the kernel without its server. Any other is refused.
@@ -106,13 +108,13 @@ impl<T: Tables> Driver<T> {
     ) -> Result<Result<RequestFrame<T::Heap>, Refusal>, DriveEnd>
         ensures { GoesOn D.logs device.old device.new self.old self.new result }
     {
-        let choices = self.choices;
+        let free_fields = self.free_fields;
         match send_next(
             &mut self.kernel,
             &mut self.connection,
             device,
             pick,
-            choices,
+            free_fields,
         ) {
             Ok(frame) => Ok(Ok(frame)),
             Err(NotSent::Refused(refusal)) => Ok(Err(refusal)),
@@ -136,10 +138,10 @@ impl<T: Tables> Driver<T> {
     }
 
     /// The frames that were not for the kernel, since this was last asked.
-    pub(crate) fn take_asides(&mut self) -> Vec<Aside, T::Heap>
+    pub(crate) fn take_other_frames(&mut self) -> Vec<OtherFrame, T::Heap>
         ensures { Keeps self.old self.new }
     {
-        self.connection.take_asides()
+        self.connection.take_other_frames()
     }
 
     /// Whether a call waits for its answer.

@@ -1,13 +1,13 @@
 //! What a script of `drive` has in its lines.
 
-/// What a script has in its lines.
+/// The kinds of scripts.
 #[derive(Clone, Copy, Debug, PartialEq, Eq)]
 pub enum Form {
     /// Each event of the kernel, and each frame that is sent and received.
     Events,
     /// Calls and what happens between them. Each call is carried to its answer, and a mount goes before the first.
     Calls,
-    /// The same, and each call is also made in a world of this project's own.
+    /// Calls alone, each of which is also made in a world of this project's own.
     CallsBeside,
 }
 

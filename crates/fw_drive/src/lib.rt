@@ -18,7 +18,7 @@ mod stop;
 mod trace;
 mod watch;
 
-pub use fk_drive::Choices;
+pub use fk_drive::FreeFields;
 pub use form::Form;
 pub use run::{Task, run_drive};
 pub use trace::DriveTrace;

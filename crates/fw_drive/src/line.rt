@@ -11,7 +11,7 @@ const WRITING: u32 = 0x8001;
 
 pub(crate) const BOTH: u32 = 0x8002;
 
-/// What a line says. Paths, names and hex are lent from it.
+/// What a line says. Paths, names and hex are borrowed from it.
 #[derive(Clone, Copy)]
 pub(crate) enum DriveLine<'a> {
     /// An event of the kernel. A request that is read is sent.

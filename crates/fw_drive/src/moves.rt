@@ -92,8 +92,8 @@ pub(crate) fn send<T: Tables, D: Device, W: Write>(
         return Err(Stop::OutputRefused);
     }
     let sent = driver.send(device, pick);
-    let asides = driver.take_asides();
-    if let Err(stop) = notes.note_asides(asides.as_slice(), out) {
+    let other_frames = driver.take_other_frames();
+    if let Err(stop) = notes.note_other_frames(other_frames.as_slice(), out) {
         return Err(stop);
     }
     match sent {
@@ -139,8 +139,8 @@ pub(crate) fn receive<T: Tables, D: Device, W: Write>(
         return Err(Stop::OutputRefused);
     }
     let received = driver.receive(device);
-    let asides = driver.take_asides();
-    if let Err(stop) = notes.note_asides(asides.as_slice(), out) {
+    let other_frames = driver.take_other_frames();
+    if let Err(stop) = notes.note_other_frames(other_frames.as_slice(), out) {
         return Err(stop);
     }
     match received {

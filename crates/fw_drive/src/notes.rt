@@ -3,18 +3,18 @@
 use crate::beside::Beside;
 use crate::form::Form;
 use crate::printing::{
-    print_asides, print_fault, print_outcome, print_raised, print_sent, print_written,
+    print_fault, print_other_frames, print_outcome, print_raised, print_sent, print_written,
 };
 use crate::stop::{Stop, stop_at};
 use crate::watch::Watch;
-use fk_drive::{Aside, Written};
+use fk_drive::{OtherFrame, Written};
 use fuse_frames::RequestFrame;
 use fuse_spec::WriteResult;
 use fw_script::write_record;
 use fw_world::{Answer, Event, Outcome, Record, Refusal, Tables};
 use std::io::Write;
 
-/// The stop at a refusal of a world beside: only want of memory is one.
+/// The stop where a world beside refuses, which is only where memory is out.
 fn stop_beside(_refusal: Refusal) -> Stop {
     Stop::NoMemory
 }
@@ -72,7 +72,7 @@ impl<T: Tables> Notes<T> {
                 }
             }
             Outcome::Aborted => self.watch.note_abort(),
-            Outcome::Evicted { node, .. } => self.watch.give_up(node),
+            Outcome::Evicted { node, .. } => self.watch.note_evicted(node),
             _ => {}
         }
         Ok(())
@@ -152,8 +152,12 @@ impl<T: Tables> Notes<T> {
     }
 
     /// Prints the frames that were not for the kernel.
-    pub(crate) fn note_asides<W: Write>(&self, asides: &[Aside], out: &mut W) -> Result<(), Stop> {
-        print_asides(out, asides)?;
+    pub(crate) fn note_other_frames<W: Write>(
+        &self,
+        other_frames: &[OtherFrame],
+        out: &mut W,
+    ) -> Result<(), Stop> {
+        print_other_frames(out, other_frames)?;
         Ok(())
     }
 

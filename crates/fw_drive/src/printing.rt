@@ -1,7 +1,7 @@
 //! What is printed of a driven run.
 
 use crate::fault::Fault;
-use fk_drive::{Aside, Written};
+use fk_drive::{OtherFrame, Written};
 use fk_wire::ReplyHead;
 use fuse_frames::RequestFrame;
 use fw_script::{OutputRefused, write_record};
@@ -78,9 +78,12 @@ pub(crate) fn print_fault<W: Write>(out: &mut W, fault: Fault) -> Result<(), Out
 }
 
 /// Prints the notifications among the frames that were not for the kernel.
-pub(crate) fn print_asides<W: Write>(out: &mut W, asides: &[Aside]) -> Result<(), OutputRefused> {
-    for aside in asides {
-        if let Aside::Notification { code, len } = *aside {
+pub(crate) fn print_other_frames<W: Write>(
+    out: &mut W,
+    other_frames: &[OtherFrame],
+) -> Result<(), OutputRefused> {
+    for other_frame in other_frames {
+        if let OtherFrame::Notification { code, len } = *other_frame {
             taken(writeln!(out, "notification {code} {len}"))?;
         }
     }

@@ -9,7 +9,7 @@ use crate::form::Form;
 use crate::notes::Notes;
 use crate::script::{first_fault, print_end, run_text};
 use crate::stop::Stop;
-use fk_drive::Choices;
+use fk_drive::FreeFields;
 use fuse_device::Device;
 use fw_script::{cannot_read, no_memory};
 use fw_world::{Maps, Tables};
@@ -25,7 +25,7 @@ pub struct Task<'a> {
     /// Whether OPENDIR goes before what lists a directory.
     pub opens_directories: bool,
     /// What is said in fields that are free.
-    pub choices: Choices,
+    pub free_fields: FreeFields,
 }
 
 /// Runs a script whose lines are good, and prints what is known at its end.
@@ -56,7 +56,7 @@ fn run_good<T: Tables, D: Device, W: Write>(
     ensures { (new : Driven) × DrivesOver D.logs device.old device.new (first_driven task.entry.opens_directories) new }
 {
     let mut notes = Notes::<T>::new(alloc, task.form)?;
-    let mut driver = Driver::<T>::new(alloc, task.opens_directories, task.choices);
+    let mut driver = Driver::<T>::new(alloc, task.opens_directories, task.free_fields);
     let ended = run_driver(alloc, &mut driver, device, &mut notes, text, out);
     driver.end();
     notes.end();

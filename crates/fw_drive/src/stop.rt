@@ -62,7 +62,7 @@ impl Stop {
         taken(out.flush())
     }
 
-    /// Says it, want of memory on `faults` and all else on the output, and gives the exit status.
+    /// Says it, out of memory on `faults` and all else on the output, and gives the exit status.
     pub(crate) fn report<A: Allocator, W: Write, F: Write>(self, out: &mut W, faults: &mut F) -> u8
         ensures { Contains (3 ∷ 4 ∷ 5 ∷ []) result }
     {

@@ -2,7 +2,7 @@
 
 ghost use Rattle.std.specs.Prelude.{◌≡◌};
 
-use fk_drive_frames::{Aside, END_OF_OWN, aside_in};
+use fk_drive_frames::{OPENDIR_UNIQUES_END, OtherFrame, other_frame_in};
 use fk_wire::{Opcode, ReplyHead, opcode_of_code, read_reply, read_request, read_request_head};
 use fuse_device::{Device, DeviceEnd};
 use fuse_spec::WriteResult;
@@ -71,10 +71,10 @@ fn write_received<W: Write>(
 }
 
 /// Writes a frame that is not for the kernel.
-fn write_aside<W: Write>(out: &mut W, aside: Aside) -> io::Result<()> {
-    match aside {
-        Aside::Notification { code, len } => writeln!(out, "< notification {code} {len}"),
-        Aside::OwnReply { unique, error, .. } => {
+fn write_other_frame<W: Write>(out: &mut W, other_frame: OtherFrame) -> io::Result<()> {
+    match other_frame {
+        OtherFrame::Notification { code, len } => writeln!(out, "< notification {code} {len}"),
+        OtherFrame::OpendirReply { unique, error, .. } => {
             let number = error.unsigned_abs();
             writeln!(out, "< {unique} error {number} (to this command)")
         }
@@ -119,8 +119,11 @@ impl<A: Allocator + Copy, D: Device + Drop, W: Write + Drop> DriveTrace<A, D, W>
     fn print_received(&mut self, frame: &[u8])
         ensures { self.new.inner ≡ self.old.inner }
     {
-        let _ = match (aside_in(END_OF_OWN, frame), ReplyHead::read(frame)) {
-            (Some(aside), _) => write_aside(&mut self.out, aside),
+        let _ = match (
+            other_frame_in(OPENDIR_UNIQUES_END, frame),
+            ReplyHead::read(frame),
+        ) {
+            (Some(other_frame), _) => write_other_frame(&mut self.out, other_frame),
             (None, Ok(head)) => {
                 let opcode = self.opcodes.get(&head.unique).copied();
                 write_received(&mut self.out, opcode, head, frame)

@@ -30,8 +30,8 @@ struct NodeFile {
     kind: u32,
 }
 
-/// The requests that a server was sent in this mount, those of earlier mounts whose replies are to come, and the files of
-/// the nodes that it gave.
+/// The requests that a server was sent in this mount, those of earlier mounts whose replies are to come, and the files
+/// of the nodes that it gave.
 #[derive(Drop)]
 pub(crate) struct Watch<A: Allocator + Copy> {
     sent: Table<SentRequest, A>,
@@ -69,8 +69,8 @@ impl<A: Allocator + Copy> Watch<A> {
         Ok(())
     }
 
-    /// The kernel gives a node up: the server may give it for another file.
-    pub(crate) fn give_up(&mut self, node: u64) {
+    /// The kernel evicts a node: the server may give it for another file.
+    pub(crate) fn note_evicted(&mut self, node: u64) {
         let _gone = self.nodes.swap_remove(&node);
     }
 
@@ -159,8 +159,8 @@ impl<A: Allocator + Copy> Watch<A> {
         }
     }
 
-    /// What is wrong with a reply that no request waited for. Nothing is with the first to a request that was sent before
-    /// an abort, nor with one to an INTERRUPT, whose request may be answered before it.
+    /// What is wrong with a reply that no request waited for. Nothing is with the first to a request that was sent
+    /// before an abort, nor with one to an INTERRUPT, whose request may be answered before it.
     fn judge_unawaited(&mut self, unique: u64) -> Option<Fault> {
         match self.sent.get_mut(&unique) {
             Some(request) if unique % 2 == 1 || !request.is_answered => {

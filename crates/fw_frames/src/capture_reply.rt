@@ -151,7 +151,7 @@ fn write_judged<W: Write>(out: &mut W, judged: &Judged<'_>, len: usize) -> io::R
     }
 }
 
-/// Counts the lookups that records with entries tell: none under `.` and `..`.
+/// Counts the lookups that records with entries give: none under `.` and `..`.
 fn count_pluses<A: Allocator + Copy>(
     conversation: &mut Conversation<A>,
     records: RecordsPlus<'_>,
@@ -165,7 +165,7 @@ fn count_pluses<A: Allocator + Copy>(
 }
 
 /// Counts the lookups that an accepted reply gives.
-fn count_told<A: Allocator + Copy>(
+fn note_lookups<A: Allocator + Copy>(
     conversation: &mut Conversation<A>,
     body: &ReplyBody<'_>,
 ) -> Result<(), AllocError> {
@@ -185,7 +185,7 @@ fn note<A: Allocator + Copy>(
 ) -> Result<(), AllocError> {
     match judged {
         Judged::Accepted { reply, .. } => {
-            count_told(conversation, &reply.body)?;
+            note_lookups(conversation, &reply.body)?;
             conversation.answer(reply.unique)
         }
         Judged::Unserved { head, .. } => conversation.answer(head.unique),

@@ -3,7 +3,8 @@
 use std::alloc::{AllocError, Allocator};
 use std::collections::{BTreeMap, VecDeque};
 
-/// How many of the requests that were answered last are remembered, to tell a second reply from one to no request.
+/// How many of the requests that were answered last are remembered, to distinguish a second reply from one to no
+/// request.
 const REMEMBERED: usize = 4096;
 
 /// A request that waits for its reply.
@@ -103,7 +104,7 @@ impl<A: Allocator + Copy> Conversation<A> {
         self.add(nodeid, 1)
     }
 
-    /// So many lookups of a node are forgotten.
+    /// This many lookups of a node are forgotten.
     pub(crate) fn forgotten(&mut self, nodeid: u64, lookups: u64) -> Result<(), AllocError> {
         self.add(nodeid, 0 - i128::from(lookups))
     }

@@ -33,7 +33,7 @@ fn get_piece<'a, L: Link>(
     Ok(&room[..count])
 }
 
-/// Gets so many bytes of what a side put into the cutter at the other end, through a room for as many as are got in
+/// Gets this many bytes of what a side put into the cutter at the other end, through a room for as many as are got in
 /// one call.
 ///
 /// # Errors
@@ -155,8 +155,8 @@ impl<A: Allocator + Copy> Carrier<A> {
         Ok(())
     }
 
-    /// The same over a link in order, where nothing is yet to be got: the envelope comes through, or the link has
-    /// failed.
+    /// Carries an envelope over a link in order, where nothing is yet to be got: the envelope comes through, or the
+    /// link has failed.
     ///
     /// # Errors
     ///
@@ -178,7 +178,7 @@ impl<A: Allocator + Copy> Carrier<A> {
         self.carry(link, from, envelope)
     }
 
-    /// The same over readers and writers, where the server's reader has this envelope to give: it comes through, or the
+    /// Carries an envelope over readers and writers, where the server's reader has it to give: it comes through, or the
     /// link has failed.
     ///
     /// # Errors

@@ -16,13 +16,13 @@ const KEPT: usize = 2 * LONGEST;
 
 /// The bytes on their way to one side.
 #[derive(Drop)]
-pub(crate) struct Way<A: Allocator + Copy> {
+pub(crate) struct Channel<A: Allocator + Copy> {
     held: Vec<u8, A>,
     /// How many of them were got.
     got: usize,
 }
 
-impl<A: Allocator + Copy> Model for Way<A> {
+impl<A: Allocator + Copy> Model for Channel<A> {
     ghost Value = { List ℕ };
 
     ghost view = { λ w. drop w.got w.held.items };
@@ -30,16 +30,16 @@ impl<A: Allocator + Copy> Model for Way<A> {
     ghost invariant = { λ w. (w.got ≤ vec_len w.held) × (8370 ≤ vec_capacity w.held) };
 }
 
-impl<A: Allocator + Copy> Way<A> {
+impl<A: Allocator + Copy> Channel<A> {
     /// An empty one with room for an envelope.
     fn new(alloc: A) -> Result<Self, AllocError>
         ensures { IfOk result (λ w. w ≡ []) }
     {
         let held = Vec::with_capacity(alloc, KEPT)?;
-        Ok(Way { held, got: 0 })
+        Ok(Channel { held, got: 0 })
     }
 
-    /// Whether so many more bytes have room.
+    /// Whether this many more bytes have room.
     fn has_room(&self, count: usize) -> bool
         ensures { IsTrue result ↔ (length self.now + count ≤ 4185) }
     {
@@ -79,7 +79,7 @@ impl<A: Allocator + Copy> Way<A> {
     }
 }
 
-/// Takes out the first so many bytes: the others move to the front. The room stays.
+/// Takes out this many of the first bytes: the others move to the front. The room stays.
 fn drop_front<A: Allocator>(held: &mut Vec<u8, A>, count: usize)
     requires { count ≤ vec_len held.old }
     ensures items { held.new.items ≡ drop count held.old.items }
@@ -92,7 +92,7 @@ fn drop_front<A: Allocator>(held: &mut Vec<u8, A>, count: usize)
 
 /// Puts bytes on a way, or counts a failure where they have no room.
 fn put_on<A: Allocator + Copy>(
-    way: &mut Way<A>,
+    way: &mut Channel<A>,
     failed: &mut FailureCount,
     bytes: &[u8],
 ) -> Result<(), LinkFault>
@@ -111,7 +111,7 @@ fn put_on<A: Allocator + Copy>(
 
 /// Gets bytes from a way, or counts a failure where that is none.
 fn get_from<A: Allocator + Copy>(
-    way: &mut Way<A>,
+    way: &mut Channel<A>,
     failed: &mut FailureCount,
     room: &mut [u8],
 ) -> Result<usize, LinkFault>
@@ -132,8 +132,8 @@ fn get_from<A: Allocator + Copy>(
 /// A link in memory, with room for one envelope to each side. It takes no memory after `new`.
 #[derive(Drop)]
 pub struct MemoryLink<A: Allocator + Copy = Global> {
-    to_kernel: Way<A>,
-    to_server: Way<A>,
+    to_kernel: Channel<A>,
+    to_server: Channel<A>,
     failed: FailureCount,
 }
 
@@ -145,8 +145,8 @@ impl<A: Allocator + Copy> MemoryLink<A> {
         ensures idle { IfOk result IsEmptyLink }
         ensures failed { IfOk result (λ link. link.failed.count ≡ 0) }
     {
-        let to_kernel = Way::new(alloc)?;
-        let to_server = Way::new(alloc)?;
+        let to_kernel = Channel::new(alloc)?;
+        let to_server = Channel::new(alloc)?;
         Ok(MemoryLink {
             to_kernel,
             to_server,

@@ -75,7 +75,7 @@ ReadingEnds name (stop.CannotRead n) = n.now ≡ name
 ReadingEnds name stop.NoMemory = Unit {0}
 ReadingEnds name other = ⊥
 
--- The same of a script that was to be read, judged and run.
+-- How a run ends whose script was to be read, judged and run.
 abbrev pub InputEnds : {T : Type 0} → (List (List ℕ) → List ℕ → Type 0) → (name : List ℕ)
     → (script : Option (List ℕ)) → Result T Stop → (had has : Option (List ℕ)) → Type 0
 InputEnds IsRun name script (Ok done) had has = PrintsAll IsRun script had has
@@ -85,7 +85,7 @@ InputEnds IsRun name script (Err (stop.CannotRead n)) had has = n.now ≡ name
 InputEnds IsRun name script (Err (stop.BadLine number fault)) had has =
     IfSome script (λ s. FirstFaultIs s number fault)
 
--- why the lines of a script are not kept: its first bad line, or want of memory for good ones
+-- why the lines of a script are not kept: its first bad line, or out of memory for good ones
 abbrev pub JudgingEnds : List ℕ → Stop → Type 0
 JudgingEnds script (stop.BadLine number fault) = FirstFaultIs script number fault
 JudgingEnds script stop.NoMemory = IsGoodScript script
@@ -98,8 +98,8 @@ UnreadEnds name script (stop.BadLine number fault) = IfSome script (λ s. FirstF
 UnreadEnds name script stop.NoMemory = Unit {0}
 UnreadEnds name script other = ⊥
 
--- A run over a link ended: the link was lost, and a beginning was written of what is printed until some line after that;
--- or it was not, and the run ended as one of a world.
+-- A run over a link ended: the link was lost, and a beginning was written of what is printed until some line after
+-- that; or it was not, and the run ended as one of a world.
 abbrev pub SessionEnds : (Bool → List (List ℕ) → List ℕ → Type 0) → List (List ℕ) → Result Bool Stop
     → (had has : Option (List ℕ)) → Type 0
 SessionEnds IsRun lines (Ok true) had has =
@@ -107,7 +107,7 @@ SessionEnds IsRun lines (Ok true) had has =
     × AppendsSome had has text
 SessionEnds IsRun lines other had has = RunEnds (IsRun false) lines other had has
 
--- The same of a script that was to be read, judged and run.
+-- How a run ends whose script was to be read, judged and run.
 abbrev pub OverEnds : (Bool → List (List ℕ) → List ℕ → Type 0) → (name : List ℕ) → (script : Option (List ℕ))
     → Result Bool Stop → (had has : Option (List ℕ)) → Type 0
 OverEnds IsRun name script (Ok true) had has = PrintsSome (IsRun true) script had has

@@ -126,7 +126,7 @@ pub record IsRunOf (A : Type 0) (hex : Bool) (lines : List (List ℕ)) (text : L
   pub prints : Prints (world_machine A) hex first_world lines events records text last
   pub runs : RunsAs first_world (map event_of events) (map run_record_of records) last
 
--- The same over a link, which is lost in the end or is not.
+-- A script runs so over a link, which is lost in the end or is not.
 pub record IsRunOver (A : Type 0) {L : Type 0} (carries : L → L → Traffic → Type 0) (failed : L → ℕ) (link : L)
     (hex is_lost : Bool) (lines : List (List ℕ)) (text : List ℕ) : Type 0 where
   pub events : List Event

@@ -15,6 +15,6 @@ words_of text = slice_split (λ byte. byte == 32) text
 abbrev pub words_left : Option (List ℕ) → List (List ℕ)
 words_left rest = parts_left 32 rest
 
--- so many words, none of them empty
+-- this many words, none of them empty
 abbrev pub HasWords : ℕ → List (List ℕ) → Type 0
 HasWords count words = (length words ≡ count) × All (λ word. 0 < length word) words

@@ -103,7 +103,7 @@ fn line_of_read(form: ReadForm, rest: Option<&[u8]>) -> Result<Line<'_>, LineFau
     Ok(Line::Event(Event::Read(pick)))
 }
 
-/// What a line says. Its paths, its name and its hex are lent from the line.
+/// What a line says. Its paths, its name and its hex are borrowed from the line.
 ///
 /// The fault is the first of `UnknownEvent`, `WrongWords`, `BadNumber` and `BadText` that applies.
 pub fn read_line(line: &[u8]) -> Result<Line<'_>, LineFault>

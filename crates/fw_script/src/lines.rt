@@ -66,7 +66,7 @@ fn read_any(line: &[u8]) -> Result<Option<Line<'_>>, LineFault>
     Ok(Some(said))
 }
 
-/// Why a script is refused whose lines cannot be kept: for its first line with a fault, or else for want of memory.
+/// Why a script is refused whose lines cannot be kept: for its first line with a fault, or else as out of memory.
 #[cold]
 fn refused_lines(script: &[u8]) -> Stop<'static>
     ensures { JudgingEnds script.now result }
@@ -81,7 +81,7 @@ fn refused_lines(script: &[u8]) -> Stop<'static>
     Stop::NoMemory
 }
 
-/// What the lines of a script say, in their order. Else the first line with a fault; want of memory comes after that.
+/// What the lines of a script say, in their order. Else the first line with a fault; out of memory comes after that.
 pub(crate) fn read_lines<A: Allocator>(
     alloc: A,
     script: &[u8],

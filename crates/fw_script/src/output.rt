@@ -9,7 +9,7 @@ use thiserror::Error;
 
 /// An output did not take all that was written.
 ///
-/// The error that it gave is let go. It takes 96 bytes, which each function between here and the run would move for
+/// The error that it gave is dropped. It takes 96 bytes, which each function between here and the run would move for
 /// each line, and a run asks only whether there is one. No clause can say that an output takes what it is given, so one
 /// that is always refused would keep each clause with this error: that lines come out is shown by `tests/rows`.
 #[derive(Clone, Copy, Debug, PartialEq, Eq, Error)]

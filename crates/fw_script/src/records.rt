@@ -105,7 +105,7 @@ fn write_chunk<W: Write>(out: &mut W, chunk: &mut Chunk) -> Result<(), OutputRef
     Ok(())
 }
 
-/// Makes room in a chunk for so many bytes, by writing what it holds where they lack it.
+/// Makes room in a chunk for this many bytes, by writing what it holds where they lack it.
 #[inline(always)]
 fn make_room<W: Write>(out: &mut W, chunk: &mut Chunk, len: usize) -> Result<(), OutputRefused>
     requires { len ≤ 512 }
@@ -407,7 +407,8 @@ fn write_put<W: Write>(out: &mut W, frame: Option<&[u8]>) -> Result<(), OutputRe
     }
 }
 
-/// Writes the line of an event's first record, that of the frame that was put, if there is one, and those of the answers.
+/// Writes the line of an event's first record, that of the frame that was put, if there is one, and those of the
+/// answers.
 #[inline(always)]
 fn write_lines<A: Allocator, W: Write>(
     out: &mut W,

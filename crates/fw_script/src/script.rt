@@ -261,7 +261,7 @@ fn make_room<A: Allocator + Copy>(alloc: A) -> Result<Room<A>, AllocError> {
     })
 }
 
-/// Runs them on a new world.
+/// Runs the lines of a script on a new world.
 fn run_events<T: Tables, W: Write>(
     alloc: T::Heap,
     lines: &[Line<'_>],
@@ -284,8 +284,8 @@ fn run_events<T: Tables, W: Write>(
     ended
 }
 
-/// Runs them on a new session over a link, and says whether the link was lost, which is judged before want of memory
-/// and an output that refuses.
+/// Runs the lines of a script on a new session over a link, and says whether the link was lost, which is judged before
+/// out of memory and an output that refuses.
 fn run_session<T: Tables, L: Link + Drop, W: Write>(
     alloc: T::Heap,
     link: L,

@@ -13,7 +13,7 @@ pub(crate) fn split_word(text: &[u8]) -> (&[u8], Option<&[u8]>)
     split_at_first(text, b' ', find_near(text, b' '))
 }
 
-/// The same of a text whose first word may be long.
+/// The first word of a text, which may be long, and the text after the space that ends it, if a space does.
 fn split_long_word(text: &[u8]) -> (&[u8], Option<&[u8]>)
     ensures { words_of text.now ≡ result.0.now ∷ words_left (option_copied result.1) }
 {

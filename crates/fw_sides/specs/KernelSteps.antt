@@ -41,13 +41,13 @@ KernelDoes old (event.DropName directory name) step.Dropped new =
     (drop_refusal old directory name.now ≡ None) × (new ≡ record old {
       vfs = record old.vfs { names = remove_name old.vfs.names (directory, name.now) };
     })
-KernelDoes old (event.Evict node) (step.Evicted given_up count) new =
-    (evict_refusal old node ≡ None) × (given_up ≡ node) × ((counted : Counted)
+KernelDoes old (event.Evict node) (step.Evicted evicted_node count) new =
+    (evict_refusal old node ≡ None) × (evicted_node ≡ node) × ((counted : Counted)
     × (get old.nodes node ≡ Some counted) × (counted.count ≡ count) × (new ≡ evicted old node counted))
 KernelDoes old event.Abort step.Aborted new = (abort_refusal old ≡ None) × (new ≡ kernel_aborted old)
 KernelDoes old e s new = ⊥
 
--- Why an event is refused: as the definitions refuse it, or for want of memory, where it takes some.
+-- Why an event is refused: as the definitions refuse it, or as out of memory, where it takes some.
 abbrev pub KernelRefuses : Kernel → KernelEvent → Refusal → Type 0
 KernelRefuses old event.Mount refusal = refusal ≡ or_no_memory (mount_refusal old)
 KernelRefuses old (event.Call call) refusal = refusal ≡ or_no_memory (begin_refusal old (call_of call))

@@ -10,7 +10,7 @@ use Rattle.fw_sides.specs.declared.server_event.ServerEvent.TheVariants as event
 use Rattle.fw_sides.specs.declared.server_line.ServerLine.{ServerLine}
 use Rattle.fw_sides.specs.declared.server_line.ServerLine.TheVariants as line
 
--- the number that is said of what a writer was told: 0, ENOENT or EINVAL
+-- the number that is said of what a writer got: 0, ENOENT or EINVAL
 abbrev pub settled_number : WriteResult → ℕ
 settled_number Accepted = 0
 settled_number NoEntry = 2

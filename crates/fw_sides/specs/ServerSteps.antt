@@ -39,7 +39,7 @@ pub record RefusesTaking (old : Server) (bytes : List ℕ) (fault : ServerFault)
   pub memory : fault ≡ Memory → CanTake old bytes × TakingNeedsMemory old bytes
   pub says : MatchOption reply (IsAnswerable bytes fault → ⊥) (IsFaultReply old.minor bytes fault)
 
--- Why an event is refused. Want of memory comes last.
+-- Why an event is refused. Out of memory comes last.
 abbrev pub ServerRefuses : Server → ServerEvent → ServerRefused → Type 0
 ServerRefuses old (event.Mount found missing minor) (refused.Event refusal) =
     (refusal ≡ BadTime) × ((max_validity < found) ⊎ (max_validity < missing))

@@ -10,7 +10,7 @@ use fuse_frames::RequestFrame;
 use fuse_spec::{IntrEffect, Purpose, Refusal, WriteResult};
 use std::alloc::{Allocator, Global};
 
-/// One event of a kernel whose server is another program. Paths, names and bytes are lent.
+/// One event of a kernel whose server is another program. Paths, names and bytes are borrowed.
 #[derive(Clone, Copy, Debug)]
 pub enum KernelEvent<'a> {
     /// The kernel mounts, and queues INIT.
@@ -23,11 +23,11 @@ pub enum KernelEvent<'a> {
     Write(&'a [u8]),
     /// An unanswered call is signalled, fatally or not.
     Interrupt { call: u64, fatal: bool },
-    /// So many milliseconds pass.
+    /// This many milliseconds pass.
     Tick(u64),
     /// The kernel forgets the name of a directory, which is a node.
     DropName { directory: u64, name: &'a [u8] },
-    /// The kernel gives a node up, and its whole lookup count is to be forgotten.
+    /// The kernel evicts a node, and its whole lookup count is to be forgotten.
     Evict(u64),
     /// The connection is aborted: every unanswered call is answered ECONNABORTED.
     Abort,
@@ -56,7 +56,7 @@ pub enum KernelStep<A: Allocator = Global> {
 ///
 /// # Errors
 ///
-/// As the kernel's own calls refuse it: want of memory last. The kernel is then as before.
+/// As the kernel's own calls refuse it: out of memory last. The kernel is then as before.
 pub fn step_kernel<Q: QueueTable<Purpose> + Drop, C: CountTable<Heap = Q::Heap> + Drop>(
     kernel: &mut KernelOf<Q, C>,
     event: &KernelEvent<'_>,

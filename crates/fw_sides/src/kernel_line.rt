@@ -89,7 +89,7 @@ fn read_write(rest: Option<&[u8]>) -> Result<KernelLine<'_>, LineFault>
 }
 
 /// What a line says: `mount`, `write HEX`, or a line of scripts that is the kernel's alone (`call`, `read`, `intr`,
-/// `tick`, `drop`, `evict`, `abort`, `show`). Paths, names and hex are lent from the line.
+/// `tick`, `drop`, `evict`, `abort`, `show`). Paths, names and hex are borrowed from the line.
 ///
 /// # Errors
 ///

@@ -9,7 +9,7 @@ use fuse_spec::limits::MAX_VALIDITY;
 use fuse_spec::{Minor, Refusal, WriteResult};
 use std::alloc::{Allocator, Global};
 
-/// One event of a server whose kernel is another program. Bytes are lent.
+/// One event of a server whose kernel is another program. Bytes are borrowed.
 #[derive(Clone, Copy, Debug)]
 pub enum ServerEvent<'a> {
     /// A kernel mounts the server, which speaks this minor, with these validities of found and of missing names, in
@@ -97,7 +97,7 @@ fn take<S: NodeStore>(
 ///
 /// # Errors
 ///
-/// `BadTime` for a mount with a validity of more than a day, and else as the server's own calls refuse it: want of
+/// `BadTime` for a mount with a validity of more than a day, and else as the server's own calls refuse it: out of
 /// memory last. The server is then as before.
 pub fn step_server<S: NodeStore>(
     server: &mut ServerOf<S>,

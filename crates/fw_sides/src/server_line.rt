@@ -103,8 +103,8 @@ fn read_settle(rest: Option<&[u8]>) -> Result<ServerLine<'static>, LineFault>
     }
 }
 
-/// What a line says: `take HEX`, `settle N R` with the number of a copy and 0, 2 or 22, or a line of scripts that is the
-/// server's (`mount V N [M]`, `do`, `again`, `abort`, `show`). Hex is lent from the line.
+/// What a line says: `take HEX`, `settle N R` with the number of a copy and 0, 2 or 22, or a line of scripts that is
+/// the server's (`mount V N [M]`, `do`, `again`, `abort`, `show`). Hex is borrowed from the line.
 ///
 /// # Errors
 ///

@@ -1,6 +1,6 @@
 //! What no clause and no row says: faults of lines as printed, readers and writers that fail, growths that are refused,
-//! bytes fed to a cutter, rows over links and over plain lists, and lists of events that are drawn.
-//! What is large goes by a call of `drop`: at the end of a scope each way out would prove the drop of all its parts anew.
+//! bytes fed to a cutter, rows over links and over plain lists, and lists of random events. What is large goes by a
+//! call of `drop`: at the end of a scope each way out would prove the drop of all its parts anew.
 
 mod after_loss;
 mod carried;

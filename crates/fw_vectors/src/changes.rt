@@ -3,7 +3,7 @@
 use crate::frame_vector::{Direction, VectorList};
 use std::alloc::{AllocError, Allocator};
 
-/// The first bytes, so many or as many as there are.
+/// The first bytes, this many or as many as there are.
 pub(crate) fn first(bytes: &[u8], len: usize) -> &[u8] {
     &bytes[..bytes.len().min(len)]
 }
@@ -49,8 +49,8 @@ pub(crate) fn add_with<A: Allocator + Copy>(
     list.add(direction, changed.as_slice())
 }
 
-/// Adds a frame with each four bytes behind its length in turn all ones: each field of four bytes, free or not, and each
-/// half of one of eight, at another value.
+/// Adds a frame with each four bytes behind its length in turn all ones: each field of four bytes, free or not, and
+/// each half of one of eight, at another value.
 pub(crate) fn add_fields<A: Allocator + Copy>(
     list: &mut VectorList<A>,
     direction: Direction,

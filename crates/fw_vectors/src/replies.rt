@@ -133,7 +133,7 @@ fn add_init<A: Allocator + Copy>(list: &mut VectorList<A>) -> Result<(), AllocEr
     Ok(())
 }
 
-/// Adds READ replies with so many bytes.
+/// Adds READ replies with this many bytes.
 fn add_data<A: Allocator + Copy>(list: &mut VectorList<A>) -> Result<(), AllocError> {
     let data = vec![in list.alloc(); 0x5a; 4177]?;
     for size in [0usize, 1, 4096, 4160, 4161] {

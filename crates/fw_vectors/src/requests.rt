@@ -124,7 +124,7 @@ fn add_others<A: Allocator + Copy>(list: &mut VectorList<A>) -> Result<(), Alloc
     Ok(())
 }
 
-/// Adds the frame of a BATCH_FORGET with so many pairs, under a count.
+/// Adds the frame of a BATCH_FORGET with this many pairs, under a count.
 fn add_batch<A: Allocator + Copy>(
     list: &mut VectorList<A>,
     header: &[u8],

@@ -51,7 +51,7 @@ first_gone e m sorted =
 
 -- ---- collecting
 
--- So many of the answers are recorded, and the others wait.
+-- This many of the answers are recorded, and the others wait.
 pub record Collects {A : Type 0} (old : World) (had : List (Record A)) (new : World)
     (has : List (Record A)) : Type 0 where
   pub added : List (Record A)

@@ -50,7 +50,7 @@ use Rattle.fuse_spec.specs.Kernel.Refusals as kernel
 use Rattle.fk_kernel.proofs.PastEnds.{passes}
 use Rattle.fw_world.proofs.Happening.{writes}
 use Rattle.fw_world.proofs.Counters.{kernel_all_low, kernel_past, server_low}
-use Rattle.fw_world.proofs.MemoryRefusals.{wanting}
+use Rattle.fw_world.proofs.MemoryRefusals.{out_of_memory}
 use Rattle.fw_world.proofs.Refusing.{past_written}
 
 -- What says a reply has its head.
@@ -141,8 +141,8 @@ module _ (w : World) (here : IsSoundWorld w) (place : ℕ) (sent : Sent) (found 
     says = subst (λ (x : WireReply). SaysReply o bytes sent.unique x) is h;
   }
 
-  can_hear : CanReceive w here.plain sent
-  can_hear =
+  can_receive : CanReceive w here.plain sent
+  can_receive =
       let both = here.sound.both in
       write_met (λ n. n) w here.plain both.world both.asked both.links both.witness both.alike place sent found
 
@@ -261,8 +261,8 @@ module _ (w : World) (here : IsSoundWorld w) (place : ℕ) (sent : Sent) (found 
         (ap (goes_with (asked state)) is.wire_is ∙ goes_failed (asked state)))
 
     -- The kernel made of it what the machine makes of it.
-    pub written_so : reply_written w.kernel sent.unique sent.wire ≡ (written, new)
-    written_so = by can_hear
+    pub reply_written_is : reply_written w.kernel sent.unique sent.wire ≡ (written, new)
+    reply_written_is = by can_receive
 
   -- ---- what the kernel refuses
 
@@ -287,7 +287,7 @@ module _ (w : World) (here : IsSoundWorld w) (place : ℕ) (sent : Sent) (found 
   passes_end low past = (
     head.0,
     subst (λ (u : ℕ). PassesEnd w.kernel u bytes (awaited w.kernel u)) (sym head.1)
-        (by can_hear),
+        (by can_receive),
   )
     where
       said_past : (o : Opcode) → IsJudged o → (awaited w.kernel sent.unique ≡ reply_to o) × Says o bytes sent.wire
@@ -312,9 +312,9 @@ module _ (w : World) (here : IsSoundWorld w) (place : ℕ) (sent : Sent) (found 
           (asked state)))
 
   -- Memory runs out only where no number is.
-  write_wanting : is_past w ≡ false → (WritePasses w.kernel bytes → ⊥) → (given : Refusal) → given ≡ NoMemory
+  write_out_of_memory : is_past w ≡ false → (WritePasses w.kernel bytes → ⊥) → (given : Refusal) → given ≡ NoMemory
       → RefusedWith w (event.write place) given
-  write_wanting low none given is = by (is_past after) refl
+  write_out_of_memory low none given is = by (is_past after) refl
     where
       took : WriteResult × Kernel
       took = reply_written w.kernel sent.unique sent.wire
@@ -324,7 +324,7 @@ module _ (w : World) (here : IsSoundWorld w) (place : ℕ) (sent : Sent) (found 
 
       by : (past : Bool) → is_past after ≡ past → RefusedWith w (event.write place) given
       by true past = absurd (none (passes_end (kernel_all_low w low) (kernel_past after past (server_low w low))))
-      by false ends = wanting w (event.write place) (event.written sent.unique took.0) after refl
+      by false ends = out_of_memory w (event.write place) (event.written sent.unique took.0) after refl
           (writes w place sent took found refl ends) given is
 
   -- The kernel refused its bytes.
@@ -333,17 +333,17 @@ module _ (w : World) (here : IsSoundWorld w) (place : ℕ) (sent : Sent) (found 
   write_refused within r (exhausted it) last =
       let awaits : awaited w.kernel sent.unique ≡ reply_to it.opcode = ap (awaited w.kernel) (sym head.1) ∙ it.awaits in
       let means : ReadsReply it.opcode bytes sent.wire = means_said sent.wire
-      (received_by can_hear it.opcode it.judged awaits) in
+      (received_by can_receive it.opcode it.judged awaits) in
       let past : kernel.is_kernel_past (reply_written w.kernel sent.unique sent.wire).1 ≡ true =
       ap (λ (u : ℕ). kernel.is_kernel_past (reply_written w.kernel u sent.wire).1)
       (sym head.1) ∙ it.past sent.wire means in
       inl (past_written w place sent found past)
-  write_refused within r (no_memory none) last = write_wanting within (last refl) NoMemory refl
+  write_refused within r (no_memory none) last = write_out_of_memory within (last refl) NoMemory refl
 
-  -- Where there is no room for its result: what the kernel would refuse it for, or want of memory.
+  -- Where there is no room for its result: what the kernel would refuse it for, or out of memory.
   pub look_refused : is_past w ≡ false → (o : Option Refusal)
       → IfSome o (λ r. (r ≡ Exhausted) × WritePasses w.kernel bytes) → IfNone o (WritePasses w.kernel bytes → ⊥)
       → RefusedWith w (event.write place) (kernel.or_no_memory o)
-  look_refused within None passes none = write_wanting within none NoMemory refl
+  look_refused within None passes none = write_out_of_memory within none NoMemory refl
   look_refused within (Some r) passes none = subst (RefusedWith w (event.write place)) (sym passes.0)
       (write_refused within Exhausted (exhausted passes.1.1) (λ is. absurd (cc is)))

@@ -46,7 +46,7 @@ appended_last {X} xs x =
     slice_get-get_or ys (length ys - 1) x (omega (arith, long)) ∙ ap Some
     (ap (λ (i : ℕ). get_or ys i x) at ∙ get_or-append_seam xs x [] x)
 
--- What is told of a request that was put.
+-- What is said of a request that was put.
 pub shows_request : (w : World) (before : List Request) (request : Request) (unique : ℕ) (opcode : Opcode) (len : ℕ)
     → w.requests ≡ before ++ request ∷ [] → unique ≡ request.unique → opcode ≡ asked_opcode request.body
     → (bytes : List ℕ) × IsRequestFrame bytes request × (len ≡ length bytes) → ShowsRequest w unique opcode len
@@ -60,7 +60,7 @@ shows_request w before request unique opcode len put under asks told = record {
   long = told.2;
 }
 
--- What is told of a copy that was put.
+-- What is said of a copy that was put.
 pub shows_reply : (w : World) (before : List Sent) (sent : Sent) (unique len : ℕ) → w.replies ≡ before ++ sent ∷ []
     → unique ≡ sent.unique → (bytes : List ℕ) × IsCopyFrame bytes sent × (len ≡ length bytes) → ShowsReply w unique len
 shows_reply w before sent unique len put under told = record {

@@ -50,11 +50,11 @@ without_memory w r (inl refused) = refused
 without_memory w r (inr wants) = absurd (true≢false (sym wants.takes))
 
 -- An abort that is not refused where it has to be accepted happens.
-pub gives_up : (w new : World) (r : Result OutcomeValue Refusal) → IsSoundWorld w
+pub link_fails : (w new : World) (r : Result OutcomeValue Refusal) → IsSoundWorld w
     → ((w.requests ≡ []) × (w.replies ≡ []) × (w.results ≡ []) → ⊥) → IfErr r (RefusedWith w abort)
     → IfOk r (λ o. Happens w abort (outcome_of o) new) → Happens w abort aborted new
-gives_up w new (Ok o) reached some refused happens = aborted_only w new (outcome_of o) happens
-gives_up w new (Err r) reached some refused happens =
+link_fails w new (Ok o) reached some refused happens = aborted_only w new (outcome_of o) happens
+link_fails w new (Err r) reached some refused happens =
     let follows = abort_follows w reached.sound.both.links some in
     let accepted = follows.1.2 in
     let judged = without_memory w r refused follows.1.0 follows.1.1 in

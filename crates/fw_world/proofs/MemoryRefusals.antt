@@ -47,7 +47,7 @@ use Rattle.fuse_theorem.specs.SoundWorlds.{IsSoundWorld}
 use Rattle.fuse_theorem.proofs.Replies.NoFault.{no_fault}
 use Rattle.fuse_theorem.proofs.Refining.Queuing.{All-at}
 use Rattle.fw_world.specs.Values.{refusal_for}
-use Rattle.fw_world.proofs.WorldParts.{no_copy_wants, some_copy_wants}
+use Rattle.fw_world.proofs.WorldParts.{no_copy_needs_memory, some_copy_needs_memory}
 use Rattle.fw_world.proofs.Refusing.{is_exhausted}
 use Rattle.fuse_spec.specs.World.Steps.{taking_request}
 use Rattle.fs_server.specs.Steps.{CanPerform}
@@ -57,13 +57,13 @@ use Rattle.fw_world.proofs.Counters.{kernel_low, server_low, count_low, past_by_
 use Rattle.fw_world.proofs.Happening.{mounts, calls, reads, reads_forgets, takes, performs, sends_again}
 use Rattle.fw_world.proofs.Interrupts.{reads_interrupt}
 
--- What an event that can happen is refused for is want of memory.
-pub wanting : (w : World) (e : Event) (o : Outcome) (after : World) → takes_memory e ≡ true → Happens w e o after
+-- An event that can happen is refused only as out of memory.
+pub out_of_memory : (w : World) (e : Event) (o : Outcome) (after : World) → takes_memory e ≡ true → Happens w e o after
     → (given : Refusal) → given ≡ refusal.NoMemory → RefusedWith w e given
-wanting w e o after takes happens given is = inr
-    (record { wanting = is; takes = takes; last = λ other refused. not_both w e other refused o after happens })
+out_of_memory w e o after takes happens given is = inr
+    (record { out_of_memory = is; takes = takes; last = λ other refused. not_both w e other refused o after happens })
 
--- A refusal that kernel or server gave, or else want of memory, where nothing is judged to refuse the event.
+-- A refusal that kernel or server gave, or else out of memory, where nothing is judged to refuse the event.
 pub judged : (w : World) (e : Event) (judged : Option Refusal) (given : Refusal)
     → ((r : Refusal) → judged ≡ Some r → IsRefused w e r)
     → (judged ≡ None → given ≡ refusal.NoMemory → RefusedWith w e given) → given ≡ kernel.or_no_memory judged
@@ -71,7 +71,7 @@ pub judged : (w : World) (e : Event) (judged : Option Refusal) (given : Refusal)
 judged w e None given refuses else is = else refl is
 judged w e (Some r) given refuses else is = inl (subst (IsRefused w e) (sym is) (refuses r refl))
 
--- What the server judges, or else want of memory.
+-- What the server judges, or else out of memory.
 module _ (w : World) (e : Event) (Refuses : Refusal → Type 0) (Can : Type 0)
     (refused : (r : Refusal) → Refuses r → IsRefused w e r)
     (can_happen : Can → (given : Refusal) → given ≡ refusal.NoMemory → RefusedWith w e given) where
@@ -135,14 +135,14 @@ module _ (w : World) (within : is_past w ≡ false) where
   same_counts : (call : Call) → is_counted_out (call_put w.kernel call).nodes ≡ false
   same_counts call = begun_counts w.kernel (for_minor w.kernel.lists_files call) ∙ none_out
 
-  pub call_wanting : (call : Call) → begin_refusal w.kernel call ≡ None → (given : Refusal) → given ≡ refusal.NoMemory
+  pub call_out_of_memory : (call : Call) → begin_refusal w.kernel call ≡ None → (given : Refusal) → given ≡ refusal.NoMemory
       → RefusedWith w (event.call call) given
-  call_wanting call none given is =
+  call_out_of_memory call none given is =
       let full = nat_le max_calls (length w.kernel.vfs.calls) in
       let counted = within_counters (call_put w.kernel call) in
       let room = passed (not (is_ready w.kernel.phase)) refusal.NotReady (unless full refusal.Full counted) none in
       let begun = in_counters (call_put w.kernel call) (passed full refusal.Full counted room.1).1 in
-      wanting w (event.call call) (event.begun w.kernel.vfs.next_call) (after_call w call) refl
+      out_of_memory w (event.call call) (event.begun w.kernel.vfs.next_call) (after_call w call) refl
       (calls w call none (past_by (call_put w.kernel call) begun (same_counts call)
       (after_call w call) refl refl)) given is
 
@@ -154,9 +154,9 @@ module _ (w : World) (within : is_past w ≡ false) where
       let live = passed (not (is_live w.kernel.phase)) refusal.NotReady (when_not_interrupted w.kernel x) e in
       (passed (not (nat_eq (length w.kernel.queues.interrupts) 0)) refusal.InterruptFirst x live.1).1
 
-  pub read_wanting : (place : ℕ) → read_refusal w.kernel place ≡ None → (given : Refusal) → given ≡ refusal.NoMemory
+  pub read_out_of_memory : (place : ℕ) → read_refusal w.kernel place ≡ None → (given : Refusal) → given ≡ refusal.NoMemory
       → RefusedWith w (event.read_pending place) given
-  read_wanting place none given is =
+  read_out_of_memory place none given is =
       let at = finds (pending_at w.kernel.queues place)
       (λ (q : ℕ × Purpose). found (body_of w.kernel q.1) (unrefused q.0))
       (read_judged (pending_found w.kernel (pending_at w.kernel.queues place) unrefused) none) in
@@ -186,13 +186,13 @@ module _ (w : World) (within : is_past w ≡ false) where
           let low : is_kernel_past_end after.kernel ≡ false = ap (λ (n : ℕ). nat_lt counter_end n
           || nat_lt counter_end w.kernel.vfs.next_call) (next_read
           (slice_get (pending w.kernel.queues) place)) ∙ kernel_within in
-          wanting w (event.read_pending place) (event.is_read unique) after refl
+          out_of_memory w (event.read_pending place) (event.is_read unique) after refl
           (reads w place request none (record { purpose = purpose; pending = at; body = there })
           (past_by after.kernel low none_out after refl refl)) given is
 
-  pub forgets_wanting : (n : ℕ) → read_forgets_refusal w.kernel n ≡ None → (given : Refusal) → given ≡ refusal.NoMemory
+  pub forgets_out_of_memory : (n : ℕ) → read_forgets_refusal w.kernel n ≡ None → (given : Refusal) → given ≡ refusal.NoMemory
       → RefusedWith w (event.read_forgets n) given
-  forgets_wanting n none given is =
+  forgets_out_of_memory n none given is =
       let counted = within_counters (record w.kernel { queues = after_read_forgets w.kernel.queues n }) in
       let at = finds (forgets_read w.kernel n) (λ (read : ℕ × List Forget). counted)
       (read_judged (found (forgets_read w.kernel n) (λ (read : ℕ × List Forget). counted)) none) in
@@ -214,15 +214,15 @@ module _ (w : World) (within : is_past w ≡ false) where
           let number : read ≡ (w.kernel.queues.next, read.1) =
           next_of (forgets_singly w.kernel.minor && nat_lt 1 n) (can_read_forgets w.kernel.queues n) read at in
           let after = worlds.world_after_read_forgets w n read.1 in
-          wanting w (event.read_forgets n) (event.is_read w.kernel.queues.next) after refl
+          out_of_memory w (event.read_forgets n) (event.is_read w.kernel.queues.next) after refl
           (reads_forgets w n read.1 none (at ∙ ap Some number)
           (past_by (record w.kernel { queues = after_read_forgets w.kernel.queues n })
           (in_counters (record w.kernel { queues = after_read_forgets w.kernel.queues n }) counted)
           none_out after refl refl)) given is
 
-  pub interrupt_wanting : read_interrupt_refusal w.kernel ≡ None → (given : Refusal) → given ≡ refusal.NoMemory
+  pub interrupt_out_of_memory : read_interrupt_refusal w.kernel ≡ None → (given : Refusal) → given ≡ refusal.NoMemory
       → RefusedWith w event.read_interrupt given
-  interrupt_wanting none given is =
+  interrupt_out_of_memory none given is =
       let queued = first_found w.kernel.queues.interrupts (λ (original : ℕ). accepted) in
       by w.kernel.queues.interrupts refl (passed (not (is_live w.kernel.phase)) refusal.NotReady queued none).1
     where
@@ -230,7 +230,7 @@ module _ (w : World) (within : is_past w ≡ false) where
           → refusal_in (first_found interrupts (λ (original : ℕ). accepted)) ≡ None
           → RefusedWith w event.read_interrupt given
       by [] at e = absurd (cc e)
-      by (original ∷ others) at e = wanting w event.read_interrupt _ (worlds.world_after_read_interrupt w original) refl
+      by (original ∷ others) at e = out_of_memory w event.read_interrupt _ (worlds.world_after_read_interrupt w original) refl
           (reads_interrupt w original others none at within) given is
 
   -- ---- a request performed, and one more copy
@@ -249,36 +249,36 @@ module _ (w : World) (within : is_past w ≡ false) where
   same_server v number unique None = refl
   same_server v number unique (Some wire) = refl
 
-  pub perform_wanting : (unique : ℕ) → CanPerform w.server unique → (given : Refusal) → given ≡ refusal.NoMemory
+  pub perform_out_of_memory : (unique : ℕ) → CanPerform w.server unique → (given : Refusal) → given ≡ refusal.NoMemory
       → RefusedWith w (event.perform unique) given
-  perform_wanting unique can given is =
+  perform_out_of_memory unique can given is =
       let some = some_choice w (event.perform unique) in
       let may = subst (MayChooseFor some.0 w) can.there some.1 in
       let did = served some.0 w.server unique can.held in
       let after = after_perform w unique did in
       let reply = cond w.server.aborted None (Some did.wire) in
       let low = performs_within w.server unique can.held can.there can server_within some.0 may in
-      wanting w (event.perform unique) (event.performed unique (errno_of did.wire) w.server.aborted) after refl
+      out_of_memory w (event.perform unique) (event.performed unique (errno_of did.wire) w.server.aborted) after refl
       (performs some.0 w unique can.held can.there can.counts some.1 did refl
       (past_of did.server low after (same_kernel (record w { server = did.server }) w.server.next_copy unique reply)
       (same_server (record w { server = did.server }) w.server.next_copy unique reply))) given is
 
-  pub again_wanting : (unique : ℕ) → CanSendAgain w.server unique → (given : Refusal) → given ≡ refusal.NoMemory
+  pub again_out_of_memory : (unique : ℕ) → CanSendAgain w.server unique → (given : Refusal) → given ≡ refusal.NoMemory
       → RefusedWith w (event.again unique) given
-  again_wanting unique can given is =
+  again_out_of_memory unique can given is =
       let after = after_again w unique can.kept in
-      wanting w (event.again unique) (event.sent_again unique) after refl
+      out_of_memory w (event.again unique) (event.sent_again unique) after refl
       (sends_again w unique can.kept can.there can.current can.counts
       (past_of (sent_again w.server unique can.kept)
       (copies_within w.server unique can.kept can.number server_within) after refl refl)) given is
 
 -- ---- a mount
 
-pub mount_wanting : (w : World) (found_ms missing_ms : ℕ) (minor : Minor)
+pub mount_out_of_memory : (w : World) (found_ms missing_ms : ℕ) (minor : Minor)
     → nat_lt max_validity (max found_ms missing_ms) ≡ false → mount_refusal w.kernel ≡ None → (given : Refusal)
     → given ≡ refusal.NoMemory → RefusedWith w (event.mount found_ms missing_ms minor) given
-mount_wanting w found_ms missing_ms minor day none given is =
-    wanting w (event.mount found_ms missing_ms minor) event.mounted
+mount_out_of_memory w found_ms missing_ms minor day none given is =
+    out_of_memory w (event.mount found_ms missing_ms minor) event.mounted
     (worlds.after_mount w found_ms missing_ms minor) refl (mounts w found_ms missing_ms minor day none) given is
 
 -- ---- a request taken
@@ -308,24 +308,23 @@ taken_server w place request = by (taking w.server request.unique request.body).
     by None = refl
     by (Some wire) = refl
 
--- Where nothing but want of memory can refuse the frame of the request at this place.
-pub take_wanting : (w : World) → is_past w ≡ false → (place : ℕ) (request : Request) (bytes : List ℕ)
+-- Where nothing but out of memory can refuse the frame of the request at this place.
+pub take_out_of_memory : (w : World) → is_past w ≡ false → (place : ℕ) (request : Request) (bytes : List ℕ)
     → slice_get w.requests place ≡ Some request → IsRequestFrame bytes request → CanTake w.server bytes
     → (given : Refusal) → given ≡ refusal.NoMemory
     → RefusedWith w (event.take place) given
-take_wanting w within place request bytes there frame can given is =
+take_out_of_memory w within place request bytes there frame can given is =
     let same : can.request ≡ request = sym (one_request bytes can.request can.says) ∙ one_request bytes request
     (frame_says bytes request frame) in
     let low = subst (λ (r : Request). server.is_server_past_end (taking w.server r.unique r.body).server
     ≡ false) same can.within in
     let took = taking w.server request.unique request.body in
     let after = after_take w place request.unique took in
-    wanting w (event.take place) (event.taken request.unique took.word) after refl
+    out_of_memory w (event.take place) (event.taken request.unique took.word) after refl
     (takes w place request there (past_of w within took.server low after (taken_kernel w place request)
     (taken_server w place request))) given is
 
--- A request on the link has no fault; so it is refused for want of a number, or of memory where nothing else refuses
--- it.
+-- A request on the link has no fault; so it is refused as out of numbers, or of memory where nothing else refuses it.
 pub take_refused : (w : World) → is_past w ≡ false → IsSoundWorld w
     → (place : ℕ) (request : Request) (bytes : List ℕ) (fault : ServerFault)
     → slice_get w.requests place ≡ Some request → IsRequestFrame bytes request → RefusesFrame w.server bytes fault
@@ -354,7 +353,7 @@ take_refused w within here place request bytes fault there frame refuses can =
         (λ choice may.
         ap (λ o. found o (taking_request w place)) there
         ∙ is_exhausted (event.taken request.unique did.word) after (past_by_server after over))
-    by false past is = take_wanting w within place request bytes there frame (can is) refusal.NoMemory refl
+    by false past is = take_out_of_memory w within place request bytes there frame (can is) refusal.NoMemory refl
 
 -- The copy with which a frame is taken, if it is answered at once, has the room that was made for it.
 pub answer_has_room : {A P : Type 0} (s : Server) (bytes : List ℕ) (took : Taken A) (new : Server)
@@ -366,9 +365,9 @@ answer_has_room {A} {P} s bytes took new takes_it low room =
     by : (o : Option WireReply) → (taking s takes_it.request.unique takes_it.request.body).reply ≡ o
         → took.sent ≡ copy_of s.next_copy takes_it.request.unique
         (taking s takes_it.request.unique takes_it.request.body).reply → IfSome took.sent (λ copy. P)
-    by None e is = no_copy_wants P took.sent (is ∙ ap (copy_of s.next_copy takes_it.request.unique) e)
+    by None e is = no_copy_needs_memory P took.sent (is ∙ ap (copy_of s.next_copy takes_it.request.unique) e)
     by (Some wire) e is =
-        some_copy_wants P took.sent
+        some_copy_needs_memory P took.sent
         (room (record {
           can = record {
             request = takes_it.request;

@@ -16,7 +16,7 @@ use Rattle.fuse_theorem.proofs.WholeLists.SoundWorlds.{sound_next}
 use Rattle.fuse_theorem.proofs.Refining.Refining.{event_refines, over_stays, kept, handing_out}
 use Rattle.fw_world.specs.declared.event.Event.{Event}
 use Rattle.fw_world.specs.declared.event.Outcome.{Outcome}
-use Rattle.fw_world.specs.OverLinks.{StepsOver, goes_on, gives_up, session_of}
+use Rattle.fw_world.specs.OverLinks.{StepsOver, goes_on, link_fails, session_of}
 use Rattle.fw_world.specs.Runs.{StepsAs}
 use Rattle.fw_world.specs.Values.{event_of, outcome_of}
 
@@ -43,7 +43,7 @@ steps_over old mid new e o false here happens same aborts =
     subst (λ (w : World). StepsOver old e o (linked w)) (sym (same refl))
     (goes_on mid (happens_as old mid e o here happens))
 steps_over old mid new e o true here happens same aborts =
-    gives_up mid new (happens_as old mid e o here happens)
+    link_fails mid new (happens_as old mid e o here happens)
     (happens_as mid new abort aborted (sound_next old here e o mid happens) (aborts refl))
 
 -- A plain world that is alike stays alike, as the answer of one call is collected in both.

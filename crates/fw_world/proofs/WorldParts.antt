@@ -59,13 +59,13 @@ pub not_true : (b : Bool) → b ≡ false → IsTrue b → ⊥
 not_true b e h = true≢false (sym h ∙ e)
 
 -- Room that is wanted only where there is a copy.
-pub no_copy_wants : {X : Type 0} (P : Type 0) (copy : Option X) → copy ≡ None → IfSome copy (λ x. P)
-no_copy_wants P None e = tt
-no_copy_wants P (Some x) e = absurd (cc e)
+pub no_copy_needs_memory : {X : Type 0} (P : Type 0) (copy : Option X) → copy ≡ None → IfSome copy (λ x. P)
+no_copy_needs_memory P None e = tt
+no_copy_needs_memory P (Some x) e = absurd (cc e)
 
-pub some_copy_wants : {X : Type 0} (P : Type 0) (copy : Option X) → P → IfSome copy (λ x. P)
-some_copy_wants P None room = tt
-some_copy_wants P (Some x) room = room
+pub some_copy_needs_memory : {X : Type 0} (P : Type 0) (copy : Option X) → P → IfSome copy (λ x. P)
+some_copy_needs_memory P None room = tt
+some_copy_needs_memory P (Some x) room = room
 
 -- what was written, of what is said of the whole result
 pub was_written : {a b : WriteResult} → ◌≡◌ {A = Result WriteResult Refusal} (Ok a) (Ok b) → a ≡ b

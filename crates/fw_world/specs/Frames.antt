@@ -1,4 +1,4 @@
--- The frame that was put last, and what an outcome tells of it.
+-- The frame that was put last, and what an outcome says of it.
 use Rattle.std.specs.Prelude.{◌≡◌, ℕ, ◌-◌, List, [], Option, Some, None, length, slice_get}
 use Rattle.fuse_spec.specs.Kernel.Messages.{Request}
 use Rattle.fuse_spec.specs.World.Worlds.{World, Sent}
@@ -21,7 +21,7 @@ pub data IsLastFrame (w : World) (bytes : List ℕ) : Type 0 where
   of_reply : (sent : Sent) → slice_get w.replies (length w.replies - 1) ≡ Some sent → IsCopyFrame bytes sent
       → IsLastFrame w bytes
 
--- The last request on its link has this unique and this opcode, and its frame is so many bytes long.
+-- The last request on its link has this unique and this opcode, and its frame is this many bytes long.
 pub record ShowsRequest (w : World) (unique : ℕ) (opcode : Opcode) (len : ℕ) : Type 0 where
   pub request : Request
   pub last : slice_get w.requests (length w.requests - 1) ≡ Some request
@@ -31,7 +31,7 @@ pub record ShowsRequest (w : World) (unique : ℕ) (opcode : Opcode) (len : ℕ)
   pub frame : IsRequestFrame bytes request
   pub long : len ≡ length bytes
 
--- The last copy on its link is one of a reply to this request, and its frame is so many bytes long.
+-- The last copy on its link is one of a reply to this request, and its frame is this many bytes long.
 pub record ShowsReply (w : World) (unique len : ℕ) : Type 0 where
   pub sent : Sent
   pub last : slice_get w.replies (length w.replies - 1) ≡ Some sent
@@ -40,7 +40,7 @@ pub record ShowsReply (w : World) (unique len : ℕ) : Type 0 where
   pub frame : IsCopyFrame bytes sent
   pub long : len ≡ length bytes
 
--- What an outcome tells of the frame that its event put on a link is so.
+-- What an outcome says of the frame that its event put on a link is so.
 abbrev pub IsShown : World → Outcome → Type 0
 IsShown w (outcome.Read unique opcode len) = ShowsRequest w unique opcode len
 IsShown w (outcome.Done unique errno len) = ShowsReply w unique len

@@ -65,5 +65,5 @@ pub record RunsOver {L : Type 0} (carries : L → L → Traffic → Type 0) (fai
 -- it, and an abort happened too.
 pub data StepsOver (old : World) (event : Event) (o : Outcome) : Session → Type 0 where
   goes_on : (new : World) → StepsAs old event o new → StepsOver old event o (linked new)
-  gives_up : (mid new : World) → StepsAs old event o mid → StepsAs mid abort aborted new
+  link_fails : (mid new : World) → StepsAs old event o mid → StepsAs mid abort aborted new
       → StepsOver old event o (lost new)

@@ -20,7 +20,7 @@ call_collected w call = record w {
   kernel = record w.kernel { vfs = record w.kernel.vfs { answers = remove w.kernel.vfs.answers call } };
 }
 
--- The events that ran: all of them, or so many of the first.
+-- The events that ran: all of them, or this many of the first.
 abbrev pub events_run : {X E : Type 0} → Result X ℕ → List E → List E
 events_run (Ok x) events = events
 events_run (Err k) events = take k events

@@ -4,7 +4,7 @@ use fk_kernel::{Call, Pick};
 use fk_wire::Opcode;
 use fuse_spec::{IntrEffect, Minor, Taken, WriteResult};
 
-/// One event: an atomic step of the world. Paths are lent.
+/// One event: an atomic step of the world. Paths are borrowed.
 #[derive(Clone, Copy, Debug)]
 pub enum Event<'a> {
     /// The kernel mounts, and the server, which speaks this minor, with these validities of found and of missing names,
@@ -33,14 +33,14 @@ pub enum Event<'a> {
         call: u64,
         fatal: bool,
     },
-    /// So many milliseconds pass.
+    /// This many milliseconds pass.
     Tick(u64),
     /// The name of a directory, which is a node, is cached no longer.
     DropName {
         directory: u64,
         name: &'a [u8],
     },
-    /// The kernel gives a node up, and its whole lookup count is to be forgotten.
+    /// The kernel evicts a node, and its whole lookup count is to be forgotten.
     Evict(u64),
     /// The connection is aborted: every unanswered call is answered ECONNABORTED, and the links are emptied.
     Abort,

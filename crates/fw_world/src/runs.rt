@@ -46,8 +46,8 @@ pub fn run<T: Tables>(
     Ok(())
 }
 
-/// At most so many records the next event results in: one of its own, one of a call that begins and is answered in it or
-/// of a link that is lost in it, and the answers of calls that wait.
+/// The next event results in at most this many records: one of its own, one of a call that begins and is answered in it
+/// or of a link that is lost in it, and the answers of calls that wait.
 pub(crate) fn most_records<T: Tables>(world: &WorldOf<T>) -> Option<usize>
     ensures some { IfSome result (λ room. room ≡ calls_not_over world.now + 2) }
     ensures none { IfNone result (2 ^ 64 ≤ calls_not_over world.now + 2) }

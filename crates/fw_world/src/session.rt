@@ -31,7 +31,7 @@ use fw_link::{Carrier, Link};
 use std::alloc::{AllocError, Global};
 
 /// Aborts the mount of a world on whose links something is.
-fn give_up<T: Tables>(world: &mut WorldOf<T>)
+fn abort_after_loss<T: Tables>(world: &mut WorldOf<T>)
     requires { (world.old.requests ≡ []) × (world.old.replies ≡ []) × (world.old.results ≡ []) → ⊥ }
     ensures { Happens world.old abort aborted world.new }
 {
@@ -165,7 +165,7 @@ impl<T: Tables, L: Link + Drop> SessionOf<T, L> {
         );
         if sent.is_err() {
             self.is_lost = true;
-            give_up(&mut self.world);
+            abort_after_loss(&mut self.world);
         }
     }
 

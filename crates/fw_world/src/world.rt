@@ -153,7 +153,7 @@ impl<T: Tables> WorldOf<T> {
         self.dispatch(event)
     }
 
-    /// The same, by the kind of the event.
+    /// Runs one event, by its kind.
     fn dispatch(&mut self, event: &Event<'_>) -> Result<Outcome, Refusal>
         ensures err { OnErr result (self.new ≡ self.old) }
         ensures refusal { IfErr result (RefusedWith self.old (event_of event.now)) }

@@ -41,7 +41,7 @@ enum Expected {
     Errno(u32),
     Attributes(Attributes),
     Names(&'static [Listed]),
-    /// So many names.
+    /// This many names.
     NamesLength(usize),
     Bytes(&'static str),
     Written(u32),
@@ -59,9 +59,9 @@ enum Reads {
 #[derive(Clone, Copy)]
 enum Written {
     Whole(&'static str),
-    /// A head, and so many times a record.
+    /// A head, and a record this many times.
     Repeated(&'static str, &'static str, usize),
-    /// So many bytes of a frame that has a byte more behind it, with their number as `len` or with the frame's own.
+    /// This many bytes of a frame that has a byte more behind it, with their number as `len` or with the frame's own.
     Cut(&'static str, usize, bool),
 }
 
@@ -76,20 +76,20 @@ enum Row {
     Read(u64, Reads),
     /// The oldest INTERRUPT is read.
     Interrupt(Reads),
-    /// So many forgets are read as one frame.
+    /// This many forgets are read as one frame.
     Forget(u64, Reads),
     /// Bytes are written: what the writer gets.
     Write(Written, WriteResult),
-    /// The time after so many milliseconds.
+    /// The time after this many milliseconds.
     Tick(u64, Result<u64, Refusal>),
     DropName(u64, &'static str, Result<(), Refusal>),
-    /// A node is given up: how many lookups are to be forgotten.
+    /// A node is evicted: how many lookups are to be forgotten.
     Evict(u64, Result<u64, Refusal>),
     /// A signal to a call, fatal or not, and its effect.
     Signal(u64, bool, Result<IntrEffect, Refusal>),
     /// The lowest answered call, and its answer.
     Answered(u64, Expected),
-    /// No call is answered, and so many are not.
+    /// No call is answered, and this many are not.
     Unanswered(usize),
     /// The counted nodes in rising id, each with its generation and its count.
     Nodes(&'static [(u64, u64, u64)]),
@@ -155,7 +155,7 @@ fn mounts<Q: RequestQueues, C: LookupCounts<Heap = Q::Heap>>(
     gives(kernel.mount(), wanted)
 }
 
-fn gives_up<Q: RequestQueues, C: LookupCounts<Heap = Q::Heap>>(
+fn aborts_as<Q: RequestQueues, C: LookupCounts<Heap = Q::Heap>>(
     kernel: &mut KernelOf<Q, C>,
     wanted: Result<(), Refusal>,
 ) -> Outcome {
@@ -196,7 +196,7 @@ fn reads_forgets<Q: RequestQueues, C: LookupCounts<Heap = Q::Heap>>(
     read_as(alloc, kernel.read(Pick::Forgets(count)), wanted)
 }
 
-/// A head, and so many times a record.
+/// A head, and a record this many times.
 fn repeated(alloc: Global, head: &str, record: &str, count: usize) -> Result<Vec<u8>, AllocError> {
     let mut bytes = unhex(alloc, head)?;
     let record = unhex(alloc, record)?;
@@ -206,7 +206,7 @@ fn repeated(alloc: Global, head: &str, record: &str, count: usize) -> Result<Vec
     Ok(bytes)
 }
 
-/// So many bytes of a frame with a byte behind it, with their number as `len` or with the frame's own.
+/// This many bytes of a frame with a byte behind it, with their number as `len` or with the frame's own.
 fn cut(alloc: Global, text: &str, len: usize, is_own: bool) -> Result<Vec<u8>, AllocError> {
     let mut frame = unhex(alloc, text)?;
     frame.push(0)?;
@@ -329,7 +329,7 @@ impl<Q: RequestQueues, C: LookupCounts<Heap = Q::Heap>> Tried<Row, Q::Heap> for 
     fn attempt(&mut self, heap: Q::Heap, alloc: Global, row: Row) -> Outcome {
         match row {
             Row::Mount(wanted) => mounts(self, wanted),
-            Row::Abort(wanted) => gives_up(self, wanted),
+            Row::Abort(wanted) => aborts_as(self, wanted),
             Row::Begin(call, wanted) => begins(self, call, wanted),
             Row::Read(place, wanted) => reads_pending(self, alloc, place, wanted),
             Row::Interrupt(wanted) => reads_interrupt(self, alloc, wanted),

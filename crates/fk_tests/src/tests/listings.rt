@@ -14,7 +14,7 @@ pub(super) type Listed = (u64, u64, Kind, &'static str);
 /// A call, and what it must give.
 #[derive(Clone, Copy)]
 enum Row {
-    /// A listing with room for so many names, of so many bytes together, takes the place of the old one.
+    /// A listing with room for this many names, of this many bytes together, takes the place of the old one.
     Make(usize, usize),
     Push(Listed),
     /// The names.

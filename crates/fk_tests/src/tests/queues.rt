@@ -13,7 +13,7 @@ type Frame = (u64, usize, (u64, u64), (u64, u64));
 /// A call, and what it must give. What is kept of a request is a number.
 #[derive(Clone, Copy)]
 enum Row {
-    /// Room for so many requests and forgets is made.
+    /// Room for this many requests and forgets is made.
     Reserve(usize, usize),
     NumbersLeft(u64),
     /// Room is made and a request queued, of which this is kept: its number.
@@ -32,11 +32,11 @@ enum Row {
     ReadInterrupt(Option<u64>),
     Again(u64),
     NoInterrupts,
-    /// Room is made and so many lookups of a node are to be forgotten.
+    /// Room is made and this many lookups of a node are to be forgotten.
     Forget(u64, u64),
     /// The same of each node from the first up to an end, each with lookups of its own.
     ForgetEach(u64, u64),
-    /// So many forgets make no frame, looked at or read.
+    /// This many forgets make no frame, looked at or read.
     NoForgets(usize),
     /// The frame is looked at, and then read.
     Forgets(Frame),
@@ -95,11 +95,11 @@ fn reads_forgets<Q: QueueTable<u64>>(queues: &mut Q, frame: Frame) -> bool {
 
 /// Whether these are the forgets of each node from the first up to an end, under the number.
 fn is_of_each(read: Option<(u64, Forgets)>, unique: u64, first: u64, end: u64) -> bool {
-    let Some((drawn, forgets)) = read else {
+    let Some((allocated, forgets)) = read else {
         return false;
     };
     let mut node = first;
-    let mut is_right = drawn == unique;
+    let mut is_right = allocated == unique;
     for pair in forgets.as_slice() {
         is_right = is_right && *pair == (node, lookups_of(node));
         node = node.wrapping_add(1);

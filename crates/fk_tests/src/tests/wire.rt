@@ -19,7 +19,7 @@ enum Row {
     RequestAt(Minor, &'static str),
     Reply(Opcode, &'static str),
     ReplyAt(Minor, Opcode, &'static str),
-    /// Records of a list, with their entries or without, and pairs, of which there are so many.
+    /// Records of a list, with their entries or without, and pairs, of which there are this many.
     Records(&'static str),
     RecordsPlus(&'static str),
     Pairs(&'static str, usize),
@@ -85,7 +85,7 @@ fn records_plus_written<A: Allocator>(out: &mut Vec<u8, A>, bytes: &[u8]) -> Res
     Ok(())
 }
 
-/// The same of so many pairs.
+/// A body of this many pairs.
 fn pairs_written<A: Allocator>(
     out: &mut Vec<u8, A>,
     bytes: &[u8],

@@ -110,7 +110,7 @@ static UNREPLIED: [Row; 12] = [
         fault: ServerFault::Wire,
         reply: None,
     },
-    // a repeated unique, a counter at its end and want of memory
+    // a repeated unique, a counter at its end and out of memory
     Row {
         frame: "2a000000 01000000 6400000000000000 0100000000000000 00000000 00000000 00000000 00000000 6100",
         fault: ServerFault::RepeatedUnique,

@@ -25,7 +25,7 @@ pub enum Asks {
     /// The node that gets the name.
     Link(u64, &'static str),
     Open,
-    /// The open number, the offset and the size.
+    /// The file handle, the offset and the size.
     Read(u64, u64, u32),
     Write(u64, u64, &'static str),
     Release(u64),
@@ -39,7 +39,7 @@ pub enum Asks {
 pub enum Row {
     /// A mount: how long found and missing names are valid, in milliseconds.
     Mount(u64, u64),
-    /// The same of a server that speaks minor 15.
+    /// A mount of a server that speaks minor 15.
     Mount15(u64, u64),
     Abort,
     /// A request is held: its unique, its node and what it asks.

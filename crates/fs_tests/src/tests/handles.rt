@@ -1,4 +1,4 @@
-//! Open numbers: each call once, and refused growths.
+//! File handles: each call once, and refused growths.
 
 use crate::tests::assert_right;
 use fail_at::{FailAt, Outcome, Tried, first_wrong, judged};

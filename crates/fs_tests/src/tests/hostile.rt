@@ -172,7 +172,7 @@ static GONE: [Row; 4] = [
     Row::Performs(100, 5, "10000000 fbffffff 6400000000000000"),
 ];
 
-/// An open number that is none.
+/// A file handle that is none.
 static NOT_OPEN: [Row; 7] = [
     Row::Settles(2, WriteResult::Accepted),
     Row::Takes(

@@ -160,7 +160,7 @@ static ABORTED: [Row; 36] = [
     Row::Mount(1000, 0),
     Row::Unheld(12),
     Row::Nodes(&[]),
-    // the tree stays, what was performed after the abort with it, and so do generations, open numbers and copy numbers
+    // the tree stays, what was performed after the abort with it, and so do generations, file handles and copy numbers
     Row::Holds(4, 1, Asks::Lookup("b")),
     Row::Performs(
         4,

@@ -125,7 +125,7 @@ static TWO_NAMES: [Row; 20] = [
     Row::Nodes(&[]),
 ];
 
-/// As many whole pairs are told as fit, from an offset on.
+/// As many whole pairs are listed as fit, from an offset on.
 static PARTS: [Row; 12] = [
     Row::Holds(8, 1, Asks::Readdirplus(0, 319)),
     Row::Performs(
@@ -150,7 +150,7 @@ static PARTS: [Row; 12] = [
     Row::Nodes(&[(2, 1, 2), (3, 2, 2)]),
 ];
 
-/// What is marked or comes after an abort counts nothing; the files that are told after a mount get new nodes.
+/// What is marked or comes after an abort counts nothing; the files that are listed after a mount get new nodes.
 static LOST: [Row; 11] = [
     Row::Holds(8, 1, Asks::Readdirplus(0, 4096)),
     Row::Takes(

@@ -15,9 +15,9 @@ enum Row {
     Reserve,
     /// Room is made and the first lookup of a file counted: its nodeid and generation.
     First(u64, u64, u64),
-    /// The same of one more lookup of a file that has this nodeid.
+    /// Room is made and one more lookup counted of a file that has this nodeid.
     Again(u64, u64, u64),
-    /// Takes back so many lookups of a nodeid.
+    /// Takes back this many lookups of a nodeid.
     Back(u64, u64, Result<(), TooMany>),
     Clear,
     /// Under a nodeid: its file, its generation and its lookup count.

@@ -22,7 +22,7 @@ enum Operation {
     Write(u64, u64, &'static str),
 }
 
-/// What an operation answers: a file, none, or nothing to tell.
+/// What an operation answers: a file, none, or nothing to say.
 #[derive(Clone, Copy, PartialEq, Eq)]
 enum Answer {
     File(u64),
@@ -37,12 +37,12 @@ type Listed = (u64, u64, Kind, &'static str);
 enum Row {
     /// An operation, and what it must give.
     Gives(Operation, Result<Answer, TreeError>),
-    /// The bytes of a file from an offset, at most so many.
+    /// The bytes of a file from an offset, at most this many.
     Read(u64, u64, u32, &'static str),
     /// How many bytes a read gives.
     ReadLength(u64, u64, u32, usize),
     Getattr(u64, Attributes),
-    /// The names of a directory from an offset, in so many bytes.
+    /// The names of a directory from an offset, in this many bytes.
     Readdir(u64, u64, u32, &'static [Listed]),
     /// A file that is no directory lists nothing.
     NoReaddir(u64),

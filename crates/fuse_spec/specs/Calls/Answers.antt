@@ -1,4 +1,4 @@
--- What a system call is answered.
+-- The answers of system calls.
 use Rattle.std.specs.Prelude.{ℕ, List}
 use Rattle.fuse_spec.specs.declared.Attributes.{Attributes}
 use Rattle.fuse_spec.specs.Files.Operations.{Dirent}

@@ -1,4 +1,4 @@
--- The system calls, as their callers put them. An open file is known by the number of the call that opened it.
+-- The system calls.
 use Rattle.std.specs.Prelude.{ℕ, Bool, true, false, List}
 use Rattle.fuse_spec.specs.declared.Minor.{Minor}
 use Rattle.fuse_spec.specs.declared.Minor.TheVariants.{M15, M31}

@@ -61,7 +61,8 @@ valid_at now (Some bound) = cond (nat_lt now bound.until) (Some bound.target) No
 abbrev pub look : {O : Type 0} → Vfs O → ℕ → Name → Option (Option ℕ)
 look c directory name = valid_at c.clock (get_name c.names (directory, name))
 
--- The name leads to this file, or to none, for so many milliseconds from now on. (linux/fuse.h, struct fuse_entry_out)
+-- The name leads to this file, or to none, for this many milliseconds from now on. (linux/fuse.h, struct
+-- fuse_entry_out)
 abbrev pub bound : {O : Type 0} → Vfs O → ℕ → Name → Option ℕ → ℕ → Vfs O
 bound c directory name target valid = record c {
   names =
@@ -94,7 +95,7 @@ after_beginning c call (uses open_call operation) = asking c call (using open_ca
 after_beginning c call (closes open_call opened) = no_more
     (answered (record c { opens = remove c.opens open_call }) call done)
 
--- The next call's number is drawn.
+-- The next call's number is allocated.
 abbrev pub numbered : {O : Type 0} → Vfs O → Vfs O
 numbered c = record c { next_call = c.next_call + 1 }
 
@@ -110,14 +111,14 @@ all_answered answer [] answers = answers
 all_answered answer (call ∷ calls) answers = put (all_answered answer calls answers) call.0 answer
 
 -- Every unanswered call is answered ECONNABORTED, and no name and no open file is left. (fuse.rst)
-abbrev pub given_up : {O : Type 0} → Vfs O → Vfs O
-given_up c = record c {
+abbrev pub abandoned : {O : Type 0} → Vfs O → Vfs O
+abandoned c = record c {
   calls = [];
   names = [];
   opens = [];
   answers = all_answered (failed econnaborted) c.calls c.answers;
 }
 
--- The same so many milliseconds later.
+-- The calls this many milliseconds later.
 abbrev pub later : {O : Type 0} → Vfs O → ℕ → Vfs O
 later c ms = record c { clock = c.clock + ms }

@@ -17,9 +17,9 @@ use Rattle.fuse_spec.specs.Server.Nodes.{NodeTable, HandleTable, is_open}
 use Rattle.fuse_spec.specs.Server.Server.{Server, HeldRequest, Kept, is_file_held}
 use Rattle.fuse_spec.specs.World.Worlds.{World, Sent}
 use Rattle.fuse_spec.specs.Reference.Plain.{Plain, Ask, Stage, waiting, performed, declined}
-use Rattle.fuse_spec.specs.Claim.Denotes.{Denotes, MeansIn, MeansOpenIn, Names, Opens, StateAlike, DentryAlike}
+use Rattle.fuse_spec.specs.Claim.Denotes.{Denotes, NodeDenotesIn, OpenDenotesIn, Names, Opens, StateAlike, DentryAlike}
 
--- The server's tree is the plain tree, less the nameless files that no node and no open number holds.
+-- The server's tree is the plain tree, less the nameless files that no node and no file handle holds.
 pub record TreeAlike (s : Server) (tree : Tree) : Type 0 where
   pub names : s.tree.names ≡ tree.names
   pub next_inode : s.tree.next_inode ≡ tree.next_inode
@@ -58,7 +58,7 @@ pub record AskedBy (asks : Map Ask) (unique : ℕ) (signalled marked : Bool)
   pub same : SameDeed ask.operation
 
 -- Only the request of a call has an ask, under its unique, of the same operation on the files that R and S say its
--- nodes and open files mean.
+-- nodes and open files denote.
 abbrev pub RequestBodyAsked : Map Ask → (unique : ℕ) → (signalled marked : Bool) → (ℕ → ℕ → Type 0)
     → (Opened → ℕ → Type 0) → RequestBody → Type 0
 RequestBodyAsked all unique signalled marked R S (asks operation) =
@@ -72,7 +72,7 @@ RequestBodyAsked all unique signalled marked R S (interrupt original) = get all 
 -- A pending request, under its unique. That of a call is one of an unanswered call.
 abbrev pub PurposeAsked : World → Plain → ℕ × QueuedRequest Purpose → Type 0
 PurposeAsked w p e = MatchOption (body_of w.kernel e.1.kept) ⊥
-    (RequestBodyAsked p.asks e.0 (is_signalled e.1.mark) false (MeansIn w) (MeansOpenIn w))
+    (RequestBodyAsked p.asks e.0 (is_signalled e.1.mark) false (NodeDenotesIn w) (OpenDenotesIn w))
 
 -- The reply says what its ask came to: the plain reply, or EINTR where the ask was declined; an ask that waits has no
 -- reply.
@@ -82,26 +82,26 @@ IsStageReplied t h (performed reply) wire = ReplyAlike (Names t) (Opens h) wire 
 IsStageReplied t h declined wire = wire ≡ failed eintr
 
 -- The node was held under a generation when the request was taken, and under that generation denotes this file still.
-pub record Meant (t : NodeTable) (generations : List (ℕ × ℕ)) (id file : ℕ) : Type 0 where
+pub record StillDenotes (t : NodeTable) (generations : List (ℕ × ℕ)) (id file : ℕ) : Type 0 where
   pub generation : ℕ
   pub then_held : Contains generations (id, generation)
   pub denotes : Denotes t id generation file
 
--- The same for an open file: its node means this file still, and its number is an open number of it.
-pub record MeantOpen (t : NodeTable) (h : HandleTable) (generations : List (ℕ × ℕ)) (o : Opened)
+-- So of an open file: its node denotes this file still, and its `fh` is a file handle of it.
+pub record OpenStillDenotes (t : NodeTable) (h : HandleTable) (generations : List (ℕ × ℕ)) (o : Opened)
     (file : ℕ) : Type 0 where
-  pub node_meant : Meant t generations o.nodeid file
-  pub is_number : is_open h o.fh file ≡ true
+  pub node_meant : StillDenotes t generations o.nodeid file
+  pub is_handle : is_open h o.fh file ≡ true
 
 -- In any mount, also after an abort: each request that is pending, on its link or held by the server has its ask, which
 -- waits.
 pub record RequestsAlike (w : World) (p : Plain) : Type 0 where
   pub pending : All (PurposeAsked w p) (pending w.kernel.queues)
-  pub sent : All (λ (r : Request). RequestBodyAsked p.asks r.unique false false (MeansIn w)
-      (MeansOpenIn w) r.body) w.requests
+  pub sent : All (λ (r : Request). RequestBodyAsked p.asks r.unique false false (NodeDenotesIn w)
+      (OpenDenotesIn w) r.body) w.requests
   pub held : (unique : ℕ) (t : HeldRequest) → get w.server.held unique ≡ Some t
-      → RequestBodyAsked p.asks unique false t.marked (Meant w.server.nodes t.generations)
-      (MeantOpen w.server.nodes w.server.handles t.generations) t.body
+      → RequestBodyAsked p.asks unique false t.marked (StillDenotes w.server.nodes t.generations)
+      (OpenStillDenotes w.server.nodes w.server.handles t.generations) t.body
 
 -- The ask of an unanswered call's current request: the same operation on the same files.
 pub record IsPaired (w : World) (p : Plain) (call : ℕ) (state : CallState Opened) : Type 0 where
@@ -110,7 +110,7 @@ pub record IsPaired (w : World) (p : Plain) (call : ℕ) (state : CallState Open
   pub request : request_of w.kernel call ≡ Some unique
   pub there : get p.asks unique ≡ Some ask
   pub by : ask.call ≡ call
-  pub same : OperationAlike (MeansIn w) (MeansOpenIn w) (asked state) ask.operation
+  pub same : OperationAlike (NodeDenotesIn w) (OpenDenotesIn w) (asked state) ask.operation
 
 -- In a live mount: each unanswered call has its ask, there is no other ask, and each copy and kept reply says what its
 -- ask came to.
@@ -130,7 +130,7 @@ pub record AsksAlike (w : World) (p : Plain) : Type 0 where
 -- force, open files, asks, validities and the minor are the same.
 pub record Alike (w : World) (p : Plain) : Type 0 where
   pub tree : TreeAlike w.server p.tree
-  pub vfs : VfsAlike (MeansIn w) (MeansOpenIn w) w.kernel.vfs p.vfs
+  pub vfs : VfsAlike (NodeDenotesIn w) (OpenDenotesIn w) w.kernel.vfs p.vfs
   pub requests : RequestsAlike w p
   pub asks : is_live w.kernel.phase ≡ true → AsksAlike w p
   pub validity : w.server.validity ≡ p.validity

@@ -15,17 +15,17 @@ use Rattle.fuse_spec.specs.declared.WriteResult.TheVariants.{Accepted, NoEntry, 
 use Rattle.fuse_spec.specs.Kernel.Queues.{pending, processing}
 use Rattle.fuse_spec.specs.Kernel.Messages.{WireReply, RequestBody, Request, init, asks, release, forget, batch_forget, interrupt}
 use Rattle.fuse_spec.specs.Kernel.Kernel.{Kernel, is_live, body_of, nodes_of_state}
-use Rattle.fuse_spec.specs.Server.Nodes.{HeldNode, OpenNumber, row_of, is_open, file_of}
+use Rattle.fuse_spec.specs.Server.Nodes.{HeldNode, FileHandle, row_of, is_open, file_of}
 use Rattle.fuse_spec.specs.Server.Server.{Server, HeldRequest, Copy, count_in, forgotten, forgets_of, fault_of, nodes_of_body}
 use Rattle.fuse_spec.specs.World.Worlds.{World, Sent}
-use Rattle.fuse_spec.specs.Claim.Denotes.{Denotes, MeansIn, MeansOpenIn}
+use Rattle.fuse_spec.specs.Claim.Denotes.{Denotes, NodeDenotesIn, OpenDenotesIn}
 
 -- The kernel's count of a node, which is 0 where it counts none. (libfuse, low-level: lookup)
 abbrev pub counted : Option Counted → ℕ
 counted None = 0
 counted (Some node) = node.count
 
--- The next two are how often a reply names a node, and an open number.
+-- The next two are how often a reply names a node, and a file handle.
 abbrev pub times_named : ℕ → WireReply → ℕ
 times_named id wire = count_by (λ (g : Entry). nat_eq g.nodeid id) (files_in_reply wire)
 
@@ -59,7 +59,7 @@ in_flight w id =
 abbrev pub Balance : World → Type 0
 Balance w = (id : ℕ) → 2 ≤ id → count_in (get w.server.nodes.rows id) ≡ counted (get w.kernel.nodes id) + in_flight w id
 
--- The next two are how often a request releases an open number, by what it asks and by what the kernel keeps of it.
+-- The next two are how often a request releases a file handle, by what it asks and by what the kernel keeps of it.
 abbrev pub releases_in : ℕ → RequestBody → ℕ
 releases_in fh (release o) = cond (nat_eq o.fh fh) 1 0
 releases_in fh (init flags) = 0
@@ -73,7 +73,7 @@ releases_for fh purpose.Init = 0
 releases_for fh (purpose.Release o) = cond (nat_eq o.fh fh) 1 0
 releases_for fh (purpose.Call call) = 0
 
--- In flight for an open number: RELEASEs that are pending, on the request link or held by the server, copies on the
+-- In flight for a file handle: RELEASEs that are pending, on the request link or held by the server, copies on the
 -- reply link that carry it, and refused ones on the result link.
 abbrev pub open_in_flight : World → ℕ → ℕ
 open_in_flight w fh =
@@ -83,53 +83,53 @@ open_in_flight w fh =
     (λ (sent : Sent). opens_in fh sent.wire) w.replies
     + sum_by (result_carries (opens_in fh) w.server) w.results
 
--- The server's count of an open number, which is 0 where there is none.
-abbrev pub handle_count : Option OpenNumber → ℕ
+-- The server's count of a file handle, which is 0 where there is none.
+abbrev pub handle_count : Option FileHandle → ℕ
 handle_count None = 0
 handle_count (Some handle) = handle.count
 
--- How many open files of the kernel, and closed ones whose RELEASE isn't queued yet, have this open number.
+-- How many open files of the kernel, and closed ones whose RELEASE isn't queued yet, have this file handle.
 abbrev pub open_in_kernel : Kernel → ℕ → ℕ
 open_in_kernel k fh = count_by (λ (o : Opened). nat_eq o.fh fh) (values k.vfs.opens ++ values k.closing)
 
--- Balance of open numbers: the server's count of each is the number of the kernel's files that have it and what is in
+-- Balance of file handles: the server's count of each is the number of the kernel's files that have it and what is in
 -- flight.
 abbrev pub OpenBalance : World → Type 0
 OpenBalance w = (fh : ℕ) → handle_count (get w.server.handles.handles fh)
     ≡ open_in_kernel w.kernel fh + open_in_flight w fh
 
--- The kernel's node means some file.
-abbrev pub IsMeant : World → ℕ → Type 0
-IsMeant w id = (file : ℕ) × MeansIn w id file
+-- The kernel's node denotes some file.
+abbrev pub NodeDenotesSome : World → ℕ → Type 0
+NodeDenotesSome w id = (file : ℕ) × NodeDenotesIn w id file
 
--- The kernel's open file means some file.
-abbrev pub IsOpenMeant : World → Opened → Type 0
-IsOpenMeant w o = (file : ℕ) × MeansOpenIn w o file
+-- The kernel's open file denotes some file.
+abbrev pub OpenDenotesSome : World → Opened → Type 0
+OpenDenotesSome w o = (file : ℕ) × OpenDenotesIn w o file
 
 -- The entry of a copy denotes some file: the server holds its node under the entry's own generation.
-abbrev pub IsNamed : World → Entry → Type 0
-IsNamed w g = (file : ℕ) × Denotes w.server.nodes g.nodeid g.generation file
+abbrev pub EntryDenotesSome : World → Entry → Type 0
+EntryDenotesSome w g = (file : ℕ) × Denotes w.server.nodes g.nodeid g.generation file
 
--- The kernel's node of an unanswered RELEASE means some file.
-abbrev pub ReleaseMeant : World → Purpose → Type 0
-ReleaseMeant w purpose.Init = Unit {0}
-ReleaseMeant w (purpose.Release o) = IsMeant w o.nodeid
-ReleaseMeant w (purpose.Call call) = Unit {0}
+-- The kernel's node of an unanswered RELEASE denotes some file.
+abbrev pub ReleaseDenotesSome : World → Purpose → Type 0
+ReleaseDenotesSome w purpose.Init = Unit {0}
+ReleaseDenotesSome w (purpose.Release o) = NodeDenotesSome w o.nodeid
+ReleaseDenotesSome w (purpose.Call call) = Unit {0}
 
 -- In a live mount: the nodes that the kernel counts, those from and to which its names lead, those of its calls, its
 -- open and closed files and its unanswered RELEASEs are held by the server under the kernel's generation, and each
 -- entry on the reply link under its own.
 pub record HeldLive (w : World) : Type 0 where
-  pub nodes : (id : ℕ) (node : Counted) → get w.kernel.nodes id ≡ Some node → IsMeant w id
+  pub nodes : (id : ℕ) (node : Counted) → get w.kernel.nodes id ≡ Some node → NodeDenotesSome w id
   pub names : (directory : ℕ) (name : List ℕ) (bound : Dentry)
-      → get_name w.kernel.vfs.names (directory, name) ≡ Some bound → IsMeant w directory
+      → get_name w.kernel.vfs.names (directory, name) ≡ Some bound → NodeDenotesSome w directory
   pub targets : (directory : ℕ) (name : List ℕ) (bound : Dentry) (id : ℕ)
-      → get_name w.kernel.vfs.names (directory, name) ≡ Some bound → bound.target ≡ Some id → IsMeant w id
-  pub calls : All (λ state. All (IsMeant w) (nodes_of_state state)) (values w.kernel.vfs.calls)
-  pub opens : All (IsOpenMeant w) (values w.kernel.vfs.opens)
-  pub closing : All (IsOpenMeant w) (values w.kernel.closing)
-  pub releases : All (λ (e : ℕ × QueuedRequest Purpose). ReleaseMeant w e.1.kept) w.kernel.queues.requests
-  pub copies : All (λ (sent : Sent). All (IsNamed w) (files_in_reply sent.wire)) w.replies
+      → get_name w.kernel.vfs.names (directory, name) ≡ Some bound → bound.target ≡ Some id → NodeDenotesSome w id
+  pub calls : All (λ state. All (NodeDenotesSome w) (nodes_of_state state)) (values w.kernel.vfs.calls)
+  pub opens : All (OpenDenotesSome w) (values w.kernel.vfs.opens)
+  pub closing : All (OpenDenotesSome w) (values w.kernel.closing)
+  pub releases : All (λ (e : ℕ × QueuedRequest Purpose). ReleaseDenotesSome w e.1.kept) w.kernel.queues.requests
+  pub copies : All (λ (sent : Sent). All (EntryDenotesSome w) (files_in_reply sent.wire)) w.replies
 
 -- The next two are the open files that an operation names, and a request.
 abbrev pub opens_of : Operation ℕ Opened → List Opened
@@ -145,13 +145,13 @@ opens_of_body (forget f) = []
 opens_of_body (batch_forget fs) = []
 opens_of_body (interrupt original) = []
 
--- Each node that the request names is in the server's table, and each open number is one of its node's file.
+-- Each node that the request names is in the server's table, and each file handle is one of its node's file.
 pub record IsServable (s : Server) (body : RequestBody) : Type 0 where
   pub nodes : All (λ id. is_some (row_of s.nodes id) ≡ true) (nodes_of_body body)
   pub opens : All (λ (o : Opened). is_open s.handles o.fh (file_of s.nodes o.nodeid) ≡ true) (opens_of_body body)
 
 -- Held: while the mount is live what HeldLive says, and in any mount no request that is pending, on its link or held by
--- the server names a node or open number that is gone.
+-- the server names a node or file handle that is gone.
 pub record Held (w : World) : Type 0 where
   pub live : is_live w.kernel.phase ≡ true → HeldLive w
   pub pending : All (λ (e : ℕ × QueuedRequest Purpose). MatchOption (body_of w.kernel e.1.kept) ⊥
@@ -176,7 +176,7 @@ abbrev pub SameNode : Option Counted → Option HeldNode → Type 0
 SameNode a b = OptionAlike (λ (node : Counted) (row : HeldNode). (node.generation ≡ row.generation)
     × (node.count ≡ row.count)) a b
 
--- At rest no call waits, and the two sides hold the same nodes and open files, with the same counts: each open number
+-- At rest no call waits, and the two sides hold the same nodes and open files, with the same counts: each file handle
 -- is one of its node's file and counted once, and there is none beside.
 pub record Settled (w : World) : Type 0 where
   pub processing : processing w.kernel.queues ≡ []
@@ -185,11 +185,11 @@ pub record Settled (w : World) : Type 0 where
   pub opens : (fh : ℕ) → handle_count (get w.server.handles.handles fh)
       ≡ count_by (λ (o : Opened). nat_eq o.fh fh) (values w.kernel.vfs.opens)
   pub once : (fh : ℕ) → handle_count (get w.server.handles.handles fh) ≤ 1
-  pub counted : (fh : ℕ) (handle : OpenNumber) → get w.server.handles.handles fh ≡ Some handle → 1 ≤ handle.count
+  pub counted : (fh : ℕ) (handle : FileHandle) → get w.server.handles.handles fh ≡ Some handle → 1 ≤ handle.count
   pub files : All (λ (o : Opened). is_open w.server.handles o.fh (file_of w.server.nodes o.nodeid) ≡ true)
       (values w.kernel.vfs.opens)
 
--- The reference protocol, which is to hold after each event: Balance, of nodes and of open numbers, each of which one
+-- The reference protocol, which is to hold after each event: Balance, of nodes and of file handles, each of which one
 -- file of the kernel has at most; Held, no fault in a request on its link, no reply with a wrong body, and what is true
 -- at rest.
 pub record Protocol (w : World) : Type 0 where

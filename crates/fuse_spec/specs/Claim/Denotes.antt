@@ -22,32 +22,32 @@ pub record Denotes (t : NodeTable) (id generation file : ℕ) : Type 0 where
 abbrev pub generation_known : Map Counted → ℕ → Option ℕ
 generation_known nodes id = cond (nat_eq id 1) (Some 0) (option_map (λ counted. counted.generation) (get nodes id))
 
--- The kernel's node means this file: the server holds it for the file, under the kernel's generation.
-pub record Means (nodes : Map Counted) (t : NodeTable) (id file : ℕ) : Type 0 where
+-- The kernel's node denotes this file: the server holds it for the file, under the kernel's generation.
+pub record NodeDenotes (nodes : Map Counted) (t : NodeTable) (id file : ℕ) : Type 0 where
   pub generation : ℕ
   pub known : generation_known nodes id ≡ Some generation
   pub denotes : Denotes t id generation file
 
--- The kernel's open file means this file: so does its node, and the number is an open number of that same file.
-pub record MeansOpen (nodes : Map Counted) (t : NodeTable) (h : HandleTable) (o : Opened) (file : ℕ) : Type 0 where
-  pub node_means : Means nodes t o.nodeid file
-  pub is_number : is_open h o.fh file ≡ true
+-- The kernel's open file denotes this file: so does its node, and its `fh` is a file handle of that same file.
+pub record OpenDenotes (nodes : Map Counted) (t : NodeTable) (h : HandleTable) (o : Opened) (file : ℕ) : Type 0 where
+  pub node_means : NodeDenotes nodes t o.nodeid file
+  pub is_handle : is_open h o.fh file ≡ true
 
 -- The entry of a copy denotes this file.
 abbrev pub Names : NodeTable → Entry → ℕ → Type 0
 Names t g file = Denotes t g.nodeid g.generation file
 
--- The open number of a copy is one of this file.
+-- The file handle of a copy is one of this file.
 abbrev pub Opens : HandleTable → ℕ → ℕ → Type 0
 Opens h fh file = is_open h fh file ≡ true
 
--- What a node of the kernel means in a world.
-abbrev pub MeansIn : World → ℕ → ℕ → Type 0
-MeansIn w id file = Means w.kernel.nodes w.server.nodes id file
+-- What a node of the kernel denotes in a world.
+abbrev pub NodeDenotesIn : World → ℕ → ℕ → Type 0
+NodeDenotesIn w id file = NodeDenotes w.kernel.nodes w.server.nodes id file
 
--- What an open file of the kernel means in a world.
-abbrev pub MeansOpenIn : World → Opened → ℕ → Type 0
-MeansOpenIn w o file = MeansOpen w.kernel.nodes w.server.nodes w.server.handles o file
+-- What an open file of the kernel denotes in a world.
+abbrev pub OpenDenotesIn : World → Opened → ℕ → Type 0
+OpenDenotesIn w o file = OpenDenotes w.kernel.nodes w.server.nodes w.server.handles o file
 
 -- What follows holds for any relation R of the files' names, and S of the open files'.
 

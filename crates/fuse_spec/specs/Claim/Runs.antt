@@ -34,7 +34,7 @@ pub record Accepts (w : World) (p : Plain) (event : Event) (records : List Recor
   pub after : w' ≡ collected mid
   pub plain_after : p' ≡ plain_collected plain
 
--- A refused event changes nothing, and its refusal is what is recorded: the machine's, or want of memory.
+-- A refused event changes nothing, and its refusal is what is recorded: the machine's, or out of memory.
 pub record RefusesEvent (w : World) (p : Plain) (event : Event) (records : List Record) (w' : World)
     (p' : Plain) : Type 0 where
   pub refusal : Refusal

@@ -31,15 +31,15 @@ pub record Dirent : Type 0 where
   pub kind : Kind
   pub name : Name
 
--- A name that a directory lists together with its file, to which it leads for so many milliseconds, or with none, as an
--- entry of nodeid 0 says. (linux/fuse.h, struct fuse_direntplus)
+-- A name that a directory lists together with its file, to which it leads for this many milliseconds, or with none, as
+-- an entry of nodeid 0 says. (linux/fuse.h, struct fuse_direntplus)
 pub record DirentPlus (F : Type 0) : Type 0 where
   pub file : Option F
   pub valid : ℕ
   pub dirent : Dirent
 
 -- The reply to an operation, with files named as F says and open files as O says; a name leads to a file, or to none,
--- for so many milliseconds. (linux/fuse.h, struct fuse_out_header)
+-- for this many milliseconds. (linux/fuse.h, struct fuse_out_header)
 pub data Reply (F O : Type 0) : Type 0 where
   found : (file : F) (valid : ℕ) → Reply F O
   missing : (valid : ℕ) → Reply F O

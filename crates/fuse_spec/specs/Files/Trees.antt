@@ -77,7 +77,8 @@ directory_names tree dir = filter (λ n. nat_eq n.directory dir) tree.names
 abbrev pub is_empty : Tree → ℕ → Bool
 is_empty tree dir = nat_eq (length (directory_names tree dir)) 0
 
--- Whether the directory is `top`, or `top` is reached from it within so many steps up, by these names. (POSIX, rename)
+-- Whether the directory is `top`, or `top` is reached from it within this many steps up, by these names. (POSIX,
+-- rename)
 abbrev pub is_within : ℕ → List Named → ℕ → ℕ → Bool
 is_within zero names top dir = nat_eq dir top
 is_within (suc steps) names top dir =
@@ -134,7 +135,7 @@ record_length r = (31 + length r.name) / 8 * 8
 abbrev pub record_of : Tree → Named → Dirent
 record_of tree n = record { ino = n.file + 1; offset = n.cookie; kind = kind_of (get tree.files n.file); name = n.name }
 
--- As many of the records as fit so many bytes, from the first on. (libfuse, low-level: readdir)
+-- As many of the records as fit this many bytes, from the first on. (libfuse, low-level: readdir)
 abbrev pub fitting : ℕ → List Dirent → List Dirent
 fitting room [] = []
 fitting room (r ∷ records) = cond (nat_le (record_length r) room) (r ∷ fitting (room - record_length r) records) []
@@ -148,16 +149,16 @@ records_after tree dir after = map (record_of tree) (filter (λ n. nat_lt after 
 abbrev pub pair_length : {F : Type 0} → DirentPlus F → ℕ
 pair_length pair = 128 + record_length pair.dirent
 
--- A name as READDIRPLUS lists it: with its file, to which it leads for so many milliseconds. (linux/fuse.h, struct
+-- A name as READDIRPLUS lists it: with its file, to which it leads for this many milliseconds. (linux/fuse.h, struct
 -- fuse_direntplus)
 abbrev pub pair_of : (valid : ℕ) → Tree → Named → DirentPlus ℕ
 pair_of valid tree n = record { file = Some n.file; valid = valid; dirent = record_of tree n }
 
--- As many of these as fit so many bytes, from the first on. (libfuse, low-level: readdirplus)
+-- As many of these as fit this many bytes, from the first on. (libfuse, low-level: readdirplus)
 abbrev pub fitting_pairs : ℕ → List (DirentPlus ℕ) → List (DirentPlus ℕ)
 fitting_pairs room [] = []
 fitting_pairs room (r ∷ pairs) = cond (nat_le (pair_length r) room) (r ∷ fitting_pairs (room - pair_length r) pairs) []
 
--- The same of the names in a directory as READDIRPLUS lists them. (libfuse, low-level: readdirplus)
+-- The names in a directory behind an offset, as READDIRPLUS lists them. (libfuse, low-level: readdirplus)
 abbrev pub pairs_after : (valid : ℕ) → Tree → ℕ → ℕ → List (DirentPlus ℕ)
 pairs_after valid tree dir after = map (pair_of valid tree) (filter (λ n. nat_lt after n.cookie) (directory_names tree dir))

@@ -19,7 +19,7 @@ use Rattle.fuse_spec.specs.declared.Minor.TheVariants.{M15, M31}
 use Rattle.fuse_spec.specs.Calls.Calls.{Call, for_minor}
 use Rattle.fuse_spec.specs.Calls.Calls as call
 use Rattle.fuse_spec.specs.Calls.Answers.{failed}
-use Rattle.fuse_spec.specs.Calls.Vfs.{CallState, walking, doing, using, asked, Vfs, Advance, answered, begun, given_up}
+use Rattle.fuse_spec.specs.Calls.Vfs.{CallState, walking, doing, using, asked, Vfs, Advance, answered, begun, abandoned}
 use Rattle.fuse_spec.specs.Kernel.Messages.{Forget, RequestBody, init, asks, release}
 use Rattle.fuse_spec.specs.Kernel.Queues.{QueueState, empty_queues}
 use Rattle.fuse_spec.specs.Kernel.QueueCalls.{first_forgets, after_enqueue, after_forget, interrupt_effect, after_interrupt}
@@ -110,7 +110,7 @@ released k open_call (Some opened) =
       queues = cond (is_used k open_call) k.queues (after_enqueue k.queues (purpose.Release opened));
     }
 
--- The same for the closed file of this number, if there is one. (libfuse, low-level: release)
+-- The closed file of this number, if there is one, is released so. (libfuse, low-level: release)
 abbrev pub released_if_idle : Kernel → ℕ → Kernel
 released_if_idle k open_call = released k open_call (get k.closing open_call)
 
@@ -153,11 +153,11 @@ call_put k call = call_begun k (for_minor k.lists_files call)
 abbrev pub forgets_read : Kernel → ℕ → Option (ℕ × List Forget)
 forgets_read k n = cond (forgets_singly k.minor && nat_lt 1 n) None (first_forgets k.queues n)
 
--- Everything is given up: calls, names, nodes, open files and the four lists. (this project's rule)
-abbrev pub all_given_up : Kernel → Phase → Kernel
-all_given_up k phase = record {
+-- Everything is abandoned: calls, names, nodes, open files and the four lists. (this project's rule)
+abbrev pub all_abandoned : Kernel → Phase → Kernel
+all_abandoned k phase = record {
   phase = phase;
-  vfs = given_up k.vfs;
+  vfs = abandoned k.vfs;
   queues = empty_queues;
   nodes = [];
   closing = [];
@@ -167,13 +167,13 @@ all_given_up k phase = record {
 
 -- An abort: every unanswered call is answered an error, and the connection is gone. (fuse.rst)
 abbrev pub kernel_aborted : Kernel → Kernel
-kernel_aborted k = all_given_up k Aborted
+kernel_aborted k = all_abandoned k Aborted
 
--- A mount gives up everything, without forgets, and queues INIT. (this project's rule)
+-- A mount abandons everything, without forgets, and queues INIT. (this project's rule)
 abbrev pub kernel_mounted : Kernel → Kernel
 kernel_mounted k = record {
   phase = Starting;
-  vfs = given_up k.vfs;
+  vfs = abandoned k.vfs;
   queues = after_enqueue empty_queues purpose.Init;
   nodes = [];
   closing = [];
@@ -234,6 +234,6 @@ leads_to node (Some target) = nat_eq target node
 abbrev pub is_bound : Kernel → ℕ → Bool
 is_bound k node = list_any (λ (e : (ℕ × List ℕ) × Dentry). nat_eq e.0.0 node || leads_to node e.1.target) k.vfs.names
 
--- The node is given up, and its whole count is to be forgotten. (libfuse, low-level: forget)
+-- The node is evicted, and its whole count is to be forgotten. (libfuse, low-level: forget)
 abbrev pub evicted : Kernel → ℕ → Counted → Kernel
 evicted k node counted = record k { nodes = remove k.nodes node; queues = after_forget k.queues node counted.count }

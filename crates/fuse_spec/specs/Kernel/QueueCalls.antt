@@ -70,17 +70,17 @@ module _ {W : Type 0} where
   abbrev pub after_read_interrupt : QueueState W → QueueState W
   after_read_interrupt s = record s { interrupts = drop 1 s.interrupts }
 
-  -- Whether so many forgets can be read as one frame: it has room for 1 to `max_forgets`, and so many have to be
+  -- Whether this many forgets can be read as one frame: it has room for 1 to `max_forgets`, and as many have to be
   -- queued. (this project's rule)
   abbrev pub can_read_forgets : QueueState W → ℕ → Bool
   can_read_forgets s count = nat_lt 0 count && (nat_le count max_forgets && nat_le count (length s.forgets))
 
-  -- The number that the frame of so many forgets draws as it is read, and these forgets, the oldest first. (this
+  -- The number that the frame of this many forgets allocates as it is read, and these forgets, the oldest first. (this
   -- project's rule)
   abbrev pub first_forgets : QueueState W → ℕ → Option (ℕ × List (ℕ × ℕ))
   first_forgets s count = if can_read_forgets s count then Some (s.next, take count s.forgets) else None
 
-  -- The queues once so many forgets are read as one frame, which draws a number.
+  -- The queues once this many forgets are read as one frame, which allocates a number.
   abbrev pub after_read_forgets : QueueState W → ℕ → QueueState W
   after_read_forgets s count = if can_read_forgets s count then record s {
     forgets = drop count s.forgets;

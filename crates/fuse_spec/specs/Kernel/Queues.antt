@@ -38,7 +38,7 @@ has_interrupt Flagged = false
 has_interrupt Read = false
 has_interrupt Interrupted = true
 
--- Whether a request bears a signal to its call: it is flagged, or its INTERRUPT was due. (fuse.rst)
+-- Whether a request has a signal to its call: it is flagged, or its INTERRUPT was due. (fuse.rst)
 abbrev pub is_signalled : Mark → Bool
 is_signalled Unread = false
 is_signalled Flagged = true
@@ -61,20 +61,20 @@ request_under s unique = lookup (nat_eq unique) s.requests
 abbrev pub mark_under : {W : Type 0} → QueueState W → ℕ → Option Mark
 mark_under s unique = option_map (λ r. r.mark) (request_under s unique)
 
--- Whether the request under a number was read, is unanswered, and bears a signal, so that its INTERRUPT was due.
+-- Whether the request under a number was read, is unanswered, and has a signal, so that its INTERRUPT was due.
 -- (fuse.rst)
 abbrev pub is_interrupted : {W : Type 0} → QueueState W → ℕ → Bool
 is_interrupted s unique = option_map_or has_interrupt (mark_under s unique) false
 
--- Whether a number was drawn where `next` is the coming one.
-abbrev pub was_drawn : ℕ → ℕ → Bool
-was_drawn next unique = nat_le first_number unique && (nat_lt unique next && nat_eq (unique % 2) 0)
+-- Whether a number was allocated where `next` is the coming one.
+abbrev pub was_allocated : ℕ → ℕ → Bool
+was_allocated next unique = nat_le first_number unique && (nat_lt unique next && nat_eq (unique % 2) 0)
 
 -- What is true of the queues after each call.
 pub record IsSound {W : Type 0} (s : QueueState W) : Type 0 where
   pub next : IsNextNumber s.next
-  -- a number that was drawn has one request at most, and no other number has one
-  pub requests : (u : ℕ) → count_by (λ e. nat_eq u e.0) s.requests ≤ (if was_drawn s.next u then 1 else 0)
+  -- a number that was allocated has one request at most, and no other number has one
+  pub requests : (u : ℕ) → count_by (λ e. nat_eq u e.0) s.requests ≤ (if was_allocated s.next u then 1 else 0)
   -- a number stands on the list of INTERRUPTs once at most, and only while its request is read, interrupted and
   -- unanswered
   pub interrupts : (u : ℕ) → count_by (nat_eq u) s.interrupts ≤ (if is_interrupted s u then 1 else 0)

@@ -1,6 +1,6 @@
 -- Why the kernel refuses what is asked of it, and what it finds where it does not. The refusals of each stand in the
--- order in which they are judged; what comes of the event is given what was found. A counter at its end and then want
--- of memory are judged after all of these. (this project's rule)
+-- order in which they are judged; what comes of the event is given what was found. A counter at its end and then out of
+-- memory are judged after all of these. (this project's rule)
 use Rattle.std.specs.Prelude.{ℕ, ◌+◌, Bool, true, false, ◌&&◌, ◌||◌, cond, not, List, [], ◌∷◌, Option, Some, None, Result, Ok, Err, length, nat_eq, nat_le, nat_lt}
 use Rattle.std.specs.List.{list_any}
 use Rattle.fuse_spec.specs.Values.Maps.{Map, get, get_name, values}
@@ -42,7 +42,7 @@ refusal_in (Err refusal) = Some refusal
 abbrev pub accepted : Result (Unit {0}) Refusal
 accepted = Ok tt
 
--- A refusal that was judged, or else want of memory.
+-- A refusal that was judged, or else out of memory.
 abbrev pub or_no_memory : Option Refusal → Refusal
 or_no_memory None = NoMemory
 or_no_memory (Some refusal) = refusal
@@ -87,7 +87,7 @@ module _ {A : Type 0} (k : Kernel) where
   abbrev pub to_call : Result A Refusal → Result A Refusal
   to_call else = unless (not (is_ready k.phase)) NotReady (unless (nat_le max_calls (length k.vfs.calls)) Full else)
 
-  -- So many milliseconds that pass: the clock ends so early that a name's end is still a number of 64 bits.
+  -- Milliseconds that pass: the clock ends so early that a name's end is still a number of 64 bits.
   abbrev pub to_pass : ℕ → Result A Refusal → Result A Refusal
   to_pass ms else = unless (nat_le clock_end (k.vfs.clock + ms)) BadTime else
 
@@ -95,7 +95,7 @@ module _ {A : Type 0} (k : Kernel) where
   abbrev pub to_read_interrupt : (ℕ → Result A Refusal) → Result A Refusal
   to_read_interrupt next = when_live (first_found k.queues.interrupts next)
 
-  -- A read of so many forgets as one request: its number, and the forgets.
+  -- A read of this many forgets as one request: its number, and the forgets.
   abbrev pub to_read_forgets : ℕ → (ℕ × List Forget → Result A Refusal) → Result A Refusal
   to_read_forgets n next = when_live (when_not_interrupted (found (forgets_read k n) next))
 
@@ -115,7 +115,7 @@ module _ {A : Type 0} (k : Kernel) where
   abbrev pub to_drop : ℕ → Name → (Dentry → Result A Refusal) → Result A Refusal
   to_drop directory name next = when_live (found (get_name k.vfs.names (directory, name)) next)
 
-  -- A counted node that is to be given up, unless it is in use or a cached name names it.
+  -- A counted node that is to be evicted, unless it is in use or a cached name names it.
   abbrev pub unused_found : ℕ → Option Counted → (Counted → Result A Refusal) → Result A Refusal
   unused_found node there next = found there
       (λ (counted : Counted). unless (is_pinned k node || is_bound k node) Busy (next counted))

@@ -9,7 +9,7 @@ first_number = 2
 abbrev pub number_limit : ℕ
 number_limit = 2 ^ 62
 
--- How many numbers can still be drawn where `next` is the coming one.
+-- How many numbers can still be allocated where `next` is the coming one.
 abbrev pub numbers_left_from : ℕ → ℕ
 numbers_left_from next = (number_limit - next) / 2
 

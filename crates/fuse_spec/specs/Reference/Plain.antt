@@ -12,7 +12,7 @@ use Rattle.fuse_spec.specs.Calls.Calls.{Call, for_minor, lists_files_at}
 use Rattle.fuse_spec.specs.declared.Minor.{Minor}
 use Rattle.fuse_spec.specs.declared.Minor.TheVariants.{M31}
 use Rattle.fuse_spec.specs.Calls.Answers.{failed}
-use Rattle.fuse_spec.specs.Calls.Vfs.{CallState, Vfs, Advance, answered, begun, given_up, later}
+use Rattle.fuse_spec.specs.Calls.Vfs.{CallState, Vfs, Advance, answered, begun, abandoned, later}
 use Rattle.fuse_spec.specs.Calls.CallReplies.{call_replied}
 
 -- Where an ask stands: not performed yet, performed with this reply, or declined.
@@ -52,7 +52,7 @@ ask_put p label call (Some operation) = record p {
 abbrev pub going_on : Plain → (label call : ℕ) → Advance ℕ → Plain
 going_on p label call went = ask_put (record p { vfs = went.vfs }) label call went.operation
 
--- A call begins. What it asks bears this label.
+-- A call begins. What it asks has this label.
 abbrev pub plain_call_begun : Plain → (label : ℕ) → Call → Plain
 plain_call_begun p label call = going_on p label p.vfs.next_call (begun p.aborted p.vfs call)
 
@@ -72,7 +72,7 @@ ask_performed p label ask =
 abbrev pub ask_declined : Plain → (label : ℕ) → Ask → Plain
 ask_declined p label ask = record p { asks = put p.asks label (record ask { stage = declined }) }
 
--- A performed ask goes, and its reply reaches its call, which stands here. What the call asks next bears the label
+-- A performed ask goes, and its reply reaches its call, which stands here. What the call asks next has the label
 -- `next`.
 abbrev pub ask_delivered : Plain → (label next : ℕ) → Ask → Reply ℕ ℕ → CallState ℕ → Plain
 ask_delivered p label next ask reply state = going_on (record p { asks = remove p.asks label }) next ask.call
@@ -100,12 +100,12 @@ name_dropped p directory name = record p { vfs = record p.vfs { names = remove_n
 
 -- Abort: every unanswered call is answered ECONNABORTED. The asks stay. (fuse.rst)
 abbrev pub plain_aborted : Plain → Plain
-plain_aborted p = record p { vfs = given_up p.vfs; aborted = true }
+plain_aborted p = record p { vfs = abandoned p.vfs; aborted = true }
 
 -- A mount: the asks go, no name and no open file is left, and the validities are set.
 abbrev pub plain_mounted : Plain → Validity → Minor → Plain
 plain_mounted p validity minor = record p {
-  vfs = given_up p.vfs;
+  vfs = abandoned p.vfs;
   asks = [];
   validity = validity;
   minor = minor;

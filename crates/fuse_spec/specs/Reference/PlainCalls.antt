@@ -30,7 +30,7 @@ abbrev pub IsNotInForce : Vfs ℕ → ℕ → Name → Type 0
 IsNotInForce c directory name = (bound : Dentry) → get_name c.names (directory, name) ≡ Some bound
     → bound.until ≤ c.clock
 
--- A name comes into force for so many milliseconds from now on. (linux/fuse.h, struct fuse_entry_out)
+-- A name comes into force for this many milliseconds from now on. (linux/fuse.h, struct fuse_entry_out)
 abbrev pub in_force : Vfs ℕ → ℕ → Name → Option ℕ → (valid_ms : ℕ) → Vfs ℕ
 in_force c directory name target valid_ms = record c {
   names =

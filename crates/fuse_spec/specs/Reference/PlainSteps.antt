@@ -28,7 +28,7 @@ abbrev pub serving : Plain → ℕ → Option Ask → Option Plain
 serving p label None = Some p
 serving p label (Some ask) = serving_ask p label ask ask.stage
 
--- The reply to a performed ask reaches its call, if that is unanswered and what it asks next can bear the coming label.
+-- The reply to a performed ask reaches its call, if that is unanswered and what it asks next can have the coming label.
 abbrev pub delivering_to_call : Plain → (label next : ℕ) → Ask → Reply ℕ ℕ → Option (CallState ℕ) → Option Plain
 delivering_to_call p label next ask reply None = None
 delivering_to_call p label next ask reply (Some state) =
@@ -42,7 +42,7 @@ delivering_reply p label next ask (performed reply) = delivering_to_call p label
 delivering_reply p label next ask declined = where_so (ask.noted && is_some (get p.vfs.calls ask.call))
     (ask_interrupted p label ask)
 
--- A reply that is accepted is delivered to the call of its ask, and one under a label that no ask bears takes no step.
+-- A reply that is accepted is delivered to the call of its ask, and one under a label of no ask takes no step.
 abbrev pub delivering : Plain → (label next : ℕ) → Option Ask → Option Plain
 delivering p label next None = Some p
 delivering p label next (Some ask) = delivering_reply p label next ask ask.stage

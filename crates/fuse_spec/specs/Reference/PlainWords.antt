@@ -39,7 +39,7 @@ pub data PutAs : Minor → Call → Call → Type 0 where
   names_alone : (path : List ℕ) (after : ℕ) → PutAs M15 (call.listplus path after) (call.list path after)
   any_other : (x : Call) → ((path : List ℕ) (after : ℕ) → x ≢ call.listplus path after) → PutAs M15 x x
 
--- The calls as the next number is drawn.
+-- The calls as the next number is allocated.
 abbrev pub one_more : Vfs ℕ → Vfs ℕ
 one_more c = record c { next_call = c.next_call + 1 }
 
@@ -50,18 +50,18 @@ pub record AllAnswered (calls : Map (CallState ℕ)) (answers : Map Answer) (a :
   pub others : (number : ℕ) → get calls number ≡ None → get after number ≡ get answers number
 
 -- Every unanswered call is answered ECONNABORTED, and no name is cached and no file open any longer. (fuse.rst)
-pub record GivesUp (c : Vfs ℕ) (after : Vfs ℕ) : Type 0 where
+pub record Abandons (c : Vfs ℕ) (after : Vfs ℕ) : Type 0 where
   pub answers : AllAnswered c.calls c.answers (failed econnaborted) after.answers
   pub rest : after ≡ record c { calls = []; names = []; opens = []; answers = after.answers }
 
--- The plain world takes these steps, and in no other way.
+-- The steps of the plain world. There are no others.
 pub data Steps (p : Plain) : Event → Outcome → Plain → Type 0 where
   -- a call begins; once the mount is aborted it is answered ENOTCONN
   begins : (x y : Call) (label : ℕ) (after : Vfs ℕ) (asked : Option (Operation ℕ ℕ)) (q : Plain) → p.aborted ≡ false
       → get p.asks label ≡ None → PutAs p.minor x y → Begins (one_more p.vfs) p.vfs.next_call y after asked
       → Asks p label p.vfs.next_call after asked q
       → Steps p (event.call x) (event.begun p.vfs.next_call) q
-  begins_in_vain : (x : Call) → p.aborted ≡ true → Steps p (event.call x) (event.begun p.vfs.next_call)
+  begins_after_abort : (x : Call) → p.aborted ≡ true → Steps p (event.call x) (event.begun p.vfs.next_call)
       (record p { vfs = is_answered (one_more p.vfs) p.vfs.next_call (failed enotconn) })
   -- an ask is performed on the tree as it is now, or declined if an interrupt marked it and a signal to its call was
   -- accepted
@@ -76,7 +76,7 @@ pub data Steps (p : Plain) : Event → Outcome → Plain → Type 0 where
       → ask.marked ≡ true → ask.noted ≡ true
       → Steps p (event.perform unique) (event.performed u errno lost)
       (record p { asks = put p.asks unique (record ask { stage = declined }) })
-  performs_none : (unique u errno : ℕ) (lost : Bool) → get p.asks unique ≡ None
+  performs_no_ask : (unique u errno : ℕ) (lost : Bool) → get p.asks unique ≡ None
       → Steps p (event.perform unique) (event.performed u errno lost) p
   -- the reply to a performed ask reaches its call, which is unanswered; a declined ask answers it EINTR
   delivers : (k unique label : ℕ) (ask : Ask) (reply : Reply ℕ ℕ) (state : CallState ℕ) (after : Vfs ℕ)
@@ -90,9 +90,9 @@ pub data Steps (p : Plain) : Event → Outcome → Plain → Type 0 where
       → ask.noted ≡ true → get p.vfs.calls ask.call ≡ Some state
       → Steps p (event.write k) (event.written unique Accepted)
       (record p { asks = remove p.asks unique; vfs = is_answered p.vfs ask.call (failed eintr) })
-  delivers_none : (k unique : ℕ) → get p.asks unique ≡ None → Steps p (event.write k) (event.written unique Accepted) p
+  delivers_no_ask : (k unique : ℕ) → get p.asks unique ≡ None → Steps p (event.write k) (event.written unique Accepted) p
   no_entry : (k unique : ℕ) → Steps p (event.write k) (event.written unique NoEntry) p
-  is_wrong : (k unique : ℕ) → Steps p (event.write k) (event.written unique Invalid) p
+  is_invalid : (k unique : ℕ) → Steps p (event.write k) (event.written unique Invalid) p
   -- a signal reaches an ask of its call, which is unanswered: one that waits goes and the call is answered EINTR, or
   -- the signal is noted
   interrupts : (number label : ℕ) (fatal : Bool) (c : ℕ) (ask : Ask) (state : CallState ℕ)
@@ -106,16 +106,16 @@ pub data Steps (p : Plain) : Event → Outcome → Plain → Type 0 where
   marks : (k unique : ℕ) (ask : Ask) → get p.asks (unique - 1) ≡ Some ask
       → Steps p (event.take k) (event.taken unique Marked)
       (record p { asks = put p.asks (unique - 1) (record ask { marked = true }) })
-  marks_none : (k unique : ℕ) → get p.asks (unique - 1) ≡ None → Steps p (event.take k) (event.taken unique Marked) p
+  marks_no_ask : (k unique : ℕ) → get p.asks (unique - 1) ≡ None → Steps p (event.take k) (event.taken unique Marked) p
   takes_other : (k unique : ℕ) (word : Taken) → word ≢ Marked → Steps p (event.take k) (event.taken unique word) p
   -- time passes, a name is dropped, the mount is aborted, a mount begins
   time_passes : (ms : ℕ) → Steps p (event.tick ms) (event.now (p.vfs.clock + ms))
       (record p { vfs = record p.vfs { clock = p.vfs.clock + ms } })
   drops : (node directory : ℕ) (name : Name) → Steps p (event.drop_name node name) event.dropped
       (record p { vfs = out_of_force p.vfs directory name })
-  aborts : (after : Vfs ℕ) → GivesUp p.vfs after → Steps p event.abort event.aborted
+  aborts : (after : Vfs ℕ) → Abandons p.vfs after → Steps p event.abort event.aborted
       (record p { vfs = after; aborted = true })
-  mounts : (found_ms missing_ms : ℕ) (minor : Minor) (after : Vfs ℕ) → GivesUp p.vfs after
+  mounts : (found_ms missing_ms : ℕ) (minor : Minor) (after : Vfs ℕ) → Abandons p.vfs after
       → Steps p (event.mount found_ms missing_ms minor) event.mounted
       (record p {
         vfs = after;

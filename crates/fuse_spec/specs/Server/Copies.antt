@@ -12,7 +12,7 @@ use Rattle.fuse_spec.specs.Kernel.Messages.{WireReply}
 use Rattle.fuse_spec.specs.Server.Nodes.{NodeTable, file_of, is_held, row_more, taken_back, HandleTable, handle_more, handle_back}
 use Rattle.fuse_spec.specs.Server.Server.{Server, Kept, Copy, without_unheld_files, sending}
 
--- Whether each node and open number that the reply names is still held, the node under the same generation. (this
+-- Whether each node and file handle that the reply names is still held, the node under the same generation. (this
 -- project's rule)
 abbrev pub is_current : Server → WireReply → Bool
 is_current s wire = list_all (λ (g : Entry). is_held s.nodes g.nodeid g.generation) (files_in_reply wire)
@@ -27,12 +27,12 @@ abbrev pub rows_counted : NodeTable → List Entry → NodeTable
 rows_counted t [] = t
 rows_counted t (g ∷ gs) = rows_counted (row_more t g.nodeid) gs
 
--- Each of these open numbers has one use more.
+-- Each of these file handles has one use more.
 abbrev pub handles_counted : HandleTable → List ℕ → HandleTable
 handles_counted t [] = t
 handles_counted t (fh ∷ fhs) = handles_counted (handle_more t fh) fhs
 
--- One more copy of a kept reply counts one more for each node and open number that it names. (this project's rule)
+-- One more copy of a kept reply counts one more for each node and file handle that it names. (this project's rule)
 abbrev pub sent_again : Server → ℕ → Kept → Server
 sent_again s unique kept =
     sending (record s {
@@ -45,12 +45,12 @@ sent_again s unique kept =
 abbrev pub row_back : NodeTable → Entry → NodeTable
 row_back t g = cond (is_held t g.nodeid g.generation) (taken_back t g.nodeid 1) t
 
--- The same for each of these entries, in turn.
+-- One lookup of the node of each of these entries is given back, in turn.
 abbrev pub rows_back : NodeTable → List Entry → NodeTable
 rows_back t [] = t
 rows_back t (g ∷ gs) = rows_back (row_back t g) gs
 
--- One use of each of these open numbers is given back, in turn.
+-- One use of each of these file handles is released, in turn.
 abbrev pub handles_back : HandleTable → List ℕ → HandleTable
 handles_back t [] = t
 handles_back t (fh ∷ fhs) = handles_back (handle_back t fh) fhs
@@ -86,8 +86,8 @@ settled s number copy result =
 abbrev pub connection_lost : Server → Server
 connection_lost s = record s { kept = []; copies = []; aborted = true }
 
--- A mount empties the tables, the held requests, the kept replies and the copies; the tree, the generations, the open
--- numbers and the copy numbers go on. (this project's rule)
+-- A mount empties the tables, the held requests, the kept replies and the copies; the tree, the generations, the file
+-- handles and the copy numbers go on. (this project's rule)
 abbrev pub remounted : Server → Validity → Minor → Server
 remounted s validity minor =
     without_unheld_files (record s {

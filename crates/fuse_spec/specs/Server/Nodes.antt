@@ -67,7 +67,7 @@ given t file id = record {
   next_generation = generation_after t (get t.rows id);
 }
 
--- The same for each of these files, under the ids that are chosen. (libfuse, low-level: lookup)
+-- One lookup more of each of these files, in turn, under the ids that are chosen. (libfuse, low-level: lookup)
 abbrev pub all_given : (ℕ → ℕ) → NodeTable → List ℕ → NodeTable
 all_given choice t [] = t
 all_given choice t (file ∷ files) = all_given choice (given t file (choice file)) files
@@ -83,7 +83,7 @@ abbrev pub count_overflows : NodeTable → List ℕ → Bool
 count_overflows t files = list_any (λ (row : HeldNode). nat_le counter_end (row.count + count_by (nat_eq row.file) files))
     (values t.rows)
 
--- The next two give so many lookups of a node back; at none left the node goes. (libfuse, low-level: forget)
+-- The next two forget this many lookups of a node; at none left the node goes. (libfuse, low-level: forget)
 abbrev pub rows_less : Map HeldNode → ℕ → ℕ → Option HeldNode → Map HeldNode
 rows_less rows id n None = rows
 rows_less rows id n (Some row) = cond (nat_lt n row.count) (put rows id (record row { count = row.count - n }))
@@ -92,19 +92,19 @@ rows_less rows id n (Some row) = cond (nat_lt n row.count) (put rows id (record 
 abbrev pub taken_back : NodeTable → ℕ → ℕ → NodeTable
 taken_back t id n = record t { rows = rows_less t.rows id n (get t.rows id) }
 
--- An open number of the server: its file, and a count of one for each copy that carried it and was neither refused nor
+-- A file handle of the server: its file, and a count of one for each copy that carried it and was neither refused nor
 -- released. (this project's rule)
-pub record OpenNumber : Type 0 where
+pub record FileHandle : Type 0 where
   pub file : ℕ
   pub count : ℕ
 
 -- The open files by number, and the number that is given next; no number is given twice. (this project's rule)
 pub record HandleTable : Type 0 where
-  pub handles : Map OpenNumber
+  pub handles : Map FileHandle
   pub next_fh : ℕ
 
--- The next two say whether this is an open number of the file. (libfuse, low-level: open)
-abbrev pub is_file_of : ℕ → Option OpenNumber → Bool
+-- The next two say whether this is a file handle of the file. (libfuse, low-level: open)
+abbrev pub is_file_of : ℕ → Option FileHandle → Bool
 is_file_of file None = false
 is_file_of file (Some handle) = nat_eq handle.file file
 
@@ -123,8 +123,8 @@ abbrev pub all_opened : HandleTable → List ℕ → HandleTable
 all_opened t [] = t
 all_opened t (file ∷ files) = all_opened (handle_opened t file) files
 
--- The next two give one use of an open number back; at none left it goes. (libfuse, low-level: release)
-abbrev pub handles_less : Map OpenNumber → ℕ → Option OpenNumber → Map OpenNumber
+-- The next two release one use of a file handle; at none left it goes. (libfuse, low-level: release)
+abbrev pub handles_less : Map FileHandle → ℕ → Option FileHandle → Map FileHandle
 handles_less handles fh None = handles
 handles_less handles fh (Some handle) = cond (nat_lt 1 handle.count)
     (put handles fh (record handle { count = handle.count - 1 })) (remove handles fh)
@@ -132,8 +132,8 @@ handles_less handles fh (Some handle) = cond (nat_lt 1 handle.count)
 abbrev pub handle_back : HandleTable → ℕ → HandleTable
 handle_back t fh = record t { handles = handles_less t.handles fh (get t.handles fh) }
 
--- The next two count one use more of an open number, for one more copy of the reply that carries it.
-abbrev pub handles_more : Map OpenNumber → ℕ → Option OpenNumber → Map OpenNumber
+-- The next two count one use more of a file handle, for one more copy of the reply that carries it.
+abbrev pub handles_more : Map FileHandle → ℕ → Option FileHandle → Map FileHandle
 handles_more handles fh None = handles
 handles_more handles fh (Some handle) = put handles fh (record handle { count = handle.count + 1 })
 

@@ -24,7 +24,7 @@ pub record PerformResult : Type 0 where
 abbrev pub file_operation_of : NodeTable → Operation ℕ Opened → FileOperation
 file_operation_of t operation = operation_with (file_of t) (λ (o : Opened). file_of t o.nodeid) operation
 
--- Whether the open number that a read or write names is one of its node's file. (libfuse, low-level: open)
+-- Whether the file handle that a read or write names is one of its node's file. (libfuse, low-level: open)
 abbrev pub is_open_for : Server → Operation ℕ Opened → Bool
 is_open_for s (read o offset size) = is_open s.handles o.fh (file_of s.nodes o.nodeid)
 is_open_for s (write o offset bytes) = is_open s.handles o.fh (file_of s.nodes o.nodeid)
@@ -43,7 +43,7 @@ entry_for choice t tree file = record {
 abbrev pub wire_of : (ℕ → ℕ) → NodeTable → Tree → (fh : ℕ) → Reply ℕ ℕ → WireReply
 wire_of choice nodes tree fh reply = reply_with (entry_for choice nodes tree) (λ file. fh) reply
 
--- The operation is done, and nodes and open numbers are given for what the reply names. After an abort it is done, but
+-- The operation is done, and nodes and file handles are given for what the reply names. After an abort it is done, but
 -- nothing is given, and the reply says only whether it failed.
 abbrev pub doing : (ℕ → ℕ) → Server → FileOperation → PerformResult
 doing choice s operation =
@@ -78,7 +78,7 @@ flags_known M31 = init_flags
 abbrev pub init_reply : Minor → (flags : ℕ) → WireReply
 init_reply minor flags = agreed 7 (minor_number minor) (bit_and flags (flags_known minor))
 
--- What a held request asks is done: INIT is answered the minor, a read, write or RELEASE without its open number EBADF,
+-- What a held request asks is done: INIT is answered the minor, a read, write or RELEASE without its file handle EBADF,
 -- and forgets and INTERRUPTs are never held. (this project's rule)
 abbrev pub performing : (ℕ → ℕ) → Server → RequestBody → PerformResult
 performing choice s (init flags) = record { server = s; wire = init_reply s.minor flags }

@@ -1,5 +1,5 @@
 -- Why the server refuses to perform a request or to send a reply again, and what it finds where it does not. A counter
--- at its end and want of memory are judged after all of these. (this project's rule)
+-- at its end and out of memory are judged after all of these. (this project's rule)
 use Rattle.std.specs.Prelude.{ℕ, Bool, ◌||◌, not, Option, Some, None, Result, Err, nat_lt}
 use Rattle.fuse_spec.specs.Values.Maps.{get}
 use Rattle.fuse_spec.specs.Values.Numbers.{counter_end}

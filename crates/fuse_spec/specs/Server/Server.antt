@@ -8,7 +8,7 @@ use Rattle.fuse_spec.specs.declared.Validity.{Validity}
 use Rattle.fuse_spec.specs.declared.Minor.{Minor}
 use Rattle.fuse_spec.specs.declared.Minor.TheVariants.{M15, M31}
 use Rattle.fuse_spec.specs.Kernel.Messages.{Forget, RequestBody, init, asks, release, forget, batch_forget, interrupt, Request, WireReply}
-use Rattle.fuse_spec.specs.Server.Nodes.{NodeTable, HeldNode, row_of, taken_back, HandleTable, OpenNumber}
+use Rattle.fuse_spec.specs.Server.Nodes.{NodeTable, HeldNode, row_of, taken_back, HandleTable, FileHandle}
 
 -- A request that is held until it is performed: what it asks, the nodes that it names with their generations at that
 -- time, and whether an INTERRUPT marked it. (this project's rule)
@@ -101,12 +101,12 @@ fault_of s request =
     (Some unknown_node))
     (Some unknown_opcode)
 
--- Whether a node but the root, or an open number, holds the file. (libfuse, low-level: forget)
+-- Whether a node but the root, or a file handle, holds the file. (libfuse, low-level: forget)
 abbrev pub is_file_held : Server → ℕ → Bool
 is_file_held s file = list_any (λ (row : HeldNode). nat_eq row.file file) (values s.nodes.rows)
-    || list_any (λ (h : OpenNumber). nat_eq h.file file) (values s.handles.handles)
+    || list_any (λ (h : FileHandle). nat_eq h.file file) (values s.handles.handles)
 
--- The server without the nameless files that no node and no open number holds. (libfuse, low-level: unlink)
+-- The server without the nameless files that no node and no file handle holds. (libfuse, low-level: unlink)
 abbrev pub without_unheld_files : Server → Server
 without_unheld_files s = record s {
   tree = record s.tree {

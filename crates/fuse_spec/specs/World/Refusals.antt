@@ -92,14 +92,14 @@ pub data Leads (choice : ℕ → ℕ) (w : World) : Event → Outcome → World 
   aborts : is_live w.kernel.phase ≡ true → Leads choice w event.abort event.aborted (after_abort w)
 
 -- The events that are refused where a counter would go past its end.
-abbrev pub draws : Event → Bool
-draws (event.mount found_ms missing_ms minor) = false
-draws (event.settle k) = false
-draws (event.tick ms) = false
-draws (event.drop_name directory name) = false
-draws (event.evict node) = false
-draws event.abort = false
-draws other = true
+abbrev pub allocates : Event → Bool
+allocates (event.mount found_ms missing_ms minor) = false
+allocates (event.settle k) = false
+allocates (event.tick ms) = false
+allocates (event.drop_name directory name) = false
+allocates (event.evict node) = false
+allocates event.abort = false
+allocates other = true
 
 -- The events that need a live mount.
 abbrev pub needs_live : Event → Bool
@@ -135,7 +135,7 @@ pub data NamesNothing (w : World) : Event → Type 0 where
       → NamesNothing w (event.drop_name directory name)
   no_node : (node : ℕ) → get w.kernel.nodes node ≡ None → NamesNothing w (event.evict node)
 
--- Which refusal the event has. The cases are judged in this order: each says that those before it do not apply. Want of
+-- Which refusal the event has. The cases are judged in this order: each says that those before it do not apply. Out of
 -- memory, which comes last, is no matter of the state. (this project's rule)
 pub data Refuses (choice : ℕ → ℕ) (w : World) : Event → Refusal → Type 0 where
   too_long : (found_ms missing_ms : ℕ) (minor : Minor) → max_validity < max found_ms missing_ms
@@ -162,5 +162,5 @@ pub data Refuses (choice : ℕ → ℕ) (w : World) : Event → Refusal → Type
   copied_too_often : (unique : ℕ) (kept : Kept) → get w.server.kept unique ≡ Some kept
       → is_current w.server kept.wire ≡ true → count_overflows w.server.nodes (files_named w.server kept.wire) ≡ true
       → Refuses choice w (event.again unique) Exhausted
-  past_its_end : (e : Event) (o : Outcome) (after : World) → draws e ≡ true → Leads choice w e o after
+  past_its_end : (e : Event) (o : Outcome) (after : World) → allocates e ≡ true → Leads choice w e o after
       → is_past after ≡ true → Refuses choice w e Exhausted

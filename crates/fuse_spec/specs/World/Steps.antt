@@ -46,7 +46,7 @@ going outcome w = unless (is_past w) refusal.Exhausted (Ok (outcome, w))
 abbrev pub reading_interrupt : World → ℕ → Stepped
 reading_interrupt w original = going (event.is_read (interrupt_number original)) (world_after_read_interrupt w original)
 
--- So many forgets are read as one request.
+-- This many forgets are read as one request.
 abbrev pub reading_forgets : World → ℕ → ℕ × List Forget → Stepped
 reading_forgets w n read = going (event.is_read read.0) (world_after_read_forgets w n read.1)
 
@@ -102,12 +102,12 @@ signalling w call fatal state = signalled_as w call (call_signalled w.kernel cal
 abbrev pub dropping : World → Dentry → Stepped
 dropping after bound = Ok (event.dropped, after)
 
--- A counted node is given up.
+-- A counted node is evicted.
 abbrev pub evicting : World → ℕ → Counted → Stepped
 evicting w node counted = Ok (event.evicted node counted.count, after_evict w node counted)
 
 -- The event in this world, with these ids for the files that get a node: why kernel or server refuse it, or what comes
--- of what they found. Want of memory, which comes last, isn't a matter of the state. (this project's rule)
+-- of what they found. Out of memory, which comes last, isn't a matter of the state. (this project's rule)
 abbrev pub step : (ℕ → ℕ) → World → Event → Stepped
 step choice w (event.mount found_ms missing_ms minor) =
     unless (nat_lt max_validity (max found_ms missing_ms)) refusal.BadTime
@@ -135,7 +135,7 @@ abbrev pub MayChooseFor : (ℕ → ℕ) → World → Option HeldRequest → Typ
 MayChooseFor choice w None = Unit {0}
 MayChooseFor choice w (Some taken) = MayChoose choice w.server.nodes (files_given w.server taken)
 
--- The same for an event: only performing a request gives nodes.
+-- Which ids the server may choose in an event: only performing a request gives nodes.
 abbrev pub MayStep : (ℕ → ℕ) → World → Event → Type 0
 MayStep choice w (event.perform unique) = MayChooseFor choice w (get w.server.held unique)
 MayStep choice w event = Unit {0}
@@ -148,7 +148,7 @@ Happens w event outcome after = (choice : ℕ → ℕ) × MayStep choice w event
 abbrev pub IsRefused : World → Event → Refusal → Type 0
 IsRefused w event refusal = (choice : ℕ → ℕ) → MayStep choice w event → step choice w event ≡ Err refusal
 
--- Whether an event may want memory: these six never do, as their room was made before. (this project's rule)
+-- Whether an event may take memory: these six never do, as their room was made before. (this project's rule)
 abbrev pub takes_memory : Event → Bool
 takes_memory (event.settle k) = false
 takes_memory (event.intr call fatal) = false
@@ -160,7 +160,7 @@ takes_memory other = true
 
 -- Out of memory: this is the last refusal, of an event that takes memory and that nothing else refuses.
 pub record OutOfMemory (w : World) (event : Event) (refusal : Refusal) : Type 0 where
-  pub wanting : refusal ≡ NoMemory
+  pub out_of_memory : refusal ≡ NoMemory
   pub takes : takes_memory event ≡ true
   pub last : (other : Refusal) → IsRefused w event other → ⊥
 

@@ -70,7 +70,7 @@ forget_body [] = batch_forget []
 forget_body (f ∷ []) = forget f
 forget_body (f ∷ g ∷ fs) = batch_forget (f ∷ g ∷ fs)
 
--- So many forgets go onto the request link as one request, which draws a number. (this project's rule)
+-- This many forgets go onto the request link as one request, which allocates a number. (this project's rule)
 abbrev pub world_after_read_forgets : World → ℕ → List Forget → World
 world_after_read_forgets w n read =
     requesting (record w {
@@ -148,7 +148,7 @@ after_drop w directory name =
       };
     }
 
--- The kernel gives a node up, and its whole count is to be forgotten. (libfuse, low-level: forget)
+-- The kernel evicts a node, and its whole count is to be forgotten. (libfuse, low-level: forget)
 abbrev pub after_evict : World → ℕ → Counted → World
 after_evict w node counted = record w { kernel = evicted w.kernel node counted }
 

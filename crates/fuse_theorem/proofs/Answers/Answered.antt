@@ -24,12 +24,12 @@ use Rattle.fuse_spec.specs.Kernel.Messages.{RequestBody}
 use Rattle.fuse_spec.specs.Kernel.Kernel.{Kernel, is_live, is_aborted, asked_by, body_of, is_for}
 use Rattle.fuse_spec.specs.World.Worlds.{World}
 use Rattle.fuse_spec.specs.Reference.Plain.{Plain, Ask}
-use Rattle.fuse_spec.specs.Claim.Denotes.{MeansIn, MeansOpenIn}
+use Rattle.fuse_spec.specs.Claim.Denotes.{NodeDenotesIn, OpenDenotesIn}
 use Rattle.fuse_spec.specs.Claim.Alike.{RequestBodyAsked, PurposeAsked, Alike}
 use Rattle.fuse_spec.proofs.QueueReadings.{pending-answer, request_under-without, request_under-without_other, key_count-le-one}
 use Rattle.fuse_theorem.specs.Numbering.{IsNumbered}
 use Rattle.fuse_theorem.proofs.Calls.Finding.{other_is, found_entry, find_beside}
-use Rattle.fuse_theorem.proofs.Refining.Queuing.{QueuesStay}
+use Rattle.fuse_theorem.proofs.Refining.Queuing.{QueuesKept}
 
 -- what a request asks is a matter of the calls alone
 pub same_asked : (k l : Kernel) → k.vfs ≡ l.vfs → (purpose : Purpose) → body_of k purpose ≡ body_of l purpose
@@ -86,7 +86,7 @@ module _ (w : World) (p : Plain) (numbered : IsNumbered w) (same : Alike w p) (l
           (λ (x : Purpose). is_for ask.call x) is_waiting.serves ∙ no_call ask.call))
 
   -- .. and all stays alike as it ends
-  pub ended_stay : ((call : ℕ) → is_for call purpose ≡ false) → QueuesStay w p q1
+  pub ended_stay : ((call : ℕ) → is_for call purpose ≡ false) → QueuesKept w p q1
   ended_stay no_call = record {
     pending = subst (All (PurposeAsked w p)) (sym same_pending) same.requests.pending;
     same_request = λ call.
@@ -130,7 +130,7 @@ module _ (w : World) (live : is_live w.kernel.phase ≡ true) where
       pending = λ i e lt.
           let entry = get_or (pending w.kernel.queues) i e in
           subst (λ (o : Option RequestBody). MatchOption o ⊥
-          (RequestBodyAsked p.asks entry.0 (is_signalled entry.1.mark) false (MeansIn w) (MeansOpenIn w)))
+          (RequestBodyAsked p.asks entry.0 (is_signalled entry.1.mark) false (NodeDenotesIn w) (OpenDenotesIn w)))
           (sym (same_asked ready_kernel w.kernel refl entry.1.kept)) (same.requests.pending i e lt);
       sent = same.requests.sent;
       held = same.requests.held;

@@ -22,7 +22,7 @@ use Rattle.fuse_spec.specs.Files.Operations.{Operation, done, failed, files_in_r
 use Rattle.fuse_spec.specs.Kernel.QueueCalls.{waiting, without, after_interrupt, interrupt_effect}
 use Rattle.fuse_spec.specs.Kernel.Queues.{QueueState}
 use Rattle.fuse_spec.specs.Kernel.Replies.{kernel_reply, looked_up, Use, usable, unusable, stale, goes_with, is_agreement, judged, replied, replied_to_call, ended_by, request_reply_written, interrupt_reply_written, interrupt_replied, reply_written, reply_received, without_stale, reply_judged, use_of_reply, made_ready}
-use Rattle.fuse_spec.specs.Calls.Vfs.{asked, CallState, walking, doing, using, Vfs, Advance, answered, begun, all_answered, given_up}
+use Rattle.fuse_spec.specs.Calls.Vfs.{asked, CallState, walking, doing, using, Vfs, Advance, answered, begun, all_answered, abandoned}
 use Rattle.fuse_spec.specs.Server.Taking.{taking}
 use Rattle.fuse_spec.specs.Server.Performs.{served}
 use Rattle.fuse_spec.specs.World.Worlds.{World, first_world}
@@ -53,7 +53,7 @@ pub data CallsMove (begins : Bool) (c d : Vfs Opened) : Type 0 where
       → CallsMove begins c d
 
 -- The calls stay sound, and a call whose answer was collected stays so.
-pub record CallsStay (begins : Bool) (c d : Vfs Opened) : Type 0 where
+pub record CallsKept (begins : Bool) (c d : Vfs Opened) : Type 0 where
   pub sound : AnswersSound d
   pub still_collected : (call : ℕ) → IsCollected c call → IsCollected d call
   pub moves : CallsMove begins c d
@@ -66,13 +66,13 @@ begins_call other = false
 -- ---- the calls alone
 
 module _ (c : Vfs Opened) (sound : AnswersSound c) where
-  pub as_they_were : CallsStay false c c
+  pub as_they_were : CallsKept false c c
   as_they_were = record { sound = sound; still_collected = λ call before. before; moves = all_stay refl refl }
 
   -- One call takes a step, which is not one whose answer was collected.
   stepped : (coming call : ℕ) (d : Vfs Opened) → ChangesOnly c.calls c.answers coming call d → call < coming
       → c.next_call ≤ coming → get c.answers call ≡ None → ((q : ℕ) → IsCollected c q → q ≢ call) → (begins : Bool)
-      → CallsMove begins c d → CallsStay begins c d
+      → CallsMove begins c d → CallsKept begins c d
   stepped coming call d alone low later none apart begins moves = record {
     sound = record {
       one = λ q a at. elim (cases_eq q call) [
@@ -100,7 +100,7 @@ module _ (c : Vfs Opened) (sound : AnswersSound c) where
     moves = moves;
   }
 
-  begins : (aborted : Bool) (call : Call) → length c.calls < max_calls → CallsStay true c (begun aborted c call).vfs
+  begins : (aborted : Bool) (call : Call) → length c.calls < max_calls → CallsKept true c (begun aborted c call).vfs
   begins aborted call room =
       let alone = begun_changes aborted c call in
       stepped (c.next_call + 1) c.next_call (begun aborted c call).vfs alone (omega arith) (omega arith)
@@ -109,7 +109,7 @@ module _ (c : Vfs Opened) (sound : AnswersSound c) where
       (one_begins refl room alone.other_calls)
 
   call_changes : (call : ℕ) (state : CallState Opened) → get c.calls call ≡ Some state → (d : Vfs Opened)
-      → ChangesCall c call d → CallsStay false c d
+      → ChangesCall c call d → CallsKept false c d
   call_changes call state there d alone =
       stepped c.next_call call d alone (low (nat_lt call c.next_call) refl) (omega arith)
       (unanswered (get c.answers call) refl)
@@ -137,9 +137,9 @@ answers_left a (e ∷ calls) answers call none = get_put (all_answered a calls a
     by true there rest = absurd (cc (there))
     by false there rest = rest there
 
--- Everything is given up: the unanswered calls are answered.
-gives_up : (c : Vfs Opened) → AnswersSound c → CallsStay false c (given_up c)
-gives_up c sound = record {
+-- Everything is abandoned: the unanswered calls are answered.
+abandons : (c : Vfs Opened) → AnswersSound c → CallsKept false c (abandoned c)
+abandons c sound = record {
   sound = record {
     one = λ call a at. refl;
     calls_below = λ call le. refl;
@@ -181,27 +181,27 @@ closing_vfs k (Some file) = idle_vfs (record k { closing = put k.closing file.0 
 
 module _ (k : Kernel) (sound : AnswersSound k.vfs) where
   -- A call begins.
-  call_begins : (call : Call) → length k.vfs.calls < max_calls → CallsStay true k.vfs (call_begun k call).vfs
+  call_begins : (call : Call) → length k.vfs.calls < max_calls → CallsKept true k.vfs (call_begun k call).vfs
   call_begins call room =
       let next = begun (is_aborted k.phase) k.vfs call in
       let asking = advanced k k.vfs.next_call next in
-      subst (λ (d : Vfs Opened). CallsStay true k.vfs d)
+      subst (λ (d : Vfs Opened). CallsKept true k.vfs d)
       (sym (closing_vfs asking (cond (is_aborted k.phase) None
       (closed_by k.vfs.opens call)) ∙ advanced_vfs k k.vfs.next_call next))
       (begins k.vfs sound (is_aborted k.phase) call room)
 
   -- A call is answered, and then its file released.
   used_after : (call : ℕ) (state : CallState Opened) → get k.vfs.calls call ≡ Some state → (q : Kernel)
-      → ChangesCall k.vfs call q.vfs → CallsStay false k.vfs (after_use q state).vfs
-  used_after call state there q alone = subst (λ (d : Vfs Opened). CallsStay false k.vfs d) (sym (used_vfs q state))
+      → ChangesCall k.vfs call q.vfs → CallsKept false k.vfs (after_use q state).vfs
+  used_after call state there q alone = subst (λ (d : Vfs Opened). CallsKept false k.vfs d) (sym (used_vfs q state))
       (call_changes k.vfs sound call state there q.vfs alone)
 
   -- A signal reaches a call.
   call_signals : (call : ℕ) (state : CallState Opened) (fatal : Bool) → get k.vfs.calls call ≡ Some state
-      → CallsStay false k.vfs (call_signalled k call state fatal).1.vfs
+      → CallsKept false k.vfs (call_signalled k call state fatal).1.vfs
   call_signals call state fatal there = by (request_of k call)
     where
-      effect : (unique : ℕ) (x : IntrEffect) → CallsStay false k.vfs
+      effect : (unique : ℕ) (x : IntrEffect) → CallsKept false k.vfs
           (after_signal (record k { queues = after_interrupt k.queues unique fatal }) call state x).vfs
       effect unique Dequeued = used_after call state there
           (record k { queues = after_interrupt k.queues unique fatal; vfs = answered k.vfs call (answer.failed 4) })
@@ -210,7 +210,7 @@ module _ (k : Kernel) (sound : AnswersSound k.vfs) where
       effect unique Queued = as_they_were k.vfs sound
       effect unique NoEffect = as_they_were k.vfs sound
 
-      by : (o : Option ℕ) → CallsStay false k.vfs (signalled_at k call state fatal o).1.vfs
+      by : (o : Option ℕ) → CallsKept false k.vfs (signalled_at k call state fatal o).1.vfs
       by None = as_they_were k.vfs sound
       by (Some unique) = effect unique (interrupt_effect k.queues unique fatal)
 
@@ -226,11 +226,11 @@ module _ (k : Kernel) (sound : AnswersSound k.vfs) where
 
   -- A reply reaches a call.
   call_receives : (call : ℕ) (wire : WireReply) (o : Option (CallState Opened)) → get k.vfs.calls call ≡ o
-      → CallsStay false k.vfs (replied_to_call k call wire o).1.vfs
+      → CallsKept false k.vfs (replied_to_call k call wire o).1.vfs
   call_receives call wire None there = as_they_were k.vfs sound
   call_receives call wire (Some state) there = by (goes_with (asked state) wire)
     where
-      by : (b : Bool) → CallsStay false k.vfs (replied k call state b wire).1.vfs
+      by : (b : Bool) → CallsKept false k.vfs (replied k call state b wire).1.vfs
       by true = used_after call state there (reply_received k call state wire)
           (judged_changes (without_stale k wire).queues call state (reply_judged k.nodes wire)
           (use_of_reply k.nodes wire))
@@ -239,32 +239,32 @@ module _ (k : Kernel) (sound : AnswersSound k.vfs) where
 
 -- A reply is written.
 reply_receives : (k : Kernel) → AnswersSound k.vfs → (unique : ℕ) (wire : WireReply)
-    → CallsStay false k.vfs (reply_written k unique wire).1.vfs
+    → CallsKept false k.vfs (reply_written k unique wire).1.vfs
 reply_receives k sound unique wire = by (nat_eq (unique % 2) 1)
   where
-    ended : (q : Kernel) (kept : Purpose) → AnswersSound q.vfs → CallsStay false q.vfs (ended_by q kept wire).1.vfs
+    ended : (q : Kernel) (kept : Purpose) → AnswersSound q.vfs → CallsKept false q.vfs (ended_by q kept wire).1.vfs
     ended q purpose.Init s = agreed_or (is_agreement wire)
       where
-        agreed_or : (b : Bool) → CallsStay false q.vfs (cond b (made_ready q wire) (kernel_aborted q)).vfs
+        agreed_or : (b : Bool) → CallsKept false q.vfs (cond b (made_ready q wire) (kernel_aborted q)).vfs
         agreed_or true = as_they_were q.vfs s
-        agreed_or false = gives_up q.vfs s
+        agreed_or false = abandons q.vfs s
     ended q (purpose.Release o) s = as_they_were q.vfs s
     ended q (purpose.Call call) s = call_receives q s call wire (get q.vfs.calls call) refl
 
-    even : (o : Option Purpose) → CallsStay false k.vfs (request_reply_written k unique wire o).1.vfs
+    even : (o : Option Purpose) → CallsKept false k.vfs (request_reply_written k unique wire o).1.vfs
     even None = as_they_were k.vfs sound
     even (Some kept) = ended (record k { queues = without k.queues unique }) kept sound
 
-    interrupts : (x : WireReply) → CallsStay false k.vfs (interrupt_replied k (unique - 1) x).1.vfs
+    interrupts : (x : WireReply) → CallsKept false k.vfs (interrupt_replied k (unique - 1) x).1.vfs
     interrupts (failed errno) = as_they_were k.vfs sound
     interrupts done = as_they_were k.vfs sound
     interrupts x = as_they_were k.vfs sound
 
-    odd : (o : Option Purpose) → CallsStay false k.vfs (interrupt_reply_written k unique wire o).1.vfs
+    odd : (o : Option Purpose) → CallsKept false k.vfs (interrupt_reply_written k unique wire o).1.vfs
     odd None = as_they_were k.vfs sound
     odd (Some kept) = interrupts wire
 
-    by : (b : Bool) → CallsStay false k.vfs (cond b (interrupt_reply_written k unique wire
+    by : (b : Bool) → CallsKept false k.vfs (cond b (interrupt_reply_written k unique wire
         (waiting k.queues (unique - 1))) (request_reply_written k unique wire (waiting k.queues unique))).1.vfs
     by true = odd (waiting k.queues (unique - 1))
     by false = even (waiting k.queues unique)
@@ -273,13 +273,13 @@ reply_receives k sound unique wire = by (nat_eq (unique % 2) 1)
 
 -- A reply that goes out leaves the kernel as it is.
 sent_off : (w : World) → AnswersSound w.kernel.vfs → (number unique : ℕ) (wire : Option WireReply)
-    → CallsStay false w.kernel.vfs (worlds.copy_put w number unique wire).kernel.vfs
+    → CallsKept false w.kernel.vfs (worlds.copy_put w number unique wire).kernel.vfs
 sent_off w sound number unique None = as_they_were w.kernel.vfs sound
 sent_off w sound number unique (Some wire) = as_they_were w.kernel.vfs sound
 
 -- The time and the cached names are no matter of the calls.
 as_before : (c d : Vfs Opened) → AnswersSound c → d.calls ≡ c.calls → d.answers ≡ c.answers → d.next_call ≡ c.next_call
-    → CallsStay false c d
+    → CallsKept false c d
 as_before c d sound calls answers coming = record {
   sound = record {
     one = λ call a at. ap (λ (m : Map (CallState Opened)). get m call) calls ∙ sound.one call a
@@ -298,8 +298,8 @@ as_before c d sound calls answers coming = record {
 }
 
 by_event : (choice : ℕ → ℕ) (w : World) → AnswersSound w.kernel.vfs → (e : Event) (o : Outcome) (after : World)
-    → Happened choice w e o after → CallsStay (begins_call e) w.kernel.vfs after.kernel.vfs
-by_event choice w s e o after (by_mount f m v idle) = gives_up w.kernel.vfs s
+    → Happened choice w e o after → CallsKept (begins_call e) w.kernel.vfs after.kernel.vfs
+by_event choice w s e o after (by_mount f m v idle) = abandons w.kernel.vfs s
 by_event choice w s e o after (by_call call ready room within) =
     call_begins w.kernel s (for_minor w.kernel.lists_files call) (grind (arith, nat_tests, room))
 by_event choice w s e o after (by_read_interrupt original rest live there within) = as_they_were w.kernel.vfs s
@@ -321,11 +321,11 @@ by_event choice w s e o after (by_tick ms timely) = as_before w.kernel.vfs after
 by_event choice w s e o after (by_drop directory name bound live there) =
     as_before w.kernel.vfs after.kernel.vfs s refl refl refl
 by_event choice w s e o after (by_evict node counted live there unused) = as_they_were w.kernel.vfs s
-by_event choice w s e o after (by_abort live) = gives_up w.kernel.vfs s
+by_event choice w s e o after (by_abort live) = abandons w.kernel.vfs s
 
 -- The calls stay sound, and a call whose answer was collected stays so, whatever the event.
 pub calls_stay : (w : World) → AnswersSound w.kernel.vfs → (e : Event) (o : Outcome) (after : World)
-    → Happens w e o after → CallsStay (begins_call e) w.kernel.vfs after.kernel.vfs
+    → Happens w e o after → CallsKept (begins_call e) w.kernel.vfs after.kernel.vfs
 calls_stay w sound e o after happens = by_event happens.0 w sound e o after (happened happens.0 w o after e happens.2)
 
 -- So they do as all answers are collected.

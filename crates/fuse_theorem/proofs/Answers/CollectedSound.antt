@@ -121,7 +121,7 @@ module _ (w : World) (answers : Map Answer) (sorted : T (is_sorted nat_cmp answe
                         let of_it = was.interrupted live stage in
                         record {
                           even = of_it.even;
-                          drawn = of_it.drawn;
+                          allocated = of_it.allocated;
                           marked = of_it.marked;
                           of_call = of_it.of_call;
                         };

@@ -22,7 +22,7 @@ use Rattle.fuse_spec.specs.Files.Operations.{Operation, getattr, mkdir, create, 
 use Rattle.fuse_spec.specs.Kernel.QueueCalls.{waiting, without, after_interrupt, interrupt_effect}
 use Rattle.fuse_spec.specs.Kernel.Queues.{QueueState}
 use Rattle.fuse_spec.specs.Kernel.Replies.{kernel_reply, Use, usable, unusable, stale, goes_with, is_agreement, judged, replied, replied_to_call, ended_by, request_reply_written, interrupt_reply_written, interrupt_replied, reply_written, looked_up, reply_received, without_stale, reply_judged, use_of_reply, made_ready}
-use Rattle.fuse_spec.specs.Calls.Vfs.{asked, CallState, walking, doing, using, Vfs, answered, asking, look, numbered, bound, begun, after_beginning, after_walk, all_answered, given_up}
+use Rattle.fuse_spec.specs.Calls.Vfs.{asked, CallState, walking, doing, using, Vfs, answered, asking, look, numbered, bound, begun, after_beginning, after_walk, all_answered, abandoned}
 use Rattle.fuse_spec.specs.Calls.Walks.{Walked, looks_up, finds_none, asks, walk}
 use Rattle.fuse_spec.specs.Server.Taking.{taking}
 use Rattle.fuse_spec.specs.Server.Performs.{served}
@@ -77,8 +77,8 @@ answered_more c call a = omega (arith, length_put c.answers call a, length_remov
 asking_more : (c : Vfs Opened) (call : ℕ) (state : CallState Opened) → OneMore c (asking c call state).vfs
 asking_more c call state = omega (arith, length_put c.calls call state)
 
-given_up_more : (c : Vfs Opened) → OneMore c (given_up c)
-given_up_more c = omega (arith, length_all (answer.failed 103) c.calls c.answers)
+abandoned_more : (c : Vfs Opened) → OneMore c (abandoned c)
+abandoned_more c = omega (arith, length_all (answer.failed 103) c.calls c.answers)
 
 walked_more : (c : Vfs Opened) (call : ℕ) (x : Walked ℕ Opened) → OneMore c (after_walk c call x).vfs
 walked_more c call (looks_up d word words plan) = asking_more c call (walking d word words plan)
@@ -184,7 +184,7 @@ written_more k unique wire = by (nat_eq (unique % 2) 1)
       where
         agreed_or : (b : Bool) → OneMore q.vfs (cond b (made_ready q wire) (kernel_aborted q)).vfs
         agreed_or true = as_many q.vfs
-        agreed_or false = given_up_more q.vfs
+        agreed_or false = abandoned_more q.vfs
     ended q (purpose.Release o) = as_many q.vfs
     ended q (purpose.Call call) = receives_more q call wire (get q.vfs.calls call)
 
@@ -215,7 +215,7 @@ sent_more w number unique (Some wire) = as_many w.kernel.vfs
 
 by_event : (choice : ℕ → ℕ) (w : World) (e : Event) (o : Outcome) (after : World) → Happened choice w e o after
     → OneMore w.kernel.vfs after.kernel.vfs
-by_event choice w e o after (by_mount f m v idle) = given_up_more w.kernel.vfs
+by_event choice w e o after (by_mount f m v idle) = abandoned_more w.kernel.vfs
 by_event choice w e o after (by_call call ready room within) = begins_more w.kernel (for_minor w.kernel.lists_files call)
 by_event choice w e o after (by_read_interrupt original rest live there within) = as_many w.kernel.vfs
 by_event choice w e o after (by_read_forgets n live free can within few) = as_many w.kernel.vfs
@@ -236,7 +236,7 @@ by_event choice w e o after (by_signal call fatal state live there within) = sig
 by_event choice w e o after (by_tick ms timely) = as_many w.kernel.vfs
 by_event choice w e o after (by_drop directory name bound live there) = as_many w.kernel.vfs
 by_event choice w e o after (by_evict node counted live there unused) = as_many w.kernel.vfs
-by_event choice w e o after (by_abort live) = given_up_more w.kernel.vfs
+by_event choice w e o after (by_abort live) = abandoned_more w.kernel.vfs
 
 -- After any event at most one call more is unanswered or has an answer that waits.
 pub one_more_waits : (w : World) (e : Event) (o : Outcome) (after : World) → Happens w e o after

@@ -1,5 +1,5 @@
 -- A step of a call changes no other unanswered call, and what it asks is what the call waits for from then on. Only the
--- beginning of a call draws a number.
+-- beginning of a call allocates a number.
 use Rattle.std.proofs.Common.{◌≡◌, ◌≢◌, ℕ, ◌+◌, Bool, true, false, List, Option, Some, None, refl, ap, ◌∙◌}
 use Rattle.fuse_spec.specs.Values.Maps.{Map, get, remove}
 use Rattle.fuse_spec.specs.Calls.Paths.{Name}

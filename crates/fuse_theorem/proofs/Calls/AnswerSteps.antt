@@ -20,7 +20,7 @@ pub record ChangesOnly (calls : Map (CallState Opened)) (answers : Map Answer) (
   pub one : get answers call ≡ None → (a : Answer) → get d.answers call ≡ Some a → get d.calls call ≡ None
   pub coming_call : d.next_call ≡ coming
 
--- A call changes so, and draws no number.
+-- A call changes so, and allocates no number.
 abbrev pub ChangesCall : Vfs Opened → ℕ → Vfs Opened → Type 0
 ChangesCall c call d = ChangesOnly c.calls c.answers c.next_call call d
 
@@ -52,7 +52,7 @@ beginning_changes c call (sets_out words plan) = walked_changes c call (walk (lo
 beginning_changes c call (uses open_call operation) = asking_changes c call (using open_call operation)
 beginning_changes c call (closes open_call o) = answered_changes (record c { opens = remove c.opens open_call }) call _
 
--- A call begins, and draws its number.
+-- A call begins, and allocates its number.
 pub begun_changes : (aborted : Bool) (c : Vfs Opened) (call : Call)
     → ChangesOnly c.calls c.answers (c.next_call + 1) c.next_call (begun aborted c call).vfs
 begun_changes true c call = answered_changes (numbered c) c.next_call _

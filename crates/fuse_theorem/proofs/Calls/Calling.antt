@@ -18,7 +18,7 @@ use Rattle.fuse_spec.specs.Kernel.Refusals.{is_ready}
 use Rattle.fuse_spec.specs.World.Events as event
 use Rattle.fuse_spec.specs.Reference.Plain.{Plain, Ask, going_on, plain_call_put}
 use Rattle.fuse_spec.specs.Reference.PlainSteps.{Takes, where_so}
-use Rattle.fuse_spec.specs.Claim.Denotes.{MeansIn, MeansOpenIn}
+use Rattle.fuse_spec.specs.Claim.Denotes.{NodeDenotesIn, OpenDenotesIn}
 use Rattle.fuse_spec.specs.Claim.Alike.{PurposeAsked, Alike}
 use Rattle.fuse_theorem.specs.Numbering.{IsOneToOne, IsNumbered, IsNumberedWhileLive, requests_for}
 use Rattle.fuse_theorem.proofs.Calls.Finding.{same_is, absent}
@@ -69,7 +69,7 @@ ready_is Starting ready live = absurd (cc)
 ready_is Ready ready live = refl
 ready_is Aborted ready live = absurd (cc)
 
-module _ (w : World) (p : Plain) (numbering : IsNumbered w) (one : IsOneToOne (MeansIn w)) (same : Alike w p) where
+module _ (w : World) (p : Plain) (numbering : IsNumbered w) (one : IsOneToOne (NodeDenotesIn w)) (same : Alike w p) where
   pub none_new : requests_for w.kernel.vfs.next_call w.kernel.queues ≡ 0
   none_new =
       let c = w.kernel.vfs.next_call in
@@ -102,7 +102,7 @@ module _ (w : World) (p : Plain) (numbering : IsNumbered w) (one : IsOneToOne (M
   call_alike call label true ready is labelled =
       next_request_refines w p w.kernel.vfs.next_call numbering paused_new one same.tree same.validity same.minor same.agreed
       (w.kernel.vfs.next_call + 1) (begun true w.kernel.vfs call) (begun true p.vfs call)
-      (begin_refines (MeansIn w) (MeansOpenIn w) one w.kernel.vfs p.vfs same.vfs true call)
+      (begin_refines (NodeDenotesIn w) (OpenDenotesIn w) one w.kernel.vfs p.vfs same.vfs true call)
       (begun_alone true w.kernel.vfs call) (λ a e. absurd (cc)) same.aborted
   call_alike call label false ready is labelled =
       subst (λ (l : ℕ). Alike (record w { kernel = closing_of (advanced k c0 next) (closed_by k.vfs.opens call) })
@@ -128,7 +128,7 @@ module _ (w : World) (p : Plain) (numbering : IsNumbered w) (one : IsOneToOne (M
       went =
           next_request_refines w p c0 numbering paused_new one same.tree same.validity same.minor same.agreed (c0 + 1) next
           (begun false p.vfs call)
-          (begin_refines (MeansIn w) (MeansOpenIn w) one k.vfs p.vfs same.vfs false call) (begun_alone false k.vfs call)
+          (begin_refines (NodeDenotesIn w) (OpenDenotesIn w) one k.vfs p.vfs same.vfs false call) (begun_alone false k.vfs call)
           (λ a e. live) same.aborted
 
       by : (o : Option (ℕ × Opened)) → closed_by k.vfs.opens call ≡ o
@@ -184,7 +184,7 @@ not_live Starting aborted = sym aborted
 not_live Ready aborted = sym aborted
 not_live Aborted aborted = refl
 
-module _ (w : World) (p : Plain) (one : IsOneToOne (MeansIn w)) (same : Alike w p) (call : Call)
+module _ (w : World) (p : Plain) (one : IsOneToOne (NodeDenotesIn w)) (same : Alike w p) (call : Call)
     (aborted : is_aborted w.kernel.phase ≡ true) (idle : w.kernel.queues ≡ empty_queues) where
   abbrev answered_kernel : Kernel
   answered_kernel = record w.kernel { vfs = vfs_of (begun true w.kernel.vfs call) }
@@ -195,7 +195,7 @@ module _ (w : World) (p : Plain) (one : IsOneToOne (MeansIn w)) (same : Alike w 
   -- The call is answered at once, in both worlds.
   answered_alike : Alike (record w { kernel = answered_kernel }) answered_plain
   answered_alike =
-      let begins = begin_refines (MeansIn w) (MeansOpenIn w) one w.kernel.vfs p.vfs same.vfs true call in
+      let begins = begin_refines (NodeDenotesIn w) (OpenDenotesIn w) one w.kernel.vfs p.vfs same.vfs true call in
       record {
         tree = same.tree;
         vfs = begins.vfs;
@@ -232,7 +232,7 @@ module _ (w : World) (p : Plain) (one : IsOneToOne (MeansIn w)) (same : Alike w 
       )
 
 -- A call begins, live or after an abort: after that the two are alike again.
-pub call_goes_always : (w : World) (p : Plain) → IsNumberedWhileLive w → IsOneToOne (MeansIn w) → Alike w p
+pub call_goes_always : (w : World) (p : Plain) → IsNumberedWhileLive w → IsOneToOne (NodeDenotesIn w) → Alike w p
     → (call : Call) → is_ready w.kernel.phase ≡ true
     → (q : Plain) × Takes p (event.call call) (event.begun w.kernel.vfs.next_call) q × Alike (after_call w call) q
 call_goes_always w p numbered one same call ready = by (is_aborted w.kernel.phase) refl

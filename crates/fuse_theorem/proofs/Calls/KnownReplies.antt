@@ -1,5 +1,5 @@
 -- What a call begins with, and what it receives, names known nodes.
-use Rattle.fuse_theorem.proofs.Refining.Pairs.{told_files_with}
+use Rattle.fuse_theorem.proofs.Refining.Pairs.{listed_files_with}
 use Rattle.std.proofs.Common.{◌≡◌, ℕ, Bool, true, false, cond, List, [], ◌∷◌, Option, Some, None, Result, Ok, Err, length, refl, subst, All, map, sym}
 use Rattle.std.specs.Prelude.{nat_lt, ◌||◌}
 use Rattle.std.proofs.lemmas.List.Elements.{All-nil, All-cons, All-head, All-tail, All-map}
@@ -168,7 +168,7 @@ module _ (nodes : Map Counted) where
     operation_known (op.readdir d after size) (op.listed records) h k = answered_known nodes c old call _
     operation_known (op.readdirplus d after size) (op.listed_plus pairs) h k =
         let ids = map (op.pair_with (λ (g : Entry). g.nodeid)) pairs in
-        let known = subst (All (IsKnown nodes)) (sym (told_files_with (λ (g : Entry). g.nodeid) pairs))
+        let known = subst (All (IsKnown nodes)) (sym (listed_files_with (λ (g : Entry). g.nodeid) pairs))
         (All-map (IsKnown nodes) (λ (g : Entry). g.nodeid) (op.files_listed pairs) k) in
         answered_known nodes _ (all_bound_known d (head d [] h) ids c old known) call _
     operation_known (op.read o offset size) (op.content bytes) h k = answered_known nodes c old call _

@@ -1,4 +1,4 @@
--- Operations that are alike stay alike where what their files mean is said in another way.
+-- Operations that are alike stay alike where what their nodes denote is said in another way.
 use Rattle.std.proofs.Common.{◌≡◌, ℕ, zero, suc, List, [], ◌∷◌, ◌++◌, Option, Some, None, map, refl, ap, subst, ◌∙◌, arith}
 use Rattle.std.specs.Prelude.{Contains, option_to_list}
 use Rattle.fuse_spec.specs.Files.Operations.{Operation, lookup, getattr, mkdir, create, unlink, rmdir, rename, link, opening, readdir, readdirplus, read, write, files_in, opened_nodes, OptionAlike, OperationAlike}
@@ -8,9 +8,9 @@ use Rattle.fuse_spec.specs.Values.Maps.{Map}
 use Rattle.fuse_spec.specs.Claim.Counts.{opens_of}
 use Rattle.fuse_spec.specs.Server.Nodes.{NodeTable, HandleTable, row_of}
 use Rattle.fuse_spec.specs.Server.Server.{generation_in}
-use Rattle.fuse_spec.specs.Claim.Denotes.{FinalAlike, Means, MeansOpen}
+use Rattle.fuse_spec.specs.Claim.Denotes.{FinalAlike, NodeDenotes, OpenDenotes}
 use Rattle.fuse_spec.specs.Calls.Walks.{FinalOperation, last, files_of_plan}
-use Rattle.fuse_spec.specs.Claim.Alike.{Meant, MeantOpen}
+use Rattle.fuse_spec.specs.Claim.Alike.{StillDenotes, OpenStillDenotes}
 
 pub first_of : {X : Type 0} (x : X) (xs : List X) → Contains (x ∷ xs) x
 first_of x xs = (0, omega arith, refl)
@@ -99,8 +99,8 @@ module _ (nodes : Map Counted) (t : NodeTable) (h : HandleTable) (ids : List ℕ
   abbrev pub generations_of : List (ℕ × ℕ)
   generations_of = map (λ id. (id, generation_in (row_of t id))) ids
 
-  -- What the kernel's node means is what it meant when the request that names it was taken.
-  pub means_meant : (id file : ℕ) → Contains ids id → Means nodes t id file → Meant t generations_of id file
+  -- What the kernel's node denotes is what it denoted when the request that names it was taken.
+  pub means_meant : (id file : ℕ) → Contains ids id → NodeDenotes nodes t id file → StillDenotes t generations_of id file
   means_meant id file among means =
       let same : generation_in (row_of t id) ≡ means.generation =
       ap generation_in means.denotes.there ∙ means.denotes.same_generation in
@@ -112,9 +112,9 @@ module _ (nodes : Map Counted) (t : NodeTable) (h : HandleTable) (ids : List ℕ
         denotes = means.denotes;
       }
 
-  pub means_open_meant : (o : Opened) (file : ℕ) → Contains ids o.nodeid → MeansOpen nodes t h o file
-      → MeantOpen t h generations_of o file
+  pub means_open_meant : (o : Opened) (file : ℕ) → Contains ids o.nodeid → OpenDenotes nodes t h o file
+      → OpenStillDenotes t h generations_of o file
   means_open_meant o file among means = record {
     node_meant = means_meant o.nodeid file among means.node_means;
-    is_number = means.is_number;
+    is_handle = means.is_handle;
   }

@@ -23,7 +23,7 @@ use Rattle.fuse_spec.proofs.Tables.{get_put_there, get_put_here, get_gone_here, 
 use Rattle.fuse_theorem.specs.OpenNumbers.{UsesOpen}
 use Rattle.fuse_theorem.proofs.Lists.MapSums.{worth}
 use Rattle.fuse_theorem.proofs.OpenFiles.NumberCounts.{number_alone}
-use Rattle.fuse_theorem.proofs.Lists.OpenSums.{has_number}
+use Rattle.fuse_theorem.proofs.Lists.OpenSums.{has_handle}
 use Rattle.fuse_theorem.proofs.OpenFiles.OpensApart.{CallSteps}
 
 -- ---- a call is answered, or waits
@@ -225,7 +225,7 @@ replied_steps c call (using open_call operation) reply = operation_steps c call 
 -- ---- what it opens is what the copy carries
 
 pub gained_counts : (fh : ℕ) (operation : Operation ℕ Opened) (wire : WireReply) → goes_with operation wire ≡ true
-    → worth (has_number fh) (gained_by operation (kernel_reply operation wire)) ≡ opens_in fh wire
+    → worth (has_handle fh) (gained_by operation (kernel_reply operation wire)) ≡ opens_in fh wire
 gained_counts fh (create d name) (created g valid n) goes = number_alone n fh
 gained_counts fh (opening file) (opened n) goes = number_alone n fh
 gained_counts fh operation (created g valid n) goes = absurd (true≢false (sym goes))

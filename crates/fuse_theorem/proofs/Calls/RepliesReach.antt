@@ -172,42 +172,42 @@ module _ {O P : Type 0} (R : ℕ → ℕ → Type 0) (S : O → P → Type 0) (o
         (walk_alike R S (look c) (look d) look_alike c.root d.root same.roots x y words words' plan plan' r e h)
 
   -- What is replied reaches a call of the two worlds alike.
-  told_call_by : (c : Vfs O) (d : Vfs P) → VfsAlike R S c d
+  reply_step_by : (c : Vfs O) (d : Vfs P) → VfsAlike R S c d
       → (call : ℕ) (st : CallState O) (st' : CallState P) (s : Reply ℕ O) (t : Reply ℕ P) → StateAlike R S st st'
       → SameReply R S s t
       → AdvanceAlike (call_replied c call st s) (call_replied d call st' t)
-  told_call_by c d same call (walking x word words plan) (walking y word' words' plan') s t h (same_found f g v w q u) =
+  reply_step_by c d same call (walking x word words plan) (walking y word' words' plan') s t h (same_found f g v w q u) =
       walks_on_alike (bound c x word (Some f) v) (bound d y word' (Some g) w)
       (bound_alike R S one c d same x y word word' (Some f)
       (Some g) v w h.0 h.1 q u) call f g words words' plan plan' q h.2 h.3
-  told_call_by c d same call (walking x word words plan) (walking y word' words' plan') s t h (same_missing v w u) =
+  reply_step_by c d same call (walking x word words plan) (walking y word' words' plan') s t h (same_missing v w u) =
       no_more_alike (answered (bound c x word None v) call (answer.failed 2))
       (answered (bound d y word' None w) call (answer.failed 2))
       (answered_alike R S one (bound c x word None v) (bound d y word' None w)
       (bound_alike R S one c d same x y word word' None None v w h.0 h.1 tt u) call call (answer.failed 2)
       (answer.failed 2) refl refl)
-  told_call_by c d same call (walking x word words plan) (walking y word' words' plan') s t h (same_failed m n u) =
+  reply_step_by c d same call (walking x word words plan) (walking y word' words' plan') s t h (same_failed m n u) =
       no_more_alike (answered c call (answer.failed m)) (answered d call (answer.failed n))
       (answered_alike R S one c d same call call (answer.failed m) (answer.failed n) refl
       (ap (λ (e : ℕ). answer.failed e) u))
-  told_call_by c d same call (doing a) (doing b) s t h k =
+  reply_step_by c d same call (doing a) (doing b) s t h k =
       no_more_alike (operation_replied c call a s) (operation_replied d call b t)
       (listed_by_cases c d same call a b s t (same_operation R S a b h) k)
-  told_call_by c d same call (using n a) (using m b) s t h k =
+  reply_step_by c d same call (using n a) (using m b) s t h k =
       no_more_alike (operation_replied c call a s) (operation_replied d call b t)
       (listed_by_cases c d same call a b s t (same_operation R S a b h.1) k)
-  told_call_by c d same call (walking x word words plan) (walking y word' words' plan') s t h k =
+  reply_step_by c d same call (walking x word words plan) (walking y word' words' plan') s t h k =
       no_more_alike (answered c call (answer.failed 5)) (answered d call (answer.failed 5))
       (answered_alike R S one c d same call call (answer.failed 5) (answer.failed 5) refl refl)
-  told_call_by c d same call (walking x word words plan) (doing b) s t h k = absurd h
-  told_call_by c d same call (walking x word words plan) (using m b) s t h k = absurd h
-  told_call_by c d same call (doing a) (walking y word' words' plan') s t h k = absurd h
-  told_call_by c d same call (doing a) (using m b) s t h k = absurd h
-  told_call_by c d same call (using n a) (walking y word' words' plan') s t h k = absurd h
-  told_call_by c d same call (using n a) (doing b) s t h k = absurd h
+  reply_step_by c d same call (walking x word words plan) (doing b) s t h k = absurd h
+  reply_step_by c d same call (walking x word words plan) (using m b) s t h k = absurd h
+  reply_step_by c d same call (doing a) (walking y word' words' plan') s t h k = absurd h
+  reply_step_by c d same call (doing a) (using m b) s t h k = absurd h
+  reply_step_by c d same call (using n a) (walking y word' words' plan') s t h k = absurd h
+  reply_step_by c d same call (using n a) (doing b) s t h k = absurd h
 
   pub reply_step_refines : (c : Vfs O) (d : Vfs P) → VfsAlike R S c d
       → (call : ℕ) (st : CallState O) (st' : CallState P) (s : Reply ℕ O) (t : Reply ℕ P) → StateAlike R S st st'
       → ReplyAlike R S s t
       → AdvanceAlike (call_replied c call st s) (call_replied d call st' t)
-  reply_step_refines c d same call st st' s t h k = told_call_by c d same call st st' s t h (same_reply R S s t k)
+  reply_step_refines c d same call st st' s t h k = reply_step_by c d same call st st' s t h (same_reply R S s t k)

@@ -1,4 +1,4 @@
--- Calls begin alike in the two worlds; both give up alike; time passes alike; names leave alike.
+-- Calls begin alike in the two worlds; both abandon everything alike; time passes alike; names leave alike.
 use Rattle.std.proofs.Common.{ℕ, ◌+◌, Bool, true, false, refl, ap, subst}
 use Rattle.fuse_spec.specs.Values.Maps.{remove}
 use Rattle.fuse_spec.specs.Calls.Calls.{Call}

@@ -62,46 +62,46 @@ module _ (f : Opened → ℕ) where
 
 -- ---- the weight that counts a number
 
-abbrev pub has_number : ℕ → Opened → ℕ
-has_number fh o = cond (nat_eq o.fh fh) 1 0
+abbrev pub has_handle : ℕ → Opened → ℕ
+has_handle fh o = cond (nat_eq o.fh fh) 1 0
 
 -- How often copies carry the number, refused ones among them.
 abbrev pub copies_carry : ℕ → World → ℕ
 copies_carry fh w = sum_by (λ (s : Sent). opens_in fh s.wire) w.replies + sum_by
     (result_carries (opens_in fh) w.server) w.results
 
-releases_for_is : (fh : ℕ) (kept : Purpose) → sum_by (has_number fh) (released_for kept) ≡ releases_for fh kept
+releases_for_is : (fh : ℕ) (kept : Purpose) → sum_by (has_handle fh) (released_for kept) ≡ releases_for fh kept
 releases_for_is fh purpose.Init = refl
-releases_for_is fh (purpose.Release o) = let one = sum_by-cons (has_number fh) o [] in omega (arith, one)
+releases_for_is fh (purpose.Release o) = let one = sum_by-cons (has_handle fh) o [] in omega (arith, one)
 releases_for_is fh (purpose.Call call) = refl
 
-releases_in_is : (fh : ℕ) (body : RequestBody) → sum_by (has_number fh) (released_by body) ≡ releases_in fh body
+releases_in_is : (fh : ℕ) (body : RequestBody) → sum_by (has_handle fh) (released_by body) ≡ releases_in fh body
 releases_in_is fh (init flags) = refl
 releases_in_is fh (asks operation) = refl
-releases_in_is fh (release o) = let one = sum_by-cons (has_number fh) o [] in omega (arith, one)
+releases_in_is fh (release o) = let one = sum_by-cons (has_handle fh) o [] in omega (arith, one)
 releases_in_is fh (forget f) = refl
 releases_in_is fh (batch_forget fs) = refl
 releases_in_is fh (interrupt original) = refl
 
 -- What the balance counts: open files, and what copies carry.
 pub balance_counts : (w : World) (fh : ℕ) → open_in_kernel w.kernel fh + open_in_flight w fh
-    ≡ sum_by (has_number fh) (open_files w) + copies_carry fh w
+    ≡ sum_by (has_handle fh) (open_files w) + copies_carry fh w
 balance_counts w fh =
-    let whole = open_sum (has_number fh) w in
-    let both = sum_by-append (has_number fh) (values w.kernel.vfs.opens) (values w.kernel.closing) in
-    let waits = sum_same (λ (e : ℕ × QueuedRequest Purpose). sum_by (has_number fh) (released_for e.1.kept))
+    let whole = open_sum (has_handle fh) w in
+    let both = sum_by-append (has_handle fh) (values w.kernel.vfs.opens) (values w.kernel.closing) in
+    let waits = sum_same (λ (e : ℕ × QueuedRequest Purpose). sum_by (has_handle fh) (released_for e.1.kept))
     (λ (e : ℕ × QueuedRequest Purpose). releases_for fh e.1.kept) (pending w.kernel.queues)
     (λ i d lt. releases_for_is fh _) in
-    let sent = sum_same (λ (r : Request). sum_by (has_number fh) (released_by r.body))
+    let sent = sum_same (λ (r : Request). sum_by (has_handle fh) (released_by r.body))
     (λ (r : Request). releases_in fh r.body) w.requests (λ i d lt. releases_in_is fh _) in
-    let held = sum_same (λ (t : HeldRequest). sum_by (has_number fh) (released_by t.body))
+    let held = sum_same (λ (t : HeldRequest). sum_by (has_handle fh) (released_by t.body))
     (λ (t : HeldRequest). releases_in fh t.body) (values w.server.held) (λ i d lt. releases_in_is fh _) in
     omega (arith, whole, both, waits, sent, held)
 
 -- The balance, so counted.
 abbrev pub CountsOpens : World → Type 0
 CountsOpens w = (fh : ℕ) → handle_count (get w.server.handles.handles fh)
-    ≡ sum_by (has_number fh) (open_files w) + copies_carry fh w
+    ≡ sum_by (has_handle fh) (open_files w) + copies_carry fh w
 
 pub counts_opens : (w : World) → OpenBalance w → CountsOpens w
 counts_opens w old fh = old fh ∙ balance_counts w fh

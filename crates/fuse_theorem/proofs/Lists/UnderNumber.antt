@@ -1,4 +1,4 @@
--- What is true of the request under a number, and of each entry that bears the number.
+-- What is true of the request under a number, and of each entry that has the number.
 use Rattle.std.proofs.Common.{◌≡◌, ℕ, ◌+◌, ◌≤◌, Bool, true, false, true≢false, cond, List, [], ◌∷◌, Some, nat_eq, refl, ap, sym, ◌∙◌, arith, All}
 use Rattle.std.specs.Map.{lookup}
 use Rattle.std.proofs.lemmas.List.Elements.{All-nil, All-cons}
@@ -8,7 +8,7 @@ use Rattle.fuse_theorem.proofs.Calls.Finding.{same_is, none_passes}
 abbrev one_if : Bool → ℕ
 one_if b = cond b 1 0
 
--- A number that stands once at most: what is true of what stands under it is true of each entry that bears it.
+-- A number that stands once at most: what is true of what stands under it is true of each entry that has it.
 pub of_entries : {X : Type 0} (P : X → Type 0) (u : ℕ) (es : List (ℕ × X)) → key_count u es ≤ 1
     → ((x : X) → lookup (nat_eq u) es ≡ Some x → P x) → All (λ (e : ℕ × X). e.0 ≡ u → P e.1) es
 of_entries {X = X} P u [] once f = All-nil (λ (e : ℕ × X). e.0 ≡ u → P e.1)

@@ -74,9 +74,9 @@ stale_low nodes (g ∷ gs) node e = by (nat_lt g.nodeid 2) refl (get nodes g.nod
     by false is o f rest = of_counted o (grind (arith, nat_tests, is)) f rest
 
 -- .. so does one of a list
-told_low : (nodes : Map Counted) (o : Option Entry) → All Low (stale_in (use_of_listed nodes o))
-told_low nodes None = All-nil Low
-told_low nodes (Some g) = by (use_of nodes g) refl
+stale_listed_low : (nodes : Map Counted) (o : Option Entry) → All Low (stale_in (use_of_listed nodes o))
+stale_listed_low nodes None = All-nil Low
+stale_listed_low nodes (Some g) = by (use_of nodes g) refl
   where
     by : (u : Use) → use_of nodes g ≡ u → All Low (stale_in u)
     by usable e = All-nil Low
@@ -87,7 +87,7 @@ told_low nodes (Some g) = by (use_of nodes g) refl
 among_low : (pairs : List (DirentPlus Entry)) (nodes : Map Counted) → All Low (stale_among nodes pairs)
 among_low [] nodes = All-nil Low
 among_low (pair ∷ pairs) nodes = All-append Low (stale_in (use_of_listed nodes (listed_by pair)))
-    (stale_among (looked_up_by nodes pair) pairs) (told_low nodes (listed_by pair)) (among_low pairs (looked_up_by nodes pair))
+    (stale_among (looked_up_by nodes pair) pairs) (stale_listed_low nodes (listed_by pair)) (among_low pairs (looked_up_by nodes pair))
 
 in_reply_low : (nodes : Map Counted) (wire : WireReply) → All Low (stale_in_reply nodes wire)
 in_reply_low nodes (listed_plus pairs) = among_low pairs nodes

@@ -70,7 +70,7 @@ read_interrupt w old original =
     ≡ sent_forgets id w.requests + 0 = sum_by_push (λ (r : Request). forgotten id
     (forgets_of r.body)) w.requests new in omega (arith, pushed))
 
--- a frame of forgets bears them
+-- a frame of forgets has them
 forget_body_is : (fs : List Forget) → forgets_of (forget_body fs) ≡ fs
 forget_body_is [] = refl
 forget_body_is (f ∷ []) = refl

@@ -9,7 +9,7 @@ use Rattle.fuse_spec.specs.declared.Opened.{Opened}
 use Rattle.fuse_spec.specs.declared.Purpose.{Purpose}
 use Rattle.fuse_spec.specs.declared.Purpose.TheVariants as purpose
 use Rattle.fuse_spec.specs.declared.QueuedRequest.{QueuedRequest}
-use Rattle.fuse_spec.specs.Claim.Counts.{IsMeant, IsNamed}
+use Rattle.fuse_spec.specs.Claim.Counts.{NodeDenotesSome, EntryDenotesSome}
 use Rattle.fuse_spec.specs.Kernel.Kernel.{is_live, asked_by, body_of, nodes_of_state}
 use Rattle.fuse_spec.specs.Values.Maps.{get, values}
 use Rattle.fuse_spec.specs.Kernel.Messages.{RequestBody, Request, init, asks, release, forget, batch_forget, interrupt}
@@ -18,7 +18,7 @@ use Rattle.fuse_spec.specs.Files.Operations.{files_in_reply}
 use Rattle.fuse_spec.specs.Kernel.Queues.{pending, is_signalled, is_unread}
 use Rattle.fuse_spec.specs.Server.Server.{nodes_of_body}
 use Rattle.fuse_spec.specs.Calls.Vfs.{CallState, asked}
-use Rattle.fuse_spec.specs.Claim.Denotes.{MeansIn, MeansOpenIn}
+use Rattle.fuse_spec.specs.Claim.Denotes.{NodeDenotesIn, OpenDenotesIn}
 use Rattle.fuse_spec.specs.Claim.Alike.{RequestBodyAsked}
 use Rattle.fuse_spec.specs.World.Worlds.{World, Sent}
 use Rattle.fuse_spec.specs.Reference.Plain.{Plain}
@@ -36,8 +36,8 @@ use Rattle.fuse_theorem.proofs.Nodes.NodesKnown.{All-more, known_some}
 use Rattle.fuse_theorem.proofs.Lists.Values.{All-get}
 
 module _ (w : World) (p : Plain) (both : BothSound w p) (releases : ReleasesKnown w) where
-  -- What the kernel knows means some file.
-  pub known_meant : (id : ℕ) → IsKnown w.kernel.nodes id → IsMeant w id
+  -- What the kernel knows denotes some file.
+  pub known_meant : (id : ℕ) → IsKnown w.kernel.nodes id → NodeDenotesSome w id
   known_meant id known =
       let some = known_some w.kernel.nodes id known in
       let world = both.world in
@@ -68,9 +68,9 @@ module _ (w : World) (p : Plain) (both : BothSound w p) (releases : ReleasesKnow
         opens = All-more (values w.kernel.vfs.opens) (λ o known. known_meant o.nodeid known) nodes.opens;
         closing = All-more (values w.kernel.closing) (λ o known. known_meant o.nodeid known) releases.closing;
         copies = All-more {P = λ (s : Sent). EntriesHeld w.server.nodes s.wire} {Q =
-            λ (s : Sent). All (IsNamed w) (files_in_reply s.wire)} w.replies
+            λ (s : Sent). All (EntryDenotesSome w) (files_in_reply s.wire)} w.replies
             (λ s held. All-more {P = λ (g : Entry). (2 ≤ g.nodeid)
-            × IsHeldAs w.server.nodes g.nodeid g.generation} {Q = λ (g : Entry). IsNamed w g} (files_in_reply s.wire)
+            × IsHeldAs w.server.nodes g.nodeid g.generation} {Q = λ (g : Entry). EntryDenotesSome w g} (files_in_reply s.wire)
             (λ g named. named.1) held) balanced.copies;
       }
     where
@@ -137,7 +137,7 @@ module _ (w : World) (p : Plain) (both : BothSound w p) (releases : ReleasesKnow
       (λ (x : ℕ × QueuedRequest Purpose). ReleaseKnown w.kernel.nodes x.1.kept) w.kernel.queues.requests releases.requests i d lt)
     where
       by : (unique : ℕ) (r : QueuedRequest Purpose) (body : Option RequestBody) → body_of w.kernel r.kept ≡ body
-          → MatchOption body ⊥ (RequestBodyAsked p.asks unique (is_signalled r.mark) false (MeansIn w) (MeansOpenIn w))
+          → MatchOption body ⊥ (RequestBodyAsked p.asks unique (is_signalled r.mark) false (NodeDenotesIn w) (OpenDenotesIn w))
           → ReleaseKnown w.kernel.nodes r.kept → MatchOption body ⊥ (λ (x : RequestBody). NodesServable w.server x)
       by unique r None says asked known = asked
       by unique r (Some body) says asked known = all_there (nodes_of_body body) (asked_known r.kept known body says)

@@ -18,7 +18,7 @@ use Rattle.fuse_spec.specs.Values.Maps.{Map, get, put, remove, values}
 use Rattle.fuse_spec.specs.Kernel.Messages.{WireReply}
 use Rattle.fuse_spec.specs.Files.Operations.{Operation, done, failed, files_in_reply}
 use Rattle.fuse_spec.specs.Kernel.QueueCalls.{after_effect, interrupt_effect, waiting, without}
-use Rattle.fuse_spec.specs.Calls.Vfs.{CallState, walking, doing, using, asked, Vfs, Advance, answered, begun, given_up}
+use Rattle.fuse_spec.specs.Calls.Vfs.{CallState, walking, doing, using, asked, Vfs, Advance, answered, begun, abandoned}
 use Rattle.fuse_spec.specs.Kernel.Kernel.{Kernel, is_aborted, request_of, nodes_of_state, is_released_by, is_pinned, is_bound, kernel_aborted, asking_for, advanced, released, released_if_idle, after_use, closed_by, closing_of, call_begun, after_signal, signalled_at, call_signalled}
 use Rattle.fuse_spec.specs.Kernel.Replies.{kernel_reply, looked_up, counted_more, Use, usable, unusable, stale, goes_with, is_agreement, judged, replied, replied_to_call, request_reply_written, interrupt_reply_written, interrupt_replied, reply_written, reply_received, without_stale, reply_judged, use_of_reply, made_ready}
 use Rattle.fuse_spec.specs.Claim.Denotes.{generation_known}
@@ -169,8 +169,8 @@ received_known k old call wire (Some state) there = by (goes_with (asked state) 
     by false = used_known (record k { vfs = answered k.vfs call (answer.failed 5) }) state
         (answered_known k.nodes k.vfs old call (answer.failed 5))
 
--- Everything is given up, and the root is known still.
-empty_known : (c : Vfs Opened) → c.root ≡ 1 → VfsKnown [] (given_up c)
+-- Everything is abandoned, and the root is known still.
+empty_known : (c : Vfs Opened) → c.root ≡ 1 → VfsKnown [] (abandoned c)
 empty_known c root = record {
   root = subst (IsKnown []) (sym root) (λ e. absurd (cc (e)));
   names = record { directories = λ id name b at. absurd (cc); targets = λ id name b at. absurd (cc) };
@@ -208,7 +208,7 @@ write_known k old root unique wire = by (nat_eq (unique % 2) 1)
     by true = odd (waiting k.queues (unique - 1))
     by false = even (waiting k.queues unique)
 
--- ---- a node is given up
+-- ---- a node is evicted
 
 -- Another node is known still.
 pub still_known : (nodes : Map Counted) (node id : ℕ) → id ≢ node → IsKnown nodes id → IsKnown (remove nodes node) id

@@ -8,7 +8,7 @@ use Rattle.std.proofs.lemmas.List.Elements.{All-head, All-tail}
 use Rattle.fuse_spec.specs.declared.Entry.{Entry}
 use Rattle.fuse_spec.specs.Values.Maps.{Map, get, put, remove}
 use Rattle.fuse_spec.specs.Kernel.Messages.{Forget}
-use Rattle.fuse_spec.specs.Server.Nodes.{HeldNode, NodeTable, is_held, MayName, IsUnheld, MayChoose, given, given_row, generation_after, all_given, rows_less, taken_back, rows_more, row_more, OpenNumber, HandleTable, handle_opened, all_opened, handles_less, handle_back, handles_more, handle_more}
+use Rattle.fuse_spec.specs.Server.Nodes.{HeldNode, NodeTable, is_held, MayName, IsUnheld, MayChoose, given, given_row, generation_after, all_given, rows_less, taken_back, rows_more, row_more, FileHandle, HandleTable, handle_opened, all_opened, handles_less, handle_back, handles_more, handle_more}
 use Rattle.fuse_spec.specs.Server.Copies.{rows_counted, handles_counted, row_back, rows_back, handles_back}
 use Rattle.fuse_spec.specs.Server.Server.{all_taken_back}
 use Rattle.fuse_spec.proofs.Tables.{get_put_here, get_put_there, get_gone_here, get_gone_there}
@@ -183,12 +183,12 @@ opened_sound h sound file other = record {
       (λ e. absurd (omega (arith, e, later))) ∙ sound.numbers fh (omega (arith, later));
   files = λ fh x at. elim (put_found h.handles h.next_fh (record { file = file; count = 1 }) fh x at) [
     | inl k ↦ subst
-        (λ (y : OpenNumber). y.file ≢ 0) k.1 other
+        (λ (y : FileHandle). y.file ≢ 0) k.1 other
     | inr k ↦ sound.files fh x k
   ];
   counts = λ fh x at. elim (put_found h.handles h.next_fh (record { file = file; count = 1 }) fh x at) [
     | inl k ↦ subst
-        (λ (y : OpenNumber). 1 ≤ y.count) k.1 (omega arith)
+        (λ (y : FileHandle). 1 ≤ y.count) k.1 (omega arith)
     | inr k ↦ sound.counts fh x k
   ];
 }
@@ -208,7 +208,7 @@ emptied_handles_sound h = record {
 }
 
 -- The same open file with another count.
-recounted_sound : (h : HandleTable) → HandlesSound h → (fh : ℕ) (x : OpenNumber) (n : ℕ) → get h.handles fh ≡ Some x
+recounted_sound : (h : HandleTable) → HandlesSound h → (fh : ℕ) (x : FileHandle) (n : ℕ) → get h.handles fh ≡ Some x
     → 1 ≤ n → HandlesSound (record h { handles = put h.handles fh (record x { count = n }) })
 recounted_sound h sound fh x n there counted = record {
   numbers = λ q later. get_put_there h.handles fh (record x { count = n }) q
@@ -219,21 +219,21 @@ recounted_sound h sound fh x n there counted = record {
       ))) ∙ sound.numbers q later;
   files = λ q y at. elim (put_found h.handles fh (record x { count = n }) q y at) [
     | inl k ↦ subst
-        (λ (z : OpenNumber). z.file ≢ 0) k.1 (sound.files fh x there)
+        (λ (z : FileHandle). z.file ≢ 0) k.1 (sound.files fh x there)
     | inr k ↦ sound.files q y k
   ];
   counts = λ q y at. elim (put_found h.handles fh (record x { count = n }) q y at) [
     | inl k ↦ subst
-        (λ (z : OpenNumber). 1 ≤ z.count) k.1 counted
+        (λ (z : FileHandle). 1 ≤ z.count) k.1 counted
     | inr k ↦ sound.counts q y k
   ];
 }
 
--- One use of an open number is given back.
+-- One use of a file handle is released.
 pub back_sound : (h : HandleTable) → HandlesSound h → (fh : ℕ) → HandlesSound (handle_back h fh)
 back_sound h sound fh = by (get h.handles fh) refl
   where
-    some_left : (x : OpenNumber) (b : Bool) → nat_lt 1 x.count ≡ b → get h.handles fh ≡ Some x
+    some_left : (x : FileHandle) (b : Bool) → nat_lt 1 x.count ≡ b → get h.handles fh ≡ Some x
         → HandlesSound (record h {
           handles = cond b (put h.handles fh (record x { count = x.count - 1 }))
               (remove h.handles fh);
@@ -245,7 +245,7 @@ back_sound h sound fh = by (get h.handles fh) refl
       counts = λ q y at. sound.counts q y (left_found h.handles fh q y at);
     }
 
-    by : (o : Option OpenNumber) → get h.handles fh ≡ o
+    by : (o : Option FileHandle) → get h.handles fh ≡ o
         → HandlesSound (record h { handles = handles_less h.handles fh o })
     by None there = sound
     by (Some x) there = some_left x (nat_lt 1 x.count) refl there
@@ -254,11 +254,11 @@ pub handles_back_sound : (fhs : List ℕ) (h : HandleTable) → HandlesSound h �
 handles_back_sound [] h sound = sound
 handles_back_sound (fh ∷ fhs) h sound = handles_back_sound fhs (handle_back h fh) (back_sound h sound fh)
 
--- One more copy carries these open numbers.
+-- One more copy carries these file handles.
 use_sound : (h : HandleTable) → HandlesSound h → (fh : ℕ) → HandlesSound (handle_more h fh)
 use_sound h sound fh = by (get h.handles fh) refl
   where
-    by : (o : Option OpenNumber) → get h.handles fh ≡ o
+    by : (o : Option FileHandle) → get h.handles fh ≡ o
         → HandlesSound (record h { handles = handles_more h.handles fh o })
     by None there = sound
     by (Some x) there = recounted_sound h sound fh x (x.count + 1) there (omega arith)

@@ -23,7 +23,7 @@ use Rattle.fuse_theorem.specs.StillHeld.{IsHeldMarked, NodesStillHeld, StillHeld
 use Rattle.fuse_theorem.specs.StillOpen.{OpensAfterAbort}
 use Rattle.fuse_theorem.proofs.Nodes.HeldKnown.{all_still_held}
 use Rattle.fuse_theorem.proofs.Nodes.HeldNodes.{nodes_held}
-use Rattle.fuse_theorem.proofs.OpenFiles.HeldNumbers.{number_open, numbers_held}
+use Rattle.fuse_theorem.proofs.OpenFiles.HeldNumbers.{handle_open, handles_held}
 use Rattle.fuse_theorem.proofs.Refining.LookedUp.{one_to_one}
 use Rattle.fuse_theorem.proofs.Requests.LinksSound.{none_in}
 use Rattle.fuse_theorem.proofs.Lookups.LookupsStay.{known_held}
@@ -137,7 +137,7 @@ module _ (w : World) (p : Plain) (both : BothSound w p) (unique : ℕ) (t : Held
         by (batch_forget fs) is = absurd (marked_as (batch_forget fs) is)
         by (interrupt original) is = absurd (marked_as (interrupt original) is)
 
-    -- A RELEASE, where the server holds the nodes and the open numbers that are used.
+    -- A RELEASE, where the server holds the nodes and the file handles that are used.
     pub serves_release : (choice : ℕ → ℕ) (o : Opened) → t.body ≡ release o
         → is_open w.server.handles o.fh (file_of w.server.nodes o.nodeid) ≡ true → HoldsAll w w.server.nodes
         → HoldsOpens (unheld w unique) (handle_back w.server.handles o.fh)
@@ -171,7 +171,7 @@ perform_met w p both still choice unique may other t there =
         (λ o is. absurd (other t o there is))
     now false dead = still dead unique t there
 
--- So of a RELEASE, with its open number.
+-- So of a RELEASE, with its file handle.
 pub release_met : (w : World) (p : Plain) → BothSound w p → HeldReleasesKnown w → StillHeldAfterAbort w
     → (choice : ℕ → ℕ) (unique : ℕ) (t : HeldRequest) (o : Opened) → get w.server.held unique ≡ Some t
     → t.body ≡ release o
@@ -182,7 +182,7 @@ release_met w p both releases still choice unique t o there is number opens =
     serves_release w p both unique t there (held unique t there) choice o is number
     (nodes_held w both.world both.links both.kept held) opens
 
--- So of any request; after an abort the open numbers are held too.
+-- So of any request; after an abort the file handles are held too.
 pub any_met : (w : World) (p : Plain) → BothSound w p → HeldReleasesKnown w → StillHeldAfterAbort w → OpensAfterAbort w
     → (unique : ℕ)
     → (is_live w.kernel.phase ≡ true → (t : HeldRequest) (o : Opened) → get w.server.held unique ≡ Some t
@@ -199,5 +199,5 @@ any_met w p both releases still opens unique live_opens choice may t there =
     by o is true live = let numbers = live_opens live t o there is in
         release_met w p both releases still choice unique t o there is numbers.0 numbers.1
     by o is false dead = release_met w p both releases still choice unique t o there is
-        (number_open w both.links opens dead unique t there o is)
-        (numbers_held w both.links opens dead unique t there o is)
+        (handle_open w both.links opens dead unique t there o is)
+        (handles_held w both.links opens dead unique t there o is)

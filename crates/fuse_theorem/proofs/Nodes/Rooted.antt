@@ -19,7 +19,7 @@ use Rattle.fuse_spec.specs.Kernel.Messages.{WireReply}
 use Rattle.fuse_spec.specs.Files.Operations.{Operation, getattr, mkdir, create, unlink, rmdir, rename, link, opening, readdir, readdirplus, read, write, Reply, found, missing, created, opened, attributes, listed, listed_plus, content, written, done, failed, files_in_reply}
 use Rattle.fuse_spec.specs.Kernel.QueueCalls.{waiting, without, after_interrupt, interrupt_effect}
 use Rattle.fuse_spec.specs.Kernel.Replies.{kernel_reply, looked_up, Use, usable, unusable, stale, goes_with, is_agreement, judged, replied, replied_to_call, ended_by, request_reply_written, interrupt_reply_written, interrupt_replied, reply_written, reply_received, without_stale, reply_judged, use_of_reply, made_ready}
-use Rattle.fuse_spec.specs.Calls.Vfs.{look, no_more, asked, CallState, walking, doing, using, Vfs, Advance, answered, bound, unbound, opened_by, after_walk, after_beginning, numbered, begun, given_up}
+use Rattle.fuse_spec.specs.Calls.Vfs.{look, no_more, asked, CallState, walking, doing, using, Vfs, Advance, answered, bound, unbound, opened_by, after_walk, after_beginning, numbered, begun, abandoned}
 use Rattle.fuse_spec.specs.Calls.Walks.{Walked, looks_up, finds_none, walk}
 use Rattle.fuse_spec.specs.Calls.Walks as walked
 use Rattle.std.specs.List.{remove as without_at}
@@ -138,8 +138,8 @@ begins_rooted k call r =
     (advanced_rooted k k.vfs.next_call (begun (is_aborted k.phase) k.vfs call)
     (begun_rooted (is_aborted k.phase) k.vfs call r))
 
-pub given_up_rooted : (c : Vfs Opened) → IsRooted c → IsRooted (given_up c)
-given_up_rooted c r = record { root = r.root; answers = answers_sorted (answer.failed 103) c.calls c.answers r.answers }
+pub abandoned_rooted : (c : Vfs Opened) → IsRooted c → IsRooted (abandoned c)
+abandoned_rooted c r = record { root = r.root; answers = answers_sorted (answer.failed 103) c.calls c.answers r.answers }
 
 -- ---- signals
 
@@ -190,7 +190,7 @@ written_rooted k unique wire r = by (nat_eq (unique % 2) 1)
       where
         agreed_or : (b : Bool) → IsRooted (cond b (made_ready q wire) (kernel_aborted q)).vfs
         agreed_or true = s
-        agreed_or false = given_up_rooted q.vfs s
+        agreed_or false = abandoned_rooted q.vfs s
     ended q (purpose.Release o) s = s
     ended q (purpose.Call call) s = to_call_rooted q call wire (get q.vfs.calls call) s
 
@@ -222,7 +222,7 @@ sent_off w number unique (Some wire) rooted = rooted
 
 by_event : (choice : ℕ → ℕ) (w : World) → IsRooted w.kernel.vfs → (e : Event) (o : Outcome) (after : World)
     → Happened choice w e o after → IsRooted after.kernel.vfs
-by_event choice w r e o after (by_mount f m v idle) = given_up_rooted w.kernel.vfs r
+by_event choice w r e o after (by_mount f m v idle) = abandoned_rooted w.kernel.vfs r
 by_event choice w r e o after (by_call call ready room within) =
     begins_rooted w.kernel (for_minor w.kernel.lists_files call) r
 by_event choice w r e o after (by_read_interrupt original rest live there within) = r
@@ -242,7 +242,7 @@ by_event choice w r e o after (by_signal call fatal state live there within) =
 by_event choice w r e o after (by_tick ms timely) = record { root = r.root; answers = r.answers }
 by_event choice w r e o after (by_drop directory name bound live there) = record { root = r.root; answers = r.answers }
 by_event choice w r e o after (by_evict node counted live there unused) = r
-by_event choice w r e o after (by_abort live) = given_up_rooted w.kernel.vfs r
+by_event choice w r e o after (by_abort live) = abandoned_rooted w.kernel.vfs r
 
 -- The root and the order of the answers stay, whatever the event.
 pub stays_rooted : (choice : ℕ → ℕ) (w : World) → IsRooted w.kernel.vfs → (o : Outcome) (last : World) (e : Event)

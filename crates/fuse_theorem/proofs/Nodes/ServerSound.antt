@@ -12,7 +12,7 @@ use Rattle.fuse_spec.specs.Kernel.Messages.{Forget, RequestBody, init, asks, rel
 use Rattle.fuse_spec.specs.Files.Operations.{Operation, lookup, getattr, mkdir, create, unlink, rmdir, rename, link, opening, readdir, readdirplus, read, write, files_in_reply, opens_in_reply, done, failed}
 use Rattle.fuse_spec.specs.Files.Trees.{Named, is_nameless}
 use Rattle.fuse_spec.specs.Files.FileOperations.{FileOperation, reply_by}
-use Rattle.fuse_spec.specs.Server.Nodes.{HeldNode, NodeTable, root_row, HandleTable, OpenNumber, MayChoose, file_of, is_file_of, is_open, all_given, all_opened, handle_back}
+use Rattle.fuse_spec.specs.Server.Nodes.{HeldNode, NodeTable, root_row, HandleTable, FileHandle, MayChoose, file_of, is_file_of, is_open, all_given, all_opened, handle_back}
 use Rattle.fuse_spec.specs.Server.Server.{Server, HeldRequest, Kept, Copy, is_file_held, without_unheld_files, forgetting}
 use Rattle.fuse_spec.specs.Server.Taking.{taking, interrupting}
 use Rattle.fuse_spec.specs.Server.Performs.{file_operation_of, is_open_for, doing, performing, performed, is_still_held, replying, served, refusing, files_by, files_given}
@@ -104,11 +104,11 @@ taking_sound s sound unique (interrupt original) =
 
 -- ---- requests are performed
 
--- an open number is of no root
+-- no file handle is of the root
 open_not_root : (h : HandleTable) → HandlesSound h → (fh file : ℕ) → is_open h fh file ≡ true → file ≢ 0
 open_not_root h sound fh file open_is = by (get h.handles fh) refl open_is
   where
-    by : (o : Option OpenNumber) → get h.handles fh ≡ o → is_file_of file o ≡ true → file ≢ 0
+    by : (o : Option FileHandle) → get h.handles fh ≡ o → is_file_of file o ≡ true → file ≢ 0
     by None at e = absurd (true≢false (sym e))
     by (Some x) at e = elim (cases_eq x.file file) [
       | inl same ↦ subst (λ (n : ℕ). n ≢ 0) same (sound.files fh x at)
@@ -364,5 +364,5 @@ pub tables_sound : (s : Server) → ServerSound s → TablesSound s
 tables_sound s sound = let handles = sound.handles in
     record {
       no_root = no_node s.nodes sound.nodes 1 (omega arith);
-      new_number = handles.numbers s.handles.next_fh (omega arith);
+      new_handle = handles.numbers s.handles.next_fh (omega arith);
     }

@@ -1,4 +1,4 @@
--- In a live mount whose open numbers are balanced, those that held requests name are counted often enough for all of
+-- In a live mount whose file handles are balanced, those that held requests name are counted often enough for all of
 -- them.
 use Rattle.std.proofs.Common.{◌≡◌, ℕ, ◌≤◌, true, false, [], ◌∷◌, Option, Some, None, zero, suc, refl, ap, subst, ◌∙◌, arith}
 use Rattle.std.specs.Prelude.{Contains}
@@ -16,9 +16,9 @@ use Rattle.fuse_spec.specs.Server.Performs.{is_open_for}
 use Rattle.fuse_spec.specs.Claim.Counts.{OpenBalance, open_in_kernel, opens_of, opens_of_body}
 use Rattle.fuse_spec.specs.World.Worlds.{World}
 use Rattle.fuse_spec.specs.Reference.Plain.{Plain}
-use Rattle.fuse_spec.specs.Claim.Alike.{Alike, RequestBodyAsked, Meant, MeantOpen}
+use Rattle.fuse_spec.specs.Claim.Alike.{Alike, RequestBodyAsked, StillDenotes, OpenStillDenotes}
 use Rattle.fuse_theorem.specs.AskedRequests.{IsAsked, RequestsAskedWhileLive}
-use Rattle.fuse_theorem.specs.StillOpen.{HeldNumbersOpen}
+use Rattle.fuse_theorem.specs.StillOpen.{HeldHandlesOpen}
 use Rattle.fuse_theorem.proofs.Refining.Performing.{open_for}
 
 module _ (w : World) (p : Plain) (same : Alike w p) (requests : RequestsAskedWhileLive w)
@@ -58,8 +58,8 @@ module _ (w : World) (p : Plain) (same : Alike w p) (requests : RequestsAskedWhi
     of_body : (body : RequestBody) → t.body ≡ body → Contains (opens_of_body body) o → IsItsNodes o
     of_body (init flags) is among = none o among
     of_body (asks operation) is among =
-        let asked_is = subst (RequestBodyAsked p.asks unique false t.marked (Meant w.server.nodes t.generations)
-        (MeantOpen w.server.nodes w.server.handles t.generations)) is (same.requests.held unique t there) in
+        let asked_is = subst (RequestBodyAsked p.asks unique false t.marked (StillDenotes w.server.nodes t.generations)
+        (OpenStillDenotes w.server.nodes w.server.handles t.generations)) is (same.requests.held unique t there) in
         of_operation operation o among (open_for w p same t.generations operation asked_is.ask.operation asked_is.same)
     of_body (release x) is among = only IsItsNodes x o among (of_releases unique t there x is)
     of_body (forget f) is among = none o among
@@ -86,7 +86,7 @@ module _ (w : World) (p : Plain) (same : Alike w p) (requests : RequestsAskedWhi
         by (purpose.Release x) says = absurd (cc)
         by (purpose.Call call) says = of_call call (get w.kernel.vfs.calls call) refl says
 
-  pub balanced_open : HeldNumbersOpen w
+  pub balanced_open : HeldHandlesOpen w
   balanced_open = record {
     files = λ unique t there o among. of_body unique t there o t.body refl among;
     released = λ fh. let whole = balance fh in omega (arith, whole);

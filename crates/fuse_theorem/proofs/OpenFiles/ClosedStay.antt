@@ -29,7 +29,7 @@ use Rattle.fuse_spec.specs.Kernel.QueueCalls.{after_effect, interrupt_effect, wa
 use Rattle.fuse_spec.specs.Kernel.Replies.{kernel_reply, looked_up, Use, usable, unusable, stale, goes_with, is_agreement, judged, replied, replied_to_call, request_reply_written, interrupt_reply_written, interrupt_replied, reply_written, reply_received, without_stale, reply_judged, use_of_reply, made_ready}
 use Rattle.fuse_spec.specs.Server.Taking.{taking}
 use Rattle.fuse_spec.specs.Server.Performs.{served}
-use Rattle.fuse_spec.specs.Calls.Vfs.{CallState, walking, doing, using, asked, Vfs, Advance, answered, bound, look, after_walk, after_beginning, numbered, begun, given_up}
+use Rattle.fuse_spec.specs.Calls.Vfs.{CallState, walking, doing, using, asked, Vfs, Advance, answered, bound, look, after_walk, after_beginning, numbered, begun, abandoned}
 use Rattle.fuse_spec.specs.Calls.Walks.{Walked, looks_up, finds_none, walk}
 use Rattle.fuse_spec.specs.Calls.Walks as walked
 use Rattle.fuse_spec.specs.World.Worlds.{World, first_world, copy_put}
@@ -398,8 +398,8 @@ received_closes k old call wire (Some state) there = by (goes_with (asked state)
     by false = used_closes (record k { vfs = answered k.vfs call (answer.failed 5) }) state
         (answered_so k.vfs k.closing old call state there (answer.failed 5))
 
--- Everything is given up.
-none_open : (c : Vfs Opened) → ClosedFiles (given_up c) []
+-- Everything is abandoned.
+none_open : (c : Vfs Opened) → ClosedFiles (abandoned c) []
 none_open c = record {
   calls_in_order = tt;
   closing_in_order = tt;

@@ -1,4 +1,4 @@
--- The server holds each open number that is in use or on its way.
+-- The server holds each file handle that is in use or on its way.
 use Rattle.std.proofs.Common.{◌≡◌, ℕ, Bool, cond, List, ◌++◌, Some, nat_eq, get_or, ap, sym, subst, ◌∙◌, arith, inl, inr, All}
 use Rattle.std.specs.Prelude.{Contains}
 use Rattle.std.proofs.lemmas.List.Elements.{All-nil, All-contains, All-head, All-tail}
@@ -13,7 +13,7 @@ use Rattle.fuse_spec.specs.Server.Nodes.{HandleTable}
 use Rattle.fuse_spec.specs.Server.Server.{HeldRequest}
 use Rattle.fuse_spec.specs.World.Worlds.{World, Sent}
 use Rattle.fuse_theorem.specs.AskedRequests.{IsAsked, SentAsked, RequestsAsked}
-use Rattle.fuse_theorem.specs.Conditions.{IsOpenNumber, HoldsOpens}
+use Rattle.fuse_theorem.specs.Conditions.{IsFileHandle, HoldsOpens}
 use Rattle.fuse_theorem.specs.Copies.{KeptAreSent, SomeHas, here, there}
 use Rattle.fuse_theorem.specs.OpenNumbers.{OpensApart, UsesOpen, released_by, released_pending, released_sent, released_held, open_files}
 use Rattle.fuse_theorem.proofs.Calls.Finding.{same_is}
@@ -24,9 +24,9 @@ use Rattle.fuse_theorem.proofs.Lists.Values.{All-get}
 
 -- ---- what is counted is held
 
--- Each number that a copy carries is one of the server's.
+-- Each handle that a copy carries is one of the server's.
 pub copies_there : (w : World) → CountsOpens w → All
-    (λ (s : Sent). (fh : ℕ) → Contains (opens_in_reply s.wire) fh → IsOpenNumber w.server.handles fh) w.replies
+    (λ (s : Sent). (fh : ℕ) → Contains (opens_in_reply s.wire) fh → IsFileHandle w.server.handles fh) w.replies
 copies_there w counts i s lt fh named none =
     let wire = (get_or w.replies i s).wire in
     let term = get_or-le-sum_by (λ (n : ℕ). cond (nat_eq fh n) 1 0) (opens_in_reply wire) named.0 fh named.1 in
@@ -38,10 +38,10 @@ copies_there w counts i s lt fh named none =
     absurd (omega (arith, term, mine, sum, whole, zero_here))
 
 module _ (w : World) (h : HandleTable) (apart : OpensApart w.kernel.vfs w.kernel.closing) (asked_so : RequestsAsked w)
-    (kept : KeptAreSent w) (numbers : All (λ (o : Opened). IsOpenNumber h o.fh) (open_files w))
-    (copies : All (λ (s : Sent). (fh : ℕ) → Contains (opens_in_reply s.wire) fh → IsOpenNumber h fh) w.replies) where
+    (kept : KeptAreSent w) (numbers : All (λ (o : Opened). IsFileHandle h o.fh) (open_files w))
+    (copies : All (λ (s : Sent). (fh : ℕ) → Contains (opens_in_reply s.wire) fh → IsFileHandle h fh) w.replies) where
   abbrev Held : Opened → Type 0
-  Held o = IsOpenNumber h o.fh
+  Held o = IsFileHandle h o.fh
 
   abbrev opened : List Opened
   opened = values w.kernel.vfs.opens
@@ -108,14 +108,14 @@ module _ (w : World) (h : HandleTable) (apart : OpensApart w.kernel.vfs w.kernel
       (released_held w.server.held) numbers)
 
   copy_has : (wire : WireReply) (fh : ℕ) → Contains (opens_in_reply wire) fh → (unique : ℕ) (xs : List Sent)
-      → All (λ (s : Sent). (n : ℕ) → Contains (opens_in_reply s.wire) n → IsOpenNumber h n) xs
-      → SomeHas (λ (s : Sent). (s.unique ≡ unique) × (s.wire ≡ wire)) xs → IsOpenNumber h fh
+      → All (λ (s : Sent). (n : ℕ) → Contains (opens_in_reply s.wire) n → IsFileHandle h n) xs
+      → SomeHas (λ (s : Sent). (s.unique ≡ unique) × (s.wire ≡ wire)) xs → IsFileHandle h fh
   copy_has wire fh named unique xs each (here x rest is) =
-      All-head (λ (s : Sent). (n : ℕ) → Contains (opens_in_reply s.wire) n → IsOpenNumber h n) x rest each fh
+      All-head (λ (s : Sent). (n : ℕ) → Contains (opens_in_reply s.wire) n → IsFileHandle h n) x rest each fh
       (subst (λ (y : WireReply). Contains (opens_in_reply y) fh) (sym is.1) named)
   copy_has wire fh named unique xs each (there x rest more) =
       copy_has wire fh named unique rest (All-tail (λ (s : Sent). (n : ℕ) → Contains (opens_in_reply s.wire) n
-      → IsOpenNumber h n) x rest each) more
+      → IsFileHandle h n) x rest each) more
 
   -- With this table the server holds what is counted.
   pub counted_held : HoldsOpens w h

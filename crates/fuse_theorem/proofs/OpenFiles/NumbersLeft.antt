@@ -1,4 +1,4 @@
--- The open numbers of held requests stay open as one is held no longer, and as a RELEASE gives its number back.
+-- The file handles of held requests stay open as one is held no longer, and as a RELEASE gives its handle back.
 use Rattle.std.proofs.Common.{◌≡◌, ◌≢◌, ℕ, ◌+◌, ◌-◌, ◌≤◌, ◌<◌, Bool, true, false, not, cond, [], ◌∷◌, Option, Some, None, zero, suc, nat_eq, refl, ap, sym, subst, ◌∙◌, arith, inl, inr}
 use Rattle.std.specs.Prelude.{Contains, nat_lt, sum_by}
 use Rattle.std.proofs.lemmas.Bool.{cases_eq}
@@ -9,14 +9,14 @@ use Rattle.fuse_spec.specs.declared.Opened.{Opened}
 use Rattle.fuse_spec.specs.Values.Maps.{Map, get, put, remove, values}
 use Rattle.fuse_spec.specs.Files.Operations.{Operation}
 use Rattle.fuse_spec.specs.Kernel.Messages.{RequestBody, init, asks, release, forget, batch_forget, interrupt}
-use Rattle.fuse_spec.specs.Server.Nodes.{NodeTable, HandleTable, OpenNumber, file_of, is_file_of, is_open, handles_less, handle_back}
+use Rattle.fuse_spec.specs.Server.Nodes.{NodeTable, HandleTable, FileHandle, file_of, is_file_of, is_open, handles_less, handle_back}
 use Rattle.fuse_spec.specs.Server.Server.{HeldRequest}
 use Rattle.fuse_spec.specs.Claim.Counts.{opens_of, opens_of_body, releases_in, handle_count}
 use Rattle.fuse_spec.proofs.Tables.{cmp_same, tie_no, get_put_here, get_put_there, get_gone_there}
-use Rattle.fuse_theorem.specs.StillOpen.{releases_held, NumbersStillOpen}
+use Rattle.fuse_theorem.specs.StillOpen.{releases_held, HandlesStillOpen}
 use Rattle.fuse_theorem.proofs.Calls.Finding.{same_is, other_is}
 use Rattle.fuse_theorem.proofs.Nodes.NodesSound.{left_found}
-use Rattle.fuse_theorem.proofs.Refining.Settling.{number_back}
+use Rattle.fuse_theorem.proofs.Refining.Settling.{handle_back_left}
 
 -- ---- sums over a map that loses a key
 
@@ -49,7 +49,7 @@ module _ {X : Type 0} (f : X → ℕ) where
             omega (arith, whole, stays, more, found, rest)
       ]
 
--- ---- a number is given back
+-- ---- a handle is given back
 
 -- how often it is given back where it is this one
 abbrev back_if : ℕ → ℕ → ℕ
@@ -68,20 +68,20 @@ back_count h fh q = elim (cases_eq q fh) [
   | inr ne ↦ let there = ap handle_count (other (get h.handles fh) ne) in omega (arith, there)
 ]
   where
-    counted : (x : OpenNumber) (b : Bool) → nat_lt 1 x.count ≡ b
+    counted : (x : FileHandle) (b : Bool) → nat_lt 1 x.count ≡ b
         → x.count ≤ handle_count (get (cond b (put h.handles fh (record x { count = x.count - 1 }))
         (remove h.handles fh)) fh) + 1
     counted x true many = let is = ap handle_count (get_put_here h.handles fh (record x { count = x.count - 1 })) in
         let low : 1 < x.count = grind (arith, nat_tests, many) in omega (arith, is, low)
     counted x false few = let low : x.count ≤ 1 = grind (arith, nat_tests, few) in omega (arith, low)
 
-    by : (o : Option OpenNumber) → get h.handles fh ≡ o
+    by : (o : Option FileHandle) → get h.handles fh ≡ o
         → handle_count (get h.handles fh) ≤ handle_count (get (handles_less h.handles fh o) fh) + 1
     by None at = let none = ap handle_count at in omega (arith, none)
     by (Some x) at = let is = ap handle_count at in let few =
         counted x (nat_lt 1 x.count) refl in omega (arith, is, few)
 
-    other : (o : Option OpenNumber) → q ≢ fh → get (handles_less h.handles fh o) q ≡ get h.handles q
+    other : (o : Option FileHandle) → q ≢ fh → get (handles_less h.handles fh o) q ≡ get h.handles q
     other None ne = refl
     other (Some x) ne = either (nat_lt 1 x.count)
       where
@@ -90,26 +90,26 @@ back_count h fh q = elim (cases_eq q fh) [
         either true = get_put_there h.handles fh (record x { count = x.count - 1 }) q ne
         either false = get_gone_there h.handles fh q ne
 
--- A number that is counted still is one of the same file.
+-- A handle that is counted still is one of the same file.
 still_open : (h : HandleTable) (fh q file : ℕ) → is_open h q file ≡ true
     → 1 ≤ handle_count (get (handle_back h fh).handles q) → is_open (handle_back h fh) q file ≡ true
 still_open h fh q file was counted = by (get (handle_back h fh).handles q) refl counted
   where
-    by : (o : Option OpenNumber) → get (handle_back h fh).handles q ≡ o → 1 ≤ handle_count o → is_file_of file o ≡ true
+    by : (o : Option FileHandle) → get (handle_back h fh).handles q ≡ o → 1 ≤ handle_count o → is_file_of file o ≡ true
     by None at low = absurd (omega (arith, low))
     by (Some y) at low =
-        let x = number_back h fh q y at in
+        let x = handle_back_left h fh q y at in
         let same : is_file_of file (Some x.0) ≡ true = ap (is_file_of file) (sym x.1) ∙ was in
         ap (λ (n : ℕ). nat_eq n file) x.2 ∙ same
 
 -- ---- what is held
 
 module _ (nodes : NodeTable) (handles : HandleTable) (held : Map HeldRequest)
-    (old : NumbersStillOpen nodes handles held) (unique : ℕ) where
+    (old : HandlesStillOpen nodes handles held) (unique : ℕ) where
   abbrev left : Map HeldRequest
   left = remove held unique
 
-  -- those that are left release no number more often
+  -- those that are left release no handle more often
   releases_left : (fh : ℕ) (t : HeldRequest) → get held unique ≡ Some t
       → releases_held left fh + releases_in fh t.body ≤ releases_held held fh
   releases_left fh t there =
@@ -122,7 +122,7 @@ module _ (nodes : NodeTable) (handles : HandleTable) (held : Map HeldRequest)
   fewer_left fh = let few = sum_left (λ (x : HeldRequest). releases_in fh x.body) held unique in omega (arith, few)
 
   -- One is held no longer.
-  pub left_open : NumbersStillOpen nodes handles left
+  pub left_open : HandlesStillOpen nodes handles left
   left_open = record {
     files = λ u x at o among. old.files u x (left_found held unique u x at) o among;
     released = λ fh. let few = fewer_left fh in let enough = old.released fh in omega (arith, few, enough);
@@ -176,8 +176,8 @@ module _ (nodes : NodeTable) (handles : HandleTable) (held : Map HeldRequest)
     counted_still u x at o (batch_forget fs) is among = absurd (let lt = among.1 in omega (arith, lt))
     counted_still u x at o (interrupt original) is among = absurd (let lt = among.1 in omega (arith, lt))
 
-    -- A RELEASE is held no longer, and its number is given back.
-    pub released_open : NumbersStillOpen nodes back left
+    -- A RELEASE is held no longer, and its handle is given back.
+    pub released_open : HandlesStillOpen nodes back left
     released_open = record {
       files = λ u x at o among. still_open handles given.fh o.fh (file_of nodes o.nodeid)
           (old.files u x (left_found held unique u x at) o among) (counted_still u x at o x.body refl among);

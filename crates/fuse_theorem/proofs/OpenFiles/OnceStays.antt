@@ -1,4 +1,4 @@
--- An open number is of one open file at most, whatever happens.
+-- A file handle is of one open file at most, whatever happens.
 use Rattle.fuse_spec.specs.Calls.Calls.{for_minor}
 use Rattle.fuse_spec.specs.declared.Minor.{Minor}
 use Rattle.std.proofs.Common.{◌≡◌, ◌≢◌, ℕ, ◌+◌, ◌-◌, ◌≤◌, ◌<◌, Bool, true, false, true≢false, cond, List, [], ◌++◌, drop, Option, Some, None, nat_eq, slice_get, count_by, refl, ap, sym, subst, ◌∙◌, arith, ◌⊎◌, inl, inr, All}
@@ -46,10 +46,10 @@ use Rattle.fuse_theorem.proofs.RefusalCases.Happened.{Happened, by_mount, by_cal
 use Rattle.fuse_theorem.proofs.Replies.KeptOnLink.{stays_absent}
 use Rattle.fuse_theorem.proofs.Lookups.LookupsAfterReply.{wire_usable}
 use Rattle.fuse_theorem.proofs.Lists.MapSums.{worth}
-use Rattle.fuse_theorem.proofs.Requests.NewNumbers.{Draws, performed_draws, counted_next, given_back_next}
+use Rattle.fuse_theorem.proofs.Requests.NewNumbers.{Allocates, performed_allocates, counted_next, given_back_next}
 use Rattle.fuse_theorem.proofs.Nodes.NodesSound.{put_found}
 use Rattle.fuse_theorem.proofs.Requests.NumbersStay.{replying_kernel, unreceived}
-use Rattle.fuse_theorem.proofs.Lists.OpenSums.{has_number, open_sum, counts_opens}
+use Rattle.fuse_theorem.proofs.Lists.OpenSums.{has_handle, open_sum, counts_opens}
 use Rattle.fuse_theorem.proofs.OpenFiles.OpensAfterReply.{ReceivesOpens, read_sum, written_received}
 use Rattle.fuse_theorem.proofs.OpenFiles.OpensKept.{begun_keeps, signalled_keeps}
 use Rattle.fuse_theorem.proofs.OpenFiles.OpensMoved.{SameOpen, open_same, keeps_same, interrupt_same, pending_same, forgets_same}
@@ -61,14 +61,14 @@ use Rattle.fuse_theorem.proofs.Requests.QueueMoves.{QueueMoves, read_moves, begu
 use Rattle.fuse_theorem.proofs.Refining.Queuing.{All-at}
 use Rattle.fuse_theorem.proofs.Refining.Settling.{kept_was}
 
--- ---- what carries a number
+-- ---- what carries a handle
 
 -- What holds of each holds of the one that has a property.
 one_of : {X : Type 0} (P Q : X → Type 0) (xs : List X) → SomeHas P xs → All Q xs → (x : X) × P x × Q x
 one_of P Q xs (here x rest p) h = (x, p, All-head Q x rest h)
 one_of P Q xs (there x rest s) h = one_of P Q rest s (All-tail Q x rest h)
 
--- The number of a request whose reply carries an open number was drawn.
+-- The number of a request whose reply carries a file handle was allocated.
 carries_below : (w : World) → IsNumbered w → is_live w.kernel.phase ≡ true → (unique fh : ℕ) → CarriesOpen w unique fh
     → unique < w.kernel.queues.next
 carries_below w numbered live unique fh (inl kept) = numbered.kept_below live unique kept.0 kept.1
@@ -118,7 +118,7 @@ module _ (choice : ℕ → ℕ) (w : World) (p : Plain) (both : BothSound w p) (
       → ((u fh : ℕ) → CarriesOpen w u fh → request_under k.queues u ≢ None → request_under w.kernel.queues u ≢ None)
       → OpensOnce (record w { kernel = k; requests = requests })
   moved k requests same still = none_new w (record w { kernel = k; requests = requests }) old (omega arith)
-      (λ u fh c. c) still (λ fh. let sum = open_same w k requests same (has_number fh) in omega (arith, sum))
+      (λ u fh c. c) still (λ fh. let sum = open_same w k requests same (has_handle fh) in omega (arith, sum))
 
   forgets_under : (n u : ℕ) (b : Bool) → request_under
       (cond b (record w.kernel.queues {
@@ -161,7 +161,7 @@ module _ (choice : ℕ → ℕ) (w : World) (p : Plain) (both : BothSound w p) (
       let same = ap (λ (h : HandleTable). h.next_fh) (taken_handles w r.unique r.body) in
       none_new w (after_take w k r.unique took) old (omega (arith, next, same)) (taken_carries k r.unique r.body)
       (λ u fh c waits e. waits (ap (λ (l : Kernel). request_under l.queues u) kernel ∙ e))
-      (λ fh. let files = taken_files w p both live releases opens.held balanced k r at (has_number fh) in
+      (λ fh. let files = taken_files w p both live releases opens.held balanced k r at (has_handle fh) in
       omega (arith, files))
 
   again_once : (unique : ℕ) (kept : Kept) → get w.server.kept unique ≡ Some kept → OpensOnce (after_again w unique kept)
@@ -228,11 +228,11 @@ module _ (choice : ℕ → ℕ) (w : World) (p : Plain) (both : BothSound w p) (
     did : PerformResult
     did = performed choice (record w.server { held = remove w.server.held unique }) t
 
-    draws : Draws (record w.server { held = remove w.server.held unique })
+    allocates : Allocates (record w.server { held = remove w.server.held unique })
         (performed choice (record w.server { held = remove w.server.held unique }) t)
-    draws = performed_draws choice (record w.server { held = remove w.server.held unique }) t
+    allocates = performed_allocates choice (record w.server { held = remove w.server.held unique }) t
 
-    -- no file has the coming number
+    -- no file has the coming handle
     none_coming : files_with w.server.handles.next_fh w ≡ 0
     none_coming =
         let server = lookups.server in
@@ -315,11 +315,11 @@ module _ (choice : ℕ → ℕ) (w : World) (p : Plain) (both : BothSound w p) (
             (Some (served choice w.server unique t).wire)) old unique
             (λ u fh c. elim (carried _ refl u fh c) [
               | inl e ↦ inl
-                  (e.0, (draws.new fh e.1).0, (draws.new fh e.1).1)
+                  (e.0, (allocates.new fh e.1).0, (allocates.new fh e.1).1)
               | inr d ↦ inr d
-            ]) draws.rises refl none_coming
+            ]) allocates.rises refl none_coming
             (λ fh. let files = performed_files w p both live releases opens.held balanced choice unique t at may
-            (Some (served choice w.server unique t).wire) (has_number fh) in omega (arith, files))
+            (Some (served choice w.server unique t).wire) (has_handle fh) in omega (arith, files))
 
   -- ---- a reply is written
 
@@ -388,20 +388,20 @@ module _ (choice : ℕ → ℕ) (w : World) (p : Plain) (both : BothSound w p) (
         by None e =
             none_new w written old (omega arith) carried (answered_still
             (reply_written w.kernel sent.unique sent.wire).1.queues moves)
-            (λ fh. let sum = files (has_number fh) in let none = ap (worth (has_number fh)) e in
+            (λ fh. let sum = files (has_handle fh) in let none = ap (worth (has_handle fh)) e in
             omega (arith, sum, none))
         by (Some o) e =
             let serves = reply_received.fits o e in
             let request = waiting_is w.kernel.queues sent.unique (purpose.Call serves.0) serves.2 in
             let counted = reply_received.counts o.fh in
-            let worth_is = ap (worth (has_number o.fh)) e in
-            let itself : has_number o.fh o ≡ 1 = ap {B = ℕ} (λ (b : Bool). cond b 1 0) (same_is o.fh) in
+            let worth_is = ap (worth (has_handle o.fh)) e in
+            let itself : has_handle o.fh o ≡ 1 = ap {B = ℕ} (λ (b : Bool). cond b 1 0) (same_is o.fh) in
             one_opened w written old sent.unique o (omega arith) carried
             (answered_still (reply_written w.kernel sent.unique sent.wire).1.queues moves)
             (inr (has_at (λ (x : Sent). (x.unique ≡ sent.unique) × (1 ≤ opens_in o.fh x.wire)) w.replies k sent at
             (refl, omega (arith, counted, worth_is, itself))))
             (λ none. absurd (cc (none, request.under))) (ends serves.0 serves.1 serves.2)
-            (λ fh. let sum = files (has_number fh) in let is = ap (worth (has_number fh)) e in
+            (λ fh. let sum = files (has_handle fh) in let is = ap (worth (has_handle fh)) e in
             omega (arith, sum, is))
 
   -- ---- every event
@@ -489,7 +489,7 @@ mounted_once choice w sound dead e o after did live = by e o after did live
     by x r v (by_evict node counted lives found unused) now = absurd (was lives)
     by x r v (by_abort lives) now = absurd (was lives)
 
--- Open numbers stand once, whatever the event.
+-- File handles are of one open file each, whatever the event.
 pub once_stays : (w : World) (p : Plain) → BothSound w p → ReleasesKnown w → OpensSound w → OpensOnceWhileLive w
     → (e : Event) (o : Outcome) (after : World) → Happens w e o after → OpensOnceWhileLive after
 once_stays w p both releases opens old e o after h now = by (is_live w.kernel.phase) refl
@@ -501,7 +501,7 @@ once_stays w p both releases opens old e o after h now = by (is_live w.kernel.ph
     by true live = once_after h.0 w p both releases opens live (old live) e o after h.1 did now
     by false dead = mounted_once h.0 w both.world dead e o after did now
 
--- Where nothing is under way, the server counts each open number once at most.
+-- Where nothing is under way, the server counts each file handle once at most.
 pub once_at_rest : (w : World) → OpensSound w → OpensOnceWhileLive w → AtRest w → (fh : ℕ)
     → handle_count (get w.server.handles.handles fh) ≤ 1
 once_at_rest w opens old rest fh =
@@ -520,7 +520,7 @@ count_front f xs ys =
     let both : count_by f (xs ++ ys) ≡ count_by f xs + count_by f ys = sum_by-append (λ x. cond (f x) 1 0) xs ys in
     omega (arith, both)
 
--- One file of the kernel at most has an open number.
+-- A file handle is of one file of the kernel at most.
 pub once_in_kernel : (w : World) → OpensOnce w → (fh : ℕ) → open_in_kernel w.kernel fh ≤ 1
 once_in_kernel w old fh =
     let has = λ (o : Opened). nat_eq o.fh fh in

@@ -1,4 +1,4 @@
--- What the settling of a copy and the performing of a RELEASE need of open numbers holds.
+-- What the settling of a copy and the performing of a RELEASE need of file handles holds.
 use Rattle.std.proofs.Common.{◌≡◌, ℕ, ◌+◌, ◌≤◌, Bool, true, false, [], Option, Some, slice_get, refl, ap, subst, arith}
 use Rattle.std.specs.Prelude.{sum_by}
 use Rattle.std.proofs.lemmas.List.Elements.{All-contains}
@@ -22,7 +22,7 @@ use Rattle.fuse_theorem.specs.Conditions.{HoldsOpens}
 use Rattle.fuse_theorem.specs.EveryList.{BothSound}
 use Rattle.fuse_theorem.specs.OpenNumbers.{released_by, open_files, OpensBalanced, OpensSound}
 use Rattle.fuse_theorem.specs.ReleasesKnown.{ReleasesKnown}
-use Rattle.fuse_theorem.specs.StillOpen.{HeldNumbersOpen}
+use Rattle.fuse_theorem.specs.StillOpen.{HeldHandlesOpen}
 use Rattle.fuse_theorem.proofs.OpenFiles.BalancedNumbers.{balanced_open}
 use Rattle.fuse_theorem.proofs.OpenFiles.HoldsOpens.{copies_there, counted_held}
 use Rattle.fuse_theorem.proofs.Replies.KeptOnLink.{kept_stay_sent}
@@ -30,8 +30,8 @@ use Rattle.fuse_theorem.proofs.Requests.LinksSound.{none_at}
 use Rattle.fuse_theorem.proofs.Lists.MapSums.{values_sum, worth, sum_gone}
 use Rattle.fuse_theorem.proofs.Nodes.NodesSound.{left_found}
 use Rattle.fuse_theorem.proofs.OpenFiles.NumberCounts.{back_count}
-use Rattle.fuse_theorem.proofs.Lists.OpenSums.{has_number, open_sum, CountsOpens, counts_opens}
-use Rattle.fuse_theorem.proofs.OpenFiles.OpensInUse.{numbers_there}
+use Rattle.fuse_theorem.proofs.Lists.OpenSums.{has_handle, open_sum, CountsOpens, counts_opens}
+use Rattle.fuse_theorem.proofs.OpenFiles.OpensInUse.{handles_there}
 use Rattle.fuse_theorem.proofs.OpenFiles.OpensUsed.{used_counted}
 use Rattle.fuse_theorem.proofs.OpenFiles.OpensServed.{none_out}
 use Rattle.fuse_theorem.proofs.OpenFiles.OpensStay.{opens_stay}
@@ -48,20 +48,20 @@ module _ (w : World) (p : Plain) (both : BothSound w p) (old : OpensSound w)
   counts : CountsOpens w
   counts = counts_opens w balanced.balance
 
-  -- The server holds the numbers that are in use and on their way.
+  -- The server holds the handles that are in use and on their way.
   pub opens_held : HoldsOpens w w.server.handles
-  opens_held = counted_held w w.server.handles old.apart (both.asked live) both.kept (numbers_there w counts)
+  opens_held = counted_held w w.server.handles old.apart (both.asked live) both.kept (handles_there w counts)
       (copies_there w counts)
 
   -- ---- a RELEASE is performed
 
   module _ (unique : ℕ) (t : HeldRequest) (at : get w.server.held unique ≡ Some t) (o : Opened)
       (is : t.body ≡ release o) where
-    -- Its number is one of its node's file.
-    pub release_number : is_open w.server.handles o.fh (file_of w.server.nodes o.nodeid) ≡ true
-    release_number = held_fits w balanced.files unique t at o is
+    -- Its handle is one of its node's file.
+    pub release_handle : is_open w.server.handles o.fh (file_of w.server.nodes o.nodeid) ≡ true
+    release_handle = held_fits w balanced.files unique t at o is
 
-    -- the world where it is not held any longer, and its number is given back
+    -- the world where it is not held any longer, and its handle is given back
     abbrev after : World
     after = record w {
       server = record w.server {
@@ -90,7 +90,7 @@ module _ (w : World) (p : Plain) (both : BothSound w p) (old : OpensSound w)
         none_out w counts lookups.copies lookups.server after refl refl refl
         (λ fh.
         let less = back_count w.server.handles o.fh fh in
-        let files = fewer (has_number fh) in
+        let files = fewer (has_handle fh) in
         let whole = counts fh in
         omega (arith, less, files, whole))
 
@@ -103,11 +103,11 @@ module _ (w : World) (p : Plain) (both : BothSound w p) (old : OpensSound w)
       first = asked.first;
     }
 
-    -- The server holds the other numbers still.
+    -- The server holds the other handles still.
     pub released_held_still : HoldsOpens unheld (handle_back w.server.handles o.fh)
     released_held_still =
         let held = counted_held after (handle_back w.server.handles o.fh) old.apart asked_after both.kept
-        (numbers_there after counts_after) (copies_there after counts_after) in
+        (handles_there after counts_after) (copies_there after counts_after) in
         record {
           opens = held.opens;
           calls = held.calls;
@@ -119,21 +119,21 @@ module _ (w : World) (p : Plain) (both : BothSound w p) (old : OpensSound w)
 
   -- ---- what held requests name
 
-  -- Each number that a held request names is counted often enough for all of them.
-  pub held_numbers : HeldNumbersOpen w
-  held_numbers =
+  -- Each handle that a held request names is counted often enough for all of them.
+  pub held_handles : HeldHandlesOpen w
+  held_handles =
       balanced_open w p both.alike both.asked live balanced.balance
-      (λ unique t at o is. release_number unique t at o is)
+      (λ unique t at o is. release_handle unique t at o is)
       (λ call state at o named.
-      let used = All-contains (λ (x : Opened). 1 ≤ values_sum (has_number x.fh) w.kernel.vfs.opens + values_sum
-      (has_number x.fh) w.kernel.closing) (opens_of (asked state)) o
+      let used = All-contains (λ (x : Opened). 1 ≤ values_sum (has_handle x.fh) w.kernel.vfs.opens + values_sum
+      (has_handle x.fh) w.kernel.closing) (opens_of (asked state)) o
       (used_counted w.kernel.vfs w.kernel.closing old.apart call state at) named in
-      let both_lists = sum_by-append (has_number o.fh) (values w.kernel.vfs.opens) (values w.kernel.closing) in
+      let both_lists = sum_by-append (has_handle o.fh) (values w.kernel.vfs.opens) (values w.kernel.closing) in
       omega (arith, used, both_lists))
 
 -- ---- a copy is settled
 
--- After a copy is settled the server holds the numbers that are in use and on their way.
+-- After a copy is settled the server holds the handles that are in use and on their way.
 pub settled_held : (w : World) (p : Plain) → BothSound w p → ReleasesKnown w → OpensSound w
     → (k : ℕ) (result : ReplyResult) (copy : Copy) → slice_get w.results k ≡ Some result
     → get w.server.copies result.number ≡ Some copy
@@ -158,7 +158,7 @@ settled_held w p both releases old k result copy there known = by (is_live w.ker
         (event.settled result.unique result.result) v happens live in
         let kept = kept_stay_sent w both.world both.kept (event.settle k)
         (event.settled result.unique result.result) v happens in
-        counted_held v v.server.handles next.apart asked_so kept (numbers_there v counted) (copies_there v counted)
+        counted_held v v.server.handles next.apart asked_so kept (handles_there v counted) (copies_there v counted)
 
     by : (b : Bool) → is_live w.kernel.phase ≡ b → HoldsOpens (after_settle w k result (Some copy))
         (after_settle w k result (Some copy)).server.handles

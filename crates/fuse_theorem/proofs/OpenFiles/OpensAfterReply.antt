@@ -36,7 +36,7 @@ use Rattle.fuse_theorem.specs.Numbering.{requests_for}
 use Rattle.fuse_theorem.proofs.Calls.Finding.{filtered}
 use Rattle.fuse_theorem.proofs.Lookups.LookupsAfterReply.{unanswered}
 use Rattle.fuse_theorem.proofs.Lists.MapSums.{worth}
-use Rattle.fuse_theorem.proofs.Lists.OpenSums.{has_number, kernel_sum, pending_sum}
+use Rattle.fuse_theorem.proofs.Lists.OpenSums.{has_handle, kernel_sum, pending_sum}
 use Rattle.fuse_theorem.proofs.OpenFiles.OpensApart.{call_apart, call_below}
 use Rattle.fuse_theorem.proofs.Calls.OpenSteps.{gained, gained_by, gained_counts, replied_steps}
 use Rattle.fuse_theorem.proofs.OpenFiles.OpensKept.{KeepsOpen, unmoved, advanced_keeps, used_keeps, answered_keeps}
@@ -105,7 +105,7 @@ pub record ReceivesOpens (P : Opened → Type 0) (k : Kernel) (wire : WireReply)
     (taken : WriteResult × Kernel) : Type 0 where
   pub opens : Option Opened
   pub keeps : KeepsOpen k taken.1 opens
-  pub counts : (fh : ℕ) → worth (has_number fh) opens + refused taken.0 (opens_in fh wire) ≡ opens_in fh wire
+  pub counts : (fh : ℕ) → worth (has_handle fh) opens + refused taken.0 (opens_in fh wire) ≡ opens_in fh wire
   pub fits : (o : Opened) → opens ≡ Some o → P o
 
 module _ (P : Opened → Type 0) where
@@ -144,7 +144,7 @@ module _ (P : Opened → Type 0) where
       (there : get k.vfs.calls call ≡ Some state) (wire : WireReply) where
     -- what a reply that goes with the operation opens is what it carries
     state_counts : (fh : ℕ) (s : CallState Opened) → goes_with (asked s) wire ≡ true
-        → worth (has_number fh) (gained s (kernel_reply (asked s) wire)) ≡ opens_in fh wire
+        → worth (has_handle fh) (gained s (kernel_reply (asked s) wire)) ≡ opens_in fh wire
     state_counts fh (walking d word words plan) goes = by wire goes
       where
         by : (x : WireReply) → goes_with (lookup d word) x ≡ true → 0 ≡ opens_in fh x

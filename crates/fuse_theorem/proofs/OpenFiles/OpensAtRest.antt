@@ -1,4 +1,4 @@
--- At rest no closed file waits for its RELEASE, and the server counts of each open number what the kernel holds open.
+-- At rest no closed file waits for its RELEASE, and the server counts of each file handle what the kernel holds open.
 use Rattle.std.proofs.Common.{◌≡◌, ℕ, ◌+◌, true≢false, [], ◌∷◌, ◌++◌, nat_eq, count_by, refl, ap, sym, ◌∙◌, append-nil, arith}
 use Rattle.std.specs.Prelude.{sum_by}
 use Rattle.std.specs.List.{list_any}

@@ -1,4 +1,4 @@
--- Open numbers stay balanced, and of one open file at most, as answers are collected.
+-- File handles stay balanced, and of one open file at most, as answers are collected.
 use Rattle.fuse_spec.specs.Values.Maps.{Map}
 use Rattle.fuse_spec.specs.Calls.Answers.{Answer}
 use Rattle.fuse_spec.specs.World.Worlds.{World}

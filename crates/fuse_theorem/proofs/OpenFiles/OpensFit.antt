@@ -1,4 +1,4 @@
--- The file that a call opens has a number of its node's file.
+-- The file that a call opens has a handle of its node's file.
 use Rattle.std.proofs.Common.{◌≡◌, ℕ, ◌-◌, ◌≤◌, Bool, true, false, true≢false, cond, [], Some, None, nat_eq, refl, ap, sym, subst, ◌∙◌, All}
 use Rattle.std.specs.Prelude.{◌%◌}
 use Rattle.std.proofs.lemmas.List.Elements.{All-head}
@@ -27,7 +27,7 @@ use Rattle.fuse_theorem.proofs.Nodes.NodesKnown.{known_some}
 use Rattle.fuse_theorem.proofs.Calls.OpenSteps.{gained_by}
 use Rattle.fuse_theorem.proofs.Lists.Values.{All-get}
 
--- Where the reply's number is one of its file, and its nodes are held, the file that it opens has a number of its
+-- Where the reply's handle is one of its file, and its nodes are held, the file that it opens has a handle of its
 -- node's file.
 reply_fits : (t : NodeTable) (h : HandleTable) (operation : Operation ℕ Opened) (wire : WireReply)
     → goes_with operation wire ≡ true → OpensItsFile t h operation wire → EntriesHeld t wire

@@ -1,4 +1,4 @@
--- The number of each open file stays one of its node's file as the server's tables change.
+-- The handle of each open file stays one of its node's file as the server's tables change.
 use Rattle.std.proofs.Common.{◌≡◌, ◌≢◌, ℕ, ◌≤◌, Bool, true, true≢false, cond, List, [], ◌∷◌, ◌++◌, Option, Some, None, is_some, get_or, refl, ap, sym, subst, ◌∙◌, arith, All}
 use Rattle.std.specs.Prelude.{sum_by}
 use Rattle.std.proofs.lemmas.List.Elements.{All-nil, All-cons, All-head, All-tail, All-append}
@@ -17,7 +17,7 @@ use Rattle.fuse_spec.specs.Claim.Counts.{handle_count}
 use Rattle.fuse_spec.specs.Claim.Denotes.{Denotes, generation_known}
 use Rattle.fuse_spec.specs.World.Worlds.{World}
 use Rattle.fuse_theorem.specs.AskedRequests.{IsAsked, SentAsked, RequestsAsked}
-use Rattle.fuse_theorem.specs.Conditions.{KnownAreHeld, IsOpenNumber}
+use Rattle.fuse_theorem.specs.Conditions.{KnownAreHeld, IsFileHandle}
 use Rattle.fuse_theorem.specs.KnownNodes.{IsKnown, NodesKnown}
 use Rattle.fuse_theorem.specs.OpenNumbers.{released_for, released_by, all_released, released_pending, released_sent, released_held, open_files, IsOfItsNode, OpensBalanced}
 use Rattle.fuse_theorem.specs.ReleasesKnown.{ReleaseKnown, ReleasesKnown}
@@ -28,7 +28,7 @@ use Rattle.fuse_theorem.proofs.Nodes.NodesKnown.{All-more}
 use Rattle.fuse_theorem.proofs.OpenFiles.NumberCounts.{SameFiles}
 use Rattle.fuse_theorem.proofs.OpenFiles.ReleasesStay.{release_known}
 use Rattle.fuse_theorem.proofs.Lists.Values.{All-found_values}
-use Rattle.fuse_theorem.proofs.Lists.OpenSums.{has_number, CountsOpens, opens_counted, fewer_pass}
+use Rattle.fuse_theorem.proofs.Lists.OpenSums.{has_handle, CountsOpens, opens_counted, fewer_pass}
 
 -- ---- what holds of each open file
 
@@ -97,20 +97,20 @@ module _ (w : World) (nodes : NodesKnown w.kernel) (releases : ReleasesKnown w) 
 
 -- ---- what is counted is there
 
--- Each open file's number is one of the server's.
-pub numbers_there : (w : World) → CountsOpens w → All (λ (o : Opened). IsOpenNumber w.server.handles o.fh) (open_files w)
-numbers_there w counts i d lt none =
+-- Each open file's handle is one of the server's.
+pub handles_there : (w : World) → CountsOpens w → All (λ (o : Opened). IsFileHandle w.server.handles o.fh) (open_files w)
+handles_there w counts i d lt none =
     let o = get_or (open_files w) i d in
-    let sum : has_number o.fh o ≤ sum_by (has_number o.fh) (open_files w) =
-    get_or-le-sum_by (has_number o.fh) (open_files w) i d lt in
-    let here : has_number o.fh o ≡ 1 = ap {B = ℕ} (λ (b : Bool). cond b 1 0) (same_is o.fh) in
+    let sum : has_handle o.fh o ≤ sum_by (has_handle o.fh) (open_files w) =
+    get_or-le-sum_by (has_handle o.fh) (open_files w) i d lt in
+    let here : has_handle o.fh o ≡ 1 = ap {B = ℕ} (λ (b : Bool). cond b 1 0) (same_is o.fh) in
     let whole = counts o.fh in
     let zero_here : handle_count (get w.server.handles.handles o.fh) ≡ 0 = ap handle_count none in
     absurd (omega (arith, sum, here, whole, zero_here))
 
 -- ---- the tables change
 
--- No more files are open than were, and those that are known are held as before: each number that is there still is one
+-- No more files are open than were, and those that are known are held as before: each handle that is there still is one
 -- of its node's file.
 pub files_still : (w v : World) → All (λ (o : Opened). IsKnown w.kernel.nodes o.nodeid) (open_files w)
     → v.kernel.nodes ≡ w.kernel.nodes → KnownAreHeld w → KnownAreHeld v
@@ -121,7 +121,7 @@ pub files_still : (w v : World) → All (λ (o : Opened). IsKnown w.kernel.nodes
 files_still w v known same_nodes held held_after denotes same_files fewer old counts = record {
   balance = opens_counted v counts;
   files = λ i d lt. let o = get_or (open_files v) i d in
-      still o (known_left i d lt) (were i d lt) (numbers_there v counts i d lt);
+      still o (known_left i d lt) (were i d lt) (handles_there v counts i d lt);
 }
   where
     is_known : Opened → Bool
@@ -145,7 +145,7 @@ files_still w v known same_nodes held held_after denotes same_files fewer old co
     were : All (λ (o : Opened). was_open o ≡ true) (open_files v)
     were = left was_open old
 
-    still : (o : Opened) → is_known o ≡ true → was_open o ≡ true → IsOpenNumber v.server.handles o.fh
+    still : (o : Opened) → is_known o ≡ true → was_open o ≡ true → IsFileHandle v.server.handles o.fh
         → IsOfItsNode v.server o
     still o some was there = by (generation_known w.kernel.nodes o.nodeid) refl some
       where

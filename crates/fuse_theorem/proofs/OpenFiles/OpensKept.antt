@@ -259,7 +259,7 @@ begun_keeps k old call = by (is_aborted k.phase)
 
 -- ---- a signal reaches a call
 
--- What is answered before its request is read gives up its use.
+-- What is answered before its request is read ends its use.
 pub answered_keeps : (k : Kernel) → OpensApart k.vfs k.closing → (call : ℕ) (state : CallState Opened)
     → get k.vfs.calls call ≡ Some state → (a : Answer)
     → KeepsOpen k (after_use (record k { vfs = answered k.vfs call a }) state) None

@@ -1,4 +1,4 @@
--- Open numbers stay balanced as the kernel goes on and takes replies.
+-- File handles stay balanced as the kernel goes on and takes replies.
 use Rattle.std.proofs.Common.{◌≡◌, ℕ, ◌+◌, Bool, true, false, cond, List, [], ◌∷◌, ◌++◌, drop, take, Option, Some, None, slice_get, refl, ap, ◌∙◌, arith}
 use Rattle.std.specs.Prelude.{sum_by}
 use Rattle.std.specs.List.{remove as without_at}
@@ -17,7 +17,7 @@ use Rattle.fuse_spec.specs.World.Worlds.{World, Sent, forget_body, world_after_r
 use Rattle.fuse_theorem.specs.Copies.{IsKnownCopy, CopiesSound}
 use Rattle.fuse_theorem.specs.OpenNumbers.{released_by, open_files, IsOfItsNode, OpensBalanced}
 use Rattle.fuse_theorem.proofs.Lists.MapSums.{worth}
-use Rattle.fuse_theorem.proofs.Lists.OpenSums.{kernel_sum, sent_sum, open_sum, has_number, CountsOpens, counts_opens, opens_counted, none_failing, all_pass, failing, fewer_pass}
+use Rattle.fuse_theorem.proofs.Lists.OpenSums.{kernel_sum, sent_sum, open_sum, has_handle, CountsOpens, counts_opens, opens_counted, none_failing, all_pass, failing, fewer_pass}
 use Rattle.fuse_theorem.proofs.OpenFiles.OpensKept.{KeepsOpen}
 use Rattle.fuse_theorem.proofs.OpenFiles.OpensAfterReply.{ReceivesOpens}
 use Rattle.fuse_theorem.proofs.Lists.LinkSums.{sum_removed}
@@ -41,7 +41,7 @@ pub kernel_moves : (w : World) → OpensBalanced w → (k : Kernel) (requests : 
     → OpensBalanced (record w { kernel = k; requests = requests })
 kernel_moves w old k requests same = record {
   balance = opens_counted v (λ fh. let was = counts_opens w old.balance fh in
-      let sum = open_same w k requests same (has_number fh) in omega (arith, was, sum));
+      let sum = open_same w k requests same (has_handle fh) in omega (arith, was, sum));
   files = fewer_pass was_open (open_files w) (open_files v)
       (λ f. let sum = open_same w k requests same f in omega (arith, sum)) old.files;
 }
@@ -132,7 +132,7 @@ module _ (w : World) (old : OpensBalanced w) (copies : CopiesSound w) (k : ℕ) 
   counted : CountsOpens written
   counted fh =
       let whole = counts_opens w old.balance fh in
-      let sum = moved (has_number fh) in
+      let sum = moved (has_handle fh) in
       let gone : replies_carry fh (without_at w.replies k) + opens_in fh sent.wire ≡ replies_carry fh w.replies =
       sum_removed (λ (s : Sent). opens_in fh s.wire) w.replies k sent there in
       let pushed : results_carry fh w.server (w.results
@@ -151,7 +151,7 @@ module _ (w : World) (old : OpensBalanced w) (copies : CopiesSound w) (k : ℕ) 
   abbrev was_open : Opened → Bool
   was_open o = is_open w.server.handles o.fh (file_of w.server.nodes o.nodeid)
 
-  -- the file that is opened has a number of its node's file
+  -- the file that is opened has a handle of its node's file
   new_fits : (o : Option Opened) → ((x : Opened) → o ≡ Some x → IsOfItsNode w.server x) → worth (failing was_open) o ≡ 0
   new_fits None each = refl
   new_fits (Some x) each = ap {B = ℕ} (λ (b : Bool). cond b 0 1) (each x refl)

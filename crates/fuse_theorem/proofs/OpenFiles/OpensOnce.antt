@@ -1,4 +1,4 @@
--- An open number is of one open file at most, as the kernel and the server go on.
+-- A file handle is of one open file at most, as the kernel and the server go on.
 use Rattle.std.proofs.Common.{◌≡◌, ◌≢◌, ℕ, ◌+◌, ◌≤◌, Bool, true, false, cond, List, [], ◌∷◌, ◌++◌, Some, None, nat_eq, slice_get, zero, suc, refl, ap, sym, subst, ◌∙◌, arith, ◌⊎◌, inl, inr}
 use Rattle.std.specs.Prelude.{sum_by}
 use Rattle.std.specs.List.{remove as without_at}
@@ -11,7 +11,7 @@ use Rattle.fuse_theorem.specs.Copies.{SomeHas, here, there}
 use Rattle.fuse_theorem.specs.OpenNumbers.{open_files}
 use Rattle.fuse_theorem.specs.OpensOnce.{CarriesOpen, OpensOnce}
 use Rattle.fuse_theorem.proofs.Calls.Finding.{other_is}
-use Rattle.fuse_theorem.proofs.Lists.OpenSums.{has_number}
+use Rattle.fuse_theorem.proofs.Lists.OpenSums.{has_handle}
 
 -- ---- an element that has a property
 
@@ -40,14 +40,14 @@ module _ {X : Type 0} (P : X → Type 0) where
   has_at (y ∷ xs) zero x at p = let same : y ≡ x = cc (at) in here y xs (subst P (sym same) p)
   has_at (y ∷ xs) (suc k) x at p = there y xs (has_at xs k x at p)
 
--- ---- no number is new
+-- ---- no handle is new
 
--- How many open files have the number.
+-- How many open files have the handle.
 abbrev pub files_with : ℕ → World → ℕ
-files_with fh w = sum_by (has_number fh) (open_files w)
+files_with fh w = sum_by (has_handle fh) (open_files w)
 
 module _ (w v : World) (old : OpensOnce w) where
-  -- No more replies carry a number, no more files are open, and what is awaited was awaited.
+  -- No more replies carry a handle, no more files are open, and what is awaited was awaited.
   pub none_new : w.server.handles.next_fh ≤ v.server.handles.next_fh → ((u fh : ℕ) → CarriesOpen v u fh → CarriesOpen w u fh)
       → ((u fh : ℕ) → CarriesOpen w u fh → request_under v.kernel.queues u ≢ None → request_under w.kernel.queues u ≢ None)
       → ((fh : ℕ) → files_with fh v ≤ files_with fh w) → OpensOnce v
@@ -62,9 +62,9 @@ module _ (w v : World) (old : OpensOnce w) where
     once = λ fh. let was = old.once fh in let less = fewer fh in omega (arith, was, less);
   }
 
-  -- ---- a number is new
+  -- ---- a handle is new
 
-  -- The reply to one request carries the coming number alone, which no file has.
+  -- The reply to one request carries the coming handle alone, which no file has.
   pub one_new : (unique : ℕ) → ((u fh : ℕ) → CarriesOpen v u fh
       → ((u ≡ unique) × (fh ≡ w.server.handles.next_fh) × (v.server.handles.next_fh ≡ w.server.handles.next_fh + 1))
       ⊎ CarriesOpen w u fh) → w.server.handles.next_fh ≤ v.server.handles.next_fh
@@ -98,15 +98,15 @@ module _ (w v : World) (old : OpensOnce w) where
       both a b fh (inr c) (inl m) = let is = m.1 in let low = old.below a fh c in absurd (omega (arith, is, low))
       both a b fh (inr c) (inr d) = old.one a b fh c d
 
-  -- ---- a number is opened
+  -- ---- a handle is opened
 
-  -- The request whose reply carried the number of the file that is opened is answered.
+  -- The request whose reply carried the handle of the file that is opened is answered.
   pub one_opened : (unique : ℕ) (o : Opened) → w.server.handles.next_fh ≤ v.server.handles.next_fh
       → ((u fh : ℕ) → CarriesOpen v u fh → CarriesOpen w u fh)
       → ((u fh : ℕ) → CarriesOpen w u fh → request_under v.kernel.queues u ≢ None → request_under w.kernel.queues u ≢ None)
       → CarriesOpen w unique o.fh → request_under w.kernel.queues unique ≢ None
       → request_under v.kernel.queues unique ≡ None → ((fh : ℕ)
-      → files_with fh v ≡ files_with fh w + has_number fh o) → OpensOnce v
+      → files_with fh v ≡ files_with fh w + has_handle fh o) → OpensOnce v
   one_opened unique o rises carried awaited mine waited ended more = record {
     below = λ u fh c. let was = old.below u fh (carried u fh c) in omega (arith, rises, was);
     one = λ a b fh c d. old.one a b fh (carried a fh c) (carried b fh d);

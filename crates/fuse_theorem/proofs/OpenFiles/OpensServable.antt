@@ -1,4 +1,4 @@
--- What `Held` says of open numbers: those that a live kernel uses, and those that requests name, are numbers of their
+-- What `Held` says of file handles: those that a live kernel uses, and those that requests name, are handles of their
 -- nodes' files.
 use Rattle.fuse_spec.specs.Values.Numbers.{init_flags}
 use Rattle.std.proofs.Common.{◌≡◌, ℕ, true, List, ◌++◌, Option, Some, None, refl, ap, sym, subst, ◌∙◌, inl, inr, All}
@@ -14,7 +14,7 @@ use Rattle.fuse_spec.specs.Kernel.Queues.{pending}
 use Rattle.fuse_spec.specs.Calls.Vfs.{CallState, walking, doing, using, asked}
 use Rattle.fuse_spec.specs.Kernel.Kernel.{body_of, asked_by}
 use Rattle.fuse_spec.specs.Server.Nodes.{file_in, file_of, is_open}
-use Rattle.fuse_spec.specs.Claim.Counts.{opens_of, opens_of_body, IsMeant, IsOpenMeant}
+use Rattle.fuse_spec.specs.Claim.Counts.{opens_of, opens_of_body, NodeDenotesSome, OpenDenotesSome}
 use Rattle.fuse_spec.specs.World.Worlds.{World}
 use Rattle.fuse_theorem.specs.AskedRequests.{RequestsAsked, SentAsked}
 use Rattle.fuse_theorem.specs.OpenNumbers.{OpensApart, IsOfItsNode, released_for, released_by, released_pending, released_sent, released_held, open_files}
@@ -90,7 +90,7 @@ module _ (w : World) (files : All (IsOfItsNode w.server) (open_files w)) where
         cc in subst (λ (b : RequestBody). All Fits (opens_of_body b)) same released
     kept_fit (purpose.Call call) released body is = called_fit call (get w.kernel.vfs.calls call) refl body is
 
-    -- The numbers that pending requests name.
+    -- The handles that pending requests name.
     pub pending_servable : (e : ℕ × QueuedRequest Purpose) → All Fits (released_for e.1.kept) → (body : RequestBody)
         → body_of w.kernel e.1.kept ≡ Some body → All Fits (opens_of_body body)
     pending_servable e released body is = kept_fit e.1.kept released body is
@@ -112,8 +112,8 @@ module _ (w : World) (files : All (IsOfItsNode w.server) (open_files w)) where
 
 -- ---- an open file of a node that means a file
 
--- It means that file.
-pub open_meant : (w : World) (o : Opened) → IsMeant w o.nodeid → IsOfItsNode w.server o → IsOpenMeant w o
+-- It denotes that file.
+pub open_meant : (w : World) (o : Opened) → NodeDenotesSome w o.nodeid → IsOfItsNode w.server o → OpenDenotesSome w o
 open_meant w o meant fits =
     let means = meant.1 in
     let denotes = means.denotes in
@@ -121,7 +121,7 @@ open_meant w o meant fits =
       meant.0,
       record {
         node_means = means;
-        is_number =
+        is_handle =
             subst (λ (file : ℕ). is_open w.server.handles o.fh file ≡ true) same fits;
       },
     )

@@ -1,4 +1,4 @@
--- Open numbers stay balanced as the server takes requests, performs them, sends copies and settles them.
+-- File handles stay balanced as the server takes requests, performs them, sends copies and settles them.
 use Rattle.std.proofs.Common.{◌≡◌, ℕ, ◌+◌, Bool, true, false, true≢false, ◌&&◌, List, [], ◌∷◌, ◌++◌, Option, Some, None, is_some, slice_get, get_or, refl, ap, sym, ◌∙◌, arith, All}
 use Rattle.std.specs.Prelude.{◌%◌, sum_by}
 use Rattle.std.specs.List.{list_all, remove as without_at}
@@ -25,10 +25,10 @@ use Rattle.fuse_theorem.specs.Unperformed.{BearsNumber}
 use Rattle.fuse_theorem.proofs.Replies.CopiesSound.{results_still, results_apart}
 use Rattle.fuse_theorem.proofs.Lists.LinkSums.{sum_removed, sum_same}
 use Rattle.fuse_theorem.proofs.Lists.MapSums.{Rises, worth, sum_put}
-use Rattle.fuse_theorem.proofs.OpenFiles.NumberCounts.{number_count, counted_counts, given_back_counts}
-use Rattle.fuse_theorem.proofs.Lists.OpenSums.{has_number, held_sum, open_sum, CountsOpens}
+use Rattle.fuse_theorem.proofs.OpenFiles.NumberCounts.{fh_count, counted_counts, given_back_counts}
+use Rattle.fuse_theorem.proofs.Lists.OpenSums.{has_handle, held_sum, open_sum, CountsOpens}
 
--- How often copies on the reply link carry a number, and how often the refused ones did.
+-- How often copies on the reply link carry a handle, and how often the refused ones did.
 abbrev pub replies_carry : ℕ → List Sent → ℕ
 replies_carry fh replies = sum_by (λ (s : Sent). opens_in fh s.wire) replies
 
@@ -46,8 +46,8 @@ module _ (w : World) (counts : CountsOpens w) (sound : CopiesSound w) (server : 
   pub copy_out : (v : World) (copy : Copy) → v.server.copies ≡ put w.server.copies w.server.next_copy copy
       → v.replies ≡ w.replies ++ record { number = w.server.next_copy; unique = copy.unique; wire = copy.wire } ∷ []
       → v.results ≡ w.results
-      → ((fh : ℕ) → number_count v.server.handles fh + sum_by (has_number fh) (open_files w)
-      ≡ number_count w.server.handles fh + opens_in fh copy.wire + sum_by (has_number fh) (open_files v))
+      → ((fh : ℕ) → fh_count v.server.handles fh + sum_by (has_handle fh) (open_files w)
+      ≡ fh_count w.server.handles fh + opens_in fh copy.wire + sum_by (has_handle fh) (open_files v))
       → CountsOpens v
   copy_out v copy copies replies results moved fh =
       let whole = counts fh in
@@ -71,8 +71,8 @@ module _ (w : World) (counts : CountsOpens w) (sound : CopiesSound w) (server : 
 
   -- Nothing goes out.
   pub none_out : (v : World) → v.server.copies ≡ w.server.copies → v.replies ≡ w.replies → v.results ≡ w.results
-      → ((fh : ℕ) → number_count v.server.handles fh + sum_by (has_number fh) (open_files w)
-      ≡ number_count w.server.handles fh + sum_by (has_number fh) (open_files v)) → CountsOpens v
+      → ((fh : ℕ) → fh_count v.server.handles fh + sum_by (has_handle fh) (open_files w)
+      ≡ fh_count w.server.handles fh + sum_by (has_handle fh) (open_files v)) → CountsOpens v
   none_out v copies replies results moved fh =
       let whole = counts fh in
       let change = moved fh in
@@ -153,19 +153,19 @@ module _ (w : World) (counts : CountsOpens w) (sound : CopiesSound w) (server : 
       ≡ sum_by f (open_files w)) → CountsOpens (after_take w k unique (taking w.server unique body))
   taken_counts k unique (init flags) same = none_out
       (after_take w k unique (taking w.server unique (init flags))) refl refl refl
-      (λ fh. let sum = same (has_number fh) in omega (arith, sum))
+      (λ fh. let sum = same (has_handle fh) in omega (arith, sum))
   taken_counts k unique (asks operation) same = none_out
       (after_take w k unique (taking w.server unique (asks operation))) refl refl refl
-      (λ fh. let sum = same (has_number fh) in omega (arith, sum))
+      (λ fh. let sum = same (has_handle fh) in omega (arith, sum))
   taken_counts k unique (release o) same = none_out
       (after_take w k unique (taking w.server unique (release o))) refl refl refl
-      (λ fh. let sum = same (has_number fh) in omega (arith, sum))
+      (λ fh. let sum = same (has_handle fh) in omega (arith, sum))
   taken_counts k unique (forget x) same = none_out
       (after_take w k unique (taking w.server unique (forget x))) refl refl refl
-      (λ fh. let sum = same (has_number fh) in omega (arith, sum))
+      (λ fh. let sum = same (has_handle fh) in omega (arith, sum))
   taken_counts k unique (batch_forget xs) same = none_out
       (after_take w k unique (taking w.server unique (batch_forget xs))) refl refl refl
-      (λ fh. let sum = same (has_number fh) in omega (arith, sum))
+      (λ fh. let sum = same (has_handle fh) in omega (arith, sum))
   taken_counts k unique (interrupt original) same_sum =
       by (get w.server.held original) (get w.server.kept original) same_sum
     where
@@ -174,13 +174,13 @@ module _ (w : World) (counts : CountsOpens w) (sound : CopiesSound w) (server : 
           ≡ sum_by f (open_files w)) → CountsOpens (after_take w k unique (interrupting w.server unique original h o))
       by (Some t) o same = none_out (after_take w k unique
           (interrupting w.server unique original (Some t) o)) refl refl refl
-          (λ fh. let sum = same (has_number fh) in omega (arith, sum))
+          (λ fh. let sum = same (has_handle fh) in omega (arith, sum))
       by None (Some x) same = none_out (after_take w k unique
           (interrupting w.server unique original None (Some x))) refl refl refl
-          (λ fh. let sum = same (has_number fh) in omega (arith, sum))
+          (λ fh. let sum = same (has_handle fh) in omega (arith, sum))
       by None None same = copy_out (after_take w k unique (interrupting w.server unique original None None))
           (record { unique = unique; wire = failed 11; first = w.server.next_copy }) refl refl refl
-          (λ fh. let sum = same (has_number fh) in omega (arith, sum))
+          (λ fh. let sum = same (has_handle fh) in omega (arith, sum))
 
   -- ---- more copies
 

@@ -1,4 +1,4 @@
--- Open numbers stay balanced, whatever happens.
+-- File handles stay balanced, whatever happens.
 use Rattle.fuse_spec.specs.declared.Minor.{Minor}
 use Rattle.std.proofs.Common.{◌≡◌, ℕ, Bool, true, false, true≢false, cond, [], Option, Some, None, slice_get, refl, ap, sym, subst, ◌∙◌, arith}
 use Rattle.std.specs.List.{remove as without_at}
@@ -11,7 +11,7 @@ use Rattle.fuse_spec.specs.Server.Copies.{kept_after, after_result}
 use Rattle.fuse_spec.specs.Calls.Calls.{Call, for_minor}
 use Rattle.fuse_spec.specs.Values.Maps.{Map, get, remove}
 use Rattle.fuse_spec.specs.Kernel.Messages.{RequestBody, init, asks, release, forget, batch_forget, interrupt}
-use Rattle.fuse_spec.specs.Calls.Vfs.{Vfs, begun, given_up, later}
+use Rattle.fuse_spec.specs.Calls.Vfs.{Vfs, begun, abandoned, later}
 use Rattle.fuse_spec.specs.Kernel.Kernel.{Kernel, is_live, is_aborted, advanced, closed_by, closing_of, call_begun}
 use Rattle.fuse_spec.specs.Reference.Plain.{Plain}
 use Rattle.fuse_spec.specs.Kernel.Replies.{reply_written}
@@ -46,7 +46,7 @@ use Rattle.fuse_theorem.proofs.Replies.WriteNeeds.{write_met}
 
 -- ---- nothing is open
 
-emptied_apart : (c : Vfs Opened) → OpensApart (given_up c) []
+emptied_apart : (c : Vfs Opened) → OpensApart (abandoned c) []
 emptied_apart c = record {
   once = λ n. omega arith;
   below = λ n high. refl;
@@ -325,7 +325,7 @@ module _ (choice : ℕ → ℕ) (w : World) (p : Plain) (both : BothSound w p) (
   unopened_after e o after (by_evict node counted live there unused) dead = lives_on after.kernel refl live dead
   unopened_after e o after (by_abort live) dead = (refl, refl)
 
--- Open numbers stay balanced, whatever the event.
+-- File handles stay balanced, whatever the event.
 pub opens_stay : (w : World) (p : Plain) → BothSound w p → ReleasesKnown w → OpensSound w
     → (e : Event) (o : Outcome) (after : World) → Happens w e o after → OpensSound after
 opens_stay w p both releases old e o after h =

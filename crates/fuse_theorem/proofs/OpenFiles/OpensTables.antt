@@ -1,4 +1,4 @@
--- Open numbers stay balanced as the tables of the server change.
+-- File handles stay balanced as the tables of the server change.
 use Rattle.std.proofs.Common.{◌≡◌, ℕ, ◌+◌, ◌≤◌, Bool, true, false, true≢false, cond, List, [], ◌∷◌, ◌++◌, Option, Some, None, nat_eq, is_some, slice_get, count_by, refl, ap, sym, subst, ◌∙◌, arith, All}
 use Rattle.std.specs.Prelude.{◌%◌, sum_by}
 use Rattle.std.specs.List.{remove as without_at}
@@ -42,11 +42,11 @@ use Rattle.fuse_theorem.proofs.Lookups.LookupsStay.{known_held}
 use Rattle.fuse_theorem.proofs.Lists.MapSums.{Rises, worth, sum_gone}
 use Rattle.fuse_theorem.proofs.OpenFiles.NumberCounts.{SameFiles, given_back_files}
 use Rattle.fuse_theorem.proofs.Requests.NumbersStay.{replying_kernel}
-use Rattle.fuse_theorem.proofs.Lists.OpenSums.{held_sum, open_sum, has_number, CountsOpens, counts_opens, All-left, All-right}
+use Rattle.fuse_theorem.proofs.Lists.OpenSums.{held_sum, open_sum, has_handle, CountsOpens, counts_opens, All-left, All-right}
 use Rattle.fuse_theorem.proofs.OpenFiles.OpensInUse.{open_known, files_still}
 use Rattle.fuse_theorem.proofs.OpenFiles.OpensServed.{body_sum, copy_out, taken_sum, taken_counts, again_counts, settled_counts}
 use Rattle.fuse_theorem.proofs.Lookups.PerformedCounts.{Counts, performed_counts}
-use Rattle.fuse_theorem.proofs.OpenFiles.PerformedNumbers.{Numbers, Releases, performed_numbers}
+use Rattle.fuse_theorem.proofs.OpenFiles.PerformedNumbers.{Numbers, Releases, performed_handles}
 use Rattle.fuse_theorem.proofs.Requests.PerformedRest.{performed_rest}
 use Rattle.fuse_theorem.proofs.Refining.Queuing.{All-at}
 use Rattle.fuse_theorem.proofs.Refining.Settling.{rows_back_denotes}
@@ -73,7 +73,7 @@ held_fits w old unique t at o is =
     All-head (IsOfItsNode w.server) o [] (subst (λ (b : RequestBody). All (IsOfItsNode w.server)
     (released_by b)) is mine)
 
--- To take a request changes no open number.
+-- To take a request changes no file handle.
 pub taken_handles : (w : World) (unique : ℕ) (body : RequestBody)
     → (taking w.server unique body).server.handles ≡ w.server.handles
 taken_handles w unique (init flags) = refl
@@ -256,10 +256,10 @@ module _ (w : World) (p : Plain) (both : BothSound w p) (live : is_live w.kernel
       number = held_fits w old.files unique t there o is;
       counted = λ fh.
           let whole = counts fh in
-          let sum = open_sum (has_number fh) w in
-          let part = held_less (has_number fh) in
-          let mine = ap (body_sum (has_number fh)) is in
-          let alone = sum_by-cons (has_number fh) o [] in
+          let sum = open_sum (has_handle fh) w in
+          let part = held_less (has_handle fh) in
+          let mine = ap (body_sum (has_handle fh)) is in
+          let alone = sum_by-cons (has_handle fh) o [] in
           omega (arith, whole, sum, part, mine, alone);
     }
       where
@@ -284,7 +284,7 @@ module _ (w : World) (p : Plain) (both : BothSound w p) (live : is_live w.kernel
         serving = let links = both.links in links.serving live
 
         numbers : Numbers less t.body (performed choice (record w.server { held = remove w.server.held unique }) t)
-        numbers = let handles = server_sound.handles in performed_numbers choice less serving
+        numbers = let handles = server_sound.handles in performed_handles choice less serving
             (handles.numbers w.server.handles.next_fh (omega arith)) t releasing
 
         nodes : Counts less (performed choice (record w.server { held = remove w.server.held unique }) t)
@@ -313,7 +313,7 @@ module _ (w : World) (p : Plain) (both : BothSound w p) (live : is_live w.kernel
               first = w.server.next_copy;
             }) copies refl refl
             (λ fh. let change = numbers.counts fh in let files =
-            performed_files (Some (served choice w.server unique t).wire) (has_number fh) in
+            performed_files (Some (served choice w.server unique t).wire) (has_handle fh) in
             omega (arith, change, files)))
 
   -- ---- copies are sent again and settled

@@ -14,7 +14,7 @@ use Rattle.fuse_theorem.specs.AskedRequests.{IsAsked}
 use Rattle.fuse_theorem.specs.OpenNumbers.{OpensApart, UsesOpen}
 use Rattle.fuse_theorem.proofs.Calls.Finding.{same_is}
 use Rattle.fuse_theorem.proofs.Lists.MapSums.{Rises, values_sum, worth, sum_gone}
-use Rattle.fuse_theorem.proofs.Lists.OpenSums.{has_number}
+use Rattle.fuse_theorem.proofs.Lists.OpenSums.{has_handle}
 
 -- A value that is found is counted.
 pub found_counted : {X : Type 0} (f : X → ℕ) (m : Map X) (k : ℕ) (x : X) → Rises m → get m k ≡ Some x
@@ -28,32 +28,32 @@ found_counted f m k x rises at =
 
 module _ (c : Vfs Opened) (closing : Map Opened) (apart : OpensApart c closing) where
   pub used_counted : (call : ℕ) (state : CallState Opened) → get c.calls call ≡ Some state
-      → All (λ (o : Opened). 1 ≤ values_sum (has_number o.fh) c.opens + values_sum (has_number o.fh) closing)
+      → All (λ (o : Opened). 1 ≤ values_sum (has_handle o.fh) c.opens + values_sum (has_handle o.fh) closing)
       (opens_of (asked state))
   used_counted call state at = by state (apart.uses call state at)
     where
-      same_number : (o : Opened) → has_number o.fh o ≡ 1
+      same_number : (o : Opened) → has_handle o.fh o ≡ 1
       same_number o = ap {B = ℕ} (λ (b : Bool). cond b 1 0) (same_is o.fh)
 
       counted : (open_call : ℕ) (o : Opened) → (get c.opens open_call ≡ Some o) ⊎ (get closing open_call ≡ Some o)
-          → 1 ≤ values_sum (has_number o.fh) c.opens + values_sum (has_number o.fh) closing
+          → 1 ≤ values_sum (has_handle o.fh) c.opens + values_sum (has_handle o.fh) closing
       counted open_call o (inl h) =
           let one = same_number o in
-          let all = found_counted (has_number o.fh) c.opens open_call o apart.opens h in
+          let all = found_counted (has_handle o.fh) c.opens open_call o apart.opens h in
           omega (arith, one, all)
       counted open_call o (inr h) =
           let one = same_number o in
-          let all = found_counted (has_number o.fh) closing open_call o apart.closing h in
+          let all = found_counted (has_handle o.fh) closing open_call o apart.closing h in
           omega (arith, one, all)
 
       by : (s : CallState Opened) → UsesOpen c.opens closing s
-          → All (λ (o : Opened). 1 ≤ values_sum (has_number o.fh) c.opens + values_sum (has_number o.fh) closing)
+          → All (λ (o : Opened). 1 ≤ values_sum (has_handle o.fh) c.opens + values_sum (has_handle o.fh) closing)
           (opens_of (asked s))
-      by (walking d word words plan) h = All-nil (λ (o : Opened). 1 ≤ values_sum (has_number o.fh) c.opens + values_sum
-          (has_number o.fh) closing)
+      by (walking d word words plan) h = All-nil (λ (o : Opened). 1 ≤ values_sum (has_handle o.fh) c.opens + values_sum
+          (has_handle o.fh) closing)
       by (doing operation) h = subst (λ (os : List Opened). All
-          (λ (o : Opened). 1 ≤ values_sum (has_number o.fh) c.opens + values_sum (has_number o.fh) closing) os) (sym h)
-          (All-nil (λ (o : Opened). 1 ≤ values_sum (has_number o.fh) c.opens + values_sum (has_number o.fh) closing))
+          (λ (o : Opened). 1 ≤ values_sum (has_handle o.fh) c.opens + values_sum (has_handle o.fh) closing) os) (sym h)
+          (All-nil (λ (o : Opened). 1 ≤ values_sum (has_handle o.fh) c.opens + values_sum (has_handle o.fh) closing))
       by (using open_call operation) h = λ i d lt. counted open_call (get_or (opens_of operation) i d) (h i d lt)
 
 -- A request of a call asks what the call waits for.

@@ -203,7 +203,7 @@ received_kept k old call wire (Some state) = by (goes_with (asked state) wire)
     by false = used_kept (record k { vfs = answered k.vfs call (answer.failed 5) }) state
         (record { closing = old.closing; requests = old.requests })
 
--- Everything is given up.
+-- Everything is abandoned.
 pub none_kept : (k : Kernel) → k.closing ≡ [] → k.queues.requests ≡ [] → KeptReleases k
 none_kept k closing requests = record {
   closing = subst (λ (m : Map Opened). All (OpenKnown k.nodes) (values m)) (sym closing) (All-nil (OpenKnown k.nodes));

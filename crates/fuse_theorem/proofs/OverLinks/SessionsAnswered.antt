@@ -21,13 +21,13 @@ use Rattle.fuse_theorem.proofs.Answers.EachAnsweredOnce.{answered_collected, col
 use Rattle.fuse_theorem.proofs.Nodes.Rooted.{stays_rooted}
 
 -- The calls stay sound, and a call whose answer was collected stays so.
-pub record BothStay (c d : Vfs Opened) : Type 0 where
+pub record BothKept (c d : Vfs Opened) : Type 0 where
   pub sound : AnswersSound d
   pub still_collected : (call : ℕ) → IsCollected c call → IsCollected d call
 
 -- An event and then an abort.
 pub both_stay : (w : World) → AnswersSound w.kernel.vfs → (e : Event) (o : Outcome) (mid last : World)
-    → Happens w e o mid → Happens mid abort aborted last → BothStay w.kernel.vfs last.kernel.vfs
+    → Happens w e o mid → Happens mid abort aborted last → BothKept w.kernel.vfs last.kernel.vfs
 both_stay w sound e o mid last happens aborts =
     let first = calls_stay w sound e o mid happens in
     let second = calls_stay mid first.sound abort aborted last aborts in

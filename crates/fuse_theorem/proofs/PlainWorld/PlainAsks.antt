@@ -251,10 +251,10 @@ module _ (k : Kernel) (p : Plain) (old : AsksServed k p) where
   served_ask label ask at marks q (performed reply) = λ e. absurd (cc)
   served_ask label ask at marks q declined = λ e. absurd (cc)
 
-  told_ask : (label next : ℕ) (ask : Ask) (q : Plain) (stage : Stage)
+  replied_ask : (label next : ℕ) (ask : Ask) (q : Plain) (stage : Stage)
       → delivering_reply p label next ask stage ≡ Some q → AsksServed k q
-  told_ask label next ask q waiting e = absurd (cc)
-  told_ask label next ask q (performed reply) e = by (get p.vfs.calls ask.call) e
+  replied_ask label next ask q waiting e = absurd (cc)
+  replied_ask label next ask q (performed reply) e = by (get p.vfs.calls ask.call) e
     where
       by : (o : Option (CallState ℕ)) → delivering_to_call p label next ask reply o ≡ Some q → AsksServed k q
       by None f = absurd (cc)
@@ -266,7 +266,7 @@ module _ (k : Kernel) (p : Plain) (old : AsksServed k p) where
             vfs = (call_replied p.vfs ask.call state reply).vfs;
           }) old label refl) next ask.call
           (call_replied p.vfs ask.call state reply).operation) f
-  told_ask label next ask q declined e = where_served _ (ask_interrupted p label ask) q
+  replied_ask label next ask q declined e = where_served _ (ask_interrupted p label ask) q
       (left_ask k p (ask_interrupted p label ask) old label refl) e
 
   signalled_served : (x : IntrEffect) (label : ℕ) (ask : Ask) → AskServed k label ask
@@ -295,7 +295,7 @@ module _ (k : Kernel) (p : Plain) (old : AsksServed k p) where
     where
       by : (x : Option Ask) → delivering p unique chosen x ≡ Some q → AsksServed k q
       by None g = some_served p q old g
-      by (Some ask) g = told_ask unique chosen ask q ask.stage g
+      by (Some ask) g = replied_ask unique chosen ask q ask.stage g
   step_served chosen (event.write place) (event.written unique NoEntry) q marks f = some_served p q old f
   step_served chosen (event.write place) (event.written unique Invalid) q marks f = some_served p q old f
   step_served chosen (event.intr call fatal) (event.interrupted c x) q marks f = by (get p.asks chosen) refl f

@@ -4,9 +4,9 @@ use Rattle.std.specs.Ordering.{nat_cmp, eq_by_cmp}
 use Rattle.fuse_spec.specs.Values.Maps.{Map, get}
 use Rattle.fuse_spec.specs.Values.Numbers.{econnaborted}
 use Rattle.fuse_spec.specs.Calls.Answers.{Answer, failed}
-use Rattle.fuse_spec.specs.Calls.Vfs.{CallState, Vfs, all_answered, given_up}
+use Rattle.fuse_spec.specs.Calls.Vfs.{CallState, Vfs, all_answered, abandoned}
 use Rattle.fuse_spec.proofs.Tables.{get_put}
-use Rattle.fuse_spec.specs.Reference.PlainWords.{GivesUp}
+use Rattle.fuse_spec.specs.Reference.PlainWords.{Abandons}
 
 -- After all are answered, the answer of a call that was unanswered is this one, and of any other what it was.
 module _ (a : Answer) (answers : Map Answer) where
@@ -34,8 +34,8 @@ module _ (a : Answer) (answers : Map Answer) where
       by true none rest = absurd (cc)
       by false none rest = rest none
 
-pub gives_up : (c : Vfs ℕ) → GivesUp c (given_up c)
-gives_up c = record {
+pub abandons : (c : Vfs ℕ) → Abandons c (abandoned c)
+abandons c = record {
   answers = record {
     unanswered = unanswered (failed econnaborted) c.answers c.calls;
     others = others (failed econnaborted) c.answers c.calls;

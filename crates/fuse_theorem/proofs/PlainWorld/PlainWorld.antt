@@ -11,7 +11,7 @@ use Rattle.fuse_spec.specs.Values.Maps.{get, remove}
 use Rattle.fuse_spec.specs.Files.Operations.{Operation, Reply}
 use Rattle.fuse_spec.specs.Calls.Calls as call
 use Rattle.fuse_spec.specs.Calls.Calls.{Call, for_minor, lists_files_at}
-use Rattle.fuse_spec.specs.Calls.Vfs.{CallState, Vfs, begun, given_up}
+use Rattle.fuse_spec.specs.Calls.Vfs.{CallState, Vfs, begun, abandoned}
 use Rattle.fuse_spec.specs.Calls.CallReplies.{call_replied}
 use Rattle.fuse_spec.specs.Reference.Plain.{Plain, Ask, Stage, waiting, performed, declined, ask_put, going_on, plain_call_put, ask_performed, ask_declined, ask_delivered, ask_interrupted, plain_later}
 use Rattle.fuse_spec.specs.Reference.PlainSteps.{where_so, serving_ask, serving, delivering_to_call, delivering_reply, delivering, may_signal, signalled_ask, plain_signalling, marking, takes, Takes}
@@ -20,7 +20,7 @@ use Rattle.fuse_spec.specs.World.Events as event
 use Rattle.fuse_spec.specs.Reference.PlainWords.{one_more, Asks, Steps, PutAs}
 use Rattle.fuse_spec.specs.Reference.PlainWords as plain
 use Rattle.fuse_theorem.proofs.PlainWorld.PlainBegins.{begins}
-use Rattle.fuse_theorem.proofs.PlainWorld.PlainGivesUp.{gives_up}
+use Rattle.fuse_theorem.proofs.PlainWorld.PlainGivesUp.{abandons}
 use Rattle.fuse_theorem.proofs.PlainWorld.PlainReplies.{receives}
 
 -- ---- conditions
@@ -86,7 +86,7 @@ module _ (p q : Plain) where
 
       by : (aborted : Bool) → p.aborted ≡ aborted → Steps p (event.call x) (event.begun p.vfs.next_call)
           (going_on p label p.vfs.next_call (begun aborted p.vfs (for_minor (lists_files_at p.minor) x)))
-      by true lost = plain.begins_in_vain x lost
+      by true lost = plain.begins_after_abort x lost
       by false live =
           let went = begun false p.vfs y in
           plain.begins x y label went.vfs went.operation (going_on p label p.vfs.next_call went) live free
@@ -95,7 +95,7 @@ module _ (p q : Plain) where
 
   performs : (unique u errno : ℕ) (lost : Bool) (o : Option Ask) → get p.asks unique ≡ o → serving p unique o ≡ Some q
       → Steps p (event.perform unique) (event.performed u errno lost) q
-  performs unique u errno lost None there e = some_goes _ _ p e (plain.performs_none unique u errno lost there)
+  performs unique u errno lost None there e = some_goes _ _ p e (plain.performs_no_ask unique u errno lost there)
   performs unique u errno lost (Some ask) there e = by ask.stage refl e
     where
       by_mark : (marked : Bool) → ask.stage ≡ waiting → ask.marked ≡ marked
@@ -113,7 +113,7 @@ module _ (p q : Plain) where
 
   tells : (k unique label : ℕ) (o : Option Ask) → get p.asks unique ≡ o → delivering p unique label o ≡ Some q
       → Steps p (event.write k) (event.written unique Accepted) q
-  tells k unique label None there e = some_goes _ _ p e (plain.delivers_none k unique there)
+  tells k unique label None there e = some_goes _ _ p e (plain.delivers_no_ask k unique there)
   tells k unique label (Some ask) there e = by ask.stage refl e
     where
       by_call : (reply : Reply ℕ ℕ) → ask.stage ≡ performed reply → (standing : Option (CallState ℕ))
@@ -170,7 +170,7 @@ module _ (p q : Plain) where
 
   marks : (k unique : ℕ) (o : Option Ask) → get p.asks (unique - 1) ≡ o → marking p (unique - 1) o ≡ Some q
       → Steps p (event.take k) (event.taken unique Marked) q
-  marks k unique None there e = some_goes _ _ p e (plain.marks_none k unique there)
+  marks k unique None there e = some_goes _ _ p e (plain.marks_no_ask k unique there)
   marks k unique (Some ask) there e = some_goes _ _ _ e (plain.marks k unique ask there)
 
   steps : (chosen : ℕ) (e : Event) (o : Outcome) → takes chosen p e o ≡ Some q → Steps p e o q
@@ -184,7 +184,7 @@ module _ (p q : Plain) where
       performs unique u errno lost (get p.asks unique) refl e
   steps chosen (event.write k) (event.written unique Accepted) e = tells k unique chosen (get p.asks unique) refl e
   steps chosen (event.write k) (event.written unique NoEntry) e = some_goes _ _ p e (plain.no_entry k unique)
-  steps chosen (event.write k) (event.written unique Invalid) e = some_goes _ _ p e (plain.is_wrong k unique)
+  steps chosen (event.write k) (event.written unique Invalid) e = some_goes _ _ p e (plain.is_invalid k unique)
   steps chosen (event.intr number fatal) (event.interrupted c signal) e =
       signals number chosen fatal c signal (get p.asks chosen) refl e
   steps chosen (event.take k) (event.taken unique Marked) e = marks k unique (get p.asks (unique - 1)) refl e
@@ -201,9 +201,9 @@ module _ (p q : Plain) where
       subst (λ (n : ℕ). Steps p (event.tick ms) (event.now n) q) (same_number clock (p.vfs.clock + ms) did.so)
       (goes _ _ _ did.leads (plain.time_passes ms))
   steps chosen (event.drop_name node name) event.dropped e = some_goes _ _ _ e (plain.drops node chosen name)
-  steps chosen event.abort event.aborted e = some_goes _ _ _ e (plain.aborts (given_up p.vfs) (gives_up p.vfs))
+  steps chosen event.abort event.aborted e = some_goes _ _ _ e (plain.aborts (abandoned p.vfs) (abandons p.vfs))
   steps chosen (event.mount found_ms missing_ms minor) event.mounted e =
-      some_goes _ _ _ e (plain.mounts found_ms missing_ms minor (given_up p.vfs) (gives_up p.vfs))
+      some_goes _ _ _ e (plain.mounts found_ms missing_ms minor (abandoned p.vfs) (abandons p.vfs))
   steps chosen event.read_interrupt (event.is_read unique) e = some_goes _ _ p e (plain.reads_interrupt unique)
   steps chosen (event.read_forgets n) (event.is_read unique) e = some_goes _ _ p e (plain.reads_forgets n unique)
   steps chosen (event.read_pending k) (event.is_read unique) e = some_goes _ _ p e (plain.reads_pending k unique)

@@ -11,21 +11,21 @@ use Rattle.fuse_spec.specs.World.Worlds.{World, after_abort}
 use Rattle.fuse_spec.specs.World.Events as event
 use Rattle.fuse_spec.specs.Reference.Plain.{Plain, plain_aborted}
 use Rattle.fuse_spec.specs.Reference.PlainSteps.{Takes}
-use Rattle.fuse_spec.specs.Claim.Denotes.{MeansIn, MeansOpenIn}
+use Rattle.fuse_spec.specs.Claim.Denotes.{NodeDenotesIn, OpenDenotesIn}
 use Rattle.fuse_spec.specs.Claim.Alike.{RequestBodyAsked, PurposeAsked, Alike}
 use Rattle.fuse_theorem.proofs.Refining.OnlyRoots.{only_root_known}
-use Rattle.fuse_theorem.proofs.Refining.GivingUp.{given_up_alike, root_means}
+use Rattle.fuse_theorem.proofs.Refining.GivingUp.{abandoned_alike, root_means}
 
 -- No node but the root is known then.
-pub aborted_means : (w : World) (id file : ℕ) → MeansIn (after_abort w) id file → (id ≡ 1) × (file ≡ 0)
+pub aborted_means : (w : World) (id file : ℕ) → NodeDenotesIn (after_abort w) id file → (id ≡ 1) × (file ≡ 0)
 aborted_means w id file means = only_root_known [] w.server.nodes refl id file means
 
 module _ (w : World) (p : Plain) (root : w.kernel.vfs.root ≡ 1) (sorted : T (is_sorted nat_cmp w.kernel.vfs.answers))
     (same : Alike w p) where
-  roots : MeansIn (after_abort w) w.kernel.vfs.root p.vfs.root
+  roots : NodeDenotesIn (after_abort w) w.kernel.vfs.root p.vfs.root
   roots = root_means w.kernel.nodes [] w.server.nodes w.server.nodes w.kernel.vfs.root p.vfs.root root same.vfs.roots
 
-  -- What the server holds stays asked, as its tables alone say what that means.
+  -- What the server holds stays asked, as its tables alone say what that denotes.
   pub aborted_alike : Alike (after_abort w) (plain_aborted p)
   aborted_alike = record {
     tree = record {
@@ -34,12 +34,12 @@ module _ (w : World) (p : Plain) (root : w.kernel.vfs.root ≡ 1) (sorted : T (i
       next_cookie = same.tree.next_cookie;
       files = same.tree.files;
     };
-    vfs = given_up_alike (MeansIn w) (MeansIn (after_abort w)) (MeansOpenIn w)
-        (MeansOpenIn (after_abort w)) w.kernel.vfs p.vfs same.vfs sorted roots;
+    vfs = abandoned_alike (NodeDenotesIn w) (NodeDenotesIn (after_abort w)) (OpenDenotesIn w)
+        (OpenDenotesIn (after_abort w)) w.kernel.vfs p.vfs same.vfs sorted roots;
     requests = record {
       pending = All-nil (λ (e : ℕ × QueuedRequest Purpose). PurposeAsked (after_abort w) (plain_aborted p) e);
-      sent = All-nil (λ (r : Request). RequestBodyAsked p.asks r.unique false false (MeansIn (after_abort w))
-          (MeansOpenIn (after_abort w)) r.body);
+      sent = All-nil (λ (r : Request). RequestBodyAsked p.asks r.unique false false (NodeDenotesIn (after_abort w))
+          (OpenDenotesIn (after_abort w)) r.body);
       held = same.requests.held;
     };
     asks = λ live. absurd (cc);

@@ -17,7 +17,7 @@ use Rattle.fuse_spec.specs.World.Worlds.{World, Sent, after_write}
 use Rattle.fuse_spec.specs.World.Events as event
 use Rattle.fuse_spec.specs.Reference.Plain.{Plain, Ask, Stage, ask_delivered}
 use Rattle.fuse_spec.specs.Reference.PlainSteps.{Takes, delivering, delivering_reply, delivering_to_call, where_so}
-use Rattle.fuse_spec.specs.Claim.Denotes.{MeansIn, MeansOpenIn, StateAlike}
+use Rattle.fuse_spec.specs.Claim.Denotes.{NodeDenotesIn, OpenDenotesIn, StateAlike}
 use Rattle.fuse_spec.specs.Claim.Alike.{Alike}
 use Rattle.fuse_spec.proofs.QueueSoundness.{IsSound-without}
 use Rattle.fuse_theorem.specs.Numbering.{IsNumbered}
@@ -71,25 +71,25 @@ module _ (w : World) (p : Plain) (numbered : IsNumbered w) (one : OneId w.server
   abbrev next : Advance Opened
   next = call_replied w.kernel.vfs call state reply_received
 
-  fits : ReplyAlike (MeansIn wl) (MeansOpenIn wl) reply_received reply
+  fits : ReplyAlike (NodeDenotesIn wl) (OpenDenotesIn wl) reply_received reply
   fits = received_fits w.kernel.nodes w.server.nodes w.server.handles
       (asked state) is.ask.operation sent.wire reply is.goes is.used is.opens is.same is.told
 
-  other_state : (o : Option (CallState ℕ)) → OptionAlike (StateAlike (MeansIn wl) (MeansOpenIn wl)) (Some state) o
-      → (s : CallState ℕ) × (o ≡ Some s) × StateAlike (MeansIn wl) (MeansOpenIn wl) state s
+  other_state : (o : Option (CallState ℕ)) → OptionAlike (StateAlike (NodeDenotesIn wl) (OpenDenotesIn wl)) (Some state) o
+      → (s : CallState ℕ) × (o ≡ Some s) × StateAlike (NodeDenotesIn wl) (OpenDenotesIn wl) state s
   other_state None h = absurd h
   other_state (Some s) h = (s, refl, h)
 
-  state' : (s : CallState ℕ) × (get p.vfs.calls call ≡ Some s) × StateAlike (MeansIn wl) (MeansOpenIn wl) state s
+  state' : (s : CallState ℕ) × (get p.vfs.calls call ≡ Some s) × StateAlike (NodeDenotesIn wl) (OpenDenotesIn wl) state s
   state' = other_state (get p.vfs.calls call) (subst
-      (λ (o : Option (CallState Opened)). OptionAlike (StateAlike (MeansIn wl) (MeansOpenIn wl)) o
+      (λ (o : Option (CallState Opened)). OptionAlike (StateAlike (NodeDenotesIn wl) (OpenDenotesIn wl)) o
       (get p.vfs.calls call)) is.state_is (looked_up_alike.vfs.calls call))
 
   abbrev q : Plain
   q = ask_delivered p sent.unique w.kernel.queues.next is.ask reply state'.0
 
-  told_alike : Alike (record w { kernel = advanced k1 call next }) q
-  told_alike =
+  advanced_call_alike : Alike (record w { kernel = advanced k1 call next }) q
+  advanced_call_alike =
       received_alike wl p looked_up_numbered
       (one_to_one nodes' w.server.nodes one) looked_up_alike live sent.unique call is.request is.ask state state'.0 is.under is.serves is.there is.by_call state'.1 state'.2 reply reply_received is.stage fits
 
@@ -146,5 +146,5 @@ module _ (w : World) (p : Plain) (numbered : IsNumbered w) (one : OneId w.server
         ),
         subst (λ (took : WriteResult × Kernel). Alike (after_write w k sent took) q) (sym replied_is)
             (unsent_alike (record w { kernel = after_use (advanced k1 call next) state }) q
-            (used_after state refl told_alike) k results'),
+            (used_after state refl advanced_call_alike) k results'),
       )

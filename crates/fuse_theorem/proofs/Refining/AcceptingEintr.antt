@@ -20,7 +20,7 @@ use Rattle.fuse_spec.specs.World.Worlds.{World, Sent, after_write}
 use Rattle.fuse_spec.specs.World.Events as event
 use Rattle.fuse_spec.specs.Reference.Plain.{Plain, Ask, Stage, ask_interrupted}
 use Rattle.fuse_spec.specs.Reference.PlainSteps.{Takes, delivering, delivering_reply, where_so}
-use Rattle.fuse_spec.specs.Claim.Denotes.{MeansIn, MeansOpenIn, StateAlike, generation_known}
+use Rattle.fuse_spec.specs.Claim.Denotes.{NodeDenotesIn, OpenDenotesIn, StateAlike, generation_known}
 use Rattle.fuse_spec.specs.Claim.Alike.{Alike}
 use Rattle.fuse_spec.proofs.QueueSoundness.{IsSound-without}
 use Rattle.fuse_theorem.specs.Numbering.{IsNumbered}
@@ -43,14 +43,14 @@ module _ (w : World) (p : Plain) (numbered : IsNumbered w) (one : OneId w.server
   abbrev q : Plain
   q = ask_interrupted p sent.unique is.ask
 
-  other_state : (o : Option (CallState ℕ)) → OptionAlike (StateAlike (MeansIn w) (MeansOpenIn w)) (Some state) o
-      → (s : CallState ℕ) × (o ≡ Some s) × StateAlike (MeansIn w) (MeansOpenIn w) state s
+  other_state : (o : Option (CallState ℕ)) → OptionAlike (StateAlike (NodeDenotesIn w) (OpenDenotesIn w)) (Some state) o
+      → (s : CallState ℕ) × (o ≡ Some s) × StateAlike (NodeDenotesIn w) (OpenDenotesIn w) state s
   other_state None h = absurd h
   other_state (Some s) h = (s, refl, h)
 
-  other : (s : CallState ℕ) × (get p.vfs.calls call ≡ Some s) × StateAlike (MeansIn w) (MeansOpenIn w) state s
+  other : (s : CallState ℕ) × (get p.vfs.calls call ≡ Some s) × StateAlike (NodeDenotesIn w) (OpenDenotesIn w) state s
   other = other_state (get p.vfs.calls call) (subst
-      (λ (o : Option (CallState Opened)). OptionAlike (StateAlike (MeansIn w) (MeansOpenIn w)) o
+      (λ (o : Option (CallState Opened)). OptionAlike (StateAlike (NodeDenotesIn w) (OpenDenotesIn w)) o
       (get p.vfs.calls call)) is.state_is (same.vfs.calls call))
 
   -- its call is unanswered in the plain world too

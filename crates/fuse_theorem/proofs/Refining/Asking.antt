@@ -21,7 +21,7 @@ use Rattle.fuse_spec.specs.Kernel.Kernel.{Kernel, is_live, is_aborted, body_of, 
 use Rattle.fuse_spec.specs.Server.Server.{Kept}
 use Rattle.fuse_spec.specs.World.Worlds.{World, Sent}
 use Rattle.fuse_spec.specs.Reference.Plain.{Plain, Ask, waiting, ask_put, going_on}
-use Rattle.fuse_spec.specs.Claim.Denotes.{MeansIn, MeansOpenIn}
+use Rattle.fuse_spec.specs.Claim.Denotes.{NodeDenotesIn, OpenDenotesIn}
 use Rattle.fuse_spec.specs.Claim.Alike.{TreeAlike, RequestBodyAsked, PurposeAsked, RequestsAlike, IsPaired, IsStageReplied, Alike}
 use Rattle.fuse_spec.proofs.Tables.{get_put_here, get_put_there}
 use Rattle.fuse_spec.proofs.QueueSoundness.{lookup-next}
@@ -93,10 +93,10 @@ body_beside k l call (purpose.Call q) others other =
 
 module _ (w : World) (p : Plain) (call : ℕ) (numbered : IsNumbered w) (paused : AlikeExceptCall w p call) where
   abbrev Mean : ℕ → ℕ → Type 0
-  Mean = MeansIn w
+  Mean = NodeDenotesIn w
 
   abbrev MeanOpen : Opened → ℕ → Type 0
-  MeanOpen = MeansOpenIn w
+  MeanOpen = OpenDenotesIn w
 
   others_pending : All (λ (e : ℕ × QueuedRequest Purpose). is_for call e.1.kept ≡ false) (pending w.kernel.queues)
   others_pending = All-filter (λ (e : ℕ × QueuedRequest Purpose). is_unread e.1.mark)
@@ -108,7 +108,7 @@ module _ (w : World) (p : Plain) (call : ℕ) (numbered : IsNumbered w) (paused 
       (λ (e : ℕ × QueuedRequest Purpose). e.0 ≢ w.kernel.queues.next) w.kernel.queues.requests
       (no_key w.kernel.queues.next w.kernel.queues.requests (lookup-next w.kernel.queues numbered.queues))
 
-  module _ (one : IsOneToOne (MeansIn w)) (tree : TreeAlike w.server p.tree)
+  module _ (one : IsOneToOne (NodeDenotesIn w)) (tree : TreeAlike w.server p.tree)
       (validity : w.server.validity ≡ p.validity) (minor : w.server.minor ≡ p.minor)
       (agreed : w.kernel.phase ≡ Ready → (w.kernel.minor ≡ p.minor)
       × (w.kernel.lists_files ≡ lists_files_at p.minor)) where

@@ -12,8 +12,8 @@ use Rattle.fuse_spec.specs.Calls.Vfs.{asked}
 use Rattle.fuse_spec.specs.Server.Server.{HeldRequest, Kept}
 use Rattle.fuse_spec.specs.World.Worlds.{World, Sent}
 use Rattle.fuse_spec.specs.Reference.Plain.{Plain, Ask}
-use Rattle.fuse_spec.specs.Claim.Denotes.{MeansIn, MeansOpenIn}
-use Rattle.fuse_spec.specs.Claim.Alike.{RequestBodyAsked, PurposeAsked, Meant, MeantOpen, IsStageReplied, Alike}
+use Rattle.fuse_spec.specs.Claim.Denotes.{NodeDenotesIn, OpenDenotesIn}
+use Rattle.fuse_spec.specs.Claim.Alike.{RequestBodyAsked, PurposeAsked, StillDenotes, OpenStillDenotes, IsStageReplied, Alike}
 use Rattle.fuse_spec.proofs.Tables.{get_put_here, get_put_there}
 use Rattle.fuse_theorem.proofs.Refining.Asking.{match_more, asked_beside}
 
@@ -30,10 +30,10 @@ pub record MayReplace (w : World) (p : Plain) (label : ℕ) (new : Ask) : Type 0
   pub pending : All (λ (e : ℕ × QueuedRequest Purpose). e.0 ≡ label → PurposeAsked w (with_ask p label new) e)
       (pending w.kernel.queues)
   pub sent : All (λ (r : Request). r.unique ≡ label
-      → RequestBodyAsked (put p.asks label new) r.unique false false (MeansIn w) (MeansOpenIn w) r.body) w.requests
+      → RequestBodyAsked (put p.asks label new) r.unique false false (NodeDenotesIn w) (OpenDenotesIn w) r.body) w.requests
   pub held : (t : HeldRequest) → get w.server.held label ≡ Some t
-      → RequestBodyAsked (put p.asks label new) label false t.marked (Meant w.server.nodes t.generations)
-      (MeantOpen w.server.nodes w.server.handles t.generations) t.body
+      → RequestBodyAsked (put p.asks label new) label false t.marked (StillDenotes w.server.nodes t.generations)
+      (OpenStillDenotes w.server.nodes w.server.handles t.generations) t.body
   pub noted : (request : QueuedRequest Purpose) → request_under w.kernel.queues label ≡ Some request
       → is_signalled request.mark ≡ true → old.noted ≡ true → new.noted ≡ true
   pub kept : (kept : Kept) → get w.server.kept label ≡ Some kept
@@ -58,21 +58,21 @@ module _ (w : World) (p : Plain) (same : Alike w p) (label : ℕ) (new : Ask) (m
           elim (cases_eq entry.0 label) [
             | inl here ↦ may.pending i e lt here
             | inr ne ↦
-                match_more (body_of w.kernel entry.1.kept) (λ body h. asked_beside (MeansIn w)
-                (MeansOpenIn w) p.asks label new entry.0 (is_signalled entry.1.mark) false body ne h)
+                match_more (body_of w.kernel entry.1.kept) (λ body h. asked_beside (NodeDenotesIn w)
+                (OpenDenotesIn w) p.asks label new entry.0 (is_signalled entry.1.mark) false body ne h)
                 (same.requests.pending i e lt)
           ];
       sent = λ i r lt.
           let request = get_or w.requests i r in
           elim (cases_eq request.unique label) [
             | inl here ↦ may.sent i r lt here
-            | inr ne ↦ asked_beside (MeansIn w)
-                (MeansOpenIn w) p.asks label new request.unique false false request.body ne (same.requests.sent i r lt)
+            | inr ne ↦ asked_beside (NodeDenotesIn w)
+                (OpenDenotesIn w) p.asks label new request.unique false false request.body ne (same.requests.sent i r lt)
           ];
       held = λ u t at. elim (cases_eq u label) [
         | inl here ↦
             subst (λ (n : ℕ). RequestBodyAsked (put p.asks label new) n false t.marked
-            (Meant w.server.nodes t.generations) (MeantOpen w.server.nodes w.server.handles t.generations) t.body)
+            (StillDenotes w.server.nodes t.generations) (OpenStillDenotes w.server.nodes w.server.handles t.generations) t.body)
             (sym here)
             (may.held t (subst (λ (n : ℕ). get w.server.held n ≡ Some t) here at))
         | inr ne ↦ asked_beside _ _ p.asks label new u false t.marked t.body ne (same.requests.held u t at)
@@ -95,7 +95,7 @@ module _ (w : World) (p : Plain) (same : Alike w p) (label : ℕ) (new : Ask) (m
                       request = subst (λ (n : ℕ). request_of w.kernel q ≡ Some n) here pair.request;
                       there = there_now;
                       by = may.same_call ∙ ap (λ (a : Ask). a.call) (sym is_old) ∙ pair.by;
-                      same = subst (λ (o : Operation ℕ ℕ). OperationAlike (MeansIn w) (MeansOpenIn w) (asked state) o)
+                      same = subst (λ (o : Operation ℕ ℕ). OperationAlike (NodeDenotesIn w) (OpenDenotesIn w) (asked state) o)
                           (ap (λ (a : Ask). a.operation) is_old ∙ sym may.same_operation) pair.same;
                     }
                 | inr ne ↦

@@ -15,7 +15,7 @@ use Rattle.fuse_spec.specs.World.Events as event
 use Rattle.fuse_spec.specs.Reference.Plain.{Plain, Ask, Stage, ask_declined}
 use Rattle.fuse_spec.specs.Reference.Plain as plain
 use Rattle.fuse_spec.specs.Reference.PlainSteps.{Takes, serving, serving_ask, where_so}
-use Rattle.fuse_spec.specs.Claim.Alike.{AskedBy, RequestBodyAsked, Meant, MeantOpen, IsStageReplied, Alike}
+use Rattle.fuse_spec.specs.Claim.Alike.{AskedBy, RequestBodyAsked, StillDenotes, OpenStillDenotes, IsStageReplied, Alike}
 use Rattle.fuse_spec.proofs.Tables.{get_put_here, get_gone_here}
 use Rattle.fuse_theorem.specs.Conditions.{CanDecline}
 use Rattle.fuse_theorem.proofs.Refining.Changing.{with_ask, MayReplace, ask_changed}
@@ -25,10 +25,10 @@ use Rattle.fuse_theorem.proofs.Trees.NamelessDiscarded.{discarded_unheld_alike}
 
 module _ (w : World) (p : Plain) (same : Alike w p) (choice : ℕ → ℕ) (unique : ℕ) (t : HeldRequest)
     (operation : Operation ℕ Opened) (can : CanDecline w unique t operation) where
-  asked : AskedBy p.asks unique false t.marked (OperationAlike (Meant w.server.nodes t.generations)
-      (MeantOpen w.server.nodes w.server.handles t.generations) operation)
-  asked = subst (RequestBodyAsked p.asks unique false t.marked (Meant w.server.nodes t.generations)
-      (MeantOpen w.server.nodes w.server.handles t.generations)) can.body_is (same.requests.held unique t can.there)
+  asked : AskedBy p.asks unique false t.marked (OperationAlike (StillDenotes w.server.nodes t.generations)
+      (OpenStillDenotes w.server.nodes w.server.handles t.generations) operation)
+  asked = subst (RequestBodyAsked p.asks unique false t.marked (StillDenotes w.server.nodes t.generations)
+      (OpenStillDenotes w.server.nodes w.server.handles t.generations)) can.body_is (same.requests.held unique t can.there)
 
   abbrev s1 : Server
   s1 = record w.server { held = remove w.server.held unique }

@@ -7,17 +7,17 @@ use Rattle.fuse_spec.specs.World.Worlds.{World, after_drop}
 use Rattle.fuse_spec.specs.World.Events as event
 use Rattle.fuse_spec.specs.Reference.Plain.{Plain, name_dropped}
 use Rattle.fuse_spec.specs.Reference.PlainSteps.{Takes}
-use Rattle.fuse_spec.specs.Claim.Denotes.{MeansIn, MeansOpenIn}
+use Rattle.fuse_spec.specs.Claim.Denotes.{NodeDenotesIn, OpenDenotesIn}
 use Rattle.fuse_spec.specs.Claim.Alike.{Alike}
 use Rattle.fuse_theorem.specs.Numbering.{IsOneToOne}
 use Rattle.fuse_theorem.proofs.Calls.RepliesReceived.{unbound_alike}
 
-module _ (w : World) (p : Plain) (one : IsOneToOne (MeansIn w)) (same : Alike w p) where
-  dropped_alike : (directory file : ℕ) (name : Name) → MeansIn w directory file
+module _ (w : World) (p : Plain) (one : IsOneToOne (NodeDenotesIn w)) (same : Alike w p) where
+  dropped_alike : (directory file : ℕ) (name : Name) → NodeDenotesIn w directory file
       → Alike (after_drop w directory name) (name_dropped p file name)
   dropped_alike directory file name means = record {
     tree = same.tree;
-    vfs = unbound_alike (MeansIn w) (MeansOpenIn w) one w.kernel.vfs p.vfs same.vfs directory file name name means refl;
+    vfs = unbound_alike (NodeDenotesIn w) (OpenDenotesIn w) one w.kernel.vfs p.vfs same.vfs directory file name name means refl;
     requests = record { pending = same.requests.pending; sent = same.requests.sent; held = same.requests.held };
     asks = λ live.
         let old = same.asks live in
@@ -43,7 +43,7 @@ module _ (w : World) (p : Plain) (one : IsOneToOne (MeansIn w)) (same : Alike w 
     aborted = same.aborted;
   }
 
-  -- The name of the file that the node means is dropped.
+  -- The name of the file that the node denotes is dropped.
   pub drop_goes : (directory : ℕ) (name : Name) (bound : Dentry)
       → get_name w.kernel.vfs.names (directory, name) ≡ Some bound
       → (q : Plain) × Takes p (event.drop_name directory name) event.dropped q × Alike (after_drop w directory name) q

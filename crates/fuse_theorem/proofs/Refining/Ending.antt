@@ -13,7 +13,7 @@ use Rattle.fuse_spec.specs.Kernel.Messages.{RequestBody, init, asks, release, fo
 use Rattle.fuse_spec.specs.Kernel.Kernel.{body_of, is_for, request_of}
 use Rattle.fuse_spec.specs.World.Worlds.{World}
 use Rattle.fuse_spec.specs.Reference.Plain.{Plain, Ask, waiting}
-use Rattle.fuse_spec.specs.Claim.Denotes.{MeansIn, MeansOpenIn}
+use Rattle.fuse_spec.specs.Claim.Denotes.{NodeDenotesIn, OpenDenotesIn}
 use Rattle.fuse_spec.specs.Claim.Alike.{RequestBodyAsked, PurposeAsked, Alike}
 use Rattle.fuse_spec.proofs.Tables.{get_gone_here, get_gone_there}
 use Rattle.fuse_spec.proofs.QueueCounts.{lookup-remove_entry_other}
@@ -143,16 +143,16 @@ module _ (w : World) (p : Plain) (numbered : IsNumbered w) (same : Alike w p) (u
           pending = λ i e lt.
               let entry = get_or (pending (without_request q0 unique interrupts)) i e in
               subst (λ (o : Option RequestBody). MatchOption o ⊥
-              (RequestBodyAsked (remove p.asks unique) entry.0 (is_signalled entry.1.mark) false (MeansIn w)
-              (MeansOpenIn w))) (sym (same_body_left interrupts entry.1.kept))
-              (match_more (body_of w.kernel entry.1.kept) (λ body h. asked_without (MeansIn w)
-              (MeansOpenIn w) p.asks unique entry.0 (is_signalled entry.1.mark) false body
+              (RequestBodyAsked (remove p.asks unique) entry.0 (is_signalled entry.1.mark) false (NodeDenotesIn w)
+              (OpenDenotesIn w))) (sym (same_body_left interrupts entry.1.kept))
+              (match_more (body_of w.kernel entry.1.kept) (λ body h. asked_without (NodeDenotesIn w)
+              (OpenDenotesIn w) p.asks unique entry.0 (is_signalled entry.1.mark) false body
               (keys_apart interrupts i e lt) h)
               (All-filter_left (PurposeAsked w p)
               (λ (x : ℕ × QueuedRequest Purpose). is_unread x.1.mark) unique q0.requests same.requests.pending i e lt));
           sent = λ i s lt.
               let request = get_or w.requests i s in
-              asked_without (MeansIn w) (MeansOpenIn w) p.asks unique request.unique false false request.body
+              asked_without (NodeDenotesIn w) (OpenDenotesIn w) p.asks unique request.unique false false request.body
               (sent_apart i s lt) (same.requests.sent i s lt);
           held = λ u t at. elim (cases_eq u unique) [
             | inl e ↦ absurd (cc (subst (λ (n : ℕ). get w.server.held n ≡ Some t) e at, unheld))
@@ -188,7 +188,7 @@ module _ (w : World) (p : Plain) (numbered : IsNumbered w) (same : Alike w p) (u
   pub none_sent : ask.stage ≢ waiting → All (λ (s : Request). s.unique ≢ unique) w.requests
   none_sent over i s lt e =
       let request = get_or w.requests i s in
-      not_asked (MeansIn w) (MeansOpenIn w) p.asks request.unique false false request.body ask
+      not_asked (NodeDenotesIn w) (OpenDenotesIn w) p.asks request.unique false false request.body ask
       (subst (λ (n : ℕ). get p.asks n ≡ Some ask) (sym e) there) over (same.requests.sent i s lt)
 
   pub none_held : ask.stage ≢ waiting → get w.server.held unique ≡ None

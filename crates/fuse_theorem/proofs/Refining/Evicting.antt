@@ -17,12 +17,12 @@ use Rattle.fuse_spec.specs.Kernel.Kernel.{nodes_of_state, is_pinned, is_bound, i
 use Rattle.fuse_spec.specs.Server.Server.{nodes_of_body}
 use Rattle.fuse_spec.specs.World.Worlds.{World, after_evict}
 use Rattle.fuse_spec.specs.Reference.Plain.{Plain}
-use Rattle.fuse_spec.specs.Claim.Denotes.{generation_known, Means, MeansIn}
+use Rattle.fuse_spec.specs.Claim.Denotes.{generation_known, NodeDenotes, NodeDenotesIn}
 use Rattle.fuse_spec.specs.Claim.Alike.{Alike}
 use Rattle.fuse_spec.proofs.Tables.{get_gone, get_gone_there, place_tie_no}
 use Rattle.fuse_theorem.specs.Conditions.{IsUnsent}
 use Rattle.fuse_theorem.proofs.Calls.Finding.{same_is}
-use Rattle.fuse_theorem.proofs.Refining.UnusedNodesDropped.{Stay, Narrows, fewer_nodes_refine}
+use Rattle.fuse_theorem.proofs.Refining.UnusedNodesDropped.{UsedNodesStay, Narrows, fewer_nodes_refine}
 use Rattle.fuse_theorem.proofs.Refining.Queuing.{queues_alike}
 use Rattle.fuse_theorem.proofs.Trees.NamelessDiscarded.{found_any}
 
@@ -113,7 +113,7 @@ module _ (w : World) (p : Plain) (same : Alike w p) (node : ℕ) (root : w.kerne
   abbrev left : Map Counted
   left = remove w.kernel.nodes node
 
-  still : (id file : ℕ) → id ≢ node → MeansIn w id file → Means left w.server.nodes id file
+  still : (id file : ℕ) → id ≢ node → NodeDenotesIn w id file → NodeDenotes left w.server.nodes id file
   still id file ne m = record {
     generation = m.generation;
     known = known_still w.kernel.nodes node id m.generation ne m.known;
@@ -139,13 +139,13 @@ module _ (w : World) (p : Plain) (same : Alike w p) (node : ℕ) (root : w.kerne
       )
 
   stays : (ids : List ℕ) (os : List Opened) → list_any (nat_eq node) ids ≡ false
-      → Stay w p left w.server.nodes w.server.handles ids os
+      → UsedNodesStay w p left w.server.nodes w.server.handles ids os
   stays ids os none = record {
     nodes_stay = λ id file among m. still id file (not_among node ids id none among) m;
     opens_stay = λ o file among opened m. record {
       node_means =
           still o.nodeid file (not_among node ids o.nodeid none among) m.node_means;
-      is_number = m.is_number;
+      is_handle = m.is_handle;
     };
   }
 
@@ -157,8 +157,8 @@ module _ (w : World) (p : Plain) (same : Alike w p) (node : ℕ) (root : w.kerne
       denotes = m.denotes;
     };
     root = λ file m.
-        let at_root : MeansIn w 1 file = subst (λ (n : ℕ). MeansIn w n file) root m in
-        subst (λ (n : ℕ). Means left w.server.nodes n file) (sym root)
+        let at_root : NodeDenotesIn w 1 file = subst (λ (n : ℕ). NodeDenotesIn w n file) root m in
+        subst (λ (n : ℕ). NodeDenotes left w.server.nodes n file) (sym root)
         (record { generation = at_root.generation; known = at_root.known; denotes = at_root.denotes });
     directories = λ id name there file m. still id file
         (in_use id name (get_name w.kernel.vfs.names (id, name)) refl there) m;
@@ -169,7 +169,7 @@ module _ (w : World) (p : Plain) (same : Alike w p) (node : ℕ) (root : w.kerne
         record {
           node_means = still o.nodeid file (λ e. true≢false
               (sym (subst (λ (n : ℕ). nat_eq n node ≡ true) (sym e) (same_is node)) ∙ other)) m.node_means;
-          is_number = m.is_number;
+          is_handle = m.is_handle;
         };
     calls = λ call state at. stays (nodes_of_state state) (opens_of (asked state))
         (found_fails OfCalls w.kernel.vfs.calls call state pins.0 at);

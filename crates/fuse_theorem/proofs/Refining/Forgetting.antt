@@ -9,12 +9,12 @@ use Rattle.fuse_spec.specs.Values.Maps.{Map, get, put, remove, values}
 use Rattle.fuse_spec.specs.Kernel.Messages.{Forget}
 use Rattle.fuse_spec.specs.Kernel.Queues.{request_under}
 use Rattle.fuse_spec.specs.Kernel.Kernel.{is_live, is_for}
-use Rattle.fuse_spec.specs.Server.Nodes.{HeldNode, NodeTable, OpenNumber, root_row, rows_less, taken_back}
+use Rattle.fuse_spec.specs.Server.Nodes.{HeldNode, NodeTable, FileHandle, root_row, rows_less, taken_back}
 use Rattle.fuse_spec.specs.Server.Server.{HeldRequest, is_file_held, without_unheld_files, all_taken_back, forgetting}
 use Rattle.fuse_spec.specs.World.Worlds.{World}
 use Rattle.fuse_spec.specs.Reference.Plain.{Plain, Ask}
-use Rattle.fuse_spec.specs.Claim.Denotes.{Denotes, Means, MeansIn}
-use Rattle.fuse_spec.specs.Claim.Alike.{Meant, Alike}
+use Rattle.fuse_spec.specs.Claim.Denotes.{Denotes, NodeDenotes, NodeDenotesIn}
+use Rattle.fuse_spec.specs.Claim.Alike.{StillDenotes, Alike}
 use Rattle.fuse_spec.proofs.Tables.{get_put_here, get_put_there, get_gone_here, get_gone_there}
 use Rattle.fuse_theorem.specs.Conditions.{OneId, HoldsAll}
 use Rattle.fuse_theorem.proofs.Refining.TablesReplaced.{Carries, stage_more, replaced_tables_refine}
@@ -159,7 +159,7 @@ module _ (w : World) (p : Plain) (same : Alike w p) (t : NodeTable)
   one_left : OneId t
   one_left i j g h file d e = one i j g h file (fewer i g file d) (fewer j h file e)
 
-  pub means : (id file : ℕ) → MeansIn w id file → Means w.kernel.nodes t id file
+  pub means : (id file : ℕ) → NodeDenotesIn w id file → NodeDenotes w.kernel.nodes t id file
   means id file m = record {
     generation = m.generation;
     known = m.known;
@@ -167,7 +167,7 @@ module _ (w : World) (p : Plain) (same : Alike w p) (t : NodeTable)
   }
 
   pub meant : (unique : ℕ) (x : HeldRequest) → get w.server.held unique ≡ Some x → (id file : ℕ)
-      → Meant w.server.nodes x.generations id file → Meant t x.generations id file
+      → StillDenotes w.server.nodes x.generations id file → StillDenotes t x.generations id file
   meant unique x at id file m = record {
     generation = m.generation;
     then_held = m.then_held;
@@ -184,12 +184,12 @@ module _ (w : World) (p : Plain) (same : Alike w p) (t : NodeTable)
   pub carries_fewer : Carries w p w.kernel.nodes t w.server.handles
   carries_fewer = record {
     means = means;
-    opens = λ o file m. record { node_means = means o.nodeid file m.node_means; is_number = m.is_number };
+    opens = λ o file m. record { node_means = means o.nodeid file m.node_means; is_handle = m.is_handle };
     one = one_to_one w.kernel.nodes t one_left;
     held_nodes = λ u x at id file among m. meant u x at id file m;
     held_opens = λ u x at o file among m. record {
       node_meant = meant u x at o.nodeid file m.node_meant;
-      is_number = m.is_number;
+      is_handle = m.is_handle;
     };
     kept = λ live u k ask at there told.
         stage_more w.server.nodes t w.server.handles w.server.handles ask.stage k.wire
@@ -212,7 +212,7 @@ forgotten_alike w p one same k fs holds =
     let s2 = record w.server { nodes = t } in
     let carries = carries_fewer w p same t
     (λ i generation file d. all_less_denotes fs w.server.nodes i generation file d) one holds in
-    let numbers = λ (file : ℕ). list_any (λ (h : OpenNumber). nat_eq h.file file) (values w.server.handles.handles) in
+    let numbers = λ (file : ℕ). list_any (λ (h : FileHandle). nat_eq h.file file) (values w.server.handles.handles) in
     let trees = discarded_unheld_alike s2 p.tree
     (λ file. is_file_held w.server file) same.tree.names same.tree.next_inode same.tree.next_cookie same.tree.files
     (λ file h. either (list_any (λ (row : HeldNode). nat_eq row.file file) (values t.rows)) (numbers file)

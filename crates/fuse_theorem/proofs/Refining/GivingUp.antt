@@ -1,4 +1,4 @@
--- Everything is given up: the unanswered calls are answered alike in both worlds.
+-- Everything is abandoned: the unanswered calls are answered alike in both worlds.
 use Rattle.std.proofs.Common.{◌≡◌, ℕ, Bool, true, false, cond, [], ◌∷◌, Option, Some, None, is_some, refl, ap, sym, subst, ◌∙◌}
 use Rattle.std.specs.Prelude.{T}
 use Rattle.std.specs.Ordering.{nat_cmp, eq_by_cmp}
@@ -9,9 +9,9 @@ use Rattle.fuse_spec.specs.declared.Counted.{Counted}
 use Rattle.fuse_spec.specs.Values.Maps.{Map, get}
 use Rattle.fuse_spec.specs.Values.Numbers.{econnaborted}
 use Rattle.fuse_spec.specs.Calls.Answers.{Answer, failed}
-use Rattle.fuse_spec.specs.Calls.Vfs.{Vfs, all_answered, given_up}
+use Rattle.fuse_spec.specs.Calls.Vfs.{Vfs, all_answered, abandoned}
 use Rattle.fuse_spec.specs.Server.Nodes.{NodeTable}
-use Rattle.fuse_spec.specs.Claim.Denotes.{Means, StateAlike}
+use Rattle.fuse_spec.specs.Claim.Denotes.{NodeDenotes, StateAlike}
 use Rattle.fuse_spec.specs.Files.Operations.{OptionAlike}
 use Rattle.fuse_spec.specs.Claim.Alike.{VfsAlike}
 use Rattle.fuse_spec.proofs.Tables.{get_put}
@@ -56,10 +56,10 @@ same_answers R answer calls calls' answers sorted alike =
     (λ call. answer_of answer calls answers call ∙ ap (λ (b : Bool). cond b (Some answer) (get answers call))
     (both_there R (get calls call) (get calls' call) (alike call)) ∙ sym (answer_of answer calls' answers call))
 
--- Whatever the files' names mean then, as long as the roots are alike.
-pub given_up_alike : {O P : Type 0} (R R' : ℕ → ℕ → Type 0) (S S' : O → P → Type 0) (c : Vfs O) (d : Vfs P)
-    → VfsAlike R S c d → T (is_sorted nat_cmp c.answers) → R' c.root d.root → VfsAlike R' S' (given_up c) (given_up d)
-given_up_alike R R' S S' c d same sorted roots = record {
+-- Whatever the nodes denote then, as long as the roots are alike.
+pub abandoned_alike : {O P : Type 0} (R R' : ℕ → ℕ → Type 0) (S S' : O → P → Type 0) (c : Vfs O) (d : Vfs P)
+    → VfsAlike R S c d → T (is_sorted nat_cmp c.answers) → R' c.root d.root → VfsAlike R' S' (abandoned c) (abandoned d)
+abandoned_alike R R' S S' c d same sorted roots = record {
   names = λ id file name r. tt;
   names_meant = λ id name there. absurd (there refl);
   names_reached = λ file name there. absurd (there refl);
@@ -72,13 +72,13 @@ given_up_alike R R' S S' c d same sorted roots = record {
   roots = roots;
 }
 
--- What node 1 means is not a matter of the tables.
-pub root_means : (nodes nodes' : Map Counted) (t t' : NodeTable) (id file : ℕ) → id ≡ 1 → Means nodes t id file
-    → Means nodes' t' id file
-root_means nodes nodes' t t' id file is means = subst (λ (n : ℕ). Means nodes' t' n file) (sym is)
-    (of_root (subst (λ (n : ℕ). Means nodes t n file) is means))
+-- What node 1 denotes is not a matter of the tables.
+pub root_means : (nodes nodes' : Map Counted) (t t' : NodeTable) (id file : ℕ) → id ≡ 1 → NodeDenotes nodes t id file
+    → NodeDenotes nodes' t' id file
+root_means nodes nodes' t t' id file is means = subst (λ (n : ℕ). NodeDenotes nodes' t' n file) (sym is)
+    (of_root (subst (λ (n : ℕ). NodeDenotes nodes t n file) is means))
   where
-    of_root : Means nodes t 1 file → Means nodes' t' 1 file
+    of_root : NodeDenotes nodes t 1 file → NodeDenotes nodes' t' 1 file
     of_root old =
         let row = old.denotes in
         record {

@@ -6,7 +6,7 @@ use Rattle.fuse_spec.specs.Files.Trees.{Content, a_directory, is_nameless}
 use Rattle.fuse_spec.specs.Server.Nodes.{root_row}
 use Rattle.fuse_spec.specs.World.Worlds.{first_world}
 use Rattle.fuse_spec.specs.Reference.Plain.{first_plain}
-use Rattle.fuse_spec.specs.Claim.Denotes.{MeansIn}
+use Rattle.fuse_spec.specs.Claim.Denotes.{NodeDenotesIn}
 use Rattle.fuse_spec.specs.Claim.Alike.{Alike}
 use Rattle.fuse_spec.proofs.Tables.{tie_no}
 
@@ -27,7 +27,7 @@ first_files file =
           (other_files file ne)
     ]
 
-root_means : MeansIn first_world 1 0
+root_means : NodeDenotesIn first_world 1 0
 root_means = record {
   generation = 0;
   known = refl;

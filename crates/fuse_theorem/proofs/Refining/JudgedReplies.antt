@@ -61,16 +61,16 @@ module _ (t : NodeTable) where
 
   -- ---- names of a list
 
-  told_usable : (nodes : Map Counted) → HeldCounted nodes → (o : Option Entry) (rest : List Entry)
+  listed_usable : (nodes : Map Counted) → HeldCounted nodes → (o : Option Entry) (rest : List Entry)
       → All EntryHeld (first_listed o rest) → use_of_listed nodes o ≡ usable
-  told_usable nodes known None rest held = refl
-  told_usable nodes known (Some g) rest held = let mine =
+  listed_usable nodes known None rest held = refl
+  listed_usable nodes known (Some g) rest held = let mine =
       All-head EntryHeld g rest held in use_one nodes t known g mine.0 mine.1
 
-  told_held : (nodes : Map Counted) → HeldCounted nodes → (o : Option Entry) (rest : List Entry)
+  listed_held : (nodes : Map Counted) → HeldCounted nodes → (o : Option Entry) (rest : List Entry)
       → All EntryHeld (first_listed o rest) → HeldCounted (looked_up nodes (first_listed o []))
-  told_held nodes known None rest held = known
-  told_held nodes known (Some g) rest held = looked_up_one nodes known g (All-head EntryHeld g rest held)
+  listed_held nodes known None rest held = known
+  listed_held nodes known (Some g) rest held = looked_up_one nodes known g (All-head EntryHeld g rest held)
 
   rest_held : (o : Option Entry) (rest : List Entry) → All EntryHeld (first_listed o rest) → All EntryHeld rest
   rest_held None rest held = held
@@ -82,8 +82,8 @@ module _ (t : NodeTable) where
   pairs_usable (pair ∷ pairs) nodes known held =
       let o = listed_by pair in
       let files = files_listed pairs in
-      let used = told_usable nodes known o files held in
-      let rest = pairs_usable pairs (looked_up nodes (first_listed o [])) (told_held nodes known o files held)
+      let used = listed_usable nodes known o files held in
+      let rest = pairs_usable pairs (looked_up nodes (first_listed o [])) (listed_held nodes known o files held)
       (rest_held o files held) in (
         ap (λ (u : Use). pair_judged pair u ∷ pairs_judged
             (looked_up nodes (files_listed (pair_judged pair u ∷ []))) pairs) used ∙ ap

@@ -1,5 +1,5 @@
 -- The kernel learns the nodes that a reply names.
-use Rattle.fuse_theorem.proofs.Refining.Pairs.{told_with}
+use Rattle.fuse_theorem.proofs.Refining.Pairs.{listed_with}
 use Rattle.std.proofs.lemmas.List.Elements.{All-head, All-tail}
 use Rattle.std.proofs.Common.{◌≡◌, ◌≢◌, ℕ, Bool, true, false, true≢false, cond, List, [], ◌∷◌, Option, Some, None, nat_eq, option_map, refl, ap, sym, subst, ◌∙◌, inl, inr, map, All}
 use Rattle.std.specs.Prelude.{nat_lt}
@@ -11,17 +11,17 @@ use Rattle.fuse_spec.specs.declared.Opened.{Opened}
 use Rattle.fuse_spec.specs.Values.Maps.{Map, get, put}
 use Rattle.fuse_spec.specs.Files.Operations.{Operation, create, opening, Reply, found, missing, created, opened, attributes, listed, listed_plus, content, written, agreed, done, failed, files_in_reply, DirentPlus, listed_by, first_listed, files_listed, pair_with, OperationAlike, ReplyAlike, OptionAlike, PairsAlike}
 use Rattle.fuse_spec.specs.Kernel.Messages.{WireReply}
-use Rattle.fuse_spec.specs.Server.Nodes.{NodeTable, HandleTable, OpenNumber, is_open, is_file_of}
+use Rattle.fuse_spec.specs.Server.Nodes.{NodeTable, HandleTable, FileHandle, is_open, is_file_of}
 use Rattle.fuse_spec.specs.Kernel.Replies.{goes_with, usable, unusable, stale, use_counted, use_of, first_use, counted_more, looked_up, kernel_reply}
-use Rattle.fuse_spec.specs.Claim.Denotes.{Denotes, Names, Opens, generation_known, Means, MeansOpen}
+use Rattle.fuse_spec.specs.Claim.Denotes.{Denotes, Names, Opens, generation_known, NodeDenotes, OpenDenotes}
 use Rattle.fuse_spec.proofs.Tables.{get_put_here, get_put_there}
 use Rattle.fuse_theorem.specs.Numbering.{IsOneToOne}
 use Rattle.fuse_theorem.specs.Conditions.{OneId, OpensItsFile, IsUsable}
 use Rattle.fuse_theorem.proofs.Calls.Finding.{other_is}
 use Rattle.fuse_theorem.proofs.Refining.LookupsCounted.{denotes_one}
 
--- Where no two nodes have the same file, no two that the kernel knows mean the same.
-pub one_to_one : (nodes : Map Counted) (t : NodeTable) → OneId t → IsOneToOne (Means nodes t)
+-- Where no two nodes have the same file, no two that the kernel knows denote the same.
+pub one_to_one : (nodes : Map Counted) (t : NodeTable) → OneId t → IsOneToOne (NodeDenotes nodes t)
 one_to_one nodes t one a b c d r s = (
   λ e.
       let same_generation : r.generation ≡ s.generation =
@@ -100,11 +100,11 @@ usable_known nodes g e = by (nat_lt g.nodeid 2) refl e
         ∙ ap (λ (o : Option Counted). option_map (λ (c : Counted). c.generation) o)
         (get_put_here nodes g.nodeid (counted_more g (get nodes g.nodeid))) ∙ counted (get nodes g.nodeid) f
 
--- an open number has one file
+-- a file handle has one file
 opens_one : (h : HandleTable) (fh a b : ℕ) → is_open h fh a ≡ true → is_open h fh b ≡ true → a ≡ b
 opens_one h fh a b x y = by (get h.handles fh) x y
   where
-    by : (o : Option OpenNumber) → is_file_of a o ≡ true → is_file_of b o ≡ true → a ≡ b
+    by : (o : Option FileHandle) → is_file_of a o ≡ true → is_file_of b o ≡ true → a ≡ b
     by None x y = absurd (cc)
     by (Some open_call) x y = elim (eqb_tells open_call.file a) [
       | inl p ↦ elim (eqb_tells open_call.file b) [ inl q ↦ sym p.1 ∙ q.1 | inr q ↦ absurd (true≢false (sym y ∙ q.0)) ]
@@ -118,11 +118,11 @@ EntryKnown nodes g = generation_known nodes g.nodeid ≡ Some g.generation
 received_pairs : (nodes : Map Counted) (t : NodeTable) (xs : List (DirentPlus Entry)) (ys : List (DirentPlus ℕ))
     → All (λ (g : Entry). generation_known nodes g.nodeid ≡ Some g.generation) (files_listed xs)
     → PairsAlike (Names t) xs ys
-    → PairsAlike (Means nodes t) (map (pair_with (λ (g : Entry). g.nodeid)) xs) ys
+    → PairsAlike (NodeDenotes nodes t) (map (pair_with (λ (g : Entry). g.nodeid)) xs) ys
 received_pairs nodes t [] [] known h = h
 received_pairs nodes t (x ∷ xs) (y ∷ ys) known h = (
   (
-    subst (λ (o : Option ℕ). OptionAlike (Means nodes t) o (listed_by y)) (sym (told_with (λ (g : Entry). g.nodeid) x))
+    subst (λ (o : Option ℕ). OptionAlike (NodeDenotes nodes t) o (listed_by y)) (sym (listed_with (λ (g : Entry). g.nodeid) x))
         (first (listed_by x) (listed_by y) known h.0.0),
     h.0.1,
     h.0.2,
@@ -131,7 +131,7 @@ received_pairs nodes t (x ∷ xs) (y ∷ ys) known h = (
 )
   where
     first : (a : Option Entry) (b : Option ℕ) → All (EntryKnown nodes) (first_listed a (files_listed xs))
-        → OptionAlike (Names t) a b → OptionAlike (Means nodes t) (option_map (λ (g : Entry). g.nodeid) a) b
+        → OptionAlike (Names t) a b → OptionAlike (NodeDenotes nodes t) (option_map (λ (g : Entry). g.nodeid) a) b
     first None None k r = r
     first (Some g) (Some file) k r = record {
       generation = g.generation;
@@ -152,8 +152,8 @@ received_pairs nodes t (x ∷ xs) [] known h = absurd h
 pub received_fits : (nodes : Map Counted) (t : NodeTable) (h : HandleTable) (operation : Operation ℕ Opened)
     (asked : Operation ℕ ℕ) (wire : WireReply) (reply : Reply ℕ ℕ) → goes_with operation wire ≡ true
     → IsUsable nodes wire → OpensItsFile t h operation wire
-    → OperationAlike (Means nodes t) (MeansOpen nodes t h) operation asked → ReplyAlike (Names t) (Opens h) wire reply
-    → ReplyAlike (Means (looked_up nodes (files_in_reply wire)) t) (MeansOpen (looked_up nodes (files_in_reply wire)) t h)
+    → OperationAlike (NodeDenotes nodes t) (OpenDenotes nodes t h) operation asked → ReplyAlike (Names t) (Opens h) wire reply
+    → ReplyAlike (NodeDenotes (looked_up nodes (files_in_reply wire)) t) (OpenDenotes (looked_up nodes (files_in_reply wire)) t h)
     (kernel_reply operation wire) reply
 received_fits nodes t h operation asked (found g v) (found file v') goes used its same told = (
   record {
@@ -178,7 +178,7 @@ received_fits nodes t h (create d name) asked (created g v fh) (created file v' 
           known = known;
           denotes = subst (λ (n : ℕ). Denotes t g.nodeid g.generation n) one_file told.0;
         };
-        is_number = told.2;
+        is_handle = told.2;
       },
     )
 received_fits nodes t h (opening node) (opening file) (opened fh) (opened o) goes used its same told =
@@ -189,7 +189,7 @@ received_fits nodes t h (opening node) (opening file) (opened fh) (opened o) goe
         known = same.known;
         denotes = subst (λ (n : ℕ). Denotes t node same.generation n) one_file same.denotes;
       };
-      is_number = told;
+      is_handle = told;
     }
 received_fits nodes t h operation asked (attributes a) (attributes b) goes used its same told = told
 received_fits nodes t h operation asked (listed xs) (listed ys) goes used its same told = told

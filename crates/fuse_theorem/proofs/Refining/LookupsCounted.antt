@@ -5,8 +5,8 @@ use Rattle.fuse_spec.specs.declared.Counted.{Counted}
 use Rattle.fuse_spec.specs.declared.Entry.{Entry}
 use Rattle.fuse_spec.specs.Values.Maps.{Map, get, put}
 use Rattle.fuse_spec.specs.Server.Copies.{rows_counted, handles_counted}
-use Rattle.fuse_spec.specs.Server.Nodes.{HeldNode, NodeTable, row_of, root_row, given, given_row, all_given, row_more, rows_more, OpenNumber, HandleTable, is_open, is_file_of, handle_opened, handle_more, handles_more}
-use Rattle.fuse_spec.specs.Claim.Denotes.{Denotes, Means, generation_known}
+use Rattle.fuse_spec.specs.Server.Nodes.{HeldNode, NodeTable, row_of, root_row, given, given_row, all_given, row_more, rows_more, FileHandle, HandleTable, is_open, is_file_of, handle_opened, handle_more, handles_more}
+use Rattle.fuse_spec.specs.Claim.Denotes.{Denotes, NodeDenotes, generation_known}
 use Rattle.fuse_spec.proofs.Tables.{get_put_here, get_put_there}
 use Rattle.fuse_theorem.specs.Numbering.{IsOneToOne}
 use Rattle.fuse_theorem.proofs.Calls.Finding.{other_is}
@@ -101,16 +101,16 @@ counted_denotes [] t i generation file d = d
 counted_denotes (g ∷ gs) t i generation file d =
     counted_denotes gs (row_more t g.nodeid) i generation file (more_denotes t g.nodeid i generation file d)
 
--- An open number is one of its file still, as it is counted once more or another is opened.
+-- A file handle is one of its file still, as it is counted once more or another is opened.
 pub more_open : (h : HandleTable) (fh' : ℕ) (fh file : ℕ) → is_open h fh file ≡ true
     → is_open (handle_more h fh') fh file ≡ true
 more_open h fh' fh file o = by (get h.handles fh') refl
   where
-    by : (x : Option OpenNumber) → get h.handles fh' ≡ x
+    by : (x : Option FileHandle) → get h.handles fh' ≡ x
         → is_file_of file (get (handles_more h.handles fh' x) fh) ≡ true
     by None e = o
     by (Some open_call) e =
-        let new : OpenNumber = record open_call { count = open_call.count + 1 } in
+        let new : FileHandle = record open_call { count = open_call.count + 1 } in
         elim (cases_eq fh fh') [
           | inl here ↦
               ap (λ (n : ℕ). is_file_of file (get (put h.handles fh' new) n)) here ∙ ap (is_file_of file)
@@ -132,14 +132,14 @@ opened_open h file' none fh file o = elim (cases_eq fh h.next_fh) [
   | inr ne ↦ ap (is_file_of file) (get_put_there h.handles h.next_fh (record { file = file'; count = 1 }) fh ne) ∙ o
 ]
 
--- Where the server holds what the kernel knows, no more is meant as the server's table grows.
+-- Where the server holds what the kernel knows, no more is denoted as the server's table grows.
 pub one_grown : (nodes : Map Counted) (t t' : NodeTable)
     → ((id generation : ℕ) → generation_known nodes id ≡ Some generation → (file : ℕ) × Denotes t id generation file)
     → ((id generation file : ℕ) → Denotes t id generation file → Denotes t' id generation file)
-    → IsOneToOne (Means nodes t) → IsOneToOne (Means nodes t')
+    → IsOneToOne (NodeDenotes nodes t) → IsOneToOne (NodeDenotes nodes t')
 one_grown nodes t t' held grown one a b c d r s = one a b c d (before a c r) (before b d s)
   where
-    before : (id file : ℕ) → Means nodes t' id file → Means nodes t id file
+    before : (id file : ℕ) → NodeDenotes nodes t' id file → NodeDenotes nodes t id file
     before id file m =
         let was = held id m.generation m.known in
         let same : was.0 ≡ file = denotes_one t' id m.generation was.0 file

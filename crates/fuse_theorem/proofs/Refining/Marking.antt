@@ -16,8 +16,8 @@ use Rattle.fuse_spec.specs.World.Worlds.{World, after_take}
 use Rattle.fuse_spec.specs.World.Events as event
 use Rattle.fuse_spec.specs.Reference.Plain.{Plain, Ask, ask_marked}
 use Rattle.fuse_spec.specs.Reference.PlainSteps.{Takes, marking}
-use Rattle.fuse_spec.specs.Claim.Denotes.{MeansIn, MeansOpenIn}
-use Rattle.fuse_spec.specs.Claim.Alike.{RequestBodyAsked, Meant, MeantOpen, Alike}
+use Rattle.fuse_spec.specs.Claim.Denotes.{NodeDenotesIn, OpenDenotesIn}
+use Rattle.fuse_spec.specs.Claim.Alike.{RequestBodyAsked, StillDenotes, OpenStillDenotes, Alike}
 use Rattle.fuse_spec.proofs.Tables.{get_put_here, get_put_there, get_gone_here, get_gone_there}
 use Rattle.fuse_theorem.specs.Conditions.{IsInterrupt}
 use Rattle.fuse_theorem.proofs.Refining.Changing.{MayReplace, ask_changed}
@@ -27,8 +27,8 @@ use Rattle.fuse_theorem.proofs.Refining.Taking.{ignored_alike, sending_alike}
 
 -- a request that is held is asked so
 abbrev HeldAsked : World → Plain → ℕ → HeldRequest → Type 0
-HeldAsked w p unique t = RequestBodyAsked p.asks unique false t.marked (Meant w.server.nodes t.generations)
-    (MeantOpen w.server.nodes w.server.handles t.generations) t.body
+HeldAsked w p unique t = RequestBodyAsked p.asks unique false t.marked (StillDenotes w.server.nodes t.generations)
+    (OpenStillDenotes w.server.nodes w.server.handles t.generations) t.body
 
 -- Others are held, each of them asked.
 holding_alike : (w : World) (p : Plain) → Alike w p → (held : Map HeldRequest)
@@ -139,8 +139,8 @@ module _ (w : World) (p : Plain) (same : Alike w p) (original : ℕ) (t : HeldRe
   unasked_alike : get p.asks original ≡ None → Alike marked_world p
   unasked_alike none =
       holding_alike w p same (put w.server.held original marked) (held_beside p others_asked
-      (marked_unasked (Meant w.server.nodes t.generations)
-      (MeantOpen w.server.nodes w.server.handles t.generations) p.asks original t.marked t.body none
+      (marked_unasked (StillDenotes w.server.nodes t.generations)
+      (OpenStillDenotes w.server.nodes w.server.handles t.generations) p.asks original t.marked t.body none
       (same.requests.held original t there)))
 
   abbrev other_world : World
@@ -177,8 +177,8 @@ module _ (w : World) (p : Plain) (same : Alike w p) (original : ℕ) (t : HeldRe
         (record ask { marked = true }) may_mark in
         holding_alike other_world (ask_marked p original ask) apart (put w.server.held original marked)
         (held_beside (ask_marked p original ask) apart.requests.held
-        (marked_asked (Meant w.server.nodes t.generations)
-        (MeantOpen w.server.nodes w.server.handles t.generations) p.asks original t.marked t.body ask asked noted
+        (marked_asked (StillDenotes w.server.nodes t.generations)
+        (OpenStillDenotes w.server.nodes w.server.handles t.generations) p.asks original t.marked t.body ask asked noted
         (same.requests.held original t there)))
 
 module _ (w : World) (p : Plain) (same : Alike w p) (k : ℕ) (r : Request) (original : ℕ)
@@ -194,7 +194,7 @@ module _ (w : World) (p : Plain) (same : Alike w p) (k : ℕ) (r : Request) (ori
   one_before : r.unique - 1 ≡ original
   one_before = let number = is.number in omega (arith, number)
 
-  -- none on the link bears the original's number, and none that is left
+  -- none on the link has the original's number, and none that is left
   unsent : count_by (λ (x : Request). nat_eq original x.unique) w.requests ≡ 0
       → count_by (λ (x : Request). nat_eq original x.unique) left.requests ≡ 0
   unsent none =
@@ -229,10 +229,10 @@ module _ (w : World) (p : Plain) (same : Alike w p) (k : ℕ) (r : Request) (ori
   again_alike : Alike (after_take w k r.unique (interrupting w.server r.unique original None None)) p
   again_alike =
       let unasked : get p.asks r.unique ≡ None =
-      subst (λ (body : RequestBody). RequestBodyAsked p.asks r.unique false false (MeansIn w)
-      (MeansOpenIn w) body) is.body_is
-      (All-at (λ (x : Request). RequestBodyAsked p.asks x.unique false false (MeansIn w)
-      (MeansOpenIn w) x.body) w.requests k r same.requests.sent is.there) in
+      subst (λ (body : RequestBody). RequestBodyAsked p.asks r.unique false false (NodeDenotesIn w)
+      (OpenDenotesIn w) body) is.body_is
+      (All-at (λ (x : Request). RequestBodyAsked p.asks x.unique false false (NodeDenotesIn w)
+      (OpenDenotesIn w) x.body) w.requests k r same.requests.sent is.there) in
       sending_alike left p (ignored_alike w p same k) r.unique
       (failed eagain) w.server.next_copy w.server.next_copy unasked
 

@@ -14,10 +14,10 @@ use Rattle.fuse_spec.specs.World.Worlds.{World, Sent, after_mount}
 use Rattle.fuse_spec.specs.World.Events as event
 use Rattle.fuse_spec.specs.Reference.Plain.{Plain, Ask, plain_mounted}
 use Rattle.fuse_spec.specs.Reference.PlainSteps.{Takes}
-use Rattle.fuse_spec.specs.Claim.Denotes.{MeansIn, MeansOpenIn}
+use Rattle.fuse_spec.specs.Claim.Denotes.{NodeDenotesIn, OpenDenotesIn}
 use Rattle.fuse_spec.specs.Claim.Alike.{RequestBodyAsked, PurposeAsked, IsStageReplied, Alike}
 use Rattle.fuse_theorem.proofs.Refining.OnlyRoots.{only_root_known}
-use Rattle.fuse_theorem.proofs.Refining.GivingUp.{given_up_alike, root_means}
+use Rattle.fuse_theorem.proofs.Refining.GivingUp.{abandoned_alike, root_means}
 use Rattle.fuse_theorem.proofs.Trees.NamelessDiscarded.{discarded_unheld_alike}
 
 module _ (w : World) (found_ms missing_ms : ℕ) (minor : Minor) where
@@ -25,7 +25,7 @@ module _ (w : World) (found_ms missing_ms : ℕ) (minor : Minor) where
   mounted = after_mount w found_ms missing_ms minor
 
   -- No node but the root is known then.
-  pub mounted_means : (id file : ℕ) → MeansIn mounted id file → (id ≡ 1) × (file ≡ 0)
+  pub mounted_means : (id file : ℕ) → NodeDenotesIn mounted id file → (id ≡ 1) × (file ≡ 0)
   mounted_means id file means = only_root_known [] mounted.server.nodes refl id file means
 
   module _ (p : Plain) (root : w.kernel.vfs.root ≡ 1) (sorted : T (is_sorted nat_cmp w.kernel.vfs.answers))
@@ -51,14 +51,14 @@ module _ (w : World) (found_ms missing_ms : ℕ) (minor : Minor) where
       tree = discarded_unheld_alike emptied p.tree
           (is_file_held w.server) same.tree.names same.tree.next_inode same.tree.next_cookie same.tree.files
           (λ file held. absurd (true≢false (sym held)));
-      vfs = given_up_alike (MeansIn w) (MeansIn mounted) (MeansOpenIn w)
-          (MeansOpenIn mounted) w.kernel.vfs p.vfs same.vfs sorted
+      vfs = abandoned_alike (NodeDenotesIn w) (NodeDenotesIn mounted) (OpenDenotesIn w)
+          (OpenDenotesIn mounted) w.kernel.vfs p.vfs same.vfs sorted
           (root_means w.kernel.nodes [] w.server.nodes mounted.server.nodes w.kernel.vfs.root p.vfs.root root same.vfs.roots);
       requests = record {
         pending = All-cons (PurposeAsked mounted q) (2, record { mark = Unread; kept = purpose.Init }) [] refl
             (All-nil (PurposeAsked mounted q));
-        sent = All-nil (λ (r : Request). RequestBodyAsked [] r.unique false false (MeansIn mounted)
-            (MeansOpenIn mounted) r.body);
+        sent = All-nil (λ (r : Request). RequestBodyAsked [] r.unique false false (NodeDenotesIn mounted)
+            (OpenDenotesIn mounted) r.body);
         held = λ u t at. absurd (cc);
       };
       asks = λ _. record {

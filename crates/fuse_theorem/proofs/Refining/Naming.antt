@@ -13,7 +13,7 @@ use Rattle.std.proofs.lemmas.List.Elements.{All-head, All-tail, All-nil, All-con
 use Rattle.fuse_spec.specs.Values.Maps.{Map, get, put, values}
 use Rattle.fuse_spec.specs.Files.Operations.{Reply, found, missing, created, opened, attributes, listed, listed_plus, content, written, agreed, done, failed, files_in_reply, opens_in_reply, files_listed, ReplyAlike}
 use Rattle.fuse_spec.specs.Files.Trees.{Tree}
-use Rattle.fuse_spec.specs.Server.Nodes.{HeldNode, NodeTable, row_of, root_row, MayName, IsUnheld, MayChoose, given, given_row, all_given, OpenNumber, HandleTable, is_open, is_file_of, handle_opened, all_opened}
+use Rattle.fuse_spec.specs.Server.Nodes.{HeldNode, NodeTable, row_of, root_row, MayName, IsUnheld, MayChoose, given, given_row, all_given, FileHandle, HandleTable, is_open, is_file_of, handle_opened, all_opened}
 use Rattle.fuse_spec.specs.Server.Server.{generation_in}
 use Rattle.fuse_spec.specs.Server.Performs.{wire_of, entry_for}
 use Rattle.fuse_spec.specs.Claim.Denotes.{Denotes, Names, Opens}
@@ -79,8 +79,8 @@ all_given_nodes choice (f ∷ files) t no_root may =
     (λ e. not_the_root t no_root f (choice f) may.0 (sym e)) ∙ no_root) may.1)
 
 -- the number that an open file is given
-pub opened_number : (h : HandleTable) (file : ℕ) → is_open (handle_opened h file) h.next_fh file ≡ true
-opened_number h file = ap (is_file_of file) (get_put_here h.handles h.next_fh
+pub opened_handle : (h : HandleTable) (file : ℕ) → is_open (handle_opened h file) h.next_fh file ≡ true
+opened_handle h file = ap (is_file_of file) (get_put_here h.handles h.next_fh
     (record { file = file; count = 1 })) ∙ same_is file
 
 -- A reply as it is sent says what the tree replied.
@@ -91,8 +91,8 @@ pub named_alike : (choice : ℕ → ℕ) (t : NodeTable) (h : HandleTable) (tree
 named_alike choice t h tree (found file v) no_root may = (given_node t no_root file (choice file) may.0, refl)
 named_alike choice t h tree (missing v) no_root may = refl
 named_alike choice t h tree (created file v o) no_root may =
-    (given_node t no_root file (choice file) may.0, refl, opened_number h o)
-named_alike choice t h tree (opened o) no_root may = opened_number h o
+    (given_node t no_root file (choice file) may.0, refl, opened_handle h o)
+named_alike choice t h tree (opened o) no_root may = opened_handle h o
 named_alike choice t h tree (attributes a) no_root may = refl
 named_alike choice t h tree (listed xs) no_root may = refl
 named_alike choice t h tree (listed_plus pairs) no_root may =
@@ -155,15 +155,15 @@ given_held S choice (f ∷ files) t file all may before h =
     by false e q = before q
 
 pub opened_held : (S : ℕ → Type 0) (files : List ℕ) (h : HandleTable) (file : ℕ) → All S files
-    → (list_any (λ (x : OpenNumber). nat_eq x.file file) (values h.handles) ≡ true → S file)
-    → list_any (λ (x : OpenNumber). nat_eq x.file file) (values (all_opened h files).handles) ≡ true → S file
+    → (list_any (λ (x : FileHandle). nat_eq x.file file) (values h.handles) ≡ true → S file)
+    → list_any (λ (x : FileHandle). nat_eq x.file file) (values (all_opened h files).handles) ≡ true → S file
 opened_held S [] h file all before q = before q
 opened_held S (f ∷ files) h file all before q =
     opened_held S files (handle_opened h f) file (All-tail S f files all)
-    (λ r. by (nat_eq f file) refl (any_put_le (λ (x : OpenNumber). nat_eq x.file file) h.handles h.next_fh
+    (λ r. by (nat_eq f file) refl (any_put_le (λ (x : FileHandle). nat_eq x.file file) h.handles h.next_fh
     (record { file = f; count = 1 }) r)) q
   where
-    by : (b : Bool) → nat_eq f file ≡ b → (b || list_any (λ (x : OpenNumber). nat_eq x.file file) (values h.handles))
+    by : (b : Bool) → nat_eq f file ≡ b → (b || list_any (λ (x : FileHandle). nat_eq x.file file) (values h.handles))
         ≡ true → S file
     by true e r = one_of f file S e (All-head S f files all)
     by false e r = before r

@@ -1,14 +1,14 @@
--- Where the tree is the root alone, the root's node means the root, and nothing else means anything.
+-- Where the tree is the root alone, the root's node denotes the root, and nothing else denotes anything.
 use Rattle.std.proofs.Common.{◌≡◌, ℕ, Bool, cond, [], Some, None, option_map, ap, sym, subst, ◌∙◌, inl, inr}
 use Rattle.std.proofs.lemmas.Bool.{cases_eq}
 use Rattle.fuse_spec.specs.declared.Counted.{Counted}
 use Rattle.fuse_spec.specs.Values.Maps.{Map, get}
 use Rattle.fuse_spec.specs.Server.Nodes.{NodeTable, HeldNode, row_of, root_row}
-use Rattle.fuse_spec.specs.Claim.Denotes.{generation_known, Means}
+use Rattle.fuse_spec.specs.Claim.Denotes.{generation_known, NodeDenotes}
 use Rattle.fuse_theorem.proofs.Calls.Finding.{other_is}
 
 -- a kernel that knows no node but the root
-pub only_root_known : (nodes : Map Counted) (t : NodeTable) → nodes ≡ [] → (id file : ℕ) → Means nodes t id file
+pub only_root_known : (nodes : Map Counted) (t : NodeTable) → nodes ≡ [] → (id file : ℕ) → NodeDenotes nodes t id file
     → (id ≡ 1) × (file ≡ 0)
 only_root_known nodes t none id file means = elim (cases_eq id 1) [
   | inl e ↦

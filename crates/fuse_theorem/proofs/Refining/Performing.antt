@@ -11,7 +11,7 @@ use Rattle.fuse_spec.specs.Files.Trees.{Tree, Named}
 use Rattle.fuse_spec.specs.Files.FileOperations.{FileOperation, reply_by, tree_after, refusal}
 use Rattle.fuse_spec.specs.Kernel.Queues.{pending}
 use Rattle.fuse_spec.specs.Kernel.Messages.{Request, WireReply}
-use Rattle.fuse_spec.specs.Server.Nodes.{HeldNode, NodeTable, HandleTable, OpenNumber, root_row, row_of, file_of, is_open, MayChoose, all_given, all_opened}
+use Rattle.fuse_spec.specs.Server.Nodes.{HeldNode, NodeTable, HandleTable, FileHandle, root_row, row_of, file_of, is_open, MayChoose, all_given, all_opened}
 use Rattle.fuse_spec.specs.Server.Server.{Server, HeldRequest, Kept, Copy, is_file_held, without_unheld_files}
 use Rattle.fuse_spec.specs.Server.Performs.{PerformResult, performed, performing, served, replying, doing, refusing, is_still_held, is_open_for, file_operation_of, wire_of, files_by, files_given}
 use Rattle.fuse_spec.specs.World.Worlds.{World, Sent, after_perform}
@@ -20,8 +20,8 @@ use Rattle.fuse_spec.specs.World.Events as event
 use Rattle.fuse_spec.specs.Reference.Plain.{Plain, Ask, Stage, ask_performed}
 use Rattle.fuse_spec.specs.Reference.Plain as plain
 use Rattle.fuse_spec.specs.Reference.PlainSteps.{Takes, serving, serving_ask, where_so}
-use Rattle.fuse_spec.specs.Claim.Denotes.{MeansIn, Denotes}
-use Rattle.fuse_spec.specs.Claim.Alike.{TreeAlike, AskedBy, RequestBodyAsked, Meant, MeantOpen, IsStageReplied, Alike}
+use Rattle.fuse_spec.specs.Claim.Denotes.{NodeDenotesIn, Denotes}
+use Rattle.fuse_spec.specs.Claim.Alike.{TreeAlike, AskedBy, RequestBodyAsked, StillDenotes, OpenStillDenotes, IsStageReplied, Alike}
 use Rattle.fuse_spec.proofs.Tables.{get_put_here, get_gone_here}
 use Rattle.fuse_theorem.specs.Numbering.{IsOneToOne}
 use Rattle.fuse_theorem.specs.Conditions.{TablesSound, KnownAreHeld, CanPerformCall}
@@ -35,7 +35,7 @@ use Rattle.fuse_theorem.proofs.Refining.Naming.{named_alike, given_held, opened_
 use Rattle.fuse_theorem.proofs.Refining.Serving.{unheld_alike, replied_alike}
 use Rattle.fuse_theorem.proofs.Trees.SameFilesAfter.{Stands, DeedStands, named_same, deed_same, makes_unless, files_after, named_after, given_stands}
 use Rattle.fuse_theorem.proofs.Trees.NamelessDiscarded.{found_any, discarded_unheld_alike}
-use Rattle.fuse_theorem.proofs.Trees.Trees.{with_files, AllSame, DeedSame, told_same, numbers_same}
+use Rattle.fuse_theorem.proofs.Trees.Trees.{with_files, AllSame, DeedSame, replied_same, numbers_same}
 
 module _ (w : World) (p : Plain) (same : Alike w p) where
   abbrev Kept_if : ℕ → Bool
@@ -55,7 +55,7 @@ module _ (w : World) (p : Plain) (same : Alike w p) where
         let held : list_any (λ (row : HeldNode). nat_eq row.file file) (values w.server.nodes.rows) ≡ true =
         found_any (λ (row : HeldNode). nat_eq row.file file) w.server.nodes.rows id d.row there
         (ap (λ (n : ℕ). nat_eq n file) d.same_file ∙ same_is file) in
-        right (is_named p.tree.names file) (list_any (λ (x : OpenNumber). nat_eq x.file file)
+        right (is_named p.tree.names file) (list_any (λ (x : FileHandle). nat_eq x.file file)
         (values w.server.handles.handles)) held
   ]
     where
@@ -64,39 +64,39 @@ module _ (w : World) (p : Plain) (same : Alike w p) where
       right false c e = ap (λ (x : Bool). x || c) e
 
   module _ (generations : List (ℕ × ℕ)) where
-    stands : (id file : ℕ) → Meant w.server.nodes generations id file
+    stands : (id file : ℕ) → StillDenotes w.server.nodes generations id file
         → Stands p.tree w.server.tree.files Kept_if same.tree.files file
     stands id file m = denoted_stands id m.generation file m.denotes
 
-    opened_stands : (o : Opened) (file : ℕ) → MeantOpen w.server.nodes w.server.handles generations o file
+    opened_stands : (o : Opened) (file : ℕ) → OpenStillDenotes w.server.nodes w.server.handles generations o file
         → Stands p.tree w.server.tree.files Kept_if same.tree.files file
     opened_stands o file m = stands o.nodeid file m.node_meant
 
-    number_open : (o : Opened) (file : ℕ) → MeantOpen w.server.nodes w.server.handles generations o file
+    handle_open : (o : Opened) (file : ℕ) → OpenStillDenotes w.server.nodes w.server.handles generations o file
         → is_open w.server.handles o.fh (file_of w.server.nodes o.nodeid) ≡ true
-    number_open o file m = ap (λ (f : ℕ). is_open w.server.handles o.fh f)
-        (denoted w.server.nodes o.nodeid m.node_meant.generation file m.node_meant.denotes) ∙ m.is_number
+    handle_open o file m = ap (λ (f : ℕ). is_open w.server.handles o.fh f)
+        (denoted w.server.nodes o.nodeid m.node_meant.generation file m.node_meant.denotes) ∙ m.is_handle
 
-    deed_stands : (a : Operation ℕ Opened) (b : FileOperation)
-        → OperationAlike (Meant w.server.nodes generations) (MeantOpen w.server.nodes w.server.handles generations) a b
+    operation_stands : (a : Operation ℕ Opened) (b : FileOperation)
+        → OperationAlike (StillDenotes w.server.nodes generations) (OpenStillDenotes w.server.nodes w.server.handles generations) a b
         → DeedStands p.tree w.server.tree.files Kept_if same.tree.files b
-    deed_stands (lookup d name) (lookup e other) h = stands d e h.0
-    deed_stands (getattr x) (getattr y) h = stands x y h
-    deed_stands (mkdir d name) (mkdir e other) h = stands d e h.0
-    deed_stands (create d name) (create e other) h = stands d e h.0
-    deed_stands (unlink d name) (unlink e other) h = stands d e h.0
-    deed_stands (rmdir d name) (rmdir e other) h = stands d e h.0
-    deed_stands (rename d old e new) (rename d' old' e' new') h = (stands d d' h.0, stands e e' h.2)
-    deed_stands (link x d name) (link y e other) h = (stands x y h.0, stands d e h.1)
-    deed_stands (opening x) (opening y) h = stands x y h
-    deed_stands (readdir d after size) (readdir e after' size') h = stands d e h.0
-    deed_stands (readdirplus d after size) (readdirplus e after' size') h = stands d e h.0
-    deed_stands (read o offset size) (read file offset' size') h = opened_stands o file h.0
-    deed_stands (write o offset bytes) (write file offset' bytes') h = opened_stands o file h.0
-    deed_stands a b h = absurd h
+    operation_stands (lookup d name) (lookup e other) h = stands d e h.0
+    operation_stands (getattr x) (getattr y) h = stands x y h
+    operation_stands (mkdir d name) (mkdir e other) h = stands d e h.0
+    operation_stands (create d name) (create e other) h = stands d e h.0
+    operation_stands (unlink d name) (unlink e other) h = stands d e h.0
+    operation_stands (rmdir d name) (rmdir e other) h = stands d e h.0
+    operation_stands (rename d old e new) (rename d' old' e' new') h = (stands d d' h.0, stands e e' h.2)
+    operation_stands (link x d name) (link y e other) h = (stands x y h.0, stands d e h.1)
+    operation_stands (opening x) (opening y) h = stands x y h
+    operation_stands (readdir d after size) (readdir e after' size') h = stands d e h.0
+    operation_stands (readdirplus d after size) (readdirplus e after' size') h = stands d e h.0
+    operation_stands (read o offset size) (read file offset' size') h = opened_stands o file h.0
+    operation_stands (write o offset bytes) (write file offset' bytes') h = opened_stands o file h.0
+    operation_stands a b h = absurd h
 
     pub open_for : (a : Operation ℕ Opened) (b : FileOperation)
-        → OperationAlike (Meant w.server.nodes generations) (MeantOpen w.server.nodes w.server.handles generations) a b
+        → OperationAlike (StillDenotes w.server.nodes generations) (OpenStillDenotes w.server.nodes w.server.handles generations) a b
         → is_open_for w.server a ≡ true
     open_for (lookup d name) b h = refl
     open_for (getattr x) b h = refl
@@ -109,18 +109,18 @@ module _ (w : World) (p : Plain) (same : Alike w p) where
     open_for (opening x) b h = refl
     open_for (readdir d after size) b h = refl
     open_for (readdirplus d after size) b h = refl
-    open_for (read o offset size) (read file offset' size') h = number_open o file h.0
-    open_for (write o offset bytes) (write file offset' bytes') h = number_open o file h.0
+    open_for (read o offset size) (read file offset' size') h = handle_open o file h.0
+    open_for (write o offset bytes) (write file offset' bytes') h = handle_open o file h.0
     open_for (read o offset size) b h = absurd h
     open_for (write o offset bytes) b h = absurd h
 
 module _ (w : World) (p : Plain) (same : Alike w p) (choice : ℕ → ℕ) (unique : ℕ) (t : HeldRequest)
     (operation : Operation ℕ Opened) (can : CanPerformCall w unique t operation) where
   pub asked : AskedBy p.asks unique false t.marked
-      (OperationAlike (Meant w.server.nodes t.generations)
-      (MeantOpen w.server.nodes w.server.handles t.generations) operation)
-  asked = subst (RequestBodyAsked p.asks unique false t.marked (Meant w.server.nodes t.generations)
-      (MeantOpen w.server.nodes w.server.handles t.generations)) can.body_is (same.requests.held unique t can.there)
+      (OperationAlike (StillDenotes w.server.nodes t.generations)
+      (OpenStillDenotes w.server.nodes w.server.handles t.generations) operation)
+  asked = subst (RequestBodyAsked p.asks unique false t.marked (StillDenotes w.server.nodes t.generations)
+      (OpenStillDenotes w.server.nodes w.server.handles t.generations)) can.body_is (same.requests.held unique t can.there)
 
   -- the operation of the ask, on the files
   abbrev deed : FileOperation
@@ -151,7 +151,7 @@ module _ (w : World) (p : Plain) (same : Alike w p) (choice : ℕ → ℕ) (uniq
   -- ---- the server performs the very operation of the ask
 
   deed_there : DeedStands p.tree w.server.tree.files (λ file. is_file_held w.server file) same.tree.files deed
-  deed_there = deed_stands w p same t.generations operation deed asked.same
+  deed_there = operation_stands w p same t.generations operation deed asked.same
 
   tree_is : w.server.tree ≡ with_files p.tree w.server.tree.files
   tree_is = λ i. record {
@@ -169,7 +169,7 @@ module _ (w : World) (p : Plain) (same : Alike w p) (choice : ℕ → ℕ) (uniq
 
   same_reply : reply_by w.server.validity w.server.tree deed ≡ reply
   same_reply = (λ i. reply_by (same.validity i)
-      (tree_is i) deed) ∙ told_same p.tree w.server.tree.files all_named p.validity deed same_files
+      (tree_is i) deed) ∙ replied_same p.tree w.server.tree.files all_named p.validity deed same_files
 
   -- what performing gives, by whether the mount is aborted
   abbrev Did : Reply ℕ ℕ → Bool → PerformResult
@@ -296,7 +296,7 @@ module _ (w : World) (p : Plain) (same : Alike w p) (choice : ℕ → ℕ) (uniq
             (Some (ask_performed p unique asked.ask))) (waits.marked_too ∙ can.unmarked),
       )
 
-  module _ (live : w.server.aborted ≡ false) (tables : TablesSound w.server) (one : IsOneToOne (MeansIn w))
+  module _ (live : w.server.aborted ≡ false) (tables : TablesSound w.server) (one : IsOneToOne (NodeDenotesIn w))
       (known : KnownAreHeld w) (may : MayChoose choice w.server.nodes (files_in_reply reply)) where
     -- ---- in a mount that lives
 
@@ -338,8 +338,8 @@ module _ (w : World) (p : Plain) (same : Alike w p) (choice : ℕ → ℕ) (uniq
 
     opens_still : (r : Reply ℕ ℕ) (fh file : ℕ) → is_open w.server.handles fh file ≡ true
         → is_open (all_opened w.server.handles (opens_in_reply r)) fh file ≡ true
-    opens_still (created x v o) fh file h = opened_open w.server.handles o tables.new_number fh file h
-    opens_still (opened o) fh file h = opened_open w.server.handles o tables.new_number fh file h
+    opens_still (created x v o) fh file h = opened_open w.server.handles o tables.new_handle fh file h
+    opens_still (opened o) fh file h = opened_open w.server.handles o tables.new_handle fh file h
     opens_still (found x v) fh file h = h
     opens_still (missing v) fh file h = h
     opens_still (attributes a) fh file h = h
@@ -367,10 +367,10 @@ module _ (w : World) (p : Plain) (same : Alike w p) (choice : ℕ → ℕ) (uniq
             let given = given_stands p.tree w.server.tree.files
             (λ f. is_file_held w.server f) same.tree.files p.validity deed deed_there in
             let rows = list_any (λ (row : HeldNode). nat_eq row.file file) (values w.server.nodes.rows) in
-            let numbers = list_any (λ (x : OpenNumber). nat_eq x.file file) (values w.server.handles.handles) in
+            let numbers = list_any (λ (x : FileHandle). nat_eq x.file file) (values w.server.handles.handles) in
             let makes = makes_unless p.tree deed file (refusal p.tree deed) in
             either (stood file ≡ true) (list_any (λ (row : HeldNode). nat_eq row.file file) (values nodes2.rows))
-            (list_any (λ (x : OpenNumber). nat_eq x.file file) (values handles2.handles)) h
+            (list_any (λ (x : FileHandle). nat_eq x.file file) (values handles2.handles)) h
             (λ q. given_held (λ f. stood f ≡ true) choice (files_in_reply reply) w.server.nodes file given.0 may
             (λ r. held_stood file (is_named p.tree.names file) (rows || numbers) makes
             (left_held rows numbers r)) q)
@@ -408,7 +408,7 @@ module _ (w : World) (p : Plain) (same : Alike w p) (choice : ℕ → ℕ) (uniq
 
   -- ---- after an abort: nothing is given, and nothing is replied
 
-  module _ (lost : w.server.aborted ≡ true) (one : IsOneToOne (MeansIn w)) where
+  module _ (lost : w.server.aborted ≡ true) (one : IsOneToOne (NodeDenotesIn w)) where
     abbrev left : Server
     left = without_unheld_files (record s1 { tree = tree2 })
 

@@ -5,7 +5,7 @@ use Rattle.fuse_spec.specs.declared.Opened.{Opened}
 use Rattle.fuse_spec.specs.Values.Maps.{Map, get, put, remove, values}
 use Rattle.fuse_spec.specs.Files.Operations.{done, errno_of}
 use Rattle.fuse_spec.specs.Kernel.Messages.{RequestBody, init, release, WireReply}
-use Rattle.fuse_spec.specs.Server.Nodes.{HeldNode, OpenNumber, HandleTable, handle_back}
+use Rattle.fuse_spec.specs.Server.Nodes.{HeldNode, FileHandle, HandleTable, handle_back}
 use Rattle.fuse_spec.specs.Server.Server.{Server, HeldRequest, Kept, Copy, is_file_held, without_unheld_files}
 use Rattle.fuse_spec.specs.Server.Performs.{PerformResult, performed, performing, served, replying, refusing, is_still_held, init_reply}
 use Rattle.fuse_spec.specs.World.Worlds.{World, after_perform}
@@ -13,11 +13,11 @@ use Rattle.fuse_spec.specs.World.Worlds as worlds
 use Rattle.fuse_spec.specs.World.Events as event
 use Rattle.fuse_spec.specs.Reference.Plain.{Plain, Ask}
 use Rattle.fuse_spec.specs.Reference.PlainSteps.{Takes, serving}
-use Rattle.fuse_spec.specs.Claim.Alike.{RequestBodyAsked, Meant, MeantOpen, Alike}
+use Rattle.fuse_spec.specs.Claim.Alike.{RequestBodyAsked, StillDenotes, OpenStillDenotes, Alike}
 use Rattle.fuse_theorem.specs.Conditions.{OneId, HoldsAll, HoldsOpens, CanRelease}
 use Rattle.fuse_theorem.proofs.Refining.UnusedNodesDropped.{Narrows, fewer_nodes_refine}
 use Rattle.fuse_theorem.proofs.Refining.Serving.{unheld_alike, replied_alike}
-use Rattle.fuse_theorem.proofs.Refining.Settling.{number_back, handle_back_files, narrows_fewer}
+use Rattle.fuse_theorem.proofs.Refining.Settling.{handle_back_left, handle_back_files, narrows_fewer}
 use Rattle.fuse_theorem.proofs.Trees.NamelessDiscarded.{discarded_unheld_alike}
 
 -- the world in which a request is held no longer
@@ -29,8 +29,8 @@ module _ (w : World) (p : Plain) (same : Alike w p) (choice : ℕ → ℕ) (uniq
     (did : performed choice (unheld w unique).server t
     ≡ record { server = record (unheld w unique).server { handles = h }; wire = wire })
     (narrows : Narrows (unheld w unique) p w.kernel.nodes w.server.nodes h)
-    (fewer : (file : ℕ) → list_any (λ (x : OpenNumber). nat_eq x.file file) (values h.handles) ≡ true
-    → list_any (λ (x : OpenNumber). nat_eq x.file file) (values w.server.handles.handles) ≡ true) where
+    (fewer : (file : ℕ) → list_any (λ (x : FileHandle). nat_eq x.file file) (values h.handles) ≡ true
+    → list_any (λ (x : FileHandle). nat_eq x.file file) (values w.server.handles.handles) ≡ true) where
   abbrev left : Server
   left = without_unheld_files (record (unheld w unique).server { handles = h })
 
@@ -61,8 +61,8 @@ module _ (w : World) (p : Plain) (same : Alike w p) (choice : ℕ → ℕ) (uniq
       (λ file. is_file_held w.server file) same.tree.names same.tree.next_inode same.tree.next_cookie same.tree.files
       (λ file held.
       either (list_any (λ (row : HeldNode). nat_eq row.file file) (values w.server.nodes.rows))
-      (list_any (λ (x : OpenNumber). nat_eq x.file file) (values h.handles))
-      (list_any (λ (x : OpenNumber). nat_eq x.file file) (values w.server.handles.handles)) held
+      (list_any (λ (x : FileHandle). nat_eq x.file file) (values h.handles))
+      (list_any (λ (x : FileHandle). nat_eq x.file file) (values w.server.handles.handles)) held
       (fewer file)) in
       fewer_nodes_refine (unheld w unique) p
       (unheld_alike w p same unique) w.kernel.nodes w.server.nodes h left.tree p.tree narrows trees
@@ -87,10 +87,10 @@ module _ (w : World) (p : Plain) (same : Alike w p) (choice : ℕ → ℕ) (uniq
 module _ (w : World) (p : Plain) (same : Alike w p) (choice : ℕ → ℕ) (unique : ℕ) (t : HeldRequest) where
   -- what is held under the number
   asked_of : get w.server.held unique ≡ Some t → (body : RequestBody) → t.body ≡ body
-      → RequestBodyAsked p.asks unique false t.marked (Meant w.server.nodes t.generations)
-      (MeantOpen w.server.nodes w.server.handles t.generations) body
-  asked_of there body is = subst (RequestBodyAsked p.asks unique false t.marked (Meant w.server.nodes t.generations)
-      (MeantOpen w.server.nodes w.server.handles t.generations)) is (same.requests.held unique t there)
+      → RequestBodyAsked p.asks unique false t.marked (StillDenotes w.server.nodes t.generations)
+      (OpenStillDenotes w.server.nodes w.server.handles t.generations) body
+  asked_of there body is = subst (RequestBodyAsked p.asks unique false t.marked (StillDenotes w.server.nodes t.generations)
+      (OpenStillDenotes w.server.nodes w.server.handles t.generations)) is (same.requests.held unique t there)
 
   did_body : (body : RequestBody) → t.body ≡ body → t.marked ≡ false
       → is_still_held w.server.nodes t.generations ≡ true
@@ -135,5 +135,5 @@ module _ (w : World) (p : Plain) (same : Alike w p) (choice : ℕ → ℕ) (uniq
       (λ (b : Bool). cond b (record { server = record s1 { handles = numbers }; wire = done })
       (refusing s1 9)) can.number)
       (narrows_fewer (unheld w unique) p (unheld_alike w p same unique) one w.server.nodes numbers
-      (λ i generation file d. d) (number_back w.server.handles o.fh) holds opens)
+      (λ i generation file d. d) (handle_back_left w.server.handles o.fh) holds opens)
       (λ file h. handle_back_files file o.fh w.server.handles h)

@@ -15,7 +15,7 @@ use Rattle.fuse_spec.specs.Kernel.Messages.{RequestBody, init, asks, release, fo
 use Rattle.fuse_spec.specs.Kernel.Kernel.{Kernel, is_live, body_of, is_for, request_of}
 use Rattle.fuse_spec.specs.World.Worlds.{World}
 use Rattle.fuse_spec.specs.Reference.Plain.{Plain, Ask}
-use Rattle.fuse_spec.specs.Claim.Denotes.{MeansIn, MeansOpenIn}
+use Rattle.fuse_spec.specs.Claim.Denotes.{NodeDenotesIn, OpenDenotesIn}
 use Rattle.fuse_spec.specs.Claim.Alike.{RequestBodyAsked, PurposeAsked, Alike}
 use Rattle.fuse_spec.proofs.QueueCounts.{lookup-set_mark_same}
 use Rattle.fuse_spec.proofs.QueueReadings.{request_under-mark_other}
@@ -37,7 +37,7 @@ same_body k q purpose.Init = refl
 same_body k q (purpose.Release o) = refl
 same_body k q (purpose.Call call) = refl
 
--- an ask of a request that bears a signal is one of a request that bears none
+-- an ask of a request that has a signal is one of a request that has none
 pub asked_unsignalled : (R : ℕ → ℕ → Type 0) (S : Opened → ℕ → Type 0) (all : Map Ask) (unique : ℕ) (signalled : Bool)
     (body : RequestBody)
     → RequestBodyAsked all unique signalled false R S body → RequestBodyAsked all unique false false R S body
@@ -57,8 +57,8 @@ asked_unsignalled R S all unique signalled (batch_forget fs) h = h
 asked_unsignalled R S all unique signalled (interrupt original) h = h
 
 -- What keeps all alike as the queues change: each pending request is asked as it was, each call has the same request,
--- and none that bears a signal has an ask on which none is noted.
-pub record QueuesStay (w : World) (p : Plain) (q : QueueState Purpose) : Type 0 where
+-- and none that has a signal has an ask on which none is noted.
+pub record QueuesKept (w : World) (p : Plain) (q : QueueState Purpose) : Type 0 where
   pub pending : All (PurposeAsked w p) (pending q)
   pub same_request : (call : ℕ) → request_of (record w.kernel { queues = q }) call ≡ request_of w.kernel call
   pub signalled : is_live w.kernel.phase ≡ true → (unique : ℕ) (request : QueuedRequest Purpose) (ask : Ask)
@@ -66,8 +66,8 @@ pub record QueuesStay (w : World) (p : Plain) (q : QueueState Purpose) : Type 0 
       → ask.noted ≡ true
 
 pub queues_alike : (w : World) (p : Plain) → Alike w p → (q : QueueState Purpose) (requests : List Request)
-    → QueuesStay w p q
-    → All (λ (r : Request). RequestBodyAsked p.asks r.unique false false (MeansIn w) (MeansOpenIn w) r.body) requests
+    → QueuesKept w p q
+    → All (λ (r : Request). RequestBodyAsked p.asks r.unique false false (NodeDenotesIn w) (OpenDenotesIn w) r.body) requests
     → Alike (record w { kernel = record w.kernel { queues = q }; requests = requests }) p
 queues_alike w p same q requests stay sent = record {
   tree = same.tree;
@@ -76,7 +76,7 @@ queues_alike w p same q requests stay sent = record {
     pending = λ i e lt.
         let entry = get_or (pending q) i e in
         subst (λ (o : Option RequestBody). MatchOption o ⊥
-        (RequestBodyAsked p.asks entry.0 (is_signalled entry.1.mark) false (MeansIn w) (MeansOpenIn w)))
+        (RequestBodyAsked p.asks entry.0 (is_signalled entry.1.mark) false (NodeDenotesIn w) (OpenDenotesIn w)))
         (sym (same_body w.kernel q entry.1.kept)) (stay.pending i e lt);
     sent = sent;
     held = same.requests.held;
@@ -128,7 +128,7 @@ find_marked call u (e ∷ es) m = by (nat_eq u e.0) (is_for call e.1.kept) refl 
     by false true h rest = rw h refl
     by false false h rest = rw h rest
 
--- a mark that bears no signal bears none on any request, but what bore one
+-- a mark that has no signal has none on any request, but what had one
 module _ (s : QueueState Purpose) (u : ℕ) (old m : Mark)
     (marked : option_map (λ (r : QueuedRequest Purpose). r.mark) (request_under s u) ≡ Some old) where
   pub signal_before : (v : ℕ) (request : QueuedRequest Purpose) → request_under (with_mark s u m) v ≡ Some request

@@ -6,11 +6,11 @@ use Rattle.fuse_spec.specs.Values.Maps.{get, put, values}
 use Rattle.fuse_spec.specs.Files.Operations.{files_in_reply, opens_in_reply}
 use Rattle.fuse_spec.specs.Files.Trees.{is_nameless}
 use Rattle.fuse_spec.specs.Server.Copies.{rows_counted, handles_counted}
-use Rattle.fuse_spec.specs.Server.Nodes.{HeldNode, NodeTable, row_more, rows_more, OpenNumber, HandleTable, handle_more, handles_more}
+use Rattle.fuse_spec.specs.Server.Nodes.{HeldNode, NodeTable, row_more, rows_more, FileHandle, HandleTable, handle_more, handles_more}
 use Rattle.fuse_spec.specs.Server.Server.{Kept, is_file_held}
 use Rattle.fuse_spec.specs.World.Worlds.{World, after_again}
 use Rattle.fuse_spec.specs.Reference.Plain.{Plain}
-use Rattle.fuse_spec.specs.Claim.Denotes.{MeansIn, Denotes}
+use Rattle.fuse_spec.specs.Claim.Denotes.{NodeDenotesIn, Denotes}
 use Rattle.fuse_spec.specs.Claim.Alike.{Alike}
 use Rattle.fuse_theorem.specs.Numbering.{IsOneToOne}
 use Rattle.fuse_theorem.specs.Conditions.{KnownAreHeld}
@@ -34,20 +34,20 @@ rows_same file (g ∷ gs) t = rows_same file gs (row_more t g.nodeid) ∙ by (ge
         (record row { count = row.count + 1 }) e refl
 
 handles_same : (file : ℕ) (fhs : List ℕ) (h : HandleTable)
-    → list_any (λ (x : OpenNumber). nat_eq x.file file) (values (handles_counted h fhs).handles)
-    ≡ list_any (λ (x : OpenNumber). nat_eq x.file file) (values h.handles)
+    → list_any (λ (x : FileHandle). nat_eq x.file file) (values (handles_counted h fhs).handles)
+    ≡ list_any (λ (x : FileHandle). nat_eq x.file file) (values h.handles)
 handles_same file [] h = refl
 handles_same file (fh ∷ fhs) h = handles_same file fhs (handle_more h fh) ∙ by (get h.handles fh) refl
   where
-    by : (o : Option OpenNumber) → get h.handles fh ≡ o
-        → list_any (λ (x : OpenNumber). nat_eq x.file file) (values (handles_more h.handles fh o))
-        ≡ list_any (λ (x : OpenNumber). nat_eq x.file file) (values h.handles)
+    by : (o : Option FileHandle) → get h.handles fh ≡ o
+        → list_any (λ (x : FileHandle). nat_eq x.file file) (values (handles_more h.handles fh o))
+        ≡ list_any (λ (x : FileHandle). nat_eq x.file file) (values h.handles)
     by None e = refl
-    by (Some x) e = any_put (λ (y : OpenNumber). nat_eq y.file file) h.handles fh x
+    by (Some x) e = any_put (λ (y : FileHandle). nat_eq y.file file) h.handles fh x
         (record x { count = x.count + 1 }) e refl
 
 -- Where the server holds what the kernel knows, all is alike afterwards.
-pub again_alike : (w : World) (p : Plain) → IsOneToOne (MeansIn w) → KnownAreHeld w → Alike w p
+pub again_alike : (w : World) (p : Plain) → IsOneToOne (NodeDenotesIn w) → KnownAreHeld w → Alike w p
     → (unique : ℕ) (kept : Kept) → get w.server.kept unique ≡ Some kept → Alike (after_again w unique kept) p
 again_alike w p one held same unique kept there =
     let t = rows_counted w.server.nodes (files_in_reply kept.wire) in

@@ -10,7 +10,7 @@ use Rattle.fuse_spec.specs.declared.WriteResult.TheVariants.{Accepted, NoEntry, 
 use Rattle.fuse_spec.specs.Values.Maps.{Map, get, put, remove, values}
 use Rattle.fuse_spec.specs.Files.Operations.{files_in_reply, opens_in_reply}
 use Rattle.fuse_spec.specs.Kernel.Messages.{WireReply}
-use Rattle.fuse_spec.specs.Server.Nodes.{HeldNode, NodeTable, OpenNumber, HandleTable, is_held, taken_back, is_file_of, is_open, handles_less, handle_back}
+use Rattle.fuse_spec.specs.Server.Nodes.{HeldNode, NodeTable, FileHandle, HandleTable, is_held, taken_back, is_file_of, is_open, handles_less, handle_back}
 use Rattle.fuse_spec.specs.Server.Copies.{row_back, rows_back, handles_back, given_back, kept_after, settled}
 use Rattle.fuse_spec.specs.Server.Server.{Kept, Copy, is_file_held, without_unheld_files}
 use Rattle.fuse_spec.specs.World.Worlds.{World, after_settle}
@@ -18,7 +18,7 @@ use Rattle.fuse_spec.specs.Reference.Plain.{Plain}
 use Rattle.fuse_spec.specs.Claim.Denotes.{Denotes}
 use Rattle.fuse_spec.specs.Claim.Alike.{Alike}
 use Rattle.fuse_spec.proofs.Tables.{get_put_here, get_put_there, get_gone_here, get_gone_there}
-use Rattle.fuse_theorem.specs.Conditions.{OneId, HoldsAll, HoldsOpens, IsOpenNumber}
+use Rattle.fuse_theorem.specs.Conditions.{OneId, HoldsAll, HoldsOpens, IsFileHandle}
 use Rattle.fuse_theorem.proofs.Refining.TablesReplaced.{stage_more}
 use Rattle.fuse_theorem.proofs.Refining.Forgetting.{less_denotes, any_fewer, rows_fewer, still, means, meant, unanswered}
 use Rattle.fuse_theorem.proofs.Refining.UnusedNodesDropped.{Narrows, fewer_nodes_refine}
@@ -109,14 +109,14 @@ rows_back_files file (g ∷ gs) t h = by (is_held t g.nodeid g.generation) (rows
         (λ row. refl) e
     by false e = e
 
--- an open number that is left is one of the same file
-pub number_back : (t : HandleTable) (q fh : ℕ) (y : OpenNumber) → get (handle_back t q).handles fh ≡ Some y
-    → (x : OpenNumber) × (get t.handles fh ≡ Some x) × (y.file ≡ x.file)
-number_back t q fh y at = by (get t.handles q) refl at
+-- a file handle that is left is one of the same file
+pub handle_back_left : (t : HandleTable) (q fh : ℕ) (y : FileHandle) → get (handle_back t q).handles fh ≡ Some y
+    → (x : FileHandle) × (get t.handles fh ≡ Some x) × (y.file ≡ x.file)
+handle_back_left t q fh y at = by (get t.handles q) refl at
   where
-    counted : (x : OpenNumber) (b : Bool) → get t.handles q ≡ Some x
+    counted : (x : FileHandle) (b : Bool) → get t.handles q ≡ Some x
         → get (cond b (put t.handles q (record x { count = x.count - 1 })) (remove t.handles q)) fh ≡ Some y
-        → (z : OpenNumber) × (get t.handles fh ≡ Some z) × (y.file ≡ z.file)
+        → (z : FileHandle) × (get t.handles fh ≡ Some z) × (y.file ≡ z.file)
     counted x true there h = elim (cases_eq fh q) [
       | inl e ↦
           let is_new : record x { count = x.count - 1 } ≡ y =
@@ -124,39 +124,39 @@ number_back t q fh y at = by (get t.handles q) refl at
             get_put_here t.handles q (record x { count = x.count - 1 }),
             subst (λ (m : ℕ). get (put t.handles q (record x { count = x.count - 1 })) m ≡ Some y) e h,
           ) in
-          (x, subst (λ (m : ℕ). get t.handles m ≡ Some x) (sym e) there, ap (λ (z : OpenNumber). z.file) (sym is_new))
+          (x, subst (λ (m : ℕ). get t.handles m ≡ Some x) (sym e) there, ap (λ (z : FileHandle). z.file) (sym is_new))
       | inr ne ↦ (y, sym (get_put_there t.handles q (record x { count = x.count - 1 }) fh ne) ∙ h, refl)
     ]
     counted x false there h = (y, left_was t.handles q fh y h, refl)
 
-    by : (o : Option OpenNumber) → get t.handles q ≡ o → get (handles_less t.handles q o) fh ≡ Some y
-        → (x : OpenNumber) × (get t.handles fh ≡ Some x) × (y.file ≡ x.file)
+    by : (o : Option FileHandle) → get t.handles q ≡ o → get (handles_less t.handles q o) fh ≡ Some y
+        → (x : FileHandle) × (get t.handles fh ≡ Some x) × (y.file ≡ x.file)
     by None there h = (y, h, refl)
     by (Some x) there h = counted x (nat_lt 1 x.count) there h
 
-numbers_back : (fhs : List ℕ) (t : HandleTable) (fh : ℕ) (y : OpenNumber)
-    → get (handles_back t fhs).handles fh ≡ Some y → (x : OpenNumber) × (get t.handles fh ≡ Some x) × (y.file ≡ x.file)
-numbers_back [] t fh y at = (y, at, refl)
-numbers_back (q ∷ fhs) t fh y at =
-    let z = numbers_back fhs (handle_back t q) fh y at in
-    let x = number_back t q fh z.0 z.1 in
+handles_back_left : (fhs : List ℕ) (t : HandleTable) (fh : ℕ) (y : FileHandle)
+    → get (handles_back t fhs).handles fh ≡ Some y → (x : FileHandle) × (get t.handles fh ≡ Some x) × (y.file ≡ x.file)
+handles_back_left [] t fh y at = (y, at, refl)
+handles_back_left (q ∷ fhs) t fh y at =
+    let z = handles_back_left fhs (handle_back t q) fh y at in
+    let x = handle_back_left t q fh z.0 z.1 in
     (x.0, x.1, z.2 ∙ x.2)
 
 pub handle_back_files : (file q : ℕ) (t : HandleTable)
-    → list_any (λ (x : OpenNumber). nat_eq x.file file) (values (handle_back t q).handles) ≡ true
-    → list_any (λ (x : OpenNumber). nat_eq x.file file) (values t.handles) ≡ true
+    → list_any (λ (x : FileHandle). nat_eq x.file file) (values (handle_back t q).handles) ≡ true
+    → list_any (λ (x : FileHandle). nat_eq x.file file) (values t.handles) ≡ true
 handle_back_files file q t h = by (get t.handles q) refl h
   where
-    by : (o : Option OpenNumber) → get t.handles q ≡ o
-        → list_any (λ (x : OpenNumber). nat_eq x.file file) (values (handles_less t.handles q o)) ≡ true
-        → list_any (λ (x : OpenNumber). nat_eq x.file file) (values t.handles) ≡ true
+    by : (o : Option FileHandle) → get t.handles q ≡ o
+        → list_any (λ (x : FileHandle). nat_eq x.file file) (values (handles_less t.handles q o)) ≡ true
+        → list_any (λ (x : FileHandle). nat_eq x.file file) (values t.handles) ≡ true
     by None there e = e
-    by (Some x) there e = any_fewer (λ (x : OpenNumber). nat_eq x.file file) t.handles q x
+    by (Some x) there e = any_fewer (λ (x : FileHandle). nat_eq x.file file) t.handles q x
         (record x { count = x.count - 1 }) there refl (nat_lt 1 x.count) e
 
 handles_back_files : (file : ℕ) (fhs : List ℕ) (t : HandleTable)
-    → list_any (λ (x : OpenNumber). nat_eq x.file file) (values (handles_back t fhs).handles) ≡ true
-    → list_any (λ (x : OpenNumber). nat_eq x.file file) (values t.handles) ≡ true
+    → list_any (λ (x : FileHandle). nat_eq x.file file) (values (handles_back t fhs).handles) ≡ true
+    → list_any (λ (x : FileHandle). nat_eq x.file file) (values t.handles) ≡ true
 handles_back_files file [] t h = h
 handles_back_files file (q ∷ fhs) t h = handle_back_files file q t (handles_back_files file fhs (handle_back t q) h)
 
@@ -164,14 +164,14 @@ handles_back_files file (q ∷ fhs) t h = handle_back_files file q t (handles_ba
 
 module _ (w : World) (p : Plain) (same : Alike w p) (one : OneId w.server.nodes) (t : NodeTable) (h : HandleTable)
     (fewer : (i generation file : ℕ) → Denotes t i generation file → Denotes w.server.nodes i generation file)
-    (fewer_numbers : (fh : ℕ) (y : OpenNumber) → get h.handles fh ≡ Some y
-    → (x : OpenNumber) × (get w.server.handles.handles fh ≡ Some x) × (y.file ≡ x.file)) (holds : HoldsAll w t)
+    (fewer_numbers : (fh : ℕ) (y : FileHandle) → get h.handles fh ≡ Some y
+    → (x : FileHandle) × (get w.server.handles.handles fh ≡ Some x) × (y.file ≡ x.file)) (holds : HoldsAll w t)
     (opens : HoldsOpens w h) where
-  -- an open number that is held is one of the same file
-  open_still : (fh file : ℕ) → IsOpenNumber h fh → is_open w.server.handles fh file ≡ true → is_open h fh file ≡ true
+  -- a file handle that is held is one of the same file
+  open_still : (fh file : ℕ) → IsFileHandle h fh → is_open w.server.handles fh file ≡ true → is_open h fh file ≡ true
   open_still fh file there old = by (get h.handles fh) refl there
     where
-      by : (o : Option OpenNumber) → get h.handles fh ≡ o → o ≢ None → is_file_of file o ≡ true
+      by : (o : Option FileHandle) → get h.handles fh ≡ o → o ≢ None → is_file_of file o ≡ true
       by None e some = absurd (some refl)
       by (Some y) e some =
           let x = fewer_numbers fh y e in
@@ -190,7 +190,7 @@ module _ (w : World) (p : Plain) (same : Alike w p) (one : OneId w.server.nodes)
     targets = λ id name bound at target file is m. means w p same t fewer one holds target file m;
     opens = λ open_call o at file m. record {
       node_means = means w p same t fewer one holds o.nodeid file m.node_means;
-      is_number = open_still o.fh file (opens.opens open_call o at) m.is_number;
+      is_handle = open_still o.fh file (opens.opens open_call o at) m.is_handle;
     };
     calls = λ call state at.
         record {
@@ -198,8 +198,8 @@ module _ (w : World) (p : Plain) (same : Alike w p) (one : OneId w.server.nodes)
           opens_stay = λ o file node among m. record {
             node_means =
                 means w p same t fewer one holds o.nodeid file m.node_means;
-            is_number =
-                open_still o.fh file (opens.calls call state at o among) m.is_number;
+            is_handle =
+                open_still o.fh file (opens.calls call state at o among) m.is_handle;
           };
         };
     sent = λ i r lt.
@@ -208,16 +208,16 @@ module _ (w : World) (p : Plain) (same : Alike w p) (one : OneId w.server.nodes)
           opens_stay = λ o file node among m. record {
             node_means =
                 means w p same t fewer one holds o.nodeid file m.node_means;
-            is_number =
-                open_still o.fh file (opens.sent i r lt o among) m.is_number;
+            is_handle =
+                open_still o.fh file (opens.sent i r lt o among) m.is_handle;
           };
         };
     held_nodes = λ u x at id file among m. meant w p same t fewer one holds u x at id file m;
     held_opens = λ u x at o file among m. record {
       node_meant =
           meant w p same t fewer one holds u x at o.nodeid file m.node_meant;
-      is_number =
-          open_still o.fh file (opens.held u x at o among) m.is_number;
+      is_handle =
+          open_still o.fh file (opens.held u x at o among) m.is_handle;
     };
     kept = λ live u k ask at there told.
         let waits = unanswered w p same t fewer one holds live u ask there in
@@ -247,14 +247,14 @@ given_back_alike w p one same wire holds opens =
     (λ file. is_file_held w.server file) same.tree.names same.tree.next_inode same.tree.next_cookie same.tree.files
     (λ file held.
     both (list_any (λ (row : HeldNode). nat_eq row.file file) (values t.rows))
-    (list_any (λ (x : OpenNumber). nat_eq x.file file) (values h.handles))
+    (list_any (λ (x : FileHandle). nat_eq x.file file) (values h.handles))
     (list_any (λ (row : HeldNode). nat_eq row.file file) (values w.server.nodes.rows))
-    (list_any (λ (x : OpenNumber). nat_eq x.file file) (values w.server.handles.handles)) held
+    (list_any (λ (x : FileHandle). nat_eq x.file file) (values w.server.handles.handles)) held
     (rows_back_files file (files_in_reply wire) w.server.nodes)
     (handles_back_files file (opens_in_reply wire) w.server.handles)) in
     fewer_nodes_refine w p same w.kernel.nodes t h (without_unheld_files s).tree p.tree
     (narrows_fewer w p same one t h (rows_back_denotes (files_in_reply wire) w.server.nodes)
-    (numbers_back (opens_in_reply wire) w.server.handles) holds opens) trees
+    (handles_back_left (opens_in_reply wire) w.server.handles) holds opens) trees
   where
     both : (a b c d : Bool) → (a || b) ≡ true → (a ≡ true → c ≡ true) → (b ≡ true → d ≡ true) → (c || d) ≡ true
     both true b c d h f g = ap (λ (x : Bool). x || d) (f refl)

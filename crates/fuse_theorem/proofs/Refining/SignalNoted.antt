@@ -16,9 +16,9 @@ use Rattle.fuse_spec.specs.Kernel.Messages.{RequestBody, init, asks, release, fo
 use Rattle.fuse_spec.specs.Kernel.Kernel.{is_live, body_of}
 use Rattle.fuse_spec.specs.World.Worlds.{World}
 use Rattle.fuse_spec.specs.Reference.Plain.{Plain, Ask, ask_noted}
-use Rattle.fuse_spec.specs.Claim.Denotes.{MeansIn, MeansOpenIn}
+use Rattle.fuse_spec.specs.Claim.Denotes.{NodeDenotesIn, OpenDenotesIn}
 use Rattle.fuse_spec.specs.Files.Operations.{OperationAlike}
-use Rattle.fuse_spec.specs.Claim.Alike.{RequestBodyAsked, PurposeAsked, Meant, MeantOpen, Alike}
+use Rattle.fuse_spec.specs.Claim.Alike.{RequestBodyAsked, PurposeAsked, StillDenotes, OpenStillDenotes, Alike}
 use Rattle.fuse_spec.proofs.Tables.{get_put_here}
 use Rattle.fuse_spec.proofs.QueueReadings.{request_under-mark_other}
 use Rattle.fuse_theorem.proofs.Refining.Asking.{match_more}
@@ -62,22 +62,22 @@ module _ (w : World) (p : Plain) (same : Alike w p) (unique : ℕ) (ask : Ask)
         let entry = get_or (pending w.kernel.queues) i e in
         match_more (body_of w.kernel entry.1.kept)
         (λ body h. subst (λ (n : ℕ). RequestBodyAsked (put p.asks unique (record ask { noted = true })) n
-        (is_signalled entry.1.mark) false (MeansIn w) (MeansOpenIn w) body) (sym here)
-        (noted_asked (MeansIn w) (MeansOpenIn w) p.asks unique (is_signalled entry.1.mark)
+        (is_signalled entry.1.mark) false (NodeDenotesIn w) (OpenDenotesIn w) body) (sym here)
+        (noted_asked (NodeDenotesIn w) (OpenDenotesIn w) p.asks unique (is_signalled entry.1.mark)
         (is_signalled entry.1.mark) false body ask there
-        (subst (λ (n : ℕ). RequestBodyAsked p.asks n (is_signalled entry.1.mark) false (MeansIn w)
-        (MeansOpenIn w) body) here h)))
+        (subst (λ (n : ℕ). RequestBodyAsked p.asks n (is_signalled entry.1.mark) false (NodeDenotesIn w)
+        (OpenDenotesIn w) body) here h)))
         (same.requests.pending i e lt);
     sent = λ i r lt here.
         let request = get_or w.requests i r in
-        subst (λ (n : ℕ). RequestBodyAsked (put p.asks unique (record ask { noted = true })) n false false (MeansIn w)
-        (MeansOpenIn w) request.body) (sym here)
-        (noted_asked (MeansIn w) (MeansOpenIn w) p.asks unique false false false request.body ask there
-        (subst (λ (n : ℕ). RequestBodyAsked p.asks n false false (MeansIn w) (MeansOpenIn w) request.body) here
+        subst (λ (n : ℕ). RequestBodyAsked (put p.asks unique (record ask { noted = true })) n false false (NodeDenotesIn w)
+        (OpenDenotesIn w) request.body) (sym here)
+        (noted_asked (NodeDenotesIn w) (OpenDenotesIn w) p.asks unique false false false request.body ask there
+        (subst (λ (n : ℕ). RequestBodyAsked p.asks n false false (NodeDenotesIn w) (OpenDenotesIn w) request.body) here
         (same.requests.sent i r lt)));
     held = λ t at.
-        noted_asked (Meant w.server.nodes t.generations)
-        (MeantOpen w.server.nodes w.server.handles t.generations) p.asks unique false false t.marked t.body ask there
+        noted_asked (StillDenotes w.server.nodes t.generations)
+        (OpenStillDenotes w.server.nodes w.server.handles t.generations) p.asks unique false false t.marked t.body ask there
         (same.requests.held unique t at);
     noted = λ r under bears noted. refl;
     kept = λ k at told. told;
@@ -161,13 +161,13 @@ module _ (w : World) (p : Plain) (same : Alike w p) (unique : ℕ) (ask : Ask) (
       → PurposeAsked w p (e.0, record { mark = m; kept = e.1.kept })
   re_asked m e here asked = match_more (body_of w.kernel e.1.kept)
       (λ body h.
-      let old = subst (λ (n : ℕ). RequestBodyAsked p.asks n (is_signalled e.1.mark) false (MeansIn w)
-      (MeansOpenIn w) body) here h in
-      subst (λ (n : ℕ). RequestBodyAsked p.asks n (is_signalled m) false (MeansIn w) (MeansOpenIn w) body) (sym here)
+      let old = subst (λ (n : ℕ). RequestBodyAsked p.asks n (is_signalled e.1.mark) false (NodeDenotesIn w)
+      (OpenDenotesIn w) body) here h in
+      subst (λ (n : ℕ). RequestBodyAsked p.asks n (is_signalled m) false (NodeDenotesIn w) (OpenDenotesIn w) body) (sym here)
       (with_signal body (is_signalled e.1.mark) (is_signalled m) old)) asked
     where
-      with_signal : (body : RequestBody) (a b : Bool) → RequestBodyAsked p.asks unique a false (MeansIn w)
-          (MeansOpenIn w) body → RequestBodyAsked p.asks unique b false (MeansIn w) (MeansOpenIn w) body
+      with_signal : (body : RequestBody) (a b : Bool) → RequestBodyAsked p.asks unique a false (NodeDenotesIn w)
+          (OpenDenotesIn w) body → RequestBodyAsked p.asks unique b false (NodeDenotesIn w) (OpenDenotesIn w) body
       with_signal (asks operation) a b h =
           let is_ask : ask ≡ h.ask = cc (there, h.there) in
           let waits = h.is_waiting in

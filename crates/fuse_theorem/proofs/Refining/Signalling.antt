@@ -23,7 +23,7 @@ use Rattle.fuse_spec.specs.World.Worlds.{World}
 use Rattle.fuse_spec.specs.World.Events as event
 use Rattle.fuse_spec.specs.Reference.Plain.{Plain, Ask, Stage, waiting, performed, declined, ask_noted, ask_interrupted}
 use Rattle.fuse_spec.specs.Reference.PlainSteps.{Takes, may_signal, signalled_ask, plain_signalling, where_so}
-use Rattle.fuse_spec.specs.Claim.Denotes.{MeansIn, MeansOpenIn, StateAlike}
+use Rattle.fuse_spec.specs.Claim.Denotes.{NodeDenotesIn, OpenDenotesIn, StateAlike}
 use Rattle.fuse_spec.specs.Files.Operations.{OptionAlike}
 use Rattle.fuse_spec.specs.Claim.Alike.{IsPaired, RequestBodyAsked, PurposeAsked, Alike}
 use Rattle.fuse_spec.proofs.Tables.{get_put_here}
@@ -80,7 +80,7 @@ quiet_unread mark.Flagged e = refl
 quiet_unread mark.Read e = refl
 quiet_unread mark.Interrupted e = absurd (cc)
 
-module _ (w : World) (p : Plain) (numbered : IsNumbered w) (one : IsOneToOne (MeansIn w)) (same : Alike w p)
+module _ (w : World) (p : Plain) (numbered : IsNumbered w) (one : IsOneToOne (NodeDenotesIn w)) (same : Alike w p)
     (live : is_live w.kernel.phase ≡ true) (call : ℕ) (state : CallState Opened)
     (there : get w.kernel.vfs.calls call ≡ Some state) (fatal : Bool)
     (once : UnreadAreUnsent w) where
@@ -117,10 +117,10 @@ module _ (w : World) (p : Plain) (numbered : IsNumbered w) (one : IsOneToOne (Me
       none_pending over i e lt = under (get_or (pending q0) i e) (same.requests.pending i e lt)
         where
           asks_none : (e : ℕ × QueuedRequest Purpose) → pair.unique ≡ e.0 → (o : Option RequestBody)
-              → MatchOption o ⊥ (RequestBodyAsked p.asks e.0 (is_signalled e.1.mark) false (MeansIn w) (MeansOpenIn w))
+              → MatchOption o ⊥ (RequestBodyAsked p.asks e.0 (is_signalled e.1.mark) false (NodeDenotesIn w) (OpenDenotesIn w))
               → ⊥
           asks_none e is None old = old
-          asks_none e is (Some body) old = not_asked (MeansIn w) (MeansOpenIn w) p.asks e.0
+          asks_none e is (Some body) old = not_asked (NodeDenotesIn w) (OpenDenotesIn w) p.asks e.0
               (is_signalled e.1.mark) false body pair.ask (subst
               (λ (n : ℕ). get p.asks n ≡ Some pair.ask) is pair.there) over old
 
@@ -174,7 +174,7 @@ module _ (w : World) (p : Plain) (numbered : IsNumbered w) (one : IsOneToOne (Me
       (record (without_ask p pair.unique) { vfs = answered p.vfs call (answer.failed 4) }) =
       next_request_refines w1 (without_ask p pair.unique) call numbered1 paused one same.tree same.validity same.minor same.agreed w.kernel.vfs.next_call (no_more (answered w.kernel.vfs call (answer.failed 4))) (no_more (answered p.vfs call (answer.failed 4)))
       (record {
-        vfs = answered_alike (MeansIn w) (MeansOpenIn w) one w.kernel.vfs p.vfs same.vfs call call
+        vfs = answered_alike (NodeDenotesIn w) (OpenDenotesIn w) one w.kernel.vfs p.vfs same.vfs call call
             (answer.failed 4) (answer.failed 4) refl refl;
         operation = tt;
       })
@@ -199,9 +199,9 @@ module _ (w : World) (p : Plain) (numbered : IsNumbered w) (one : IsOneToOne (Me
   -- the call is unanswered in the plain world too
   unanswered : is_some (get p.vfs.calls call) ≡ true
   unanswered = by (get p.vfs.calls call) (subst (λ (o : Option (CallState Opened)). OptionAlike
-      (StateAlike (MeansIn w) (MeansOpenIn w)) o (get p.vfs.calls call)) there (same.vfs.calls call))
+      (StateAlike (NodeDenotesIn w) (OpenDenotesIn w)) o (get p.vfs.calls call)) there (same.vfs.calls call))
     where
-      by : (o : Option (CallState ℕ)) → OptionAlike (StateAlike (MeansIn w) (MeansOpenIn w)) (Some state) o
+      by : (o : Option (CallState ℕ)) → OptionAlike (StateAlike (NodeDenotesIn w) (OpenDenotesIn w)) (Some state) o
           → is_some o ≡ true
       by None h = absurd h
       by (Some s) h = refl

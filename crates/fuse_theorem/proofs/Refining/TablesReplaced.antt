@@ -1,4 +1,4 @@
--- The tables of nodes change, and what was meant by them is meant still: all stays alike.
+-- The tables of nodes change, and what was denoted by them is denoted still: all stays alike.
 use Rattle.fuse_theorem.proofs.Refining.Pairs.{pairs_more}
 use Rattle.std.proofs.Common.{◌≡◌, ℕ, Bool, true, false, List, [], Option, Some, None, get_or, refl, subst, All}
 use Rattle.std.specs.Prelude.{Contains}
@@ -20,8 +20,8 @@ use Rattle.fuse_spec.specs.World.Worlds.{World, Sent}
 use Rattle.fuse_spec.specs.Kernel.Messages.{RequestBody, init, asks, release, forget, batch_forget, interrupt, WireReply}
 use Rattle.fuse_spec.specs.Reference.Plain.{Plain, Ask, Stage, waiting, performed, declined}
 use Rattle.fuse_spec.specs.Server.Nodes.{NodeTable, HandleTable, is_open}
-use Rattle.fuse_spec.specs.Claim.Denotes.{WalkPlanAlike, StateAlike, DentryAlike, Names, Opens, Denotes, generation_known, Means, MeansOpen, MeansIn, MeansOpenIn}
-use Rattle.fuse_spec.specs.Claim.Alike.{TreeAlike, VfsAlike, RequestBodyAsked, Meant, MeantOpen, IsStageReplied, Alike}
+use Rattle.fuse_spec.specs.Claim.Denotes.{WalkPlanAlike, StateAlike, DentryAlike, Names, Opens, Denotes, generation_known, NodeDenotes, OpenDenotes, NodeDenotesIn, OpenDenotesIn}
+use Rattle.fuse_spec.specs.Claim.Alike.{TreeAlike, VfsAlike, RequestBodyAsked, StillDenotes, OpenStillDenotes, IsStageReplied, Alike}
 use Rattle.fuse_theorem.specs.Numbering.{IsOneToOne}
 use Rattle.fuse_theorem.proofs.Refining.Asking.{match_more}
 use Rattle.fuse_theorem.proofs.Calls.Meaning.{operation_more, final_within, first_of}
@@ -97,7 +97,7 @@ module _ (R R' : ℕ → ℕ → Type 0) (more : (id file : ℕ) → R id file �
             let same_id : reached.0 ≡ id = (one reached.0 id file file (more reached.0 file reached.1) r).1 refl in
             bound id file name (subst (λ (n : ℕ). R n file) same_id reached.1)
 
--- what a reply says, where the files and open numbers that it names are meant still
+-- what a reply says, where the nodes and file handles that it names denote the same files still
 pub reply_more : (R R' : Entry → ℕ → Type 0) (S S' : ℕ → ℕ → Type 0) (a : WireReply) (b : Reply ℕ ℕ)
     → ((g : Entry) (file : ℕ) → Contains (files_in_reply a) g → R g file → R' g file)
     → ((fh file : ℕ) → Contains (opens_in_reply a) fh → S fh file → S' fh file) → ReplyAlike R S a b
@@ -146,16 +146,16 @@ body_more R R' S S' all unique signalled marked (forget x) f k h = h
 body_more R R' S S' all unique signalled marked (batch_forget fs) f k h = h
 body_more R R' S S' all unique signalled marked (interrupt original) f k h = h
 
--- What the tables become, and what is still meant by them.
+-- What the tables become, and what is still denoted by them.
 pub record Carries (w : World) (p : Plain) (nodes : Map Counted) (t : NodeTable) (h : HandleTable) : Type 0 where
-  pub means : (id file : ℕ) → MeansIn w id file → Means nodes t id file
-  pub opens : (o : Opened) (file : ℕ) → MeansOpenIn w o file → MeansOpen nodes t h o file
-  pub one : IsOneToOne (Means nodes t)
+  pub means : (id file : ℕ) → NodeDenotesIn w id file → NodeDenotes nodes t id file
+  pub opens : (o : Opened) (file : ℕ) → OpenDenotesIn w o file → OpenDenotes nodes t h o file
+  pub one : IsOneToOne (NodeDenotes nodes t)
   pub held_nodes : (unique : ℕ) (x : HeldRequest) → get w.server.held unique ≡ Some x → (id file : ℕ)
-      → Contains (nodes_of_body x.body) id → Meant w.server.nodes x.generations id file → Meant t x.generations id file
+      → Contains (nodes_of_body x.body) id → StillDenotes w.server.nodes x.generations id file → StillDenotes t x.generations id file
   pub held_opens : (unique : ℕ) (x : HeldRequest) → get w.server.held unique ≡ Some x → (o : Opened) (file : ℕ)
-      → Contains (opens_of_body x.body) o → MeantOpen w.server.nodes w.server.handles x.generations o file
-      → MeantOpen t h x.generations o file
+      → Contains (opens_of_body x.body) o → OpenStillDenotes w.server.nodes w.server.handles x.generations o file
+      → OpenStillDenotes t h x.generations o file
   pub kept : is_live w.kernel.phase ≡ true → (unique : ℕ) (k : Kept) (ask : Ask) → get w.server.kept unique ≡ Some k
       → get p.asks unique ≡ Some ask → IsStageReplied w.server.nodes w.server.handles ask.stage k.wire
       → IsStageReplied t h ask.stage k.wire
@@ -173,26 +173,26 @@ pub replaced_tables_refine : (w : World) (p : Plain) → Alike w p
     }) (record p { tree = tree' })
 replaced_tables_refine w p same nodes t h tree tree' carries trees = record {
   tree = trees;
-  vfs = vfs_more (MeansIn w) (Means nodes t) carries.means (MeansOpenIn w)
-      (MeansOpen nodes t h) carries.opens carries.one w.kernel.vfs p.vfs same.vfs;
+  vfs = vfs_more (NodeDenotesIn w) (NodeDenotes nodes t) carries.means (OpenDenotesIn w)
+      (OpenDenotes nodes t h) carries.opens carries.one w.kernel.vfs p.vfs same.vfs;
   requests = record {
     pending = λ i e lt.
         let entry = get_or (pending w.kernel.queues) i e in
         match_more (body_of w.kernel entry.1.kept)
-        (λ body asked. body_more (MeansIn w) (Means nodes t) (MeansOpenIn w) (MeansOpen nodes t h) p.asks entry.0
+        (λ body asked. body_more (NodeDenotesIn w) (NodeDenotes nodes t) (OpenDenotesIn w) (OpenDenotes nodes t h) p.asks entry.0
         (is_signalled entry.1.mark) false body (λ id file among r. carries.means id file r)
         (λ o file among s. carries.opens o file s) asked)
         (same.requests.pending i e lt);
     sent = λ i r lt.
         let request = get_or w.requests i r in
-        body_more (MeansIn w) (Means nodes t) (MeansOpenIn w)
-        (MeansOpen nodes t h) p.asks request.unique false false request.body
+        body_more (NodeDenotesIn w) (NodeDenotes nodes t) (OpenDenotesIn w)
+        (OpenDenotes nodes t h) p.asks request.unique false false request.body
         (λ id file among r. carries.means id file r) (λ o file among s. carries.opens o file s)
         (same.requests.sent i r lt);
     held = λ u x at.
-        body_more (Meant w.server.nodes x.generations) (Meant t x.generations)
-        (MeantOpen w.server.nodes w.server.handles x.generations)
-        (MeantOpen t h x.generations) p.asks u false x.marked x.body (carries.held_nodes u x at)
+        body_more (StillDenotes w.server.nodes x.generations) (StillDenotes t x.generations)
+        (OpenStillDenotes w.server.nodes w.server.handles x.generations)
+        (OpenStillDenotes t h x.generations) p.asks u false x.marked x.body (carries.held_nodes u x at)
         (carries.held_opens u x at)
         (same.requests.held u x at);
   };
@@ -207,8 +207,8 @@ replaced_tables_refine w p same nodes t h tree tree' carries trees = record {
               request = pair.request;
               there = pair.there;
               by = pair.by;
-              same = operation_all (MeansIn w) (Means nodes t) carries.means (MeansOpenIn w)
-                  (MeansOpen nodes t h) carries.opens (asked state) pair.ask.operation pair.same;
+              same = operation_all (NodeDenotesIn w) (NodeDenotes nodes t) carries.means (OpenDenotesIn w)
+                  (OpenDenotes nodes t h) carries.opens (asked state) pair.ask.operation pair.same;
             };
         no_other = old.no_other;
         signalled = old.signalled;
@@ -221,25 +221,25 @@ replaced_tables_refine w p same nodes t h tree tree' carries trees = record {
   aborted = same.aborted;
 }
 
--- Where nothing that was denoted or open is lost, and the kernel knows no less, all is meant still.
+-- Where nothing that was denoted or open is lost, and the kernel knows no less, all is denoted still.
 pub grown : (w : World) (p : Plain) (nodes : Map Counted) (t : NodeTable) (h : HandleTable)
     → ((id generation : ℕ) → generation_known w.kernel.nodes id ≡ Some generation
     → generation_known nodes id ≡ Some generation)
     → ((id generation file : ℕ) → Denotes w.server.nodes id generation file → Denotes t id generation file)
     → ((fh file : ℕ) → is_open w.server.handles fh file ≡ true → is_open h fh file ≡ true)
-    → IsOneToOne (Means nodes t)
+    → IsOneToOne (NodeDenotes nodes t)
     → Carries w p nodes t h
 grown w p nodes t h known denotes open_still one = record {
   means = means;
   opens = λ o file m. record {
     node_means = means o.nodeid file m.node_means;
-    is_number = open_still o.fh file m.is_number;
+    is_handle = open_still o.fh file m.is_handle;
   };
   one = one;
   held_nodes = λ u x at id file among m. meant x.generations id file m;
   held_opens = λ u x at o file among m. record {
     node_meant = meant x.generations o.nodeid file m.node_meant;
-    is_number = open_still o.fh file m.is_number;
+    is_handle = open_still o.fh file m.is_handle;
   };
   kept = λ live u k ask at there told. stage_more w.server.nodes t w.server.handles h ask.stage k.wire
       (λ g file among d. denotes g.nodeid g.generation file d) (λ fh file among o. open_still fh file o) told;
@@ -249,15 +249,15 @@ grown w p nodes t h known denotes open_still one = record {
       (λ g file among d. denotes g.nodeid g.generation file d) (λ fh file among o. open_still fh file o) told;
 }
   where
-    means : (id file : ℕ) → MeansIn w id file → Means nodes t id file
+    means : (id file : ℕ) → NodeDenotesIn w id file → NodeDenotes nodes t id file
     means id file m = record {
       generation = m.generation;
       known = known id m.generation m.known;
       denotes = denotes id m.generation file m.denotes;
     }
 
-    meant : (generations : List (ℕ × ℕ)) (id file : ℕ) → Meant w.server.nodes generations id file
-        → Meant t generations id file
+    meant : (generations : List (ℕ × ℕ)) (id file : ℕ) → StillDenotes w.server.nodes generations id file
+        → StillDenotes t generations id file
     meant generations id file m = record {
       generation = m.generation;
       then_held = m.then_held;

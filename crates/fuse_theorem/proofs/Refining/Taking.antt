@@ -10,32 +10,32 @@ use Rattle.fuse_spec.specs.Server.Nodes.{row_of}
 use Rattle.fuse_spec.specs.Server.Server.{HeldRequest, holding, sending, nodes_of_body, generation_in}
 use Rattle.fuse_spec.specs.World.Worlds.{World, Sent}
 use Rattle.fuse_spec.specs.Reference.Plain.{Plain, Ask}
-use Rattle.fuse_spec.specs.Claim.Denotes.{MeansIn, MeansOpenIn}
-use Rattle.fuse_spec.specs.Claim.Alike.{RequestBodyAsked, Meant, MeantOpen, IsStageReplied, Alike}
+use Rattle.fuse_spec.specs.Claim.Denotes.{NodeDenotesIn, OpenDenotesIn}
+use Rattle.fuse_spec.specs.Claim.Alike.{RequestBodyAsked, StillDenotes, OpenStillDenotes, IsStageReplied, Alike}
 use Rattle.fuse_spec.proofs.Tables.{get_put_here, get_put_there}
 use Rattle.fuse_theorem.proofs.Refining.Queuing.{All-without, All-at}
 use Rattle.fuse_theorem.proofs.Calls.Meaning.{operation_more, means_meant, means_open_meant}
 
 module _ (w : World) (p : Plain) (same : Alike w p) where
   abbrev SentAsked : Request → Type 0
-  SentAsked r = RequestBodyAsked p.asks r.unique false false (MeansIn w) (MeansOpenIn w) r.body
+  SentAsked r = RequestBodyAsked p.asks r.unique false false (NodeDenotesIn w) (OpenDenotesIn w) r.body
 
   -- the generations under which the nodes of a request are held
   abbrev pub held_generations : RequestBody → List (ℕ × ℕ)
   held_generations body = map (λ id. (id, generation_in (row_of w.server.nodes id))) (nodes_of_body body)
 
   -- what was asked on the link is asked of the server
-  taken_asked : (unique : ℕ) (body : RequestBody) → RequestBodyAsked p.asks unique false false (MeansIn w)
-      (MeansOpenIn w) body
-      → RequestBodyAsked p.asks unique false false (Meant w.server.nodes (held_generations body))
-      (MeantOpen w.server.nodes w.server.handles (held_generations body)) body
+  taken_asked : (unique : ℕ) (body : RequestBody) → RequestBodyAsked p.asks unique false false (NodeDenotesIn w)
+      (OpenDenotesIn w) body
+      → RequestBodyAsked p.asks unique false false (StillDenotes w.server.nodes (held_generations body))
+      (OpenStillDenotes w.server.nodes w.server.handles (held_generations body)) body
   taken_asked unique (asks operation) h =
       let ids = files_in opened_nodes operation in
       record {
         ask = h.ask;
         there = h.there;
         is_waiting = h.is_waiting;
-        same = operation_more (MeansIn w) _ (MeansOpenIn w) _ operation h.ask.operation
+        same = operation_more (NodeDenotesIn w) _ (OpenDenotesIn w) _ operation h.ask.operation
             (means_meant w.kernel.nodes w.server.nodes w.server.handles ids)
             (λ o file among named s. means_open_meant w.kernel.nodes w.server.nodes w.server.handles ids o file among s) h.same;
       }
@@ -68,11 +68,11 @@ module _ (w : World) (p : Plain) (same : Alike w p) where
                   get_put_here w.server.held r.unique new,
                   subst (λ (n : ℕ). get (put w.server.held r.unique new) n ≡ Some t) e there,
                 ) in
-                subst (λ (n : ℕ). RequestBodyAsked p.asks n false t.marked (Meant w.server.nodes t.generations)
-                (MeantOpen w.server.nodes w.server.handles t.generations) t.body) (sym e)
+                subst (λ (n : ℕ). RequestBodyAsked p.asks n false t.marked (StillDenotes w.server.nodes t.generations)
+                (OpenStillDenotes w.server.nodes w.server.handles t.generations) t.body) (sym e)
                 (subst (λ (x : HeldRequest). RequestBodyAsked p.asks r.unique false x.marked
-                (Meant w.server.nodes x.generations)
-                (MeantOpen w.server.nodes w.server.handles x.generations) x.body) is_new mine)
+                (StillDenotes w.server.nodes x.generations)
+                (OpenStillDenotes w.server.nodes w.server.handles x.generations) x.body) is_new mine)
             | inr ne ↦ same.requests.held u t (sym (get_put_there w.server.held r.unique new u ne) ∙ there)
           ];
         };

@@ -6,7 +6,7 @@ use Rattle.fuse_spec.specs.World.Worlds.{World, after_tick}
 use Rattle.fuse_spec.specs.World.Events as event
 use Rattle.fuse_spec.specs.Reference.Plain.{Plain, plain_later}
 use Rattle.fuse_spec.specs.Reference.PlainSteps.{Takes, where_so}
-use Rattle.fuse_spec.specs.Claim.Denotes.{MeansIn, MeansOpenIn}
+use Rattle.fuse_spec.specs.Claim.Denotes.{NodeDenotesIn, OpenDenotesIn}
 use Rattle.fuse_spec.specs.Claim.Alike.{Alike}
 use Rattle.fuse_theorem.proofs.Calls.Starting.{later_alike}
 
@@ -17,7 +17,7 @@ module _ (w : World) (p : Plain) (same : Alike w p) where
   pub tick_alike : (ms : ℕ) → Alike (after_tick w ms) (plain_later p ms)
   tick_alike ms = record {
     tree = same.tree;
-    vfs = later_alike (MeansIn w) (MeansOpenIn w) w.kernel.vfs p.vfs same.vfs ms;
+    vfs = later_alike (NodeDenotesIn w) (OpenDenotesIn w) w.kernel.vfs p.vfs same.vfs ms;
     requests = record { pending = same.requests.pending; sent = same.requests.sent; held = same.requests.held };
     asks = λ live. record {
       of_calls = λ call state at.

@@ -1,4 +1,4 @@
--- The tables of nodes change, and nothing that is in use loses its meaning: all stays alike, though some nodes mean
+-- The tables of nodes change, and what is in use denotes its file still: all stays alike, though some nodes denote
 -- nothing any more.
 use Rattle.std.proofs.Common.{◌≡◌, ◌≢◌, ℕ, Bool, true, false, List, Option, Some, None, get_or, refl, All}
 use Rattle.std.specs.Prelude.{Contains, MatchOption}
@@ -21,8 +21,8 @@ use Rattle.fuse_spec.specs.World.Worlds.{World, Sent}
 use Rattle.fuse_spec.specs.Kernel.Messages.{RequestBody, Request, init, asks, release, forget, batch_forget, interrupt}
 use Rattle.fuse_spec.specs.Reference.Plain.{Plain, Ask}
 use Rattle.fuse_spec.specs.Server.Nodes.{NodeTable, HandleTable}
-use Rattle.fuse_spec.specs.Claim.Denotes.{WalkPlanAlike, StateAlike, DentryAlike, Means, MeansOpen, MeansIn, MeansOpenIn}
-use Rattle.fuse_spec.specs.Claim.Alike.{TreeAlike, VfsAlike, RequestBodyAsked, Meant, MeantOpen, IsStageReplied, Alike}
+use Rattle.fuse_spec.specs.Claim.Denotes.{WalkPlanAlike, StateAlike, DentryAlike, NodeDenotes, OpenDenotes, NodeDenotesIn, OpenDenotesIn}
+use Rattle.fuse_spec.specs.Claim.Alike.{TreeAlike, VfsAlike, RequestBodyAsked, StillDenotes, OpenStillDenotes, IsStageReplied, Alike}
 use Rattle.fuse_theorem.proofs.Calls.Meaning.{operation_more, final_within, first_of, next_of}
 
 -- ---- what is alike under R and S is alike under what they imply of what stands in it
@@ -92,34 +92,34 @@ module _ (R R' : ℕ → ℕ → Type 0) where
     body_within all unique signalled marked (batch_forget fs) f g h = h
     body_within all unique signalled marked (interrupt original) f g h = h
 
--- ---- what is in use is meant still
+-- ---- what is in use denotes its file still
 
 module _ (w : World) (p : Plain) (nodes : Map Counted) (t : NodeTable) (h : HandleTable) where
-  -- what these nodes and open files mean is meant still
-  pub record Stay (ids : List ℕ) (os : List Opened) : Type 0 where
-    pub nodes_stay : (id file : ℕ) → Contains ids id → MeansIn w id file → Means nodes t id file
-    pub opens_stay : (o : Opened) (file : ℕ) → Contains ids o.nodeid → Contains os o → MeansOpenIn w o file
-        → MeansOpen nodes t h o file
+  -- these nodes and open files denote the same files still
+  pub record UsedNodesStay (ids : List ℕ) (os : List Opened) : Type 0 where
+    pub nodes_stay : (id file : ℕ) → Contains ids id → NodeDenotesIn w id file → NodeDenotes nodes t id file
+    pub opens_stay : (o : Opened) (file : ℕ) → Contains ids o.nodeid → Contains os o → OpenDenotesIn w o file
+        → OpenDenotes nodes t h o file
 
-  -- What the tables become: nothing is meant that was not, and what is in use is meant still.
+  -- What the tables become: nothing denotes a file that did not, and what is in use denotes its file still.
   pub record Narrows : Type 0 where
-    pub back : (id file : ℕ) → Means nodes t id file → MeansIn w id file
-    pub root : (file : ℕ) → MeansIn w w.kernel.vfs.root file → Means nodes t w.kernel.vfs.root file
+    pub back : (id file : ℕ) → NodeDenotes nodes t id file → NodeDenotesIn w id file
+    pub root : (file : ℕ) → NodeDenotesIn w w.kernel.vfs.root file → NodeDenotes nodes t w.kernel.vfs.root file
     pub directories : (id : ℕ) (name : List ℕ) → get_name w.kernel.vfs.names (id, name) ≢ None → (file : ℕ)
-        → MeansIn w id file → Means nodes t id file
+        → NodeDenotesIn w id file → NodeDenotes nodes t id file
     pub targets : (id : ℕ) (name : List ℕ) (bound : Dentry) → get_name w.kernel.vfs.names (id, name) ≡ Some bound
-        → (target file : ℕ) → bound.target ≡ Some target → MeansIn w target file → Means nodes t target file
-    pub opens : (open_call : ℕ) (o : Opened) → get w.kernel.vfs.opens open_call ≡ Some o → (file : ℕ) → MeansOpenIn w o file
-        → MeansOpen nodes t h o file
+        → (target file : ℕ) → bound.target ≡ Some target → NodeDenotesIn w target file → NodeDenotes nodes t target file
+    pub opens : (open_call : ℕ) (o : Opened) → get w.kernel.vfs.opens open_call ≡ Some o → (file : ℕ) → OpenDenotesIn w o file
+        → OpenDenotes nodes t h o file
     pub calls : (call : ℕ) (state : CallState Opened) → get w.kernel.vfs.calls call ≡ Some state
-        → Stay (nodes_of_state state) (opens_of (asked state))
-    pub sent : All (λ (r : Request). Stay (nodes_of_body r.body) (opens_of_body r.body)) w.requests
+        → UsedNodesStay (nodes_of_state state) (opens_of (asked state))
+    pub sent : All (λ (r : Request). UsedNodesStay (nodes_of_body r.body) (opens_of_body r.body)) w.requests
     pub held_nodes : (unique : ℕ) (x : HeldRequest) → get w.server.held unique ≡ Some x → (id file : ℕ)
-        → Contains (nodes_of_body x.body) id → Meant w.server.nodes x.generations id file
-        → Meant t x.generations id file
+        → Contains (nodes_of_body x.body) id → StillDenotes w.server.nodes x.generations id file
+        → StillDenotes t x.generations id file
     pub held_opens : (unique : ℕ) (x : HeldRequest) → get w.server.held unique ≡ Some x → (o : Opened) (file : ℕ)
-        → Contains (opens_of_body x.body) o → MeantOpen w.server.nodes w.server.handles x.generations o file
-        → MeantOpen t h x.generations o file
+        → Contains (opens_of_body x.body) o → OpenStillDenotes w.server.nodes w.server.handles x.generations o file
+        → OpenStillDenotes t h x.generations o file
     pub kept : is_live w.kernel.phase ≡ true → (unique : ℕ) (k : Kept) (ask : Ask) → get w.server.kept unique ≡ Some k
         → get p.asks unique ≡ Some ask → IsStageReplied w.server.nodes w.server.handles ask.stage k.wire
         → IsStageReplied t h ask.stage k.wire
@@ -130,16 +130,16 @@ module _ (w : World) (p : Plain) (nodes : Map Counted) (t : NodeTable) (h : Hand
 module _ (w : World) (p : Plain) (same : Alike w p) (nodes : Map Counted) (t : NodeTable) (h : HandleTable)
     (narrows : Narrows w p nodes t h) where
   abbrev R : ℕ → ℕ → Type 0
-  R = MeansIn w
+  R = NodeDenotesIn w
 
   abbrev R' : ℕ → ℕ → Type 0
-  R' = Means nodes t
+  R' = NodeDenotes nodes t
 
   abbrev S : Opened → ℕ → Type 0
-  S = MeansOpenIn w
+  S = OpenDenotesIn w
 
   abbrev S' : Opened → ℕ → Type 0
-  S' = MeansOpen nodes t h
+  S' = OpenDenotes nodes t h
 
   name_within : (id file : ℕ) (name : List ℕ) → R id file → (a b : Option Dentry)
       → get_name w.kernel.vfs.names (id, name) ≡ a → OptionAlike (DentryAlike R) a b
@@ -235,13 +235,13 @@ fewer_nodes_refine w p same nodes t h tree tree' narrows trees = record {
     sent = λ i r lt.
         let request = get_or w.requests i r in
         let stay = narrows.sent i r lt in
-        body_within (MeansIn w) (Means nodes t) (MeansOpenIn w)
-        (MeansOpen nodes t h) p.asks request.unique false false request.body stay.nodes_stay stay.opens_stay
+        body_within (NodeDenotesIn w) (NodeDenotes nodes t) (OpenDenotesIn w)
+        (OpenDenotes nodes t h) p.asks request.unique false false request.body stay.nodes_stay stay.opens_stay
         (same.requests.sent i r lt);
     held = λ u x at.
-        body_within (Meant w.server.nodes x.generations) (Meant t x.generations)
-        (MeantOpen w.server.nodes w.server.handles x.generations)
-        (MeantOpen t h x.generations) p.asks u false x.marked x.body (narrows.held_nodes u x at)
+        body_within (StillDenotes w.server.nodes x.generations) (StillDenotes t x.generations)
+        (OpenStillDenotes w.server.nodes w.server.handles x.generations)
+        (OpenStillDenotes t h x.generations) p.asks u false x.marked x.body (narrows.held_nodes u x at)
         (λ o file node among m. narrows.held_opens u x at o file among m) (same.requests.held u x at);
   };
   asks = λ live.
@@ -256,8 +256,8 @@ fewer_nodes_refine w p same nodes t h tree tree' narrows trees = record {
               request = pair.request;
               there = pair.there;
               by = pair.by;
-              same = asked_within (MeansIn w) (Means nodes t) (MeansOpenIn w)
-                  (MeansOpen nodes t h) state pair.ask.operation stay.nodes_stay stay.opens_stay pair.same;
+              same = asked_within (NodeDenotesIn w) (NodeDenotes nodes t) (OpenDenotesIn w)
+                  (OpenDenotes nodes t h) state pair.ask.operation stay.nodes_stay stay.opens_stay pair.same;
             };
         no_other = old.no_other;
         signalled = old.signalled;

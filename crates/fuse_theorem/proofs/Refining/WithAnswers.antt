@@ -12,7 +12,7 @@ use Rattle.fuse_spec.specs.World.Worlds.{World}
 use Rattle.fuse_spec.specs.World.Records.{collected}
 use Rattle.fuse_spec.specs.Claim.Runs.{plain_collected}
 use Rattle.fuse_spec.specs.Reference.Plain.{Plain}
-use Rattle.fuse_spec.specs.Claim.Denotes.{MeansIn, MeansOpenIn}
+use Rattle.fuse_spec.specs.Claim.Denotes.{NodeDenotesIn, OpenDenotesIn}
 use Rattle.fuse_spec.specs.Claim.Alike.{RequestBodyAsked, Alike}
 
 -- With these answers left.
@@ -47,7 +47,7 @@ module _ (w : World) (answers : Map Answer) where
       pending = λ i e lt.
           let entry = get_or (pending w.kernel.queues) i e in
           subst (λ (o : Option RequestBody). MatchOption o ⊥
-          (RequestBodyAsked p.asks entry.0 (is_signalled entry.1.mark) false (MeansIn w) (MeansOpenIn w)))
+          (RequestBodyAsked p.asks entry.0 (is_signalled entry.1.mark) false (NodeDenotesIn w) (OpenDenotesIn w)))
           (sym (same_body entry.1.kept)) (same.requests.pending i e lt);
       sent = same.requests.sent;
       held = same.requests.held;

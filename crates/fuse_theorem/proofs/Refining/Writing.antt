@@ -15,7 +15,7 @@ use Rattle.fuse_spec.specs.Kernel.QueueCalls.{without}
 use Rattle.fuse_spec.specs.Kernel.Kernel.{Kernel, is_live, advanced, after_use}
 use Rattle.fuse_spec.specs.World.Worlds.{World, Sent}
 use Rattle.fuse_spec.specs.Reference.Plain.{Plain, Ask, waiting, performed, declined, going_on, ask_delivered, ask_interrupted}
-use Rattle.fuse_spec.specs.Claim.Denotes.{MeansIn, MeansOpenIn, StateAlike}
+use Rattle.fuse_spec.specs.Claim.Denotes.{NodeDenotesIn, OpenDenotesIn, StateAlike}
 use Rattle.fuse_spec.specs.Claim.Alike.{IsStageReplied, Alike}
 use Rattle.fuse_spec.proofs.QueueSoundness.{IsSound-without}
 use Rattle.fuse_theorem.specs.Numbering.{IsOneToOne, IsNumbered}
@@ -73,12 +73,12 @@ not_waiting reply e = cc
 not_waiting_declined : declined ≢ waiting
 not_waiting_declined e = cc
 
-module _ (w : World) (p : Plain) (numbered : IsNumbered w) (one : IsOneToOne (MeansIn w)) (same : Alike w p)
+module _ (w : World) (p : Plain) (numbered : IsNumbered w) (one : IsOneToOne (NodeDenotesIn w)) (same : Alike w p)
     (live : is_live w.kernel.phase ≡ true)
     (unique call : ℕ) (r : QueuedRequest Purpose) (ask : Ask) (state : CallState Opened) (state' : CallState ℕ)
     (under : request_under w.kernel.queues unique ≡ Some r) (serves : r.kept ≡ purpose.Call call)
     (there : get p.asks unique ≡ Some ask) (by_call : ask.call ≡ call)
-    (there' : get p.vfs.calls call ≡ Some state') (states : StateAlike (MeansIn w) (MeansOpenIn w) state state') where
+    (there' : get p.vfs.calls call ≡ Some state') (states : StateAlike (NodeDenotesIn w) (OpenDenotesIn w) state state') where
   abbrev k1 : Kernel
   k1 = record w.kernel { queues = without w.kernel.queues unique }
 
@@ -104,7 +104,7 @@ module _ (w : World) (p : Plain) (numbered : IsNumbered w) (one : IsOneToOne (Me
 
   -- where a call takes a step once its request has ended
   stepped : (c : Advance Opened) (d : Advance ℕ) → ask.stage ≢ waiting
-      → AdvanceAlike (MeansIn w) (MeansOpenIn w) one c d → StepsAlone w.kernel.vfs.calls w.kernel.vfs.next_call call c
+      → AdvanceAlike (NodeDenotesIn w) (OpenDenotesIn w) one c d → StepsAlone w.kernel.vfs.calls w.kernel.vfs.next_call call c
       → Alike (record w { kernel = advanced k1 call c }) (going_on p1 w.kernel.queues.next call d)
   stepped c d over alike alone =
       next_request_refines w1 p1 call numbered1
@@ -116,7 +116,7 @@ module _ (w : World) (p : Plain) (numbered : IsNumbered w) (one : IsOneToOne (Me
 
   -- The call receives a reply that is alike to what its ask came to.
   pub received_alike : (reply : Reply ℕ ℕ) (reply_received : Reply ℕ Opened) → ask.stage ≡ performed reply
-      → ReplyAlike (MeansIn w) (MeansOpenIn w) reply_received reply
+      → ReplyAlike (NodeDenotesIn w) (OpenDenotesIn w) reply_received reply
       → Alike (record w { kernel = advanced k1 call (call_replied w.kernel.vfs call state reply_received) })
       (ask_delivered p unique w.kernel.queues.next ask reply state')
   received_alike reply reply_received over fits =
@@ -127,8 +127,8 @@ module _ (w : World) (p : Plain) (numbered : IsNumbered w) (one : IsOneToOne (Me
       (going_on p1 w.kernel.queues.next c (call_replied p.vfs c state' reply))) (sym by_call)
       (stepped (call_replied w.kernel.vfs call state reply_received) (call_replied p.vfs call state' reply)
       (λ e. not_waiting reply (sym over ∙ e))
-      (reply_step_refines (MeansIn w)
-      (MeansOpenIn w) one w.kernel.vfs p.vfs same.vfs call state state' reply_received reply states fits)
+      (reply_step_refines (NodeDenotesIn w)
+      (OpenDenotesIn w) one w.kernel.vfs p.vfs same.vfs call state state' reply_received reply states fits)
       (call_replied_alone w.kernel.vfs call state reply_received))
 
   -- The call receives that its ask was declined.
@@ -141,7 +141,7 @@ module _ (w : World) (p : Plain) (numbered : IsNumbered w) (one : IsOneToOne (Me
       (stepped (no_more (answered w.kernel.vfs call (answer.failed 4)))
       (no_more (answered p.vfs call (answer.failed 4))) (λ e. not_waiting_declined (sym over ∙ e))
       (record {
-        vfs = answered_alike (MeansIn w) (MeansOpenIn w) one w.kernel.vfs p.vfs same.vfs call call
+        vfs = answered_alike (NodeDenotesIn w) (OpenDenotesIn w) one w.kernel.vfs p.vfs same.vfs call call
             (answer.failed 4) (answer.failed 4) refl refl;
         operation = tt;
       })

@@ -1,4 +1,4 @@
--- No state of the world has an event refused for want of memory or for a lost link.
+-- No state of the world has an event refused as out of memory or for a lost link.
 use Rattle.std.proofs.Common.{◌≢◌, ℕ, inl, inr}
 use Rattle.fuse_spec.specs.declared.Refusal.{Refusal}
 use Rattle.fuse_spec.specs.declared.Refusal.TheVariants.{NoMemory, LinkLost}
@@ -50,18 +50,18 @@ by_case choice w e r (counted_too_often unique held there many) =
     record { not_memory = λ is. absurd (cc is); not_link = λ is. absurd (cc is) }
 by_case choice w e r (copied_too_often unique kept there current many) =
     record { not_memory = λ is. absurd (cc is); not_link = λ is. absurd (cc is) }
-by_case choice w e r (past_its_end _ o after drawn leads past) =
+by_case choice w e r (past_its_end _ o after allocated leads past) =
     record { not_memory = λ is. absurd (cc is); not_link = λ is. absurd (cc is) }
 
 judged : (w : World) (e : Event) (r : Refusal) → IsRefused w e r → IsJudged r
 judged w e r refused = let some = some_choice w e in
     by_case some.0 w e r (only_refused some.0 w e r (refused some.0 some.1))
 
--- What is refused whatever the server chooses is not refused for want of memory.
+-- What is refused whatever the server chooses is not refused as out of memory.
 pub never_memory : (w : World) (e : Event) (r : Refusal) → IsRefused w e r → r ≢ NoMemory
 never_memory w e r refused = (judged w e r refused).not_memory
 
--- Nor is it for a lost link, and want of memory is no lost link.
+-- Nor is it for a lost link, and out of memory is no lost link.
 pub never_link_lost : (w : World) (e : Event) (r : Refusal) → RefusedWith w e r → r ≢ LinkLost
 never_link_lost w e r (inl refused) = (judged w e r refused).not_link
-never_link_lost w e r (inr wants) = λ is. absurd (cc (wants.wanting, is))
+never_link_lost w e r (inr wants) = λ is. absurd (cc (wants.out_of_memory, is))

@@ -16,7 +16,7 @@ use Rattle.fuse_spec.specs.Server.Nodes.{count_overflows}
 use Rattle.fuse_spec.specs.Kernel.Refusals.{first_found, found, pending_found, unused_found, when_live, when_not_interrupted, unless, is_ready, is_busy}
 use Rattle.fuse_spec.specs.Server.Refusals.{held_found, kept_found}
 use Rattle.fuse_spec.specs.World.Steps.{Stepped, is_past, going, reading_interrupt, reading_forgets, reading_pending, taking_request, performing_held, sending_again, writing_copy, settling, signalling, dropping, evicting, step}
-use Rattle.fuse_spec.specs.World.Refusals.{MayRead, Leads, mounts, calls, reads_interrupt, reads_forgets, reads_pending, takes, performs, sends_again, writes, settles, signals, passes, drops, evicts, aborts, draws, needs_live, reads_other, NamesNothing, no_interrupt, no_forgets, no_pending, no_body, no_request, none_held, no_copy, no_result, no_call, no_name, no_node, Refuses, too_long, in_use, clock_ends, not_ready, too_many, not_live, interrupt_first, names_nothing, none_kept, not_current, pinned_or_bound, counted_too_often, copied_too_often, past_its_end}
+use Rattle.fuse_spec.specs.World.Refusals.{MayRead, Leads, mounts, calls, reads_interrupt, reads_forgets, reads_pending, takes, performs, sends_again, writes, settles, signals, passes, drops, evicts, aborts, allocates, needs_live, reads_other, NamesNothing, no_interrupt, no_forgets, no_pending, no_body, no_request, none_held, no_copy, no_result, no_call, no_name, no_node, Refuses, too_long, in_use, clock_ends, not_ready, too_many, not_live, interrupt_first, names_nothing, none_kept, not_current, pinned_or_bound, counted_too_often, copied_too_often, past_its_end}
 use Rattle.fuse_theorem.proofs.Calls.Finding.{other_is}
 
 -- ---- a test that refuses, and one that does not
@@ -62,7 +62,7 @@ module _ (choice : ℕ → ℕ) (w : World) where
   -- ---- what an event leads to, but for counters
 
   abbrev Comes : Event → Outcome → World → Type 0
-  Comes e o after = step choice w e ≡ cond (draws e) (going o after) (Ok (o, after))
+  Comes e o after = step choice w e ≡ cond (allocates e) (going o after) (Ok (o, after))
 
   pub comes_to : (e : Event) (o : Outcome) (after : World) → Leads choice w e o after → Comes e o after
   comes_to e o after (mounts f m v day free) =
@@ -112,21 +112,21 @@ module _ (choice : ℕ → ℕ) (w : World) where
       ∙ passed (is_pinned w.kernel node || is_bound w.kernel node) Busy (Ok (o, after)) (λ i. unpinned i || unbound i)
   comes_to e o after (aborts live) = live_passes w (Ok (o, after)) live
 
-  -- what an event leads to that draws no number past its end
+  -- what an event leads to that allocates no number past its end
   pub led_to : (e : Event) (o : Outcome) (after : World) → Leads choice w e o after
-      → (draws e ≡ true → is_past after ≡ false) → step choice w e ≡ Ok (o, after)
-  led_to e o after there within = comes_to e o after there ∙ drawn (draws e) within
+      → (allocates e ≡ true → is_past after ≡ false) → step choice w e ≡ Ok (o, after)
+  led_to e o after there within = comes_to e o after there ∙ allocated (allocates e) within
     where
-      drawn : (b : Bool) → (b ≡ true → is_past after ≡ false) → cond b (going o after) (Ok (o, after)) ≡ Ok (o, after)
-      drawn true within = passed (is_past after) Exhausted (Ok (o, after)) (within refl)
-      drawn false within = refl
+      allocated : (b : Bool) → (b ≡ true → is_past after ≡ false) → cond b (going o after) (Ok (o, after)) ≡ Ok (o, after)
+      allocated true within = passed (is_past after) Exhausted (Ok (o, after)) (within refl)
+      allocated false within = refl
 
   -- ---- refusals
 
-  exhausted : (e : Event) (o : Outcome) (after : World) → draws e ≡ true → Leads choice w e o after
+  exhausted : (e : Event) (o : Outcome) (after : World) → allocates e ≡ true → Leads choice w e o after
       → is_past after ≡ true → step choice w e ≡ Err Exhausted
-  exhausted e o after drawn there past = comes_to e o after there ∙ ap
-      (λ (b : Bool). cond b (going o after) (Ok (o, after))) drawn ∙ refused_by (is_past after) Exhausted
+  exhausted e o after allocated there past = comes_to e o after there ∙ ap
+      (λ (b : Bool). cond b (going o after) (Ok (o, after))) allocated ∙ refused_by (is_past after) Exhausted
       (Ok (o, after)) past
 
   unready : (e : Event) → needs_live e ≡ true → is_live w.kernel.phase ≡ false → step choice w e ≡ Err NotReady
@@ -199,4 +199,4 @@ module _ (choice : ℕ → ℕ) (w : World) where
       ap (λ o. kept_found w.server o (sending_again w unique)) there
       ∙ passed (not (is_current w.server kept.wire)) NoCopy _
       (ap not current) ∙ refused_by (count_overflows w.server.nodes (files_named w.server kept.wire)) Exhausted _ many
-  refused e r (past_its_end same o after drawn there past) = exhausted e o after drawn there past
+  refused e r (past_its_end same o after allocated there past) = exhausted e o after allocated there past

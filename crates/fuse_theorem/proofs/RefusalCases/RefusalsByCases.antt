@@ -4,7 +4,7 @@ use Rattle.fuse_spec.specs.declared.Refusal.{Refusal}
 use Rattle.fuse_spec.specs.World.Worlds.{World}
 use Rattle.fuse_spec.specs.World.Events.{Event, Outcome}
 use Rattle.fuse_spec.specs.World.Steps.{Stepped, is_past, step}
-use Rattle.fuse_spec.specs.World.Refusals.{Leads, Refuses, draws}
+use Rattle.fuse_spec.specs.World.Refusals.{Leads, Refuses, allocates}
 use Rattle.fuse_theorem.proofs.RefusalCases.Accepted.{ok_is}
 use Rattle.fuse_theorem.proofs.RefusalCases.RefusalsOnly.{ByCases, is_refused, leads, by_cases}
 use Rattle.fuse_theorem.proofs.RefusalCases.RefusalsAlso.{led_to, refused}
@@ -37,17 +37,17 @@ module _ (choice : ℕ → ℕ) (w : World) (e : Event) where
         subst (λ (x : Outcome). Leads choice w e x after) same.outcome_is
         (subst (λ (v : World). Leads choice w e p v) same.after_is there)
 
-    within_is : (s : Stepped) → ByCases choice w e s → s ≡ Ok (o, after) → draws e ≡ true → is_past after ≡ false
-    within_is s (is_refused r refuses) is drawn = absurd (cc)
-    within_is s (leads p reached there within) is drawn =
-        subst (λ (v : World). is_past v ≡ false) (ok_is p reached o after is).after_is (within drawn)
+    within_is : (s : Stepped) → ByCases choice w e s → s ≡ Ok (o, after) → allocates e ≡ true → is_past after ≡ false
+    within_is s (is_refused r refuses) is allocated = absurd (cc)
+    within_is s (leads p reached there within) is allocated =
+        subst (λ (v : World). is_past v ≡ false) (ok_is p reached o after is).after_is (within allocated)
 
     pub only_accepted : step choice w e ≡ Ok (o, after) → Leads choice w e o after
     only_accepted stepped = leads_is (step choice w e) (by_cases choice w e) stepped
 
-    pub within_accepted : step choice w e ≡ Ok (o, after) → draws e ≡ true → is_past after ≡ false
-    within_accepted stepped drawn = within_is (step choice w e) (by_cases choice w e) stepped drawn
+    pub within_accepted : step choice w e ≡ Ok (o, after) → allocates e ≡ true → is_past after ≡ false
+    within_accepted stepped allocated = within_is (step choice w e) (by_cases choice w e) stepped allocated
 
-    pub also_accepted : Leads choice w e o after → (draws e ≡ true → is_past after ≡ false)
+    pub also_accepted : Leads choice w e o after → (allocates e ≡ true → is_past after ≡ false)
         → step choice w e ≡ Ok (o, after)
     also_accepted there within = led_to choice w e o after there within

@@ -31,14 +31,14 @@ use Rattle.fuse_spec.specs.Server.Nodes.{count_overflows}
 use Rattle.fuse_spec.specs.Kernel.Refusals.{first_found, found, pending_found, unused_found, when_live, when_not_interrupted, unless, is_ready, is_busy}
 use Rattle.fuse_spec.specs.Server.Refusals.{held_found, kept_found}
 use Rattle.fuse_spec.specs.World.Steps.{Stepped, is_past, going, reading_interrupt, reading_forgets, reading_pending, taking_request, performing_held, sending_again, writing_copy, settling, signalling, dropping, evicting, step}
-use Rattle.fuse_spec.specs.World.Refusals.{Leads, mounts, calls, reads_interrupt, reads_forgets, reads_pending, takes, performs, sends_again, writes, settles, signals, passes, drops, evicts, aborts, draws, needs_live, reads_other, NamesNothing, no_interrupt, no_forgets, no_pending, no_body, no_request, none_held, no_copy, no_result, no_call, no_name, no_node, Refuses, too_long, in_use, clock_ends, not_ready, too_many, not_live, interrupt_first, names_nothing, none_kept, not_current, pinned_or_bound, counted_too_often, copied_too_often, past_its_end}
+use Rattle.fuse_spec.specs.World.Refusals.{Leads, mounts, calls, reads_interrupt, reads_forgets, reads_pending, takes, performs, sends_again, writes, settles, signals, passes, drops, evicts, aborts, allocates, needs_live, reads_other, NamesNothing, no_interrupt, no_forgets, no_pending, no_body, no_request, none_held, no_copy, no_result, no_call, no_name, no_node, Refuses, too_long, in_use, clock_ends, not_ready, too_many, not_live, interrupt_first, names_nothing, none_kept, not_current, pinned_or_bound, counted_too_often, copied_too_often, past_its_end}
 use Rattle.fuse_theorem.proofs.Refining.Evicting.{or_false}
 use Rattle.fuse_theorem.proofs.RefusalCases.Happened.{none_queued}
 
 -- What a step came to: a refusal that the event has, or what it leads to with no counter past its end.
 pub data ByCases (choice : ℕ → ℕ) (w : World) (e : Event) : Stepped → Type 0 where
   is_refused : (r : Refusal) → Refuses choice w e r → ByCases choice w e (Err r)
-  leads : (o : Outcome) (after : World) → Leads choice w e o after → (draws e ≡ true → is_past after ≡ false)
+  leads : (o : Outcome) (after : World) → Leads choice w e o after → (allocates e ≡ true → is_past after ≡ false)
       → ByCases choice w e (Ok (o, after))
 
 -- ---- whether a mount is in use
@@ -58,13 +58,13 @@ module _ (choice : ℕ → ℕ) (w : World) (e : Event) where
   tested true r s refuses behind = is_refused r (refuses refl)
   tested false r s refuses behind = behind refl
 
-  goes : (o : Outcome) (after : World) → draws e ≡ true → Leads choice w e o after → ByCases choice w e (going o after)
-  goes o after drawn there = tested (is_past after) Exhausted (Ok (o, after))
-      (λ past. past_its_end e o after drawn there past) (λ within. leads o after there (λ d. within))
+  goes : (o : Outcome) (after : World) → allocates e ≡ true → Leads choice w e o after → ByCases choice w e (going o after)
+  goes o after allocated there = tested (is_past after) Exhausted (Ok (o, after))
+      (λ past. past_its_end e o after allocated there past) (λ within. leads o after there (λ d. within))
 
-  goes_undrawn : (o : Outcome) (after : World) → draws e ≡ false → Leads choice w e o after
+  goes_unallocated : (o : Outcome) (after : World) → allocates e ≡ false → Leads choice w e o after
       → ByCases choice w e (Ok (o, after))
-  goes_undrawn o after undrawn there = leads o after there (λ drawn. absurd (true≢false (sym drawn ∙ undrawn)))
+  goes_unallocated o after unallocated there = leads o after there (λ allocated. absurd (true≢false (sym allocated ∙ unallocated)))
 
   if_live : needs_live e ≡ true → (s : Stepped) → (is_live w.kernel.phase ≡ true → ByCases choice w e s)
       → ByCases choice w e (when_live w.kernel s)
@@ -113,7 +113,7 @@ module _ (choice : ℕ → ℕ) (w : World) where
       (λ s. tested choice w e (is_busy w.kernel) Busy mounted
       (λ t. in_use f m v (ltb-false max_validity (max f m) s)
       (let both = used live uses t in record { live = both.0; used = both.1 }))
-      (λ i. goes_undrawn choice w e event.mounted (after_mount w f m v) refl
+      (λ i. goes_unallocated choice w e event.mounted (after_mount w f m v) refl
       (mounts f m v (ltb-false max_validity (max f m) s) (idle live uses i))))
 
   by_call : (call : Call) → Comes (event.call call) (step choice w (event.call call))
@@ -135,7 +135,7 @@ module _ (choice : ℕ → ℕ) (w : World) where
       let later = w.kernel.vfs.clock + ms in
       tested choice w e (nat_le clock_end later) BadTime (Ok (event.now later, after_tick w ms))
       (λ t. clock_ends ms (leb-true clock_end later t))
-      (λ f. goes_undrawn choice w e (event.now later) (after_tick w ms) refl (passes ms (leb-false clock_end later f)))
+      (λ f. goes_unallocated choice w e (event.now later) (after_tick w ms) refl (passes ms (leb-false clock_end later f)))
 
   -- ---- a read
 
@@ -234,7 +234,7 @@ module _ (choice : ℕ → ℕ) (w : World) where
       → Comes (event.settle k) (found x (settling w k))
   by_settle k None there = nothing_there choice w (event.settle k) refl refl (no_result k there)
   by_settle k (Some result) there =
-      goes_undrawn choice w (event.settle k) (event.settled result.unique result.result)
+      goes_unallocated choice w (event.settle k) (event.settled result.unique result.result)
       (after_settle w k result (get w.server.copies result.number)) refl (settles k result there)
 
   -- ---- what a live mount needs
@@ -254,7 +254,7 @@ module _ (choice : ℕ → ℕ) (w : World) where
   by_drop directory name live None there = nothing_live choice w (event.drop_name directory name) live refl
       (no_name directory name there)
   by_drop directory name live (Some bound) there =
-      goes_undrawn choice w (event.drop_name directory name) event.dropped (after_drop w directory name) refl
+      goes_unallocated choice w (event.drop_name directory name) event.dropped (after_drop w directory name) refl
       (drops directory name bound live there)
 
   by_evict : (node : ℕ) → is_live w.kernel.phase ≡ true → (x : Option Counted) → get w.kernel.nodes node ≡ x
@@ -267,7 +267,7 @@ module _ (choice : ℕ → ℕ) (w : World) where
       let outcome = event.evicted node counted.count in
       tested choice w e (pinned || bound) Busy (Ok (outcome, after_evict w node counted))
       (λ t. pinned_or_bound node counted live there t)
-      (λ f. goes_undrawn choice w e outcome (after_evict w node counted) refl
+      (λ f. goes_unallocated choice w e outcome (after_evict w node counted) refl
       (evicts node counted live there (or_false pinned bound f).0 (or_false pinned bound f).1))
 
   -- Each event's step is one of the cases.
@@ -294,4 +294,4 @@ module _ (choice : ℕ → ℕ) (w : World) where
       (unused_found w.kernel node (get w.kernel.nodes node) (evicting w node))
       (λ live. by_evict node live (get w.kernel.nodes node) refl)
   by_cases event.abort = if_live choice w event.abort refl (Ok (event.aborted, after_abort w))
-      (λ live. goes_undrawn choice w event.abort event.aborted (after_abort w) refl (aborts live))
+      (λ live. goes_unallocated choice w event.abort event.aborted (after_abort w) refl (aborts live))

@@ -12,7 +12,7 @@ use Rattle.fuse_spec.specs.Server.Performs.{file_operation_of, is_open_for, is_s
 use Rattle.fuse_spec.proofs.Tables.{get_put_here, get_put_there}
 use Rattle.fuse_theorem.proofs.Nodes.NodesSound.{put_found}
 
--- The two servers draw the same numbers next.
+-- The two servers allocate the same numbers next.
 pub record SameCounters (s t : Server) : Type 0 where
   pub inode : s.tree.next_inode ≡ t.tree.next_inode
   pub cookie : s.tree.next_cookie ≡ t.tree.next_cookie
@@ -164,7 +164,7 @@ module _ (c d : ℕ → ℕ) where
         by_mark true may = same_counters s
         by_mark false may = by_held (is_still_held s.nodes t.generations) may
 
-  -- With either choice of ids, the server draws the same numbers after the request.
+  -- With either choice of ids, the server allocates the same numbers after the request.
   pub served_counters : (s : Server) (unique : ℕ) (t : HeldRequest) → MayChoose c s.nodes (files_given s t)
       → MayChoose d s.nodes (files_given s t) → SameCounters (served c s unique t).server (served d s unique t).server
   served_counters s unique t m n =

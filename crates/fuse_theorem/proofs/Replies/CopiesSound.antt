@@ -229,7 +229,7 @@ module _ (w : World) (sound : CopiesSound w) where
         omega (arith, gone, pushed, old);
   }
 
-  -- A copy is settled: no other result, and no copy on the reply link, bears its number.
+  -- A copy is settled: no other result, and no copy on the reply link, has its number.
   module _ (k : ℕ) (result : ReplyResult) (there : slice_get w.results k ≡ Some result) where
     gone_here : results_under result.number (without_at w.results k) + 1 ≡ results_under result.number w.results
     gone_here = subst (λ (b : Bool). results_under result.number (without_at w.results k) + cond b 1 0

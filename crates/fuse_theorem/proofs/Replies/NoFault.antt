@@ -95,7 +95,7 @@ module _ (w : World) (p : Plain) (both : BothSound w p) (releases : ReleasesKnow
       let unanswered = sound.unanswered r.unique even (omega (arith, one)) in
       rw (held, unanswered.kept) refl
 
-  -- no request and no kept reply bears an odd number
+  -- no request and no kept reply has an odd number
   odd_new : r.unique % 2 ≡ 1 → (is_some (get w.server.held r.unique) || is_some (get w.server.kept r.unique)) ≡ false
   odd_new odd = by (get w.server.held r.unique) refl (get w.server.kept r.unique) refl
     where
@@ -111,8 +111,8 @@ module _ (w : World) (p : Plain) (both : BothSound w p) (releases : ReleasesKnow
           absurd (omega (arith, even, odd))
       by None held None kept = refl
 
-  new_number : (is_some (get w.server.held r.unique) || is_some (get w.server.kept r.unique)) ≡ false
-  new_number = by r.body (numbers i d lt)
+  new_handle : (is_some (get w.server.held r.unique) || is_some (get w.server.kept r.unique)) ≡ false
+  new_handle = by r.body (numbers i d lt)
     where
       numbers : All (λ (x : Request). BearsNumber x.unique x.body) w.requests
       numbers = let world = both.world in let sound = world.requests in sound.numbers
@@ -128,7 +128,7 @@ module _ (w : World) (p : Plain) (both : BothSound w p) (releases : ReleasesKnow
       by (interrupt original) number = odd_new (omega (arith, number))
 
   pub none_wrong : fault_of w.server (get_or w.requests i d) ≡ None
-  none_wrong = rw (request_known w faultless.for_minor live i d lt, known, forgettable, not_too_many, new_number) refl
+  none_wrong = rw (request_known w faultless.for_minor live i d lt, known, forgettable, not_too_many, new_handle) refl
 
 -- No request that is taken has a fault.
 pub no_fault : (w : World) (p : Plain) → BothSound w p → ReleasesKnown w → Faultless w

@@ -123,7 +123,8 @@ fits_fewer replies replies' kept kept' copies keeps e = by e.1.kept
     }
     by (purpose.Call call) h = tt
 
--- One more copy, and perhaps its kept reply: each request that it answers as a RELEASE is told only whether it failed.
+-- One more copy, and perhaps its kept reply: each request that it answers as a RELEASE is answered only whether it
+-- failed.
 fits_more : (replies : List Sent) (new : Sent) (kept kept' : Map Kept) (e : ℕ × QueuedRequest Purpose)
     → ((o : Opened) → e.1.kept ≡ purpose.Release o → IsEmptyUnder replies kept e.0 → new.unique ≡ e.0
     → is_empty_reply new.wire ≡ true)

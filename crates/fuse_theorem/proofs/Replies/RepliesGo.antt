@@ -13,7 +13,7 @@ use Rattle.fuse_spec.specs.Files.Operations.{Operation, Reply, Dirent, Operation
 use Rattle.fuse_spec.specs.Files.FileOperations.{FileOperation}
 use Rattle.fuse_spec.specs.Server.Nodes.{NodeTable, HandleTable, HeldNode, is_open}
 use Rattle.fuse_spec.specs.Files.Trees.{record_length, pair_length}
-use Rattle.fuse_spec.specs.Claim.Denotes.{Denotes, generation_known, Means, Names, Opens}
+use Rattle.fuse_spec.specs.Claim.Denotes.{Denotes, generation_known, NodeDenotes, Names, Opens}
 use Rattle.fuse_spec.specs.Kernel.Replies.{goes_with, Use, usable, first_use, use_of, use_counted, use_of_all}
 use Rattle.fuse_spec.specs.Reference.PlainCalls.{RepliesTo}
 use Rattle.fuse_theorem.specs.Conditions.{OpensItsFile}
@@ -70,12 +70,12 @@ module _ (R : ℕ → ℕ → Type 0) (S : Opened → ℕ → Type 0) (t : NodeT
   wire_goes a b wire reply same told so = goes a b wire reply (same_operation R S a b same)
       (same_reply (Names t) (Opens h) wire reply told) so
 
--- Its open number is one of the file that was created or opened.
+-- Its file handle is one of the file that was created or opened.
 module _ (nodes : Map Counted) (t : NodeTable) (h : HandleTable)
     (held : (id generation : ℕ) → generation_known nodes id ≡ Some generation → (file : ℕ)
     → Denotes t id generation file → (g f : ℕ) → Denotes t id g f → f ≡ file) where
   pub wire_opens : (S : Opened → ℕ → Type 0) (a : Operation ℕ Opened) (b : FileOperation) (wire : WireReply)
-      (reply : Reply ℕ ℕ) → SameOperation (Means nodes t) S a b → SameReply (Names t) (Opens h) wire reply
+      (reply : Reply ℕ ℕ) → SameOperation (NodeDenotes nodes t) S a b → SameReply (Names t) (Opens h) wire reply
       → RepliesTo b reply → OpensItsFile t h a wire
   wire_opens S _ _ _ _ (both_create d e n m r q) (same_created g x v u fh o named f number) so = λ file denotes.
       subst (λ (n : ℕ). is_open h fh n ≡ true) (so ∙ denotes_one t g.nodeid g.generation x file named denotes) number

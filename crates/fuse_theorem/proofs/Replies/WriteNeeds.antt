@@ -21,7 +21,7 @@ use Rattle.fuse_spec.specs.Reference.Plain.{Plain, Ask, Stage, performed, declin
 use Rattle.fuse_spec.specs.Reference.Plain as plain
 use Rattle.fuse_spec.specs.World.Worlds.{World, Sent}
 use Rattle.fuse_spec.specs.World.Events as event
-use Rattle.fuse_spec.specs.Claim.Denotes.{Denotes, MeansIn, MeansOpenIn, generation_known, Names, Opens}
+use Rattle.fuse_spec.specs.Claim.Denotes.{Denotes, NodeDenotesIn, OpenDenotesIn, generation_known, Names, Opens}
 use Rattle.fuse_spec.specs.Claim.Alike.{Alike, IsStageReplied, IsPaired}
 use Rattle.fuse_theorem.specs.AskedRequests.{RequestsAskedWhileLive}
 use Rattle.fuse_theorem.specs.PlainWitness.{PlainWitness, AskServed}
@@ -77,7 +77,7 @@ failed_alike t h errno wire reply is told = by wire reply is (same_reply (Names 
     by _ _ e same_done = absurd (cc (e))
     by _ _ e (same_failed x0 y0 q) = let same : x0 ≡ errno = cc (e) in ap failed (sym q ∙ same)
 
--- A request whose INTERRUPT was due bears a signal.
+-- A request whose INTERRUPT was due has a signal.
 interrupt_signals : (m : Mark) → has_interrupt m ≡ true → is_signalled m ≡ true
 interrupt_signals mark.Unread e = absurd (true≢false (sym e))
 interrupt_signals mark.Flagged e = refl
@@ -161,7 +161,7 @@ module _ (w : World) (sound : WorldSound w) (asked_so : RequestsAskedWhileLive w
 
       goes : (s : Stage) → known.ask.stage ≡ s → goes_with (asked state) sent.wire ≡ true
       goes plain.waiting stage = absurd (says plain.waiting stage)
-      goes (performed reply) stage = wire_goes (MeansIn w) (MeansOpenIn w) w.server.nodes w.server.handles
+      goes (performed reply) stage = wire_goes (NodeDenotesIn w) (OpenDenotesIn w) w.server.nodes w.server.handles
           (asked state) known.ask.operation sent.wire reply known.same (says (performed reply) stage)
           (is_served.replied reply stage)
       goes declined stage = ap (goes_with (asked state)) (says declined stage)
@@ -169,9 +169,9 @@ module _ (w : World) (sound : WorldSound w) (asked_so : RequestsAskedWhileLive w
       opens : (s : Stage) → known.ask.stage ≡ s
           → OpensItsFile w.server.nodes w.server.handles (asked state) sent.wire
       opens plain.waiting stage = absurd (says plain.waiting stage)
-      opens (performed reply) stage = wire_opens w.kernel.nodes w.server.nodes w.server.handles one_file (MeansOpenIn w)
+      opens (performed reply) stage = wire_opens w.kernel.nodes w.server.nodes w.server.handles one_file (OpenDenotesIn w)
           (asked state) known.ask.operation sent.wire reply
-          (same_operation (MeansIn w) (MeansOpenIn w) (asked state) known.ask.operation known.same)
+          (same_operation (NodeDenotesIn w) (OpenDenotesIn w) (asked state) known.ask.operation known.same)
           (same_reply (Names w.server.nodes) (Opens w.server.handles) sent.wire reply (says (performed reply) stage))
           (is_served.replied reply stage)
       opens declined stage = subst (OpensItsFile w.server.nodes w.server.handles (asked state)) (sym

@@ -26,13 +26,13 @@ use Rattle.fuse_theorem.proofs.Requests.NumbersStay.{replying_kernel}
 use Rattle.fuse_theorem.proofs.Lookups.PerformedCounts.{performed_counts}
 
 -- The kernel has no unanswered call and no open file where it had none.
-pub record StaysEmpty (k l : Kernel) : Type 0 where
+pub record KeptEmpty (k l : Kernel) : Type 0 where
   pub calls : k.vfs.calls ≡ [] → l.vfs.calls ≡ []
   pub opens : k.vfs.opens ≡ [] → l.vfs.opens ≡ []
 
 pub data WithoutMount (choice : ℕ → ℕ) (w : World) : World → Type 0 where
   by_loss : is_live w.kernel.phase ≡ true → WithoutMount choice w (after_abort w)
-  by_kernel : (v : World) → is_live w.kernel.phase ≡ false → v.server ≡ w.server → StaysEmpty w.kernel v.kernel
+  by_kernel : (v : World) → is_live w.kernel.phase ≡ false → v.server ≡ w.server → KeptEmpty w.kernel v.kernel
       → WithoutMount choice w v
   by_serving : (unique : ℕ) (t : HeldRequest) → is_live w.kernel.phase ≡ false → w.server.aborted ≡ true
       → get w.server.held unique ≡ Some t → WithoutMount choice w
@@ -40,7 +40,7 @@ pub data WithoutMount (choice : ℕ → ℕ) (w : World) : World → Type 0 wher
 
 -- A call that begins after an abort is answered at once.
 begun_empty : (k : Kernel) (call : Call) → is_ready k.phase ≡ true → is_live k.phase ≡ false
-    → StaysEmpty k (call_begun k call)
+    → KeptEmpty k (call_begun k call)
 begun_empty k call ready dead =
     let begins : Bool → Kernel = λ b. closing_of (advanced k k.vfs.next_call (begun b k.vfs call))
     (cond b None (closed_by k.vfs.opens call)) in

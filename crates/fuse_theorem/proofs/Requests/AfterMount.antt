@@ -68,7 +68,7 @@ module _ (w : World) (found_ms missing_ms : ℕ) (minor : Minor) where
   mounted_known id generation known = known_held mounted.server.nodes id generation known
 
   pub mounted_tables : TablesSound mounted.server
-  mounted_tables = record { no_root = refl; new_number = refl }
+  mounted_tables = record { no_root = refl; new_handle = refl }
 
 module _ (w : World) where
   pub aborted_numbered : IsNumbered (after_abort w)

@@ -73,11 +73,11 @@ asks_same k l purpose.Init calls = refl
 asks_same k l (purpose.Release o) calls = refl
 asks_same k l (purpose.Call call) calls = ap (λ (m : Map (CallState Opened)). asked_by (get m call)) calls
 
--- a signal reaches a call by this entry, if it bears one
+-- a signal reaches a call by this entry, if it has one
 abbrev pub ReachesCall : ℕ × QueuedRequest Purpose → Type 0
 ReachesCall e = is_signalled e.1.mark ≡ true → serves_call e.1.kept ≡ true
 
--- INIT bears the first number alone
+-- INIT has the first number alone
 abbrev pub IsNumberedFor : ℕ × QueuedRequest Purpose → Type 0
 IsNumberedFor e = BearsFirst e.0 e.1.kept
 

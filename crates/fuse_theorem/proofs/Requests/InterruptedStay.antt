@@ -22,7 +22,7 @@ use Rattle.fuse_spec.specs.World.Events as event
 use Rattle.fuse_spec.specs.World.Steps.{Happens}
 use Rattle.fuse_spec.specs.Reference.Plain.{Plain, Ask}
 use Rattle.fuse_spec.specs.Reference.PlainSteps.{Takes}
-use Rattle.fuse_spec.specs.Claim.Alike.{Alike, RequestBodyAsked, Meant, MeantOpen}
+use Rattle.fuse_spec.specs.Claim.Alike.{Alike, RequestBodyAsked, StillDenotes, OpenStillDenotes}
 use Rattle.fuse_theorem.specs.AskedRequests.{IsInterrupted, RequestsAskedWhileLive}
 use Rattle.fuse_theorem.specs.Numbering.{IsNumbered}
 use Rattle.fuse_theorem.specs.PlainWitness.{AsksServed}
@@ -212,7 +212,7 @@ module _ (w : World) (sound : WorldSound w) (asked : RequestsAskedWhileLive w) (
       ((asked live).held unique t held).interrupted (by t.body (alike.requests.held unique t held))
     where
       by : (body : RequestBody) → RequestBodyAsked p.asks unique false t.marked
-          (Meant w.server.nodes t.generations) (MeantOpen w.server.nodes w.server.handles t.generations) body
+          (StillDenotes w.server.nodes t.generations) (OpenStillDenotes w.server.nodes w.server.handles t.generations) body
           → t.marked ≡ true
       by (asks operation) h =
           let is : h.ask ≡ ask = let there = h.there in cc (there, at) in

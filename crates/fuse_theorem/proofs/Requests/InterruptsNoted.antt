@@ -21,7 +21,7 @@ use Rattle.fuse_theorem.proofs.Calls.Finding.{found_entry}
 use Rattle.fuse_theorem.proofs.Requests.LinksSound.{none_at}
 use Rattle.fuse_theorem.proofs.Refining.Queuing.{All-at}
 
--- a request whose INTERRUPT was queued bears a signal
+-- a request whose INTERRUPT was queued has a signal
 pub bears_signal : (m : Mark) → has_interrupt m ≡ true → is_signalled m ≡ true
 bears_signal mark.Unread e = absurd (true≢false (sym e))
 bears_signal mark.Flagged e = refl

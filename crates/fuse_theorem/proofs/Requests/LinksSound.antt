@@ -54,7 +54,7 @@ none_in {X = X} m k x empty at = let none : get m k ≡ None = ap (λ (n : Map X
 
 -- ---- INIT is answered with the server's minor
 
--- a request is INIT where it bears the first number, and bears it where it is INIT
+-- a request is INIT where it has the first number, and has it where it is INIT
 first_is_init : (k : Kernel) → InitIsFirst k.queues → (r : QueuedRequest Purpose) → request_under k.queues 2 ≡ Some r
     → r.kept ≡ purpose.Init
 first_is_init k first r under = by r.kept (All-found IsNumberedFor 2 k.queues.requests r first.entries under)

@@ -1,4 +1,4 @@
--- The open number that a performed request's reply carries is the coming one.
+-- The file handle that a performed request's reply carries is the coming one.
 use Rattle.fuse_spec.specs.declared.Minor.TheVariants.{M15, M31}
 use Rattle.fuse_spec.specs.declared.Minor.{Minor}
 use Rattle.std.proofs.Common.{◌≡◌, ℕ, ◌+◌, ◌≤◌, Bool, true, false, cond, List, [], ◌∷◌, nat_eq, count_by, refl, ap, arith}
@@ -15,13 +15,13 @@ use Rattle.fuse_spec.specs.Files.Trees.{Tree}
 use Rattle.fuse_theorem.proofs.OpenFiles.NumberCounts.{number_alone}
 
 -- The coming number never falls, and a number that the reply carries is the one that was coming.
-pub record Draws (s : Server) (did : PerformResult) : Type 0 where
+pub record Allocates (s : Server) (did : PerformResult) : Type 0 where
   pub rises : s.handles.next_fh ≤ did.server.handles.next_fh
   pub new : (fh : ℕ) → 1 ≤ opens_in fh did.wire → (fh ≡ s.handles.next_fh)
       × (did.server.handles.next_fh ≡ s.handles.next_fh + 1)
 
-refusing_draws : (s : Server) (errno : ℕ) → Draws s (refusing s errno)
-refusing_draws s errno = record { rises = omega arith; new = λ fh some. absurd (omega (arith, some)) }
+refusing_allocates : (s : Server) (errno : ℕ) → Allocates s (refusing s errno)
+refusing_allocates s errno = record { rises = omega arith; new = λ fh some. absurd (omega (arith, some)) }
 
 -- a number in a list of one is that one
 only_number : (n fh : ℕ) → 1 ≤ count_by (nat_eq fh) (n ∷ []) → fh ≡ n
@@ -55,8 +55,8 @@ opened_rises [] h = omega arith
 opened_rises (x ∷ files) h = let rest = opened_rises files (handle_opened h x) in omega (arith, rest)
 
 module _ (choice : ℕ → ℕ) (s : Server) where
-  doing_draws : (operation : FileOperation) → Draws s (doing choice s operation)
-  doing_draws operation = record { rises = by_rises s.aborted; new = λ fh. by_new fh s.aborted }
+  doing_allocates : (operation : FileOperation) → Allocates s (doing choice s operation)
+  doing_allocates operation = record { rises = by_rises s.aborted; new = λ fh. by_new fh s.aborted }
     where
       by_rises : (b : Bool) → s.handles.next_fh ≤ (cond b s.handles
           (all_opened s.handles (opens_in_reply (reply_by s.validity s.tree operation)))).next_fh
@@ -74,39 +74,39 @@ module _ (choice : ℕ → ℕ) (s : Server) where
           (files_in_reply (reply_by s.validity s.tree operation))) (tree_after s.tree operation) s.handles
           (reply_by s.validity s.tree operation) fh some
 
-  performing_draws : (body : RequestBody) → Draws s (performing choice s body)
-  performing_draws (init flags) = by s.minor
+  performing_allocates : (body : RequestBody) → Allocates s (performing choice s body)
+  performing_allocates (init flags) = by s.minor
     where
-      by : (m : Minor) → Draws s (record { server = s; wire = init_reply m flags })
+      by : (m : Minor) → Allocates s (record { server = s; wire = init_reply m flags })
       by M15 = record { rises = omega arith; new = λ fh some. absurd (omega (arith, some)) }
       by M31 = record { rises = omega arith; new = λ fh some. absurd (omega (arith, some)) }
-  performing_draws (asks operation) = by (is_open_for s operation)
+  performing_allocates (asks operation) = by (is_open_for s operation)
     where
-      by : (b : Bool) → Draws s (cond b (doing choice s (file_operation_of s.nodes operation)) (refusing s 9))
-      by true = doing_draws (file_operation_of s.nodes operation)
-      by false = refusing_draws s 9
-  performing_draws (release o) = by (is_open s.handles o.fh (file_of s.nodes o.nodeid))
+      by : (b : Bool) → Allocates s (cond b (doing choice s (file_operation_of s.nodes operation)) (refusing s 9))
+      by true = doing_allocates (file_operation_of s.nodes operation)
+      by false = refusing_allocates s 9
+  performing_allocates (release o) = by (is_open s.handles o.fh (file_of s.nodes o.nodeid))
     where
-      by : (b : Bool) → Draws s (cond b (record {
+      by : (b : Bool) → Allocates s (cond b (record {
         server = record s { handles = handle_back s.handles o.fh };
         wire = done;
       }) (refusing s 9))
       by true = record { rises = omega arith; new = λ fh some. absurd (omega (arith, some)) }
-      by false = refusing_draws s 9
-  performing_draws (forget f) = refusing_draws s 5
-  performing_draws (batch_forget fs) = refusing_draws s 5
-  performing_draws (interrupt original) = refusing_draws s 5
+      by false = refusing_allocates s 9
+  performing_allocates (forget f) = refusing_allocates s 5
+  performing_allocates (batch_forget fs) = refusing_allocates s 5
+  performing_allocates (interrupt original) = refusing_allocates s 5
 
-  pub performed_draws : (t : HeldRequest) → Draws s (performed choice s t)
-  performed_draws t = by_mark t.marked
+  pub performed_allocates : (t : HeldRequest) → Allocates s (performed choice s t)
+  performed_allocates t = by_mark t.marked
     where
-      by_held : (b : Bool) → Draws s (cond b (performing choice s t.body) (refusing s 5))
-      by_held true = performing_draws t.body
-      by_held false = refusing_draws s 5
+      by_held : (b : Bool) → Allocates s (cond b (performing choice s t.body) (refusing s 5))
+      by_held true = performing_allocates t.body
+      by_held false = refusing_allocates s 5
 
-      by_mark : (b : Bool) → Draws s (cond b (refusing s 4)
+      by_mark : (b : Bool) → Allocates s (cond b (refusing s 4)
           (cond (is_still_held s.nodes t.generations) (performing choice s t.body) (refusing s 5)))
-      by_mark true = refusing_draws s 4
+      by_mark true = refusing_allocates s 4
       by_mark false = by_held (is_still_held s.nodes t.generations)
 
 -- ---- counts alone change

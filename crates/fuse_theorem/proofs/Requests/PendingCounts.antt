@@ -134,7 +134,7 @@ marked_fewer u v (e ∷ es) old m found kept = by (nat_eq v e.0) found (λ f. ma
         let less = rest f in
         omega (arith, was, now, less)
 
--- Numbers that were drawn before are pending no more often, and the coming number never falls.
+-- Numbers that were allocated before are pending no more often, and the coming number never falls.
 pub record Fewer (q r : QueueState Purpose) : Type 0 where
   pub rises : q.next ≤ r.next
   pub fewer : (u : ℕ) → u < q.next → pending_under u r ≤ pending_under u q
@@ -178,8 +178,8 @@ moves_fewer q r (moves_on a b c first rest) =
     let more = y.rises in
     record {
       rises = omega (arith, low, more);
-      fewer = λ u drawn.
-          let once = x.fewer u drawn in
-          let twice = y.fewer u (omega (arith, drawn, low)) in
+      fewer = λ u allocated.
+          let once = x.fewer u allocated in
+          let twice = y.fewer u (omega (arith, allocated, low)) in
           omega (arith, once, twice);
     }

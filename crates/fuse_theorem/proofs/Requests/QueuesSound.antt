@@ -266,12 +266,12 @@ sent_off w number unique (Some wire) sound = sound
 -- forgets are read under the coming number
 forgets_sound : (q : QueueState Purpose) (n : ℕ) → IsSound q → (queues.after_read_forgets q n).next ≤ 2 ^ 62
     → IsSound (queues.after_read_forgets q n)
-forgets_sound q n r = drawn (queues.can_read_forgets q n)
+forgets_sound q n r = allocated (queues.can_read_forgets q n)
   where
-    drawn : (b : Bool) → (cond b (record q { forgets = drop n q.forgets; next = q.next + 2 }) q).next ≤ 2 ^ 62
+    allocated : (b : Bool) → (cond b (record q { forgets = drop n q.forgets; next = q.next + 2 }) q).next ≤ 2 ^ 62
         → IsSound (cond b (record q { forgets = drop n q.forgets; next = q.next + 2 }) q)
-    drawn true high = IsSound-draw q (drop n q.forgets) r (after_next q.next r.next high)
-    drawn false high = r
+    allocated true high = IsSound-draw q (drop n q.forgets) r (after_next q.next r.next high)
+    allocated false high = r
 
 by_event : (choice : ℕ → ℕ) (w : World) → IsSound w.kernel.queues → (e : Event) (o : Outcome) (after : World)
     → Happened choice w e o after → IsSound after.kernel.queues

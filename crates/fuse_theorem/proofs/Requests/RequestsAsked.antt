@@ -52,10 +52,10 @@ pub record Keeps (k l : Kernel) : Type 0 where
 pub interrupted_still : (k l : Kernel) → Keeps k l → (unique : ℕ) → IsInterrupted k unique → IsInterrupted l unique
 interrupted_still k l keeps unique old =
     let rises = keeps.rises in
-    let low = old.drawn in
+    let low = old.allocated in
     record {
       even = old.even;
-      drawn = omega (arith, rises, low);
+      allocated = omega (arith, rises, low);
       marked = λ r under. (both r under (request_under k.queues unique) refl).0;
       of_call =
           λ r under. (both r under (request_under k.queues unique) refl).1;
@@ -63,7 +63,7 @@ interrupted_still k l keeps unique old =
   where
     both : (r : QueuedRequest Purpose) → request_under l.queues unique ≡ Some r → (o : Option (QueuedRequest Purpose))
         → request_under k.queues unique ≡ o → (has_interrupt r.mark ≡ true) × (serves_call r.kept ≡ true)
-    both r under None was = absurd (cc (under, keeps.absent unique old.drawn was))
+    both r under None was = absurd (cc (under, keeps.absent unique old.allocated was))
     both r under (Some x) was = elim (keeps.still unique x was (interrupted_read x.mark (old.marked x was))) [
       | inl there ↦
           let same : there.now ≡ r = let at = there.under in cc in (
@@ -130,7 +130,7 @@ request_even q sound unique r under = by (nat_lt 0 (key_count unique q.requests)
     by true e = number_even q sound unique (grind (arith, nat_tests, e))
     by false e = absurd (cc (under, lookup-no_key unique q.requests (grind (arith, nat_tests, e))))
 
--- and was drawn
+-- and was allocated
 pub request_below : (q : QueueState Purpose) → IsSound q → (unique : ℕ) (r : QueuedRequest Purpose)
     → request_under q unique ≡ Some r → unique < q.next
 request_below q sound unique r under = by (nat_lt 0 (key_count unique q.requests)) refl

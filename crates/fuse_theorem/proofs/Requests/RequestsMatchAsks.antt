@@ -230,7 +230,7 @@ module _ (w : World) (old : RequestsAsked w) (sound : IsSound w.kernel.queues) w
           let serves = All-found ReachesCall original w.kernel.queues.requests x old.signals under (signals x.mark e) in
           record {
             even = request_even w.kernel.queues sound original x under;
-            drawn = request_below w.kernel.queues sound original x under;
+            allocated = request_below w.kernel.queues sound original x under;
             marked = λ r at. let same : x ≡ r = cc in subst (λ (y : QueuedRequest Purpose). has_interrupt y.mark
                 ≡ true) same e;
             of_call = λ r at. let same : x ≡ r = cc in subst
@@ -374,7 +374,7 @@ module _ (choice : ℕ → ℕ) (w : World) (sound : WorldSound w) (before : Req
       let w1 = record w { kernel = k1 } in
       let new = first_interrupted w (before lives) sound.queues original rest there in
       pushed w1 (quiet lives k1 refl refl (omega arith)) (interrupt_number original) (interrupt original)
-      (record { even = new.even; drawn = new.drawn; marked = new.marked; of_call = new.of_call })
+      (record { even = new.even; allocated = new.allocated; marked = new.marked; of_call = new.of_call })
   by_event e o after (by_read_forgets n lives free can within few) live =
       let w1 = record w { kernel = after.kernel } in
       pushed w1 (quiet lives after.kernel (forgets_requests n (can_read_forgets w.kernel.queues n)) refl

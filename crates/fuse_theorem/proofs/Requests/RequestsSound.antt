@@ -40,7 +40,7 @@ use Rattle.fuse_theorem.proofs.Requests.StandsOnce.{is_mount, one_held, bounded_
 
 -- ---- the numbers on the request link
 
--- what the kernel asks bears an even number
+-- what the kernel asks has an even number
 asked_even : (k : Kernel) (kept : Purpose) (body : RequestBody) (unique : ℕ) → body_of k kept ≡ Some body
     → unique % 2 ≡ 0 → BearsNumber unique body
 asked_even k purpose.Init body unique says even = let is : init init_flags ≡ body =
@@ -132,11 +132,11 @@ module _ (choice : ℕ → ℕ) (w : World) (sound : RequestsSound w) (numbered 
 
   -- ---- what has no reply
 
-  -- whether the number is not drawn yet
+  -- whether the number is not allocated yet
   abbrev is_coming : ℕ → Bool
   is_coming u = is_live w.kernel.phase && nat_le w.kernel.queues.next u
 
-  -- numbers that were drawn stand no more often
+  -- numbers that were allocated occur no more often
   abbrev bound : ℕ → ℕ
   bound u = cond (is_coming u) 1 (unperformed w u)
 
@@ -357,7 +357,7 @@ module _ (choice : ℕ → ℕ) (w : World) (sound : RequestsSound w) (numbered 
       unanswered_same after u refl refl old
   stays_unanswered e o after (by_abort live) u even stands old = nothing_sent after u refl refl
 
-  -- A mount leaves no reply, and any other event draws on what stood before.
+  -- A mount leaves no reply, and any other event uses what was there before.
   unanswered_after : (e : Event) (o : Outcome) (after : World) → step choice w e ≡ Ok (o, after)
       → Happened choice w e o after → (u : ℕ) → u % 2 ≡ 0 → 1 ≤ unperformed after u → IsUnanswered after u
   unanswered_after e o after stepped did u even stands = by (is_mount e) refl

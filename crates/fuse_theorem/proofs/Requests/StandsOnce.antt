@@ -60,7 +60,7 @@ at_most_one : (b : Bool) → cond b 1 0 ≤ 1
 at_most_one true = omega arith
 at_most_one false = omega arith
 
--- ---- numbers that are not drawn yet
+-- ---- numbers that are not allocated yet
 
 -- Nothing is pending under the coming number.
 next_unpending : (q : QueueState Purpose) → IsSound q → pending_under q.next q ≡ 0
@@ -91,7 +91,7 @@ abbrev pub is_mount : Event → Bool
 is_mount (event.mount found_ms missing_ms minor) = true
 is_mount e = false
 
--- A bound on how often a number that is not performed stands, which leaves room for numbers that are not drawn yet.
+-- A bound on how often a number that is not performed occurs, which leaves room for numbers that are not allocated yet.
 abbrev pub AtMost : (ℕ → ℕ) → World → Type 0
 AtMost b w = (u : ℕ) → u % 2 ≡ 0 → unperformed w u ≤ b u
 
@@ -207,7 +207,7 @@ module _ (b : ℕ → ℕ) (w : World) (room : HasRoom b w) (once : AtMost b w) 
       let other = ap one_if (other_is u (interrupt_number original) (λ e. absurd (omega (arith, e, even)))) in
       omega (arith, old, pushed, other)
 
-  -- Forgets are read: they bear the coming number.
+  -- Forgets are read: they have the coming number.
   forgets_once : is_live w.kernel.phase ≡ true → (n : ℕ) (fs : List Forget)
       → queues.can_read_forgets w.kernel.queues n ≡ true → AtMost b (world_after_read_forgets w n fs)
   forgets_once live n fs can u even = by (queues.can_read_forgets w.kernel.queues n) can

@@ -6,7 +6,7 @@ use Rattle.fuse_spec.specs.declared.Opened.{Opened}
 use Rattle.fuse_spec.specs.Server.Nodes.{NodeTable, HandleTable, file_of, file_in}
 use Rattle.fuse_spec.specs.Server.Performs.{file_operation_of}
 use Rattle.fuse_spec.specs.Claim.Denotes.{Denotes}
-use Rattle.fuse_spec.specs.Claim.Alike.{Meant, MeantOpen}
+use Rattle.fuse_spec.specs.Claim.Alike.{StillDenotes, OpenStillDenotes}
 use Rattle.fuse_theorem.proofs.Calls.Cases.{SameOperation, both_lookup, both_getattr, both_mkdir, both_create, both_unlink, both_rmdir, both_rename, both_link, both_opening, both_readdir, both_readdirplus, both_read, both_write, same_operation}
 
 module _ {F O G P : Type 0} (R : F → G → Type 0) (S : O → P → Type 0) (f : F → G) (g : O → P)
@@ -34,9 +34,9 @@ denoted t id generation file h = ap file_in h.there ∙ h.same_file
 
 -- a held request's operation, on the files that its nodes were taken for
 pub held_operation : (t : NodeTable) (h : HandleTable) (generations : List (ℕ × ℕ)) (a : Operation ℕ Opened)
-    (b : Operation ℕ ℕ) → OperationAlike (Meant t generations) (MeantOpen t h generations) a b
+    (b : Operation ℕ ℕ) → OperationAlike (StillDenotes t generations) (OpenStillDenotes t h generations) a b
     → file_operation_of t a ≡ b
 held_operation t h generations a b same =
-    deed_is (Meant t generations) (MeantOpen t h generations) (file_of t) (λ (o : Opened). file_of t o.nodeid)
+    deed_is (StillDenotes t generations) (OpenStillDenotes t h generations) (file_of t) (λ (o : Opened). file_of t o.nodeid)
     (λ id file m. denoted t id m.generation file m.denotes)
     (λ o file m. denoted t o.nodeid m.node_meant.generation file m.node_meant.denotes) a b same

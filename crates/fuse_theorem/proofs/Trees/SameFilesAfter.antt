@@ -11,7 +11,7 @@ use Rattle.fuse_spec.specs.Files.FileOperations.{FileOperation, refusal, reply_b
 use Rattle.fuse_spec.proofs.Tables.{get_put_here, get_put_there}
 use Rattle.fuse_theorem.proofs.Calls.Finding.{same_is, other_is}
 use Rattle.fuse_theorem.proofs.Trees.Names.{is_named, named_before, named_push, each_named, found_named}
-use Rattle.fuse_theorem.proofs.Refining.Pairs.{listed_told, fitting_told}
+use Rattle.fuse_theorem.proofs.Refining.Pairs.{listed_all, fitting_listed}
 use Rattle.fuse_theorem.proofs.Trees.Trees.{with_files, Same, AllSame, DeedSame, refusal_same}
 
 or_left : (a b : Bool) → a ≡ true → (a || b) ≡ true
@@ -297,8 +297,8 @@ module _ (tree : Tree) (files : Map Content) (held : ℕ → Bool)
   given_unrefused valid (opening x) h = All-nil (λ f. (stands f || false) ≡ true)
   given_unrefused valid (readdir d after size) h = All-nil (λ f. (stands f || false) ≡ true)
   given_unrefused valid (readdirplus d after size) h =
-      fitting_told (λ f. (stands f || false) ≡ true) (min size 4096) (pairs_after valid.found_ms tree d after)
-      (listed_told (λ f. (stands f || false) ≡ true) valid.found_ms tree _
+      fitting_listed (λ f. (stands f || false) ≡ true) (min size 4096) (pairs_after valid.found_ms tree d after)
+      (listed_all (λ f. (stands f || false) ≡ true) valid.found_ms tree _
       (All-filter (λ n. nat_lt after n.cookie) TellsStanding _
       (All-filter (λ n. nat_eq n.directory d) TellsStanding tree.names each_stands)))
   given_unrefused valid (read x offset size) h = All-nil (λ f. (stands f || false) ≡ true)

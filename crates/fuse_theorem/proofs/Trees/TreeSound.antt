@@ -10,7 +10,7 @@ use Rattle.fuse_spec.specs.Files.Trees.{Tree, Named, Content, a_directory, a_fil
 use Rattle.fuse_spec.specs.Files.FileOperations.{FileOperation, Check, making, first_refusal, refusal, lookup_reply, reply_by, reply_or, reply_unrefused, tree_after, tree_or, tree_unrefused, renamed, is_same}
 use Rattle.fuse_spec.proofs.Tables.{get_put_there}
 use Rattle.fuse_theorem.specs.ServerTables.{TreeSound}
-use Rattle.fuse_theorem.proofs.Refining.Pairs.{listed_told, fitting_told}
+use Rattle.fuse_theorem.proofs.Refining.Pairs.{listed_all, fitting_listed}
 
 -- A file that is not the root.
 abbrev NotRoot : ℕ → Type 0
@@ -83,8 +83,8 @@ module _ (tree : Tree) (sound : TreeSound tree) where
   given_unrefused valid (link file d name) free = All-cons NotRoot file [] (linked_is file d name free)
       (All-nil NotRoot)
   given_unrefused valid (readdirplus d after size) free =
-      fitting_told NotRoot (min size 4096) (pairs_after valid.found_ms tree d after)
-      (listed_told NotRoot valid.found_ms tree _ (All-filter (λ n. nat_lt after n.cookie) NamesNone _
+      fitting_listed NotRoot (min size 4096) (pairs_after valid.found_ms tree d after)
+      (listed_all NotRoot valid.found_ms tree _ (All-filter (λ n. nat_lt after n.cookie) NamesNone _
       (All-filter (λ n. nat_eq n.directory d) NamesNone tree.names sound.names)))
   given_unrefused valid operation free = All-nil NotRoot
 

@@ -168,9 +168,9 @@ module _ (tree : Tree) (files : Map Content) where
     unrefused_same valid (write file offset bytes) h = refl
 
     -- The same is replied.
-    pub told_same : (valid : Validity) (operation : FileOperation) → DeedSame operation
+    pub replied_same : (valid : Validity) (operation : FileOperation) → DeedSame operation
         → reply_by valid (with_files tree files) operation ≡ reply_by valid tree operation
-    told_same valid operation h = λ i. reply_or (unrefused_same valid operation h i) (refusal_same operation h i)
+    replied_same valid operation h = λ i. reply_or (unrefused_same valid operation h i) (refusal_same operation h i)
 
     -- The names, the next inode and the next cookie of a tree.
     abbrev Numbered : Tree → List Named × ℕ × ℕ

@@ -10,26 +10,26 @@ use Rattle.fuse_spec.specs.Kernel.Messages.{RequestBody, Request}
 use Rattle.fuse_spec.specs.Kernel.Queues.{QueueState, pending}
 use Rattle.fuse_spec.specs.Kernel.Kernel.{is_live, body_of}
 use Rattle.fuse_spec.specs.Server.Server.{Server, HeldRequest}
-use Rattle.fuse_spec.specs.Claim.Counts.{opens_of_body, ReleaseMeant, HeldLive, IsServable, Held, Protocol, AtRest, Settled}
+use Rattle.fuse_spec.specs.Claim.Counts.{opens_of_body, ReleaseDenotesSome, HeldLive, IsServable, Held, Protocol, AtRest, Settled}
 use Rattle.fuse_spec.specs.World.Worlds.{World}
 use Rattle.fuse_spec.specs.Reference.Plain.{Plain}
 use Rattle.fuse_theorem.specs.AllSound.{AllSound}
 use Rattle.fuse_theorem.specs.NodesHeld.{NodesServable, NodesHeld}
 use Rattle.fuse_theorem.specs.OpenNumbers.{IsOfItsNode, OpensBalanced}
 use Rattle.fuse_theorem.specs.ReleasesKnown.{ReleaseKnown}
-use Rattle.fuse_theorem.specs.StillOpen.{HeldNumbersOpen}
+use Rattle.fuse_theorem.specs.StillOpen.{HeldHandlesOpen}
 use Rattle.fuse_theorem.proofs.Lookups.AtRest.{same_node}
 use Rattle.fuse_theorem.proofs.Replies.NoFault.{no_fault}
 use Rattle.fuse_theorem.proofs.Nodes.NodesHeld.{known_meant, nodes_held}
 use Rattle.fuse_theorem.proofs.Answers.NothingWaits.{none_called, none_processing}
 use Rattle.fuse_theorem.proofs.OpenFiles.OnceStays.{once_at_rest, once_in_kernel}
-use Rattle.fuse_theorem.proofs.OpenFiles.OpenNeeds.{held_numbers}
+use Rattle.fuse_theorem.proofs.OpenFiles.OpenNeeds.{held_handles}
 use Rattle.fuse_theorem.proofs.OpenFiles.OpensAtRest.{none_closing, opens_counted}
 use Rattle.fuse_theorem.proofs.OpenFiles.OpensServable.{opens_fit, closing_fit, pending_fit, pending_servable, sent_servable, open_meant}
 use Rattle.fuse_theorem.proofs.Replies.RepliesFitStay.{no_wrong_body}
 use Rattle.fuse_theorem.proofs.Lists.Values.{All-found_values}
 
--- Nodes and open numbers together.
+-- Nodes and file handles together.
 servable : (s : Server) (body : RequestBody) → NodesServable s body → All (IsOfItsNode s) (opens_of_body body)
     → IsServable s body
 servable s body nodes opens = record { nodes = nodes; opens = opens }
@@ -49,7 +49,7 @@ module _ (w : World) (p : Plain) (all : AllSound w p) where
   -- ---- Held
 
   release_meant : is_live w.kernel.phase ≡ true → (kept : Purpose) → ReleaseKnown w.kernel.nodes kept
-      → ReleaseMeant w kept
+      → ReleaseDenotesSome w kept
   release_meant live purpose.Init known = tt
   release_meant live (purpose.Release o) known = known_meant w p all.both all.releases o.nodeid known
   release_meant live (purpose.Call call) known = tt
@@ -96,14 +96,14 @@ module _ (w : World) (p : Plain) (all : AllSound w p) where
       let idle = links.idle dead in
       subst (All (λ (r : Request). IsServable w.server r.body)) (sym idle.requests) (All-nil _)
 
-  numbers_open : (b : Bool) → is_live w.kernel.phase ≡ b → HeldNumbersOpen w
-  numbers_open true live = held_numbers w p all.both all.opens live
-  numbers_open false dead = (all.left dead).numbers
+  handles_open : (b : Bool) → is_live w.kernel.phase ≡ b → HeldHandlesOpen w
+  handles_open true live = held_handles w p all.both all.opens live
+  handles_open false dead = (all.left dead).numbers
 
   taken_held : All (λ (t : HeldRequest). IsServable w.server t.body) (values w.server.held)
   taken_held =
       let taken = all.taken in
-      let numbers = numbers_open (is_live w.kernel.phase) refl in
+      let numbers = handles_open (is_live w.kernel.phase) refl in
       let opens = All-found_values (λ (t : HeldRequest). All (IsOfItsNode w.server)
       (opens_of_body t.body)) w.server.held taken.in_order
       (λ unique t at. λ i o lt. numbers.files unique t at (get_or (opens_of_body t.body) i o)

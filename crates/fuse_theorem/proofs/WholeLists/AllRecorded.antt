@@ -27,7 +27,7 @@ answers_not_memory (a ∷ answers) = All-cons NotMemory _ _ (λ is. absurd (cc))
 refused_not_memory : (r : Refusal) → r ≢ NoMemory → NotMemory (refused r)
 refused_not_memory r apart is = absurd (apart (cc))
 
--- Each event adds its outcome and the answers, or its refusal, which is not want of memory.
+-- Each event adds its outcome and the answers, or its refusal, which is not out of memory.
 pub has_records : (w : World) (events : List Event)
     → (records : List Record) × (after : World) × Recorded w events records after
     × All (λ (x : Record). x ≢ refused NoMemory) records

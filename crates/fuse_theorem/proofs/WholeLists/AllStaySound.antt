@@ -14,13 +14,13 @@ use Rattle.fuse_theorem.proofs.Lookups.ForgetsCounted.{faultless_stay, first_fau
 use Rattle.fuse_theorem.proofs.Lookups.ForgetsNeeds.{one_node_a_file, settle_holds, take_met}
 use Rattle.fuse_theorem.proofs.Requests.OnTheWay.{first_on_their_way, read_stay_on_their_way}
 use Rattle.fuse_theorem.proofs.OpenFiles.OnceStays.{first_once, once_stays}
-use Rattle.fuse_theorem.proofs.OpenFiles.OpenNeeds.{held_numbers, release_number, released_held_still, settled_held}
+use Rattle.fuse_theorem.proofs.OpenFiles.OpenNeeds.{held_handles, release_handle, released_held_still, settled_held}
 use Rattle.fuse_theorem.proofs.OpenFiles.OpensStay.{first_opens, opens_stay}
 use Rattle.fuse_theorem.proofs.Nodes.PerformNeeds.{any_met}
 use Rattle.fuse_theorem.proofs.OpenFiles.ReleasesStay.{first_releases, releases_stay_known}
 use Rattle.fuse_theorem.proofs.Replies.RepliesFitStay.{first_fit, replies_stay_fit}
 use Rattle.fuse_theorem.proofs.Nodes.StillHeld.{first_still_held, held_stay_held}
-use Rattle.fuse_theorem.proofs.OpenFiles.StillOpen.{first_numbers_open, held_numbers_stay_open}
+use Rattle.fuse_theorem.proofs.OpenFiles.StillOpen.{first_handles_open, held_handles_stay_open}
 use Rattle.fuse_theorem.proofs.Nodes.TakenStay.{first_taken, taken_stay_servable}
 
 pub first_all : AllSound first_world first_plain
@@ -32,7 +32,7 @@ first_all = record {
   fits = first_fit;
   still = first_still_held;
   opens = first_opens;
-  left = first_numbers_open;
+  left = first_handles_open;
   waiting = first_on_their_way;
   once = first_once;
 }
@@ -45,7 +45,7 @@ module _ (w : World) (p : Plain) (all : AllSound w p) where
   all_met choice (event.perform unique) may o after stepped =
       any_met w p all.both all.releases.held all.still all.left unique
       (λ live t x at is. (
-        release_number w p all.both all.opens live unique t at x is,
+        release_handle w p all.both all.opens live unique t at x is,
         released_held_still w p all.both all.opens live unique t at x is,
       )) choice may
   all_met choice (event.settle k) may o after stepped = (
@@ -120,8 +120,8 @@ module _ (w : World) (p : Plain) (all : AllSound w p) where
           fits = replies_stay_fit w p both all.faultless all.fits e o after h;
           still = held_stay_held w both.world both.asked both.links both.held all.releases.held all.still e o after h;
           opens = opens_stay w p both all.releases all.opens e o after h;
-          left = held_numbers_stay_open w both.world both.asked both.links
-              (λ live. held_numbers w p both all.opens live) all.left e o after h;
+          left = held_handles_stay_open w both.world both.asked both.links
+              (λ live. held_handles w p both all.opens live) all.left e o after h;
           waiting = read_stay_on_their_way w both.world both.links all.waiting e o after h;
           once = once_stays w p both all.releases all.opens all.once e o after h;
         },

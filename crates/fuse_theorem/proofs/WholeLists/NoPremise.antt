@@ -3,7 +3,7 @@ use Rattle.std.proofs.Common.{◌≡◌, ◌≤◌, ℕ, ◌+◌, Bool, true, fa
 use Rattle.std.proofs.lemmas.Bool.{cases_eq}
 use Rattle.std.proofs.lemmas.List.Elements.{All-cons}
 use Rattle.fuse_spec.specs.Claim.Alike.{Alike, RequestBodyAsked}
-use Rattle.fuse_spec.specs.Claim.Denotes.{MeansIn, MeansOpenIn}
+use Rattle.fuse_spec.specs.Claim.Denotes.{NodeDenotesIn, OpenDenotesIn}
 use Rattle.fuse_spec.specs.Values.Maps.{get}
 use Rattle.fuse_spec.specs.Kernel.Messages.{Request, forget}
 use Rattle.fuse_spec.specs.Server.Nodes.{HeldNode, root_row}
@@ -32,7 +32,7 @@ only {X} key x k y there = elim (cases_eq k key) [
     at_key : get ((key, x) ∷ []) key ≡ Some y → x ≡ y
     at_key here = let there_is : get ((key, x) ∷ []) key ≡ Some x = get_put_here [] key x in cc (there_is, here)
 
-root_means : MeansIn with_a_stray_forget 1 0
+root_means : NodeDenotesIn with_a_stray_forget 1 0
 root_means = record {
   generation = 0;
   known = refl;
@@ -56,7 +56,7 @@ stray_alike = record {
   requests = record {
     pending = λ k d below. absurd (omega arith);
     sent = All-cons (λ (r : Request). RequestBodyAsked first_plain.asks r.unique false false
-        (MeansIn with_a_stray_forget) (MeansOpenIn with_a_stray_forget) r.body)
+        (NodeDenotesIn with_a_stray_forget) (OpenDenotesIn with_a_stray_forget) r.body)
         (record { unique = 2; body = forget (2, 1) }) [] refl (λ k d below. absurd (omega arith));
     held =
         λ unique t at. absurd (cc);

@@ -1,4 +1,4 @@
-//! Lists of events that are drawn, each run on a world over maps and slabs and on one over plain lists.
+//! Lists of random events, each run on a world over maps and slabs and on one over plain lists.
 
 use super::growths::write_nodes;
 use super::machine::{Machine, MachineTest, try_on_list_world, try_on_world};
@@ -7,12 +7,12 @@ use fw_world::{Call, Event, Minor, Outcome, Pick, Record};
 use std::alloc::{AllocError, Allocator, Global};
 use std::test::Fail;
 
-/// How many lists are drawn, and how many events each has.
+/// How many lists there are, and how many events each has.
 const LISTS: u64 = 2_000;
 
 const EVENTS: u64 = 200;
 
-/// At least so many of all their events are to be accepted, so that the lists lead somewhere.
+/// At least this many of all their events are to be accepted, so that the lists lead somewhere.
 const ACCEPTED: u64 = 150_000;
 
 /// A mount, and INIT with its reply.
@@ -35,7 +35,7 @@ static PATHS: [&[u8]; 10] = [
 
 static NAMES: [&[u8]; 3] = [b"a", b"b", b"cc"];
 
-/// Numbers that look drawn, the same ones in each run of the tests (splitmix64).
+/// Numbers that look random, the same ones in each run of the tests (splitmix64).
 #[derive(Drop)]
 struct Drawn {
     state: u64,
@@ -66,7 +66,7 @@ impl Drawn {
     }
 }
 
-/// What a list has come to, so that events are drawn which name what may be there.
+/// What a list has come to, so that random events name what may be there.
 #[derive(Drop)]
 struct Seen {
     /// The number of the last request that was read.
@@ -146,7 +146,7 @@ fn call(drawn: &mut Drawn, seen: &Seen) -> Call<'static> {
     }
 }
 
-/// An event that is seldom drawn.
+/// An event that is rare.
 fn seldom(drawn: &mut Drawn, seen: &Seen) -> Event<'static> {
     match drawn.below(14) {
         0 => Event::Mount {
@@ -296,8 +296,8 @@ fn is_printed_over_lists(
     try_on_list_world(&mut list, alloc).is_ok() && list.is_printed
 }
 
-/// Draws a list, and says whether it prints the same on a new world of each kind. It is drawn for each from the same
-/// state, and so the same events as long as both record the same.
+/// Makes a random list, and says whether it prints the same on a new world of each kind. It is made for each from the
+/// same state, and so of the same events as long as both record the same.
 fn is_alike(alloc: Global, drawn: &mut Drawn, accepted: &mut u64) -> bool {
     let mut again = Drawn { state: drawn.state };
     let mut accepted_again = 0;

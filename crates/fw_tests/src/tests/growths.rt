@@ -79,7 +79,7 @@ fn takes_no_memory(event: &Event<'_>) -> bool {
     )
 }
 
-/// Steps. Where a growth was refused, the step must be refused, and for want of memory it is tried again; where none
+/// Steps. Where a growth was refused, the step must be refused, and where memory is out it is tried again; where none
 /// was, memory does not run out. Else it is `NoMemory`, which no row has.
 fn step<A: Allocator + Copy, W: Machine<A>>(
     heap: &FailAt<Global>,

@@ -129,7 +129,7 @@ static BAD_TEXT: [&[u8]; 20] = [
     b"call write 1 0 -0",
 ];
 
-/// Whether a script's run gives this exit status, prints this, and tells this fault.
+/// Whether a script's run gives this exit status, prints this, and reports this fault.
 fn run_gives(alloc: Global, script: &[u8], status: u8, output: &[u8], fault: &[u8]) -> bool {
     let mut input = script;
     let mut out = Vec::new(alloc);
@@ -138,7 +138,7 @@ fn run_gives(alloc: Global, script: &[u8], status: u8, output: &[u8], fault: &[u
     given == status && out.as_slice() == output && faults.as_slice() == fault
 }
 
-/// Checks that each of the lines alone is told to have this fault, and is not run.
+/// Checks that each of the lines alone is reported to have this fault, and is not run.
 fn check_lines(rt: &impl Abort, alloc: Global, lines: &[&[u8]], fault: &[u8]) {
     for line in lines {
         assert!(rt; run_gives(alloc, line, 1, b"", fault), "{:?}", line);

@@ -12,7 +12,7 @@ use std::os::unix::net::UnixStream;
 use std::process::Abort;
 use std::test::Fail;
 
-/// Runs a row over a link into an output, and gives the exit status. Nothing is ever told of.
+/// Runs a row over a link into an output, and gives the exit status. Nothing is ever reported.
 fn run_row<L: Link + Drop>(alloc: Global, link: L, row: &Row, out: &mut Vec<u8>) -> u8 {
     out.clear();
     let mut input = row.script.as_bytes();

@@ -38,7 +38,7 @@ impl Read for ByteReader<'_> {
     }
 }
 
-/// Whether the server gets these bytes, in so many calls that have room for this much.
+/// Whether the server gets these bytes, in this many calls that have room for this much.
 fn is_got<L: Link>(link: &mut L, calls: usize, room: &mut [u8], wanted: &[u8]) -> bool {
     let mut left = wanted;
     for _ in 0..calls {
@@ -73,7 +73,7 @@ fn a_stream_in_single_bytes(rt: HostRuntime) -> Result<(), Fail> {
     Ok(())
 }
 
-/// A request stays on its way behind each that is put, so that no way is ever empty, for so many rounds.
+/// A request stays on its way behind each that is put, so that no way is ever empty, for this many rounds.
 fn check_rounds<R: Abort, L: Link>(
     rt: &R,
     link: &mut L,

@@ -45,7 +45,7 @@ enum Told {
     Done,
     Errno(u32),
     Attributes(Attributes),
-    /// So many names.
+    /// This many names.
     Names(usize),
 }
 

@@ -40,7 +40,7 @@ impl Write for NeverFlushed {
     }
 }
 
-/// Whether a script that cannot be read to its end runs nothing, and is told of.
+/// Whether a script that cannot be read to its end runs nothing, and is reported.
 fn cannot_be_read(alloc: Global) -> bool {
     let mut input = Breaks(b"mount 1000 0\nread p 0\n");
     let mut out = Vec::new(alloc);
@@ -132,7 +132,7 @@ fn each_growth_refused_in_a_script(rt: HostRuntime) -> Result<(), Fail> {
     Ok(())
 }
 
-/// The status with which a script ends whose third line is bad: 1 where that line is reported, 3 where want of memory
+/// The status with which a script ends whose third line is bad: 1 where that line is reported, 3 where out of memory
 /// is, and nothing else is written.
 fn status_of_a_bad_script<A: Allocator + Copy>(alloc: A, outer: Global) -> Option<u8> {
     let mut input = b"mount 1000 0\nread p 0\nreed p 0\n".as_slice();
@@ -152,9 +152,9 @@ fn status_of_a_bad_script<A: Allocator + Copy>(alloc: A, outer: Global) -> Optio
 }
 
 /// A bad line is reported though the list of the lines before it cannot grow; only where the script's text cannot be
-/// kept is memory wanting.
+/// kept is memory out.
 #[test]
-fn bad_line_comes_before_want_of_memory(rt: HostRuntime) -> Result<(), Fail> {
+fn bad_line_comes_before_out_of_memory(rt: HostRuntime) -> Result<(), Fail> {
     let heap = FailAt::new(rt.alloc());
     let mut last_refused = None;
     let mut runs = 0;
@@ -172,7 +172,7 @@ fn bad_line_comes_before_want_of_memory(rt: HostRuntime) -> Result<(), Fail> {
     Ok(())
 }
 
-/// Whether a frame whose first growth is refused is told of, and read when it is given again.
+/// Whether a frame whose first growth is refused is reported, and read when it is given again.
 fn frame_is_refused<A: Allocator + Copy>(alloc: A, heap: &FailAt<Global>, outer: Global) -> bool {
     let mut out = Vec::new(outer);
     let mut faults = Vec::new(outer);

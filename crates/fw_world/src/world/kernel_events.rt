@@ -1,4 +1,5 @@
-//! The events of the kernel's side: calls, reads, the write of a reply, signals, time, and names and nodes given up.
+//! The events of the kernel's side: calls, reads, the write of a reply, signals, time, and names dropped and nodes
+//! evicted.
 
 ghost use Rattle.std.specs.Prelude.{◌≡◌, ◌<◌, ◌++◌, ◌∷◌, [], OnErr, IfOk, IfErr};
 ghost use Rattle.std.specs.VecDeque.{deque_len, deque_capacity};

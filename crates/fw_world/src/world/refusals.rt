@@ -5,7 +5,7 @@ ghost use Rattle.fuse_spec.specs.Kernel.Refusals.{or_no_memory};
 
 use fuse_spec::Refusal;
 
-/// The refusal that kernel or server would give, or else want of memory, which is judged last.
+/// The refusal that kernel or server would give, or else out of memory, which is judged last.
 pub(super) fn refusal_or_no_memory(judged: Option<Refusal>) -> Refusal
     ensures { result ≡ or_no_memory judged }
 {

@@ -15,7 +15,7 @@ returns g c =
         frame = filled;
         same = subst (λ (l : List ℕ). (request : Request) → SaysRequest l request → SaysRequest filled request)
             c.copy_from_slice.ensures.after c.fill.ensures.same;
-        filled = subst (λ (l : List ℕ). (m : RequestMessage) → Spells l m → FillsFor m.content c.args.choices l filled)
+        filled = subst (λ (l : List ℕ). (m : RequestMessage) → Spells l m → FillsFor m.content c.args.free_fields l filled)
             c.copy_from_slice.ensures.after c.fill.ensures.filled;
         sends = sends;
       },

@@ -27,23 +27,23 @@ returns-in-Some-Init-clause-same c =
 pub returns-in-Some-Open-clause-filled : goal.returns-in-Some-Open-clause-filled
 returns-in-Some-Open-clause-filled c =
     let kind = rw c.in-Some-Open.field-0-is at c.in-Some-Open.ensures.some in
-    fills_open c.spelled_is_decoded.ensures c.args.frame.now c.put_u32.new.frame c.args.choices c.put_u32.ensures.only
+    fills_open c.spelled_is_decoded.ensures c.args.frame.now c.put_u32.new.frame c.args.free_fields c.put_u32.ensures.only
     c.put_u32.ensures.value kind
 
 pub returns-in-Some-Create-clause-filled : goal.returns-in-Some-Create-clause-filled
 returns-in-Some-Create-clause-filled c =
     let kind = rw c.in-Some-Create.field-0-is at c.in-Some-Create.ensures.some in
-    fills_create c.spelled_is_decoded.ensures c.args.frame.now c.put_u32-in-Some-Create.new.frame c.args.choices
+    fills_create c.spelled_is_decoded.ensures c.args.frame.now c.put_u32-in-Some-Create.new.frame c.args.free_fields
     c.put_u32-in-Some-Create.ensures.only c.put_u32-in-Some-Create.ensures.value kind
 
 pub returns-in-Some-Init-clause-filled : goal.returns-in-Some-Init-clause-filled
 returns-in-Some-Init-clause-filled c =
     let kind = rw c.in-Some-Init.field-0-is at c.in-Some-Init.ensures.some in
-    fills_init c.spelled_is_decoded.ensures c.args.frame.now c.put_u32-in-Some-Init.new.frame c.args.choices
+    fills_init c.spelled_is_decoded.ensures c.args.frame.now c.put_u32-in-Some-Init.new.frame c.args.free_fields
     c.put_u32-in-Some-Init.ensures.only
     (c.put_u32-in-Some-Init.ensures.value ∙ c.offering-flags.ensures.value
-    ∙ ap (λ n. with_offered n c.args.choices.offer) c.init_flags.ensures) kind
+    ∙ ap (λ n. with_offered n c.args.free_fields.offer) c.init_flags.ensures) kind
 
 pub returns-in-None-clause-filled : goal.returns-in-None-clause-filled
 returns-in-None-clause-filled c m spells =
-    fills_nothing c.args.frame.now c.args.choices m.content (c.in-None.ensures.none m spells)
+    fills_nothing c.args.frame.now c.args.free_fields m.content (c.in-None.ensures.none m spells)

@@ -7,8 +7,8 @@ use Rattle.fuse_spec.specs.Calls.Vfs.{using}
 use Rattle.fk_syscalls.proofs.Advances.{if_err}
 use Rattle.fk_syscalls.proofs.beginning.begin_write.Goals as goal
 
-pub returns-in_err-state-clause-wanting : goal.returns-in_err-state-clause-wanting
-returns-in_err-state-clause-wanting g c =
+pub returns-in_err-state-clause-out_of_memory : goal.returns-in_err-state-clause-out_of_memory
+returns-in_err-state-clause-out_of_memory g c =
     let at : get c.args.opens.now.entries c.args.open_call ≡ Some c.in-Some.opened.now = search rules in
     let low : (nat_lt 65536 c.args.offset || nat_lt 4096 (length c.args.bytes.now)) ≡ false =
     grind (arith, nat_tests) in

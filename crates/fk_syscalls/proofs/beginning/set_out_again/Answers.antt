@@ -13,8 +13,8 @@ returns-in_ok-state-in-Some-clause-begun g c = λ vfs call has.
     (words_from words c.args.at) (operation_of (λ s. s.now) c.args.operation) stop.node
     (words_from words stop.at) c.in-Some.ensures.stop)
 
-pub returns-in_err-state-in-Some-clause-wanting : goal.returns-in_err-state-in-Some-clause-wanting
-returns-in_err-state-in-Some-clause-wanting g c =
+pub returns-in_err-state-in-Some-clause-out_of_memory : goal.returns-in_err-state-in-Some-clause-out_of_memory
+returns-in_err-state-in-Some-clause-out_of_memory g c =
     let words = c.args.words.now in
     let stop = c.in-Some.stop in
     let operation = operation_of (λ s. s.now) c.args.operation in

@@ -23,8 +23,8 @@ returns-then-is_some-clause-begun g c = λ vfs call has.
     rw c.in_ok-state.ensures (all_root_waits vfs names c.args.clock has call from plan stop.node
     (words_from words stop.at) ends c.in-Some.ensures.stop)
 
-pub returns-in_err-state-clause-wanting : goal.returns-in_err-state-clause-wanting
-returns-in_err-state-clause-wanting g c =
+pub returns-in_err-state-clause-out_of_memory : goal.returns-in_err-state-clause-out_of_memory
+returns-in_err-state-clause-out_of_memory g c =
     let words = c.args.words.now in
     let names = c.args.names.now.names in
     let from = words_from words c.args.at in
@@ -50,8 +50,8 @@ returns-in_ok-state-in-Last-clause-begun g c = λ vfs call has.
     rw c.in_ok-state-in-Last.ensures (all_root_waits vfs names c.args.clock has call from plan stop.node []
     (λ e. ends) (c.in-Some.ensures.stop ∙ ap (stop_at stop.node) none))
 
-pub returns-in_err-state-in-Last-clause-wanting : goal.returns-in_err-state-in-Last-clause-wanting
-returns-in_err-state-in-Last-clause-wanting g c =
+pub returns-in_err-state-in-Last-clause-out_of_memory : goal.returns-in_err-state-in-Last-clause-out_of_memory
+returns-in_err-state-in-Last-clause-out_of_memory g c =
     let words = c.args.words.now in
     let names = c.args.names.now.names in
     let from = words_from words c.args.at in
@@ -84,8 +84,8 @@ returns-in-Rename-clause-begun g c =
     rw r.is (begun_so names c.args.clock (sets_out from (rename r.old.now more r.new.now))
     (sets_out more (last (op.rename (Some stop.node) r.old.now None r.new.now))) same c.set_out_again.result c.set_out_again.ensures.begun)
 
-pub returns-in-Rename-clause-wanting : goal.returns-in-Rename-clause-wanting
-returns-in-Rename-clause-wanting g c =
+pub returns-in-Rename-clause-out_of_memory : goal.returns-in-Rename-clause-out_of_memory
+returns-in-Rename-clause-out_of_memory g c =
     let words = c.args.words.now in
     let names = c.args.names.now.names in
     let from = words_from words c.args.at in
@@ -101,7 +101,7 @@ returns-in-Rename-clause-wanting g c =
     λ vfs call has. root_is vfs names c.args.clock has call from
     (rename r.old.now more r.new.now) ∙ renames vfs names c.args.clock has call 1 from r.old.now more r.new.now stop.node arrives in
     rw r.is (asks_so names c.args.clock (sets_out from (rename r.old.now more r.new.now))
-    (sets_out more (last (op.rename (Some stop.node) r.old.now None r.new.now))) same c.set_out_again.result c.set_out_again.ensures.wanting)
+    (sets_out more (last (op.rename (Some stop.node) r.old.now None r.new.now))) same c.set_out_again.result c.set_out_again.ensures.out_of_memory)
 
 pub returns-in-Link-clause-begun : goal.returns-in-Link-clause-begun
 returns-in-Link-clause-begun g c =
@@ -122,8 +122,8 @@ returns-in-Link-clause-begun g c =
     rw r.is (begun_so names c.args.clock (sets_out from (link more r.name.now))
     (sets_out more (last (op.link (Some stop.node) None r.name.now))) same c.set_out_again-in-Link.result c.set_out_again-in-Link.ensures.begun)
 
-pub returns-in-Link-clause-wanting : goal.returns-in-Link-clause-wanting
-returns-in-Link-clause-wanting g c =
+pub returns-in-Link-clause-out_of_memory : goal.returns-in-Link-clause-out_of_memory
+returns-in-Link-clause-out_of_memory g c =
     let words = c.args.words.now in
     let names = c.args.names.now.names in
     let from = words_from words c.args.at in
@@ -139,4 +139,4 @@ returns-in-Link-clause-wanting g c =
     λ vfs call has. root_is vfs names c.args.clock has call from
     (link more r.name.now) ∙ links vfs names c.args.clock has call 1 from more r.name.now stop.node arrives in
     rw r.is (asks_so names c.args.clock (sets_out from (link more r.name.now))
-    (sets_out more (last (op.link (Some stop.node) None r.name.now))) same c.set_out_again-in-Link.result c.set_out_again-in-Link.ensures.wanting)
+    (sets_out more (last (op.link (Some stop.node) None r.name.now))) same c.set_out_again-in-Link.result c.set_out_again-in-Link.ensures.out_of_memory)

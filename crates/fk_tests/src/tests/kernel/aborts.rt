@@ -79,7 +79,7 @@ static MOUNTED_ANEW: [Row; 15] = [
     Row::Read(0, Reads::Head(4, Opcode::Lookup)),
 ];
 
-/// A live mount with an open file is busy. An abort gives the file up.
+/// A live mount with an open file is busy. An abort abandons the file.
 static ABORTED_WHILE_OPEN: [Row; 11] = [
     Row::Begin(Call::Create { path: b"/a" }, Ok(1)),
     Row::Read(0, Reads::Head(4, Opcode::Create)),

@@ -18,7 +18,7 @@ struct Case {
     /// The call that waits for it, if one does, and how many calls wait for anything.
     call: Option<u64>,
     waiting: usize,
-    /// A body that is shorter by so many bytes is one too; 0 where none is.
+    /// A body that is shorter by this many bytes is one too; 0 where none is.
     step: usize,
 }
 
@@ -373,8 +373,8 @@ static AFTER_INIT: [Row; 2] = [
     Row::Answered(1, Expected::Errno(107)),
 ];
 
-/// What follows other bytes that are no reply, with a head or with none: INIT waits, or the call gets EIO or, where it is
-/// to wait, nothing.
+/// What follows other bytes that are no reply, with a head or with none: INIT waits, or the call gets EIO or, where it
+/// is to wait, nothing.
 fn followed(case: &Case, has_head: bool) -> Row {
     if matches!(case.opcode, Opcode::Init) {
         return Row::Begin(Call::Stat { path: b"/" }, Err(Refusal::NotReady));
@@ -394,7 +394,7 @@ fn push_followed(rows: &mut Vec<Row>, case: &Case, has_head: bool) -> Result<(),
     }
 }
 
-/// Writes so many bytes of a reply and of a byte more, with the reply's `len` or their own: the writer gets Invalid.
+/// Writes this many bytes of a reply and of a byte more, with the reply's `len` or their own: the writer gets Invalid.
 fn check_cut(
     rt: &impl Abort,
     alloc: Global,
@@ -409,7 +409,7 @@ fn check_cut(
     Ok(())
 }
 
-/// Whether so many bytes are a whole body too.
+/// Whether this many bytes are a whole body too.
 fn is_whole(case: &Case, len: usize) -> bool {
     case.step > 0 && len >= 16 && len < case.len && (len - 16) % case.step == 0
 }

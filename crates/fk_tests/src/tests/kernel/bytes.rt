@@ -350,7 +350,7 @@ static CREATED_UNLIKE: [Row; 13] = [
         WriteResult::Accepted,
     ),
     Row::Answered(2, Expected::Errno(5)),
-    // the open number is given up: nothing is released, and the call has no open file
+    // the file handle is dropped: nothing is released, and the call has no open file
     Row::Read(0, Reads::Refused(Refusal::NoSuch)),
     Row::Forget(2, Reads::Refused(Refusal::NoSuch)),
     Row::Forget(
@@ -383,7 +383,7 @@ static CREATED_ROOT: [Row; 12] = [
         WriteResult::Accepted,
     ),
     Row::Answered(2, Expected::Errno(5)),
-    // the open number is given up: nothing is released, and the call has no open file
+    // the file handle is dropped: nothing is released, and the call has no open file
     Row::Read(0, Reads::Refused(Refusal::NoSuch)),
     Row::Forget(1, Reads::Refused(Refusal::NoSuch)),
     Row::Begin(Call::Close { open_call: 2 }, Ok(3)),
@@ -410,7 +410,7 @@ static CREATED_NOTHING: [Row; 12] = [
         WriteResult::Accepted,
     ),
     Row::Answered(2, Expected::Errno(5)),
-    // the open number is given up: nothing is released, and the call has no open file
+    // the file handle is dropped: nothing is released, and the call has no open file
     Row::Read(0, Reads::Refused(Refusal::NoSuch)),
     Row::Forget(1, Reads::Refused(Refusal::NoSuch)),
     Row::Begin(Call::Close { open_call: 2 }, Ok(3)),

@@ -1,5 +1,5 @@
-//! Each operation: the frame of its request, byte for byte (linux/fuse.h), and what its reply results in, also with each
-//! growth refused in turn.
+//! Each operation: the frame of its request, byte for byte (linux/fuse.h), and what its reply results in, also with
+//! each growth refused in turn.
 
 use super::{Expected, Reads, Row, START, Written, run_on};
 use fail_at::FailAt;
@@ -237,7 +237,7 @@ static RENAMED_AND_REMOVED: [Row; 12] = [
     Row::Answered(14, Expected::Errno(39)),
 ];
 
-/// A call is signalled, and its INTERRUPT read; files are closed, and nodes given up.
+/// A call is signalled, and its INTERRUPT read; files are closed, and nodes evicted.
 static SIGNALLED_AND_GIVEN_UP: [Row; 27] = [
     Row::Begin(Call::Mkdir { path: b"/e" }, Ok(15)),
     Row::Signal(15, false, Ok(IntrEffect::Flagged)),

@@ -11,7 +11,7 @@ fn put(frame: &mut Vec<u8>, number: u32) -> Result<(), AllocError> {
     frame.extend_from_slice(&number.to_le_bytes())
 }
 
-/// The BATCH_FORGET of so many pairs, each of one lookup of node 2, that says that it has `count`.
+/// The BATCH_FORGET of this many pairs, each of one lookup of node 2, that says that it has `count`.
 fn batch_forget(alloc: Global, pairs: u32, count: u32) -> Result<Vec<u8>, AllocError> {
     let mut frame = Vec::new(alloc);
     let len = pairs.saturating_mul(16).saturating_add(48);
@@ -26,7 +26,7 @@ fn batch_forget(alloc: Global, pairs: u32, count: u32) -> Result<Vec<u8>, AllocE
     Ok(frame)
 }
 
-/// The nodes that are left after node 2 was told so often, and then forgotten by this frame.
+/// The nodes that are left after node 2 was looked up so often, and then forgotten by this frame.
 fn left_after(alloc: Global, told: usize, batch: Vec<u8>) -> Result<Vec<(u64, u64, u64)>, Fail> {
     let mut requests = vec![in alloc; (1, RequestBody::Lookup { name: b"a" }); told]?;
     if let Some(first) = requests.first_mut() {

@@ -47,7 +47,7 @@ static FRAMES: [(&str, &str); 13] = [
         "38000000030000000c0000000000000009000000000000000000000000000000000000000000000000000000000000000000000000000000",
         "10000000fbffffff0c00000000000000",
     ),
-    // FORGET of more than were told.
+    // FORGET of more lookups than were given.
     (
         "30000000020000000e000000000000000200000000000000000000000000000000000000000000000200000000000000",
         "",
@@ -102,7 +102,7 @@ fn faulty_frames_are_replied_or_not(rt: HostRuntime) -> Result<(), Fail> {
     let (end, nodes) = serve_device(rt.alloc(), &mut device)?;
     assert_eq!(rt; end, Some(DeviceEnd::Ended));
     assert_eq!(rt; device.sent(), replies.as_slice());
-    // The directory that MKDIR told is forgotten.
+    // The directory that MKDIR gave is forgotten.
     assert_eq!(rt; nodes.len(), 0);
     Ok(())
 }

@@ -19,7 +19,7 @@ fn refusals(told: &Told) -> usize {
         .count()
 }
 
-/// Asserts that each of the seven requests was answered, and each node counted as often as it was told.
+/// Asserts that each of the seven requests was answered, and each node counted as often as it was given.
 fn assert_counts(rt: &impl Abort, nodes: &[(u64, u64, u64)], told: &Told, turn: u64) {
     assert_eq!(rt; told.errors.len(), 7, "turn {turn}");
     let mut counts = 0u64;

@@ -38,12 +38,12 @@ fn asked() -> [(u64, RequestBody<'static>); 7] {
     ]
 }
 
-/// The nodes at the end where every reply is accepted: MKDIR and LOOKUP tell the directory, CREATE and READDIRPLUS the
+/// The nodes at the end where every reply is accepted: MKDIR and LOOKUP give the directory, CREATE and READDIRPLUS the
 /// file.
 const ACCEPTED: Nodes = &[(2, 1, 2), (3, 2, 2)];
 
-/// The nodes at the end where one send is refused. What a refused MKDIR or CREATE told is dropped, and the name is then
-/// told under a new generation; under node 3 the GETATTR behind a refused CREATE finds none.
+/// The nodes at the end where one send is refused. What a refused MKDIR or CREATE gave is dropped, and the name is then
+/// given under a new generation; under node 3 the GETATTR behind a refused CREATE finds none.
 const REFUSED: [Nodes; 7] = [
     ACCEPTED,
     &[(2, 2, 1), (3, 3, 2)],
@@ -54,7 +54,7 @@ const REFUSED: [Nodes; 7] = [
     ACCEPTED,
 ];
 
-/// The nodes at the end where the device ends at one send: what that reply told stays counted, and nothing follows.
+/// The nodes at the end where the device ends at one send: what that reply gave stays counted, and nothing follows.
 const ENDED: [Nodes; 7] = [
     &[],
     &[(2, 1, 1)],

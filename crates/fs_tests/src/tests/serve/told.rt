@@ -1,4 +1,4 @@
-//! The lookups that replies tell, counted from their frames alone.
+//! The lookups that replies give, counted from their frames alone.
 
 use fk_wire::{Opcode, Reply, ReplyBody, read_reply};
 use std::alloc::{AllocError, Global};
@@ -33,7 +33,7 @@ fn number(bytes: &[u8]) -> u64 {
 pub struct Told {
     /// The error number and the unique of each reply.
     pub errors: Vec<(i32, u64)>,
-    /// The node of each entry that was told.
+    /// The node of each entry that was given.
     pub nodes: Vec<u64>,
 }
 
@@ -66,7 +66,7 @@ impl Told {
         self.note_body(&reply.body)
     }
 
-    /// How often a node was told.
+    /// How often a node was given.
     pub fn count(&self, nodeid: u64) -> u64 {
         self.nodes.iter().filter(|told| **told == nodeid).count() as u64
     }

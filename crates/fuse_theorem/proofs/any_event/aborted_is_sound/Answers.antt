@@ -6,5 +6,5 @@ returns g = λ w one tables. (
   aborted_numbered w,
   one,
   aborted_known w,
-  record { no_root = tables.no_root; new_number = tables.new_number },
+  record { no_root = tables.no_root; new_handle = tables.new_handle },
 )

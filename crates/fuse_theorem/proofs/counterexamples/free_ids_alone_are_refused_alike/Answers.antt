@@ -40,10 +40,10 @@ third false r t is = absurd (cc (is))
 past : (choice : ℕ → ℕ) → MayName with_no_generation.server.nodes 1 (choice 1)
     → is_past (after_perform with_no_generation 2 (served choice with_no_generation.server 2 held)) ≡ true
 past choice may =
-    let draws : generation_after with_no_generation.server.nodes (get with_no_generation.server.nodes.rows (choice 1))
+    let allocates : generation_after with_no_generation.server.nodes (get with_no_generation.server.nodes.rows (choice 1))
     ≡ counter_end + 1 = ap (generation_after with_no_generation.server.nodes) (is_free (choice 1) may) in
     third (nat_lt counter_end (generation_after with_no_generation.server.nodes
-    (get with_no_generation.server.nodes.rows (choice 1)))) _ _ (ap (nat_lt counter_end) draws)
+    (get with_no_generation.server.nodes.rows (choice 1)))) _ _ (ap (nat_lt counter_end) allocates)
 
 pub returns : goal.returns
 returns g = (

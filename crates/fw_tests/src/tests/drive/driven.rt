@@ -1,7 +1,7 @@
 //! A driven list of frames, and what came of it.
 
 use fuse_device::ListDevice;
-use fw_drive::{Choices, Form, Task, run_drive};
+use fw_drive::{Form, FreeFields, Task, run_drive};
 use std::alloc::{AllocError, Global};
 use std::test::Fail;
 
@@ -20,7 +20,7 @@ fn task(form: Form) -> Task<'static> {
         name: "a script",
         form,
         opens_directories: true,
-        choices: Choices {
+        free_fields: FreeFields {
             open_flags: 0x8002,
             offer: 0x40,
         },

@@ -3,7 +3,7 @@ use Rattle.std.specs.Vec.{vec_len, vec_capacity}
 use Rattle.fw_world.proofs.Collecting.{Collects}
 use Rattle.fw_world.proofs.runs.collect_all.Given as goal
 
--- So many answers are recorded, and there is room for the others. As many records were added as answers went.
+-- This many answers are recorded, and there is room for the others. As many records were added as answers went.
 abbrev pub invariant-loop-call : goal.invariant-loop-call
 invariant-loop-call g l = Collects l.fn.world l.fn.records.items l.world l.records.items
     × (vec_len l.records + length l.world.kernel.vfs.answers ≤ vec_capacity l.records)

@@ -30,7 +30,7 @@ no_such_call g c =
     let k = c.self.inside in
     rw (← c.self.view_is) (c.self.invariant.numbers.calls_below k.next_call (itself k.next_call))
 
--- nothing but want of memory refuses the close
+-- nothing but out of memory refuses the close
 unrefused : (g : given.Over) (c : After-lemma_sound g)
     → begun_refusal c.args.self.now (call.close c.args.open_call) ≡ None
 unrefused g c =

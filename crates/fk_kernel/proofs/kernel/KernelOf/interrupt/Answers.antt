@@ -24,14 +24,14 @@ returns-in_default-clause-signalled g c =
     signalled_there k c.args.call c.args.fatal NoEffect k (get k.vfs.calls c.args.call) refl there
     (λ state at. unrequested k c.args.call state c.args.fatal none)
 
-pub returns-then-signal_ends_past-clause-refusal : goal.returns-then-signal_ends_past-clause-refusal
-returns-then-signal_ends_past-clause-refusal g c =
+pub returns-then-signal_exceeds-clause-refusal : goal.returns-then-signal_exceeds-clause-refusal
+returns-then-signal_exceeds-clause-refusal g c =
     let k = c.args.self.now in
     let live : is_live k.phase ≡ true = sym c.is_live.ensures ∙ c.if-not-is_live.false in
     let current : request_of k c.args.call ≡ Some c.in-Some.unique =
     rw (← c.self.view_is) (sym c.request_for.ensures ∙ c.in-Some.is) in
-    let past = c.signal_ends_past.ensures.past c.if-signal_ends_past.true in
+    let past = c.signal_exceeds.ensures.past c.if-signal_exceeds.true in
     exhausted k c.args.call c.in-Some.unique c.args.fatal current past.0 past.1 live
 
 pub signal-effect-requires-clause-within : goal.signal-effect-requires-clause-within
-signal-effect-requires-clause-within g c = c.signal_ends_past.ensures.within c.if-signal_ends_past.false
+signal-effect-requires-clause-within g c = c.signal_exceeds.ensures.within c.if-signal_exceeds.false

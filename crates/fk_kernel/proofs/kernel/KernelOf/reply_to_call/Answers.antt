@@ -10,7 +10,7 @@ use Rattle.fuse_frames.specs.RequestTies.{asked_opcode}
 use Rattle.fk_syscalls.specs.States.{StandsAt}
 use Rattle.fuse_spec.specs.Kernel.Refusals.{is_counted_out, is_kernel_past_end}
 use Rattle.fk_nodes.proofs.Outs.{or_none}
-use Rattle.fuse_frames.specs.ReplyDecoding.{lent_wire_of}
+use Rattle.fuse_frames.specs.ReplyDecoding.{decoded_wire_of}
 use Rattle.fk_kernel.specs.AwaitedReplies.{Says, reply_to, awaited_by_call, wrong_body_to}
 use Rattle.fk_kernel.proofs.CountsAfterReply.{wrong_nodes}
 use Rattle.fk_kernel.proofs.PastEnds.{passes, said_passes, none_passes, wrong_to_call}
@@ -40,31 +40,31 @@ returns-then-unique_overflows-clause-past g c =
       past = λ wire means. ends_over now c.args.head.unique c.args.call c.requires.even c.requires.waits p stands wire;
     }
 
-pub returns-then-said_past-clause-past : goal.returns-then-said_past-clause-past
-returns-then-said_past-clause-past g c =
+pub returns-then-reply_exceeds-clause-past : goal.returns-then-reply_exceeds-clause-past
+returns-then-reply_exceeds-clause-past g c =
     let now = c.args.self.now in
     let operation = operation_of (λ s. s.now) c.asks.result in
     let awaits : awaited_by_call (get now.vfs.calls c.args.call) ≡ reply_to (asked_opcode (asks operation)) =
     ap awaited_by_call c.requires.unanswered ∙ ap (λ (o : Operation ℕ Opened). reply_to (asked_opcode (asks o)))
     (sym c.asks.ensures.operation) in
     rw awaits (passes now c.args.head.unique c.args.bytes.now (asked_opcode (asks operation)) (judged_op operation)
-    (lent_wire_of c.in-Some.said) c.in-Some.ensures.said.says (c.said_past.ensures.past c.if-said_past.true))
+    (decoded_wire_of c.in-Some.said) c.in-Some.ensures.said.says (c.reply_exceeds.ensures.past c.if-reply_exceeds.true))
 
-pub returns-else-said_past-clause-stays : goal.returns-else-said_past-clause-stays
-returns-else-said_past-clause-stays g c =
+pub returns-else-reply_exceeds-clause-stays : goal.returns-else-reply_exceeds-clause-stays
+returns-else-reply_exceeds-clause-stays g c =
     let now = c.args.self.now in
     let operation = operation_of (λ s. s.now) c.asks.result in
     let awaits : awaited_by_call (get now.vfs.calls c.args.call) ≡ reply_to (asked_opcode (asks operation)) =
     ap awaited_by_call c.requires.unanswered ∙ ap (λ (o : Operation ℕ Opened). reply_to (asked_opcode (asks o)))
     (sym c.asks.ensures.operation) in
     rw awaits (said_passes now c.args.head.unique c.args.bytes.now (asked_opcode (asks operation))
-    (lent_wire_of c.in-Some.said) c.in-Some.ensures.said.says (c.said_past.ensures.stays c.if-said_past.false))
+    (decoded_wire_of c.in-Some.said) c.in-Some.ensures.said.says (c.reply_exceeds.ensures.stays c.if-reply_exceeds.false))
 
-pub returns-else-said_past-clause-said : goal.returns-else-said_past-clause-said
-returns-else-said_past-clause-said g c =
+pub returns-else-reply_exceeds-clause-said : goal.returns-else-reply_exceeds-clause-said
+returns-else-reply_exceeds-clause-said g c =
     let said = c.in-Some.ensures.said in
     record {
-      says = subst (λ (o : Operation ℕ Opened). Says (asked_opcode (asks o)) c.args.bytes.now (lent_wire_of c.in-Some.said))
+      says = subst (λ (o : Operation ℕ Opened). Says (asked_opcode (asks o)) c.args.bytes.now (decoded_wire_of c.in-Some.said))
           c.asks.ensures.operation said.says;
       awaits = record {
         operation = operation_of (λ s. s.now) c.asks.result;
@@ -74,8 +74,8 @@ returns-else-said_past-clause-said g c =
         goes = said.goes;
       };
       day = said.day;
-      within = c.said_past.ensures.within c.if-said_past.false;
-      counts = c.said_past.ensures.counts c.if-said_past.false;
+      within = c.reply_exceeds.ensures.within c.if-reply_exceeds.false;
+      counts = c.reply_exceeds.ensures.counts c.if-reply_exceeds.false;
     }
 
 pub returns-in-None-clause-stays : goal.returns-in-None-clause-stays

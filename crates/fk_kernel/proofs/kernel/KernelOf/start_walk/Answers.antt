@@ -5,7 +5,7 @@ use Rattle.fk_kernel.proofs.kernel.KernelOf.start_walk.Goals as goal
 pub returns-in-Err-clause-asks : goal.returns-in-Err-clause-asks
 returns-in-Err-clause-asks g c =
     rw c.requires.not_aborted (rw (← c.self.view_is)
-    (c.in-Err.ensures.wanting _ (record { names = refl; clock = refl; root = refl }) refl))
+    (c.in-Err.ensures.out_of_memory _ (record { names = refl; clock = refl; root = refl }) refl))
 
 pub returns-in-Ok-clause-begun : goal.returns-in-Ok-clause-begun
 returns-in-Ok-clause-begun g c =

@@ -9,7 +9,7 @@ use Rattle.fk_kernel.specs.Refused.{IsWriteRefusal, no_memory, exhausted}
 use Rattle.fk_kernel.specs.AwaitedReplies.{reply_to, awaited_by_call}
 use Rattle.fuse_spec.specs.Kernel.Messages.{asks}
 use Rattle.fuse_frames.specs.RequestTies.{asked_opcode}
-use Rattle.fuse_frames.specs.ReplyDecoding.{lent_wire_of}
+use Rattle.fuse_frames.specs.ReplyDecoding.{decoded_wire_of}
 use Rattle.fuse_frames.proofs.Sayings.{says_one}
 use Rattle.fk_kernel.proofs.Replied.{judged_op}
 use Rattle.fk_kernel.proofs.RepliesTaken.{taken_judged}
@@ -33,7 +33,7 @@ returns-in-Ok-replied-clause-taken g c =
     let o = asked_opcode (asks (asked state)) in
     let awaits : awaited_by_call (get now.vfs.calls c.args.call) ≡ reply_to o = ap awaited_by_call here in
     let bytes = c.args.bytes.now in
-    let said = lent_wire_of c.in-Some-said.said in
+    let said = decoded_wire_of c.in-Some-said.said in
     let says = (rw c.in-Some-said.is at c.in-Ok.ensures.said).says in
     let goes : c.is_some.result ≡ true = c.is_some.ensures ∙ ap is_some c.in-Some-said.is in
     let written : c.result_of-written.result ≡ Accepted = c.result_of-written.ensures

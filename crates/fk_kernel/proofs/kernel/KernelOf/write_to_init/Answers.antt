@@ -3,7 +3,7 @@ use Rattle.std.specs.Prelude.{is_some}
 use Rattle.fk_wire.specs.declared.opcode.Opcode.TheVariants as op
 use Rattle.fuse_spec.specs.Kernel.QueueCalls.{waiting}
 use Rattle.fuse_spec.specs.Kernel.Replies.{reply_written, is_agreement}
-use Rattle.fuse_frames.specs.ReplyDecoding.{lent_wire_of}
+use Rattle.fuse_frames.specs.ReplyDecoding.{decoded_wire_of}
 use Rattle.fk_kernel.proofs.Nodes.{still_counted, answered_is}
 use Rattle.fk_kernel.proofs.Replied.{init_agreed, init_aborts, init_unsaid}
 use Rattle.fuse_frames.proofs.ReplyCases.{says_to_init}
@@ -32,7 +32,7 @@ pub returns-in_default-clause-said : goal.returns-in_default-clause-said
 returns-in_default-clause-said g c = λ wire says. absurd (c.in_default.ensures.none wire says)
 
 pub returns-in_default-clause-unsaid : goal.returns-in_default-clause-unsaid
-returns-in_default-clause-unsaid g c = λ none. rw c.give_up.ensures
+returns-in_default-clause-unsaid g c = λ none. rw c.abandon_all.ensures
     (init_unsaid c.args.self.now c.args.head.unique c.requires.even c.requires.waits)
 
 pub returns-then-agrees-clause-said : goal.returns-then-agrees-clause-said
@@ -40,11 +40,11 @@ returns-then-agrees-clause-said g c = λ wire says.
     let k = c.args.self.now in
     let s = c.self.inside.queues.queues in
     let waits : is_some (waiting s c.args.head.unique) ≡ true = rw (← c.self.view_is) at (ap is_some c.requires.waits) in
-    let agreed : is_agreement (lent_wire_of c.in-Some.said) ≡ true = sym c.agrees.ensures ∙ c.if-agrees.true in
+    let agreed : is_agreement (decoded_wire_of c.in-Some.said) ≡ true = sym c.agrees.ensures ∙ c.if-agrees.true in
     ap (reply_written k c.args.head.unique) (says_one op.Init c.args.bytes.now wire
-    (lent_wire_of c.in-Some.said) says c.in-Some.ensures.said)
-    ∙ init_agreed k c.args.head.unique c.requires.even c.requires.waits (lent_wire_of c.in-Some.said)
-    (says_to_init c.args.bytes.now (lent_wire_of c.in-Some.said) c.in-Some.ensures.said) agreed
+    (decoded_wire_of c.in-Some.said) says c.in-Some.ensures.said)
+    ∙ init_agreed k c.args.head.unique c.requires.even c.requires.waits (decoded_wire_of c.in-Some.said)
+    (says_to_init c.args.bytes.now (decoded_wire_of c.in-Some.said) c.in-Some.ensures.said) agreed
     ∙ rw (
       ← c.self.view_is,
       c.answer-kept.ensures.state,
@@ -56,12 +56,12 @@ returns-then-agrees-clause-said g c = λ wire says.
 pub returns-else-agrees-clause-said : goal.returns-else-agrees-clause-said
 returns-else-agrees-clause-said g c = λ wire says.
     let k = c.args.self.now in
-    let other : is_agreement (lent_wire_of c.in-Some.said) ≡ false = sym c.agrees.ensures ∙ c.if-agrees.false in
-    rw c.give_up-else-agrees.ensures
+    let other : is_agreement (decoded_wire_of c.in-Some.said) ≡ false = sym c.agrees.ensures ∙ c.if-agrees.false in
+    rw c.abandon_all-else-agrees.ensures
     (ap (reply_written k c.args.head.unique) (says_one op.Init c.args.bytes.now wire
-    (lent_wire_of c.in-Some.said) says c.in-Some.ensures.said)
-    ∙ init_aborts k c.args.head.unique c.requires.even c.requires.waits (lent_wire_of c.in-Some.said)
-    (says_to_init c.args.bytes.now (lent_wire_of c.in-Some.said) c.in-Some.ensures.said) other)
+    (decoded_wire_of c.in-Some.said) says c.in-Some.ensures.said)
+    ∙ init_aborts k c.args.head.unique c.requires.even c.requires.waits (decoded_wire_of c.in-Some.said)
+    (says_to_init c.args.bytes.now (decoded_wire_of c.in-Some.said) c.in-Some.ensures.said) other)
 
 pub returns-then-agrees-clause-unsaid : goal.returns-then-agrees-clause-unsaid
 returns-then-agrees-clause-unsaid g c = λ none. absurd (none _ c.in-Some.ensures.said)

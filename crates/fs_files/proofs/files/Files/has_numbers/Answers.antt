@@ -2,13 +2,13 @@ use Rattle.std.proofs.Common.{arith}
 use Rattle.fuse_spec.specs.Files.Operations.{files_in_reply}
 use Rattle.fs_files.specs.Performing.{said}
 use Rattle.fs_files.specs.Values.{server_at}
-use Rattle.fs_files.proofs.DrawsFew.{draws_few}
+use Rattle.fs_files.proofs.DrawsFew.{allocates_few}
 use Rattle.fs_files.proofs.files.Files.has_numbers.Goals as goal
 
 pub returns-then-has_numbers_for_any-clause-has : goal.returns-then-has_numbers_for_any-clause-has
 returns-then-has_numbers_for_any-clause-has g c = λ v m yes.
     let s = server_at m c.args.self.now v in
-    let few = draws_few s c.args.held.now in
+    let few = allocates_few s c.args.held.now in
     let any = c.has_numbers_for_any.ensures in
     let is = c.if-has_numbers_for_any.true in
     let few_inodes = few.inodes in

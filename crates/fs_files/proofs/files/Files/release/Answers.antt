@@ -1,6 +1,6 @@
-use Rattle.fs_files.proofs.StaysKnown.{known_number_back}
+use Rattle.fs_files.proofs.StaysKnown.{known_handle_back}
 use Rattle.fs_files.proofs.files.Files.release.Goals as goal
 
 pub invariant_of-self : goal.invariant_of-self
 invariant_of-self g c = rw c.take_back.ensures.table
-    (known_number_back _ _ _ (rw (← c.self-inside.view_is) at c.self.invariant) c.args.opened.fh)
+    (known_handle_back _ _ _ (rw (← c.self-inside.view_is) at c.self.invariant) c.args.opened.fh)

@@ -23,7 +23,7 @@ returns-then-open_file-gt1-clause-table g c =
     let wrote = c.get_mut.follows.holds _ in
     rw (← c.self.view_is) (less-some _ c.self.inside.opens.entries c.self.inside.next c.args.fh _ is c.if-open_file-gt1.true (wrote.3 (ap is_some is)).0)
 
--- what was read stays, and then the whole number goes
+-- what was read stays, and then the whole handle goes
 pub invariant_of-self-2 : goal.invariant_of-self-2
 invariant_of-self-2 g c =
     let is = sym c.in-Some.ensures.value in

@@ -3,7 +3,7 @@ use Rattle.fk_wire.specs.Requests.{request_message, request_content}
 use Rattle.fs_server.specs.Taking.{holds_request}
 use Rattle.fs_server.proofs.TakingEffects.{faultless, held_so, interrupted_so}
 use Rattle.fs_server.proofs.Frames.{forgets}
-use Rattle.fs_server.proofs.MemoryRefusals.{answer_wants, hold_wants, memory_can}
+use Rattle.fs_server.proofs.MemoryRefusals.{answer_needs_memory, hold_needs_memory, memory_can}
 use Rattle.fs_server.proofs.server.ServerOf.take.Goals as goal
 
 pub returns-then-is_forget-clause-effect : goal.returns-then-is_forget-clause-effect
@@ -23,7 +23,7 @@ returns-in-Interrupt-clause-effect g c =
 
 pub returns-in-Interrupt-clause-memory : goal.returns-in-Interrupt-clause-memory
 returns-in-Interrupt-clause-memory g c =
-    answer_wants c.args.self.now c.args.bytes.now
+    answer_needs_memory c.args.self.now c.args.bytes.now
     (request_message c.in_ok-request.request) c.in_ok-request.ensures.takeable c.in-Interrupt.original
     (ap request_content c.in-Interrupt.is) c.interrupt.result c.interrupt.ensures.answered
 
@@ -39,6 +39,6 @@ returns-in_default g c =
     record {
       refused = c.hold.ensures.refused;
       effect = held_so c.args.self.now c.args.bytes.now m right is c.hold.new.self c.hold.result c.hold.ensures.fault c.hold.ensures.taken c.hold.ensures.held;
-      memory = hold_wants c.args.self.now c.args.bytes.now m right is c.hold.result;
+      memory = hold_needs_memory c.args.self.now c.args.bytes.now m right is c.hold.result;
       can = memory_can c.args.self.now c.args.bytes.now m right c.hold.result;
     }

@@ -5,18 +5,18 @@ use Rattle.fw_world.proofs.WorldParts.{world_of, has_room}
 use Rattle.fw_world.proofs.EventEffects.{copied}
 use Rattle.fw_world.proofs.Refusing.{again_refused}
 use Rattle.fw_world.proofs.LastFrames.{shows_reply, again_under}
-use Rattle.fw_world.proofs.MemoryRefusals.{looked, given_so, again_wanting}
+use Rattle.fw_world.proofs.MemoryRefusals.{looked, given_so, again_out_of_memory}
 use Rattle.fw_world.proofs.world.WorldOf.again.Goals as goal
 
 pub returns-then-is_err-clause-refusal : goal.returns-then-is_err-clause-refusal
 returns-then-is_err-clause-refusal g c =
     rw (← c.self.view_is)
-    (looked (world_of c.self.inside.kernel c.self.inside.server c.self.inside.requests.items c.self.inside.replies.items c.self.inside.results.items) (event.again c.args.unique) (RefusesAgain c.self.inside.server c.args.unique) (CanSendAgain c.self.inside.server c.args.unique) (again_refused (world_of c.self.inside.kernel c.self.inside.server c.self.inside.requests.items c.self.inside.replies.items c.self.inside.results.items) c.args.unique) (again_wanting (world_of c.self.inside.kernel c.self.inside.server c.self.inside.requests.items c.self.inside.replies.items c.self.inside.results.items) (c.lemma_in_range.ensures (world_of c.self.inside.kernel c.self.inside.server c.self.inside.requests.items c.self.inside.replies.items c.self.inside.results.items) refl refl) c.args.unique) c.again_refusal.result c.refusal_or_no_memory.result c.again_refusal.ensures.refuses c.again_refusal.ensures.none c.refusal_or_no_memory.ensures)
+    (looked (world_of c.self.inside.kernel c.self.inside.server c.self.inside.requests.items c.self.inside.replies.items c.self.inside.results.items) (event.again c.args.unique) (RefusesAgain c.self.inside.server c.args.unique) (CanSendAgain c.self.inside.server c.args.unique) (again_refused (world_of c.self.inside.kernel c.self.inside.server c.self.inside.requests.items c.self.inside.replies.items c.self.inside.results.items) c.args.unique) (again_out_of_memory (world_of c.self.inside.kernel c.self.inside.server c.self.inside.requests.items c.self.inside.replies.items c.self.inside.results.items) (c.lemma_in_range.ensures (world_of c.self.inside.kernel c.self.inside.server c.self.inside.requests.items c.self.inside.replies.items c.self.inside.results.items) refl refl) c.args.unique) c.again_refusal.result c.refusal_or_no_memory.result c.again_refusal.ensures.refuses c.again_refusal.ensures.none c.refusal_or_no_memory.ensures)
 
 pub returns-in-Err-clause-refusal : goal.returns-in-Err-clause-refusal
 returns-in-Err-clause-refusal g c =
     rw (← c.self.view_is)
-    (given_so (world_of c.self.inside.kernel c.self.inside.server c.self.inside.requests.items c.self.inside.replies.items c.self.inside.results.items) (event.again c.args.unique) (RefusesAgain c.self.inside.server c.args.unique) (CanSendAgain c.self.inside.server c.args.unique) (again_refused (world_of c.self.inside.kernel c.self.inside.server c.self.inside.requests.items c.self.inside.replies.items c.self.inside.results.items) c.args.unique) (again_wanting (world_of c.self.inside.kernel c.self.inside.server c.self.inside.requests.items c.self.inside.replies.items c.self.inside.results.items) (c.lemma_in_range-in-Err.ensures (world_of c.self.inside.kernel c.self.inside.server c.self.inside.requests.items c.self.inside.replies.items c.self.inside.results.items) refl (sym c.in-Err.ensures.err)) c.args.unique) c.in-Err.refusal c.in-Err.ensures.refusal c.in-Err.ensures.memory)
+    (given_so (world_of c.self.inside.kernel c.self.inside.server c.self.inside.requests.items c.self.inside.replies.items c.self.inside.results.items) (event.again c.args.unique) (RefusesAgain c.self.inside.server c.args.unique) (CanSendAgain c.self.inside.server c.args.unique) (again_refused (world_of c.self.inside.kernel c.self.inside.server c.self.inside.requests.items c.self.inside.replies.items c.self.inside.results.items) c.args.unique) (again_out_of_memory (world_of c.self.inside.kernel c.self.inside.server c.self.inside.requests.items c.self.inside.replies.items c.self.inside.results.items) (c.lemma_in_range-in-Err.ensures (world_of c.self.inside.kernel c.self.inside.server c.self.inside.requests.items c.self.inside.replies.items c.self.inside.results.items) refl (sym c.in-Err.ensures.err)) c.args.unique) c.in-Err.refusal c.in-Err.ensures.refusal c.in-Err.ensures.memory)
 
 pub invariant_of-self-2 : goal.invariant_of-self-2
 invariant_of-self-2 g c =

@@ -5,7 +5,7 @@ use Rattle.fk_kernel.specs.Refused.{begin_refusal}
 use Rattle.fw_world.proofs.WorldParts.{world_of}
 use Rattle.fw_world.proofs.EventEffects.{called}
 use Rattle.fw_world.proofs.Refusing.{call_refused}
-use Rattle.fw_world.proofs.MemoryRefusals.{judged, call_wanting}
+use Rattle.fw_world.proofs.MemoryRefusals.{judged, call_out_of_memory}
 use Rattle.fw_world.proofs.world.WorldOf.call.Goals as goal
 
 pub returns-in-Err-clause-refusal : goal.returns-in-Err-clause-refusal
@@ -13,7 +13,7 @@ returns-in-Err-clause-refusal g c =
     let w = (world_of c.self.inside.kernel c.self.inside.server c.self.inside.requests.items c.self.inside.replies.items c.self.inside.results.items) in
     let call = call_of c.args.call.now in
     rw (← c.self.view_is) (judged w (event.call call) (begin_refusal w.kernel call) c.in-Err.refusal
-    (call_refused w call) (λ none is. call_wanting w
+    (call_refused w call) (λ none is. call_out_of_memory w
     (c.lemma_in_range.ensures w (sym c.in-Err.ensures.err) refl) call none c.in-Err.refusal is) c.in-Err.ensures.refusal)
 
 pub invariant_of-self-2 : goal.invariant_of-self-2

@@ -3,7 +3,7 @@ use Rattle.fk_kernel.specs.Refused.{mount_refusal}
 use Rattle.fw_world.proofs.WorldParts.{world_of}
 use Rattle.fw_world.proofs.EventEffects.{mounted, day_at_most, over_a_day}
 use Rattle.fw_world.proofs.Refusing.{mount_refused, mount_too_long}
-use Rattle.fw_world.proofs.MemoryRefusals.{judged, mount_wanting}
+use Rattle.fw_world.proofs.MemoryRefusals.{judged, mount_out_of_memory}
 use Rattle.fw_world.proofs.world.WorldOf.mount.Goals as goal
 
 pub returns-then-found_ms-gt-MAX_VALIDITY-clause-refusal : goal.returns-then-found_ms-gt-MAX_VALIDITY-clause-refusal
@@ -17,7 +17,7 @@ returns-in-Err-clause-refusal g c =
     let day = day_at_most c.args.found_ms c.args.missing_ms c.if-found_ms-gt-MAX_VALIDITY.false c.if-missing_ms-gt-MAX_VALIDITY.false in
     rw (← c.self.view_is) (judged w (event.mount c.args.found_ms c.args.missing_ms c.args.minor)
     (mount_refusal w.kernel) c.in-Err.refusal (mount_refused w c.args.found_ms c.args.missing_ms c.args.minor day)
-    (λ none is. mount_wanting w c.args.found_ms c.args.missing_ms c.args.minor day none c.in-Err.refusal is) c.in-Err.ensures.refusal)
+    (λ none is. mount_out_of_memory w c.args.found_ms c.args.missing_ms c.args.minor day none c.in-Err.refusal is) c.in-Err.ensures.refusal)
 
 pub invariant_of-self-2 : goal.invariant_of-self-2
 invariant_of-self-2 g c =

@@ -5,7 +5,7 @@ use Rattle.fuse_spec.specs.World.Events as event
 use Rattle.fw_world.proofs.WorldParts.{world_of}
 use Rattle.fw_world.proofs.EventEffects.{read}
 use Rattle.fw_world.proofs.Refusing.{read_refused}
-use Rattle.fw_world.proofs.MemoryRefusals.{judged, read_wanting}
+use Rattle.fw_world.proofs.MemoryRefusals.{judged, read_out_of_memory}
 use Rattle.fw_world.proofs.world.WorldOf.read_pending.Goals as goal
 
 pub returns-then-is_err-clause-refusal : goal.returns-then-is_err-clause-refusal
@@ -13,14 +13,14 @@ returns-then-is_err-clause-refusal g c =
     let w = (world_of c.self.inside.kernel c.self.inside.server c.self.inside.requests.items c.self.inside.replies.items c.self.inside.results.items) in
     let given = c.refusal_or_no_memory.ensures ∙ ap or_no_memory c.read_refusal.ensures in
     rw (← c.self.view_is) (judged w (event.read_pending c.args.place) _ _ (read_refused w c.args.place)
-    (λ none is. read_wanting w (c.lemma_in_range.ensures w refl refl) c.args.place none _ is) given)
+    (λ none is. read_out_of_memory w (c.lemma_in_range.ensures w refl refl) c.args.place none _ is) given)
 
 pub returns-in_err-frame-clause-refusal : goal.returns-in_err-frame-clause-refusal
 returns-in_err-frame-clause-refusal g c =
     let w = (world_of c.self.inside.kernel c.self.inside.server c.self.inside.requests.items c.self.inside.replies.items c.self.inside.results.items) in
     let p = err_from_is_err_and c.from_residual.result c.from_residual.ensures.1 in
     rw (p.1, p.2, ← c.self.view_is) (judged w (event.read_pending c.args.place) _ _ (read_refused w c.args.place)
-    (λ none is. read_wanting w (c.lemma_in_range.ensures w refl refl) c.args.place none _ is) c.in_err-frame.ensures.refusal)
+    (λ none is. read_out_of_memory w (c.lemma_in_range.ensures w refl refl) c.args.place none _ is) c.in_err-frame.ensures.refusal)
 
 pub invariant_of-self-2 : goal.invariant_of-self-2
 invariant_of-self-2 g c =

@@ -3,7 +3,7 @@ use Rattle.std.proofs.lemmas.Option.{slice_get_read, slice_get_past}
 use Rattle.fw_world.proofs.WorldParts.{world_of}
 use Rattle.fw_world.proofs.EventEffects.{took}
 use Rattle.fw_world.proofs.Refusing.{no_request}
-use Rattle.fw_world.proofs.MemoryRefusals.{take_refused, take_wanting}
+use Rattle.fw_world.proofs.MemoryRefusals.{take_refused, take_out_of_memory}
 use Rattle.fuse_spec.specs.declared.Refusal.TheVariants.{NoMemory}
 use Rattle.fw_world.proofs.MemoryRefusals.{answer_has_room, server_within}
 use Rattle.fw_world.proofs.world.WorldOf.take.Goals as goal
@@ -50,5 +50,5 @@ returns-then-not-reserve_answer-clause-refusal g c =
     (length c.self.inside.requests.items) c.args.place c.index.result.now refl
     (omega (arith, c.if-place-len.false, c.len.ensures)) c.index.ensures in
     let answers = c.reserve_answer.ensures.answers c.if-not-reserve_answer.true in
-    rw (← c.self.view_is) (take_wanting
+    rw (← c.self.view_is) (take_out_of_memory
     (world_of c.self.inside.kernel c.self.inside.server c.self.inside.requests.items c.self.inside.replies.items c.self.inside.results.items) (c.lemma_in_range.ensures (world_of c.self.inside.kernel c.self.inside.server c.self.inside.requests.items c.self.inside.replies.items c.self.inside.results.items) refl refl) c.args.place c.index.result.now c.bytes-bytes.result.now there c.bytes-bytes.ensures answers.can NoMemory refl)

@@ -2,7 +2,7 @@ use Rattle.std.proofs.Common.{refl, sym, length, arith, ◌∙◌}
 use Rattle.std.proofs.lemmas.Option.{slice_get_read, slice_get_past}
 use Rattle.fw_world.proofs.WorldParts.{world_of, was_written, after_result, has_room}
 use Rattle.fw_world.proofs.EventEffects.{wrote}
-use Rattle.fw_world.proofs.Copies.{written_so, write_refused, look_refused, has_head}
+use Rattle.fw_world.proofs.Copies.{reply_written_is, write_refused, look_refused, has_head}
 use Rattle.fw_world.proofs.Refusing.{no_copy}
 use Rattle.fw_world.proofs.world.WorldOf.write.Goals as goal
 
@@ -35,7 +35,7 @@ invariant_of-self-2 g c =
     let sent = c.index-copy.result.now in
     let there = slice_get_read c.self.inside.replies.items (length c.self.inside.replies.items) c.args.place sent refl
     (omega (arith, c.if-place-len.false, c.len.ensures)) c.index-copy.ensures in
-    let took = written_so (world_of c.self.inside.kernel c.self.inside.server c.self.inside.requests.items c.self.inside.replies.items c.self.inside.results.items) c.self.invariant c.args.place sent there c.bytes-2.result.now c.bytes-2.ensures.frame c.bytes-2.ensures.fits c.bytes-2.ensures.init c.bytes-2.ensures.empty c.in-Ok.written c.write.new.self
+    let took = reply_written_is (world_of c.self.inside.kernel c.self.inside.server c.self.inside.requests.items c.self.inside.replies.items c.self.inside.results.items) c.self.invariant c.args.place sent there c.bytes-2.result.now c.bytes-2.ensures.frame c.bytes-2.ensures.fits c.bytes-2.ensures.init c.bytes-2.ensures.empty c.in-Ok.written c.write.new.self
     (λ head none. let h = c.in-Ok.ensures.unawaited head none in (was_written h.0, h.1)) c.in-Ok.ensures.taken in
     let results = after_result c.self.inside.results.items c.reserve.new.self.items c.push_back_reserved.new.self.items c.number-number.result c.unique-unique.result c.in-Ok.written sent c.reserve.ensures.items c.push_back_reserved.ensures.items c.number-number.ensures c.unique-unique.ensures in
     (wrote (world_of c.self.inside.kernel c.self.inside.server c.self.inside.requests.items c.self.inside.replies.items c.self.inside.results.items) c.self.invariant c.write.new.self c.self.inside.server c.self.inside.requests.items c.take_at-copy.new.queue.items c.push_back_reserved.new.self.items c.args.place sent c.in-Ok.written
@@ -46,7 +46,7 @@ returns-clause-happens g c =
     let sent = c.index-copy.result.now in
     let there = slice_get_read c.self.inside.replies.items (length c.self.inside.replies.items) c.args.place sent refl
     (omega (arith, c.if-place-len.false, c.len.ensures)) c.index-copy.ensures in
-    let took = written_so (world_of c.self.inside.kernel c.self.inside.server c.self.inside.requests.items c.self.inside.replies.items c.self.inside.results.items) c.self.invariant c.args.place sent there c.bytes-2.result.now c.bytes-2.ensures.frame c.bytes-2.ensures.fits c.bytes-2.ensures.init c.bytes-2.ensures.empty c.in-Ok.written c.write.new.self
+    let took = reply_written_is (world_of c.self.inside.kernel c.self.inside.server c.self.inside.requests.items c.self.inside.replies.items c.self.inside.results.items) c.self.invariant c.args.place sent there c.bytes-2.result.now c.bytes-2.ensures.frame c.bytes-2.ensures.fits c.bytes-2.ensures.init c.bytes-2.ensures.empty c.in-Ok.written c.write.new.self
     (λ head none. let h = c.in-Ok.ensures.unawaited head none in (was_written h.0, h.1)) c.in-Ok.ensures.taken in
     let results = after_result c.self.inside.results.items c.reserve.new.self.items c.push_back_reserved.new.self.items c.number-number.result c.unique-unique.result c.in-Ok.written sent c.reserve.ensures.items c.push_back_reserved.ensures.items c.number-number.ensures c.unique-unique.ensures in
     rw (← c.self.view_is, c.unique-unique.ensures)

@@ -1,6 +1,0 @@
-use Rattle.fs_files.proofs.StaysKnown.{known_back}
-use Rattle.fs_files.proofs.files.Files.give_back.Goals as goal
-
-pub invariant_of-self : goal.invariant_of-self
-invariant_of-self g c = rw c.give_back.ensures (known_back _ _ _
-    (rw (← c.self-inside.view_is) at c.self.invariant) c.args.entry.now)
