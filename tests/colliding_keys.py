@@ -132,7 +132,7 @@ def init_request():
 
 def init_reply():
     flags = 1 << 13  # FUSE_DO_READDIRPLUS
-    return reply(2, struct.pack("<IIIIHHIIHH", 7, 31, 131072, flags, 0, 0, 4096, 1, 0, 0) + bytes(28))
+    return reply(2, struct.pack("<IIIIHHIIHH", 7, 31, 131072, flags, 0, 0, 4096, 1, 0, 0) + bytes(32))
 
 
 def entry(nodeid):

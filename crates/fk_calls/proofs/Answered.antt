@@ -15,11 +15,11 @@ use Rattle.fuse_tables.specs.TableState.{TableState}
 use Rattle.fk_dentry.proofs.SortedEntries.{both_first, both_second, none_below}
 
 -- each of the calls has the answer, and all else is as before
-pub told : {X : Type 0} (answer : Answer) (calls : Map X) (answers : Map Answer) (call : ℕ)
+pub answer_after_all : {X : Type 0} (answer : Answer) (calls : Map X) (answers : Map Answer) (call : ℕ)
     → get (all_answered answer calls answers) call ≡ cond (is_some (get calls call)) (Some answer) (get answers call)
-told answer [] answers call = refl
-told answer (e ∷ calls) answers call = get_put (all_answered answer calls answers) e.0 answer call ∙ by
-    (eq_by_cmp nat_cmp call e.0) (told answer calls answers call)
+answer_after_all answer [] answers call = refl
+answer_after_all answer (e ∷ calls) answers call = get_put (all_answered answer calls answers) e.0 answer call ∙ by
+    (eq_by_cmp nat_cmp call e.0) (answer_after_all answer calls answers call)
   where
     by : (b : Bool) → get (all_answered answer calls answers) call
         ≡ cond (is_some (get calls call)) (Some answer) (get answers call)
@@ -28,10 +28,10 @@ told answer (e ∷ calls) answers call = get_put (all_answered answer calls answ
     by true rest = refl
     by false rest = rest
 
-pub untold : {X : Type 0} (answer : Answer) (calls : Map X) (answers : Map Answer) (call : ℕ) → get calls call ≡ None
+pub answer_unchanged : {X : Type 0} (answer : Answer) (calls : Map X) (answers : Map Answer) (call : ℕ) → get calls call ≡ None
     → get answers call ≡ None → get (all_answered answer calls answers) call ≡ None
-untold answer calls answers call none unanswered =
-    told answer calls answers call ∙ ap (λ (o : Option _). cond (is_some o) (Some answer)
+answer_unchanged answer calls answers call none unanswered =
+    answer_after_all answer calls answers call ∙ ap (λ (o : Option _). cond (is_some o) (Some answer)
     (get answers call)) none ∙ unanswered
 
 module _ {X : Type 0} where
@@ -82,7 +82,7 @@ module _ (calls before : Map (CallState Opened)) (e : ℕ × CallState Opened) (
       (is_sorted nat_cmp m)) parts sorted) in
       let there : get calls e.0 ≢ None = subst (λ (m : Map (CallState Opened)). get m e.0 ≢ None) (sym parts)
       (among before e so.done) in
-      ap (λ (m : Map Answer). get m e.0) so.entries ∙ untold (failed econnaborted) so.done old.entries e.0 here
+      ap (λ (m : Map Answer). get m e.0) so.entries ∙ answer_unchanged (failed econnaborted) so.done old.entries e.0 here
       (absent e.0 there)
 
 -- the last of the calls that are left has no answer yet

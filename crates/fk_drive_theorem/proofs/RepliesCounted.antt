@@ -82,35 +82,35 @@ module _ (id : ℕ) (low : 2 ≤ id) where
 
   -- ---- the names of a list
 
-  abbrev told : Option Entry → ℕ
-  told None = 0
-  told (Some g) = time_named g
+  abbrev lookups_in : Option Entry → ℕ
+  lookups_in None = 0
+  lookups_in (Some g) = time_named g
 
   first_listed_counted : (o : Option Entry) (files : List Entry)
-      → entries_of id (first_listed o files) ≡ told o + entries_of id files
+      → entries_of id (first_listed o files) ≡ lookups_in o + entries_of id files
   first_listed_counted None files = omega arith
   first_listed_counted (Some g) files = count_by-cons (λ (x : Entry). nat_eq x.nodeid id) g files
 
   pair_counted : (nodes : Map Counted) (pair : DirentPlus Entry)
-      → told (listed_by (pair_judged pair (use_of_listed nodes (listed_by pair))))
-      + times_in id (stale_in (use_of_listed nodes (listed_by pair))) ≡ told (listed_by pair)
+      → lookups_in (listed_by (pair_judged pair (use_of_listed nodes (listed_by pair))))
+      + times_in id (stale_in (use_of_listed nodes (listed_by pair))) ≡ lookups_in (listed_by pair)
   pair_counted nodes pair = by (listed_by pair) refl
     where
-      none : (b : Bool) → told (cond b None None) ≡ 0
+      none : (b : Bool) → lookups_in (cond b None None) ≡ 0
       none true = refl
       none false = refl
 
-      used : (g : Entry) (u : Use) → told (listed_by pair) ≡ time_named g → counted_by g u ≡ time_named g
-          → told (listed_by (pair_judged pair u)) + times_in id (stale_in u) ≡ time_named g
+      used : (g : Entry) (u : Use) → lookups_in (listed_by pair) ≡ time_named g → counted_by g u ≡ time_named g
+          → lookups_in (listed_by (pair_judged pair u)) + times_in id (stale_in u) ≡ time_named g
       used g usable is counts = omega (arith, is)
       used g unusable is counts = let no = none (is_dots pair.dirent.name) in omega (arith, no, counts)
       used g (stale node) is counts = let no = none (is_dots pair.dirent.name) in omega (arith, no, counts)
 
       by : (o : Option Entry) → listed_by pair ≡ o
-          → told (listed_by (pair_judged pair (use_of_listed nodes o))) +
-          times_in id (stale_in (use_of_listed nodes o)) ≡ told o
-      by None at = let is = ap told at in omega (arith, is)
-      by (Some g) at = used g (use_of nodes g) (ap told at) (entry_counted nodes g)
+          → lookups_in (listed_by (pair_judged pair (use_of_listed nodes o))) +
+          times_in id (stale_in (use_of_listed nodes o)) ≡ lookups_in o
+      by None at = let is = ap lookups_in at in omega (arith, is)
+      by (Some g) at = used g (use_of nodes g) (ap lookups_in at) (entry_counted nodes g)
 
   times_append : (xs ys : List ℕ) → times_in id (xs ++ ys) ≡ times_in id xs + times_in id ys
   times_append [] ys = omega arith

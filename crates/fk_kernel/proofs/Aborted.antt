@@ -12,7 +12,7 @@ use Rattle.fuse_spec.specs.declared.Phase.TheVariants.{Aborted}
 use Rattle.fuse_spec.specs.declared.Purpose.{Purpose}
 use Rattle.fk_queues.specs.Room.{Room}
 use Rattle.fk_kernel.specs.Soundness.{IsSoundKernel}
-use Rattle.fk_calls.proofs.Answered.{untold}
+use Rattle.fk_calls.proofs.Answered.{answer_unchanged}
 use Rattle.fk_kernel.proofs.OpenFilesKept.{no_files}
 use Rattle.fk_kernel.proofs.Nodes.{none_counted}
 
@@ -25,7 +25,7 @@ pub sound_aborted : (phase : Phase) (calls : Map (CallState Opened)) (answers : 
 sound_aborted phase calls answers free more coming opens closing s space left known clock old = record {
   numbers = record {
     calls_below = λ n le. refl;
-    answers_below = λ n le. untold (failed econnaborted) calls answers n (old.numbers.calls_below n le)
+    answers_below = λ n le. answer_unchanged (failed econnaborted) calls answers n (old.numbers.calls_below n le)
         (old.numbers.answers_below n le);
     apart = λ n there. absurd (there refl);
     room = omega arith;

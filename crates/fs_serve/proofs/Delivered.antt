@@ -18,7 +18,7 @@ use Rattle.fuse_theorem.proofs.Nodes.NodesSound.{left_none}
 use Rattle.fuse_theorem.proofs.Nodes.ServerSound.{result_sound}
 use Rattle.fuse_device.specs.Transfers.{Transfer, sent, unsent, ended_in}
 use Rattle.fuse_device.specs.declared.device.DeviceEnd.{DeviceEnd}
-use Rattle.fs_serve.specs.LookupCounts.{lookup_count, Tells, told, refused, cut_off}
+use Rattle.fs_serve.specs.LookupCounts.{lookup_count, GivesLookups, reply_accepted, refused, cut_off}
 use Rattle.fs_serve.specs.Sending.{Delivers, IsSettled, settled as is_settled, unsettled}
 use Rattle.fk_wire.specs.declared.opcode.Opcode.{Opcode}
 use Rattle.fuse_frames.specs.ReplyTies.{IsReplyFrame}
@@ -27,7 +27,7 @@ use Rattle.fs_serve.proofs.BetweenFrames.{IsBetween}
 -- After what was sent, the counts have risen by what was given, and the server is between frames again.
 pub record Delivered (minor : Minor) (counts : ℕ → ℕ) (log : List Transfer) (new : Server) : Type 0 where
   pub more : ℕ → ℕ
-  pub tells : Tells log more
+  pub tells : GivesLookups log more
   pub balance : (id : ℕ) → lookup_count new id ≡ counts id + more id
   pub between : ended_in log ≡ None → IsBetween minor new
 
@@ -129,7 +129,7 @@ module _ (minor : Minor) (counts : ℕ → ℕ) (copy : Sent) (s : Server) (send
         → Delivered minor counts (sent bytes result ∷ []) (after_result without_it copy.wire result)
     by_result Accepted = record {
       more = λ id. times_named id copy.wire;
-      tells = told opcode copy.unique copy.wire bytes frame;
+      tells = reply_accepted opcode copy.unique copy.wire bytes frame;
       balance = sends.counted;
       between = λ none. between Accepted;
     }

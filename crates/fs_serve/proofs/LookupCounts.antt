@@ -23,7 +23,7 @@ use Rattle.fuse_frames.specs.RequestTies.{SaysRequest}
 use Rattle.fuse_device.specs.Transfers.{Transfer, stopped, ended_in}
 use Rattle.fuse_device.specs.declared.device.DeviceEnd.{DeviceEnd}
 use Rattle.fs_serve.specs.LongBatches.{first_pairs, part_of}
-use Rattle.fs_serve.specs.LookupCounts.{Follows, FollowsFrame, FollowsPairs, FrameGivesBack, IsFresh, MayForget, Tells, lookup_count, batch, end, error, forgets, frame, more_pairs, no_pairs, none, nothing, nothing_sent}
+use Rattle.fs_serve.specs.LookupCounts.{Follows, FollowsFrame, FollowsPairs, FrameGivesBack, IsFresh, MayForget, GivesLookups, lookup_count, batch, end, error, forgets, frame, more_pairs, no_pairs, none, nothing, nothing_sent}
 use Rattle.fs_serve.specs.Sending.{Delivers, SendsFault, replied, unreplied}
 use Rattle.fs_serve.specs.Serving.{Serves, ServesFrame, ServesHeld, ServesNext, ServesPairs, TakesRequest, done_at_once, replied_at_once, performed, untaken, uninterrupted, refused, one, out_of_memory}
 use Rattle.fs_serve.specs.Serving as serving
@@ -236,7 +236,7 @@ module _ (minor : Minor) (old : Server) (is : IsBetween minor old) (bytes : List
 
   -- ---- a request isn't taken
 
-  unchanged : FrameGivesBack minor counts bytes (λ id. 0) → (log : List Transfer) → Tells log (λ id. 0)
+  unchanged : FrameGivesBack minor counts bytes (λ id. 0) → (log : List Transfer) → GivesLookups log (λ id. 0)
       → Follow minor counts bytes log old
   unchanged back log tells = record {
     counts = record {
@@ -293,7 +293,7 @@ module _ (minor : Minor) (old : Server) (is : IsBetween minor old) (bytes : List
           (subst (λ (b : RequestBody). MayForget counts (forgets_of b)) same may_be) refl)
       by request says known may_be (interrupt original) same = ap forgets_of same
 
-  fault_tells : (fault : ServerFault) (log : List Transfer) → SendsFault old.minor bytes fault log → Tells log (λ id. 0)
+  fault_tells : (fault : ServerFault) (log : List Transfer) → SendsFault old.minor bytes fault log → GivesLookups log (λ id. 0)
   fault_tells fault log (replied reply written log' sends) = error _ written.error reply written.written log sends
   fault_tells fault log (unreplied quiet) = nothing_sent
 

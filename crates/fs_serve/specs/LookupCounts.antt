@@ -49,25 +49,25 @@ pub data FrameGivesBack (minor : Minor) (counts : ℕ → ℕ) (frame : List ℕ
 -- How many lookups of each node what is sent after a frame gives: as many as entries of an accepted reply name it. A
 -- refused reply gives none, and an error none. One at which the device came to its end is counted as accepted, since
 -- nobody knows.
-pub data Tells : List Transfer → (ℕ → ℕ) → Type 0 where
-  nothing_sent : Tells [] (λ id. 0)
-  told : (opcode : Opcode) (unique : ℕ) (wire : WireReply) (bytes : List ℕ)
+pub data GivesLookups : List Transfer → (ℕ → ℕ) → Type 0 where
+  nothing_sent : GivesLookups [] (λ id. 0)
+  reply_accepted : (opcode : Opcode) (unique : ℕ) (wire : WireReply) (bytes : List ℕ)
       → IsReplyFrame opcode bytes (record { unique = unique; wire = wire })
-      → Tells (sent bytes Accepted ∷ []) (λ id. times_named id wire)
-  refused : (bytes : List ℕ) (result : WriteResult) → result ≢ Accepted → Tells (sent bytes result ∷ []) (λ id. 0)
+      → GivesLookups (sent bytes Accepted ∷ []) (λ id. times_named id wire)
+  refused : (bytes : List ℕ) (result : WriteResult) → result ≢ Accepted → GivesLookups (sent bytes result ∷ []) (λ id. 0)
   cut_off : (opcode : Opcode) (unique : ℕ) (wire : WireReply) (bytes : List ℕ)
       → IsReplyFrame opcode bytes (record { unique = unique; wire = wire }) → (end : DeviceEnd)
-      → Tells (unsent bytes end ∷ []) (λ id. times_named id wire)
+      → GivesLookups (unsent bytes end ∷ []) (λ id. times_named id wire)
   error : (unique : ℕ) (code : ℤ) (bytes : List ℕ)
       → WrittenReply (record { unique = unique; error = code; content = empty_reply }) bytes
-      → (log : List Transfer) → SendsBytes bytes log → Tells log (λ id. 0)
+      → (log : List Transfer) → SendsBytes bytes log → GivesLookups log (λ id. 0)
 
 -- After a frame each count has risen by what was given and fallen by what was given back.
 pub record FollowsFrame (minor : Minor) (old : ℕ → ℕ) (frame : List ℕ) (log : List Transfer) (new : ℕ → ℕ) : Type 0 where
   pub back : ℕ → ℕ
   pub gives_back : FrameGivesBack minor old frame back
   pub more : ℕ → ℕ
-  pub tells : Tells log more
+  pub tells : GivesLookups log more
   pub balance : (id : ℕ) → new id + back id ≡ old id + more id
 
 -- The counts follow the pairs of a long BATCH_FORGET up to some place, 64 after 64: each frame of them that may be

@@ -32,9 +32,9 @@ forgotten_there id node n fs ne =
     omega (arith, more, none)
 
 -- a node of which nothing is said, or one of a pair
-told : (id : ℕ) (fs : List Forget) → list_any (λ f. nat_eq f.0 id) fs ≡ false → forgotten id fs ≡ 0
-told id [] none = refl
-told id (f ∷ fs) none = by (nat_eq f.0 id) refl none (told id fs)
+not_forgotten : (id : ℕ) (fs : List Forget) → list_any (λ f. nat_eq f.0 id) fs ≡ false → forgotten id fs ≡ 0
+not_forgotten id [] none = refl
+not_forgotten id (f ∷ fs) none = by (nat_eq f.0 id) refl none (not_forgotten id fs)
   where
     by : (b : Bool) → nat_eq f.0 id ≡ b → (b || list_any (λ f. nat_eq f.0 id) fs) ≡ false
         → (list_any (λ f. nat_eq f.0 id) fs ≡ false → forgotten id fs ≡ 0) → forgotten id (f ∷ fs) ≡ 0
@@ -71,7 +71,7 @@ module _ (t : NodeTable) (all : List Forget) where
     where
       by : (b : Bool) → list_any (λ f. nat_eq f.0 id) all ≡ b → forgotten id all ≤ count_in (get t.rows id)
       by true e = of_pair id all few e
-      by false e = let none = told id all e in omega (arith, none)
+      by false e = let none = not_forgotten id all e in omega (arith, none)
 
 -- one pair is given back, and the others still can be
 module _ (t : NodeTable) (node n : ℕ) (fs : List Forget)

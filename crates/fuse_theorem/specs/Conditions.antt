@@ -97,7 +97,7 @@ pub record IsReplyToCall (w : World) (p : Plain) (sent : Sent) (call : ℕ) (sta
   pub by_call : ask.call ≡ call
   pub same : OperationAlike (NodeDenotesIn w) (OpenDenotesIn w) (asked state) ask.operation
   pub stage : ask.stage ≡ plain.performed reply
-  pub told : ReplyAlike (Names w.server.nodes) (Opens w.server.handles) sent.wire reply
+  pub reply_matches : ReplyAlike (Names w.server.nodes) (Opens w.server.handles) sent.wire reply
   pub goes : goes_with (asked state) sent.wire ≡ true
   pub used : IsUsable w.kernel.nodes sent.wire
   pub opens : OpensItsFile w.server.nodes w.server.handles (asked state) sent.wire

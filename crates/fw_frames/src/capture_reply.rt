@@ -158,7 +158,7 @@ fn count_pluses<A: Allocator + Copy>(
 ) -> Result<(), AllocError> {
     for pair in records {
         if !matches!(pair.dirent.name, [b'.'] | [b'.', b'.']) {
-            conversation.told(pair.entry_out.nodeid)?;
+            conversation.note_lookup(pair.entry_out.nodeid)?;
         }
     }
     Ok(())
@@ -171,7 +171,7 @@ fn note_lookups<A: Allocator + Copy>(
 ) -> Result<(), AllocError> {
     match body {
         ReplyBody::Entry { entry } | ReplyBody::Create { entry, .. } => {
-            conversation.told(entry.nodeid)
+            conversation.note_lookup(entry.nodeid)
         }
         ReplyBody::RecordsPlus { records } => count_pluses(conversation, *records),
         _ => Ok(()),

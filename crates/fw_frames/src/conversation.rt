@@ -97,7 +97,7 @@ impl<A: Allocator + Copy> Conversation<A> {
     }
 
     /// A reply gave a lookup of a node. Node 0 is none, and the root is not counted.
-    pub(crate) fn told(&mut self, nodeid: u64) -> Result<(), AllocError> {
+    pub(crate) fn note_lookup(&mut self, nodeid: u64) -> Result<(), AllocError> {
         if nodeid <= 1 {
             return Ok(());
         }

@@ -28,8 +28,8 @@ ServerDoes old (event.Take bytes) (step.Taken taken) new = TakesFrame old bytes.
 ServerDoes old (event.Do unique) (step.Done under done) new =
     (under ≡ unique) × PerformsHeld old unique done.errno done.sent new
 ServerDoes old (event.Again unique) (step.SentAgain copy) new = SendsAgain old unique copy new
-ServerDoes old (event.Settle copy result) (step.Settled number told) new =
-    (number ≡ copy) × (told ≡ result) × Settles old copy result new
+ServerDoes old (event.Settle copy result) (step.Settled number said_result) new =
+    (number ≡ copy) × (said_result ≡ result) × Settles old copy result new
 ServerDoes old event.Abort step.Aborted new = new ≡ connection_lost old
 ServerDoes old e s new = ⊥
 

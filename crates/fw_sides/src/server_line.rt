@@ -75,7 +75,7 @@ fn read_take(rest: Option<&[u8]>) -> Result<ServerLine<'_>, LineFault>
 
 /// What a writer got, by the number that is printed for it.
 fn result_of(number: u64) -> Option<WriteResult>
-    ensures { IfSome result (λ told. settled_number told ≡ number) }
+    ensures { IfSome result (λ said_result. settled_number said_result ≡ number) }
 {
     match number {
         0 => Some(WriteResult::Accepted),

@@ -25,12 +25,12 @@ is_over w call is = record { begun = is.begun; not_waiting = is.not_waiting; no_
 pub all_answers : (P : ℕ → Type 0) (R : Record → Type 0) → ((call : ℕ) (a : Answer) → P call → R (answered call a))
     → (answers : Map Answer) → ((call : ℕ) (a : Answer) → get answers call ≡ Some a → P call)
     → All R (answers_of answers)
-all_answers P R told [] each = All-nil R
-all_answers P R told (e ∷ answers) each =
+all_answers P R reply_matches [] each = All-nil R
+all_answers P R reply_matches (e ∷ answers) each =
     let here : get (e ∷ answers) e.0 ≡ Some e.1 = ap (λ (r : Ordering). cond (is_eq r) (Some e.1) (get answers e.0))
     (cmp_same e.0) in
-    All-cons R (answered e.0 e.1) (answers_of answers) (told e.0 e.1 (each e.0 e.1 here))
-    (all_answers P R told answers rest)
+    All-cons R (answered e.0 e.1) (answers_of answers) (reply_matches e.0 e.1 (each e.0 e.1 here))
+    (all_answers P R reply_matches answers rest)
   where
     found : (call : ℕ) (a : Answer) (b : Bool) → get answers call ≡ Some a
         → (x : Answer) × (cond b (Some e.1) (get answers call) ≡ Some x)

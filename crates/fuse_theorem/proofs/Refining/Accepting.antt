@@ -73,7 +73,7 @@ module _ (w : World) (p : Plain) (numbered : IsNumbered w) (one : OneId w.server
 
   fits : ReplyAlike (NodeDenotesIn wl) (OpenDenotesIn wl) reply_received reply
   fits = received_fits w.kernel.nodes w.server.nodes w.server.handles
-      (asked state) is.ask.operation sent.wire reply is.goes is.used is.opens is.same is.told
+      (asked state) is.ask.operation sent.wire reply is.goes is.used is.opens is.same is.reply_matches
 
   other_state : (o : Option (CallState ℕ)) → OptionAlike (StateAlike (NodeDenotesIn wl) (OpenDenotesIn wl)) (Some state) o
       → (s : CallState ℕ) × (o ≡ Some s) × StateAlike (NodeDenotesIn wl) (OpenDenotesIn wl) state s

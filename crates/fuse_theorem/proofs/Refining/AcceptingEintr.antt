@@ -57,8 +57,8 @@ module _ (w : World) (p : Plain) (numbered : IsNumbered w) (one : OneId w.server
   unanswered : is_some (get p.vfs.calls is.ask.call) ≡ true
   unanswered = ap (λ (n : ℕ). is_some (get p.vfs.calls n)) is.by_call ∙ ap is_some other.1
 
-  told : Alike (record w { kernel = k2 }) q
-  told =
+  reply_matches : Alike (record w { kernel = k2 }) q
+  reply_matches =
       declined_alike w p numbered
       (one_to_one w.kernel.nodes w.server.nodes one) same live sent.unique call is.request is.ask state other.0 is.under is.serves is.there is.by_call other.1 other.2 is.stage
 
@@ -103,5 +103,5 @@ module _ (w : World) (p : Plain) (numbered : IsNumbered w) (one : OneId w.server
     subst (λ (took : WriteResult × Kernel). Alike (after_write w k sent took) q) (sym replied_is)
         (unsent_alike (record w { kernel = after_use k2 state }) q
         (used_alike (record w { kernel = k2 }) q
-        (IsSound-without w.kernel.queues sent.unique numbered.queues) live told state) k results),
+        (IsSound-without w.kernel.queues sent.unique numbered.queues) live reply_matches state) k results),
   )

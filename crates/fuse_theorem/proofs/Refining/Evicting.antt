@@ -177,8 +177,8 @@ module _ (w : World) (p : Plain) (same : Alike w p) (node : ℕ) (root : w.kerne
         stays (nodes_of_body request.body) (opens_of_body request.body) (unsent i r lt);
     held_nodes = λ u x at id file among m. m;
     held_opens = λ u x at o file among m. m;
-    kept = λ live u k ask at there told. told;
-    copies = λ live i s lt ask there told. told;
+    kept = λ live u k ask at there reply_matches. reply_matches;
+    copies = λ live i s lt ask there reply_matches. reply_matches;
   }
     where
       in_use : (id : ℕ) (name : List ℕ) (o : Option Dentry) → get_name w.kernel.vfs.names (id, name) ≡ o → o ≢ None

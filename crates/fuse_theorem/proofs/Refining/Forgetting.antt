@@ -191,15 +191,15 @@ module _ (w : World) (p : Plain) (same : Alike w p) (t : NodeTable)
       node_meant = meant u x at o.nodeid file m.node_meant;
       is_handle = m.is_handle;
     };
-    kept = λ live u k ask at there told.
+    kept = λ live u k ask at there reply_matches.
         stage_more w.server.nodes t w.server.handles w.server.handles ask.stage k.wire
         (λ g file among d. still g.nodeid g.generation file
-        (holds.kept u k at (unanswered live u ask there) g among) d) (λ fh file among o. o) told;
-    copies = λ live i s lt ask there told.
+        (holds.kept u k at (unanswered live u ask there) g among) d) (λ fh file among o. o) reply_matches;
+    copies = λ live i s lt ask there reply_matches.
         let sent = get_or w.replies i s in
         stage_more w.server.nodes t w.server.handles w.server.handles ask.stage sent.wire
         (λ g file among d. still g.nodeid g.generation file
-        (holds.copies i s lt (unanswered live sent.unique ask there) g among) d) (λ fh file among o. o) told;
+        (holds.copies i s lt (unanswered live sent.unique ask there) g among) d) (λ fh file among o. o) reply_matches;
   }
 
 -- The server takes a FORGET or a BATCH_FORGET: where it holds afterwards what is known, held and on its way, all is

@@ -155,52 +155,52 @@ pub received_fits : (nodes : Map Counted) (t : NodeTable) (h : HandleTable) (ope
     → OperationAlike (NodeDenotes nodes t) (OpenDenotes nodes t h) operation asked → ReplyAlike (Names t) (Opens h) wire reply
     → ReplyAlike (NodeDenotes (looked_up nodes (files_in_reply wire)) t) (OpenDenotes (looked_up nodes (files_in_reply wire)) t h)
     (kernel_reply operation wire) reply
-received_fits nodes t h operation asked (found g v) (found file v') goes used its same told = (
+received_fits nodes t h operation asked (found g v) (found file v') goes used its same reply_matches = (
   record {
     generation = g.generation;
     known = All-head
         (λ (x : Entry). generation_known (looked_up nodes (g ∷ [])) x.nodeid ≡ Some x.generation) g [] used.known;
     denotes =
-        told.0;
+        reply_matches.0;
   },
-  told.1,
+  reply_matches.1,
 )
-received_fits nodes t h operation asked (missing v) (missing v') goes used its same told = told
-received_fits nodes t h (create d name) asked (created g v fh) (created file v' o) goes used its same told =
+received_fits nodes t h operation asked (missing v) (missing v') goes used its same reply_matches = reply_matches
+received_fits nodes t h (create d name) asked (created g v fh) (created file v' o) goes used its same reply_matches =
     let known = All-head (λ (x : Entry). generation_known (looked_up nodes (g ∷ [])) x.nodeid
     ≡ Some x.generation) g [] used.known in
-    let one_file : file ≡ o = opens_one h fh file o (its file told.0) told.2 in (
-      record { generation = g.generation; known = known; denotes = told.0 },
-      told.1,
+    let one_file : file ≡ o = opens_one h fh file o (its file reply_matches.0) reply_matches.2 in (
+      record { generation = g.generation; known = known; denotes = reply_matches.0 },
+      reply_matches.1,
       record {
         node_means = record {
           generation = g.generation;
           known = known;
-          denotes = subst (λ (n : ℕ). Denotes t g.nodeid g.generation n) one_file told.0;
+          denotes = subst (λ (n : ℕ). Denotes t g.nodeid g.generation n) one_file reply_matches.0;
         };
-        is_handle = told.2;
+        is_handle = reply_matches.2;
       },
     )
-received_fits nodes t h (opening node) (opening file) (opened fh) (opened o) goes used its same told =
-    let one_file : file ≡ o = opens_one h fh file o (its same.generation file same.denotes) told in
+received_fits nodes t h (opening node) (opening file) (opened fh) (opened o) goes used its same reply_matches =
+    let one_file : file ≡ o = opens_one h fh file o (its same.generation file same.denotes) reply_matches in
     record {
       node_means = record {
         generation = same.generation;
         known = same.known;
         denotes = subst (λ (n : ℕ). Denotes t node same.generation n) one_file same.denotes;
       };
-      is_handle = told;
+      is_handle = reply_matches;
     }
-received_fits nodes t h operation asked (attributes a) (attributes b) goes used its same told = told
-received_fits nodes t h operation asked (listed xs) (listed ys) goes used its same told = told
-received_fits nodes t h operation asked (listed_plus xs) (listed_plus ys) goes used its same told =
-    received_pairs (looked_up nodes (files_listed xs)) t xs ys used.known told
-received_fits nodes t h operation asked (content xs) (content ys) goes used its same told = told
-received_fits nodes t h operation asked (written n) (written m) goes used its same told = told
-received_fits nodes t h operation asked (agreed a b x) (agreed c d y) goes used its same told = told
-received_fits nodes t h operation asked done done goes used its same told = told
-received_fits nodes t h operation asked (failed a) (failed b) goes used its same told = told
-received_fits nodes t h operation asked (created g v fh) (created file v' o) goes used its same told = absurd (cc)
-received_fits nodes t h (opening node) asked (opened fh) (opened o) goes used its same told = absurd same
-received_fits nodes t h operation asked (opened fh) (opened o) goes used its same told = absurd (cc)
-received_fits nodes t h operation asked wire reply goes used its same told = absurd told
+received_fits nodes t h operation asked (attributes a) (attributes b) goes used its same reply_matches = reply_matches
+received_fits nodes t h operation asked (listed xs) (listed ys) goes used its same reply_matches = reply_matches
+received_fits nodes t h operation asked (listed_plus xs) (listed_plus ys) goes used its same reply_matches =
+    received_pairs (looked_up nodes (files_listed xs)) t xs ys used.known reply_matches
+received_fits nodes t h operation asked (content xs) (content ys) goes used its same reply_matches = reply_matches
+received_fits nodes t h operation asked (written n) (written m) goes used its same reply_matches = reply_matches
+received_fits nodes t h operation asked (agreed a b x) (agreed c d y) goes used its same reply_matches = reply_matches
+received_fits nodes t h operation asked done done goes used its same reply_matches = reply_matches
+received_fits nodes t h operation asked (failed a) (failed b) goes used its same reply_matches = reply_matches
+received_fits nodes t h operation asked (created g v fh) (created file v' o) goes used its same reply_matches = absurd (cc)
+received_fits nodes t h (opening node) asked (opened fh) (opened o) goes used its same reply_matches = absurd same
+received_fits nodes t h operation asked (opened fh) (opened o) goes used its same reply_matches = absurd (cc)
+received_fits nodes t h operation asked wire reply goes used its same reply_matches = absurd reply_matches

@@ -165,8 +165,8 @@ module _ (w : World) (p : Plain) (same : Alike w p) (original : ℕ) (t : HeldRe
           absurd (true≢false (sym (same_is original) ∙ ap (nat_eq original) (sym here) ∙ apart));
       held = λ x at. absurd (cc (get_gone_here w.server.held original, at));
       noted = λ request under bears _. noted;
-      kept = λ kept stored told. told;
-      copies = λ i s lt here told. told;
+      kept = λ kept stored reply_matches. reply_matches;
+      copies = λ i s lt here reply_matches. reply_matches;
     }
 
     -- The request of a call is marked, and its ask.

@@ -117,8 +117,8 @@ module _ (w : World) (p : Plain) (same : Alike w p) (choice : ℕ → ℕ) (uniq
         sent = λ i r lt. record { nodes_stay = λ id file among m. m; opens_stay = λ o file node among m. m };
         held_nodes = λ u x at id file among m. m;
         held_opens = λ u x at o file among m. m;
-        kept = λ live u k ask at there told. told;
-        copies = λ live i s lt ask there told. told;
+        kept = λ live u k ask at there reply_matches. reply_matches;
+        copies = λ live i s lt ask there reply_matches. reply_matches;
       }) (λ file h. h)
 
   -- A RELEASE is performed, where the server still holds what is known, held and on its way.

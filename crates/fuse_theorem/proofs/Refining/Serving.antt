@@ -72,7 +72,7 @@ module _ (w : World) (p : Plain) (same : Alike w p) where
         };
         replies = w.replies ++ record { number = number; unique = unique; wire = wire } ∷ [];
       }) p
-  replied_alike unique number next wire kept copies is_wire told = record {
+  replied_alike unique number next wire kept copies is_wire reply_matches = record {
     tree = record {
       names = same.tree.names;
       next_inode = same.tree.next_inode;
@@ -104,13 +104,13 @@ module _ (w : World) (p : Plain) (same : Alike w p) where
                 ) in
                 subst (λ (x : WireReply). IsStageReplied w.server.nodes w.server.handles ask.stage x)
                 (sym is_wire ∙ ap (λ (x : Kept). x.wire) is_kept)
-                (told live ask (subst (λ (n : ℕ). get p.asks n ≡ Some ask) e there))
+                (reply_matches live ask (subst (λ (n : ℕ). get p.asks n ≡ Some ask) e there))
             | inr ne ↦ old.kept u k ask (sym (get_put_there w.server.kept unique kept u ne) ∙ at) there
           ];
           copies = All-push (λ (sent : Sent). (ask : Ask) → get p.asks sent.unique ≡ Some ask
               → IsStageReplied w.server.nodes w.server.handles ask.stage sent.wire) w.replies
               (record { number = number; unique = unique; wire = wire }) old.copies
-              (told live);
+              (reply_matches live);
         };
     validity = same.validity;
     minor = same.minor;
@@ -126,7 +126,7 @@ module _ (w : World) (p : Plain) (same : Alike w p) where
         server = record w.server { copies = copies; next_copy = next };
         replies = w.replies ++ record { number = number; unique = unique; wire = wire } ∷ [];
       }) p
-  copied_alike unique number next wire copies told = record {
+  copied_alike unique number next wire copies reply_matches = record {
     tree = record {
       names = same.tree.names;
       next_inode = same.tree.next_inode;
@@ -154,7 +154,7 @@ module _ (w : World) (p : Plain) (same : Alike w p) where
           copies = All-push (λ (sent : Sent). (ask : Ask) → get p.asks sent.unique ≡ Some ask
               → IsStageReplied w.server.nodes w.server.handles ask.stage sent.wire) w.replies
               (record { number = number; unique = unique; wire = wire }) old.copies
-              (told live);
+              (reply_matches live);
         };
     validity = same.validity;
     minor = same.minor;

@@ -219,19 +219,19 @@ module _ (w : World) (p : Plain) (same : Alike w p) (one : OneId w.server.nodes)
       is_handle =
           open_still o.fh file (opens.held u x at o among) m.is_handle;
     };
-    kept = λ live u k ask at there told.
+    kept = λ live u k ask at there reply_matches.
         let waits = unanswered w p same t fewer one holds live u ask there in
         stage_more w.server.nodes t w.server.handles h ask.stage k.wire
         (λ g file among d. still w p same t fewer one holds g.nodeid g.generation file
         (holds.kept u k at waits g among) d)
-        (λ fh file among o. open_still fh file (opens.kept u k at waits fh among) o) told;
-    copies = λ live i s lt ask there told.
+        (λ fh file among o. open_still fh file (opens.kept u k at waits fh among) o) reply_matches;
+    copies = λ live i s lt ask there reply_matches.
         let sent = get_or w.replies i s in
         let waits = unanswered w p same t fewer one holds live sent.unique ask there in
         stage_more w.server.nodes t w.server.handles h ask.stage sent.wire
         (λ g file among d. still w p same t fewer one holds g.nodeid g.generation file
         (holds.copies i s lt waits g among) d)
-        (λ fh file among o. open_still fh file (opens.copies i s lt waits fh among) o) told;
+        (λ fh file among o. open_still fh file (opens.copies i s lt waits fh among) o) reply_matches;
   }
 
 -- What a copy carried is given back.

@@ -80,8 +80,8 @@ module _ (w : World) (p : Plain) (same : Alike w p) (unique : ℕ) (ask : Ask)
         (OpenStillDenotes w.server.nodes w.server.handles t.generations) p.asks unique false false t.marked t.body ask there
         (same.requests.held unique t at);
     noted = λ r under bears noted. refl;
-    kept = λ k at told. told;
-    copies = λ i s lt here told. told;
+    kept = λ k at reply_matches. reply_matches;
+    copies = λ i s lt here reply_matches. reply_matches;
   }
 
   -- The signal is noted.

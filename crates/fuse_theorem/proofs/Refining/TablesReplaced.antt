@@ -122,10 +122,10 @@ pub stage_more : (t t' : NodeTable) (h h' : HandleTable) (stage : Stage) (wire :
     → ((g : Entry) (file : ℕ) → Contains (files_in_reply wire) g → Names t g file → Names t' g file)
     → ((fh file : ℕ) → Contains (opens_in_reply wire) fh → Opens h fh file → Opens h' fh file)
     → IsStageReplied t h stage wire → IsStageReplied t' h' stage wire
-stage_more t t' h h' waiting wire f k told = absurd told
-stage_more t t' h h' (performed reply) wire f k told =
-    reply_more (Names t) (Names t') (Opens h) (Opens h') wire reply f k told
-stage_more t t' h h' declined wire f k told = told
+stage_more t t' h h' waiting wire f k reply_matches = absurd reply_matches
+stage_more t t' h h' (performed reply) wire f k reply_matches =
+    reply_more (Names t) (Names t') (Opens h) (Opens h') wire reply f k reply_matches
+stage_more t t' h h' declined wire f k reply_matches = reply_matches
 
 -- .. and what a request asks
 pub body_more : (R R' : ℕ → ℕ → Type 0) (S S' : Opened → ℕ → Type 0) (all : Map Ask) (unique : ℕ)
@@ -241,12 +241,12 @@ grown w p nodes t h known denotes open_still one = record {
     node_meant = meant x.generations o.nodeid file m.node_meant;
     is_handle = open_still o.fh file m.is_handle;
   };
-  kept = λ live u k ask at there told. stage_more w.server.nodes t w.server.handles h ask.stage k.wire
-      (λ g file among d. denotes g.nodeid g.generation file d) (λ fh file among o. open_still fh file o) told;
-  copies = λ live i s lt ask there told.
+  kept = λ live u k ask at there reply_matches. stage_more w.server.nodes t w.server.handles h ask.stage k.wire
+      (λ g file among d. denotes g.nodeid g.generation file d) (λ fh file among o. open_still fh file o) reply_matches;
+  copies = λ live i s lt ask there reply_matches.
       let sent = get_or w.replies i s in
       stage_more w.server.nodes t w.server.handles h ask.stage sent.wire
-      (λ g file among d. denotes g.nodeid g.generation file d) (λ fh file among o. open_still fh file o) told;
+      (λ g file among d. denotes g.nodeid g.generation file d) (λ fh file among o. open_still fh file o) reply_matches;
 }
   where
     means : (id file : ℕ) → NodeDenotesIn w id file → NodeDenotes nodes t id file

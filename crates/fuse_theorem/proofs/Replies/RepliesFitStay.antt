@@ -250,10 +250,10 @@ module _ (choice : ℕ → ℕ) (w : World) (p : Plain) (both : BothSound w p) (
           let spelled : Some (release o) ≡ Some t.body = says in
           cc (spelled)
 
-      told : (i : ℕ) (d : ℕ × QueuedRequest Purpose) → i < length w.kernel.queues.requests
+      reply_matches : (i : ℕ) (d : ℕ × QueuedRequest Purpose) → i < length w.kernel.queues.requests
           → FitsPurpose (w.replies ++ new ∷ []) (served choice w.server unique t).server.kept
           (get_or w.kernel.queues.requests i d).0 (get_or w.kernel.queues.requests i d).1.kept
-      told i d lt =
+      reply_matches i d lt =
           let e = get_or w.kernel.queues.requests i d in
           let world = both.world in
           let only = of_entries (λ (y : QueuedRequest Purpose). y ≡ asked.request) unique w.kernel.queues.requests
@@ -268,7 +268,7 @@ module _ (choice : ℕ → ℕ) (w : World) (p : Plain) (both : BothSound w p) (
           (record w { server = (served choice w.server unique t).server }) w.server.next_copy unique
           (cond b None (Some (served choice w.server unique t).wire)))
       by true e = absurd (true≢false e)
-      by false e = one_more live _ new refl refl refl told
+      by false e = one_more live _ new refl refl refl reply_matches
           (λ odd. let world = both.world in
           let even = request_even w.kernel.queues world.queues unique asked.request asked.under in
           absurd (omega (arith, even, odd)))

@@ -62,13 +62,13 @@ module _ (R : ℕ → ℕ → Type 0) (S : Opened → ℕ → Type 0) (t : NodeT
       within size (length bytes) (subst (λ (m : ℕ). m ≤ length bytes) (sym f)
       (subst (λ (xs : List ℕ). n ≤ length xs) (sym same) so))
   goes _ _ _ _ (both_write o o' x y bytes others r q same) (same_failed v u f) so = refl
-  goes _ _ _ _ other told so = absurd so
+  goes _ _ _ _ other reply_matches so = absurd so
 
   -- The copy is a body of a reply to the operation.
   pub wire_goes : (a : Operation ℕ Opened) (b : FileOperation) (wire : WireReply) (reply : Reply ℕ ℕ)
       → OperationAlike R S a b → ReplyAlike (Names t) (Opens h) wire reply → RepliesTo b reply → goes_with a wire ≡ true
-  wire_goes a b wire reply same told so = goes a b wire reply (same_operation R S a b same)
-      (same_reply (Names t) (Opens h) wire reply told) so
+  wire_goes a b wire reply same reply_matches so = goes a b wire reply (same_operation R S a b same)
+      (same_reply (Names t) (Opens h) wire reply reply_matches) so
 
 -- Its file handle is one of the file that was created or opened.
 module _ (nodes : Map Counted) (t : NodeTable) (h : HandleTable)
@@ -83,7 +83,7 @@ module _ (nodes : Map Counted) (t : NodeTable) (h : HandleTable)
       subst (λ (n : ℕ). is_open h fh n ≡ true) (so ∙ sym
       (held d r.generation r.known e r.denotes generation file denotes)) number
   wire_opens S _ _ _ _ other (same_created g x v u fh o named f number) so = absurd so
-  wire_opens S _ _ _ _ other told so = tt
+  wire_opens S _ _ _ _ other reply_matches so = tt
 
 -- ---- entries that can be used
 

@@ -61,7 +61,7 @@ opens_none t h (write o offset bytes) errno = tt
 -- What is alike to an error is that error.
 failed_alike : (t : NodeTable) (h : HandleTable) (errno : ℕ) (wire : WireReply) (reply : Reply ℕ ℕ)
     → wire ≡ failed errno → ReplyAlike (Names t) (Opens h) wire reply → reply ≡ failed errno
-failed_alike t h errno wire reply is told = by wire reply is (same_reply (Names t) (Opens h) wire reply told)
+failed_alike t h errno wire reply is reply_matches = by wire reply is (same_reply (Names t) (Opens h) wire reply reply_matches)
   where
     by : (x : WireReply) (y : Reply ℕ ℕ) → x ≡ failed errno → SameReply (Names t) (Opens h) x y → y ≡ failed errno
     by _ _ e (same_found x0 y0 x1 y1 r q) = absurd (cc (e))
@@ -200,7 +200,7 @@ module _ (w : World) (sound : WorldSound w) (asked_so : RequestsAskedWhileLive w
             by_call = pair.by;
             same = pair.same;
             stage = stage;
-            told = said_in p same (performed reply) stage;
+            reply_matches = said_in p same (performed reply) stage;
             goes = goes known.ask.stage refl;
             used = reply_usable w.server.nodes w.kernel.nodes
                 (λ id node at. let known = balanced.known id node at in known.2) sent.wire entries;

@@ -272,8 +272,8 @@ module _ (w : World) (p : Plain) (same : Alike w p) (o : Outcome) (last : World)
       Received : Sent → WriteResult × Kernel → Type 0
       Received sent took = PlainMoves p (event.write k) (event.written sent.unique took.0) (after_write w k sent took)
 
-      Told : Sent → ℕ → WriteResult × Kernel
-      Told sent call = replied_to_call (record w.kernel {
+      RepliedTo : Sent → ℕ → WriteResult × Kernel
+      RepliedTo sent call = replied_to_call (record w.kernel {
         queues =
             without w.kernel.queues sent.unique;
       }) call sent.wire (get w.kernel.vfs.calls call)
@@ -290,9 +290,9 @@ module _ (w : World) (p : Plain) (same : Alike w p) (o : Outcome) (last : World)
           (waiting w.kernel.queues sent.unique))) even
           ∙ ap (request_reply_written w.kernel sent.unique sent.wire) waits
 
-      accepted_as : (sent : Sent) (call : ℕ) → (Told sent call).0 ≡ Accepted
+      accepted_as : (sent : Sent) (call : ℕ) → (RepliedTo sent call).0 ≡ Accepted
           → (q : Plain) × Takes p (event.write k) (event.written sent.unique Accepted) q
-          × Alike (after_write w k sent (Told sent call)) q → Received sent (Told sent call)
+          × Alike (after_write w k sent (RepliedTo sent call)) q → Received sent (RepliedTo sent call)
       accepted_as sent call is goes = (
         goes.0,
         subst (λ (r : WriteResult). Takes p (event.write k)
