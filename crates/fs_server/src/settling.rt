@@ -101,7 +101,7 @@ fn entry_back<S: NodeStore>(files: &mut Files<S>, entry: &Entry)
     ensures { CountsBack files.old (entry.now ∷ []) [] files.new }
 {
     let file = files.nodes().counted_file(entry.nodeid);
-    files.uncount_reply(entry);
+    files.uncount(entry);
     files.discard_unheld(file);
 }
 
