@@ -1,4 +1,4 @@
-//! The kernel before any device: what it reads is sent to a server, and what the server sends is written to it.
+//! The kernel in front of any device: what it reads is sent to a server, and what the server sends is written to it.
 #![tactic(auto)]
 
 mod connection;
