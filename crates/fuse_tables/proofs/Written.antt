@@ -1,14 +1,13 @@
 -- Another value at a key that has one: what becomes of a table's rows and late values.
-use Rattle.std.proofs.Common.{◌≡◌, ℕ, ◌+◌, true, false, true≢false, cond, List, length, Option, Some, None, is_some, refl, sym, ap, subst, ◌∙◌, T, nat_eq}
+use Rattle.std.proofs.Common.{◌≡◌, ℕ, ◌+◌, true, false, true≢false, cond, List, length, Option, Some, None, is_some, refl, sym, ap, subst, ◌∙◌, T}
 use Rattle.std.specs.Prelude.{slice_set, slice_index_or}
-use Rattle.std.specs.Map.{lookup}
 use Rattle.std.specs.Ordering.{nat_cmp}
 use Rattle.std.specs.FinMap.{is_sorted}
 use Rattle.std.specs.FinMap.Entries.{length-put}
 use Rattle.std.proofs.lemmas.Cmp.{nat_cmp_total}
 use Rattle.std.proofs.lemmas.List.{set-get_or}
 use Rattle.fuse_spec.specs.Values.Maps.{get, put}
-use Rattle.fuse_tables.specs.LateValues.{with_late, entries_of, IsRisingTable}
+use Rattle.fuse_tables.specs.LateValues.{late_at, with_late, entries_of, IsRisingTable}
 use Rattle.fuse_tables.specs.LiveRows.{live}
 use Rattle.fuse_tables.specs.TableState.{TableState, IsRowOf}
 use Rattle.fuse_tables.proofs.Rows.{replaced_there, sorted_with}
@@ -40,21 +39,21 @@ module _ {V : Type 0} where
   module _ {rows : List (ℕ × Option V)} {os : List (ℕ × V)} {count capacity : ℕ} (t : IsRisingTable rows os count capacity) where
     -- ---- a late value
 
-    pub late_is : (k : ℕ) → is_some (lookup (nat_eq k) os) ≡ true → get (entries_of rows os) k ≡ lookup (nat_eq k) os
-    late_is k some = get_late (live rows) os k ∙ over_some (lookup (nat_eq k) os) (get (live rows) k) some
+    pub late_is : (k : ℕ) → is_some (late_at os k) ≡ true → get (entries_of rows os) k ≡ late_at os k
+    late_is k some = get_late (live rows) os k ∙ over_some (late_at os k) (get (live rows) k) some
 
     pub late_entries : (new : List (ℕ × V)) (k : ℕ) (w : V) → Updated os k (Some w) new
         → entries_of rows new ≡ put (entries_of rows os) k w
     late_entries new k w has = late_put (live rows) os new k w (sorted_live rows t.kept.sorted) has
 
-    absent_row : (k : ℕ) → is_some (lookup (nat_eq k) os) ≡ true → get (live rows) k ≡ None
-    absent_row k some = by (lookup (nat_eq k) os) refl some
+    absent_row : (k : ℕ) → is_some (late_at os k) ≡ true → get (live rows) k ≡ None
+    absent_row k some = by (late_at os k) refl some
       where
-        by : (o : Option V) → lookup (nat_eq k) os ≡ o → is_some o ≡ true → get (live rows) k ≡ None
+        by : (o : Option V) → late_at os k ≡ o → is_some o ≡ true → get (live rows) k ≡ None
         by None e s = absurd (true≢false (sym s))
         by (Some v) e s = row_none t.kept k v e
 
-    pub late_written : (new : List (ℕ × V)) (k : ℕ) (w : V) → is_some (lookup (nat_eq k) os) ≡ true
+    pub late_written : (new : List (ℕ × V)) (k : ℕ) (w : V) → is_some (late_at os k) ≡ true
         → Updated os k (Some w) new → IsRisingTable rows new count capacity
     late_written new k w some has =
         let long = ap length (late_entries new k w has) ∙ length_written (entries_of rows os) k w (sorted_entries t.kept)
@@ -67,7 +66,7 @@ module _ {V : Type 0} where
 
     -- ---- a value among the rows
 
-    module _ (k : ℕ) (none : lookup (nat_eq k) os ≡ None) where
+    module _ (k : ℕ) (none : late_at os k ≡ None) where
       pub no_value : get rows k ≡ None → get (entries_of rows os) k ≡ None
       no_value absent = value_row t.kept k none ∙ get_live rows k t.kept.sorted ∙ ap held absent
 

@@ -1,53 +1,30 @@
 //! Rows in rising key, and beside them the values whose keys came late.
 
-ghost use Rattle.std.specs.Prelude.{◌≡◌, ℕ, Bool, ◌<◌, ◌≤◌, IsSome, None, if◌then◌else◌, is_some, length, nat_eq};
-ghost use Rattle.std.specs.Map.{lookup};
+ghost use Rattle.std.specs.Prelude.{◌≡◌, ℕ, Bool, ◌<◌, ◌≤◌, IsSome, None, if◌then◌else◌, is_some, length};
 ghost use Rattle.std.specs.Option.{option_copied};
 ghost use Rattle.std.specs.VecDeque.{deque_capacity, deque_len};
 ghost use Rattle.fuse_spec.specs.Values.Maps.{get as value_at, put as with_value, remove as without_key};
-ghost use Rattle.fuse_tables.specs.LateValues.{AreKept, entries_of};
+ghost use Rattle.fuse_tables.specs.LateValues.{AreKept, entries_of, late_at};
 ghost use Rattle.fuse_tables.specs.KeyTests.{Tells, kept_by};
 
 use crate::live_rows::{
     Rows, free_row, is_above, push_last, put_row, replace_row, take_row, value_in,
 };
-use indexmap::IndexMap;
-use std::alloc::{AllocError, Allocator};
-use std::hash::{BuildHasherDefault, FoldHasher};
+use std::alloc::Allocator;
+use std::collections::BTreeMap;
 use std::mem::replace;
 
-/// The values whose keys stood between those of rows when they were put: none, as long as keys rise.
-pub(crate) type Late<V, A> = IndexMap<u64, V, BuildHasherDefault<FoldHasher>, A>;
+/// The values whose keys stood between those of rows when they were put: none, as long as keys rise. The map is ordered,
+/// and not of hashes, so that no choice of keys makes a look-up longer.
+pub(crate) type Late<V, A> = BTreeMap<u64, V, A>;
 
 /// A table that holds no more rows than this has no map: a value that is put between others moves at most half of them.
 const FEW: usize = 32;
 
-/// Makes room for so many late values in all, unless there are few rows.
-#[inline(never)]
-pub(crate) fn reserve_late<V: Drop, A: Allocator + Copy>(
-    late: &mut Late<V, A>,
-    all: usize,
-) -> Result<(), AllocError>
-    ensures { late.new.entries ≡ late.old.entries }
-{
-    if all <= FEW {
-        return Ok(());
-    }
-    if !late.is_empty() {
-        return late.reserve(all.saturating_sub(late.len()));
-    }
-    // A new map costs no copy of the old one's memory.
-    if late.capacity() < all {
-        let alloc = *late.allocator();
-        *late = IndexMap::with_capacity(alloc, all)?;
-    }
-    Ok(())
-}
-
 /// Whether a key has a late value.
 #[inline(always)]
 pub(crate) fn has_late<V, A: Allocator>(late: &Late<V, A>, key: u64) -> bool
-    ensures { result ≡ is_some (lookup (nat_eq key) late.now.entries) }
+    ensures { result ≡ is_some (late_at late.now.entries key) }
 {
     !late.is_empty() && late.contains_key(&key)
 }
@@ -82,7 +59,7 @@ fn take_beside<V: Drop, A: Allocator>(
     ensures kept { AreKept rows.new.items late.new.entries }
     ensures capacity { deque_capacity rows.new ≡ deque_capacity rows.old }
 {
-    if let Some(value) = late.swap_remove(&key) {
+    if let Some(value) = late.remove(&key) {
         return Some(value);
     }
     take_row(rows, key)
@@ -91,7 +68,12 @@ fn take_beside<V: Drop, A: Allocator>(
 /// Puts a value at a key that is not above those of all rows: among few rows, or else into the map. Where that is out of
 /// memory too, the rows on the shorter side of the key move. There is room for a row.
 #[inline(never)]
-fn put_late<V: Drop, A: Allocator>(rows: &mut Rows<V, A>, late: &mut Late<V, A>, key: u64, value: V)
+fn put_late<V: Drop, A: Allocator + Copy>(
+    rows: &mut Rows<V, A>,
+    late: &mut Late<V, A>,
+    key: u64,
+    value: V,
+)
     requires kept { AreKept rows.old.items late.old.entries }
     requires room { deque_len rows.old < deque_capacity rows.old }
     requires absent { value_at (entries_of rows.old.items late.old.entries) key ≡ None }
@@ -127,7 +109,7 @@ pub(crate) fn value_of<'a, V, A: Allocator>(
 
 /// Puts a value at a key that has none. There is room for a row once the empty ones go.
 #[inline(always)]
-pub(crate) fn put_value<V: Drop, A: Allocator>(
+pub(crate) fn put_value<V: Drop, A: Allocator + Copy>(
     rows: &mut Rows<V, A>,
     late: &mut Late<V, A>,
     key: u64,

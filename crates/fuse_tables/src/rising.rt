@@ -8,31 +8,30 @@ ghost use Rattle.std.specs.FinMap.{is_sorted};
 ghost use Rattle.fuse_spec.specs.Values.Maps.{get as value_at, put as with_value, remove as without_key};
 ghost use Rattle.fuse_tables.specs.KeyTests.{Tells, kept_by};
 
-use crate::late::{
-    Late, has_late, put_value, replace_value, reserve_late, retain_values, take_value, value_of,
-};
+use crate::late::{Late, has_late, put_value, replace_value, retain_values, take_value, value_of};
 use crate::live_rows::Rows;
 use crate::rows_by_key::find_row;
-use indexmap::IndexMap;
 use std::alloc::{AllocError, Allocator, Global};
-use std::collections::VecDeque;
+use std::collections::{BTreeMap, VecDeque};
 use std::marker::Model;
 
 /// A map from numbers to values, for numbers that mostly rise. Seen as its entries in rising key and its room: how many
-/// more it takes with no memory.
+/// more it takes and refuses none.
 ///
-/// A key above those of all rows gets a row behind them. Any other comes late: its value goes into a hash map beside the
-/// rows, which stays empty as long as keys rise. A table of few rows has no map, and moves some of them.
+/// A key above those of all rows gets a row behind them, which takes no memory. Any other comes late: its value goes into
+/// an ordered map beside the rows, which stays empty as long as keys rise. Where memory has no place for it there, and in
+/// a table of few rows, it gets a row, and those on the shorter side of it move.
 ///
 /// A value that is taken out between others leaves an empty row, and the empty rows go all at once where no row is left
 /// to fill. Room is half of what fits in all, so each such pass frees at least as many rows as it keeps.
 ///
-/// What each call costs, for `n` entries:
+/// What each call costs for `n` entries, whatever the keys, while memory is there:
 ///
 /// | Call | Time |
 /// |---|---|
-/// | `get`, `get_mut`, `replace`, `remove` | one step in the map, at either end, and where keys have no gaps, else log `n` steps |
-/// | `put`, `reserve`, `reserve_last` | one step, on the whole of many calls: at times one moves all rows or all of the map |
+/// | `get`, `get_mut`, `replace`, `remove` | log `n` steps; where no key came late, one at either end or without gaps |
+/// | `put` | log `n` steps, or one for a key above all others, on the whole of many calls: at times one moves all rows |
+/// | `reserve` | one step, on the whole of many calls: at times one moves all rows |
 /// | `retain`, `clear` | `n` steps |
 #[derive(Drop)]
 pub struct RisingTable<V, A: Allocator = Global> {
@@ -77,7 +76,7 @@ impl<V: Drop, A: Allocator + Copy> RisingTable<V, A> {
     {
         RisingTable {
             rows: VecDeque::new(alloc),
-            late: IndexMap::new(alloc),
+            late: BTreeMap::new(alloc),
             count: 0,
         }
     }
@@ -120,7 +119,7 @@ impl<V: Drop, A: Allocator + Copy> RisingTable<V, A> {
         let _len = self.rows.len();
     }
 
-    /// Makes room for so many more entries.
+    /// Makes room for so many more entries. No memory is set aside for one that comes late: it takes some, or moves rows.
     ///
     /// # Errors
     ///
@@ -137,17 +136,12 @@ impl<V: Drop, A: Allocator + Copy> RisingTable<V, A> {
         if rows <= self.rows.capacity() {
             return Ok(());
         }
-        let capacity = self.rows.capacity();
-        let grown = rows.saturating_add(rows / 2);
-        // As much as the rows may get, which is twice the room. So a `put` into the map takes no memory: where the
-        // places of what was taken out are used up, it takes them back.
-        reserve_late(&mut self.late, grown.max(capacity.saturating_add(capacity)))?;
         // Half more than is asked for, or twice what there was.
+        let grown = rows.saturating_add(rows / 2);
         self.rows.reserve(grown.saturating_sub(self.rows.len()))
     }
 
-    /// Makes room for so many more entries whose keys are above those of all others. No memory is set aside for a value
-    /// that comes late, so that one may take some, or move rows.
+    /// The same as `reserve`.
     ///
     /// # Errors
     ///
@@ -158,14 +152,7 @@ impl<V: Drop, A: Allocator + Copy> RisingTable<V, A> {
         ensures kept { self.old.room ≤ self.new.room }
         ensures refused { OnErr result (self.old.room < more) }
     {
-        let Some(rows) = twice_with(self.count, more) else {
-            return Err(AllocError);
-        };
-        if rows <= self.rows.capacity() {
-            return Ok(());
-        }
-        let grown = rows.saturating_add(rows / 2);
-        self.rows.reserve(grown.saturating_sub(self.rows.len()))
+        self.reserve(more)
     }
 
     /// Puts a value at a key that has none, into room that was made.

@@ -11,13 +11,13 @@ returns-in-Some-clause-value g c =
 
 pub returns-in-Some-clause-entries : goal.returns-in-Some-clause-entries
 returns-in-Some-clause-entries g c =
-    late_gone (live c.args.rows.now.items) c.args.late.now.entries c.swap_remove.new.self.entries c.args.key
+    late_gone (live c.args.rows.now.items) c.args.late.now.entries c.remove.new.self.entries c.args.key
     (sorted_live c.args.rows.now.items c.requires.sorted)
     (row_none c.requires c.args.key c.in-Some.value (sym c.in-Some.ensures.value)) c.in-Some.ensures.updates.0
 
 pub returns-in-Some-clause-kept : goal.returns-in-Some-clause-kept
 returns-in-Some-clause-kept g c =
-    kept_late c.requires c.swap_remove.new.self.entries c.args.key None
+    kept_late c.requires c.remove.new.self.entries c.args.key None
     (row_none c.requires c.args.key c.in-Some.value (sym c.in-Some.ensures.value)) c.in-Some.ensures.updates.0
 
 pub returns-clause-value : goal.returns-clause-value
