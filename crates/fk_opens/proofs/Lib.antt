@@ -1,2 +1,3 @@
+pub mod CountRows
 pub mod Counted
 pub mod Pins
