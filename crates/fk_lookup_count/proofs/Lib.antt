@@ -1,4 +1,4 @@
 pub mod NumberMaps
 pub mod SlotLemmas
+pub mod TableLemmas
 pub mod LookupLemmas
-pub mod HashLemmas

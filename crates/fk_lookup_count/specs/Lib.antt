@@ -1,2 +1,3 @@
 pub mod CountedNodes
 pub mod Slots
+pub mod Table

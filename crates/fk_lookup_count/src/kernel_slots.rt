@@ -1,23 +1,22 @@
-//! The kernel's slots: a hash map from each id to its slot.
-ghost use Rattle.std.specs.Prelude.{◌≡◌, IfOk};
+//! The kernel's slots: a slab, and an ordered map from each id to its place there.
+ghost use Rattle.std.specs.Prelude.{◌≡◌, ◌≢◌, ℕ, ◌<◌, Some, None, IsSome, OnOk, OnErr};
 ghost use Rattle.std.specs.Ordering.{nat_cmp};
-ghost use Rattle.std.specs.FinMap.{entries, from_entries};
+ghost use Rattle.std.specs.BTreeMap.{Updates as UpdatesTree};
+ghost use Rattle.slab.specs.Slab.{get, Updates};
+ghost use Rattle.fk_lookup_count.specs.Table.{standing};
 
-use crate::slots::{Slots, one_more};
+use crate::slots::{ROOM, Slots, one_more};
 use fuse_spec::Counted;
-use indexmap::IndexMap;
+use slab::Slab;
 use std::alloc::{AllocError, Allocator, Global};
 use std::collections::BTreeMap;
-use std::hash::{BuildHasherDefault, FoldHasher};
 use std::marker::Model;
 
-type Nodes<A> = IndexMap<u64, Counted, BuildHasherDefault<FoldHasher>, A>;
-
-/// Slots in a hash map. One is found, written or taken out in one step, however many there are. To be listed in rising
-/// id they are put into an ordered map first.
+/// Slots in a slab. Of `n` slots one is found, written or taken out in `log n` steps.
 #[derive(Drop)]
 pub struct KernelSlots<A: Allocator = Global> {
-    nodes: Nodes<A>,
+    nodes: Slab<Counted, A>,
+    places: BTreeMap<u64, usize, A>,
 }
 
 impl<A: Allocator> Model for KernelSlots<A> {
@@ -26,12 +25,15 @@ impl<A: Allocator> Model for KernelSlots<A> {
     ghost use Rattle.std.specs.FinMap.{FinMap, from_entries, code as map_code};
     ghost use Rattle.fuse_spec.specs.declared.Counted.{Counted};
     ghost use Rattle.fuse_spec.specs.contracts.Counted as counted_row;
+    ghost use Rattle.fk_lookup_count.specs.Table.{rows_of, IsCountTable};
 
     ghost Value = { FinMap nat_cmp Counted };
 
     ghost coded = { Prim.hlevel (codes, map_code, counted_row.the_row.coded) };
 
-    ghost view = { λ t. from_entries t.nodes.entries };
+    ghost view = { λ t. from_entries (rows_of t.nodes.slots t.places.entries) };
+
+    ghost invariant = { λ t. IsCountTable t.nodes.slots t.places.entries };
 }
 
 impl<A: Allocator + Copy> Slots for KernelSlots<A> {
@@ -41,66 +43,88 @@ impl<A: Allocator + Copy> Slots for KernelSlots<A> {
 
     fn new(alloc: A) -> Self {
         KernelSlots {
-            nodes: IndexMap::new(alloc),
+            nodes: Slab::new(alloc),
+            places: BTreeMap::new(alloc),
         }
     }
 
     fn len(&self) -> usize {
-        self.nodes.len()
+        self.places.len()
     }
 
     fn slot(&self, id: u64) -> Option<Counted> {
-        self.nodes.get(&id).copied()
+        let place = *self.places.get(&id)?;
+        self.nodes.get(place).copied()
     }
 
     fn add(&mut self, id: u64, slot: Counted) -> Result<(), AllocError> {
-        let _old = self.nodes.insert(id, slot)?;
+        self.nodes.reserve(1)?;
+        put(&mut self.places, id, self.nodes.vacant_key())?;
+        let _place = self.nodes.insert_reserved(slot);
         Ok(())
     }
 
     fn count_lookup(&mut self, id: u64, generation: u64) -> Option<Counted> {
-        let slot = self.nodes.get_mut(&id)?;
-        let stood = *slot;
-        if let Some(more) = one_more(stood, generation) {
-            *slot = more;
-        }
-        Some(stood)
+        let Some(place) = self.places.get(&id).copied() else {
+            return None;
+        };
+        let slot = standing(&self.nodes, place);
+        let Some(more) = one_more(slot, generation) else {
+            return Some(slot);
+        };
+        set(&mut self.nodes, place, more);
+        Some(slot)
     }
 
     fn take_out(&mut self, id: u64) -> Option<Counted> {
-        self.nodes.swap_remove(&id)
+        let place = self.places.remove(&id)?;
+        self.nodes.try_remove(place)
     }
 
     fn clear(&mut self) {
         self.nodes.clear();
+        self.places.clear();
     }
 
     fn nodes(&self, alloc: A) -> Result<Vec<(u64, u64, u64), A>, AllocError> {
         let mut nodes = Vec::new(alloc);
-        let slots = in_rising_id(&self.nodes, alloc)?;
-        for (id, slot) in &slots {
-            if slot.count > 0 {
-                nodes.push((*id, slot.generation, slot.count))?;
+        for (id, place) in &self.places {
+            let node = standing(&self.nodes, *place);
+            if node.count > 0 {
+                nodes.push((*id, node.generation, node.count))?;
             }
         }
         Ok(nodes)
     }
 }
 
-/// The slots in rising id, in an ordered map.
-///
-/// # Errors
-///
-/// Out of memory for that map.
-fn in_rising_id<A: Allocator + Copy>(
-    nodes: &Nodes<A>,
-    alloc: A,
-) -> Result<BTreeMap<u64, Counted, A>, AllocError>
-    ensures { IfOk result (λ slots. slots.entries ≡ entries (from_entries {R = nat_cmp} nodes.now.entries)) }
+/// What stands at a place.
+fn standing<A: Allocator>(nodes: &Slab<Counted, A>, place: usize) -> Counted
+    ensures { result ≡ standing nodes.now.slots place }
 {
-    let mut slots = BTreeMap::new(alloc);
-    for (id, slot) in nodes {
-        slots.insert(*id, *slot)?;
+    match nodes.get(place) {
+        Some(node) => *node,
+        None => ROOM,
     }
-    Ok(slots)
+}
+
+/// Writes what stands at a place.
+fn set<A: Allocator>(nodes: &mut Slab<Counted, A>, place: usize, slot: Counted)
+    requires { IsSome (get nodes.old place) }
+    ensures { Updates nodes.old nodes.new place (Some slot) }
+{
+    nodes[place] = slot;
+}
+
+/// Puts the place of an id.
+fn put<A: Allocator + Copy>(
+    places: &mut BTreeMap<u64, usize, A>,
+    id: u64,
+    place: usize,
+) -> Result<(), AllocError>
+    ensures ok { OnOk result (UpdatesTree nat_cmp places.old places.new id (Some place)) }
+    ensures err { OnErr result (places.new.entries ≡ places.old.entries) }
+{
+    let _old = places.insert(id, place)?;
+    Ok(())
 }
