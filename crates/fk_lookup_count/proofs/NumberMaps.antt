@@ -77,6 +77,16 @@ module _ {X : Type 0} where
         | inr ne ↦ grind (arith, gets, ne, rules)
       ]
 
+  -- a map in which a key gets the value that it has
+  pub insert_same : (m : FinMap nat_cmp X) (k : ℕ) (v : X) → get m k ≡ Some v → insert m k v ≡ m
+  insert_same m k v there = same_map nat_cmp_total nat_cmp-IsAntisymmetric _ _ at
+    where
+      at : (q : ℕ) → get (insert m k v) q ≡ get m q
+      at q = elim (cases_eq q k) [
+        | inl e ↦ grind (arith, gets, e, there, rules)
+        | inr ne ↦ grind (arith, gets, ne, rules)
+      ]
+
   -- a map has the entries of which it was made, where their keys rise
   pub entries-map_of : (es : Map X) → T (is_sorted nat_cmp es) → entries (map_of es) ≡ es
   entries-map_of es h =

@@ -12,8 +12,9 @@ use Rattle.std.specs.FinMap.Entries.{below_all}
 use Rattle.std.proofs.lemmas.Bool.{cases_eq}
 use Rattle.std.proofs.lemmas.Option.{none-some, same_Some}
 use Rattle.fuse_spec.specs.declared.Counted.{Counted}
+use Rattle.fk_lookup_count.specs.Slots.{written, slot_counted_more, slot_looked_up}
 use Rattle.fk_lookup_count.specs.Table.{count_at_place, place_under, standing, rows_of, IsCountTable}
-use Rattle.fk_lookup_count.proofs.NumberMaps.{ties, both, map_of, get-map_of, same_as}
+use Rattle.fk_lookup_count.proofs.NumberMaps.{ties, both, map_of, get-map_of, same_as, insert_same}
 
 find-rows : (slots : List (Option Counted)) (places : List (ℕ × ℕ)) (q : ℕ)
     → find nat_cmp q (rows_of slots places) ≡ option_map (standing slots) (place_under places q)
@@ -97,6 +98,22 @@ table-write {old = old} {places = places} new id place slot table is changed oth
           other_at q ne (place_under places q) refl ∙ sym (get-table old places q) ∙ sym
           (ap (λ b. cond b (Some slot) (get (table_of old places) q)) (ties q id ∙ no))
     ]
+
+-- a lookup is counted at one place, or nothing changes there
+pub table-counted : {old : List (Option Counted)} {places : List (ℕ × ℕ)} (new : List (Option Counted))
+    (id place generation : ℕ) (stood : Counted) → IsCountTable old places → place_under places id ≡ Some place
+    → get (table_of old places) id ≡ Some stood
+    → count_at_place new place ≡ Some (unwrap_or (slot_counted_more generation stood) stood)
+    → ((other : ℕ) → other ≢ place → count_at_place new other ≡ count_at_place old other)
+    → table_of new places ≡ slot_looked_up (table_of old places) id generation (get (table_of old places) id)
+table-counted {old = old} {places = places} new id place generation stood table is there changed others =
+    table-write new id place (unwrap_or (slot_counted_more generation stood) stood) table is changed others
+    ∙ by (slot_counted_more generation stood) ∙ sym (ap (slot_looked_up (table_of old places) id generation) there)
+  where
+    by : (more : Option Counted) → insert (table_of old places) id (unwrap_or more stood)
+        ≡ written (table_of old places) id more
+    by None = insert_same (table_of old places) id stood there
+    by (Some slot) = refl
 
 -- an id got a place that was free
 abbrev pub Placed : List (ℕ × ℕ) → List (ℕ × ℕ) → ℕ → Option ℕ → Type 0

@@ -1,8 +1,10 @@
-//! The kernel's slots: a slab, and an ordered map from each id to its place there.
-ghost use Rattle.std.specs.Prelude.{◌≡◌, ◌≢◌, ℕ, ◌<◌, Some, None, IsSome, OnOk, OnErr};
+//! The kernel's slots, in a slab.
+ghost use Rattle.std.specs.Prelude.{◌≡◌, ◌+◌, ◌<◌, ◌^◌, Some, IsSome, OnOk, OnErr};
+ghost use Rattle.std.specs.Option.{unwrap_or};
 ghost use Rattle.std.specs.Ordering.{nat_cmp};
 ghost use Rattle.std.specs.BTreeMap.{Updates as UpdatesTree};
 ghost use Rattle.slab.specs.Slab.{get, Updates};
+ghost use Rattle.fk_lookup_count.specs.Slots.{slot_counted_more};
 ghost use Rattle.fk_lookup_count.specs.Table.{standing};
 
 use crate::slots::{ROOM, Slots, one_more};
@@ -12,7 +14,8 @@ use std::alloc::{AllocError, Allocator, Global};
 use std::collections::BTreeMap;
 use std::marker::Model;
 
-/// Slots in a slab. Of `n` slots one is found, written or taken out in `log n` steps.
+/// Slots in a slab, and an ordered map from each id to its place there. Of `n` slots one is found, written or taken out
+/// in log `n` steps, whatever the ids.
 #[derive(Drop)]
 pub struct KernelSlots<A: Allocator = Global> {
     nodes: Slab<Counted, A>,
@@ -65,15 +68,8 @@ impl<A: Allocator + Copy> Slots for KernelSlots<A> {
     }
 
     fn count_lookup(&mut self, id: u64, generation: u64) -> Option<Counted> {
-        let Some(place) = self.places.get(&id).copied() else {
-            return None;
-        };
-        let slot = standing(&self.nodes, place);
-        let Some(more) = one_more(slot, generation) else {
-            return Some(slot);
-        };
-        set(&mut self.nodes, place, more);
-        Some(slot)
+        let place = *self.places.get(&id)?;
+        Some(count_at(&mut self.nodes, place, generation))
     }
 
     fn take_out(&mut self, id: u64) -> Option<Counted> {
@@ -108,12 +104,20 @@ fn standing<A: Allocator>(nodes: &Slab<Counted, A>, place: usize) -> Counted
     }
 }
 
-/// Writes what stands at a place.
-fn set<A: Allocator>(nodes: &mut Slab<Counted, A>, place: usize, slot: Counted)
-    requires { IsSome (get nodes.old place) }
-    ensures { Updates nodes.old nodes.new place (Some slot) }
+/// Counts one lookup in the slot at a place, unless it holds a node of another generation. Gives what stood there.
+fn count_at<A: Allocator>(nodes: &mut Slab<Counted, A>, place: usize, generation: u64) -> Counted
+    requires there { IsSome (get nodes.old place) }
+    requires fits { (standing nodes.old.slots place).count + 1 < 2 ^ 64 }
+    ensures stood { result ≡ standing nodes.old.slots place }
+    ensures counted { Updates nodes.old nodes.new place
+        (Some (unwrap_or (slot_counted_more generation result) result)) }
 {
-    nodes[place] = slot;
+    let slot = &mut nodes[place];
+    let stood = *slot;
+    if let Some(more) = one_more(stood, generation) {
+        *slot = more;
+    }
+    stood
 }
 
 /// Puts the place of an id.
