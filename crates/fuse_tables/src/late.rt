@@ -14,8 +14,8 @@ use std::alloc::Allocator;
 use std::collections::BTreeMap;
 use std::mem::replace;
 
-/// The values whose keys stood between those of rows when they were put: none, as long as keys rise. The map is ordered,
-/// and not of hashes, so that no choice of keys makes a look-up longer.
+/// The values whose keys stood between those of rows when they were put: none, as long as keys rise. The map is
+/// ordered, and not of hashes, so that no choice of keys makes a look-up longer.
 pub(crate) type Late<V, A> = BTreeMap<u64, V, A>;
 
 /// A table that holds no more rows than this has no map: a value that is put between others moves at most half of them.

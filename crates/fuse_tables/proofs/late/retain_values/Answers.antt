@@ -41,7 +41,8 @@ returns-then-is_empty-clause-fewer g c =
 pub returns-clause-entries : goal.returns-clause-entries
 returns-clause-entries g c = λ test tells.
     let kept = filter_same _ (stays test) _ (λ x b f' k. search (rules, tells)) _ _ c.retain.ensures.filtered in
-    let late = retained _ (λ e. test e.0) _ (λ k v b w f' call. search (rules, tells)) _ _ c.retain-2.ensures.filtered in
+    let late = retained _ (λ e. test e.0) _ (λ k v b w f' call. search (rules, tells)) _ _
+    c.retain-2.ensures.filtered in
     kept_entries test c.requires.kept kept late
 
 pub returns-clause-kept : goal.returns-clause-kept
@@ -49,7 +50,8 @@ returns-clause-kept g c =
     let test = c.requires.steady.0 in
     let tells = c.requires.steady.1 in
     let kept = filter_same _ (stays test) _ (λ x b f' k. search (rules, tells)) _ _ c.retain.ensures.filtered in
-    let late = retained _ (λ e. test e.0) _ (λ k v b w f' call. search (rules, tells)) _ _ c.retain-2.ensures.filtered in
+    let late = retained _ (λ e. test e.0) _ (λ k v b w f' call. search (rules, tells)) _ _
+    c.retain-2.ensures.filtered in
     kept_both test c.requires.kept kept late
 
 pub returns-clause-counted : goal.returns-clause-counted
@@ -57,7 +59,8 @@ returns-clause-counted g c =
     let test = c.requires.steady.0 in
     let tells = c.requires.steady.1 in
     let kept = filter_same _ (stays test) _ (λ x b f' k. search (rules, tells)) _ _ c.retain.ensures.filtered in
-    let late = retained _ (λ e. test e.0) _ (λ k v b w f' call. search (rules, tells)) _ _ c.retain-2.ensures.filtered in
+    let late = retained _ (λ e. test e.0) _ (λ k v b w f' call. search (rules, tells)) _ _
+    c.retain-2.ensures.filtered in
     let counted = kept_counted test c.requires.kept kept late c.retain-2.ensures.ordered in
     omega (arith, counted, c.len-2.ensures, c.len-3.ensures.len)
 
@@ -66,7 +69,8 @@ returns-clause-fewer g c =
     let test = c.requires.steady.0 in
     let tells = c.requires.steady.1 in
     let kept = filter_same _ (stays test) _ (λ x b f' k. search (rules, tells)) _ _ c.retain.ensures.filtered in
-    let late = retained _ (λ e. test e.0) _ (λ k v b w f' call. search (rules, tells)) _ _ c.retain-2.ensures.filtered in
+    let late = retained _ (λ e. test e.0) _ (λ k v b w f' call. search (rules, tells)) _ _
+    c.retain-2.ensures.filtered in
     let counted = kept_counted test c.requires.kept kept late c.retain-2.ensures.ordered in
     let fewer = kept_fewer test c.requires.kept kept late in
     omega (arith, counted, fewer, c.len-2.ensures, c.len-3.ensures.len)
