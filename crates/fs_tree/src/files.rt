@@ -123,7 +123,7 @@ impl<A: Allocator + Copy> Files<A> {
         ensures ok { OnOk result (self.new ≡ put self.old inode (content_in content)) }
         ensures unchanged { OnErr result (self.new ≡ self.old) }
     {
-        self.contents.reserve_last(1)?;
+        self.contents.reserve(1)?;
         self.contents.put(inode, content);
         Ok(())
     }

@@ -102,7 +102,7 @@ impl<A: Allocator + Copy> Rows<A> {
             name,
             file,
         };
-        match self.names.reserve_last(1) {
+        match self.names.reserve(1) {
             Ok(()) => {
                 self.names.put(cookie, row);
                 Ok(())

@@ -18,9 +18,9 @@ use std::marker::Model;
 /// A map from numbers to values, for numbers that mostly rise. Seen as its entries in rising key and its room: how many
 /// more it takes and refuses none.
 ///
-/// A key above those of all rows gets a row behind them, which takes no memory. Any other comes late: its value goes into
-/// an ordered map beside the rows, which stays empty as long as keys rise. Where memory has no place for it there, and in
-/// a table of few rows, it gets a row, and those on the shorter side of it move.
+/// A key above those of all rows gets a row behind them, which takes no memory. Any other comes late: its value goes
+/// into an ordered map beside the rows, which stays empty as long as keys rise. Where memory has no place for it there,
+/// and in a table of few rows, it gets a row, and those on the shorter side of it move.
 ///
 /// A value that is taken out between others leaves an empty row, and the empty rows go all at once where no row is left
 /// to fill. Room is half of what fits in all, so each such pass frees at least as many rows as it keeps.
@@ -29,8 +29,8 @@ use std::marker::Model;
 ///
 /// | Call | Time |
 /// |---|---|
-/// | `get`, `get_mut`, `replace`, `remove` | log `n` steps; where no key came late, one at either end or without gaps |
-/// | `put` | log `n` steps, or one for a key above all others, on the whole of many calls: at times one moves all rows |
+/// | `get`, `get_mut`, `replace`, `remove` | log `n` steps, or where no key came late, one at either end or without gaps |
+/// | `put` | log `n` steps, or one for a key above all, on the whole of many calls: at times one moves all rows |
 /// | `reserve` | one step, on the whole of many calls: at times one moves all rows |
 /// | `retain`, `clear` | `n` steps |
 #[derive(Drop)]
@@ -119,7 +119,8 @@ impl<V: Drop, A: Allocator + Copy> RisingTable<V, A> {
         let _len = self.rows.len();
     }
 
-    /// Makes room for so many more entries. No memory is set aside for one that comes late: it takes some, or moves rows.
+    /// Makes room for so many more entries. No memory is set aside for one that comes late: it takes some, or moves
+    /// rows.
     ///
     /// # Errors
     ///
@@ -139,20 +140,6 @@ impl<V: Drop, A: Allocator + Copy> RisingTable<V, A> {
         // Half more than is asked for, or twice what there was.
         let grown = rows.saturating_add(rows / 2);
         self.rows.reserve(grown.saturating_sub(self.rows.len()))
-    }
-
-    /// The same as `reserve`.
-    ///
-    /// # Errors
-    ///
-    /// Out of memory. The entries are as before.
-    pub fn reserve_last(&mut self, more: usize) -> Result<(), AllocError>
-        ensures entries { self.new.entries ≡ self.old.entries }
-        ensures room { OnOk result (more ≤ self.new.room) }
-        ensures kept { self.old.room ≤ self.new.room }
-        ensures refused { OnErr result (self.old.room < more) }
-    {
-        self.reserve(more)
     }
 
     /// Puts a value at a key that has none, into room that was made.

@@ -16,7 +16,7 @@ put_last_in-requires-clause-last g c =
 pub put-requires-clause-absent : goal.put-requires-clause-absent
 put-requires-clause-absent g c =
     let rising = rw (← c.self.view_is) at c.requires in
-    rw c.reserve_last.ensures.entries (unborn c.args.cookie c.self.inside.names.entries
+    rw c.reserve.ensures.entries (unborn c.args.cookie c.self.inside.names.entries
     (below-rows 1 c.args.cookie c.self.inside.names.entries rising))
 
 pub invariant_of-self-in-Ok : goal.invariant_of-self-in-Ok
@@ -25,7 +25,7 @@ invariant_of-self-in-Ok g c =
     let opened = AreByFile-same _ _ _ c.open.ensures.same c.self.invariant in
     rw (
       c.put.ensures.entries,
-      c.reserve_last.ensures.entries,
+      c.reserve.ensures.entries,
       put-behind c.self.inside.names.entries c.args.cookie _
           (below-rows 1 c.args.cookie c.self.inside.names.entries rising),
       map-append,
@@ -44,7 +44,7 @@ returns-in-Ok-clause-ok g c =
     rw (
       ← c.self.view_is,
       c.put.ensures.entries,
-      c.reserve_last.ensures.entries,
+      c.reserve.ensures.entries,
       put-behind c.self.inside.names.entries c.args.cookie _
           (below-rows 1 c.args.cookie c.self.inside.names.entries rising),
       map-append,
@@ -54,7 +54,7 @@ pub invariant_of-self-in-Err-1 : goal.invariant_of-self-in-Err-1
 invariant_of-self-in-Err-1 g c =
     let rising = rw (← c.self.view_is) at c.requires in
     let opened = AreByFile-same _ _ _ c.open.ensures.same c.self.invariant in
-    rw c.reserve_last.ensures.entries
+    rw c.reserve.ensures.entries
     (AreByFile-undone (parents_in c.open.new.parents.entries) _ _
     (map named_of c.self.inside.names.entries) c.args.file c.args.cookie c.args.directory c.in_ok-put_last_in.ensures.ok c.remove_from.ensures
     (below-parents 1 c.args.cookie (parents_in c.open.new.parents.entries)
