@@ -14,9 +14,11 @@ count_of rows node = lookup (nat_eq node) rows
 
 pub found : (rows : Rows) (q : ℕ) → get rows q ≡ count_of rows q
 found [] q = refl
-found (e ∷ es) q = ap (λ b. cond b (Some e.1) (get es q)) (ties q e.0) ∙ ap (cond (nat_eq q e.0) (Some e.1)) (found es q)
+found (e ∷ es) q =
+    ap (λ b. cond b (Some e.1) (get es q)) (ties q e.0) ∙ ap (cond (nat_eq q e.0) (Some e.1)) (found es q)
 
-found-put : (rows : Rows) (node n q : ℕ) → count_of (put rows node n) q ≡ cond (nat_eq node q) (Some n) (count_of rows q)
+found-put : (rows : Rows) (node n q : ℕ)
+    → count_of (put rows node n) q ≡ cond (nat_eq node q) (Some n) (count_of rows q)
 found-put rows node n q = sym (found (put rows node n) q) ∙ get-put rows node n q
     ∙ ap (cond (nat_eq node q) (Some n)) (found rows q)
 

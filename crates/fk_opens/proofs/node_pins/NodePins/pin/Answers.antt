@@ -11,7 +11,8 @@ overflow_add-count g c =
 
 pub returns-in-Some-clause-more : goal.returns-in-Some-clause-more
 returns-in-Some-clause-more g c =
-    rw (← c.self.view_is) (one_more c.self.inside.counts.entries c.args.node c.in-Some.count.now c.in-Some.ensures.value)
+    let rows = c.self.inside.counts.entries in
+    rw (← c.self.view_is) (one_more rows c.args.node c.in-Some.count.now c.in-Some.ensures.value)
 
 pub returns-in-None-clause-more : goal.returns-in-None-clause-more
 returns-in-None-clause-more g c =

@@ -11,8 +11,8 @@ returns-in-None-clause-less g c =
 pub returns-in-Some-clause-less : goal.returns-in-Some-clause-less
 returns-in-Some-clause-less g c =
     let more = c.if-this-gt1.true in
-    rw (← c.self.view_is) (one_fewer c.self.inside.counts.entries c.args.node c.in-Some.count.now c.in-Some.ensures.value
-    (omega (arith, more)))
+    let rows = c.self.inside.counts.entries in
+    rw (← c.self.view_is) (one_fewer rows c.args.node c.in-Some.count.now c.in-Some.ensures.value (omega (arith, more)))
 
 pub returns-in-Some-2-clause-less : goal.returns-in-Some-2-clause-less
 returns-in-Some-2-clause-less g c =
