@@ -14,7 +14,8 @@ use Rattle.fuse_spec.specs.Values.Maps.{Place, NameMap, place_cmp, get_name, put
 use Rattle.fk_dentry.specs.Named.{times, named, nodes_of_name, uses}
 use Rattle.fk_dentry.specs.CachedNames.{names_the_node}
 use Rattle.fk_dentry.specs.Rows.{bound_names, bound_in}
-use Rattle.fk_dentry.proofs.PlaceOrder.{place_total, place_same, apart_places}
+use Rattle.fuse_spec.proofs.Tables.{place_total}
+use Rattle.fk_dentry.proofs.PlaceOrder.{place_same, apart_places}
 use Rattle.fk_dentry.proofs.NamedIds.{times_cons}
 use Rattle.fk_dentry.proofs.SortedEntries.{both, both_first, both_second, tied_all, none_below}
 

@@ -1,103 +1,172 @@
--- Counts in the entries of a hash map.
-use Rattle.std.proofs.Common.{◌≡◌, ℕ, ◌+◌, ◌-◌, ◌<◌, ◌≤◌, Bool, true, false, cond, List, [], ◌∷◌, Some, None, refl, sym, ap, subst, arith}
-use Rattle.std.specs.Prelude.{nat_eq}
-use Rattle.std.specs.Map.{lookup, keys_of, set_value}
-use Rattle.std.specs.List.{IsDistinct, AllByRecursion}
-use Rattle.std.proofs.lemmas.Bool.{eqb-true}
-use Rattle.std.proofs.lemmas.Option.{same_Some, none-some}
-use Rattle.indexmap.specs.IndexMap.{insert_entry}
-use Rattle.fk_dentry.specs.Counts.{weight, mentions_of, total_in}
+-- Counts of nodes through a write and a removal.
+use Rattle.std.proofs.Common.{◌≡◌, ◌≢◌, ℕ, zero, suc, ◌+◌, ◌-◌, ◌<◌, ◌≤◌, Bool, true, false, cond, not, [], ◌∷◌, length, filter, Option, Some, None, is_some, refl, sym, ap, subst, ◌∙◌, arith, rules, T, Less, Equal, Greater, inl, inr}
+use Rattle.std.specs.Prelude.{nat_eq, nat_lt}
+use Rattle.std.specs.Option.{unwrap_or}
+use Rattle.std.specs.Ordering.{nat_cmp, is_eq, eq_by_cmp}
+use Rattle.std.specs.Cmp.{nat_cmp_total}
+use Rattle.std.specs.FinMap.{is_sorted, nat_cmp-IsAntisymmetric, gets}
+use Rattle.std.specs.FinMap.Entries.{by_order, is_sorted-put, same_entries, length-put, length_without}
+use Rattle.std.proofs.lemmas.Bool.{cases_eq, lt-ltb}
+use Rattle.std.proofs.lemmas.Bool.Decides.{eqb_tells}
+use Rattle.std.proofs.lemmas.Option.{none-some}
+use Rattle.fuse_spec.specs.Values.Maps.{Map, get, put, remove}
+use Rattle.fuse_spec.proofs.Tables.{cmp_same, tie_no, get_put_here, get_put_there, get_gone_here, get_gone_there}
+use Rattle.fk_dentry.specs.Counts.{mentions_of, total_in}
+use Rattle.fk_dentry.proofs.SortedEntries.{both_first, both_second, less_all, tied_all, none_below}
 
-abbrev Entries : Type 0
-Entries = List (ℕ × ℕ)
+-- no count is 0
+abbrev pub AreUsed : Map ℕ → Type 0
+AreUsed es = (id : ℕ) → get es id ≢ Some 0
 
-module _ (test : ℕ → Bool) where
-  -- a count is written
-  pub weight-set : (es : Entries) (id n w : ℕ) → lookup (nat_eq id) es ≡ Some n
-      → weight test (set_value (nat_eq id) es w) + cond (test id) n 0 ≡ weight test es + cond (test id) w 0
-  weight-set [] id n w is = absurd (none-some n is)
-  weight-set (e ∷ es) id n w is =
-      elim (nat_eq id e.0) as (λ b. nat_eq id e.0 ≡ b → cond b (Some e.1) (lookup (nat_eq id) es) ≡ Some n
-      → weight test (cond b ((e.0, w) ∷ es) (e ∷ set_value (nat_eq id) es w)) + cond (test id) n 0
-      ≡ cond (test e.0) e.1 0 + weight test es + cond (test id) w 0) [
-        | true ↦ λ t f.
-            let same = eqb-true id e.0 t in
-            let old : cond (test id) n 0 ≡ cond (test e.0) e.1 0 =
-            (λ i. cond (test (same i)) (sym (same_Some e.1 n f) i) 0) in
-            let new : cond (test id) w 0 ≡ cond (test e.0) w 0 = ap (λ x. cond (test x) w 0) same in
-            omega arith
-        | false ↦ λ t f. (let rest = weight-set es id n w f in omega arith)
-      ] refl is
+-- ---- the count of a node
 
-  more_by : (b : Bool) (a o n more : ℕ) → a + cond b n 0 ≡ o + cond b (n + more) 0 → a ≡ o + cond b more 0
-  more_by true a o n more e = omega arith
-  more_by false a o n more e = omega arith
+pub mentions-put : (es : Map ℕ) (id n : ℕ) (q : ℕ)
+    → mentions_of (put es id n) q ≡ cond (nat_eq q id) n (mentions_of es q)
+mentions-put es id n q = elim (eqb_tells q id) [
+  | inl h ↦ ap (λ x. mentions_of (put es id n) x) h.1 ∙ ap (λ o. unwrap_or o 0) (get_put_here es id n) ∙ ap
+      (λ b. cond b n (mentions_of es q)) (sym h.0)
+  | inr h ↦ ap (λ o. unwrap_or o 0) (get_put_there es id n q h.1) ∙ ap (λ b. cond b n (mentions_of es q)) (sym h.0)
+]
 
-  pub weight-more : (es : Entries) (id n more : ℕ) → lookup (nat_eq id) es ≡ Some n
-      → weight test (set_value (nat_eq id) es (n + more)) ≡ weight test es + cond (test id) more 0
-  weight-more es id n more is = more_by (test id) _ _ n more (weight-set es id n (n + more) is)
+pub mentions-remove : (es : Map ℕ) (id q : ℕ) → mentions_of (remove es id) q ≡ cond (nat_eq q id) 0 (mentions_of es q)
+mentions-remove es id q = elim (eqb_tells q id) [
+  | inl h ↦ ap (λ x. mentions_of (remove es id) x) h.1 ∙ ap (λ o. unwrap_or o 0) (get_gone_here es id) ∙ ap
+      (λ b. cond b 0 (mentions_of es q)) (sym h.0)
+  | inr h ↦ ap (λ o. unwrap_or o 0) (get_gone_there es id q h.1) ∙ ap (λ b. cond b 0 (mentions_of es q)) (sym h.0)
+]
 
-  less_by : (b : Bool) (a o n : ℕ) → 0 < n → a + cond b n 0 ≡ o + cond b (n - 1) 0 → a + cond b 1 0 ≡ o
-  less_by true a o n some e = omega arith
-  less_by false a o n some e = omega arith
+pub used-put : (es : Map ℕ) (id n : ℕ) → 0 < n → AreUsed es → AreUsed (put es id n)
+used-put es id n some used q is = elim (cases_eq q id) [
+  | inl e ↦ (let zero : n ≡ 0 = ap (λ o. unwrap_or o 0)
+      (sym (get_put_here es id n) ∙ ap (get (put es id n)) (sym e) ∙ is) in absurd (omega arith))
+  | inr ne ↦ used q (sym (get_put_there es id n q ne) ∙ is)
+]
 
-  pub weight-less : (es : Entries) (id n : ℕ) → 0 < n → lookup (nat_eq id) es ≡ Some n
-      → weight test (set_value (nat_eq id) es (n - 1)) + cond (test id) 1 0 ≡ weight test es
-  weight-less es id n some is = less_by (test id) _ _ n some (weight-set es id n (n - 1) is)
+pub used-remove : (es : Map ℕ) (id : ℕ) → ((q : ℕ) → q ≢ id → get es q ≢ Some 0) → AreUsed (remove es id)
+used-remove es id used q is = elim (cases_eq q id) [
+  | inl e ↦ none-some 0 (sym (get_gone_here es id) ∙ ap (get (remove es id)) (sym e) ∙ is)
+  | inr ne ↦ used q ne (sym (get_gone_there es id q ne) ∙ is)
+]
 
-  -- a node is new
-  pub weight-insert : (es : Entries) (id n : ℕ) → lookup (nat_eq id) es ≡ None
-      → weight test (insert_entry nat_eq es id n) ≡ weight test es + cond (test id) n 0
-  weight-insert [] id n none = omega arith
-  weight-insert (e ∷ es) id n none =
-      elim (nat_eq id e.0) as (λ b. cond b (Some e.1) (lookup (nat_eq id) es) ≡ None
-      → weight test (cond b ((e.0, n) ∷ es) (e ∷ insert_entry nat_eq es id n))
-      ≡ cond (test e.0) e.1 0 + weight test es + cond (test id) n 0) [
-        | true ↦ λ f. absurd (none-some e.1 (sym f))
-        | false ↦ λ f. (let rest = weight-insert es id n f in omega arith)
-      ] none
+-- a node that has a count is named
+pub counted_is : (es : Map ℕ) (id : ℕ) → AreUsed es → is_some (get es id) ≡ nat_lt 0 (mentions_of es id)
+counted_is es id used = by (get es id) refl
+  where
+    by : (o : Option ℕ) → get es id ≡ o → is_some o ≡ nat_lt 0 (unwrap_or o 0)
+    by None e = refl
+    by (Some zero) e = absurd (used id e)
+    by (Some (suc n)) e = sym (lt-ltb 0 (suc n) (omega arith))
 
-pub no_weight : (b : Bool) (n : ℕ) → n ≤ 0 → cond b n 0 ≡ 0
-no_weight true n none = omega arith
-no_weight false n none = refl
+pub one_more : (es : Map ℕ) (id n : ℕ) → mentions_of es id ≡ n → (q : ℕ)
+    → mentions_of (put es id (n + 1)) q ≡ mentions_of es q + cond (nat_eq q id) 1 0
+one_more es id n is q = mentions-put es id (n + 1) q ∙ elim (eqb_tells q id) [
+  | inl h ↦ (let same = ap (mentions_of es) h.1 in rw h.0 (omega arith))
+  | inr h ↦ rw h.0 (omega arith)
+]
 
--- no count is above the sum
-pub value_most : (es : Entries) (id n : ℕ) → lookup (nat_eq id) es ≡ Some n → n ≤ total_in es
-value_most [] id n is = absurd (none-some n is)
-value_most (e ∷ es) id n is =
-    elim (nat_eq id e.0) as (λ b. cond b (Some e.1) (lookup (nat_eq id) es) ≡ Some n → n ≤ e.1 + total_in es) [
-      | true ↦ λ f. (let same = same_Some e.1 n f in omega arith)
-      | false ↦ λ f. (let rest = value_most es id n f in omega arith)
-    ] is
+pub one_less : (es : Map ℕ) (id n : ℕ) → mentions_of es id ≡ n → 0 < n → (q : ℕ)
+    → mentions_of (put es id (n - 1)) q + cond (nat_eq q id) 1 0 ≡ mentions_of es q
+one_less es id n is some q = ap (λ m. m + cond (nat_eq q id) 1 0) (mentions-put es id (n - 1) q)
+    ∙ elim (eqb_tells q id) [
+      | inl h ↦ (let same = ap (mentions_of es) h.1 in rw h.0 (omega arith))
+      | inr h ↦ rw h.0 (omega arith)
+    ]
 
-pub weight-none : (es : Entries) (id : ℕ) → lookup (nat_eq id) es ≡ None → mentions_of es id ≡ 0
-weight-none [] id none = refl
-weight-none (e ∷ es) id none =
-    elim (nat_eq id e.0) as (λ b. cond b (Some e.1) (lookup (nat_eq id) es) ≡ None
-    → cond b e.1 0 + mentions_of es id ≡ 0) [
-      | true ↦ λ f. absurd (none-some e.1 (sym f))
-      | false ↦ λ f. (let rest = weight-none es id f in omega arith)
-    ] none
+pub none_left : (es : Map ℕ) (id : ℕ) → mentions_of es id ≡ 1 → (q : ℕ)
+    → mentions_of (remove es id) q + cond (nat_eq q id) 1 0 ≡ mentions_of es q
+none_left es id is q = ap (λ m. m + cond (nat_eq q id) 1 0) (mentions-remove es id q)
+    ∙ elim (eqb_tells q id) [
+      | inl h ↦ (let same = ap (mentions_of es) h.1 in rw h.0 (omega arith))
+      | inr h ↦ rw h.0 (omega arith)
+    ]
 
-weight-apart : (es : Entries) (id : ℕ) → AllByRecursion (λ y. nat_eq id y ≡ false) (keys_of es) → mentions_of es id ≡ 0
-weight-apart [] id apart = refl
-weight-apart (e ∷ es) id apart =
-    let rest = weight-apart es id apart.1 in
-    let first = ap (λ b. cond b e.1 0) apart.0 in
-    omega arith
+-- the same value, written again
+pub put_same : (es : Map ℕ) (id n : ℕ) → T (is_sorted nat_cmp es) → get es id ≡ Some n → put es id n ≡ es
+put_same es id n h is = same_entries nat_cmp nat_cmp_total nat_cmp-IsAntisymmetric (put es id n) es
+    (is_sorted-put nat_cmp nat_cmp_total id n es h) h (λ q. elim (cases_eq q id) [
+      | inl e ↦ ap (get (put es id n)) e ∙ get_put_here es id n ∙ sym is ∙ ap (get es) (sym e)
+      | inr ne ↦ get_put_there es id n q ne
+    ])
 
--- a node that has an entry has its count
-pub weight-some : (es : Entries) (id n : ℕ) → IsDistinct nat_eq (keys_of es) → lookup (nat_eq id) es ≡ Some n
-    → mentions_of es id ≡ n
-unfolding IsDistinct
-weight-some [] id n distinct is = absurd (none-some n is)
-weight-some (e ∷ es) id n distinct is =
-    elim (nat_eq id e.0) as (λ b. nat_eq id e.0 ≡ b → cond b (Some e.1) (lookup (nat_eq id) es) ≡ Some n
-    → cond b e.1 0 + mentions_of es id ≡ n) [
-      | true ↦ λ t f.
-          let rest = weight-apart es id (subst (λ x. AllByRecursion (λ y. nat_eq x y ≡ false) (keys_of es))
-          (sym (eqb-true id e.0 t)) distinct.0) in
-          let same = same_Some e.1 n f in
+-- ---- how many there are
+
+pub length-rewritten : (es : Map ℕ) (id n v : ℕ) → T (is_sorted nat_cmp es) → get es id ≡ Some n
+    → length (put es id v) ≡ length es
+length-rewritten es id n v h is = length-put nat_cmp nat_cmp_total id v es h ∙ ap
+    (λ (o : Option ℕ). cond (is_some o) (length es) (length es + 1)) is
+
+pub length-added : (es : Map ℕ) (id v : ℕ) → T (is_sorted nat_cmp es) → get es id ≡ None
+    → length (put es id v) ≡ length es + 1
+length-added es id v h none = length-put nat_cmp nat_cmp_total id v es h ∙ ap
+    (λ (o : Option ℕ). cond (is_some o) (length es) (length es + 1)) none
+
+ties : (q k : ℕ) → eq_by_cmp nat_cmp q k ≡ nat_eq k q
+ties q k = elim (cases_eq q k) [
+  | inl e ↦ grind (arith, gets, e, rules)
+  | inr ne ↦ grind (arith, gets, ne, rules)
+]
+
+pub length-removed : (es : Map ℕ) (id : ℕ) → T (is_sorted nat_cmp es) → length es ≤ length (remove es id) + 1
+length-removed es id h = by (is_some (get es id))
+    (length_without nat_cmp nat_cmp_total id es h)
+    (λ i. length (filter (λ (e : ℕ × ℕ). not (ties id e.0 i)) es))
+  where
+    by : (b : Bool) {n : ℕ} → cond b 1 0 + n ≡ length es → n ≡ length (remove es id)
+        → length es ≤ length (remove es id) + 1
+    by true is same = omega arith
+    by false is same = omega arith
+
+-- ---- the sum of all
+
+pub total-put : (es : Map ℕ) (id n : ℕ) → T (is_sorted nat_cmp es)
+    → total_in (put es id n) + mentions_of es id ≡ total_in es + n
+total-put [] id n h = omega arith
+total-put (e ∷ es) id n h =
+    elim (nat_cmp id e.0) as (λ r. nat_cmp id e.0 ≡ r
+    → total_in (by_order r ((id, n) ∷ e ∷ es) ((e.0, n) ∷ es) (e ∷ put es id n))
+    + unwrap_or (cond (is_eq r) (Some e.1) (get es id)) 0 ≡ e.1 + total_in es + n) [
+      | Less ↦ λ p.
+          let none = ap (λ (o : Option ℕ). unwrap_or o 0)
+          (none_below nat_cmp nat_cmp_total id es (less_all nat_cmp nat_cmp_total id e.0 es p (both_first _ _ h))) in
           omega arith
-      | false ↦ λ t f. (let rest = weight-some es id n distinct.1 f in omega arith)
-    ] refl is
+      | Equal ↦ λ p. omega arith
+      | Greater ↦ λ p. (let rest = total-put es id n (both_second _ _ h) in omega arith)
+    ] refl
+
+pub total-remove : (es : Map ℕ) (id : ℕ) → T (is_sorted nat_cmp es)
+    → total_in (remove es id) + mentions_of es id ≡ total_in es
+total-remove [] id h = refl
+total-remove (e ∷ es) id h =
+    let rest = total-remove es id (both_second _ _ h) in
+    elim (eqb_tells e.0 id) [
+      | inl is ↦
+          let tie = subst (λ x. nat_cmp x e.0 ≡ Equal) is.1 (cmp_same e.0) in
+          let gone = ap (λ b. total_in (cond (not b) (e ∷ remove es id) (remove es id))) is.0 in
+          let here = ap (λ r. unwrap_or (cond (is_eq r) (Some e.1) (get es id)) 0) tie in
+          let later = ap (λ (o : Option ℕ). unwrap_or o 0) (none_below nat_cmp nat_cmp_total id es
+          (tied_all nat_cmp nat_cmp_total id e.0 es tie (both_first _ _ h))) in
+          omega arith
+      | inr is ↦
+          let kept = ap (λ b. total_in (cond (not b) (e ∷ remove es id) (remove es id))) is.0 in
+          let later = ap (λ b. unwrap_or (cond b (Some e.1) (get es id)) 0) (tie_no id e.0 (λ same. is.1 (sym same))) in
+          omega arith
+    ]
+
+-- there are no more counts than the sum of all
+pub few_counts : (es : Map ℕ) → T (is_sorted nat_cmp es) → AreUsed es → length es ≤ total_in es
+few_counts [] h used = omega arith
+few_counts (e ∷ es) h used =
+    let rest = few_counts es (both_second _ _ h) later in
+    let first = here e.1 refl in
+    omega arith
+  where
+    here : (n : ℕ) → e.1 ≡ n → 0 < n
+    here zero is = absurd (used e.0 (ap (λ r. cond (is_eq r) (Some e.1) (get es e.0)) (cmp_same e.0) ∙ ap Some is))
+    here (suc n) is = omega arith
+
+    later : AreUsed es
+    later id is = elim (cases_eq id e.0) [
+      | inl same ↦ none-some 0 (sym (none_below nat_cmp nat_cmp_total id es (tied_all nat_cmp nat_cmp_total id e.0 es
+          (subst (λ x. nat_cmp x e.0 ≡ Equal) (sym same) (cmp_same e.0)) (both_first _ _ h))) ∙ is)
+      | inr ne ↦ used id (ap (λ b. cond b (Some e.1) (get es id)) (tie_no id e.0 ne) ∙ is)
+    ]

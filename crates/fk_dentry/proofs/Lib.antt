@@ -1,7 +1,7 @@
 pub mod Places
 pub mod SortedEntries
 pub mod PlaceOrder
-pub mod HashRows
+pub mod KeyedRows
 pub mod BoundNames
 pub mod NamedIds
 pub mod Counts

@@ -32,7 +32,7 @@ is_found None = ⊥
 is_found (Some x) = Unit {0}
 
 module _ {K X : Type 0} (R : K → K → Ordering) (o : IsTotalOrder R) where
-  less_all : (x y : K) (es : List (K × X)) → R x y ≡ Less → T (below_all R y es) → T (below_all R x es)
+  pub less_all : (x y : K) (es : List (K × X)) → R x y ≡ Less → T (below_all R y es) → T (below_all R x es)
   less_all x y [] p h = tt
   less_all x y (e ∷ es) p h = both _ _ (subst (λ r. T (is_lt r))
       (sym (o.trans x y e.0 p (is_less _ (both_first _ _ h)))) tt) (less_all x y es p (both_second _ _ h))

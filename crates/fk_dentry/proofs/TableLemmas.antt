@@ -14,7 +14,8 @@ use Rattle.fuse_spec.specs.Values.Maps.{Place, place_cmp, get_name, put_name, re
 use Rattle.fk_dentry.specs.Named.{times, named, named_by, nodes_of_name, uses, mentions}
 use Rattle.fk_dentry.proofs.Places.{place_among, IsEntryOf}
 use Rattle.fk_dentry.specs.Rows.{bound_in, IsNameTable}
-use Rattle.fk_dentry.proofs.PlaceOrder.{place_total, place_same, tied}
+use Rattle.fuse_spec.proofs.Tables.{place_total}
+use Rattle.fk_dentry.proofs.PlaceOrder.{place_same, tied}
 use Rattle.fk_dentry.proofs.SortedEntries.{found, found_is, put_is, set_is, removed_is, absent_is}
 use Rattle.fk_dentry.proofs.BoundNames.{Slots, sorted-put, sorted-remove}
 

@@ -1,15 +1,13 @@
--- Entries of a hash map that count nodes.
-use Rattle.std.specs.Prelude.{ℕ, ◌+◌, Bool, true, List, [], ◌∷◌, cond, nat_eq}
-
--- the sum of the counts whose node passes the test
-abbrev pub weight : (ℕ → Bool) → List (ℕ × ℕ) → ℕ
-weight test [] = 0
-weight test (e ∷ es) = cond (test e.0) e.1 0 + weight test es
+-- Counts of nodes, by the node's id.
+use Rattle.std.specs.Prelude.{ℕ, ◌+◌, [], ◌∷◌}
+use Rattle.std.specs.Option.{unwrap_or}
+use Rattle.fuse_spec.specs.Values.Maps.{Map, get}
 
 -- the count of the node, or 0
-abbrev pub mentions_of : List (ℕ × ℕ) → ℕ → ℕ
-mentions_of es id = weight (nat_eq id) es
+abbrev pub mentions_of : Map ℕ → ℕ → ℕ
+mentions_of counts id = unwrap_or (get counts id) 0
 
 -- the sum of all counts
-abbrev pub total_in : List (ℕ × ℕ) → ℕ
-total_in es = weight (λ _. true) es
+abbrev pub total_in : Map ℕ → ℕ
+total_in [] = 0
+total_in (e ∷ es) = e.1 + total_in es

@@ -8,7 +8,7 @@ use Rattle.fk_dentry.specs.Keys.{place_of_key}
 use Rattle.fk_dentry.specs.Named.{uses, mentions}
 
 module _ {A : Type 0} where
-  -- each name that has room, with its dentry if it has one: the entries of a hash map, in rising order
+  -- each name that has room, with its dentry if it has one: the entries of an ordered map
   abbrev pub slots_of : List (NameKey A × Option Dentry) → NameMap (Option Dentry)
   slots_of [] = []
   slots_of (e ∷ es) = put_name (slots_of es) (place_of_key e.0) e.1

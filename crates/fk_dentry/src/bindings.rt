@@ -9,16 +9,9 @@ use crate::key::NameKey;
 use crate::node_counts::NodeCounts;
 use crate::rows::{Rows, add, bind, slot, take_out};
 use fuse_spec::Dentry;
-use indexmap::IndexMap;
 use std::alloc::{AllocError, Allocator, Global};
+use std::collections::BTreeMap;
 use std::marker::Model;
-
-/// How many counts of nodes there is room for, for each name: it names two nodes at most, and one count more may have
-/// fallen to 0.
-const COUNTS: usize = 3;
-
-/// Names stay below this, so that three times their number does not overflow.
-const MOST: usize = 0x1000_0000_0000_0000;
 
 /// The cached names: each name of a directory that is bound, with the node to which it leads, if any, and the time
 /// in milliseconds from which it is valid no more.
@@ -26,17 +19,18 @@ const MOST: usize = 0x1000_0000_0000_0000;
 /// A dentry whose time has passed says nothing, but it stays until it is replaced or removed. Only `reserve` takes
 /// memory.
 ///
-/// What each call costs, for `n` names:
+/// What each call costs, for `n` names, whatever they are:
 ///
 /// | Call | Time |
 /// |---|---|
-/// | `find`, `names_node`, `remove` | one step |
-/// | `put`, `reserve` | one step, on the whole of many calls: at times one moves all entries of a hash map |
+/// | `find`, `names_node`, `remove` | log `n` steps |
+/// | `put`, `reserve` | log `n` steps, on the whole of many calls: at times one moves all counts of nodes |
 /// | `clear` | `n` steps |
 #[derive(Drop)]
 pub struct Bindings<A: Allocator = Global> {
     rows: Rows<A>,
     nodes: NodeCounts<A>,
+    alloc: A,
 }
 
 impl<A: Allocator> Model for Bindings<A> {
@@ -61,8 +55,9 @@ impl<A: Allocator + Copy> Bindings<A> {
         ensures { result.names ≡ [] }
     {
         Bindings {
-            rows: IndexMap::new(alloc),
+            rows: BTreeMap::new(alloc),
             nodes: NodeCounts::new(alloc),
+            alloc,
         }
     }
 
@@ -100,15 +95,9 @@ impl<A: Allocator + Copy> Bindings<A> {
         if slot(&self.rows, directory, name).is_some() {
             return Ok(());
         }
-        let names = self.rows.len() + 1;
-        if names > MOST {
-            // no memory holds so many names
-            return Err(AllocError);
-        }
-        let name = name.to_vec(*self.rows.allocator())?;
-        self.rows.reserve(1)?;
-        self.nodes.reserve_in_all(COUNTS * names)?;
-        add(&mut self.rows, NameKey { directory, name });
+        self.nodes.reserve(self.rows.len() + 1)?;
+        let name = name.to_vec(self.alloc)?;
+        add(&mut self.rows, NameKey { directory, name })?;
         Ok(())
     }
 

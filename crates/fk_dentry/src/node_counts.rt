@@ -1,30 +1,21 @@
 //! How many dentries name each node.
-ghost use Rattle.std.specs.Prelude.{◌≡◌, ℕ, ◌+◌, ◌^◌, ◌<◌, ◌≤◌, Bool, [], cond, length, nat_eq, nat_lt, OnOk, IsTrue};
-ghost use Rattle.indexmap.specs.IndexMap.{spare};
-ghost use Rattle.fk_dentry.specs.Counts.{weight, mentions_of, total_in};
+ghost use Rattle.std.specs.Prelude.{◌≡◌, ◌≢◌, ℕ, ◌+◌, ◌*◌, ◌<◌, ◌≤◌, Some, [], cond, length, nat_eq, nat_lt, OnOk, IsTrue};
+ghost use Rattle.fuse_spec.specs.Values.Maps.{get};
+ghost use Rattle.fk_dentry.specs.Counts.{mentions_of, total_in};
 ghost use Rattle.fk_dentry.specs.Named.{times, named, named_by};
 
 use fuse_spec::Dentry;
-use indexmap::IndexMap;
+use fuse_tables::RisingTable;
 use std::alloc::{AllocError, Allocator};
-use std::hash::{BuildHasherDefault, FoldHasher};
-use std::mem;
 
-type Counts<A> = IndexMap<u64, u64, BuildHasherDefault<FoldHasher>, A>;
-
-/// How many dentries name each node, as their directory or as their target.
-///
-/// A removal gives a hash map no room back. So a count that fell to 0 keeps its entry until room is needed: then the
-/// others move to the second map, and the maps change places.
+/// How many dentries name each node that one names, as their directory or as their target.
 #[derive(Drop)]
 pub(crate) struct NodeCounts<A: Allocator> {
-    pub counts: Counts<A>,
-    other: Counts<A>,
+    pub counts: RisingTable<u64, A>,
     /// How high the sum of the counts can rise with no memory.
     pub most: usize,
-    ghost empty: { other.entries ≡ [] },
-    ghost fits: { most ≤ length counts.entries + spare counts },
-    ghost fits_other: { most ≤ spare other },
+    ghost used: { (id : ℕ) → get counts.entries id ≢ Some 0 },
+    ghost fits: { most ≤ length counts.entries + counts.room },
 }
 
 impl<A: Allocator + Copy> NodeCounts<A> {
@@ -32,27 +23,28 @@ impl<A: Allocator + Copy> NodeCounts<A> {
         ensures { result.counts.entries ≡ [] }
     {
         NodeCounts {
-            counts: IndexMap::new(alloc),
-            other: IndexMap::new(alloc),
+            counts: RisingTable::new(alloc),
             most: 0,
         }
     }
 
-    /// Makes room for a sum of the counts.
+    /// Makes room for the counts of so many names, each of which names two nodes at most.
     ///
     /// # Errors
     ///
     /// Out of memory. The counts are as before.
-    pub fn reserve_in_all(&mut self, most: usize) -> Result<(), AllocError>
+    pub fn reserve(&mut self, names: usize) -> Result<(), AllocError>
         ensures counts { self.new.counts.entries ≡ self.old.counts.entries }
-        ensures room { OnOk result (most ≤ self.new.most) }
+        ensures room { OnOk result (2 * names ≤ self.new.most) }
         ensures kept { self.old.most ≤ self.new.most }
     {
+        let Some(most) = names.checked_mul(2) else {
+            return Err(AllocError);
+        };
         if most <= self.most {
             return Ok(());
         }
         self.counts.reserve(most.saturating_sub(self.counts.len()))?;
-        self.other.reserve(most)?;
         self.most = most;
         Ok(())
     }
@@ -61,10 +53,7 @@ impl<A: Allocator + Copy> NodeCounts<A> {
     pub fn contains(&self, id: u64) -> bool
         ensures { result ≡ nat_lt 0 (mentions_of self.now.counts.entries id) }
     {
-        match self.counts.get_index_of(&id) {
-            Some(place) => self.counts[place] > 0,
-            None => false,
-        }
+        self.counts.get(id).is_some()
     }
 
     #[inline(always)]
@@ -75,23 +64,11 @@ impl<A: Allocator + Copy> NodeCounts<A> {
         ensures total { total_in self.new.counts.entries ≡ total_in self.old.counts.entries + 1 }
         ensures most { self.new.most ≡ self.old.most }
     {
-        if self.counts.len() == self.counts.capacity() {
-            self.drop_unused();
+        if let Some(count) = self.counts.get_mut(id) {
+            *count += 1;
+            return;
         }
-        increase(&mut self.counts, id, 1);
-    }
-
-    /// Makes room of the counts that are 0.
-    fn drop_unused(&mut self)
-        requires fits { total_in self.old.counts.entries ≤ self.old.most }
-        requires small { total_in self.old.counts.entries < 2 ^ 64 }
-        ensures counts { (test : ℕ → Bool) → weight test self.new.counts.entries ≡ weight test self.old.counts.entries }
-        ensures few { length self.new.counts.entries ≤ total_in self.old.counts.entries }
-        ensures most { self.new.most ≡ self.old.most }
-    {
-        copy_used(&self.counts, &mut self.other);
-        self.counts.clear();
-        mem::swap(&mut self.counts, &mut self.other);
+        self.counts.put(id, 1);
     }
 
     fn remove(&mut self, id: u64)
@@ -101,9 +78,15 @@ impl<A: Allocator + Copy> NodeCounts<A> {
         ensures total { total_in self.new.counts.entries + 1 ≡ total_in self.old.counts.entries }
         ensures most { self.new.most ≡ self.old.most }
     {
-        if let Some(count) = self.counts.get_mut(&id) {
+        let Some(count) = self.counts.get_mut(id) else {
+            // Ruled out: a dentry names the node.
+            return;
+        };
+        if *count > 1 {
             *count -= 1;
+            return;
         }
+        let _last = self.counts.remove(id);
     }
 
     /// A dentry replaces another, if there was one.
@@ -161,43 +144,10 @@ impl<A: Allocator + Copy> NodeCounts<A> {
 
     /// No dentry is left.
     pub fn clear(&mut self)
-        ensures counts { self.new.counts.entries ≡ [] }
-        ensures most { self.new.most ≡ self.old.most }
+        ensures { self.new.counts.entries ≡ [] }
     {
         self.counts.clear();
-    }
-}
-
-/// Adds to the count of a node, into room that was made.
-#[inline(always)]
-fn increase<A: Allocator + Copy>(counts: &mut Counts<A>, id: u64, more: u64)
-    requires room { 0 < spare counts.old }
-    requires small { total_in counts.old.entries + more < 2 ^ 64 }
-    ensures counts { (test : ℕ → Bool) → weight test counts.new.entries
-        ≡ weight test counts.old.entries + cond (test id) more 0 }
-    ensures len { length counts.new.entries ≤ length counts.old.entries + 1 }
-    ensures room { length counts.old.entries + spare counts.old ≤ length counts.new.entries + spare counts.new }
-{
-    if let Some(count) = counts.get_mut(&id) {
-        *count += more;
-        return;
-    }
-    let _old = counts.insert(id, more).unwrap();
-}
-
-/// Puts the counts that are not 0 into an empty map that has room.
-fn copy_used<A: Allocator + Copy>(counts: &Counts<A>, copy: &mut Counts<A>)
-    requires empty { copy.old.entries ≡ [] }
-    requires room { total_in counts.now.entries ≤ spare copy.old }
-    requires small { total_in counts.now.entries < 2 ^ 64 }
-    ensures counts { (test : ℕ → Bool) → weight test copy.new.entries ≡ weight test counts.now.entries }
-    ensures few { length copy.new.entries ≤ total_in counts.now.entries }
-    ensures room { spare copy.old ≤ length copy.new.entries + spare copy.new }
-{
-    for (id, count) in counts {
-        if *count > 0 {
-            increase(copy, *id, *count);
-        }
+        self.most = 0;
     }
 }
 

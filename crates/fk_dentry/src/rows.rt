@@ -1,18 +1,16 @@
-//! The names that have room, in a hash map.
-ghost use Rattle.std.specs.Prelude.{◌≡◌, ℕ, ◌+◌, ◌<◌, ◌≤◌, [], None, Some, IsSome, length};
-ghost use Rattle.indexmap.specs.IndexMap.{spare};
+//! The names that have room, in an ordered map.
+ghost use Rattle.std.specs.Prelude.{◌≡◌, ℕ, None, Some, IsSome, OnErr, OnOk};
 ghost use Rattle.fuse_spec.specs.Values.Maps.{get_name, put_name, remove_name};
 ghost use Rattle.fk_dentry.specs.Keys.{place_of_key};
 ghost use Rattle.fk_dentry.specs.Rows.{slots_of, bound_in};
 
 use crate::key::{LentKey, NameKey};
 use fuse_spec::Dentry;
-use indexmap::IndexMap;
-use std::alloc::Allocator;
-use std::hash::{BuildHasherDefault, FoldHasher};
+use std::alloc::{AllocError, Allocator};
+use std::collections::BTreeMap;
 
 /// Each name that has room, with its dentry if it has one.
-pub(crate) type Rows<A> = IndexMap<NameKey<A>, Option<Dentry>, BuildHasherDefault<FoldHasher>, A>;
+pub(crate) type Rows<A> = BTreeMap<NameKey<A>, Option<Dentry>, A>;
 
 /// What stands under a name that has room.
 pub(crate) fn slot<A: Allocator>(
@@ -25,13 +23,18 @@ pub(crate) fn slot<A: Allocator>(
     rows.get(LentKey { directory, name }).copied()
 }
 
-/// Puts a row without a dentry, into room that was made.
+/// Puts a row without a dentry. Where memory is refused nothing changes.
 #[inline(always)]
-pub(crate) fn add<A: Allocator + Copy>(rows: &mut Rows<A>, key: NameKey<A>)
-    requires { 0 < spare rows.old }
-    ensures { slots_of rows.new.entries ≡ put_name (slots_of rows.old.entries) (place_of_key key) None }
+pub(crate) fn add<A: Allocator + Copy>(
+    rows: &mut Rows<A>,
+    key: NameKey<A>,
+) -> Result<(), AllocError>
+    ensures slots { OnOk result (slots_of rows.new.entries
+        ≡ put_name (slots_of rows.old.entries) (place_of_key key) None) }
+    ensures unchanged { OnErr result (slots_of rows.new.entries ≡ slots_of rows.old.entries) }
 {
-    let _old = rows.insert(key, None).unwrap();
+    let _old = rows.insert(key, None)?;
+    Ok(())
 }
 
 /// Binds a name that has room, and gives what it was bound to.
@@ -62,7 +65,7 @@ pub(crate) fn take_out<A: Allocator>(
     ensures dentry { result ≡ bound_in (get_name (slots_of rows.old.entries) (directory, name.now)) }
     ensures slots { slots_of rows.new.entries ≡ remove_name (slots_of rows.old.entries) (directory, name.now) }
 {
-    match rows.swap_remove(LentKey { directory, name }) {
+    match rows.remove(LentKey { directory, name }) {
         Some(dentry) => dentry,
         None => None,
     }

@@ -3,7 +3,7 @@ use Rattle.std.specs.Option.{option_copied_mut}
 use Rattle.fuse_spec.specs.declared.Dentry.{Dentry}
 use Rattle.fuse_spec.specs.Values.Maps.{Place, put_name}
 use Rattle.fk_dentry.specs.Rows.{slots_of, bound_in}
-use Rattle.fk_dentry.proofs.HashRows.{get-slots, slots-put}
+use Rattle.fk_dentry.proofs.KeyedRows.{get-slots, slots-put}
 use Rattle.fk_dentry.proofs.rows.bind.Goals as goal
 
 pub returns-in-Some-clause-old : goal.returns-in-Some-clause-old

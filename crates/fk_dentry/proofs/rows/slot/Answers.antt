@@ -1,6 +1,6 @@
 use Rattle.std.proofs.Common.{sym, ◌∙◌}
 use Rattle.fuse_spec.specs.Values.Maps.{Place}
-use Rattle.fk_dentry.proofs.HashRows.{get-slots}
+use Rattle.fk_dentry.proofs.KeyedRows.{get-slots}
 use Rattle.fk_dentry.proofs.rows.slot.Goals as goal
 
 pub returns : goal.returns
