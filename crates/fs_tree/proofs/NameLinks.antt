@@ -1,9 +1,9 @@
 -- The names in one directory by cookie, and their links by name.
 use Rattle.std.proofs.Common.{◌≡◌, ℕ, ◌+◌, ◌<◌, ◌≤◌, Bool, true, false, not, cond, ◌&&◌, List, [], ◌∷◌, ◌++◌, map, filter, find, Option, Some, None, refl, sym, ap, subst, ◌∙◌, nat_eq, nat_lt, nat_le, ◌-◌, arith, Vec, Less, Equal, Greater}
 use Rattle.std.specs.Option.{option_map}
-use Rattle.std.specs.Ordering.{nat_cmp, is_lt}
+use Rattle.std.specs.Ordering.{nat_cmp, is_lt, eq_by_cmp}
 use Rattle.std.specs.Cmp.{ranked}
-use Rattle.std.specs.Cmp.Lexicographic.{pointwise}
+use Rattle.std.specs.Cmp.Lexicographic.{slice_cmp, texts_ties}
 use Rattle.std.specs.List.{AllByRecursion}
 use Rattle.std.specs.List.Sorted.{IsStrictlySortedBy}
 use Rattle.std.specs.Map.{lookup, keys_of, KeepsOthers}
@@ -20,7 +20,7 @@ use Rattle.fs_tree.proofs.ListLemmas.{filter-map}
 use Rattle.fs_tree.proofs.ByDirectory.{filter-append, filter-none}
 use Rattle.fs_tree.proofs.EntryRows.{same_name-swap}
 use Rattle.fs_tree.proofs.ByCookie.{same_name-equal, find-where-none, find-append-none, find-gone}
-use Rattle.fs_tree.proofs.CookieRows.{put-last}
+use Rattle.fs_tree.proofs.CookieRows.{put-last, put-undone}
 
 some_entry : (x y : Entry) → Some x ≡ Some y → x ≡ y
 some_entry x y e = cc
@@ -205,20 +205,28 @@ apart_names name other apart e at = ap (λ n. same_name n name)
 
 -- ---- links
 
+-- the order of names ties exactly where they are the same
+abbrev ties : List ℕ → List ℕ → Bool
+ties a b = eq_by_cmp (slice_cmp nat_cmp) a b
+
+one_name : (a b : List ℕ) → ties a b ≡ true → a ≡ b
+one_name a b tied = same_name-equal a b (texts_ties a b ∙ tied)
+
 module _ {A : Type 0} where
   abbrev key_eq : Vec ℕ A → Vec ℕ A → Bool
-  key_eq a b = pointwise nat_eq a.items b.items
+  key_eq a b = ties a.items b.items
 
   abbrev sought : List ℕ → Vec ℕ A → Bool
-  sought name k = pointwise nat_eq name k.items
+  sought name k = ties name k.items
 
   -- another name leads where it led
   others-kept : (name other : List ℕ) (old new : List (Vec ℕ A × Link)) → KeepsOthers key_eq (sought name) old new
       → same_name name other ≡ false → lookup (sought other) new ≡ lookup (sought other) old
   unfolding KeepsOthers
   others-kept name other old new kept apart =
-      kept (sought other) (λ x y at. ap (λ n. pointwise nat_eq n y.items) (same_name-equal other x.items at))
-      (λ k at. ap (λ n. same_name other n) (sym (same_name-equal name k.items at)) ∙ same_name-swap other name ∙ apart)
+      kept (sought other) (λ x y at. ap (λ n. ties n y.items) (one_name other x.items at))
+      (λ k at. ap (λ n. ties other n) (sym (one_name name k.items at)) ∙ sym (texts_ties other name)
+      ∙ same_name-swap other name ∙ apart)
 
   pub AreLinked-removed : (name : List ℕ) (old new : List (Vec ℕ A × Link)) (es : List Entry)
       → KeepsOthers key_eq (sought name) old new → lookup (sought name) new ≡ None
@@ -298,6 +306,15 @@ module _ {A : Type 0} (name : List ℕ) (es : List (ℕ × NamedFile A)) (once :
       ∙ map-append leaf_entry (without_key (option_map (λ e. e.cookie)
       (find (λ e. same_name e.name name) (map leaf_entry es))) es) ((cookie, leaf) ∷ [])
       ∙ ap (λ l. l ++ leaf_entry (cookie, leaf) ∷ []) removed-entries
+
+-- a name put last that goes again
+pub unput-entries : {A : Type 0} (es : List (ℕ × Leaf A)) (cookie : ℕ) (leaf : Leaf A)
+    → AreBefore cookie (map leaf_entry es)
+    → map leaf_entry (without_key (Some cookie) (insert_entry nat_cmp es cookie leaf)) ≡ map leaf_entry es
+unput-entries es cookie leaf before =
+    let below = below-entries cookie es before in
+    ap (λ l. map leaf_entry (without_key (Some cookie) l)) (put-last es cookie leaf below)
+    ∙ ap (map leaf_entry) (put-undone es cookie leaf below)
 
 -- ---- listing
 

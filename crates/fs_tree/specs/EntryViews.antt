@@ -1,8 +1,9 @@
 -- What the stored names of a directory stand for.
-use Rattle.std.specs.Prelude.{◌≡◌, ℕ, List, Option, Vec, find, nat_eq}
+use Rattle.std.specs.Prelude.{◌≡◌, ℕ, List, Option, Vec, find}
+use Rattle.std.specs.Ordering.{nat_cmp, eq_by_cmp}
 use Rattle.std.specs.Option.{option_map}
 use Rattle.std.specs.Map.{lookup}
-use Rattle.std.specs.Cmp.Lexicographic.{pointwise}
+use Rattle.std.specs.Cmp.Lexicographic.{slice_cmp}
 use Rattle.fuse_spec.specs.Files.Trees.{same_name}
 use Rattle.fs_tree.specs.Stored.{Entry}
 use Rattle.fs_tree.specs.declared.entries.NamedFile.{NamedFile}
@@ -21,7 +22,7 @@ module _ {A : Type 0} where
 
   -- The file to which a name leads, and its cookie, among links by name.
   abbrev pub link_in : List (Vec ℕ A × Link) → List ℕ → Option (ℕ × ℕ)
-  link_in links name = option_map link_of (lookup (λ k. pointwise nat_eq name k.items) links)
+  link_in links name = option_map link_of (lookup (λ k. eq_by_cmp (slice_cmp nat_cmp) name k.items) links)
 
   -- The links by name are those of the entries.
   abbrev pub AreLinked : List (Vec ℕ A × Link) → List Entry → Type 0

@@ -16,10 +16,8 @@ use crate::files::Files;
 use crate::listing::{ENTRY_LEN, MOST_LISTED, Record, record_len};
 use arrayvec::ArrayVec;
 use fuse_spec::is_dots;
-use indexmap::IndexMap;
 use std::alloc::{AllocError, Allocator};
 use std::collections::BTreeMap;
-use std::hash::{BuildHasherDefault, FoldHasher};
 use std::marker::Model;
 use std::ops::Bound;
 
@@ -32,16 +30,26 @@ pub(crate) struct Link {
 
 /// A name, and the file to which it leads.
 #[derive(Drop)]
-pub(crate) struct NamedFile<A: Allocator> {
+pub(crate) struct Leaf<A: Allocator> {
     pub(crate) name: Vec<u8, A>,
     pub(crate) file: u64,
 }
 
 /// The names in a directory by cookie, and their links by name.
+///
+/// Callers pick the names, so the links stand in an ordered map: no choice of names makes a look-up slow. What each
+/// call costs, for `n` names in the directory:
+///
+/// | Call | Time |
+/// |---|---|
+/// | `is_empty` | one step |
+/// | `file_at`, `cookie_at`, `put_last`, `remove` | log `n` steps |
+/// | `list`, `files_listed` | log `n` steps, and one for each name that is listed |
 #[derive(Drop)]
 pub(crate) struct Entries<A: Allocator> {
-    names: BTreeMap<u64, NamedFile<A>, A>,
-    links: IndexMap<Vec<u8, A>, Link, BuildHasherDefault<FoldHasher>, A>,
+    names: BTreeMap<u64, Leaf<A>, A>,
+    links: BTreeMap<Vec<u8, A>, Link, A>,
+    alloc: A,
 }
 
 impl<A: Allocator> Model for Entries<A> {
@@ -65,7 +73,8 @@ impl<A: Allocator + Copy> Entries<A> {
     {
         Entries {
             names: BTreeMap::new(alloc),
-            links: IndexMap::new(alloc),
+            links: BTreeMap::new(alloc),
+            alloc,
         }
     }
 
@@ -101,7 +110,7 @@ impl<A: Allocator + Copy> Entries<A> {
         ensures { self.new ≡ filter (λ e. not (same_name e.name name.now)) self.old }
     {
         let cookie = self.cookie_at(name);
-        let _link = self.links.swap_remove(name);
+        let _link = self.links.remove(name);
         take_away(&mut self.names, cookie);
     }
 
@@ -114,16 +123,21 @@ impl<A: Allocator + Copy> Entries<A> {
         ensures unchanged { OnErr result (self.new ≡ self.old) }
     {
         let replaced = self.cookie_at(&name);
-        let copy = copy_of(&name, *self.links.allocator())?;
-        self.links.reserve(1)?;
-        let leaf = NamedFile {
-            name: copy,
+        let leaf = Leaf {
+            name: copy_of(&name, self.alloc)?,
             file: link.file,
         };
         let _none = self.names.insert(link.cookie, leaf)?;
-        let _old = self.links.insert(name, link).unwrap();
-        take_away(&mut self.names, replaced);
-        Ok(())
+        match self.links.insert(name, link) {
+            Ok(_) => {
+                take_away(&mut self.names, replaced);
+                Ok(())
+            }
+            Err(_) => {
+                take_away(&mut self.names, Some(link.cookie));
+                Err(AllocError)
+            }
+        }
     }
 
     /// The records of the names with a cookie over `after`, as many as fit so many bytes with so many bytes more each.
@@ -141,7 +155,7 @@ impl<A: Allocator + Copy> Entries<A> {
     {
         // A record has at least 32 bytes.
         let most = self.names.len().min(size / 32);
-        let mut records = Vec::with_capacity(*self.links.allocator(), most)?;
+        let mut records = Vec::with_capacity(self.alloc, most)?;
         let mut room = size;
         for (cookie, leaf) in self.names.range((Bound::Excluded(after), Bound::Unbounded)) {
             let len = more + record_len(&leaf.name);
@@ -192,7 +206,7 @@ fn list_file(listed: &mut ArrayVec<u64, MOST_LISTED>, name: &[u8], file: u64)
 }
 
 /// Takes the name with this cookie away, if there is one.
-fn take_away<A: Allocator>(names: &mut BTreeMap<u64, NamedFile<A>, A>, cookie: Option<u64>)
+fn take_away<A: Allocator>(names: &mut BTreeMap<u64, Leaf<A>, A>, cookie: Option<u64>)
     ensures entries { names.new.entries ≡ without_key cookie names.old.entries }
     ensures was_ordered { IsOrdered nat_cmp names.old }
 {

@@ -29,6 +29,8 @@ impl<A: Allocator> Model for Parents<A> {
     ghost view = { λ p. option_to_list p.first ++ p.later.entries };
 }
 
+/// The directories of each file that has names. A hash map serves here, since no caller picks the keys: the server
+/// draws inodes itself, in rising order.
 pub(crate) type ParentsByFile<A> = IndexMap<u64, Parents<A>, BuildHasherDefault<FoldHasher>, A>;
 
 impl<A: Allocator + Copy> Parents<A> {

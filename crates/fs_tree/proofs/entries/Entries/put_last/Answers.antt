@@ -1,21 +1,21 @@
-use Rattle.std.proofs.Common.{ap, ◌∙◌, map, refl}
-use Rattle.fs_tree.specs.Stored.{Entry}
+use Rattle.std.proofs.Common.{ap, ◌∙◌, map, refl, Some}
+use Rattle.fs_tree.specs.Stored.{Entry, without_key}
 use Rattle.fs_tree.specs.EntryViews.{leaf_entry}
-use Rattle.fs_tree.proofs.NameLinks.{AreLinked-put, AreNamedOnce-put, put-entries}
+use Rattle.fs_tree.proofs.NameLinks.{AreLinked-put, AreNamedOnce-put, put-entries, unput-entries}
 use Rattle.fs_tree.proofs.entries.Entries.put_last.Goals as goal
 
-pub invariant_of-self-2 : goal.invariant_of-self-2
-invariant_of-self-2 g c =
+pub invariant_of-self-in-Ok : goal.invariant_of-self-in-Ok
+invariant_of-self-in-Ok g c =
     let before = rw (← c.self.view_is) at c.requires in
     let replaced = rw (← c.self.view_is, c.deref.ensures.value) at c.cookie_at-replaced.ensures in
-    let updates = rw (c.unwrap-old.ensures, c.reserve.ensures.entries) at c.insert-2.ensures.updates in
+    let updates = c.in-Ok.ensures.updates in
     let x : Entry = record { name = c.args.name.items; file = c.args.link.file; cookie = c.args.link.cookie } in
     rw (
       c.take_away.ensures.entries,
       c.in_ok-_none.ensures.entries,
       replaced,
       put-entries c.args.name.items c.self.inside.names.entries c.self.invariant.1 c.in_ok-_none.ensures.was_ordered c.args.link.cookie _ before,
-      c.in_ok-copy.ensures,
+      c.in_ok-copy_of.ensures,
       c.deref-2.ensures.value,
     ) (
       AreLinked-put x c.args.link c.self.inside.links.entries _
@@ -23,8 +23,8 @@ invariant_of-self-2 g c =
       AreNamedOnce-put (map leaf_entry c.self.inside.names.entries) x c.self.invariant.1,
     )
 
-pub returns-clause-ok : goal.returns-clause-ok
-returns-clause-ok g c =
+pub returns-in-Ok-clause-ok : goal.returns-in-Ok-clause-ok
+returns-in-Ok-clause-ok g c =
     let before = rw (← c.self.view_is) at c.requires in
     let replaced = rw (← c.self.view_is, c.deref.ensures.value) at c.cookie_at-replaced.ensures in
     rw (← c.self.view_is)
@@ -33,6 +33,24 @@ returns-clause-ok g c =
       c.in_ok-_none.ensures.entries,
       replaced,
       put-entries c.args.name.items c.self.inside.names.entries c.self.invariant.1 c.in_ok-_none.ensures.was_ordered c.args.link.cookie _ before,
-      c.in_ok-copy.ensures,
+      c.in_ok-copy_of.ensures,
       c.deref-2.ensures.value,
     ) refl)
+
+pub invariant_of-self-in-Err : goal.invariant_of-self-in-Err
+invariant_of-self-in-Err g c =
+    let before = rw (← c.self.view_is) at c.requires in
+    rw (
+      c.take_away-in-Err.ensures.entries,
+      c.in_ok-_none.ensures.entries,
+      unput-entries c.self.inside.names.entries c.args.link.cookie _ before,
+      c.in-Err.ensures.err,
+    ) c.self.invariant
+
+pub returns-clause-unchanged : goal.returns-clause-unchanged
+returns-clause-unchanged g c =
+    let before = rw (← c.self.view_is) at c.requires in
+    rw (← c.self.view_is)
+    (ap (map leaf_entry) (c.take_away-in-Err.ensures.entries ∙ ap
+    (without_key (Some c.args.link.cookie)) c.in_ok-_none.ensures.entries)
+    ∙ unput-entries c.self.inside.names.entries c.args.link.cookie _ before)

@@ -14,7 +14,7 @@ invariant_of-self g c =
       removed-entries c.args.name.now c.self.inside.names.entries c.self.invariant.1 c.take_away.ensures.was_ordered,
     ) (
       AreLinked-removed c.args.name.now c.self.inside.links.entries _
-          (map leaf_entry c.self.inside.names.entries) c.swap_remove-link.ensures.updates.3 c.swap_remove-link.ensures.updates.1 c.self.invariant.0,
+          (map leaf_entry c.self.inside.names.entries) c.remove-link.ensures.updates.3 c.remove-link.ensures.updates.1 c.self.invariant.0,
       AreNamedOnce-where (λ e. not (same_name e.name c.args.name.now))
           (map leaf_entry c.self.inside.names.entries) c.self.invariant.1,
     )
