@@ -1,4 +1,5 @@
+pub mod Entries
 pub mod Places
 pub mod Releases
-pub mod Rising
+pub mod Requests
 pub mod Served

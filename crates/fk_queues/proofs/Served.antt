@@ -1,5 +1,5 @@
 -- What each call on the queues makes of the requests of calls.
-use Rattle.std.proofs.Common.{◌≡◌, ◌≢◌, ℕ, ◌+◌, ◌<◌, Bool, true, false, cond, not, ◌&&◌, List, [], ◌∷◌, ◌++◌, Option, Some, None, T, refl, ap, sym, ◌∙◌, arith, rules, nat_eq, inl, inr, append_assoc, append-nil}
+use Rattle.std.proofs.Common.{◌≡◌, ◌≢◌, ℕ, ◌<◌, Bool, true, false, cond, not, List, [], ◌∷◌, ◌++◌, Option, Some, None, T, refl, ap, sym, ◌∙◌, arith, rules, nat_eq, inl, inr, append_assoc, append-nil}
 use Rattle.std.specs.Prelude.{option_map, slice_get, is_some, if◌then◌else◌, find}
 use Rattle.std.specs.FinMap.{is_sorted}
 use Rattle.std.specs.List.{All}

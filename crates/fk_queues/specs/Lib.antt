@@ -1,5 +1,5 @@
 pub mod KernelQueues
 pub mod Releases
-pub mod Rising
+pub mod Requests
 pub mod Room
 pub mod State

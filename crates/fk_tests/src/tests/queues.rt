@@ -2,7 +2,7 @@
 
 use crate::tests::assert_right;
 use fail_at::{FailAt, Outcome, Tried, first_wrong, judged};
-use fk_queues::{Forgets, IntrEffect, ListQueues, MapQueues, NoMemory, QueueTable, Queues};
+use fk_queues::{Forgets, IntrEffect, ListQueues, NoMemory, QueueTable, Queues};
 use std::alloc::{Allocator, Global};
 use std::process::Abort;
 use std::test::Fail;
@@ -317,19 +317,17 @@ fn runs_of_each<A: Allocator + Copy>(
     heap: A,
     refusing: &FailAt<Global>,
     alloc: Global,
-) -> [u64; 3] {
+) -> [u64; 2] {
     let of_queues = runs::<Queues<u64, A>>(rt, heap, refusing, alloc);
-    let of_maps = runs::<MapQueues<u64, A>>(rt, heap, refusing, alloc);
     let of_lists = runs::<ListQueues<u64, A>>(rt, heap, refusing, alloc);
-    [of_queues, of_maps, of_lists]
+    [of_queues, of_lists]
 }
 
 #[test]
 fn calls_with_each_growth_refused(rt: HostRuntime) -> Result<(), Fail> {
     let heap = FailAt::new(rt.alloc());
-    let [of_queues, of_maps, of_lists] = runs_of_each(&rt, &heap, &heap, rt.alloc());
+    let [of_queues, of_lists] = runs_of_each(&rt, &heap, &heap, rt.alloc());
     assert!(rt; 3 < of_queues && of_queues < 60, "queues");
-    assert!(rt; 3 < of_maps && of_maps < 60, "maps");
     assert!(rt; 3 < of_lists && of_lists < 60, "lists");
     Ok(())
 }

@@ -1,5 +1,5 @@
 use Rattle.std.proofs.Common.{◌∙◌}
-use Rattle.fk_queues.proofs.Rising.{above_absent, put_last}
+use Rattle.fk_queues.proofs.Requests.{above_absent, put_last}
 use Rattle.fk_queues.proofs.kernel_queues.put_served.Goals as goal
 
 pub put-requires-clause-absent : goal.put-requires-clause-absent

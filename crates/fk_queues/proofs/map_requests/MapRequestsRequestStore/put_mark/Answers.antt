@@ -1,26 +1,51 @@
-use Rattle.std.proofs.Common.{◌≡◌, ◌∙◌, rules, ap, length, nat_eq, Some, None}
-use Rattle.std.specs.Map.{lookup}
-use Rattle.fuse_spec.proofs.QueueCounts.{set_value-set_mark, set_mark-absent, length-set_mark}
+use Rattle.std.proofs.Common.{◌≡◌, ◌∙◌, rules, sym, ap, subst, arith, filter, not, nat_eq, false, true, length}
+use Rattle.fuse_spec.specs.Kernel.Queues.{is_unread}
+use Rattle.fuse_spec.proofs.QueueCounts.{length-set_mark}
+use Rattle.fuse_tables.specs.LiveRows.{live}
+use Rattle.fuse_tables.proofs.Live.{sorted_live}
+use Rattle.fk_queues.specs.Requests.{Rises, unread_numbers}
+use Rattle.fk_queues.proofs.Requests.{numbers_read, numbers_flagged, numbers_rise}
 use Rattle.fk_queues.proofs.map_requests.MapRequestsRequestStore.put_mark.Goals as goal
 
-pub returns-in-Some : goal.returns-in-Some
-returns-in-Some g c =
-    let es = c.args.self.now.requests.entries in
-    let found : lookup (nat_eq c.args.unique) es ≡ Some c.in-Some.request.now = search rules in
-    let set = set_value-set_mark c.args.unique es c.in-Some.request.now c.args.mark found in
-    let entries = (c.get_mut.follows.holds (record {
-      mark = c.args.mark;
-      kept = c.in-Some.request.now.kept;
-    })).0 ∙ set in
+pub drop_number-requires : goal.drop_number-requires
+drop_number-requires g c =
+    let es = c.self.inside.requests.entries in
+    subst Rises (sym c.self.invariant.numbers) (numbers_rise (live es) (sorted_live es c.self.invariant.sorted))
+
+pub invariant_of-self : goal.invariant_of-self
+invariant_of-self g c =
+    let es = c.self.inside.requests.entries in
+    let marked = c.mark_in.ensures.live in
+    let read : is_unread c.args.mark ≡ false = search rules in
+    let long = ap length marked ∙ length-set_mark c.args.unique (live es) c.args.mark in
     record {
-      entries = entries;
-      len = ap length entries ∙ length-set_mark c.args.unique es c.args.mark;
-      room = search rules;
+      sorted = c.mark_in.ensures.sorted;
+      counted = omega (arith, long, c.mark_in.ensures.len, c.self.invariant.counted);
+      numbers = c.drop_number.ensures.items ∙ ap (filter (λ n. not (nat_eq c.args.unique n))) c.self.invariant.numbers
+          ∙ sym (numbers_read c.args.unique c.args.mark (live es) (sorted_live es c.self.invariant.sorted) read)
+          ∙ ap unread_numbers (sym marked);
     }
 
-pub returns-in_default : goal.returns-in_default
-returns-in_default g c =
-    let es = c.args.self.now.requests.entries in
-    let none : lookup (nat_eq c.args.unique) es ≡ None = search rules in
-    let same = set_mark-absent c.args.unique es c.args.mark none in
-    search (rules, same)
+pub invariant_of-self-else-not-is_unread : goal.invariant_of-self-else-not-is_unread
+invariant_of-self-else-not-is_unread g c =
+    let es = c.self.inside.requests.entries in
+    let marked = c.mark_in.ensures.live in
+    let unread : is_unread c.args.mark ≡ true = search rules in
+    let was = rw (← c.self.view_is) at (c.requires unread) in
+    let long = ap length marked ∙ length-set_mark c.args.unique (live es) c.args.mark in
+    record {
+      sorted = c.mark_in.ensures.sorted;
+      counted = omega (arith, long, c.mark_in.ensures.len, c.self.invariant.counted);
+      numbers = c.self.invariant.numbers ∙ sym (numbers_flagged c.args.unique c.args.mark (live es) unread was)
+          ∙ ap unread_numbers (sym marked);
+    }
+
+pub returns-then-not-is_unread-clause-len : goal.returns-then-not-is_unread-clause-len
+returns-then-not-is_unread-clause-len g c =
+    rw (← c.self.view_is) (ap length c.mark_in.ensures.live
+    ∙ length-set_mark c.args.unique (live c.self.inside.requests.entries) c.args.mark)
+
+pub returns-else-not-is_unread-clause-len : goal.returns-else-not-is_unread-clause-len
+returns-else-not-is_unread-clause-len g c =
+    rw (← c.self.view_is) (ap length c.mark_in.ensures.live
+    ∙ length-set_mark c.args.unique (live c.self.inside.requests.entries) c.args.mark)

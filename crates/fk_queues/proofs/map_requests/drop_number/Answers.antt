@@ -1,7 +1,7 @@
 use Rattle.std.proofs.Common.{◌∙◌, rules, arith}
 use Rattle.std.proofs.lemmas.List.Sorted.{searched}
-use Rattle.fk_queues.proofs.Rising.{rises_le, gone_at, gone_none}
-use Rattle.fk_queues.proofs.rising_requests.drop_number.Goals as goal
+use Rattle.fk_queues.proofs.Requests.{rises_le, gone_at, gone_none}
+use Rattle.fk_queues.proofs.map_requests.drop_number.Goals as goal
 
 pub returns-in-Ok-clause-items : goal.returns-in-Ok-clause-items
 returns-in-Ok-clause-items g c =

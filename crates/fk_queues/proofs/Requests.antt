@@ -20,7 +20,7 @@ use Rattle.fuse_spec.proofs.QueueCounts.{count_by-cons}
 use Rattle.fuse_spec.specs.Values.Maps.{get, put, remove}
 use Rattle.fuse_tables.proofs.Rows.{both_first, both_second, less_lower, apart, tied, none_below, kept_above}
 use Rattle.fuse_tables.proofs.Live.{both, ties}
-use Rattle.fk_queues.specs.Rising.{Rises, unread_numbers}
+use Rattle.fk_queues.specs.Requests.{Rises, unread_numbers}
 
 lower_less : (x y : ℕ) → x < y → T (is_lt (nat_cmp x y))
 lower_less x y h = rw (lt-ltb x y h) tt
@@ -171,13 +171,6 @@ module _ {X : Type 0} where
           cc
       by Greater q rest = ap (λ (m : List (ℕ × X)). e ∷ m) rest
 
-module _ {W : Type 0} where
-  -- a request whose mark is that of an unread one is unread
-  pub marked_unread : (o : Option (QueuedRequest W)) (m : Mark) → option_map (λ r. r.mark) o ≡ Some m
-      → is_unread m ≡ true → IfSome o (λ r. is_unread r.mark ≡ true)
-  marked_unread None m e unread = absurd (cc)
-  marked_unread (Some r) m e unread = ap is_unread (same_Some r.mark m e) ∙ unread
-
 abbrev Rows : Type 0 → Type 0
 Rows W = List (ℕ × QueuedRequest W)
 
@@ -196,23 +189,6 @@ first_goes u x false ns same apart_all = sym (kept_others u ns apart_all)
 
 module _ {W : Type 0} where
   -- ---- marking
-
-  below_marked : (x u : ℕ) (m : Mark) (es : Rows W) → T (below_all nat_cmp x es) → T (below_all nat_cmp x (set_mark u es m))
-  below_marked x u m [] h = tt
-  below_marked x u m (e ∷ es) h =
-      let rest = below_marked x u m es (both_second _ _ h) in
-      elim (nat_eq u e.0) as (λ b. T (below_all nat_cmp x (cond b ((e.0, record { mark = m; kept = e.1.kept }) ∷ es)
-      (e ∷ set_mark u es m)))) [ true ↦ h | false ↦ both _ _ (both_first _ _ h) rest ]
-
-  pub sorted_marked : (u : ℕ) (m : Mark) (es : Rows W) → T (is_sorted nat_cmp es) → T (is_sorted nat_cmp (set_mark u es m))
-  sorted_marked u m [] h = tt
-  sorted_marked u m (e ∷ es) h =
-      let rest = sorted_marked u m es (both_second _ _ h) in
-      elim (nat_eq u e.0) as (λ b. T (is_sorted nat_cmp (cond b ((e.0, record { mark = m; kept = e.1.kept }) ∷ es)
-      (e ∷ set_mark u es m)))) [
-        | true ↦ h
-        | false ↦ both _ _ (below_marked e.0 u m es (both_first _ _ h)) rest
-      ]
 
   some_none : (r : QueuedRequest W) → None ≡ Some r → ⊥
   some_none r e = cc
