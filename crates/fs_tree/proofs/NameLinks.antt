@@ -308,7 +308,7 @@ module _ {A : Type 0} (name : List ℕ) (es : List (ℕ × NamedFile A)) (once :
       ∙ ap (λ l. l ++ leaf_entry (cookie, leaf) ∷ []) removed-entries
 
 -- a name put last that goes again
-pub unput-entries : {A : Type 0} (es : List (ℕ × Leaf A)) (cookie : ℕ) (leaf : Leaf A)
+pub unput-entries : {A : Type 0} (es : List (ℕ × NamedFile A)) (cookie : ℕ) (leaf : NamedFile A)
     → AreBefore cookie (map leaf_entry es)
     → map leaf_entry (without_key (Some cookie) (insert_entry nat_cmp es cookie leaf)) ≡ map leaf_entry es
 unput-entries es cookie leaf before =

@@ -30,7 +30,7 @@ pub(crate) struct Link {
 
 /// A name, and the file to which it leads.
 #[derive(Drop)]
-pub(crate) struct Leaf<A: Allocator> {
+pub(crate) struct NamedFile<A: Allocator> {
     pub(crate) name: Vec<u8, A>,
     pub(crate) file: u64,
 }
@@ -47,7 +47,7 @@ pub(crate) struct Leaf<A: Allocator> {
 /// | `list`, `files_listed` | log `n` steps, and one for each name that is listed |
 #[derive(Drop)]
 pub(crate) struct Entries<A: Allocator> {
-    names: BTreeMap<u64, Leaf<A>, A>,
+    names: BTreeMap<u64, NamedFile<A>, A>,
     links: BTreeMap<Vec<u8, A>, Link, A>,
     alloc: A,
 }
@@ -123,7 +123,7 @@ impl<A: Allocator + Copy> Entries<A> {
         ensures unchanged { OnErr result (self.new ≡ self.old) }
     {
         let replaced = self.cookie_at(&name);
-        let leaf = Leaf {
+        let leaf = NamedFile {
             name: copy_of(&name, self.alloc)?,
             file: link.file,
         };
@@ -206,7 +206,7 @@ fn list_file(listed: &mut ArrayVec<u64, MOST_LISTED>, name: &[u8], file: u64)
 }
 
 /// Takes the name with this cookie away, if there is one.
-fn take_away<A: Allocator>(names: &mut BTreeMap<u64, Leaf<A>, A>, cookie: Option<u64>)
+fn take_away<A: Allocator>(names: &mut BTreeMap<u64, NamedFile<A>, A>, cookie: Option<u64>)
     ensures entries { names.new.entries ≡ without_key cookie names.old.entries }
     ensures was_ordered { IsOrdered nat_cmp names.old }
 {

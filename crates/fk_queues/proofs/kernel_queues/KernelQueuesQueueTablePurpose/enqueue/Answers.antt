@@ -2,7 +2,7 @@ use Rattle.std.proofs.Common.{arith, sym}
 use Rattle.fk_opens.proofs.Pins.{few_pins}
 use Rattle.fk_queues.specs.Releases.{releases_of}
 use Rattle.fk_queues.proofs.Releases.{released_last, releases_most, same_pins}
-use Rattle.fk_queues.proofs.Requests.{drawn_all_below}
+use Rattle.fk_queues.proofs.Requests.{allocated_all_below}
 use Rattle.fk_queues.proofs.Served.{served_above, served_last}
 use Rattle.fk_queues.proofs.kernel_queues.KernelQueuesQueueTablePurpose.enqueue.Goals as goal
 
@@ -15,7 +15,7 @@ pub put_served-requires-clause-above : goal.put_served-requires-clause-above
 put_served-requires-clause-above g c =
     let s = g.Q.QueueTable.state c.self.inside.queues in
     rw (c.self.invariant.served, c.enqueue-unique.ensures.unique)
-    (served_above s.next s.requests (drawn_all_below s.next s.requests c.lemma_sound.ensures.sound.requests))
+    (served_above s.next s.requests (allocated_all_below s.next s.requests c.lemma_sound.ensures.sound.requests))
 
 pub invariant_of-self : goal.invariant_of-self
 invariant_of-self g c =
