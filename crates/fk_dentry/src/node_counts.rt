@@ -28,7 +28,7 @@ impl<A: Allocator + Copy> NodeCounts<A> {
         }
     }
 
-    /// Makes room for the counts of so many names, each of which names two nodes at most.
+    /// Makes room for the counts of this many names, each of which names two nodes at most.
     ///
     /// # Errors
     ///

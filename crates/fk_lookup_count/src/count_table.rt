@@ -81,7 +81,7 @@ pub trait CountTable {
     fn count_of(&self, id: u64) -> Option<Counted>
         ensures { result ≡ get (counted self.now) id };
 
-    /// Gives a counted id up, and gives the forget of its whole count. The id keeps no room.
+    /// Evicts a counted id, and gives the forget of its whole count. The id keeps no room.
     fn evict(&mut self, id: u64) -> Option<Forget>
         ensures forget { result ≡ forget_of id (get (counted self.old) id) }
         ensures counted { counted self.new ≡ remove (counted self.old) id }
@@ -93,7 +93,7 @@ pub trait CountTable {
         ensures sorted { T (is_sorted nat_cmp (counted self.now)) }
         ensures few { length (counted self.now) < 2 ^ 63 };
 
-    /// Gives up all ids, without forgets, and their room.
+    /// Drops all ids, without forgets, and their room.
     fn clear(&mut self)
         ensures { counted self.new ≡ [] };
 

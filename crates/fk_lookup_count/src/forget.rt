@@ -1,6 +1,6 @@
-//! What the kernel sends when it gives a node up.
+//! What the kernel sends when it evicts a node.
 
-/// So many lookups of a node are given back (`struct fuse_forget_one`).
+/// This many lookups of a node are forgotten (`struct fuse_forget_one`).
 #[derive(Clone, Copy, Debug, PartialEq, Eq)]
 pub struct Forget {
     pub nodeid: u64,

@@ -44,7 +44,7 @@ impl<A: Allocator + Copy> NodePins<A> {
         self.counts.get(node).is_some()
     }
 
-    /// Makes room for so many more pins.
+    /// Makes room for this many more pins.
     ///
     /// # Errors
     ///

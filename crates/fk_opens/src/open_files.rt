@@ -68,7 +68,7 @@ impl<A: Allocator + Copy> OpenFiles<A> {
         self.uses.is_pinned(node)
     }
 
-    /// Makes room for so many more.
+    /// Makes room for this many more.
     ///
     /// # Errors
     ///

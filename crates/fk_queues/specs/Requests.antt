@@ -22,7 +22,7 @@ abbrev pub unread_numbers : {W : Type 0} → List (ℕ × QueuedRequest W) → L
 unread_numbers [] = []
 unread_numbers (e ∷ es) = if is_unread e.1.mark then e.0 ∷ unread_numbers es else unread_numbers es
 
--- entries stand in rising number, so many of them are empty, and the numbers of those unread stand in the same order
+-- entries stand in rising number, this many of them are empty, and the numbers of those unread stand in the same order
 pub record AreRequests {W : Type 0} (entries : List (ℕ × Option (QueuedRequest W))) (empty : ℕ) (unread : List ℕ)
     : Type 0 where
   pub sorted : T (is_sorted nat_cmp entries)

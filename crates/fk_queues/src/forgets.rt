@@ -70,7 +70,7 @@ impl<A: Allocator + Copy> ForgetList<A> {
         self.items.push_back((node, count)).unwrap();
     }
 
-    /// The first forgets. There are so many, and a frame has room for them.
+    /// The first forgets. There are as many, and a frame has room for them.
     pub(crate) fn first(&self, count: usize) -> Forgets
         requires there { count ≤ length self.now.items.items }
         requires few { count ≤ max_forgets }

@@ -143,7 +143,7 @@ impl<W: Drop, A: Allocator + Copy> RequestStore<W> for MapRequests<W, A> {
     }
 }
 
-/// Whether so many more requests do not fit, and at least half of the map is empty entries.
+/// Whether this many more requests do not fit, and at least half of the map is empty entries.
 #[inline(always)]
 fn is_half_empty<W, A: Allocator>(requests: &Entries<W, A>, empty: usize, more: usize) -> bool
     requires { empty ≤ index_map_len requests.now }

@@ -33,7 +33,7 @@ pub trait RequestStore<W: Drop> {
         ensures len { result ≡ length (entries self.now) }
         ensures few { result < 2 ^ 63 };
 
-    /// Makes room for so many more requests.
+    /// Makes room for this many more requests.
     ///
     /// # Errors
     ///

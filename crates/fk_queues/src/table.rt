@@ -32,8 +32,8 @@ pub trait QueueTable<W: Drop> {
     fn new(alloc: Self::Heap) -> Self
         ensures { state result ≡ empty_queues };
 
-    /// Makes room: from then on so many requests can be queued, each with its INTERRUPT, and so many forgets.
-    /// Room that is not used stays.
+    /// Makes room: from then on this many requests can be queued, each with its INTERRUPT, and this many forgets. Room
+    /// that is not used stays.
     ///
     /// # Errors
     ///
@@ -45,7 +45,7 @@ pub trait QueueTable<W: Drop> {
         ensures forgets { OnOk result (forgets ≤ (room self.new).forgets) }
         ensures succeeds { requests ≤ (room self.old).requests → forgets ≤ (room self.old).forgets → IsOk result };
 
-    /// How many numbers can still be drawn.
+    /// How many numbers can still be allocated.
     fn numbers_left(&self) -> u64
         ensures { result ≡ numbers_left_from (state self.now).next };
 
@@ -91,7 +91,8 @@ pub trait QueueTable<W: Drop> {
     fn first_forgets(&self, count: usize) -> Option<(u64, Forgets)>
         ensures { result ≡ first_forgets (state self.now) count };
 
-    /// Reads the first `count` forgets, as one frame, which draws a number: a FORGET for 1, a BATCH_FORGET for more.
+    /// Reads the first `count` forgets, as one frame, which allocates a number: a FORGET for 1, a BATCH_FORGET for
+    /// more.
     fn read_forgets(&mut self, count: usize) -> Option<(u64, Forgets)>
         requires { 0 < numbers_left_from (state self.old).next }
         ensures forgets { result ≡ first_forgets (state self.old) count }
@@ -131,7 +132,7 @@ pub trait QueueTable<W: Drop> {
         ensures state { state self.new ≡ after_no_interrupts (state self.old) }
         ensures room { KeepsRoom (room self.old) (room self.new) };
 
-    /// Gives everything up, room too. Numbers begin at 2 again.
+    /// Drops everything, room too. Numbers begin at 2 again.
     fn abort(&mut self)
         ensures { state self.new ≡ empty_queues };
 

@@ -1,4 +1,4 @@
--- A directory is within another one, by so many steps up, exactly where its parents lead there.
+-- A directory is within another one, by this many steps up, exactly where its parents lead there.
 use Rattle.std.proofs.Common.{◌≡◌, ◌&&◌, ℕ, zero, suc, ◌≤◌, Bool, true, false, true≢false, not, cond, List, [], ◌∷◌, Option, Some, None, nat_eq, find, filter, length, refl, ap, sym, subst, ◌∙◌, arith, Contains, ◌⊎◌, inl, inr, ◌↔◌, eq-eqb}
 use Rattle.std.proofs.lemmas.Bool.Decides.{nat_tests}
 use Rattle.std.proofs.lemmas.List.Elements.{All-contains}
@@ -156,7 +156,7 @@ module _ (top : ℕ) where
   short (suc size) = shorter size (short size)
 
 module _ (tree : Tree) (top : ℕ) where
-  -- so many steps up follow parents
+  -- this many steps up follow parents
   leads : (steps dir : ℕ) → Within steps tree.names top dir → IsBelow tree top dir
   leads zero dir within = is_top dir (same_number dir top within)
   leads (suc steps) dir within = elim (split top steps tree.names dir within) [

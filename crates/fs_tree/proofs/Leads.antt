@@ -42,7 +42,7 @@ fitting-pairs valid room (r ∷ records) = by (nat_le (128 + record_length r.1) 
 told-either : (valid : ℕ) (r : ℕ × Dirent) → listed_by (lead_pair 0 r) ≡ listed_by (lead_pair valid r)
 told-either valid r = refl
 
--- they tell the same files however long they are valid
+-- they have the same files however long they are valid
 pub files-either : (valid : ℕ) (records : List (ℕ × Dirent))
     → files_led records ≡ files_listed (map (lead_pair valid) records)
 files-either valid [] = refl
@@ -77,7 +77,7 @@ pairs-listed valid files dir after room names records are =
     ∙ ap (fitting_pairs room) (map_map (lead_in files) (lead_pair valid)
     (filter (λ n. nat_lt after n.cookie) (filter (λ n. nat_eq n.directory dir) names)))
 
--- the files that they tell
+-- the files that they lead to
 pub files-listed : (valid : ℕ) (files : Map Content) (dir after room : ℕ) (names : List Named)
     → files_led (fitting_with 128 room (listed_names files dir after names))
     ≡ files_listed (fitting_pairs room (map (pair_in valid files)

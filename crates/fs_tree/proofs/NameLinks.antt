@@ -361,7 +361,7 @@ module _ (more : ℕ) (rest : List (ℕ × Dirent)) (r : ℕ × Dirent) (room le
       → done ++ fitting_with more room (r ∷ rest) ≡ done
   fitting-end done fails = rw (is, fails) (append-nil done)
 
-  -- the same of the files that they tell
+  -- so of the files that they lead to
   pub files-more : (done : List ℕ) → nat_le len room ≡ true
       → done ++ files_led (fitting_with more room (r ∷ rest)) ≡ done
       ++ first_listed (listed_by (lead_pair 0 r)) (files_led (fitting_with more (room - len) rest))

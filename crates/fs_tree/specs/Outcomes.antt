@@ -24,7 +24,7 @@ tree_errno FileTooLarge = efbig
 tree_errno NoSpace = enospc
 tree_errno NotEmpty = enotempty
 
--- The refusal that an error tells of. A want of memory comes only where nothing refuses.
+-- The refusal of an error. Out of memory comes only where nothing refuses.
 abbrev pub tree_refusal_in : TreeError → Option ℕ
 tree_refusal_in NotPermitted = Some eperm
 tree_refusal_in NotFound = Some enoent
@@ -42,7 +42,7 @@ abbrev pub RefusesWith : {T : Type 0} → Option ℕ → Result T TreeError → 
 RefusesWith first result = MatchResult result (λ _. first ≡ None)
     (λ e. (first ≡ tree_refusal_in e) × (first ≡ Some (tree_errno e)))
 
--- The call was refused with this error: the first refusal of the operation, or a want of memory where there is none.
+-- The call was refused with this error: the first refusal of the operation, or out of memory where there is none.
 abbrev pub IsOperationRefused : Tree → FileOperation → TreeError → Type 0
 IsOperationRefused tree operation error = refusal tree operation ≡ tree_refusal_in error
 

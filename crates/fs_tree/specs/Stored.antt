@@ -20,17 +20,18 @@ abbrev pub listed_names : Map Content → ℕ → ℕ → List Named → List (�
 listed_names files dir after names = map (lead_in files)
     (filter (λ n. nat_lt after n.cookie) (filter (λ n. nat_eq n.directory dir) names))
 
--- As many of these as fit so many bytes, from the first on, where each takes its record and so many bytes more.
+-- As many of these as fit this many bytes, from the first on, where each takes its record and as many bytes more as are
+-- given.
 abbrev pub fitting_with : (more room : ℕ) → List (ℕ × Dirent) → List (ℕ × Dirent)
 fitting_with more room [] = []
 fitting_with more room (r ∷ records) = cond (nat_le (more + record_length r.1) room)
     (r ∷ fitting_with more (room - (more + record_length r.1)) records) []
 
--- A name as READDIRPLUS lists it, valid for so many milliseconds.
+-- A name as READDIRPLUS lists it, valid for this many milliseconds.
 abbrev pub lead_pair : (valid : ℕ) → ℕ × Dirent → DirentPlus ℕ
 lead_pair valid r = record { file = Some r.0; valid = valid; dirent = r.1 }
 
--- The files that these names tell.
+-- The files that these names lead to.
 abbrev pub files_led : List (ℕ × Dirent) → List ℕ
 files_led records = files_listed (map (lead_pair 0) records)
 
@@ -44,7 +45,7 @@ abbrev pub IsRising : ℕ → List Named → ℕ → Type 0
 IsRising low [] next = low ≤ next
 IsRising low (n ∷ names) next = (low ≤ n.cookie) × IsRising (n.cookie + 1) names next
 
--- No inode is drawn twice, names are in rising cookie, and none is drawn twice; there are 4,096 names at most.
+-- No inode is allocated twice, names are in rising cookie, and none is allocated twice; there are 4,096 names at most.
 pub record IsTreeKept (files : Map Content) (names : List Named) (next_inode next_cookie : ℕ) : Type 0 where
   pub born : AreKeysBelow next_inode files
   pub rising : IsRising 1 names next_cookie

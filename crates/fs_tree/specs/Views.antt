@@ -27,6 +27,6 @@ viewed_dirent r = record { ino = r.file + 1; offset = r.cookie; kind = r.kind; n
 abbrev pub lead_of : Record → ℕ × Dirent
 lead_of r = (r.file, viewed_dirent r)
 
--- The name as READDIRPLUS lists it, valid for so many milliseconds.
+-- The name as READDIRPLUS lists it, valid for this many milliseconds.
 abbrev pub viewed_pair : (valid : ℕ) → Record → DirentPlus ℕ
 viewed_pair valid r = record { file = Some r.file; valid = valid; dirent = viewed_dirent r }

@@ -96,7 +96,7 @@ impl<A: Allocator + Copy> Tree<A> {
     }
 }
 
-/// Whether so many bytes from an offset on lie within the largest file.
+/// Whether this many bytes from an offset on lie within the largest file.
 fn fits(offset: u64, len: usize) -> bool
     ensures { (result ≡ true) ↔ (offset + len ≤ max_file) }
 {
@@ -130,7 +130,7 @@ pub(crate) fn overwrite<A: Allocator>(
     Ok(())
 }
 
-/// At most so many bytes, the first ones.
+/// At most this many bytes, the first ones.
 fn first_bytes(bytes: &[u8], count: usize) -> &[u8]
     ensures { result.now ≡ take count bytes.now }
 {

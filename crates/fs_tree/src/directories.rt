@@ -10,8 +10,8 @@ use indexmap::IndexMap;
 use std::alloc::{AllocError, Allocator};
 use std::hash::{BuildHasherDefault, FoldHasher};
 
-/// The names in each directory that has any. A hash map serves here, since no caller picks the keys: the server draws
-/// inodes itself, in rising order.
+/// The names in each directory that has any. A hash map serves here, since no caller picks the keys: the server
+/// allocates inodes itself, in rising order.
 pub(crate) type Directories<A> = IndexMap<u64, Entries<A>, BuildHasherDefault<FoldHasher>, A>;
 
 /// Sees to it that a directory is there, with no names if it is new.

@@ -140,7 +140,8 @@ impl<A: Allocator + Copy> Entries<A> {
         }
     }
 
-    /// The records of the names with a cookie over `after`, as many as fit so many bytes with so many bytes more each.
+    /// The records of the names with a cookie over `after`, as many as fit this many bytes with this many bytes more
+    /// each.
     pub(crate) fn list(
         &self,
         files: &Files<A>,
@@ -173,7 +174,8 @@ impl<A: Allocator + Copy> Entries<A> {
         Ok(records)
     }
 
-    /// The files that the names with a cookie over `after` tell, as many names as fit so many bytes with their entries.
+    /// The files that the names with a cookie over `after` lead to, as many names as fit this many bytes with their
+    /// entries.
     pub(crate) fn files_listed(&self, after: u64, size: usize) -> ArrayVec<u64, MOST_LISTED>
         requires { size ≤ max_transfer }
         ensures { (files : Map Content) → result.items ≡ files_led

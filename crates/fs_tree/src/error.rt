@@ -6,7 +6,7 @@ ghost use Rattle.fs_tree.specs.Outcomes.{tree_errno};
 use std::alloc::AllocError;
 use thiserror::Error;
 
-/// The first refusal that applies (`errno.h`), or a want of memory, which comes after all of them.
+/// The first refusal that applies (`errno.h`), or out of memory, which comes after all of them.
 #[derive(Clone, Copy, Debug, PartialEq, Eq, Error)]
 pub enum TreeError {
     #[error("operation not permitted")]

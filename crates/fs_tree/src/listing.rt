@@ -77,7 +77,7 @@ impl<A: Allocator + Copy> Tree<A> {
         Ok(records)
     }
 
-    /// The files that those names tell, in order: `.` and `..` give none. In a file that is no directory there are
+    /// The files that those names lead to, in order: `.` and `..` give none. In a file that is no directory there are
     /// none.
     pub fn files_listed(&self, directory: u64, offset: u64, size: u32) -> ArrayVec<u64, MOST_LISTED>
         ensures { (valid : Validity) → result.items ≡ files_in_reply

@@ -207,8 +207,8 @@ impl<A: Allocator + Copy> Names<A> {
         at == top
     }
 
-    /// The records of the names in a directory with a cookie over `after`, as many as fit so many bytes with so many
-    /// bytes more each.
+    /// The records of the names in a directory with a cookie over `after`, as many as fit this many bytes with this
+    /// many bytes more each.
     pub(crate) fn list(
         &self,
         files: &Files<A>,
@@ -227,8 +227,8 @@ impl<A: Allocator + Copy> Names<A> {
         }
     }
 
-    /// The files that the names in a directory with a cookie over `after` lead to, as many names as fit so many bytes with
-    /// their entries.
+    /// The files that the names in a directory with a cookie over `after` lead to, as many names as fit this many bytes
+    /// with their entries.
     pub(crate) fn files_listed(
         &self,
         directory: u64,

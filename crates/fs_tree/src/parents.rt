@@ -30,7 +30,7 @@ impl<A: Allocator> Model for Parents<A> {
 }
 
 /// The directories of each file that has names. A hash map serves here, since no caller picks the keys: the server
-/// draws inodes itself, in rising order.
+/// allocates inodes itself, in rising order.
 pub(crate) type ParentsByFile<A> = IndexMap<u64, Parents<A>, BuildHasherDefault<FoldHasher>, A>;
 
 impl<A: Allocator + Copy> Parents<A> {

@@ -119,7 +119,7 @@ impl<V: Drop, A: Allocator + Copy> RisingTable<V, A> {
         let _len = self.rows.len();
     }
 
-    /// Makes room for so many more entries. No memory is set aside for one that comes late: it takes some, or moves
+    /// Makes room for this many more entries. No memory is set aside for one that comes late: it takes some, or moves
     /// rows.
     ///
     /// # Errors

@@ -127,7 +127,7 @@ impl<V: Drop, A: Allocator + Copy> Table<V, A> {
         }
     }
 
-    /// Makes room for so many more entries.
+    /// Makes room for this many more entries.
     ///
     /// # Errors
     ///
