@@ -9,7 +9,7 @@ use Rattle.std.specs.FinMap.{is_sorted}
 use Rattle.std.specs.Cmp.{ranked}
 use Rattle.std.proofs.lemmas.List.Elements.{All-cons, All-head, All-tail}
 use Rattle.std.proofs.lemmas.List.{length-append}
-use Rattle.std.proofs.lemmas.Option.{same_Some}
+use Rattle.std.proofs.lemmas.Option.{same_Some, slice_get_within, get_or_from_slice_get}
 use Rattle.fuse_spec.specs.declared.Mark.{Mark}
 use Rattle.fuse_spec.specs.declared.QueuedRequest.{QueuedRequest}
 use Rattle.fuse_spec.specs.Kernel.QueueCalls.{set_mark}
@@ -49,18 +49,28 @@ module _ {X : Type 0} where
   pub below_last : (n : ℕ) (last : ℕ × X) (es : List (ℕ × X)) → T (is_sorted nat_cmp es)
       → slice_get es (length es - 1) ≡ Some last → last.0 < n → All (λ e. e.0 < n) es
   below_last n last [] h at low = λ k d lt. absurd (omega arith)
-  below_last n last (e ∷ es) h at low = last_of e es h (simp unary_clauses at at)
+  below_last n last (e ∷ es) h at low = up_to e es h (simp unary_clauses at at)
     where
-      last_of : (e : ℕ × X) (es : List (ℕ × X)) → T (is_sorted nat_cmp (e ∷ es))
+      below : (x y : ℕ) → x < y → y < n → x < n
+      below x y lower next = omega arith
+
+      up_to : (e : ℕ × X) (es : List (ℕ × X)) → T (is_sorted nat_cmp (e ∷ es))
           → slice_get (e ∷ es) (length es) ≡ Some last → All (λ x. x.0 < n) (e ∷ es)
-      last_of e [] h at =
+      up_to e [] h at =
           let same = ap (λ (x : ℕ × X). x.0) (same_Some e last at) in
           All-cons (λ (x : ℕ × X). x.0 < n) e [] (omega (arith, same)) (λ k d lt. absurd (omega arith))
-      last_of e (f ∷ es) h at =
-          let rest = last_of f es (both_second _ _ h) at in
+      up_to e (f ∷ es) h at =
+          let rest = up_to f es (both_second _ _ h) at in
           let next = All-head (λ (x : ℕ × X). x.0 < n) f es rest in
           let lower = less_lower e.0 f.0 (both_first _ _ (both_first _ _ h)) in
-          All-cons (λ (x : ℕ × X). x.0 < n) e (f ∷ es) (omega arith) rest
+          All-cons (λ (x : ℕ × X). x.0 < n) e (f ∷ es) (below e.0 f.0 lower next) rest
+
+  pub last_below : (n : ℕ) (last : ℕ × X) (es : List (ℕ × X)) → All (λ e. e.0 < n) es
+      → slice_get es (length es - 1) ≡ Some last → last.0 < n
+  last_below n last es below at =
+      let within = slice_get_within es (length es - 1) last at in
+      let here = get_or_from_slice_get es (length es - 1) last last at in
+      subst (λ (x : ℕ × X). x.0 < n) here (below (length es - 1) last within)
 
 module _ {V : Type 0} where
   -- what is found among the entries that are not empty

@@ -1,5 +1,5 @@
 //! Requests in one map from number to request, in order of queuing.
-ghost use Rattle.std.specs.Prelude.{◌≡◌, ℕ, ◌+◌, ◌<◌, ◌≤◌, ◌^◌, All, IfSome, List, Option, OnOk, T, filter, is_some, length, nat_eq, not, option_map, slice_get, slice_index, true};
+ghost use Rattle.std.specs.Prelude.{◌≡◌, ℕ, ◌+◌, ◌<◌, ◌≤◌, ◌^◌, ◌↔◌, All, IfSome, List, Option, OnOk, T, filter, is_some, length, nat_eq, not, option_map, slice_get, slice_index, true};
 ghost use Rattle.std.specs.Option.{option_copied};
 ghost use Rattle.std.specs.Map.{lookup, remove_entry};
 ghost use Rattle.std.specs.Ordering.{nat_cmp};
@@ -147,6 +147,8 @@ impl<W: Drop, A: Allocator + Copy> RequestStore<W> for MapRequests<W, A> {
 #[inline(always)]
 fn is_half_empty<W, A: Allocator>(requests: &Entries<W, A>, empty: usize, more: usize) -> bool
     requires { empty ≤ index_map_len requests.now }
+    ensures { (result ≡ true)
+        ↔ ((spare requests.now < more) × (index_map_len requests.now + spare requests.now ≤ empty + empty)) }
 {
     let capacity = requests.capacity();
     capacity - requests.len() < more && capacity - empty <= empty
@@ -176,7 +178,7 @@ fn drop_empty<W: Drop, A: Allocator>(requests: &mut Entries<W, A>, empty: &mut u
 #[inline(always)]
 fn is_above<W, A: Allocator>(requests: &Entries<W, A>, unique: u64) -> bool
     requires { T (is_sorted nat_cmp requests.now.entries) }
-    ensures { result ≡ true → All (λ e. e.0 < unique) requests.now.entries }
+    ensures { (result ≡ true) ↔ All (λ e. e.0 < unique) requests.now.entries }
 {
     match requests.last() {
         Some((last, _)) => *last < unique,
@@ -262,7 +264,7 @@ fn number_at<A: Allocator>(numbers: &VecDeque<u64, A>, place: usize) -> Option<u
 
 /// Whether a number stands first.
 fn is_first<A: Allocator>(numbers: &VecDeque<u64, A>, number: u64) -> bool
-    ensures { result ≡ true → (0 < deque_len numbers.now) × (slice_index numbers.now.items 0 ≡ number) }
+    ensures { (result ≡ true) ↔ ((0 < deque_len numbers.now) × (slice_index numbers.now.items 0 ≡ number)) }
 {
     if numbers.is_empty() {
         return false;

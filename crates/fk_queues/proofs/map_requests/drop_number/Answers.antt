@@ -21,5 +21,5 @@ returns-in_default-clause-items g c =
 
 pub returns-then-is_first-clause-items : goal.returns-then-is_first-clause-items
 returns-then-is_first-clause-items g c =
-    let first = c.is_first.ensures c.if-is_first.true in
+    let first = c.is_first.ensures.0 c.if-is_first.true in
     c.take_at-first.ensures.items ∙ gone_at c.args.number c.args.numbers.now.items 0 c.requires (omega (arith, first.0)) first.1
