@@ -205,15 +205,6 @@ module _ (u : ℕ) where
 
   -- ---- replies
 
-  -- A request ends.
-  pub without_gone : (k : Kernel) (v : ℕ) → Gone u k → Gone u (record k { queues = without k.queues v })
-  without_gone k v gone = record {
-    none = none_removed u (nat_eq v) k.queues.requests gone.none;
-    allocated = λ le.
-        let was = gone.allocated le in
-        (was.0, ap (λ (es : Requests). remove_entry (nat_eq v) es) was.1);
-  }
-
   module _ (k : Kernel) (unique : ℕ) (wire : WireReply) where
     reply_same : (original : ℕ) (reply : InterruptReply) → Gone u k
         → Gone u (record k { queues = after_interrupt_reply k.queues original reply })

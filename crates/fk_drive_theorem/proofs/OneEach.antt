@@ -26,7 +26,7 @@ use Rattle.fk_kernel.specs.declared.pick.Pick.TheVariants.{Interrupt, Forgets, P
 use Rattle.fk_drive.specs.Driving.{Driven, DriveStep, Drives, first_driven, alone, reads, answers, writes, nothing, next}
 use Rattle.fk_drive.specs.KernelSteps.{ActsAlone, IsReplyTaken, mounts, begins, is_signalled, ticks, drops_name, evicts, aborts, gives_answer}
 use Rattle.fk_drive_theorem.proofs.Stable.{Stable, at_most}
-use Rattle.fk_drive_theorem.proofs.Taken.{TakenAs, refused_whole, request_ends, is_read, holds_as_taken}
+use Rattle.fk_drive_theorem.proofs.Taken.{TakenAs, refused_whole, is_read, holds_as_taken}
 use Rattle.fk_drive_theorem.proofs.RunsTally.{run_tallied}
 use Rattle.fk_drive_theorem.proofs.WrittenCounted.{EmptyUnlessLive, written_empty}
 
@@ -108,10 +108,6 @@ taken_one old bytes result new taken empty one =
 
     by : TakenAs old bytes result new → OneEach new.queues
     by (refused_whole refused no_entry same) = to old same one
-    by (request_ends is same) =
-        let q = without old.queues (head_unique bytes) in
-        to (record old { queues = q }) same
-        (moves_one (λ old m. Unit {0}) old.queues q (ends old.queues q (head_unique bytes) refl refl) one)
     by (is_read o wire is means same) =
         let after = (reply_written old (head_unique bytes) wire).1 in
         to after (sym (ap (λ (r : WriteResult × Kernel). r.1) same)) (live_or after (is_live after.phase) refl

@@ -16,7 +16,7 @@ use Rattle.fuse_theorem.proofs.Nodes.NodesSound.{left_found}
 use Rattle.fk_drive_theorem.specs.AnsweredOnce.{AnsweredOnce}
 use Rattle.fk_drive_theorem.proofs.Stable.{Stable, at_most, is_nothing, is_something}
 use Rattle.fk_drive_theorem.proofs.SameAnswers.{same_answer}
-use Rattle.fk_drive_theorem.proofs.Taken.{TakenAs, refused_whole, request_ends, is_read, holds_as_taken}
+use Rattle.fk_drive_theorem.proofs.Taken.{TakenAs, refused_whole, is_read, holds_as_taken}
 use Rattle.fk_drive_theorem.proofs.CallsOver.{as_they_were, and_then, answers_given, abandons, call_begins, call_signals, reply_receives}
 
 -- That calls are over so holds as soon as it is not false.
@@ -38,7 +38,6 @@ taken_once old bytes result new taken =
 
     by : TakenAs old bytes result new → AnsweredOnce old.vfs new.vfs
     by (refused_whole refused no_entry same) = to old same (as_they_were old.vfs)
-    by (request_ends is same) = to _ same (as_they_were old.vfs)
     by (is_read o wire is means same) =
         to _ (sym (ap (λ (r : WriteResult × Kernel). r.1) same)) (reply_receives old (head_unique bytes) wire)
 

@@ -16,7 +16,7 @@ use Rattle.fuse_spec.specs.Kernel.Replies.{interrupt_reply_written, reply_writte
 use Rattle.fuse_spec.proofs.QueueCounts.{key_count, lookup-no_key}
 use Rattle.fk_wire.specs.declared.opcode.Opcode.{Opcode}
 use Rattle.fuse_device.specs.Transfers.{Transfer}
-use Rattle.fk_kernel.specs.AwaitedReplies.{awaited, awaited_by, awaited_by_interrupt, gone as call_gone, head_unique, nothing as nothing_awaited, reply_to}
+use Rattle.fk_kernel.specs.AwaitedReplies.{awaited, awaited_by, awaited_by_interrupt, head_unique, nothing as nothing_awaited, reply_to}
 use Rattle.fk_kernel.specs.Picks.{after_pick}
 use Rattle.fk_kernel.specs.declared.pick.Pick.{Pick}
 use Rattle.fk_kernel.specs.declared.pick.Pick.TheVariants.{Interrupt, Forgets, Pending}
@@ -24,8 +24,8 @@ use Rattle.fk_drive.specs.Driving.{Driven, DriveStep, Drives, first_driven, alon
 use Rattle.fk_drive.specs.KernelSteps.{ActsAlone, IsReplyTaken, mounts, begins, is_signalled, ticks, drops_name, evicts, aborts, gives_answer}
 use Rattle.fk_drive_theorem.specs.TakenOnce.{NoneAgain, TakesNone, TakesReplyTo, mounts_alone, mounts_at, mounts_in, request_number}
 use Rattle.fk_drive_theorem.proofs.OneEach.{OneEach, one_removed, run_one}
-use Rattle.fk_drive_theorem.proofs.NumbersGone.{ended_gone, Gone, Left, gone_stable, left_gone, same_gone, aborted_gone, begun_gone, signalled_gone, read_gone, without_gone, written_gone}
-use Rattle.fk_drive_theorem.proofs.Taken.{TakenAs, refused_whole, request_ends, is_read, holds_as_taken}
+use Rattle.fk_drive_theorem.proofs.NumbersGone.{ended_gone, Gone, Left, gone_stable, left_gone, same_gone, aborted_gone, begun_gone, signalled_gone, read_gone, written_gone}
+use Rattle.fk_drive_theorem.proofs.Taken.{TakenAs, refused_whole, is_read, holds_as_taken}
 
 -- Where no request waits under its number a reply awaits nothing.
 pub awaits_none : (k : Kernel) (unique : ℕ) → request_under k.queues (request_number unique) ≡ None
@@ -50,7 +50,6 @@ module _ (u : ℕ) where
     where
       by : TakenAs old bytes result new → Gone u new
       by (refused_whole refused no_entry same) = subst (Gone u) (sym same) gone
-      by (request_ends is same) = subst (Gone u) (sym same) (without_gone u old (head_unique bytes) gone)
       by (is_read o wire is means same) =
           subst (λ (r : WriteResult × Kernel). Gone u r.1) same (written_gone u old (head_unique bytes) wire gone)
 
@@ -155,12 +154,6 @@ module _ (old : Kernel) (number : ℕ) (new : Kernel) (one : OneEach old.queues)
     where
       by : TakenAs old takes.bytes takes.result new → Gone number new
       by (refused_whole refused no_entry same) = absurd (takes.awaited (no_entry takes.head))
-      by (request_ends is same) =
-          let to : new ≡ record old { queues = without old.queues number } =
-          same ∙ ap (λ (n : ℕ). record old { queues = without old.queues n }) takes.under in
-          let mine : awaited old number ≡ call_gone = ap (awaited old) (sym takes.under) ∙ is in
-          subst (Gone number) (sym to) (left_gone number (record old { queues = without old.queues number })
-          (less (λ e. cc (mine, e))))
       by (is_read o wire is means same) =
           let mine : awaited old number ≡ reply_to o = ap (awaited old) (sym takes.under) ∙ is in
           let to : (reply_written old number wire).1 ≡ new =

@@ -2,14 +2,12 @@
 use Rattle.std.proofs.Common.{Result, Err, length, slice_get, ◌≡◌, ◌≢◌, ℕ, ◌+◌, ◌≤◌, Bool, true, false, true≢false, not, cond, List, [], ◌∷◌, Option, Some, None, drop, take, refl, ap, sym, subst, ◌∙◌, arith}
 use Rattle.std.specs.Prelude.{◌&&◌, nat_eq, nat_le, nat_lt}
 use Rattle.std.specs.Option.{option_map_or}
-use Rattle.std.specs.Map.{remove_entry}
 use Rattle.std.proofs.lemmas.List.Sums.{sum_by_push, sum_by-take-drop}
 use Rattle.fuse_spec.specs.declared.Counted.{Counted}
 use Rattle.fuse_spec.specs.declared.IntrEffect.{IntrEffect}
 use Rattle.fuse_spec.specs.declared.Opened.{Opened}
 use Rattle.fuse_spec.specs.declared.Purpose.{Purpose}
 use Rattle.fuse_spec.specs.declared.Purpose.TheVariants as purpose
-use Rattle.fuse_spec.specs.declared.QueuedRequest.{QueuedRequest}
 use Rattle.fuse_spec.specs.declared.Refusal.{Refusal}
 use Rattle.fuse_spec.specs.declared.Refusal.TheVariants.{Full, NotReady}
 use Rattle.fuse_spec.specs.declared.WriteResult.{WriteResult}
@@ -35,7 +33,7 @@ use Rattle.fk_wire.specs.declared.opcode.Opcode.{Opcode}
 use Rattle.fk_wire.proofs.OneReply.{decoded_reply_is}
 use Rattle.fuse_frames.specs.ReplyTies.{framed_by, said_in}
 use Rattle.fuse_device.specs.Transfers.{Transfer}
-use Rattle.fk_kernel.specs.AwaitedReplies.{Says, IsNoReply, ReadsReply, said, unsaid, Awaited, gone, reply_to, awaited, head_unique}
+use Rattle.fk_kernel.specs.AwaitedReplies.{Says, IsNoReply, ReadsReply, said, unsaid, Awaited, reply_to, awaited, head_unique}
 use Rattle.fk_kernel.specs.Picks.{IsPicked, after_pick, pick_refusal}
 use Rattle.fk_kernel.specs.Refused.{begin_refusal, within_counters}
 use Rattle.fk_kernel.proofs.RepliesTaken.{opcode_in}
@@ -47,7 +45,7 @@ use Rattle.fk_drive_theorem.specs.Tallies.{ForgottenAsGathered, Tally, no_lookup
 use Rattle.fk_drive_theorem.proofs.Stable.{Stable, same_number, is_empty}
 use Rattle.fk_drive_theorem.proofs.NumbersGone.{begun_aborted}
 use Rattle.fk_drive_theorem.proofs.RepliesCounted.{lookups, same_gains}
-use Rattle.fk_drive_theorem.proofs.Taken.{TakenAs, refused_whole, request_ends, is_read, holds_as_taken}
+use Rattle.fk_drive_theorem.proofs.Taken.{TakenAs, refused_whole, is_read, holds_as_taken}
 use Rattle.fk_drive_theorem.proofs.WrittenCounted.{EmptyUnlessLive, IsEmpty, written_empty, written_gains, wrong_refused}
 
 -- What was gathered is what the kernel has and what it forgot; without a live mount it has nothing.
@@ -78,7 +76,6 @@ accepted_says old bytes new taken o is none = holds_as_taken old bytes Accepted 
   where
     by : TakenAs old bytes Accepted new → ⊥
     by (refused_whole refused no_entry same) = refused refl
-    by (request_ends over same) = cc (is, over)
     by (is_read p wire at (said x says) same) =
         none x (subst (λ (q : Opcode). Says q bytes x) (ap opcode_in (sym at ∙ is)) says)
     by (is_read p wire at (unsaid says) same) =
@@ -120,15 +117,6 @@ module _ (id : ℕ) (low : 2 ≤ id) where
     refused_none NoEntry n refused = refl
     refused_none Invalid n refused = refl
 
-    gone_none : (r : WriteResult) → awaited old (head_unique bytes) ≡ gone
-        → where_accepted r (times_said id bytes (awaited old (head_unique bytes))) ≡ 0
-    gone_none r is = ap (λ (a : Awaited). where_accepted r (times_said id bytes a)) is ∙ none r
-      where
-        none : (x : WriteResult) → where_accepted x 0 ≡ 0
-        none Accepted = refl
-        none NoEntry = refl
-        none Invalid = refl
-
     -- What is read of the bytes counts as what they say: bytes that say nothing are not accepted.
     read_times : (o : Opcode) (wire : WireReply) → awaited old (head_unique bytes) ≡ reply_to o
         → ReadsReply o bytes wire → (r : WriteResult) → (reply_written old (head_unique bytes) wire).0 ≡ r
@@ -146,13 +134,6 @@ module _ (id : ℕ) (low : 2 ≤ id) where
         by : TakenAs old bytes result new → Tallied id new (tally_written id old bytes result new tally)
         by (refused_whole refused no_entry same) = reply_written_is new (subst EmptyUnlessLive (sym same) was.empty)
             (λ live. same_lookups new (ap (lookups id) same) (refused_none result _ refused))
-        by (request_ends is same) = reply_written_is new
-            (subst EmptyUnlessLive (sym same) (λ dead.
-            let e = was.empty dead in
-            let less : List (ℕ × QueuedRequest Purpose) → List (ℕ × QueuedRequest Purpose) =
-            λ es. remove_entry (nat_eq (head_unique bytes)) es in
-            (e.0, ap less e.1, e.2)))
-            (λ live. same_lookups new (ap (lookups id) same) (gone_none result is))
         by (is_read o wire is means same) =
             let after : (reply_written old (head_unique bytes) wire).1 ≡ new =
             ap (λ (r : WriteResult × Kernel). r.1) same in

@@ -5,18 +5,15 @@ use Rattle.fuse_spec.specs.declared.WriteResult.{WriteResult}
 use Rattle.fuse_spec.specs.declared.WriteResult.TheVariants.{Accepted, NoEntry}
 use Rattle.fuse_spec.specs.Kernel.Kernel.{Kernel}
 use Rattle.fuse_spec.specs.Kernel.Messages.{WireReply}
-use Rattle.fuse_spec.specs.Kernel.QueueCalls.{without}
 use Rattle.fuse_spec.specs.Kernel.Replies.{reply_written}
-use Rattle.fk_kernel.specs.AwaitedReplies.{IsNoReply, HasReplyHead, head_unique, Awaited, nothing, gone, reply_to, awaited, ReadsReply, said, unsaid, wrong_body_to, IsJudged, IsAwaited}
+use Rattle.fk_kernel.specs.AwaitedReplies.{IsNoReply, HasReplyHead, head_unique, Awaited, nothing, reply_to, awaited, ReadsReply, said, unsaid, wrong_body_to, IsJudged, IsAwaited}
 use Rattle.fk_drive.specs.KernelSteps.{IsReplyTaken}
 use Rattle.fk_drive_theorem.proofs.Stable.{Stable}
 
--- Nothing changes and nothing is accepted; or the request ends whose call is gone; or something is read from the bytes.
+-- Nothing changes and nothing is accepted, or something is read from the bytes.
 pub data TakenAs (old : Kernel) (bytes : List ℕ) (result : WriteResult) (new : Kernel) : Type 0 where
   refused_whole : (result ≡ Accepted → ⊥) → (HasReplyHead bytes → result ≡ NoEntry) → new ≡ old
       → TakenAs old bytes result new
-  request_ends : awaited old (head_unique bytes) ≡ gone
-      → new ≡ record old { queues = without old.queues (head_unique bytes) } → TakenAs old bytes result new
   is_read : (o : Opcode) (wire : WireReply) → awaited old (head_unique bytes) ≡ reply_to o → ReadsReply o bytes wire
       → reply_written old (head_unique bytes) wire ≡ (result, new) → TakenAs old bytes result new
 
@@ -30,7 +27,6 @@ module _ (old : Kernel) (bytes : List ℕ) (result : WriteResult) (new : Kernel)
     by nothing is =
         let both = taken.unawaited head is in
         no (each (refused_whole (λ e. cc (e, both.0)) (λ h. both.0) both.1))
-    by gone is = no (each (request_ends is ((taken.taken head).gone is).1))
     by (reply_to o) is =
         let judged : IsJudged o = subst IsAwaited is (taken.taken head).kinds in
         let none : IsNoReply o bytes = λ wire says.

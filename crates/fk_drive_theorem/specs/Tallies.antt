@@ -8,7 +8,7 @@ use Rattle.fuse_spec.specs.Server.Server.{forgets_of, forgotten}
 use Rattle.fuse_spec.specs.Values.Maps.{get}
 use Rattle.fuse_frames.specs.ReplyTies.{said_in}
 use Rattle.fuse_device.specs.Transfers.{Transfer}
-use Rattle.fk_kernel.specs.AwaitedReplies.{Awaited, nothing as nothing_awaited, gone, reply_to, awaited, head_unique}
+use Rattle.fk_kernel.specs.AwaitedReplies.{Awaited, nothing as nothing_awaited, reply_to, awaited, head_unique}
 use Rattle.fk_drive.specs.Driving.{Driven, DriveStep, Drives, alone, reads, answers, writes, next, nothing}
 use Rattle.fk_drive.specs.KernelSteps.{ActsAlone, mounts, aborts}
 
@@ -25,7 +25,6 @@ no_lookups = record { gathered = 0; forgotten = 0 }
 -- How often the bytes of a reply name the node, by what awaits them.
 abbrev pub times_said : ℕ → List ℕ → Awaited → ℕ
 times_said id bytes nothing_awaited = 0
-times_said id bytes gone = 0
 times_said id bytes (reply_to opcode) = times_named id (said_in opcode bytes)
 
 -- A count, where the reply is accepted; any other reply counts nothing.

@@ -15,6 +15,7 @@ use Rattle.fk_kernel.specs.Soundness.{IsSoundKernel}
 use Rattle.fk_calls.proofs.Answered.{answer_unchanged}
 use Rattle.fk_kernel.proofs.OpenFilesKept.{no_files}
 use Rattle.fk_kernel.proofs.Nodes.{none_counted}
+use Rattle.fk_kernel.proofs.Served.{none_served}
 
 -- An aborted kernel is sound.
 pub sound_aborted : (phase : Phase) (calls : Map (CallState Opened)) (answers : Map Answer) (free more coming : ℕ)
@@ -36,5 +37,6 @@ sound_aborted phase calls answers free more coming opens closing s space left kn
   files = no_files [] coming;
   releases = omega arith;
   nodes = none_counted left.forgets;
+  served = none_served [];
   clock_low = old.clock_low;
 }

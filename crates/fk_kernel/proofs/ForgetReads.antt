@@ -1,14 +1,20 @@
 -- Which refusal a read of forgets, or of a pending request, gets.
-use Rattle.std.proofs.Common.{◌≡◌, ℕ, ◌+◌, ◌-◌, ◌/◌, ◌<◌, ◌≤◌, ◌^◌, Bool, true, false, List, [], ◌∷◌, Option, Some, None, length, slice_get, nat_eq, refl, sym, true≢false, arith}
+use Rattle.std.proofs.Common.{◌≡◌, ℕ, ◌+◌, ◌-◌, ◌/◌, ◌<◌, ◌≤◌, ◌^◌, Bool, true, false, List, [], ◌∷◌, Option, Some, None, length, slice_get, nat_eq, refl, ap, sym, ◌∙◌, true≢false, arith}
 use Rattle.std.specs.Prelude.{if◌then◌else◌, cond, nat_lt, is_some}
 use Rattle.std.proofs.lemmas.Bool.Decides.{nat_tests}
-use Rattle.fuse_spec.specs.Kernel.Kernel.{Kernel, is_live, forgets_read, body_of}
+use Rattle.fuse_spec.specs.Kernel.Kernel.{Kernel, is_live, forgets_read, asked_by, body_of}
 use Rattle.fuse_spec.specs.Kernel.Uniques.{numbers_left_from}
 use Rattle.fuse_spec.specs.Kernel.QueueCalls.{can_read_forgets, pending_at}
+use Rattle.fuse_spec.specs.declared.Opened.{Opened}
 use Rattle.fuse_spec.specs.declared.Purpose.{Purpose}
+use Rattle.fuse_spec.specs.declared.Purpose.TheVariants.{Init, Release, Call}
+use Rattle.fuse_spec.specs.Calls.Vfs.{CallState}
+use Rattle.fuse_spec.specs.Values.Maps.{get}
 use Rattle.fuse_spec.specs.declared.Refusal.TheVariants.{InterruptFirst, NoSuch, Exhausted}
 use Rattle.fk_kernel.specs.Refused.{read_forgets_refusal, read_refusal}
+use Rattle.fk_kernel.specs.Soundness.{ServesCalls}
 use Rattle.fk_kernel.proofs.Phases.{none_past_end}
+use Rattle.fk_kernel.proofs.Served.{pending_unanswered}
 
 has_none : (xs : List ℕ) → is_some (slice_get xs 0) ≡ false → nat_eq (length xs) 0 ≡ true
 has_none [] none = refl
@@ -68,9 +74,20 @@ some_body : {X : Type 0} (o : Option X) → is_some o ≡ true → (x : X) × (o
 some_body None there = absurd (true≢false (sym there))
 some_body (Some x) there = (x, refl)
 
-no_body : {X : Type 0} (o : Option X) → is_some o ≡ false → o ≡ None
-no_body None none = refl
-no_body (Some x) none = absurd (true≢false none)
+-- a pending request has something to ask
+pub pending_asks : (k : Kernel) → ServesCalls k.vfs.calls k.queues → (place : ℕ) (request : ℕ × Purpose)
+    → pending_at k.queues place ≡ Some request → is_some (body_of k request.1) ≡ true
+pending_asks k served place request is = by request.1 refl
+  where
+    asked : (o : Option (CallState Opened)) → is_some o ≡ true → is_some (asked_by o) ≡ true
+    asked None there = there
+    asked (Some state) there = refl
+
+    by : (kept : Purpose) → request.1 ≡ kept → is_some (body_of k kept) ≡ true
+    by Init same = refl
+    by (Release opened) same = refl
+    by (Call call) same = asked (get k.vfs.calls call) (pending_unanswered served place request.0 call
+        (is ∙ ap (λ (kept : Purpose). Some (request.0, kept)) same))
 
 module _ (k : Kernel) (place : ℕ) (live : is_live k.phase ≡ true) where
   pub interrupt_pending : is_some (slice_get k.queues.interrupts 0) ≡ true → read_refusal k place ≡ Some InterruptFirst
@@ -81,9 +98,6 @@ module _ (k : Kernel) (place : ℕ) (live : is_live k.phase ≡ true) where
     none_pending nothing = rw (live, has_none k.queues.interrupts none, nothing) refl
 
     module _ (request : ℕ × Purpose) (is : pending_at k.queues place ≡ Some request) where
-      pub asks_nothing : is_some (body_of k request.1) ≡ false → read_refusal k place ≡ Some NoSuch
-      asks_nothing asks = rw (live, has_none k.queues.interrupts none, is, no_body (body_of k request.1) asks) refl
-
       pub pending_unrefused : is_some (body_of k request.1) ≡ true → read_refusal k place ≡ None
       pending_unrefused asks =
           let body = some_body (body_of k request.1) asks in

@@ -5,6 +5,7 @@ pub mod Phases
 pub mod CallStates
 pub mod OpenFilesKept
 pub mod StillSound
+pub mod Served
 pub mod Closes
 pub mod Replied
 pub mod Heads

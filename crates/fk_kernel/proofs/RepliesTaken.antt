@@ -9,11 +9,11 @@ use Rattle.fuse_spec.specs.declared.WriteResult.{WriteResult}
 use Rattle.fuse_spec.specs.declared.WriteResult.TheVariants.{Accepted}
 use Rattle.fuse_spec.specs.Kernel.Kernel.{Kernel}
 use Rattle.fuse_spec.specs.Kernel.Messages.{WireReply}
-use Rattle.fuse_spec.specs.Kernel.QueueCalls.{waiting, without}
+use Rattle.fuse_spec.specs.Kernel.QueueCalls.{waiting}
 use Rattle.fuse_spec.specs.Kernel.Replies.{reply_written, request_reply_written, interrupt_reply_written, interrupt_replied, is_empty_reply}
 use Rattle.fuse_frames.specs.declared.reply.Reply.TheVariants as said
 use Rattle.fuse_frames.specs.ReplyDecoding.{LentReply, decoded_wire_of}
-use Rattle.fk_kernel.specs.AwaitedReplies.{Says, IsNoReply, Awaited, nothing, gone, reply_to, awaited, awaited_by, awaited_by_interrupt, wrong_body, wrong_body_to, IsJudged, IsReplyWritten}
+use Rattle.fk_kernel.specs.AwaitedReplies.{Says, IsNoReply, Awaited, nothing, reply_to, awaited, awaited_by, awaited_by_interrupt, wrong_body, wrong_body_to, IsJudged, IsReplyWritten}
 
 abbrev pub opcode_in : Awaited → Opcode
 opcode_in (reply_to o) = o
@@ -43,16 +43,6 @@ module _ (k : Kernel) (unique : ℕ) (bytes : List ℕ) (result : WriteResult) (
   pub taken_none : IsReplyWritten k unique bytes nothing result after
   taken_none = record {
     kinds = tt;
-    gone = λ e. cc;
-    said = λ o is e. cc;
-    unsaid = λ o is e. cc;
-  }
-
-  pub taken_gone : result ≡ Accepted → after ≡ record k { queues = without k.queues unique }
-      → IsReplyWritten k unique bytes gone result after
-  taken_gone accepted ends = record {
-    kinds = tt;
-    gone = λ e. (accepted, ends);
     said = λ o is e. cc;
     unsaid = λ o is e. cc;
   }
@@ -63,7 +53,6 @@ module _ (k : Kernel) (unique : ℕ) (bytes : List ℕ) (result : WriteResult) (
       → IsReplyWritten k unique bytes (reply_to o) result after
   taken_judged o is say none = record {
     kinds = is;
-    gone = λ e. cc;
     said = λ other its e wire says. say wire (subst (λ (p : Opcode). Says p bytes wire) (sym (ap opcode_in e)) says);
     unsaid = λ other its e nothing. ap (λ (p : Opcode). reply_written k unique (wrong_body_to p))
         (sym (ap opcode_in e)) ∙ none (subst (λ (p : Opcode). IsNoReply p bytes) (sym (ap opcode_in e)) nothing);

@@ -31,6 +31,7 @@ use Rattle.fk_kernel.specs.Refused.{within_counters, signal_refusal, IsSignalled
 use Rattle.fk_kernel.specs.Soundness.{IsSoundKernel}
 use Rattle.fk_kernel.proofs.Closes.{released_some}
 use Rattle.fk_kernel.proofs.Nodes.{still_counted}
+use Rattle.fk_kernel.proofs.Served.{served_less, fewer_signalled}
 use Rattle.fk_kernel.proofs.Walking.{asks_past}
 
 abbrev Entry : Type 0
@@ -174,6 +175,7 @@ sound_signalled phase calls answers free coming opens closing s space more known
   files = old.files;
   releases = omega (arith, old.releases, room.requests);
   nodes = still_counted known space.forgets more.forgets old.nodes room.forgets;
+  served = served_less old.served (fewer_signalled s unique fatal);
   clock_low = old.clock_low;
 }
 

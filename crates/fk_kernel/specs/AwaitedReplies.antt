@@ -9,21 +9,21 @@ use Rattle.fuse_spec.specs.Files.Operations as reply
 use Rattle.fuse_spec.specs.Kernel.Messages.{WireReply, asks}
 use Rattle.fuse_spec.specs.Values.Maps.{get}
 use Rattle.fuse_spec.specs.Calls.Vfs.{CallState, asked}
-use Rattle.fuse_spec.specs.Kernel.QueueCalls.{waiting, without}
+use Rattle.fuse_spec.specs.Kernel.QueueCalls.{waiting}
 use Rattle.fuse_spec.specs.Kernel.Replies.{reply_written}
 use Rattle.fuse_spec.specs.declared.WriteResult.{WriteResult}
-use Rattle.fuse_spec.specs.declared.WriteResult.TheVariants.{Accepted}
 use Rattle.fuse_spec.specs.Kernel.Kernel.{Kernel}
 use Rattle.fuse_frames.specs.RequestTies.{asked_opcode}
 pub use Rattle.fuse_frames.specs.DecodedReplies.{Says, IsNoReply, HasReplyHead, head_unique}
 
--- What awaits a reply under a unique: no request, that of a call which is not unanswered, or a request of an opcode.
+-- What awaits a reply under a unique: no request, or a request of an opcode.
 pub data Awaited : Type 0 where
-  nothing gone : Awaited
+  nothing : Awaited
   reply_to : (opcode : Opcode) → Awaited
 
+-- A request of a call is always that of an unanswered call.
 abbrev pub awaited_by_call : Option (CallState Opened) → Awaited
-awaited_by_call None = gone
+awaited_by_call None = nothing
 awaited_by_call (Some state) = reply_to (asked_opcode (asks (asked state)))
 
 abbrev pub awaited_by : Kernel → Option Purpose → Awaited
@@ -64,7 +64,6 @@ IsJudged o = Unit {0}
 -- The kinds that await a reply.
 abbrev pub IsAwaited : Awaited → Type 0
 IsAwaited nothing = Unit {0}
-IsAwaited gone = Unit {0}
 IsAwaited (reply_to o) = IsJudged o
 
 -- A request of no call: INIT, a RELEASE or an INTERRUPT.
@@ -78,8 +77,6 @@ IsOfNoCall other = ⊥
 pub record IsReplyWritten (k : Kernel) (unique : ℕ) (bytes : List ℕ) (awaits : Awaited) (result : WriteResult)
     (after : Kernel) : Type 0 where
   pub kinds : IsAwaited awaits
-  -- the call is not unanswered: the request just ends
-  pub gone : awaits ≡ gone → (result ≡ Accepted) × (after ≡ record k { queues = without k.queues unique })
   pub said : (o : Opcode) → IsJudged o → awaits ≡ reply_to o → (wire : WireReply) → Says o bytes wire
       → reply_written k unique wire ≡ (result, after)
   pub unsaid : (o : Opcode) → IsJudged o → awaits ≡ reply_to o → IsNoReply o bytes

@@ -1,12 +1,11 @@
 -- What replies are to the calls that asked for them.
-use Rattle.std.specs.Prelude.{◌≡◌, ◌<◌, ℕ, List, Option, Some, None, true, false, is_some}
+use Rattle.std.specs.Prelude.{◌≡◌, ◌<◌, ℕ, List, Option, Some, true, false, is_some}
 use Rattle.std.specs.List.{list_any}
 use Rattle.fuse_spec.specs.declared.Opened.{Opened}
 use Rattle.fuse_spec.specs.Kernel.Kernel.{Kernel, is_using}
 use Rattle.fuse_spec.specs.Values.Maps.{Map, Place, get, remove, values}
 use Rattle.fuse_spec.specs.Kernel.Messages.{WireReply}
-use Rattle.fuse_spec.specs.Files.Operations.{Operation, lookup, mkdir, create, link, opening, readdirplus, files_in_reply}
-use Rattle.fuse_spec.specs.Files.Operations as reply
+use Rattle.fuse_spec.specs.Files.Operations.{Operation, mkdir, create, link, opening, readdirplus, files_in_reply}
 use Rattle.fuse_spec.specs.Calls.Paths.{Name}
 use Rattle.fuse_spec.specs.Kernel.Replies.{Use, usable, unusable, stale, goes_with, looked_up, reply_judged, use_of_reply}
 use Rattle.fuse_spec.specs.declared.Counted.{Counted}

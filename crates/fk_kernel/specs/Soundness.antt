@@ -1,5 +1,5 @@
 -- What is true of the kernel after each event.
-use Rattle.std.specs.Prelude.{◌≡◌, ◌≢◌, ◌≤◌, ◌<◌, ℕ, false, [], None, length, T}
+use Rattle.std.specs.Prelude.{◌≡◌, ◌≢◌, ◌≤◌, ◌<◌, ℕ, false, [], None, count_by, if◌then◌else◌, is_some, length, T}
 use Rattle.std.specs.Ordering.{nat_cmp}
 use Rattle.std.specs.FinMap.{is_sorted}
 use Rattle.fuse_spec.specs.Values.Maps.{Map, get}
@@ -9,7 +9,7 @@ use Rattle.fuse_spec.specs.Calls.Vfs.{CallState}
 use Rattle.fuse_spec.specs.declared.Counted.{Counted}
 use Rattle.fuse_spec.specs.declared.Opened.{Opened}
 use Rattle.fuse_spec.specs.declared.Phase.{Phase}
-use Rattle.fuse_spec.specs.Kernel.Kernel.{is_live}
+use Rattle.fuse_spec.specs.Kernel.Kernel.{is_live, is_for}
 use Rattle.fuse_spec.specs.declared.Purpose.{Purpose}
 use Rattle.fk_nodes.specs.LookedUp.{HaveCountsInRange}
 use Rattle.fk_queues.specs.Room.{Room}
@@ -37,6 +37,14 @@ pub record CanForgetAll (nodes : Map Counted) (forgets : ℕ) : Type 0 where
   pub below : HaveCountsInRange nodes
   pub room : length nodes ≤ forgets
 
+-- how many requests serve a call, read or not
+abbrev pub requests_for : ℕ → QueueState Purpose → ℕ
+requests_for call queues = count_by (λ e. is_for call e.1.kept) queues.requests
+
+-- Each request of a call is that of an unanswered call, which has one at most.
+pub record ServesCalls {V : Type 0} (calls : Map V) (queues : QueueState Purpose) : Type 0 where
+  pub one : (call : ℕ) → requests_for call queues ≤ (if is_some (get calls call) then 1 else 0)
+
 -- All that is true of the kernel.
 pub record IsSoundKernel {W : Type 0} (phase : Phase) (calls : Map (CallState Opened)) (answers : Map W)
     (free coming : ℕ) (opens closing : Map Opened) (queues : QueueState Purpose) (space : Room) (known : Map Counted)
@@ -49,4 +57,5 @@ pub record IsSoundKernel {W : Type 0} (phase : Phase) (calls : Map (CallState Op
   -- there is room to queue the RELEASE of each closed file
   pub releases : length closing ≤ space.requests
   pub nodes : CanForgetAll known space.forgets
+  pub served : ServesCalls calls queues
   pub clock_low : clock < clock_end

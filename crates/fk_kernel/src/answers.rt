@@ -5,6 +5,7 @@ ghost use Rattle.fuse_spec.specs.Values.Maps.{get, remove};
 ghost use Rattle.fuse_spec.specs.Calls.Vfs.{answered};
 ghost use Rattle.fk_syscalls.specs.Values.{answer_of};
 ghost use Rattle.fuse_spec.specs.Kernel.QueueCalls.{waiting, without};
+ghost use Rattle.fk_kernel.specs.Soundness.{requests_for};
 
 use crate::kernel::KernelOf;
 use fk_lookup_count::CountTable;
@@ -15,7 +16,7 @@ use fuse_spec::Purpose;
 impl<Q: QueueTable<Purpose> + Drop, C: CountTable<Heap = Q::Heap> + Drop> KernelOf<Q, C> {
     /// The call's request ends, and the call is answered.
     pub(crate) fn answer_call(&mut self, unique: u64, call: u64, answer: Answer<Q::Heap>)
-        requires waits { is_some (waiting self.old.queues unique) ≡ true }
+        requires waits { waiting self.old.queues unique ≡ Some (Purpose.Call call) }
         requires unanswered { is_some (get self.old.vfs.calls call) ≡ true }
         ensures { self.new ≡ record self.old {
           vfs = answered self.old.vfs call (answer_of answer);
@@ -26,10 +27,11 @@ impl<Q: QueueTable<Purpose> + Drop, C: CountTable<Heap = Q::Heap> + Drop> Kernel
         self.finish(call, answer);
     }
 
-    /// The call is answered.
+    /// The call, whose request is gone, is answered.
     #[inline(always)]
     pub(crate) fn finish(&mut self, call: u64, answer: Answer<Q::Heap>)
         requires unanswered { is_some (get self.old.vfs.calls call) ≡ true }
+        requires ended { requests_for call self.old.queues ≡ 0 }
         ensures { self.new ≡ record self.old { vfs = answered self.old.vfs call (answer_of answer) } }
     {
         fk_calls::answer(&mut self.calls, &mut self.answers, call, answer);

@@ -188,7 +188,7 @@ impl<Q: QueueTable<Purpose> + Drop, C: CountTable<Heap = Q::Heap> + Drop> Kernel
 
     /// The one lookup of an entry that cannot be used is forgotten at once, and the call is answered EIO.
     fn give_back(&mut self, unique: u64, call: u64, node: u64) -> Result<(), Refusal>
-        requires waits { is_some (waiting self.old.queues unique) ≡ true }
+        requires waits { waiting self.old.queues unique ≡ Some (Purpose.Call call) }
         requires unanswered { is_some (get self.old.vfs.calls call) ≡ true }
         ensures err { OnErr result (self.new ≡ self.old) }
         ensures refusal { IfErr result (λ refusal. refusal ≡ Refusal.NoMemory) }

@@ -8,6 +8,7 @@ ghost use Rattle.std.specs.FinMap.{is_sorted};
 ghost use Rattle.std.specs.Ordering.{nat_cmp};
 ghost use Rattle.fuse_spec.specs.World.Worlds.{first_kernel};
 ghost use Rattle.fk_kernel.specs.Refused.{mount_refusal};
+ghost use Rattle.fk_kernel.specs.Soundness.{ServesCalls};
 
 use crate::phase::{is_phase_aborted, is_phase_live, is_phase_ready};
 use fk_calls::StoredAnswer;
@@ -124,6 +125,14 @@ impl<Q: QueueTable<Purpose> + Drop, C: CountTable<Heap = Q::Heap> + Drop> Kernel
         ensures none_out { is_counted_out self.now.nodes ≡ false }
     {
         self.nodes.lemma_sorted();
+    }
+
+    /// Each request of a call is that of an unanswered call, which has one at most. A call without effect, made where a
+    /// proof rests on that.
+    pub fn lemma_served(&self)
+        ensures served { ServesCalls self.now.vfs.calls self.now.queues }
+    {
+        let _ = &self.calls;
     }
 
     pub(crate) fn is_live(&self) -> bool

@@ -14,6 +14,7 @@ ghost use Rattle.fk_syscalls.specs.States.{used_by};
 ghost use Rattle.fk_syscalls.specs.Values.{answer_of};
 ghost use Rattle.fk_kernel.specs.Entries.{HasUniqueForRelease, LacksUniqueForRelease};
 ghost use Rattle.fk_kernel.specs.Refused.{begun_refusal};
+ghost use Rattle.fk_kernel.specs.Soundness.{requests_for};
 
 use crate::kernel::KernelOf;
 use crate::queue_room::reserve_request;
@@ -132,7 +133,7 @@ impl<Q: QueueTable<Purpose> + Drop, C: CountTable<Heap = Q::Heap> + Drop> Kernel
     /// memory.
     #[inline(always)]
     pub(crate) fn end_call(&mut self, unique: u64, call: u64, answer: Answer<Q::Heap>)
-        requires waits { is_some (waiting self.old.queues unique) ≡ true }
+        requires waits { waiting self.old.queues unique ≡ Some (Purpose.Call call) }
         requires unanswered { is_some (get self.old.vfs.calls call) ≡ true }
         requires within { HasUniqueForRelease self.old call }
         ensures { (state : State OpenedFile) → get self.old.vfs.calls call ≡ Some state
@@ -149,6 +150,7 @@ impl<Q: QueueTable<Purpose> + Drop, C: CountTable<Heap = Q::Heap> + Drop> Kernel
     #[inline(always)]
     pub(crate) fn finish_use(&mut self, call: u64, answer: Answer<Q::Heap>)
         requires unanswered { is_some (get self.old.vfs.calls call) ≡ true }
+        requires ended { requests_for call self.old.queues ≡ 0 }
         requires within { HasUniqueForRelease self.old call }
         ensures { (state : State OpenedFile) → get self.old.vfs.calls call ≡ Some state
             → self.new ≡ after_use (record self.old { vfs = answered self.old.vfs call (answer_of answer) }) state }

@@ -14,17 +14,8 @@ use fuse_frames::RequestFrame;
 use fuse_spec::{Purpose, Refusal};
 
 impl<Q: QueueTable<Purpose> + Drop, C: CountTable<Heap = Q::Heap> + Drop> KernelOf<Q, C> {
-    /// Whether a request has something to ask: that of a call has while the call is unanswered.
-    fn asks(&self, purpose: Purpose) -> bool
-        ensures { result ≡ is_some (body_of self.now purpose) }
-    {
-        match purpose {
-            Purpose::Init | Purpose::Release(_) => true,
-            Purpose::Call(call) => self.calls.get(call).is_some(),
-        }
-    }
-
-    /// The pending request at a place, with its number, or why it cannot be read.
+    /// The pending request at a place, with its number, or why it cannot be read. It has something to ask: that of a
+    /// call is that of an unanswered call.
     #[inline(always)]
     fn request_to_read(&self, place: u64) -> Result<(u64, Purpose), Refusal>
         ensures refusal { IfErr result (λ refusal. read_refusal self.now place ≡ Some refusal) }
@@ -41,11 +32,7 @@ impl<Q: QueueTable<Purpose> + Drop, C: CountTable<Heap = Q::Heap> + Drop> Kernel
         let Some((unique, purpose)) = self.queues.pending(place as usize) else {
             return Err(Refusal::NoSuch);
         };
-        if self.asks(*purpose) {
-            Ok((unique, *purpose))
-        } else {
-            Err(Refusal::NoSuch)
-        }
+        Ok((unique, *purpose))
     }
 
     /// Why the pending request at a place cannot be read, out of memory aside: `NotReady` where the mount is not live,

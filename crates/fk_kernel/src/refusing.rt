@@ -69,9 +69,7 @@ impl<Q: QueueTable<Purpose> + Drop, C: CountTable<Heap = Q::Heap> + Drop> Kernel
         ensures within { result ≡ false → PassesEnd self.now head.unique bytes.now
             (awaited_by_call (get self.now.vfs.calls call)) → ⊥ }
     {
-        let Some(state) = self.calls.get(call) else {
-            return false;
-        };
+        let state = self.waiting_call(call);
         self.reply_to_call(head, call, state, bytes).is_err()
     }
 

@@ -22,15 +22,14 @@ use fk_calls::{result_of, unbind};
 use fk_lookup_count::CountTable;
 use fk_nodes::names_of_dirents;
 use fk_queues::QueueTable;
-use fk_syscalls::Answer;
+use fk_syscalls::{Answer, CallState};
 use fk_wire::{Opcode, Records, ReplyHead, read_reply_body};
 use fuse_frames::{DecodedReply, Reply};
 use fuse_spec::errno::EIO;
 use fuse_spec::{Purpose, Refusal, WriteResult};
 
 impl<Q: QueueTable<Purpose> + Drop, C: CountTable<Heap = Q::Heap> + Drop> KernelOf<Q, C> {
-    /// A reply to the request of a call. Bytes that do not go with what it asked answer it EIO. Where the call is not
-    /// unanswered, its request just ends.
+    /// A reply to the request of a call. Bytes that do not go with what it asked answer it EIO.
     pub(crate) fn write_to_call(
         &mut self,
         head: ReplyHead,
@@ -48,11 +47,8 @@ impl<Q: QueueTable<Purpose> + Drop, C: CountTable<Heap = Q::Heap> + Drop> Kernel
         ensures taken { IfOk result (λ written. IsReplyWritten self.old head.unique bytes.now
             (awaited_by_call (get self.old.vfs.calls call)) written self.new) }
     {
-        let Some(waiting) = self.calls.get(call) else {
-            let _kept = self.queues.answer(head.unique);
-            return Ok(WriteResult::Accepted);
-        };
-        let said = match self.reply_to_call(head, call, waiting, bytes) {
+        let state = self.waiting_call(call);
+        let said = match self.reply_to_call(head, call, state, bytes) {
             Ok(said) => said,
             Err(refusal) => return Err(refusal),
         };
@@ -65,6 +61,14 @@ impl<Q: QueueTable<Purpose> + Drop, C: CountTable<Heap = Q::Heap> + Drop> Kernel
             Ok(()) => Ok(written),
             Err(refusal) => Err(refusal),
         }
+    }
+
+    /// How a call stands whose request was read: it is unanswered, as each call that has a request.
+    pub(crate) fn waiting_call(&self, call: u64) -> &CallState<Q::Heap>
+        requires waits { (unique : ℕ) × (waiting self.now.queues unique ≡ Some (Purpose.Call call)) }
+        ensures { get self.now.vfs.calls call ≡ Some result.now }
+    {
+        self.calls.get(call).unwrap()
     }
 
     /// What a reply says that goes with what a call asked reaches the call.

@@ -80,6 +80,7 @@ impl<Q: QueueTable<Purpose> + Drop, C: CountTable<Heap = Q::Heap> + Drop> Kernel
         ensures { (state : State Opened) → get self.old.vfs.calls call ≡ Some state
             → call_signalled self.old call state fatal ≡ (result, self.new) }
     {
+        self.queues.lemma_sound();
         let effect = self.queues.interrupt(unique, fatal);
         if is_interrupted(effect) {
             self.finish_use(call, Answer::Failed { errno: EINTR });

@@ -21,6 +21,7 @@ invariant_of-self-2 g c =
       nodes = old.nodes;
       files = numbered_files k.calls.entries k.opens.entries k.closing.entries k.next_call old.files;
       releases = old.releases;
+      served = old.served;
       clock_low = old.clock_low;
     })
 

@@ -5,8 +5,9 @@ use Rattle.fk_kernel.proofs.Phases.{live_if}
 use Rattle.fk_kernel.proofs.Sound.{sound_begun_asking}
 use Rattle.fk_kernel.proofs.Nodes.{still_counted, sorted_put}
 use Rattle.fk_kernel.proofs.OpenFilesKept.{asking_files}
-use Rattle.fk_kernel.proofs.Rooms.{still_room, room_left, call_room}
-use Rattle.fk_kernel.proofs.StillSound.{more_answers, more_queued}
+use Rattle.fk_kernel.proofs.Rooms.{still_room, room_left, call_room, itself}
+use Rattle.fk_kernel.proofs.StillSound.{more_answers, more_room}
+use Rattle.fk_kernel.proofs.Served.{none_for, served_asking}
 use Rattle.fk_kernel.proofs.kernel.KernelOf.begin_asking.Goals as goal
 
 pub invariant_of-self-2 : goal.invariant_of-self-2
@@ -19,7 +20,13 @@ invariant_of-self-2 g c =
     let going : is_aborted k.phase ≡ false = rw (← c.self.view_is) at c.requires.not_aborted in
     let live = live_if k.phase ready going in
     let old = c.self.invariant in
-    rw (c.put.ensures.entries, c.in-Ok-reserve.ensures.entries, c.in-Ok.ensures.entries)
+    rw (
+      c.put.ensures.entries,
+      c.in-Ok-reserve.ensures.entries,
+      c.in-Ok.ensures.entries,
+      c.enqueue-unique.ensures.state,
+      c.reserve_request.ensures.state,
+    )
     (record {
       numbers = sound_begun_asking k.calls.entries k.answers.entries k.answers.room k.next_call old.numbers c.args.state
           c.reserve.new.self.room low room;
@@ -29,13 +36,15 @@ invariant_of-self-2 g c =
           (still_room c.reserve_request.ensures.kept.forgets c.enqueue-unique.ensures.forgets_room);
       files = asking_files k.calls.entries k.opens.entries k.closing.entries k.next_call old.files c.args.state;
       releases = room_left c.in_ok-reserve_request.ensures.room c.enqueue-unique.ensures.requests_room;
+      served = served_asking old.served k.next_call c.args.state
+          (none_for old.served k.next_call (old.numbers.calls_below k.next_call (itself k.next_call)));
       clock_low = old.clock_low;
     })
 
 pub invariant_of-self-in_err-reserve_request : goal.invariant_of-self-in_err-reserve_request
 invariant_of-self-in_err-reserve_request g c =
     rw (c.reserve_request.ensures.state, c.reserve-2.ensures.entries, c.reserve.ensures.entries)
-    (more_queued (more_answers c.self.invariant c.reserve.ensures.kept) c.reserve_request.ensures.kept)
+    (more_room (more_answers c.self.invariant c.reserve.ensures.kept) c.reserve_request.ensures.kept)
 
 pub invariant_of-self : goal.invariant_of-self
 invariant_of-self g c = rw c.reserve.ensures.entries (more_answers c.self.invariant c.reserve.ensures.kept)

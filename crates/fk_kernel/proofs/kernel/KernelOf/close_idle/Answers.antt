@@ -7,7 +7,8 @@ use Rattle.fk_kernel.proofs.OpenFilesKept.{some_not_none, shut_files, numbered_f
 use Rattle.fk_kernel.proofs.Nodes.{still_counted}
 use Rattle.fk_kernel.proofs.Sound.{sound_begun_answered, gone_absent}
 use Rattle.fk_kernel.proofs.Rooms.{still_room, room_left, answer_room, itself}
-use Rattle.fk_kernel.proofs.StillSound.{more_answers, more_queued}
+use Rattle.fk_kernel.proofs.StillSound.{more_answers, more_room}
+use Rattle.fk_kernel.proofs.Served.{served_less, more_released}
 use Rattle.fk_kernel.proofs.kernel.KernelOf.close_idle.Goals as goal
 
 pub returns-then-numbers_left-eq0-clause-refusal : goal.returns-then-numbers_left-eq0-clause-refusal
@@ -51,6 +52,7 @@ invariant_of-self-2 g c =
       nodes = still_counted k.nodes k.queues.room.forgets
           c.enqueue-unique.new.self.room.forgets old.nodes
           (still_room c.reserve_request.ensures.kept.forgets c.enqueue-unique.ensures.forgets_room);
+      served = served_less old.served (more_released k.queues.queues c.args.opened);
       clock_low = old.clock_low;
     })
 
@@ -84,4 +86,4 @@ invariant_of-self g c = rw c.reserve.ensures.entries (more_answers c.self.invari
 
 pub invariant_of-self-in_err-reserve_request : goal.invariant_of-self-in_err-reserve_request
 invariant_of-self-in_err-reserve_request g c = rw (c.reserve_request.ensures.state, c.reserve.ensures.entries)
-    (more_queued (more_answers c.self.invariant c.reserve.ensures.kept) c.reserve_request.ensures.kept)
+    (more_room (more_answers c.self.invariant c.reserve.ensures.kept) c.reserve_request.ensures.kept)

@@ -9,7 +9,7 @@ use Rattle.fk_kernel.proofs.OpenFilesKept.{some_not_none, closed_files, numbered
 use Rattle.fk_kernel.proofs.Nodes.{still_counted}
 use Rattle.fk_kernel.proofs.Sound.{sound_begun_answered, gone_absent, length_put}
 use Rattle.fk_kernel.proofs.Rooms.{answer_room, itself, still_room}
-use Rattle.fk_kernel.proofs.StillSound.{more_answers, more_queued}
+use Rattle.fk_kernel.proofs.StillSound.{more_answers, more_room}
 use Rattle.fk_kernel.proofs.kernel.KernelOf.close_in_use.Given as given
 use Rattle.fk_kernel.proofs.kernel.KernelOf.close_in_use.Goals.{After-lemma_sound}
 use Rattle.fk_kernel.proofs.kernel.KernelOf.close_in_use.Goals as goal
@@ -82,6 +82,7 @@ invariant_of-self-2 g c =
       releases = still_room long reserved_request;
       nodes = still_counted k.nodes k.queues.room.forgets
           c.reserve_request.new.queues.room.forgets old.nodes c.reserve_request.ensures.kept.forgets;
+      served = old.served;
       clock_low = old.clock_low;
     })
 
@@ -106,4 +107,4 @@ invariant_of-self-in_default-reserve g c = rw (c.reserve-2.ensures.entries, c.re
 pub invariant_of-self-in_err-reserve_request : goal.invariant_of-self-in_err-reserve_request
 invariant_of-self-in_err-reserve_request g c =
     rw (c.reserve_request.ensures.state, c.reserve-2.ensures.entries, c.reserve.ensures.entries)
-    (more_queued (more_answers c.self.invariant c.reserve.ensures.kept) c.reserve_request.ensures.kept)
+    (more_room (more_answers c.self.invariant c.reserve.ensures.kept) c.reserve_request.ensures.kept)

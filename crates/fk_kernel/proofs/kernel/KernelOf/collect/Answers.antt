@@ -9,7 +9,7 @@ invariant_of-self g c =
     let old = c.self.invariant in
     let room = more_room k.answers.room c.remove.new.self.room (is_some c.remove.result) c.remove.ensures.room in
     rw c.remove.ensures.entries
-    (record { numbers = sound_collected k.calls.entries k.answers.entries k.answers.room k.next_call old.numbers c.in-Some.call c.remove.new.self.room room; idle = old.idle; sorted = old.sorted; nodes = old.nodes; files = old.files; releases = old.releases; clock_low = old.clock_low })
+    (record { numbers = sound_collected k.calls.entries k.answers.entries k.answers.room k.next_call old.numbers c.in-Some.call c.remove.new.self.room room; idle = old.idle; sorted = old.sorted; nodes = old.nodes; files = old.files; releases = old.releases; served = old.served; clock_low = old.clock_low })
 
 pub invariant_of-self-2 : goal.invariant_of-self-2
 invariant_of-self-2 g c =
@@ -17,7 +17,7 @@ invariant_of-self-2 g c =
     let old = c.self.invariant in
     let room = more_room k.answers.room c.remove.new.self.room (is_some c.remove.result) c.remove.ensures.room in
     rw c.remove.ensures.entries
-    (record { numbers = sound_collected k.calls.entries k.answers.entries k.answers.room k.next_call old.numbers c.in-Some.call c.remove.new.self.room room; idle = old.idle; sorted = old.sorted; nodes = old.nodes; files = old.files; releases = old.releases; clock_low = old.clock_low })
+    (record { numbers = sound_collected k.calls.entries k.answers.entries k.answers.room k.next_call old.numbers c.in-Some.call c.remove.new.self.room room; idle = old.idle; sorted = old.sorted; nodes = old.nodes; files = old.files; releases = old.releases; served = old.served; clock_low = old.clock_low })
 
 pub returns-in_default-remove-clause-answer : goal.returns-in_default-remove-clause-answer
 returns-in_default-remove-clause-answer g c =

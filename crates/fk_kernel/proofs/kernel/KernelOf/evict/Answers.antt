@@ -1,5 +1,7 @@
+use Rattle.std.proofs.Common.{refl}
 use Rattle.fk_kernel.proofs.Evicted.{evicted_counted, is_there}
 use Rattle.fk_kernel.proofs.Rooms.{still_room}
+use Rattle.fk_kernel.proofs.Served.{same_requests, served_less}
 use Rattle.fk_kernel.proofs.kernel.KernelOf.evict.Goals as goal
 
 pub invariant_of-self : goal.invariant_of-self
@@ -16,6 +18,7 @@ invariant_of-self g c =
       nodes =
           evicted_counted c.self.inside.nodes c.args.node c.self.inside.queues.room.forgets
           c.forget.new.self.room.forgets old.nodes there c.forget.ensures.forgets_room;
+      served = served_less old.served (same_requests refl);
       clock_low =
           old.clock_low;
     })

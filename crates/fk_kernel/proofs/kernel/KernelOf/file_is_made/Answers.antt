@@ -9,7 +9,9 @@ use Rattle.fk_kernel.proofs.Nodes.{alike, looked_up_counted, answered_is, sorted
 use Rattle.fk_kernel.proofs.Replied.{create_made}
 use Rattle.fk_kernel.proofs.Sound.{sound_answered}
 use Rattle.fk_kernel.proofs.Rooms.{still_room, one_more_fits, until_is}
-use Rattle.fk_kernel.proofs.StillSound.{more_queued}
+use Rattle.fk_kernel.proofs.StillSound.{more_room}
+use Rattle.fuse_spec.specs.declared.Purpose.TheVariants.{Call}
+use Rattle.fk_kernel.proofs.Served.{served_ended}
 use Rattle.fk_kernel.proofs.kernel.KernelOf.file_is_made.Goals as goal
 
 pub bind_entry-requires-clause-names_one : goal.bind_entry-requires-clause-names_one
@@ -21,6 +23,8 @@ pub invariant_of-self-2 : goal.invariant_of-self-2
 invariant_of-self-2 g c =
     let k = c.self.inside in
     let old = c.self.invariant in
+    let waits : waiting k.queues.queues c.args.unique ≡ Some (Call c.args.call) =
+    rw (← c.self.view_is) at c.requires.waits in
     let made = c.requires.creates in
     let here : get k.calls.entries c.args.call ≡ Some (doing (create made.directory made.name)) =
     rw (← c.self.view_is) at made.is in
@@ -45,6 +49,7 @@ invariant_of-self-2 g c =
           c.answer-kept.ensures.room.requests;
       nodes = looked_up_counted k.nodes k.queues.room.forgets
           c.answer-kept.new.self.room.forgets old.nodes room c.args.entry.now fits;
+      served = served_ended old.served c.args.unique c.args.call waits;
       clock_low = old.clock_low;
     })
 
@@ -87,7 +92,7 @@ invariant_of-self g c = rw c.reserve.ensures.entries c.self.invariant
 pub invariant_of-self-in_err-bind_entry : goal.invariant_of-self-in_err-bind_entry
 invariant_of-self-in_err-bind_entry g c =
     rw (c.bind_entry.ensures.state, c.in_err-bind_entry.ensures.err_nodes, c.in-Ok.ensures.entries)
-    (more_queued c.self.invariant c.bind_entry.ensures.kept)
+    (more_room c.self.invariant c.bind_entry.ensures.kept)
 
 pub bind_entry-requires-clause-alike : goal.bind_entry-requires-clause-alike
 bind_entry-requires-clause-alike g c =

@@ -9,12 +9,16 @@ use Rattle.fk_kernel.proofs.Nodes.{still_counted, answered_is, sorted_gone}
 use Rattle.fk_kernel.proofs.Replied.{open_done}
 use Rattle.fk_kernel.proofs.Sound.{sound_answered}
 use Rattle.fk_kernel.proofs.Rooms.{still_room}
+use Rattle.fuse_spec.specs.declared.Purpose.TheVariants.{Call}
+use Rattle.fk_kernel.proofs.Served.{served_ended}
 use Rattle.fk_kernel.proofs.kernel.KernelOf.file_is_open.Goals as goal
 
 pub invariant_of-self-2 : goal.invariant_of-self-2
 invariant_of-self-2 g c =
     let k = c.self.inside in
     let old = c.self.invariant in
+    let waits : waiting k.queues.queues c.args.unique ≡ Some (Call c.args.call) =
+    rw (← c.self.view_is) at c.requires.waits in
     let here : get k.calls.entries c.args.call ≡ Some (doing (opening c.requires.opens.node)) =
     rw (← c.self.view_is) at c.requires.opens.is in
     let there = some_not_none (get k.calls.entries c.args.call) (doing (opening c.requires.opens.node)) here in
@@ -33,6 +37,7 @@ invariant_of-self-2 g c =
       releases = still_room old.releases c.answer-kept.ensures.room.requests;
       nodes = still_counted k.nodes k.queues.room.forgets
           c.answer-kept.new.self.room.forgets old.nodes c.answer-kept.ensures.room.forgets;
+      served = served_ended old.served c.args.unique c.args.call waits;
       clock_low = old.clock_low;
     })
 

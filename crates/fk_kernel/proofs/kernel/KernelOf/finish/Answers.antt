@@ -5,6 +5,7 @@ use Rattle.fk_kernel.proofs.Sound.{sound_answered, there_is, length_gone}
 use Rattle.fk_kernel.proofs.OpenFilesKept.{answered_files}
 use Rattle.fuse_spec.specs.Values.Maps.{get}
 use Rattle.fk_kernel.proofs.Rooms.{some_room}
+use Rattle.fk_kernel.proofs.Served.{served_answered}
 use Rattle.fk_kernel.proofs.kernel.KernelOf.finish.Goals as goal
 
 pub answer-requires-clause-absent : goal.answer-requires-clause-absent
@@ -33,5 +34,6 @@ invariant_of-self g c =
       files = answered_files k.calls.entries k.opens.entries k.closing.entries k.next_call old.files c.args.call;
       releases = old.releases;
       nodes = old.nodes;
+      served = served_answered old.served c.args.call (rw (← c.self.view_is) at c.requires.ended);
       clock_low = old.clock_low;
     })

@@ -5,8 +5,16 @@ use Rattle.fk_kernel.proofs.kernel.KernelOf.mount.Goals as goal
 
 pub invariant_of-self : goal.invariant_of-self
 invariant_of-self g c =
-    rw (c.clear.ensures.entries, c.clear-2.ensures.entries, c.clear-3.ensures.entries, c.clear-5.ensures)
-    (sound_mounted c.self.invariant _ _)
+    rw (
+      c.enqueue-init.ensures.state,
+      c.reserve.ensures.state,
+      c.new-queues.ensures,
+      c.clear.ensures.entries,
+      c.clear-2.ensures.entries,
+      c.clear-3.ensures.entries,
+      c.clear-5.ensures,
+    )
+    (sound_mounted c.self.invariant _)
 
 pub returns-then-is_busy-clause-refusal : goal.returns-then-is_busy-clause-refusal
 returns-then-is_busy-clause-refusal g c =

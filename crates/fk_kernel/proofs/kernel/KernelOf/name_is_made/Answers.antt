@@ -5,7 +5,7 @@ use Rattle.fk_kernel.proofs.Nodes.{alike, looked_up_counted}
 use Rattle.fk_kernel.proofs.Replied.{made_found}
 use Rattle.fk_kernel.proofs.CallStates.{makes_place}
 use Rattle.fk_kernel.proofs.Rooms.{still_room, one_more_fits, until_is}
-use Rattle.fk_kernel.proofs.StillSound.{more_queued}
+use Rattle.fk_kernel.proofs.StillSound.{more_room}
 use Rattle.fk_kernel.proofs.kernel.KernelOf.name_is_made.Goals as goal
 
 pub bind_entry-requires-clause-names_one : goal.bind_entry-requires-clause-names_one
@@ -32,6 +32,7 @@ invariant_of-self-2 g c =
       nodes = looked_up_counted k.nodes k.queues.room.forgets
           c.bind_entry.new.queues.room.forgets old.nodes c.in_ok-bind_entry.ensures.room
           c.args.entry.now fits;
+      served = old.served;
       clock_low = old.clock_low;
     })
 
@@ -65,4 +66,4 @@ bind_entry-requires-clause-alike g c =
 
 pub invariant_of-self : goal.invariant_of-self
 invariant_of-self g c = rw (c.bind_entry.ensures.state, c.in_err-bind_entry.ensures.err_nodes)
-    (more_queued c.self.invariant c.bind_entry.ensures.kept)
+    (more_room c.self.invariant c.bind_entry.ensures.kept)

@@ -1,4 +1,4 @@
-use Rattle.std.proofs.Common.{◌≡◌, ℕ, true, length, Some, ap, sym, subst, ◌∙◌}
+use Rattle.std.proofs.Common.{◌≡◌, ℕ, true, length, Some, refl, ap, sym, subst, ◌∙◌}
 use Rattle.std.proofs.lemmas.List.{length-map}
 use Rattle.std.specs.Prelude.{is_some}
 use Rattle.fuse_spec.specs.Values.Maps.{get}
@@ -17,6 +17,10 @@ use Rattle.fk_kernel.proofs.Nodes.{answered_is, listed_counted}
 use Rattle.fk_kernel.proofs.Replied.{list_done}
 use Rattle.fk_kernel.proofs.CallStates.{asked_is, lists_from}
 use Rattle.fk_kernel.proofs.Rooms.{still_room, room_to_list}
+use Rattle.fuse_spec.specs.declared.Purpose.{Purpose}
+use Rattle.fuse_spec.specs.declared.Purpose.TheVariants.{Call}
+use Rattle.fuse_spec.specs.Kernel.Queues.{QueueState}
+use Rattle.fk_kernel.proofs.Served.{same_requests, served_less, fewer_answered, none_answered}
 use Rattle.fk_kernel.proofs.kernel.KernelOf.pairs_listed.Goals as goal
 
 pub count_and_bind-requires-clause-below : goal.count_and_bind-requires-clause-below
@@ -32,7 +36,12 @@ invariant_of-self-2 g c =
     let room = room_to_list (length k.nodes) (length (pluses_in c.args.pairs)) (length pairs) c.count_left.result _ _
     c.answer-kept.new.self.room.forgets c.count_left.ensures.count (length-map (pluses_in c.args.pairs) pair_in)
     c.in_ok-reserve_forgets.ensures.room c.forget_stale.ensures.forgets c.answer-kept.ensures.room.forgets in
-    rw c.in-Ok-count_and_bind.ensures.nodes
+    rw (
+      c.answer-kept.ensures.state,
+      c.forget_stale.ensures.state,
+      c.reserve_forgets.ensures.state,
+      c.in-Ok-count_and_bind.ensures.nodes,
+    )
     (record {
       numbers = old.numbers;
       idle = old.idle;
@@ -41,8 +50,24 @@ invariant_of-self-2 g c =
       releases = still_room (still_room (still_room old.releases c.reserve_forgets.ensures.kept.requests)
           c.forget_stale.ensures.requests) c.answer-kept.ensures.room.requests;
       nodes = listed_counted k.nodes c.answer-kept.new.self.room.forgets pairs below room;
+      served = served_less (served_less old.served (same_requests refl))
+          (fewer_answered (each_forgotten k.queues.queues (stale_by (looked_up_from k.nodes pairs) pairs)) c.args.unique);
       clock_low = old.clock_low;
     })
+
+pub finish-requires-clause-ended : goal.finish-requires-clause-ended
+finish-requires-clause-ended g c =
+    let k = c.self.inside in
+    let pairs = pairs_left_in c.args.pairs in
+    let queued : QueueState Purpose = each_forgotten k.queues.queues (stale_by (looked_up_from k.nodes pairs) pairs) in
+    let waits : waiting queued c.args.unique ≡ Some (Call c.args.call) = rw (← c.self.view_is) at c.requires.waits in
+    rw (
+      c.answer-kept.ensures.state,
+      c.forget_stale.ensures.state,
+      c.reserve_forgets.ensures.state,
+      c.in-Ok-count_and_bind.ensures.nodes,
+    )
+    (none_answered (served_less c.self.invariant.served (same_requests {t = queued} refl)) c.args.unique c.args.call waits)
 
 pub returns-clause-ok : goal.returns-clause-ok
 returns-clause-ok g c =

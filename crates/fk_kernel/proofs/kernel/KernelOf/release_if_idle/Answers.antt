@@ -10,6 +10,7 @@ use Rattle.fk_kernel.proofs.OpenFilesKept.{some_not_none, released_files}
 use Rattle.fk_kernel.proofs.Nodes.{still_counted}
 use Rattle.fk_kernel.proofs.Sound.{gone_absent, length_gone}
 use Rattle.fk_kernel.proofs.Rooms.{room_left, some_room, still_room}
+use Rattle.fk_kernel.proofs.Served.{served_less, more_released}
 use Rattle.fk_kernel.proofs.kernel.KernelOf.release_if_idle.Goals as goal
 
 pub returns-then-is_in_use : goal.returns-then-is_in_use
@@ -74,6 +75,7 @@ invariant_of-self-2 g c =
       releases = room_left (still_room shorter old.releases) c.enqueue-unique.ensures.requests_room;
       nodes = still_counted k.nodes k.queues.room.forgets
           c.enqueue-unique.new.self.room.forgets old.nodes c.enqueue-unique.ensures.forgets_room;
+      served = served_less old.served (more_released k.queues.queues c.in-Some.opened);
       clock_low = old.clock_low;
     })
 

@@ -2,6 +2,7 @@ use Rattle.std.proofs.Common.{◌≡◌, ap, sym, ◌∙◌}
 use Rattle.fuse_spec.specs.declared.IntrEffect.{IntrEffect}
 use Rattle.fuse_spec.specs.declared.IntrEffect.TheVariants.{Dequeued}
 use Rattle.fuse_spec.specs.Kernel.QueueCalls.{interrupt_effect, after_effect}
+use Rattle.fk_kernel.proofs.Served.{none_dequeued}
 use Rattle.fk_kernel.proofs.Signalled.{sound_signalled}
 use Rattle.fk_kernel.proofs.kernel.KernelOf.signal.Goals as goal
 
@@ -25,3 +26,12 @@ finish_use-requires-clause-within g c = λ open_call operation at closed idle.
     let next = ap (λ (e : IntrEffect). (after_effect s c.args.unique e).next) effect in
     let within = rw (← c.self.view_is) at c.requires.within in
     rw (c.interrupt-effect.ensures.state, next) (within effect open_call operation at closed idle)
+
+pub finish_use-requires-clause-ended : goal.finish_use-requires-clause-ended
+finish_use-requires-clause-ended g c =
+    let s = c.self.inside.queues.queues in
+    let effect : interrupt_effect s c.args.unique c.args.fatal ≡ Dequeued =
+    sym c.interrupt-effect.ensures.effect ∙ c.is_interrupted.ensures.0 c.if-is_interrupted.true in
+    let first = rw (← c.self.view_is) at c.requires.current in
+    rw c.interrupt-effect.ensures.state
+    (none_dequeued c.self.invariant.served c.args.unique c.args.call c.args.fatal c.lemma_sound.ensures.sound effect first)

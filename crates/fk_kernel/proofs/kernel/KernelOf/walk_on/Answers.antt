@@ -19,7 +19,9 @@ use Rattle.fk_kernel.proofs.Sound.{sound_answered, sound_walks, there_is}
 use Rattle.fk_kernel.proofs.Walking.{asked_left}
 use Rattle.fk_kernel.proofs.OpenFilesKept.{walking_files, answered_files}
 use Rattle.fk_kernel.proofs.Rooms.{still_room, room_left, some_same, one_more_fits, until_is}
-use Rattle.fk_kernel.proofs.StillSound.{more_queued}
+use Rattle.fk_kernel.proofs.StillSound.{more_room}
+use Rattle.fuse_spec.specs.declared.Purpose.TheVariants.{Call}
+use Rattle.fk_kernel.proofs.Served.{served_anew, served_ended}
 use Rattle.fk_kernel.proofs.kernel.KernelOf.walk_on.Goals as goal
 
 pub bind_entry-requires-clause-names_one : goal.bind_entry-requires-clause-names_one
@@ -86,6 +88,8 @@ invariant_of-self-in-Ask g c =
     let here : get k.calls.entries c.args.call ≡ Some (walking stands.directory stands.word stands.words stands.plan) =
     rw (← c.self.view_is) at stands.is in
     let old = c.self.invariant in
+    let waits : waiting k.queues.queues c.args.unique ≡ Some (Call c.args.call) =
+    rw (← c.self.view_is) at c.requires.waits in
     let some : is_some (get k.calls.entries c.args.call) ≡ true = ap is_some here in
     let there = there_is (get k.calls.entries c.args.call) some in
     let room = still_room c.in_ok-bind_entry.ensures.room c.answer-kept.ensures.room.forgets in
@@ -111,6 +115,7 @@ invariant_of-self-in-Ask g c =
           c.bind_entry.ensures.kept.requests) c.answer-kept.ensures.room.requests) c.enqueue-unique.ensures.requests_room;
       nodes = still_counted _ c.answer-kept.new.self.room.forgets
           c.enqueue-unique.new.self.room.forgets counted c.enqueue-unique.ensures.forgets_room;
+      served = served_anew old.served c.args.unique c.args.call c.in-Ask.state waits;
       clock_low = old.clock_low;
     })
 
@@ -121,6 +126,8 @@ invariant_of-self-in-Answer g c =
     let here : get k.calls.entries c.args.call ≡ Some (walking stands.directory stands.word stands.words stands.plan) =
     rw (← c.self.view_is) at stands.is in
     let old = c.self.invariant in
+    let waits : waiting k.queues.queues c.args.unique ≡ Some (Call c.args.call) =
+    rw (← c.self.view_is) at c.requires.waits in
     let there = there_is (get k.calls.entries c.args.call) (ap is_some here) in
     let room = still_room c.in_ok-bind_entry.ensures.room c.answer-kept.ensures.room.forgets in
     let fits = rw (← c.self.view_is) at c.requires.fits in
@@ -141,6 +148,7 @@ invariant_of-self-in-Answer g c =
           c.bind_entry.ensures.kept.requests) c.answer-kept.ensures.room.requests;
       nodes = looked_up_counted k.nodes k.queues.room.forgets
           c.answer-kept.new.self.room.forgets old.nodes room c.args.entry.now fits;
+      served = served_ended old.served c.args.unique c.args.call waits;
       clock_low = old.clock_low;
     })
 
@@ -246,5 +254,5 @@ bind_entry-requires-clause-alike g c =
 pub invariant_of-self-in_err-bind_entry : goal.invariant_of-self-in_err-bind_entry
 invariant_of-self-in_err-bind_entry g c =
     rw (c.bind_entry.ensures.state, c.reserve_request.ensures.state, c.in_err-bind_entry.ensures.err_nodes)
-    (more_queued {queues = c.self.inside.queues.queues} (more_queued c.self.invariant c.reserve_request.ensures.kept)
+    (more_room (more_room c.self.invariant c.reserve_request.ensures.kept)
     c.bind_entry.ensures.kept)

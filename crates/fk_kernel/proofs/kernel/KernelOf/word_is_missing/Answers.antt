@@ -7,7 +7,7 @@ pub answer_call-requires-clause-waits : goal.answer_call-requires-clause-waits
 answer_call-requires-clause-waits g c =
     let stands = c.requires.looks_up in
     rw (c.in_ok-name_is_missing.ensures.bound stands.directory stands.word stands.words stands.plan stands.is)
-    (ap is_some c.requires.waits)
+    c.requires.waits
 
 pub answer_call-requires-clause-unanswered : goal.answer_call-requires-clause-unanswered
 answer_call-requires-clause-unanswered g c =

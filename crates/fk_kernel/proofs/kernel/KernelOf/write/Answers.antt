@@ -9,7 +9,9 @@ use Rattle.fk_kernel.proofs.RepliesTaken.{odd_test, even_test, taken_odd, taken_
 use Rattle.fk_wire.specs.declared.opcode.Opcode.TheVariants as op
 use Rattle.fk_wire.specs.Opcodes.{latest_minor}
 use Rattle.fk_kernel.proofs.Heads.{no_head}
-use Rattle.fk_kernel.proofs.OfNoCall.{awaited_of_call}
+use Rattle.fk_kernel.proofs.OfNoCall.{awaited_of_call, call_awaits}
+use Rattle.fk_kernel.specs.Soundness.{ServesCalls}
+use Rattle.fk_kernel.proofs.Served.{read_unanswered}
 use Rattle.fk_kernel.proofs.kernel.KernelOf.write.Goals as goal
 
 pub returns-in_default-clause-unawaited : goal.returns-in_default-clause-unawaited
@@ -136,3 +138,19 @@ returns-in-Call-clause-of_no_call g c = λ head none.
     let awaits = awaited_even now unique (even_test c.in-Ok.head.unique unique same c.if-head-eq1.false)
     (Some (Call c.in-Call.call)) waits in
     absurd (awaited_of_call (get now.vfs.calls c.in-Call.call) (rw awaits at none))
+
+pub returns-in-Call-clause-unawaited : goal.returns-in-Call-clause-unawaited
+returns-in-Call-clause-unawaited g c = λ head none.
+    let queues = c.self.inside.queues.queues in
+    let now = c.args.self.now in
+    let unique = head_unique c.args.bytes.now in
+    let same = c.in-Ok.ensures.ok.3 in
+    let at : waiting queues c.in-Ok.head.unique ≡ Some c.in-Some.purpose.now =
+    sym c.waiting.ensures ∙ ap option_copied c.in-Some.is in
+    let waits : waiting now.queues unique ≡ Some (Call c.in-Call.call) =
+    rw (← c.self.view_is) (ap (waiting queues) (sym same) ∙ at ∙ ap Some c.in-Call.is) in
+    let awaits = awaited_even now unique (even_test c.in-Ok.head.unique unique same c.if-head-eq1.false)
+    (Some (Call c.in-Call.call)) waits in
+    let served : ServesCalls now.vfs.calls now.queues = rw (← c.self.view_is) c.self.invariant.served in
+    absurd (call_awaits (get now.vfs.calls c.in-Call.call) (read_unanswered served unique c.in-Call.call waits)
+    (rw awaits at none))

@@ -9,6 +9,7 @@ use Rattle.fk_kernel.proofs.Replied.{init_agreed, init_aborts, init_unsaid}
 use Rattle.fuse_frames.proofs.ReplyCases.{says_to_init}
 use Rattle.fuse_frames.proofs.Sayings.{says_one}
 use Rattle.fk_kernel.proofs.Rooms.{still_room}
+use Rattle.fk_kernel.proofs.Served.{served_less, fewer_answered}
 use Rattle.fk_kernel.proofs.kernel.KernelOf.write_to_init.Goals as goal
 
 pub invariant_of-self : goal.invariant_of-self
@@ -24,6 +25,7 @@ invariant_of-self g c =
       files =
           old.files;
       releases = still_room old.releases c.answer-kept.ensures.room.requests;
+      served = served_less old.served (fewer_answered c.self.inside.queues.queues c.args.head.unique);
       clock_low =
           old.clock_low;
     })

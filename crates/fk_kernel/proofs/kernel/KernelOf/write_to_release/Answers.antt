@@ -8,13 +8,16 @@ use Rattle.fk_kernel.proofs.Replied.{release_is}
 use Rattle.fuse_frames.proofs.ReplyCases.{says_to_release}
 use Rattle.fuse_frames.proofs.Sayings.{says_read, says_nothing}
 use Rattle.fk_kernel.proofs.StillSound.{more_queued}
+use Rattle.fk_kernel.proofs.Served.{fewer_answered}
 use Rattle.fk_kernel.proofs.kernel.KernelOf.write_to_release.Goals as goal
 
 pub invariant_of-self : goal.invariant_of-self
-invariant_of-self g c = more_queued c.self.invariant c.answer-kept.ensures.room
+invariant_of-self g c = more_queued c.self.invariant c.answer-kept.ensures.state (fewer_answered _ _)
+    c.answer-kept.ensures.room
 
 pub invariant_of-self-2 : goal.invariant_of-self-2
-invariant_of-self-2 g c = more_queued c.self.invariant c.answer-kept.ensures.room
+invariant_of-self-2 g c = more_queued c.self.invariant c.answer-kept.ensures.state (fewer_answered _ _)
+    c.answer-kept.ensures.room
 
 pub returns-in_default-clause-said : goal.returns-in_default-clause-said
 returns-in_default-clause-said g c = λ wire says. absurd
