@@ -7,14 +7,13 @@ use fk_wire::{Opcode, ReplyHead, opcode_of_code, read_reply, read_request, read_
 use fuse_device::{Device, DeviceEnd};
 use fuse_spec::WriteResult;
 use fw_frames::{write_reply_words, write_request_words};
-use indexmap::IndexMap;
 use std::alloc::Allocator;
-use std::hash::{BuildHasherDefault, FoldHasher};
+use std::collections::BTreeMap;
 use std::io;
 use std::io::Write;
 
 /// The opcodes of the requests that were sent, by their numbers.
-type Opcodes<A> = IndexMap<u64, Opcode, BuildHasherDefault<FoldHasher>, A>;
+type Opcodes<A> = BTreeMap<u64, Opcode, A>;
 
 /// Writes a request that is not the kernel's: OPENDIR or RELEASEDIR.
 fn write_own<W: Write>(out: &mut W, code: u32, unique: u64) -> io::Result<()> {
@@ -98,7 +97,7 @@ impl<A: Allocator + Copy, D: Device + Drop, W: Write + Drop> DriveTrace<A, D, W>
         DriveTrace {
             inner,
             out,
-            opcodes: IndexMap::new(alloc),
+            opcodes: BTreeMap::new(alloc),
         }
     }
 

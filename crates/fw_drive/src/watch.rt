@@ -4,15 +4,14 @@ use crate::fault::Fault;
 use fk_drive::Written;
 use fk_wire::{Attr, Entry, Opcode, ReplyBody, ReplyHead, RequestBody, read_reply, read_request};
 use fuse_spec::WriteResult;
-use indexmap::IndexMap;
 use std::alloc::{AllocError, Allocator};
-use std::hash::{BuildHasherDefault, FoldHasher};
+use std::collections::BTreeMap;
 
 /// The type bits of a mode.
 const TYPE: u32 = 0o170_000;
 
-/// A table of numbers, with look-ups by the number.
-type Table<V, A> = IndexMap<u64, V, BuildHasherDefault<FoldHasher>, A>;
+/// A table of numbers, with look-ups by the number. It is ordered, since the server picks the nodeids.
+type Table<V, A> = BTreeMap<u64, V, A>;
 
 /// A request that was sent.
 #[derive(Clone, Copy, Debug)]
@@ -42,9 +41,9 @@ pub(crate) struct Watch<A: Allocator + Copy> {
 impl<A: Allocator + Copy> Watch<A> {
     pub(crate) fn new(alloc: A) -> Self {
         Watch {
-            sent: IndexMap::new(alloc),
-            owed: IndexMap::new(alloc),
-            nodes: IndexMap::new(alloc),
+            sent: BTreeMap::new(alloc),
+            owed: BTreeMap::new(alloc),
+            nodes: BTreeMap::new(alloc),
         }
     }
 
@@ -71,7 +70,7 @@ impl<A: Allocator + Copy> Watch<A> {
 
     /// The kernel evicts a node: the server may give it for another file.
     pub(crate) fn note_evicted(&mut self, node: u64) {
-        let _gone = self.nodes.swap_remove(&node);
+        let _gone = self.nodes.remove(&node);
     }
 
     /// Notes a request that was sent, if it has a reply.
@@ -168,7 +167,7 @@ impl<A: Allocator + Copy> Watch<A> {
                 None
             }
             Some(_) => Some(Fault::Second),
-            None => match self.owed.swap_remove(&unique) {
+            None => match self.owed.remove(&unique) {
                 Some(()) => None,
                 None => Some(Fault::ToNothing),
             },

@@ -22,7 +22,7 @@ pub trait Tables {
     type Nodes: NodeStore<Heap = Self::Heap> + Drop;
 }
 
-/// Maps and slabs: a look-up by number costs the same in a small table and in a large one.
+/// Maps and slabs: one of `n` entries is found in log `n` steps at most, whatever numbers a peer picks.
 pub struct Maps<A = Global> {
     heap: PhantomData<A>,
 }
