@@ -15,7 +15,7 @@ pub(crate) struct NameKey<A: Allocator> {
     pub name: Vec<u8, A>,
 }
 
-/// A name of a directory, borrowed.
+/// A name of a directory, borrowed, so that a look-up copies no name.
 #[derive(Clone, Copy)]
 pub(crate) struct LentKey<'a> {
     pub directory: u64,

@@ -8,7 +8,8 @@ use fuse_spec::Dentry;
 use fuse_tables::RisingTable;
 use std::alloc::{AllocError, Allocator};
 
-/// How many dentries name each node that one names, as their directory or as their target.
+/// How many dentries name each node that one names, as their directory or as their target. A count that falls to 0 goes,
+/// and its room comes back.
 #[derive(Drop)]
 pub(crate) struct NodeCounts<A: Allocator> {
     pub counts: RisingTable<u64, A>,
@@ -147,6 +148,7 @@ impl<A: Allocator + Copy> NodeCounts<A> {
         ensures { self.new.counts.entries ≡ [] }
     {
         self.counts.clear();
+        // No name has room from here on.
         self.most = 0;
     }
 }
