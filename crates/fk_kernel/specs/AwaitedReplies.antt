@@ -21,7 +21,7 @@ pub data Awaited : Type 0 where
   nothing : Awaited
   reply_to : (opcode : Opcode) → Awaited
 
--- A request of a call is always that of an unanswered call.
+-- A request of a call is always that of an unanswered call (`ServesCalls`): the first case never comes.
 abbrev pub awaited_by_call : Option (CallState Opened) → Awaited
 awaited_by_call None = nothing
 awaited_by_call (Some state) = reply_to (asked_opcode (asks (asked state)))

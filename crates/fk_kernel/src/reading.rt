@@ -76,9 +76,7 @@ impl<Q: QueueTable<Purpose> + Drop, C: CountTable<Heap = Q::Heap> + Drop> Kernel
             Purpose::Init => RequestFrame::init(self.alloc, unique),
             Purpose::Release(opened) => RequestFrame::release(self.alloc, unique, opened),
             Purpose::Call(call) => {
-                let Some(waiting) = self.calls.get(call) else {
-                    return Err(Refusal::NoSuch);
-                };
+                let waiting = self.calls.get(call).unwrap();
                 RequestFrame::asks(self.alloc, unique, &waiting.asks())
             }
         };
