@@ -105,7 +105,8 @@ among {X = X} p q (y ∷ xs) i x found passes = by (q y) (λ j f. among p q xs j
 
 -- a mark changes no purpose
 count_marked : (call u : ℕ) (m : Mark) (es : List Entry)
-    → count_by (λ (e : Entry). is_for call e.1.kept) (set_mark u es m) ≡ count_by (λ (e : Entry). is_for call e.1.kept) es
+    → count_by (λ (e : Entry). is_for call e.1.kept) (set_mark u es m)
+    ≡ count_by (λ (e : Entry). is_for call e.1.kept) es
 count_marked call u m [] = refl
 count_marked call u m (e ∷ es) =
     let serves : Entry → Bool = λ x. is_for call x.1.kept in
@@ -147,7 +148,8 @@ module _ (s : QueueState Purpose) where
       by false = same_requests refl
 
   as_read : (unique : ℕ) (m : Mark) → ServesNoMore s (after_reading s unique m)
-  as_read unique Unread = record { each = λ call. let same = count_marked call unique Read s.requests in omega (arith, same) }
+  as_read unique Unread =
+      record { each = λ call. let same = count_marked call unique Read s.requests in omega (arith, same) }
   as_read unique Flagged =
       record { each = λ call. let same = count_marked call unique Interrupted s.requests in omega (arith, same) }
   as_read unique Read = same_requests refl
@@ -163,7 +165,8 @@ module _ (s : QueueState Purpose) where
   pub forgets_alike : (count : ℕ) → ServesNoMore s (after_read_forgets s count)
   forgets_alike count = same_requests (by (can_read_forgets s count))
     where
-      by : (b : Bool) → (cond b (record s { forgets = drop count s.forgets; next = s.next + 2 }) s).requests ≡ s.requests
+      by : (b : Bool) → (cond b (record s { forgets = drop count s.forgets; next = s.next + 2 }) s).requests
+          ≡ s.requests
       by true = refl
       by false = refl
 
@@ -172,8 +175,10 @@ module _ (s : QueueState Purpose) where
     where
       by : (x : IntrEffect) → ServesNoMore s (after_effect s unique x)
       by Dequeued = record { each = λ call. count_less (λ (e : Entry). is_for call e.1.kept) unique s.requests }
-      by IsFlagged = record { each = λ call. let same = count_marked call unique Flagged s.requests in omega (arith, same) }
-      by Queued = record { each = λ call. let same = count_marked call unique Interrupted s.requests in omega (arith, same) }
+      by IsFlagged =
+          record { each = λ call. let same = count_marked call unique Flagged s.requests in omega (arith, same) }
+      by Queued =
+          record { each = λ call. let same = count_marked call unique Interrupted s.requests in omega (arith, same) }
       by NoEffect = same_requests refl
 
   pub replied_alike : (unique : ℕ) (reply : InterruptReply) → ServesNoMore s (after_interrupt_reply s unique reply)
@@ -245,7 +250,8 @@ module _ {V : Type 0} {calls : Map V} {s : QueueState Purpose} (old : ServesCall
   pending_unanswered place unique call at = by (slice_get (pending s) place) refl at
     where
       by : (o : Option Entry) → slice_get (pending s) place ≡ o
-          → option_map {U = ℕ × Purpose} (λ (e : Entry). (e.0, e.1.kept)) o ≡ Some (unique, Call call) → is_some (get calls call) ≡ true
+          → option_map {U = ℕ × Purpose} (λ (e : Entry). (e.0, e.1.kept)) o ≡ Some (unique, Call call)
+          → is_some (get calls call) ≡ true
       by None is at = cc
       by (Some e) is at =
           let kept : e.1.kept ≡ Call call = ap (λ (x : ℕ × Purpose). x.1) (some_same at) in

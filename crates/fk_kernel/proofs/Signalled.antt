@@ -1,37 +1,31 @@
--- Signals to calls: which request serves a call, and that the kernel stays sound.
-use Rattle.std.proofs.Common.{◌≡◌, ◌≢◌, ℕ, Bool, true, false, true≢false, cond, List, [], ◌∷◌, Option, Some, None, drop, ap, sym, ◌∙◌, refl, nat_eq, inl, inr, arith, ◌⊎◌}
+-- Signals to calls: which request serves a call, and what a signal makes of it.
+use Rattle.std.proofs.Common.{◌≡◌, ◌≢◌, ℕ, Bool, true, false, true≢false, cond, List, [], ◌∷◌, Option, Some, None, drop, ap, sym, ◌∙◌, refl, nat_eq, inl, inr, ◌⊎◌}
 use Rattle.std.specs.Prelude.{find, is_some, not, option_map, slice_get}
 use Rattle.std.specs.Map.{lookup}
 use Rattle.std.specs.Option.{option_map_or}
 use Rattle.std.proofs.lemmas.Bool.Decides.{eqb_tells}
-use Rattle.fuse_spec.specs.declared.Counted.{Counted}
 use Rattle.fuse_spec.specs.declared.IntrEffect.{IntrEffect}
 use Rattle.fuse_spec.specs.declared.IntrEffect.TheVariants.{Dequeued, None as NoEffect}
 use Rattle.fuse_spec.specs.declared.Mark.{Mark}
 use Rattle.fuse_spec.specs.declared.Mark.TheVariants.{Unread, Flagged, Read, Interrupted}
 use Rattle.fuse_spec.specs.declared.Opened.{Opened}
-use Rattle.fuse_spec.specs.declared.Phase.{Phase}
 use Rattle.fuse_spec.specs.declared.Purpose.{Purpose}
 use Rattle.fuse_spec.specs.declared.QueuedRequest.{QueuedRequest}
 use Rattle.fuse_spec.specs.declared.Refusal.TheVariants.{NotReady, Exhausted}
 use Rattle.fuse_spec.specs.Calls.Answers.{failed}
 use Rattle.fuse_spec.specs.Kernel.Kernel.{Kernel, is_for, is_live, request_of, after_use, released_if_idle, after_signal, signalled_at, call_signalled}
-use Rattle.fuse_spec.specs.Values.Maps.{Map, get}
+use Rattle.fuse_spec.specs.Values.Maps.{get}
 use Rattle.fuse_spec.specs.Values.Numbers.{eintr}
 use Rattle.fuse_spec.specs.Kernel.Queues.{QueueState, is_unread, request_under}
-use Rattle.fuse_spec.specs.Kernel.QueueCalls.{waiting, interrupt_effect, after_dequeue, after_effect, after_interrupt}
+use Rattle.fuse_spec.specs.Kernel.QueueCalls.{waiting, interrupt_effect, after_dequeue, after_effect}
 use Rattle.fuse_spec.specs.Kernel.Signals.{signal_effect}
 use Rattle.fuse_spec.specs.Calls.Vfs.{CallState, using, answered}
-use Rattle.fk_queues.specs.Room.{Room, KeepsRoom}
 use Rattle.fk_kernel.specs.Entries.{LacksUniqueForRelease}
 use Rattle.std.specs.Prelude.{Result}
 use Rattle.fuse_spec.specs.declared.Refusal.{Refusal}
 use Rattle.fuse_spec.specs.Kernel.Refusals.{unless, found, refusal_in, accepted, is_kernel_past_end}
 use Rattle.fk_kernel.specs.Refused.{within_counters, signal_refusal, IsSignalled}
-use Rattle.fk_kernel.specs.Soundness.{IsSoundKernel}
 use Rattle.fk_kernel.proofs.Closes.{released_some}
-use Rattle.fk_kernel.proofs.Nodes.{still_counted}
-use Rattle.fk_kernel.proofs.Served.{served_less, fewer_signalled}
 use Rattle.fk_kernel.proofs.Walking.{asks_past}
 
 abbrev Entry : Type 0
@@ -161,23 +155,6 @@ module _ (k : Kernel) (call unique : ℕ) (fatal : Bool) (current : request_of k
     where
       signalled : Option (CallState Opened) → Result (Unit {0}) Refusal
       signalled o = found o (λ (state : CallState Opened). within_counters (call_signalled k call state fatal).1)
-
--- The kernel stays sound after a signal to a request.
-pub sound_signalled : {W : Type 0} (phase : Phase) (calls : Map (CallState Opened)) (answers : Map W) (free coming : ℕ)
-    (opens closing : Map Opened) (s : QueueState Purpose) (space more : Room) (known : Map Counted) (clock : ℕ)
-    → IsSoundKernel phase calls answers free coming opens closing s space known clock → KeepsRoom space more
-    → (unique : ℕ) (fatal : Bool)
-    → IsSoundKernel phase calls answers free coming opens closing (after_interrupt s unique fatal) more known clock
-sound_signalled phase calls answers free coming opens closing s space more known clock old room unique fatal = record {
-  numbers = old.numbers;
-  idle = old.idle;
-  sorted = old.sorted;
-  files = old.files;
-  releases = omega (arith, old.releases, room.requests);
-  nodes = still_counted known space.forgets more.forgets old.nodes room.forgets;
-  served = served_less old.served (fewer_signalled s unique fatal);
-  clock_low = old.clock_low;
-}
 
 -- A call that is unanswered stands somewhere.
 pub signalled_there : (k : Kernel) (call : ℕ) (fatal : Bool) (effect : IntrEffect) (after : Kernel)

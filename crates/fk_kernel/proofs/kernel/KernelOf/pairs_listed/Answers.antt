@@ -67,7 +67,8 @@ finish-requires-clause-ended g c =
       c.reserve_forgets.ensures.state,
       c.in-Ok-count_and_bind.ensures.nodes,
     )
-    (none_answered (served_less c.self.invariant.served (same_requests {t = queued} refl)) c.args.unique c.args.call waits)
+    (none_answered (served_less c.self.invariant.served (same_requests {t = queued} refl)) c.args.unique c.args.call
+    waits)
 
 pub returns-clause-ok : goal.returns-clause-ok
 returns-clause-ok g c =
