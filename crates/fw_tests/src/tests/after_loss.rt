@@ -78,10 +78,10 @@ fn is_after(in_row: &str, printed: &str) -> bool {
     printed == "refused 10 LinkLost"
 }
 
-/// Whether these lines refuse the events that the row has behind the loss.
+/// Whether these lines refuse the events that the row has behind the loss. A refused one has no answer and no frame.
 fn are_refusals(rest: &str, printed: &mut Lines<'_>) -> bool {
     for in_row in rest.lines() {
-        if in_row.starts_with("answer ") {
+        if in_row.starts_with("answer ") || in_row.starts_with("frame ") {
             continue;
         }
         match printed.next() {

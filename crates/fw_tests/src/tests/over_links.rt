@@ -1,4 +1,4 @@
-//! Rows over links of bytes: one that fails at one envelope, and one that gives one byte at a time.
+//! Rows over links of bytes: one that fails at one envelope, and one that gives and takes one byte at a time.
 
 use super::after_loss::is_after_loss;
 use super::rows::{Row, STAT_OF_ROOT, lists, long_lists, short_lists};
@@ -7,17 +7,17 @@ use fw_script::run_over;
 use std::alloc::{AllocError, Global};
 use std::io;
 use std::io::{Read, Write};
-use std::net::Net;
-use std::os::unix::net::UnixStream;
+use std::net::{Net, TcpListener, TcpStream};
 use std::process::Abort;
 use std::test::Fail;
 
-/// Runs a row over a link into an output, and gives the exit status. Nothing is ever reported.
+/// Runs a row over a link into an output, with its frames where its name says so, and gives the exit status. Nothing is ever reported.
 fn run_row<L: Link + Drop>(alloc: Global, link: L, row: &Row, out: &mut Vec<u8>) -> u8 {
     out.clear();
+    let hex = row.name.ends_with("-in-hex");
     let mut input = row.script.as_bytes();
     let mut faults = Vec::new(alloc);
-    let status = run_over(alloc, link, "-", false, &mut input, out, &mut faults);
+    let status = run_over(alloc, link, "-", hex, &mut input, out, &mut faults);
     if faults.is_empty() { status } else { 255 }
 }
 
@@ -82,9 +82,6 @@ fn is_cut_off_at_each(
 fn check_cut_off(rt: &impl Abort, alloc: Global, rows: &[Row]) -> Result<(), AllocError> {
     let mut out = Vec::new(alloc);
     for row in rows {
-        if row.name.ends_with("-in-hex") {
-            continue;
-        }
         assert!(rt;
             is_cut_off_at_each(alloc, FailsIn::Put, row, &mut out)?,
             "put {}",
@@ -172,9 +169,10 @@ fn stat_of_root_over_a_link_that_fails(rt: HostRuntime) -> Result<(), Fail> {
     Ok(())
 }
 
-/// An end of a socket that gives one byte at a time. It takes what comes: single bytes would fill the socket's buffer.
+/// An end of a connection that gives and takes one byte at a time. TCP joins single bytes in its buffers, where each
+/// would take a place of its own in those of a Unix socket.
 #[derive(Drop)]
-struct Slow(UnixStream);
+struct Slow(TcpStream);
 
 impl Read for Slow {
     fn read(&mut self, buf: &mut [u8]) -> io::Result<usize> {
@@ -185,7 +183,8 @@ impl Read for Slow {
 
 impl Write for Slow {
     fn write(&mut self, buf: &[u8]) -> io::Result<usize> {
-        self.0.write(buf)
+        let most = buf.len().min(1);
+        self.0.write(&buf[..most])
     }
 
     fn flush(&mut self) -> io::Result<()> {
@@ -193,9 +192,16 @@ impl Write for Slow {
     }
 }
 
-/// A link over two ends of a socket.
-fn slow_link(net: &impl Net) -> io::Result<StreamLink<Slow, Slow>> {
-    let (kernel, server) = UnixStream::pair(net)?;
+/// A link over two ends of a connection within this machine.
+fn slow_link<R: Net<Listener = TcpListener, Stream = TcpStream>>(
+    net: &R,
+) -> io::Result<StreamLink<Slow, Slow>> {
+    let listener = TcpListener::bind(net, "127.0.0.1:0")?;
+    let kernel = TcpStream::connect(net, listener.local_addr()?)?;
+    let (server, _) = listener.accept()?;
+    // A byte is not to wait for others.
+    kernel.set_nodelay(true)?;
+    server.set_nodelay(true)?;
     let kernel_writer = kernel.try_clone()?;
     let server_writer = server.try_clone()?;
     Ok(StreamLink::new(
@@ -207,7 +213,12 @@ fn slow_link(net: &impl Net) -> io::Result<StreamLink<Slow, Slow>> {
 }
 
 /// Whether a row prints the same over such a link, and over one in memory.
-fn is_same_over_links(net: &impl Net, alloc: Global, row: &Row, out: &mut Vec<u8>) -> bool {
+fn is_same_over_links<R: Net<Listener = TcpListener, Stream = TcpStream>>(
+    net: &R,
+    alloc: Global,
+    row: &Row,
+    out: &mut Vec<u8>,
+) -> bool {
     let Ok(slow) = slow_link(net) else {
         return false;
     };
@@ -222,19 +233,15 @@ fn is_same_over_links(net: &impl Net, alloc: Global, row: &Row, out: &mut Vec<u8
     status == 0 && out.as_slice() == row.output.as_bytes()
 }
 
-/// Each of these rows, but for those whose record also has the hex dump of each frame.
-fn check_slow_rows<R: Abort + Net>(
+/// Each of these rows.
+fn check_slow_rows<R: Abort + Net<Listener = TcpListener, Stream = TcpStream>>(
     rt: &R,
     alloc: Global,
     rows: &[Row],
     out: &mut Vec<u8>,
 ) -> Result<(), Fail> {
     for row in rows {
-        assert!(rt;
-            row.name.ends_with("-in-hex") || is_same_over_links(rt, alloc, row, out),
-            "{}",
-            row.name
-        );
+        assert!(rt; is_same_over_links(rt, alloc, row, out), "{}", row.name);
     }
     Ok(())
 }
