@@ -13,7 +13,7 @@ use Rattle.fk_syscalls.proofs.state.CallState.names_node.Goals as goal
 pub returns-then-self-node : goal.returns-then-self-node
 returns-then-self-node g c =
     let self = c.self.inside in
-    rw (← c.self.view_is) (sym (names_self c.args.node self.node (words_from self.words.items self.at) self.at self.aim
+    rw (← c.self.view_is) (sym (names_self c.args.node self.node (words_from self.words.items self.at) self.at self.waits_for
     c.self.invariant.sound (search rules)))
 
 pub returns-in-Walks : goal.returns-in-Walks
