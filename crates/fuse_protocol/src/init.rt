@@ -1,0 +1,88 @@
+//! INIT, by which the two sides agree.
+
+ghost use Rattle.std.specs.Prelude.{◌≡◌, ◌<◌, ◌^◌, IfOk, IsOk};
+ghost use Rattle.fuse_protocol.specs.Init.{init_request_at, number_or_none, wide_flags as wide_flags_of};
+ghost use Rattle.fuse_protocol.specs.Inits.{IsInit};
+
+use crate::agreed::BEFORE_INIT;
+use crate::fault::ShapeFault;
+use crate::opcode::Opcode;
+use crate::reading::read_request;
+use fk_fields::u32_at;
+
+/// What the kernel offers: `struct fuse_init_in`.
+#[derive(Clone, Copy, Debug, PartialEq, Eq)]
+pub struct InitRequest {
+    pub major: u32,
+    pub minor: u32,
+    pub max_readahead: u32,
+    /// The fields `flags` and, 32 bits higher, `flags2`, which counts where `flags` has INIT_EXT.
+    pub flags: u64,
+}
+
+/// What the server takes of it: `struct fuse_init_out`. Fields that a short reply lacks are 0.
+#[derive(Clone, Copy, Debug, PartialEq, Eq)]
+pub struct InitReply {
+    pub major: u32,
+    pub minor: u32,
+    pub max_readahead: u32,
+    /// The fields `flags` and, 32 bits higher, `flags2`, which counts where `flags` has INIT_EXT.
+    pub flags: u64,
+    /// How many bytes a WRITE has at most; Linux takes 4,096 where fewer are said.
+    pub max_write: u32,
+    /// How many pages a request has at most, where MAX_PAGES is agreed.
+    pub max_pages: u16,
+}
+
+const INIT_EXT: u32 = 1 << 30;
+
+/// The flags of both fields.
+#[inline(always)]
+pub fn wide_flags(flags: u32, flags2: u32) -> u64
+    ensures { result ≡ wide_flags_of flags flags2 }
+{
+    if flags & INIT_EXT == 0 {
+        u64::from(flags)
+    } else {
+        u64::from(flags) + (u64::from(flags2) << 32)
+    }
+}
+
+/// The number in the four bytes at a place, or 0 where the bytes end before it does.
+#[inline(always)]
+pub fn u32_or_zero(bytes: &[u8], place: usize) -> u32
+    requires { place < 2 ^ 62 }
+    ensures { result ≡ number_or_none place 4 bytes.now }
+{
+    if bytes.len() < place + 4 {
+        0
+    } else {
+        u32_at(bytes, place)
+    }
+}
+
+/// Reads the request of an INIT.
+///
+/// # Errors
+///
+/// The fault of the frame as a request, and `Opcode` where it is no INIT.
+pub fn read_init(bytes: &[u8]) -> Result<InitRequest, ShapeFault>
+    // What is read stands in a request of this shape.
+    ensures ok { IfOk result (λ init. IsInit bytes.now × (init ≡ init_request_at bytes.now)) }
+    // Each such request is read.
+    ensures only { IsInit bytes.now → IsOk result }
+{
+    let request = match read_request(BEFORE_INIT, bytes) {
+        Ok(request) => request,
+        Err(fault) => return Err(fault),
+    };
+    if !matches!(request.head.opcode, Opcode::Init) {
+        return Err(ShapeFault::Opcode);
+    }
+    Ok(InitRequest {
+        major: u32_at(bytes, 40),
+        minor: u32_at(bytes, 44),
+        max_readahead: u32_at(bytes, 48),
+        flags: wide_flags(u32_at(bytes, 52), u32_or_zero(bytes, 56)),
+    })
+}
