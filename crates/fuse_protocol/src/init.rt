@@ -1,13 +1,14 @@
 //! INIT, by which the two sides agree.
 
 ghost use Rattle.std.specs.Prelude.{◌≡◌, ◌<◌, ◌^◌, IfOk, IsOk};
-ghost use Rattle.fuse_protocol.specs.Init.{init_request_at, number_or_none, wide_flags as wide_flags_of};
+ghost use Rattle.fuse_protocol.specs.Init.{init_request_at, init_reply_at, number_or_none, wide_flags as wide_flags_of};
 ghost use Rattle.fuse_protocol.specs.Inits.{IsInit};
 
 use crate::agreed::BEFORE_INIT;
 use crate::fault::ShapeFault;
 use crate::opcode::Opcode;
 use crate::reading::read_request;
+use crate::tail::u16_at;
 use fk_fields::u32_at;
 
 /// What the kernel offers: `struct fuse_init_in`.
@@ -38,7 +39,7 @@ const INIT_EXT: u32 = 1 << 30;
 
 /// The flags of both fields.
 #[inline(always)]
-pub fn wide_flags(flags: u32, flags2: u32) -> u64
+fn wide_flags(flags: u32, flags2: u32) -> u64
     ensures { result ≡ wide_flags_of flags flags2 }
 {
     if flags & INIT_EXT == 0 {
@@ -50,7 +51,7 @@ pub fn wide_flags(flags: u32, flags2: u32) -> u64
 
 /// The number in the four bytes at a place, or 0 where the bytes end before it does.
 #[inline(always)]
-pub fn u32_or_zero(bytes: &[u8], place: usize) -> u32
+fn u32_or_zero(bytes: &[u8], place: usize) -> u32
     requires { place < 2 ^ 62 }
     ensures { result ≡ number_or_none place 4 bytes.now }
 {
@@ -58,6 +59,35 @@ pub fn u32_or_zero(bytes: &[u8], place: usize) -> u32
         0
     } else {
         u32_at(bytes, place)
+    }
+}
+
+/// The number in the two bytes at a place, or 0 where the bytes end before it does.
+#[inline(always)]
+fn u16_or_zero(bytes: &[u8], place: usize) -> u16
+    requires { place < 2 ^ 62 }
+    ensures { result ≡ number_or_none place 2 bytes.now }
+{
+    if bytes.len() < place + 2 {
+        0
+    } else {
+        u16_at(bytes, place)
+    }
+}
+
+impl InitReply {
+    /// What the frame of a reply to INIT says. What the bytes do not have is 0.
+    pub fn in_frame(bytes: &[u8]) -> InitReply
+        ensures { result ≡ init_reply_at bytes.now }
+    {
+        InitReply {
+            major: u32_or_zero(bytes, 16),
+            minor: u32_or_zero(bytes, 20),
+            max_readahead: u32_or_zero(bytes, 24),
+            flags: wide_flags(u32_or_zero(bytes, 28), u32_or_zero(bytes, 48)),
+            max_write: u32_or_zero(bytes, 36),
+            max_pages: u16_or_zero(bytes, 44),
+        }
     }
 }
 

@@ -1,0 +1,5 @@
+pub mod Entries
+pub mod RecordPlaces
+pub mod Record
+pub mod Records
+pub mod Replies
