@@ -13,7 +13,7 @@ cases true = inl refl
 cases false = inr refl
 
 -- Behind the end there is none.
-past_end : (plus : Bool) (place : ℕ) (bytes : List ℕ) → length bytes ≤ place → is_whole plus place bytes ≡ false
+pub past_end : (plus : Bool) (place : ℕ) (bytes : List ℕ) → length bytes ≤ place → is_whole plus place bytes ≡ false
 past_end plus place bytes h = elim (cases (is_whole plus place bytes)) [
   | inl e ↦ absurd (omega (arith, h, (whole plus place bytes e).0))
   | inr e ↦ e

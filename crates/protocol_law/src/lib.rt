@@ -5,15 +5,19 @@
 //! may come (`Carries`): names of 255 bytes, a minor version from 12 on, and no extensions.
 #![tactic(auto)]
 
-ghost use Rattle.std.specs.Prelude.{List, ℕ, IfOk, IfErr, IsErr, IsOkAnd};
+ghost use Rattle.std.specs.Prelude.{◌≤◌, ◌+◌, List, ℕ, length, IfOk, IfErr, IsErr, IsOkAnd};
 ghost use Rattle.fk_wire.specs.declared.opcode.Minor.{Minor};
 ghost use Rattle.fk_wire.specs.Requests.{SpellsAt};
 ghost use Rattle.fk_wire.specs.Requests.{RequestMessage as CodecMessage, request_message as codec_message};
+ghost use Rattle.fk_wire.specs.declared.opcode.Opcode.{Opcode as CodecOpcode};
+ghost use Rattle.fk_wire.specs.Replies.{SpellsReplyAt};
+ghost use Rattle.fk_wire.specs.Replies.{ReplyMessage as CodecReply};
 ghost use Rattle.fuse_protocol.specs.declared.agreed.Agreed.{Agreed};
 ghost use Rattle.fuse_protocol.specs.declared.fault.ShapeFault.{ShapeFault};
 ghost use Rattle.fuse_protocol.specs.Faults.{FaultIs};
 ghost use Rattle.fuse_protocol.specs.Requests.{request_message};
 ghost use Rattle.protocol_law.specs.Law.{Carries, IsReadAlike, AreAlike};
+ghost use Rattle.protocol_law.specs.ReplyLaw.{IsRepliedAlike};
 
 use fk_wire::{Minor, Request as CodecRequest, WireFault, read_request_at};
 use fuse_protocol::{Agreed, Request, ShapeFault, read_request};
@@ -25,6 +29,15 @@ pub fn spelled_is_read_alike()
         → SpellsAt minor bytes m → IsReadAlike agreed bytes m }
     ensures refused { (minor : Minor) (agreed : Agreed) (bytes : List ℕ) (f : ShapeFault) (m : CodecMessage)
         → Carries agreed → FaultIs agreed bytes f → SpellsAt minor bytes m → ⊥ }
+{}
+
+/// What the codec spells as a reply is a reply of the table's row that says the same: the error, the node and
+/// the attributes of each entry, handles, counts, data and records. The table also looks at how many bytes
+/// were asked for, which the codec is not told.
+pub fn spelled_reply_is_read_alike()
+    ensures { (minor : Minor) (agreed : Agreed) (o : CodecOpcode) (asked : ℕ) (bytes : List ℕ) (t : CodecReply)
+        → Carries agreed → length bytes ≤ asked + 16 → SpellsReplyAt minor o bytes t
+        → IsRepliedAlike agreed o asked bytes t }
 {}
 
 /// Reads a frame twice, as the codec does and by the table.
