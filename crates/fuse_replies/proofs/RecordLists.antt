@@ -18,7 +18,8 @@ pub no_more_plus : (place : ℕ) (bytes : List ℕ) → is_whole true place byte
 no_more_plus place bytes e = ap (map (entry_record_at bytes)) (no_record true place bytes e)
 
 pub one_more_plus : (place : ℕ) (bytes : List ℕ) → is_whole true place bytes ≡ true
-    → entry_records_from place bytes ≡ entry_record_at bytes place ∷ entry_records_from (record_end true place bytes) bytes
+    → entry_records_from place bytes
+    ≡ entry_record_at bytes place ∷ entry_records_from (record_end true place bytes) bytes
 one_more_plus place bytes e = ap (map (entry_record_at bytes)) (one_record true place bytes e)
 
 -- There are fewer behind a record.

@@ -36,7 +36,8 @@ enough plus (suc most) (suc more) place bytes h k = elim (cases (is_whole plus p
 pub no_record : (plus : Bool) (place : ℕ) (bytes : List ℕ) → is_whole plus place bytes ≡ false
     → record_places plus place bytes ≡ []
 unfolding record_places places_from
-no_record plus place bytes e = enough plus (length bytes - place) (suc (length bytes)) place bytes (omega arith) (omega arith) ∙ rw e refl
+no_record plus place bytes e =
+    enough plus (length bytes - place) (suc (length bytes)) place bytes (omega arith) (omega arith) ∙ rw e refl
 
 -- Where one begins it is the first, and the others follow it.
 pub one_record : (plus : Bool) (place : ℕ) (bytes : List ℕ) → is_whole plus place bytes ≡ true

@@ -32,7 +32,8 @@ is_inside : (plus : Bool) (place : ℕ) (bytes : List ℕ) → record_end plus p
     → is_whole plus place bytes ≡ true
 is_inside plus place bytes le =
     let head : place + (front plus + 24) ≤ length bytes = omega (arith, le) in
-    rw (le-leb (place + (front plus + 24)) (length bytes) head, le-leb (record_end plus place bytes) (length bytes) le) refl
+    let end = le-leb (record_end plus place bytes) (length bytes) le in
+    rw (le-leb (place + (front plus + 24)) (length bytes) head, end) refl
 
 pub listed : (count place : ℕ) (bytes : List ℕ) → end_from false count place bytes ≡ length bytes
     → map dirent_said (records_from place bytes) ≡ dirents_from count place bytes
@@ -44,8 +45,10 @@ listed (suc count) place bytes e =
     let whole = is_inside false place bytes (omega (arith, there, within, e)) in
     let rest : map dirent_said (records_from (record_end false place bytes) bytes)
     ≡ dirents_from count (codec_end false place bytes) bytes =
-    ap (λ (n : ℕ). map dirent_said (records_from n bytes)) (sym there) ∙ listed count (codec_end false place bytes) bytes e in
-    ap (map dirent_said) (one_more place bytes whole) ∙ ap (λ (ds : List DirentContent). dirent_said (record_at bytes place) ∷ ds) rest
+    ap (λ (n : ℕ). map dirent_said (records_from n bytes)) (sym there)
+    ∙ listed count (codec_end false place bytes) bytes e in
+    ap (map dirent_said) (one_more place bytes whole)
+    ∙ ap (λ (ds : List DirentContent). dirent_said (record_at bytes place) ∷ ds) rest
 
 pub listed_plus : (count place : ℕ) (bytes : List ℕ) → end_from true count place bytes ≡ length bytes
     → map dirent_plus_said (entry_records_from place bytes) ≡ direntpluses_from count place bytes

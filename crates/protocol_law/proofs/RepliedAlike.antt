@@ -97,7 +97,8 @@ is_wanted (create_reply e fh) x = absurd cc
 is_wanted (records_reply ds) x = absurd cc
 is_wanted (plus_reply ps) x = absurd cc
 
-known : {K : Type 0} (knows : Bool) (found : Option K) (k : K) → (if knows then found else None) ≡ Some k → found ≡ Some k
+known : {K : Type 0} (knows : Bool) (found : Option K) (k : K) → (if knows then found else None) ≡ Some k
+    → found ≡ Some k
 known true found k e = e
 known false found k e = absurd cc
 
@@ -178,7 +179,8 @@ error_in_range (pos n) word good e = inl (omega (arith, ints, e, good.0))
 error_in_range (negsuc n) word good e = inr (omega (arith, ints, e, good.1))
 
 -- Behind an error nothing stands.
-empty_is : (s : ReplyContent) (bytes : List ℕ) → kind_of_content s ≡ kind_of_content empty_reply → ReadsAs 16 (reply_body s) bytes
+empty_is : (s : ReplyContent) (bytes : List ℕ) → kind_of_content s ≡ kind_of_content empty_reply
+    → ReadsAs 16 (reply_body s) bytes
     → length bytes ≡ 16
 empty_is empty_reply bytes e h = h
 empty_is (entry_reply x) bytes e h = absurd cc

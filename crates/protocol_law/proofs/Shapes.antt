@@ -15,7 +15,8 @@ use Rattle.fuse_protocol.specs.Requests.{IsRequest, RequestMessage, IsTail, name
 use Rattle.protocol_law.specs.Law.{Carries}
 
 -- the request of an opcode's row that a frame holds, with these names and this tail
-abbrev pub request_in : (agreed : Agreed) (o : Opcode) (bytes : List ℕ) (names : List (List ℕ)) (tail : List ℕ) → RequestMessage
+abbrev pub request_in : (agreed : Agreed) (o : Opcode) (bytes : List ℕ) (names : List (List ℕ)) (tail : List ℕ)
+    → RequestMessage
 request_in agreed o bytes names tail = record {
   unique = number_at 8 8 bytes;
   nodeid = number_at 16 8 bytes;
@@ -35,13 +36,15 @@ pub record HasHeader (bytes : List ℕ) (o : Opcode) : Type 0 where
   pub opcode : number_at 4 4 bytes ≡ code_of o
 
 -- Behind the struct stand names and a tail.
-pub record HasParts (agreed : Agreed) (bytes : List ℕ) (o : Opcode) (names : List (List ℕ)) (tail : List ℕ) : Type 0 where
+pub record HasParts (agreed : Agreed) (bytes : List ℕ) (o : Opcode) (names : List (List ℕ))
+    (tail : List ℕ) : Type 0 where
   pub whole : names_from agreed (row_at o) ≤ length bytes
   pub parts : drop (names_from agreed (row_at o)) bytes ≡ spelled names ++ tail
   pub has_names : AreNames agreed (rules_of (row_at o).names) names
   pub has_tail : IsTail (row_at o).tail bytes tail
 
-pub is_request : (agreed : Agreed) (bytes : List ℕ) (o : Opcode) (names : List (List ℕ)) (tail : List ℕ) → Carries agreed
+pub is_request : (agreed : Agreed) (bytes : List ℕ) (o : Opcode) (names : List (List ℕ)) (tail : List ℕ)
+    → Carries agreed
     → HasHeader bytes o → HasParts agreed bytes o names tail
     → IsRequest agreed bytes (row_at o) (request_in agreed o bytes names tail)
 is_request agreed bytes o names tail fits head has =
