@@ -1,8 +1,8 @@
 //! INIT, by which the two sides agree.
 
-ghost use Rattle.std.specs.Prelude.{◌≡◌, ◌<◌, ◌^◌, IfOk, IsOk};
+ghost use Rattle.std.specs.Prelude.{◌≡◌, ◌<◌, ◌^◌, IfOk, IfErr, IsOk};
 ghost use Rattle.fuse_protocol.specs.Init.{init_request_at, init_reply_at, number_or_none, wide_flags as wide_flags_of};
-ghost use Rattle.fuse_protocol.specs.Inits.{IsInit};
+ghost use Rattle.fuse_protocol.specs.Inits.{IsInit, InitFaultIs};
 
 use crate::agreed::BEFORE_INIT;
 use crate::fault::ShapeFault;
@@ -101,14 +101,16 @@ pub fn read_init(bytes: &[u8]) -> Result<InitRequest, ShapeFault>
     ensures ok { IfOk result (λ init. IsInit bytes.now × (init ≡ init_request_at bytes.now)) }
     // Each such request is read.
     ensures only { IsInit bytes.now → IsOk result }
+    // Else the frame has a fault, or another opcode.
+    ensures fault { IfErr result (InitFaultIs bytes.now) }
 {
     let request = match read_request(BEFORE_INIT, bytes) {
         Ok(request) => request,
         Err(fault) => return Err(fault),
     };
-    if !matches!(request.head.opcode, Opcode::Init) {
+    let Opcode::Init = request.head.opcode else {
         return Err(ShapeFault::Opcode);
-    }
+    };
     Ok(InitRequest {
         major: u32_at(bytes, 40),
         minor: u32_at(bytes, 44),
