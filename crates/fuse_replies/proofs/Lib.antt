@@ -1,0 +1,2 @@
+pub mod RecordPlaces
+pub mod RecordLists

@@ -1,0 +1,4 @@
+pub mod Shapes
+pub mod Alike
+pub mod Listings
+pub mod RepliedAlike
