@@ -1,0 +1,161 @@
+-- What a kernel, a server and a device must not do: for each act the fault that it has after a session. The names of the
+-- faults are those that are printed. Sources: linux/fuse.h, the kernel's fuse.rst and dev.c, libfuse's low-level notes.
+use Rattle.std.specs.Prelude.{◌≡◌, ◌≢◌, ◌≤◌, ◌<◌, ◌⊎◌, ◌↔◌, ℕ, ◌+◌, ◌%◌, max, Bool, true, false, List, [], ◌∷◌, ◌++◌, Option, Some, None, IsTrue, IsFalse, slice_get, take}
+use Rattle.fuse_protocol.specs.declared.opcode.Opcode.{Opcode}
+use Rattle.fuse_protocol.specs.declared.opcode.Opcode.TheVariants as op
+use Rattle.fuse_sessions.specs.declared.act.Act.{Act}
+use Rattle.fuse_sessions.specs.declared.act.Act.TheVariants as act
+use Rattle.fuse_sessions.specs.declared.act.Asked.{Asked}
+use Rattle.fuse_sessions.specs.declared.act.File.{File}
+use Rattle.fuse_sessions.specs.declared.act.OpenFile.{OpenFile}
+use Rattle.fuse_sessions.specs.declared.act.Taken.{Taken}
+use Rattle.fuse_sessions.specs.declared.act.Taken.TheVariants as taken
+use Rattle.fuse_sessions.specs.declared.fault.Fault.{Fault}
+use Rattle.fuse_sessions.specs.declared.fault.Fault.TheVariants as fault
+use Rattle.fuse_sessions.specs.Sessions.{Session, latest}
+use Rattle.fuse_sessions.specs.Waiting.{waits, is_named, is_used}
+use Rattle.fuse_sessions.specs.Numbers.{was_read, was_forget, is_out_of_order, was_anything_read, has_agreed, has_several_readers, interrupts, agains, has_ended}
+use Rattle.fuse_sessions.specs.Counts.{least_count, most_count, known}
+use Rattle.fuse_sessions.specs.OpenFiles.{opened, MayUse, HasOpen}
+
+-- The first request is INIT, there is no other, and none comes before INIT is accepted.
+abbrev pub BreaksBeginning : Session → Opcode → Fault → Type 0
+BreaksBeginning s op.Init fault.InitNotFirst = IsTrue (was_anything_read s)
+BreaksBeginning s op.Init f = ⊥
+BreaksBeginning s opcode fault.RequestBeforeInit = IsFalse (has_agreed s)
+BreaksBeginning s opcode f = ⊥
+
+-- Numbers are even, none is read twice, and where one thread reads they rise: a FORGET's, which is drawn as it is read,
+-- is above those of requests too.
+abbrev pub BreaksNumber : Session → ℕ → Fault → Type 0
+BreaksNumber s unique fault.OddNumber = unique % 2 ≡ 1
+BreaksNumber s unique fault.NumberUsedTwice = (unique % 2 ≡ 0) × IsTrue (was_read s unique)
+BreaksNumber s unique fault.NumberOutOfOrder = (unique % 2 ≡ 0) × IsFalse (was_read s unique)
+    × IsFalse (has_several_readers s) × IsTrue (is_out_of_order s unique)
+BreaksNumber s unique f = ⊥
+
+-- An INTERRUPT is of a request that waits, has its number with the lowest bit set, and comes once, and once again after
+-- each EAGAIN. (fuse.rst)
+abbrev pub BreaksInterrupt : Session → (unique original : ℕ) → Fault → Type 0
+BreaksInterrupt s unique original fault.InterruptOfNothing = waits s original ≡ None
+BreaksInterrupt s unique original fault.InterruptUnderAnotherNumber = (waits s original ≢ None) × (unique ≢ original + 1)
+BreaksInterrupt s unique original fault.InterruptTooOften = (waits s original ≢ None) × (unique ≡ original + 1)
+    × (agains s original < interrupts s original)
+BreaksInterrupt s unique original f = ⊥
+
+-- A node that a request names is the root, or counted.
+abbrev pub BreaksName : Session → ℕ → Fault → Type 0
+BreaksName s node fault.NodeNotCounted = (node ≢ 1) × (most_count s node ≡ 0)
+BreaksName s node f = ⊥
+
+-- Something uses a node: a request that waits names it, or it is open.
+abbrev pub IsInUse : Session → ℕ → Type 0
+IsInUse s node = IsTrue (is_named s node) ⊎ HasOpen s node
+
+-- The root is never forgotten; a forget is of some lookups, of no more than are counted, and of the last ones only where
+-- nothing uses the node. (libfuse, low-level: forget)
+abbrev pub BreaksForget : Session → (node lookups : ℕ) → Fault → Type 0
+BreaksForget s node lookups fault.ForgetOfTheRoot = node ≡ 1
+BreaksForget s node lookups fault.ForgetOfNoLookup = (node ≢ 1) × (lookups ≡ 0)
+BreaksForget s node lookups fault.ForgetOfMoreThanIsCounted = (node ≢ 1) × (most_count s node < lookups)
+BreaksForget s node lookups fault.ForgetOfANodeInUse = (node ≢ 1) × (0 < lookups) × (most_count s node ≡ lookups)
+    × IsInUse s node
+BreaksForget s node lookups f = ⊥
+
+-- An open file that a request uses is open.
+abbrev pub BreaksUse : Session → OpenFile → Fault → Type 0
+BreaksUse s file fault.HandleNotOpen = ¬ MayUse s file
+BreaksUse s file f = ⊥
+
+-- What is released is open, and as it is released last no request that waits uses it. (libfuse, low-level: release)
+abbrev pub BreaksRelease : Session → OpenFile → Fault → Type 0
+BreaksRelease s file fault.ReleaseOfWhatIsNotOpen = ¬ MayUse s file
+BreaksRelease s file fault.ReleaseBesideAUse = (opened s file ≡ 1) × IsTrue (is_used s file)
+BreaksRelease s file f = ⊥
+
+-- how many bytes a WRITE may have: Linux takes 4,096 where fewer are said
+abbrev pub agreed_write : Act → Option ℕ
+agreed_write (act.Agrees max_write) = Some max_write
+agreed_write a = None
+
+abbrev pub or_page : Option ℕ → ℕ
+or_page None = 4096
+or_page (Some max_write) = max max_write 4096
+
+abbrev pub BreaksWrite : Session → ℕ → Fault → Type 0
+BreaksWrite s size fault.WriteTooLarge = or_page (latest agreed_write s) < size
+BreaksWrite s size f = ⊥
+
+-- The device accepts a reply exactly where a request waits for it, its body is one to that request, and the connection
+-- has not ended. (linux/fs/fuse/dev.c, fuse_dev_do_write)
+abbrev pub BreaksTaking : Session → ℕ → Taken → Bool → Fault → Type 0
+BreaksTaking s unique taken.Accepted fits fault.AcceptedAfterTheEnd = IsTrue (has_ended s)
+BreaksTaking s unique taken.Accepted fits fault.AcceptedReplyToNothing = IsFalse (has_ended s) × (waits s unique ≡ None)
+BreaksTaking s unique taken.Accepted false fault.AcceptedWrongBody = IsFalse (has_ended s) × (waits s unique ≢ None)
+BreaksTaking s unique taken.Invalid true fault.RefusedReply = IsFalse (has_ended s) × (waits s unique ≢ None)
+BreaksTaking s unique t fits f = ⊥
+
+-- A reply answers a request that waits.
+abbrev pub BreaksReply : Session → ℕ → Fault → Type 0
+BreaksReply s unique fault.ReplyToForget = (waits s unique ≡ None) × IsTrue (was_forget s unique)
+BreaksReply s unique fault.SecondReply = (waits s unique ≡ None) × IsFalse (was_forget s unique)
+    × IsTrue (was_read s unique)
+BreaksReply s unique fault.ReplyToNothing = (waits s unique ≡ None) × IsFalse (was_read s unique)
+BreaksReply s unique f = ⊥
+
+-- A reply to an INTERRUPT is of a request that was read, and of an INTERRUPT while that request waits. Once the request
+-- is answered it is no fault, since the server may have met them the other way round.
+abbrev pub BreaksReplyToInterrupt : Session → ℕ → Fault → Type 0
+BreaksReplyToInterrupt s original fault.ReplyToNothing = IsFalse (was_read s original)
+BreaksReplyToInterrupt s original fault.ReplyToNoInterrupt = IsTrue (was_read s original) × (waits s original ≢ None)
+    × (interrupts s original ≡ 0)
+BreaksReplyToInterrupt s original f = ⊥
+
+-- A node that is counted stays of one file. (linux/fuse.h: nodeid and generation are unique)
+abbrev pub BreaksGift : Session → ℕ → File → Fault → Type 0
+BreaksGift s node file fault.NodeOfTwoGenerations = (0 < least_count s node)
+    × (old : File) × (known s node ≡ Some old) × (old.generation ≢ file.generation)
+BreaksGift s node file fault.NodeOfTwoKinds = (0 < least_count s node)
+    × (old : File) × (known s node ≡ Some old) × (old.generation ≡ file.generation) × (old.kind ≢ file.kind)
+BreaksGift s node file fault.NodeOfTwoInodeNumbers = (0 < least_count s node)
+    × (old : File) × (known s node ≡ Some old) × (old.generation ≡ file.generation) × (old.kind ≡ file.kind)
+    × (old.ino ≢ file.ino)
+BreaksGift s node file f = ⊥
+
+-- And so do its attributes.
+abbrev pub BreaksAttributes : Session → (node kind ino : ℕ) → Fault → Type 0
+BreaksAttributes s node kind ino fault.NodeOfTwoKinds = (0 < least_count s node)
+    × (old : File) × (known s node ≡ Some old) × (old.kind ≢ kind)
+BreaksAttributes s node kind ino fault.NodeOfTwoInodeNumbers = (0 < least_count s node)
+    × (old : File) × (known s node ≡ Some old) × (old.kind ≡ kind) × (old.ino ≢ ino)
+BreaksAttributes s node kind ino f = ⊥
+
+-- No request is read once the connection has ended.
+abbrev pub BreaksArrival : Session → Fault → Type 0
+BreaksArrival s fault.ReadAfterTheEnd = IsTrue (has_ended s)
+BreaksArrival s f = ⊥
+
+-- The next act of a session has this fault.
+abbrev pub Breaks : Session → Act → Fault → Type 0
+Breaks s (act.Faulty that) f = f ≡ that
+Breaks s act.Arrives f = BreaksArrival s f
+Breaks s (act.Begins opcode) f = BreaksBeginning s opcode f
+Breaks s (act.Read opcode unique) f = BreaksNumber s unique f
+Breaks s (act.Interrupts unique original) f = BreaksInterrupt s unique original f
+Breaks s (act.Names node) f = BreaksName s node f
+Breaks s (act.Forgets node lookups) f = BreaksForget s node lookups f
+Breaks s (act.Uses file) f = BreaksUse s file f
+Breaks s (act.Releases file) f = BreaksRelease s file f
+Breaks s (act.Writes size) f = BreaksWrite s size f
+Breaks s (act.Takes unique t fits) f = BreaksTaking s unique t fits f
+Breaks s (act.Replies unique t) f = BreaksReply s unique f
+Breaks s (act.RepliesToInterrupt original is_again t) f = BreaksReplyToInterrupt s original f
+Breaks s (act.Gives node file is_certain) f = BreaksGift s node file f
+Breaks s (act.Describes node kind ino) f = BreaksAttributes s node kind ino f
+Breaks s other f = ⊥
+
+-- Of the next acts, the one at this place has this fault.
+pub record HasFaultAt (s : Session) (acts : List Act) (place : ℕ) (f : Fault) : Type 0 where
+  pub act : Act
+  pub stands : slice_get acts place ≡ Some act
+  pub breaks : Breaks (s ++ take place acts) act f

@@ -1,0 +1,136 @@
+//! What is done at a device, act after act.
+
+use fuse_protocol::Opcode;
+
+/// What an open file was opened by: OPEN, CREATE or TMPFILE, or else OPENDIR.
+#[derive(Clone, Copy, Debug, PartialEq, Eq)]
+pub enum OpenKind {
+    File,
+    Directory,
+}
+
+/// An open file, as requests name it: by its node and the server's file handle.
+#[derive(Clone, Copy, Debug, PartialEq, Eq)]
+pub struct OpenFile {
+    pub kind: OpenKind,
+    pub nodeid: u64,
+    pub fh: u64,
+}
+
+/// What must stay as it is while a node is counted.
+#[derive(Clone, Copy, Debug, PartialEq, Eq)]
+pub struct File {
+    pub generation: u64,
+    /// Regular file, directory or another: the type's bits of a mode.
+    pub kind: u32,
+    pub ino: u64,
+}
+
+/// A request that takes a reply, as far as others are judged by it.
+#[derive(Clone, Copy, Debug, PartialEq, Eq)]
+pub struct Asked {
+    pub opcode: Opcode,
+    /// How many bytes its reply may have or say; 0 where it asks for none.
+    pub asked: u32,
+    /// The node that it names, or 0.
+    pub nodeid: u64,
+    /// The further node that it names, or 0: RENAME's new directory, LINK's old node, where a range is copied to.
+    pub other: u64,
+    /// The open file that it uses.
+    pub uses: Option<OpenFile>,
+    /// The open file to which it copies.
+    pub copies_to: Option<OpenFile>,
+}
+
+/// What the device made of a frame that the server wrote.
+#[derive(Clone, Copy, Debug, PartialEq, Eq)]
+pub enum Taken {
+    Accepted,
+    /// ENOENT: no request waits for it.
+    NoEntry,
+    /// EINVAL: it is no reply, or no reply to its request.
+    Invalid,
+    /// Another error.
+    Failed,
+}
+
+/// One act at the device. What goes over it at once is a few of them, one after another: a RENAME is read, asks and
+/// names two nodes; a BATCH_FORGET forgets a node for each of its pairs; a READDIRPLUS's reply gives a node for each of
+/// its records.
+#[derive(Clone, Copy, Debug)]
+pub enum Act {
+    /// A frame is a fault in itself, or beside the request that it answers.
+    Faulty(super::fault::Fault),
+
+    // Of the kernel.
+    /// A request is read.
+    Arrives,
+    /// It is INIT, or another.
+    Begins(Opcode),
+    /// It has this number; FORGETs and BATCH_FORGETs too, but no INTERRUPT and no NOTIFY_REPLY.
+    Read {
+        opcode: Opcode,
+        unique: u64,
+    },
+    /// It takes a reply.
+    Asks {
+        unique: u64,
+        asked: Asked,
+    },
+    /// An INTERRUPT is read.
+    Interrupts {
+        unique: u64,
+        original: u64,
+    },
+    /// A request names a node.
+    Names(u64),
+    /// This many lookups of a node are forgotten.
+    Forgets(u64, u64),
+    /// A request uses an open file.
+    Uses(OpenFile),
+    /// An open file is released.
+    Releases(OpenFile),
+    /// A WRITE has this many bytes.
+    Writes(u32),
+
+    // Of the server and the device.
+    /// The device takes a reply under a number, or refuses it; the reply is one to its request or not.
+    Takes {
+        unique: u64,
+        taken: Taken,
+        fits: bool,
+    },
+    /// A reply is written under a number.
+    Replies {
+        unique: u64,
+        taken: Taken,
+    },
+    /// A reply to the INTERRUPT of a request is written; EAGAIN or another.
+    RepliesToInterrupt {
+        original: u64,
+        is_again: bool,
+        taken: Taken,
+    },
+    /// INIT's reply agrees on WRITEs of at most this many bytes.
+    Agrees(u32),
+    /// An entry gives a node, which is of this file. Whether the kernel counts it is certain, or not.
+    Gives {
+        nodeid: u64,
+        file: File,
+        is_certain: bool,
+    },
+    /// Attributes say a node's kind and inode number.
+    Describes {
+        nodeid: u64,
+        kind: u32,
+        ino: u64,
+    },
+    /// A file is open under a file handle.
+    Opens(OpenFile),
+    /// The server opens none of this kind: ENOSYS. From then on requests have file handle 0.
+    OpensNone(OpenKind),
+    /// More than one thread reads the device.
+    SeveralReaders,
+    /// The device comes to its end.
+    Ends,
+}
