@@ -112,6 +112,9 @@ test:
 		if [ $$status = 0 ]; then sh tests/run_sides.sh; status=$$?; fi; \
 		if [ $$status = 0 ]; then sh tests/run_draw.sh; status=$$?; fi; \
 		if [ $$status = 0 ]; then python3 tests/run_tutorial.py; status=$$?; fi; \
+		if [ $$status = 0 ]; then sh tests/protocol_sizes.sh; status=$$?; fi; \
+		if [ $$status = 0 ]; then python3 tests/row_frames.py; status=$$?; fi; \
+		if [ $$status = 0 ]; then python3 tests/colliding_keys.py; status=$$?; fi; \
 		if [ $$status = 0 ]; then sh tests/codec_library.sh; status=$$?; fi; \
 		if [ $$status = 0 ]; then python3 tests/check_commands.py; status=$$?; fi; \
 		if [ $$status = 0 ]; then python3 tests/serve_frames.py; status=$$?; fi; \

@@ -27,7 +27,9 @@ WORDS = {"must-fail", "not-run", "proves", "_at"}
 OF_LINUX = {"PROTOCOL.md", "DIFFERENCES.md", "WORDS.md"}
 # What comments may name without backticks: names of linux/fuse.h and of open(2) and socket(2) in capitals, its structs, and these
 # fields of them.
-CAPITALS = re.compile(r"(FUSE|O|SOCK)_[A-Z0-9_]+|BATCH_FORGET|NOTIFY_REPLY|ASYNC_READ|DO_READDIRPLUS|PARALLEL_DIROPS")
+CAPITALS = re.compile(r"(FUSE|O|SOCK|RENAME)_[A-Z0-9_]+")
+FLAGS = set("ASYNC_READ DO_READDIRPLUS EXPORT_SUPPORT INIT_EXT MAX_PAGES PARALLEL_DIROPS SETXATTR_EXT".split())
+CODES = set(re.findall(r'codes "(\w+)"', "".join(file.read_text() for file in TOP.glob("crates/fuse_*/specs/*Table.antt"))))
 FIELDS = set("""attr_valid attr_valid_nsec congestion_threshold entry_out entry_valid entry_valid_nsec getattr_flags lock_owner
     map_alignment max_background max_pages max_readahead max_write open_flags read_flags release_flags time_gran
     write_flags""".split())
@@ -137,7 +139,7 @@ def comments(file):
     return [(first, re.sub(r"`[^`]*`", "`", text)) for first, _, text in found]
 
 def is_of_linux(word):
-    return CAPITALS.fullmatch(word) or word in FIELDS or word.startswith("fuse_") and word[5:] in STRUCTS
+    return CAPITALS.fullmatch(word) or word.rstrip("s") in FLAGS | CODES or word in FIELDS or word.startswith("fuse_") and word[5:] in STRUCTS
 
 def comment_faults():
     refused = refused_words()

@@ -73,7 +73,7 @@ HasName agreed (tail.Name at) place bytes = IsNameBy agreed rule.Listed (name_fr
     × (slice_index bytes (length bytes - 1) ≡ 0)
 HasName agreed _ place bytes = Unit {0}
 
--- What a frame of a kind says, by the structs fuse_notify_.._out of linux/fuse.h.
+-- What a frame of a kind says, by the structs `fuse_notify_.._out` of linux/fuse.h.
 abbrev pub notification_at : NotificationKind → List ℕ → NotificationContent
 -- kh
 notification_at kind.Poll bytes = poll (number_at 16 8 bytes)
@@ -84,7 +84,7 @@ notification_at kind.InvalInode bytes = inval_inode (number_at 16 8 bytes) (cast
 notification_at kind.InvalEntry bytes = inval_entry (number_at 16 8 bytes) (number_at 28 4 bytes) (name_from 32 bytes)
 -- nodeid, offset, size, padding, and the data
 notification_at kind.Store bytes = store (number_at 16 8 bytes) (number_at 24 8 bytes) (drop 40 bytes)
--- notify_unique, nodeid, offset, size, padding
+-- `notify_unique`, nodeid, offset, size, padding
 notification_at kind.Retrieve bytes = retrieve (number_at 16 8 bytes) (number_at 24 8 bytes) (number_at 32 8 bytes)
     (number_at 40 4 bytes)
 -- parent, child, namelen, padding, and the name

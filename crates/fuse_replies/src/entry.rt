@@ -6,7 +6,7 @@ ghost use Rattle.fuse_replies.specs.Entries.{valid_attributes_at as valid_attrib
 
 use fk_fields::{u32_at, u64_at};
 
-/// For how long the kernel may keep what it was told.
+/// For how long the kernel may keep what it was given.
 #[derive(Clone, Copy, Debug, PartialEq, Eq)]
 pub struct Validity {
     pub seconds: u64,

@@ -1,4 +1,4 @@
-//! Notifications: what a server tells without being asked.
+//! Notifications: what a server sends unasked.
 
 ghost use Rattle.std.specs.Prelude.{◌≡◌, ◌≢◌, MatchOption};
 ghost use Rattle.fuse_replies.specs.NotificationTable.{code_of, name_of};

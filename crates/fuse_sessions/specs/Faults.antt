@@ -25,7 +25,7 @@ BreaksBeginning s op.Init f = ⊥
 BreaksBeginning s opcode fault.RequestBeforeInit = IsFalse (has_agreed s)
 BreaksBeginning s opcode f = ⊥
 
--- Numbers are even, none is read twice, and where one thread reads they rise: a FORGET's, which is drawn as it is read,
+-- Numbers are even, none is read twice, and where one thread reads they rise: a FORGET's, which is numbered as it is read,
 -- is above those of requests too.
 abbrev pub BreaksNumber : Session → ℕ → Fault → Type 0
 BreaksNumber s unique fault.OddNumber = unique % 2 ≡ 1
@@ -87,7 +87,7 @@ BreaksWrite s size fault.WriteTooLarge = or_page (latest agreed_write s) < size
 BreaksWrite s size f = ⊥
 
 -- The device accepts a reply exactly where a request waits for it, its body is one to that request, and the connection
--- has not ended. (linux/fs/fuse/dev.c, fuse_dev_do_write)
+-- has not ended. (linux/fs/fuse/dev.c, `fuse_dev_do_write`)
 abbrev pub BreaksTaking : Session → ℕ → Taken → Bool → Fault → Type 0
 BreaksTaking s unique taken.Accepted fits fault.AcceptedAfterTheEnd = IsTrue (has_ended s)
 BreaksTaking s unique taken.Accepted fits fault.AcceptedReplyToNothing = IsFalse (has_ended s) × (waits s unique ≡ None)

@@ -9,7 +9,7 @@ use Rattle.fuse_sessions.specs.declared.act.Taken.TheVariants as taken
 use Rattle.fuse_sessions.specs.Sessions.{Session, Moment, moments, since}
 use Rattle.fuse_sessions.specs.Waiting.{reaches, waits}
 
--- Requests that take no reply draw their numbers as they are read.
+-- Requests that take no reply are numbered as they are read.
 abbrev pub is_forget : Opcode → Bool
 is_forget op.Forget = true
 is_forget op.BatchForget = true
@@ -36,7 +36,7 @@ abbrev pub reads_request_from : ℕ → Act → Bool
 reads_request_from unique (Read opcode number) = not (nat_lt number unique) && not (is_forget opcode)
 reads_request_from unique act = false
 
--- A request was read whose number is not below this one. A FORGET draws its number as it is read, above those of
+-- A request was read whose number is not below this one. A FORGET is numbered as it is read, above those of
 -- requests that are queued: so it is compared with requests alone.
 abbrev pub is_out_of_order : Session → ℕ → Bool
 is_out_of_order s unique = list_any (reads_request_from unique) s

@@ -13,7 +13,7 @@ use Rattle.fuse_sessions.specs.declared.act.Taken.TheVariants as taken
 use Rattle.fuse_sessions.specs.Sessions.{Session}
 
 -- A written reply ends its request, whatever the device makes of its body, unless the device found no request.
--- (linux/fs/fuse/dev.c, fuse_dev_do_write)
+-- (linux/fs/fuse/dev.c, `fuse_dev_do_write`)
 abbrev pub reaches : Taken → Bool
 reaches taken.NoEntry = false
 reaches _ = true
