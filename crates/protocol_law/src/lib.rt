@@ -33,7 +33,7 @@ pub fn spelled_is_read_alike()
 
 /// What the codec spells as a reply is a reply of the table's row that says the same: the error, the node and
 /// the attributes of each entry, handles, counts, data and records. The table also looks at how many bytes
-/// were asked for, which the codec is not told.
+/// were asked for, which the codec does not know.
 pub fn spelled_reply_is_read_alike()
     ensures { (minor : Minor) (agreed : Agreed) (o : CodecOpcode) (asked : ℕ) (bytes : List ℕ) (t : CodecReply)
         → Carries agreed → length bytes ≤ asked + 16 → SpellsReplyAt minor o bytes t
