@@ -74,9 +74,11 @@ uninstall:
 		"$(DESTDIR)$(PREFIX)/include/fuseworld.h" "$(LIB)/libfuseworld_codec.a" "$(LIB)/$(SHARED)" "$(LIB)/$(SHARED).1" \
 		"$(LIB)/$(SHARED).$(CODEC_VERSION)" "$(LIB)/pkgconfig/fuseworld.pc"
 
-# What a line of a script costs, and how that grows with what the script lets grow. ARGS has further words, as --beside FILE.
+# What a line of a script costs, and how that grows with what the script lets grow; then what keys cost that a peer picks.
+# ARGS has further words, as --beside FILE.
 bench: build
 	@python3 tests/bench.py $(ARGS)
+	@python3 tests/colliding_keys.py
 
 # The scripts of examples/drive, on the servers of others whose packages are there.
 drive-tests: build
