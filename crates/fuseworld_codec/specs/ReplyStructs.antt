@@ -1,5 +1,5 @@
 -- What the struct of a reply says. Data stand in it as a place in bytes of the caller's.
-use Rattle.std.specs.Prelude.{◌≡◌, ◌≤◌, ◌+◌, ℕ, List, length}
+use Rattle.std.specs.Prelude.{◌≡◌, ◌≤◌, ◌+◌, ℕ, ℤ, List, length}
 use Rattle.std.specs.Int.RustNames.{bit_and}
 use Rattle.fk_wire.specs.Fields.{bytes_at}
 use Rattle.fk_wire.specs.Entries.{EntryContent, entry_of}
@@ -52,6 +52,60 @@ Replies r bytes (plus_reply ps) = AreRecordsPlus 0 (bytes_said r bytes) ps
 -- The struct is this reply.
 abbrev pub IsReplyStruct : FlatReply → List ℕ → ReplyMessage → Type 0
 IsReplyStruct r bytes t = (r.unique ≡ t.unique) × (r.error ≡ t.error) × Replies r bytes t.content
+
+-- no attributes, and no entry
+abbrev pub no_attr : FlatAttr
+no_attr = record { ino = 0; size = 0; mode = 0; nlink = 0 }
+
+abbrev pub no_entry : FlatEntry
+no_entry = record {
+  nodeid = 0;
+  generation = 0;
+  entry_valid = 0;
+  entry_valid_nsec = 0;
+  padding = 0;
+  attr = no_attr;
+}
+
+-- a struct of an opcode, with a unique and an error, that says nothing more
+abbrev pub reply_head : (opcode unique : ℕ) (error : ℤ) → FlatReply
+reply_head opcode unique error = record {
+  unique = unique;
+  error = error;
+  opcode = opcode;
+  entry = no_entry;
+  fh = 0;
+  data_offset = 0;
+  data_length = 0;
+  size = 0;
+  major = 0;
+  minor = 0;
+  flags = 0;
+}
+
+abbrev head_of : FlatReply → FlatReply
+head_of r = reply_head r.opcode r.unique r.error
+
+abbrev data_only : FlatReply → FlatReply
+data_only r = record (head_of r) { data_offset = r.data_offset; data_length = r.data_length }
+
+-- The struct with the fields that count for such a body, and of INIT's flags with those that are known. The others
+-- are 0.
+abbrev pub counted_reply : ReplyContent → FlatReply → FlatReply
+counted_reply empty_reply r = head_of r
+counted_reply (entry_reply e) r = record (head_of r) { entry = record r.entry { padding = 0 } }
+counted_reply (attr_reply a) r = record (head_of r) { entry = record no_entry { attr = r.entry.attr } }
+counted_reply (open_reply fh) r = record (head_of r) { fh = r.fh }
+counted_reply (bytes_reply data') r = data_only r
+counted_reply (write_reply size) r = record (head_of r) { size = r.size }
+counted_reply (init_reply major minor flags) r = record (head_of r) {
+  major = r.major;
+  minor = r.minor;
+  flags = bit_and r.flags known_flags;
+}
+counted_reply (create_reply e fh) r = record (head_of r) { entry = record r.entry { padding = 0 }; fh = r.fh }
+counted_reply (records_reply ds) r = data_only r
+counted_reply (plus_reply ps) r = data_only r
 
 -- The data of the struct lie within the bytes.
 abbrev pub HasReplyPlace : FlatReply → List ℕ → Type 0

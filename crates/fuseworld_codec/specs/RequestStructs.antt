@@ -52,6 +52,67 @@ abbrev pub HasPlaces : FlatRequest → List ℕ → Type 0
 HasPlaces r bytes = (r.name_offset + r.name_length ≤ length bytes)
     × (r.newname_offset + r.newname_length ≤ length bytes) × (r.data_offset + r.data_length ≤ length bytes)
 
+-- a struct of an opcode, with a unique and a node, that says nothing more
+abbrev pub request_head : (opcode unique nodeid : ℕ) → FlatRequest
+request_head opcode unique nodeid = record {
+  unique = unique;
+  nodeid = nodeid;
+  fh = 0;
+  offset = 0;
+  nlookup = 0;
+  newdir = 0;
+  oldnodeid = 0;
+  interrupted = 0;
+  name_offset = 0;
+  name_length = 0;
+  newname_offset = 0;
+  newname_length = 0;
+  data_offset = 0;
+  data_length = 0;
+  opcode = opcode;
+  size = 0;
+  major = 0;
+  minor = 0;
+  flags = 0;
+  padding = 0;
+}
+
+abbrev head_of : FlatRequest → FlatRequest
+head_of r = request_head r.opcode r.unique r.nodeid
+
+abbrev named_only : FlatRequest → FlatRequest
+named_only r = record (head_of r) { name_offset = r.name_offset; name_length = r.name_length }
+
+-- The struct with the fields that count for an opcode, and of INIT's flags with those that are known. The others are 0.
+abbrev pub counted : Opcode → FlatRequest → FlatRequest
+counted op.Lookup r = named_only r
+counted op.Forget r = record (head_of r) { nlookup = r.nlookup }
+counted op.Getattr r = head_of r
+counted op.Mkdir r = named_only r
+counted op.Unlink r = named_only r
+counted op.Rmdir r = named_only r
+counted op.Rename r = record (named_only r) {
+  newdir = r.newdir;
+  newname_offset = r.newname_offset;
+  newname_length = r.newname_length;
+}
+counted op.Link r = record (named_only r) { oldnodeid = r.oldnodeid }
+counted op.Open r = head_of r
+counted op.Read r = record (head_of r) { fh = r.fh; offset = r.offset; size = r.size }
+counted op.Write r = record (head_of r) {
+  fh = r.fh;
+  offset = r.offset;
+  data_offset = r.data_offset;
+  data_length = r.data_length;
+}
+counted op.Release r = record (head_of r) { fh = r.fh }
+counted op.Init r = record (head_of r) { major = r.major; minor = r.minor; flags = bit_and r.flags known_flags }
+counted op.Readdir r = record (head_of r) { offset = r.offset; size = r.size }
+counted op.Create r = named_only r
+counted op.Interrupt r = record (head_of r) { interrupted = r.interrupted }
+counted op.BatchForget r = record (head_of r) { data_offset = r.data_offset; data_length = r.data_length }
+counted op.Readdirplus r = record (head_of r) { offset = r.offset; size = r.size }
+
 -- whether a request of this opcode has one name and ends with it
 abbrev pub is_named : Opcode → Bool
 is_named op.Lookup = true

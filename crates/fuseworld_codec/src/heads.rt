@@ -19,6 +19,7 @@ pub extern "C" fn fuseworld_read_request_head(bytes: &[u8], out: &mut RequestHea
     ensures ok { result ≡ 0 → HasLength bytes.now × (out.new.opcode ≡ number_at 4 4 bytes.now)
         × (out.new.unique ≡ number_at 8 8 bytes.now) }
     ensures fault { (m : Minor) → result ≢ 0 → AnswersFault result (λ f. FaultIsAt m bytes.now f × IsHeadFault f) }
+    ensures padding { result ≡ 0 → out.new.padding ≡ 0 }
     ensures kept { result ≢ 0 → out.new ≡ out.old }
 {
     match read_request_head(bytes) {
@@ -41,6 +42,7 @@ pub extern "C" fn fuseworld_read_reply_head(bytes: &[u8], out: &mut ReplyHead) -
     ensures ok { result ≡ 0 → IsReplyHead bytes.now (record { error = out.new.error; unique = out.new.unique }) }
     ensures fault { (m : Minor) (o : Opcode) → result ≢ 0
         → AnswersFault result (λ f. ReplyFaultIsAt m o bytes.now f × IsReplyHeadFault f) }
+    ensures padding { result ≡ 0 → out.new.padding ≡ 0 }
     ensures kept { result ≢ 0 → out.new ≡ out.old }
 {
     match read_reply_head(bytes) {

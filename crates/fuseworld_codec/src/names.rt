@@ -60,7 +60,7 @@ fn fault_of(number: u32) -> Option<WireFault>
 pub extern "C" fn fuseworld_fault_name(fault: u32, buffer: &mut [u8]) -> usize
     ensures known { 1 ≤ fault → fault ≤ 6 → (f : WireFault) × (fault_number f ≡ fault)
         × (result ≡ length (fault_name f)) × HasText (fault_name f) buffer.old buffer.new }
-    ensures unknown { 6 < fault → (result ≡ 0) × (buffer.new ≡ buffer.old) }
+    ensures unknown { (1 ≤ fault → 6 < fault) → (result ≡ 0) × (buffer.new ≡ buffer.old) }
 {
     match fault_of(fault) {
         Some(known) => put_text(buffer, known.name().as_bytes()),

@@ -1,10 +1,10 @@
 //! Frames that are read.
 
 ghost use Rattle.std.specs.Prelude.{◌≡◌, ◌≢◌, IfOk, IfErr, IsOkAnd};
-ghost use Rattle.fk_wire.specs.Requests.{RequestMessage, SpellsAt};
+ghost use Rattle.fk_wire.specs.Requests.{RequestMessage, SpellsAt, opcode_of};
 ghost use Rattle.fk_wire.specs.Faults.{FaultIsAt};
 ghost use Rattle.fk_wire.specs.declared.opcode.Minor.{Minor};
-ghost use Rattle.fuseworld_codec.specs.RequestStructs.{IsRequestStruct};
+ghost use Rattle.fuseworld_codec.specs.RequestStructs.{HasPlaces, IsRequestStruct, counted};
 ghost use Rattle.fuseworld_codec.specs.Status.{AnswersFault, IsNoMinor, minor_number_of};
 
 use crate::layout::FlatRequest;
@@ -18,6 +18,9 @@ fn flat_request(version: Minor, bytes: &[u8]) -> Result<FlatRequest, WireFault>
     ensures ok { IfOk result (λ r. (m : RequestMessage) × SpellsAt version bytes.now m × IsRequestStruct r bytes.now m) }
     ensures only { (m : RequestMessage) → SpellsAt version bytes.now m
         → IsOkAnd result (λ r. IsRequestStruct r bytes.now m) }
+    ensures places { IfOk result (λ r. HasPlaces r bytes.now) }
+    ensures others { (m : RequestMessage) → SpellsAt version bytes.now m
+        → IsOkAnd result (λ r. r ≡ counted (opcode_of m.content) r) }
     ensures fault { IfErr result (FaultIsAt version bytes.now) }
 {
     match read_request_at(version, bytes) {
@@ -40,6 +43,10 @@ pub extern "C" fn fuseworld_read_request(minor: u32, bytes: &[u8], out: &mut Fla
     // What is spelled so is read.
     ensures only { (v : Minor) → minor_number_of v ≡ minor → (m : RequestMessage) → SpellsAt v bytes.now m
         → (result ≡ 0) × IsRequestStruct out.new bytes.now m }
+    // Its names and data lie within the frame, and the fields that do not count are 0.
+    ensures places { result ≡ 0 → HasPlaces out.new bytes.now }
+    ensures others { (v : Minor) → minor_number_of v ≡ minor → (m : RequestMessage) → SpellsAt v bytes.now m
+        → out.new ≡ counted (opcode_of m.content) out.new }
     // Else the answer is the first fault that applies, and the struct is as it was.
     ensures fault { (v : Minor) → minor_number_of v ≡ minor → result ≢ 0 → AnswersFault result (FaultIsAt v bytes.now) }
     ensures minor { IsNoMinor minor → result ≡ 8 }

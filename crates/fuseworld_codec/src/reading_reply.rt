@@ -6,7 +6,7 @@ ghost use Rattle.fk_wire.specs.Replies.{ReplyMessage, SpellsReplyAt};
 ghost use Rattle.fk_wire.specs.ReplyFaults.{ReplyFaultIsAt};
 ghost use Rattle.fk_wire.specs.declared.opcode.Minor.{Minor};
 ghost use Rattle.fk_wire.specs.declared.opcode.Opcode.{Opcode};
-ghost use Rattle.fuseworld_codec.specs.ReplyStructs.{IsReplyStruct};
+ghost use Rattle.fuseworld_codec.specs.ReplyStructs.{HasReplyPlace, IsReplyStruct, counted_reply};
 ghost use Rattle.fuseworld_codec.specs.Status.{AnswersFault, IsNoMinor, IsNoOpcode, minor_number_of};
 
 use crate::layout::FlatReply;
@@ -39,6 +39,9 @@ fn flat_reply(
     ensures only { (t : ReplyMessage) → SpellsReplyAt version opcode bytes.now t
         → IsOkAnd result (λ r. IsReplyStruct r bytes.now t) }
     ensures code { IfOk result (λ r. r.opcode ≡ code) }
+    ensures place { IfOk result (λ r. HasReplyPlace r bytes.now) }
+    ensures others { (t : ReplyMessage) → SpellsReplyAt version opcode bytes.now t
+        → IsOkAnd result (λ r. r ≡ counted_reply t.content r) }
     ensures fault { IfErr result (ReplyFaultIsAt version opcode bytes.now) }
 {
     match read_reply_at(version, opcode, bytes) {
@@ -67,6 +70,10 @@ pub extern "C" fn fuseworld_read_reply(
     // What is spelled so is read.
     ensures only { (v : Minor) (o : Opcode) → minor_number_of v ≡ minor → code_of o ≡ opcode → (t : ReplyMessage)
         → SpellsReplyAt v o bytes.now t → (result ≡ 0) × IsReplyStruct out.new bytes.now t }
+    // Its data lie within the frame, and the fields that do not count are 0.
+    ensures place { result ≡ 0 → HasReplyPlace out.new bytes.now }
+    ensures others { (v : Minor) (o : Opcode) → minor_number_of v ≡ minor → code_of o ≡ opcode → (t : ReplyMessage)
+        → SpellsReplyAt v o bytes.now t → out.new ≡ counted_reply t.content out.new }
     // Else the answer is the first fault that applies, and the struct is as it was.
     ensures fault { (v : Minor) (o : Opcode) → minor_number_of v ≡ minor → code_of o ≡ opcode → result ≢ 0
         → AnswersFault result (ReplyFaultIsAt v o bytes.now) }

@@ -4,7 +4,8 @@ ghost use Rattle.std.specs.Prelude.{◌≡◌, ◌≤◌, length};
 ghost use Rattle.fk_wire.specs.Fields.{ReadsAs};
 ghost use Rattle.fk_wire.specs.Entries.{entry_content};
 ghost use Rattle.fk_wire.specs.Replies.{HasReplyNames, IsReplyContent, reply_body, reply_content, reply_message};
-ghost use Rattle.fuseworld_codec.specs.ReplyStructs.{IsReplyStruct, attr_said, entry_said};
+ghost use Rattle.fuseworld_codec.specs.ReplyStructs.{HasReplyPlace, IsReplyStruct, attr_said, counted_reply};
+ghost use Rattle.fuseworld_codec.specs.ReplyStructs.{entry_said, no_entry, reply_head};
 
 use crate::layout::{FlatAttr, FlatEntry, FlatReply};
 use crate::request_fields::known_bits;
@@ -40,7 +41,8 @@ fn flat_attr(attr: Attr) -> FlatAttr
 }
 
 pub(crate) fn flat_entry(entry: Entry) -> FlatEntry
-    ensures { entry_said result ≡ entry_content entry }
+    ensures says { entry_said result ≡ entry_content entry }
+    ensures padding { result.padding ≡ 0 }
 {
     FlatEntry {
         nodeid: entry.nodeid,
@@ -54,7 +56,7 @@ pub(crate) fn flat_entry(entry: Entry) -> FlatEntry
 
 /// A struct of this opcode, with the reply's unique and error, that says nothing more.
 fn plain(opcode: u32, reply: &Reply<'_>) -> FlatReply
-    ensures { (result.opcode ≡ opcode) × (result.unique ≡ reply.now.unique) × (result.error ≡ reply.now.error) }
+    ensures { result ≡ reply_head opcode reply.now.unique reply.now.error }
 {
     FlatReply {
         unique: reply.unique,
@@ -73,9 +75,10 @@ fn plain(opcode: u32, reply: &Reply<'_>) -> FlatReply
 
 /// The struct of a reply whose data follow its header.
 fn with_data(opcode: u32, reply: &Reply<'_>, len: usize) -> FlatReply
-    ensures head { (result.opcode ≡ opcode) × (result.unique ≡ reply.now.unique)
-        × (result.error ≡ reply.now.error) }
-    ensures place { (result.data_offset ≡ 16) × (result.data_length ≡ len) }
+    ensures { result ≡ record (reply_head opcode reply.now.unique reply.now.error) {
+      data_offset = 16;
+      data_length = len;
+    } }
 {
     FlatReply {
         data_offset: 16,
@@ -86,9 +89,7 @@ fn with_data(opcode: u32, reply: &Reply<'_>, len: usize) -> FlatReply
 
 /// The struct of a reply with an entry, an open file or both.
 fn with_entry(opcode: u32, reply: &Reply<'_>, entry: FlatEntry, fh: u64) -> FlatReply
-    ensures head { (result.opcode ≡ opcode) × (result.unique ≡ reply.now.unique)
-        × (result.error ≡ reply.now.error) }
-    ensures file { (result.entry ≡ entry) × (result.fh ≡ fh) }
+    ensures { result ≡ record (reply_head opcode reply.now.unique reply.now.error) { entry = entry; fh = fh } }
 {
     FlatReply {
         entry,
@@ -99,7 +100,8 @@ fn with_entry(opcode: u32, reply: &Reply<'_>, entry: FlatEntry, fh: u64) -> Flat
 
 /// An entry of which only the attributes count.
 fn only_attr(attr: Attr) -> FlatEntry
-    ensures { attr_said result.attr ≡ attr }
+    ensures says { attr_said result.attr ≡ attr }
+    ensures others { result ≡ record no_entry { attr = result.attr } }
 {
     FlatEntry {
         attr: flat_attr(attr),
@@ -108,7 +110,7 @@ fn only_attr(attr: Attr) -> FlatEntry
 }
 
 /// The struct of a reply whose frame the bytes are.
-#[tactic(auto, using(crate::proofs::Places::reply_places, fk_wire::proofs::Masks::and_again))]
+#[tactic(auto, using(crate::proofs::Places::reply_places, crate::proofs::Ends::reads_end, fk_wire::proofs::Masks::and_again))]
 pub(crate) fn flat_of(opcode: u32, reply: &Reply<'_>, frame: &[u8]) -> FlatReply
     requires length { 16 ≤ length frame.now }
     requires entries { IsReplyContent (reply_content reply.now.body) }
@@ -116,6 +118,8 @@ pub(crate) fn flat_of(opcode: u32, reply: &Reply<'_>, frame: &[u8]) -> FlatReply
     requires body { ReadsAs 16 (reply_body (reply_content reply.now.body)) frame.now }
     ensures says { IsReplyStruct result frame.now (reply_message reply.now) }
     ensures opcode { result.opcode ≡ opcode }
+    ensures place { HasReplyPlace result frame.now }
+    ensures others { result ≡ counted_reply (reply_content reply.now.body) result }
 {
     match reply.body {
         ReplyBody::Empty => plain(opcode, reply),

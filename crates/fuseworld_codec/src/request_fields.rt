@@ -3,8 +3,8 @@
 ghost use Rattle.std.specs.Prelude.{◌≡◌, ◌+◌, ◌-◌, length};
 ghost use Rattle.std.specs.Int.RustNames.{bit_and};
 ghost use Rattle.fk_wire.specs.Fields.{ReadsAs};
-ghost use Rattle.fk_wire.specs.Requests.{known_flags, request_body, request_content, request_message};
-ghost use Rattle.fuseworld_codec.specs.RequestStructs.{IsRequestStruct};
+ghost use Rattle.fk_wire.specs.Requests.{known_flags, opcode_of, request_body, request_content, request_message};
+ghost use Rattle.fuseworld_codec.specs.RequestStructs.{HasPlaces, IsRequestStruct, counted, request_head};
 
 use crate::layout::FlatRequest;
 use bitflags::Flags;
@@ -19,7 +19,7 @@ pub(crate) fn known_bits(flags: InitFlags) -> u32
 
 /// A struct of this opcode, with the request's unique and node, that says nothing more.
 fn plain(opcode: u32, request: &Request<'_>) -> FlatRequest
-    ensures { (result.opcode ≡ opcode) × (result.unique ≡ request.now.unique) × (result.nodeid ≡ request.now.nodeid) }
+    ensures { result ≡ request_head opcode request.now.unique request.now.nodeid }
 {
     FlatRequest {
         unique: request.unique,
@@ -47,9 +47,10 @@ fn plain(opcode: u32, request: &Request<'_>) -> FlatRequest
 
 /// The struct of a request whose name stands at a place of its frame.
 fn with_name(opcode: u32, request: &Request<'_>, place: usize, name: &[u8]) -> FlatRequest
-    ensures head { (result.opcode ≡ opcode) × (result.unique ≡ request.now.unique)
-        × (result.nodeid ≡ request.now.nodeid) }
-    ensures name { (result.name_offset ≡ place) × (result.name_length ≡ length name.now) }
+    ensures { result ≡ record (request_head opcode request.now.unique request.now.nodeid) {
+      name_offset = place;
+      name_length = length name.now;
+    } }
 {
     FlatRequest {
         name_offset: place,
@@ -60,9 +61,10 @@ fn with_name(opcode: u32, request: &Request<'_>, place: usize, name: &[u8]) -> F
 
 /// The struct of a request whose data stand from a place of its frame to the end.
 fn with_data(opcode: u32, request: &Request<'_>, place: usize, len: usize) -> FlatRequest
-    ensures head { (result.opcode ≡ opcode) × (result.unique ≡ request.now.unique)
-        × (result.nodeid ≡ request.now.nodeid) }
-    ensures place { (result.data_offset ≡ place) × (result.data_length ≡ len) }
+    ensures { result ≡ record (request_head opcode request.now.unique request.now.nodeid) {
+      data_offset = place;
+      data_length = len;
+    } }
 {
     FlatRequest {
         data_offset: place,
@@ -73,9 +75,11 @@ fn with_data(opcode: u32, request: &Request<'_>, place: usize, len: usize) -> Fl
 
 /// The struct of a request about this many bytes from an offset of an open file or a directory.
 fn with_range(opcode: u32, request: &Request<'_>, fh: u64, offset: u64, size: u32) -> FlatRequest
-    ensures head { (result.opcode ≡ opcode) × (result.unique ≡ request.now.unique)
-        × (result.nodeid ≡ request.now.nodeid) }
-    ensures range { (result.fh ≡ fh) × (result.offset ≡ offset) × (result.size ≡ size) }
+    ensures { result ≡ record (request_head opcode request.now.unique request.now.nodeid) {
+      fh = fh;
+      offset = offset;
+      size = size;
+    } }
 {
     FlatRequest {
         fh,
@@ -87,10 +91,13 @@ fn with_range(opcode: u32, request: &Request<'_>, fh: u64, offset: u64, size: u3
 
 /// The struct of a RENAME, whose names follow each other.
 fn with_names(request: &Request<'_>, newdir: u64, old: &[u8], new: &[u8]) -> FlatRequest
-    ensures head { (result.opcode ≡ 12) × (result.unique ≡ request.now.unique)
-        × (result.nodeid ≡ request.now.nodeid) × (result.newdir ≡ newdir) }
-    ensures old { (result.name_offset ≡ 48) × (result.name_length ≡ length old.now) }
-    ensures new { (result.newname_offset ≡ 48 + (length old.now + 1)) × (result.newname_length ≡ length new.now) }
+    ensures { result ≡ record (request_head 12 request.now.unique request.now.nodeid) {
+      newdir = newdir;
+      name_offset = 48;
+      name_length = length old.now;
+      newname_offset = 48 + (length old.now + 1);
+      newname_length = length new.now;
+    } }
 {
     FlatRequest {
         newdir,
@@ -102,9 +109,11 @@ fn with_names(request: &Request<'_>, newdir: u64, old: &[u8], new: &[u8]) -> Fla
 
 /// The struct of an INIT.
 fn with_version(request: &Request<'_>, major: u32, minor: u32, flags: u32) -> FlatRequest
-    ensures head { (result.opcode ≡ 26) × (result.unique ≡ request.now.unique)
-        × (result.nodeid ≡ request.now.nodeid) }
-    ensures version { (result.major ≡ major) × (result.minor ≡ minor) × (result.flags ≡ flags) }
+    ensures { result ≡ record (request_head 26 request.now.unique request.now.nodeid) {
+      major = major;
+      minor = minor;
+      flags = flags;
+    } }
 {
     FlatRequest {
         major,
@@ -115,10 +124,12 @@ fn with_version(request: &Request<'_>, major: u32, minor: u32, flags: u32) -> Fl
 }
 
 /// The struct of a request whose frame the bytes are.
-#[tactic(auto, using(crate::proofs::Places::flat_places, fk_wire::proofs::Masks::and_again))]
+#[tactic(auto, using(crate::proofs::Places::flat_places, crate::proofs::Ends::reads_end, fk_wire::proofs::Masks::and_again))]
 pub(crate) fn flat_of(request: &Request<'_>, frame: &[u8]) -> FlatRequest
     requires { ReadsAs 40 (request_body (request_content request.now.body)) frame.now }
-    ensures { IsRequestStruct result frame.now (request_message request.now) }
+    ensures says { IsRequestStruct result frame.now (request_message request.now) }
+    ensures places { HasPlaces result frame.now }
+    ensures others { result ≡ counted (opcode_of (request_content request.now.body)) result }
 {
     match request.body {
         RequestBody::Lookup { name } => with_name(1, request, 40, name),

@@ -1,6 +1,6 @@
 //! The pairs and the records of a frame, one at a time.
 
-ghost use Rattle.std.specs.Prelude.{◌≡◌, ◌≢◌, ◌≤◌, ◌<◌, ◌+◌, ◌-◌, ◌%◌, ◌^◌, ◌↔◌, IsTrue, IfOk, IfErr, IsOk, length};
+ghost use Rattle.std.specs.Prelude.{◌≡◌, ◌≢◌, ◌≤◌, ◌<◌, ◌+◌, ◌-◌, ◌%◌, ◌^◌, ◌↔◌, IsTrue, IfOk, IfErr, IsOk, Err, length};
 ghost use Rattle.std.specs.Prelude.{false, true};
 ghost use Rattle.fk_wire.specs.Fields.{IsRecordName, number_at};
 ghost use Rattle.fk_wire.specs.Dirents.{dirent_at};
@@ -24,6 +24,7 @@ pub extern "C" fn fuseworld_next_pair(bytes: &[u8], offset: &mut usize, out: &mu
         × (out.new.nlookup ≡ number_at (offset.old + 8) 8 bytes.now) }
     ensures next { result ≡ 0 → (offset.new ≡ offset.old + 16) × (offset.new ≤ length bytes.now) }
     ensures whole { offset.old + 16 ≤ length bytes.now → result ≡ 0 }
+    ensures short { offset.old < length bytes.now → length bytes.now < offset.old + 16 → result ≡ 5 }
     ensures end { (result ≡ 11) ↔ (offset.old ≡ length bytes.now) }
     ensures place { (result ≡ 10) ↔ (length bytes.now < offset.old) }
     ensures kept { result ≢ 0 → (out.new ≡ out.old) × (offset.new ≡ offset.old) }
@@ -68,8 +69,13 @@ fn record_at(bytes: &[u8], place: usize) -> Result<(FlatDirent, usize), u32>
     ensures says { IfOk result (λ r. dirent_said r.0 bytes.now ≡ dirent_at place bytes.now) }
     ensures name { IfOk result (λ r. IsRecordName (name_at place bytes.now)) }
     ensures ends { IfOk result (λ r. (r.1 ≡ record_end false place bytes.now) × (r.1 ≤ length bytes.now)) }
+    ensures within { IfOk result (λ r. r.0.name_offset + r.0.name_length ≤ r.1) }
+    ensures padding { IfOk result (λ r. r.0.padding ≡ 0) }
     ensures only { record_end false place bytes.now ≤ length bytes.now → IsRecordName (name_at place bytes.now)
         → IsOk result }
+    ensures short { length bytes.now < record_end false place bytes.now → result ≡ Err 5 }
+    ensures unnamed { record_end false place bytes.now ≤ length bytes.now
+        → (IsRecordName (name_at place bytes.now) → ⊥) → result ≡ Err 4 }
     ensures fault { IfErr result (λ e. (e ≢ 0) × (e ≢ 10) × (e ≢ 11)) }
 {
     if bytes.len() - place < 24 {
@@ -111,6 +117,13 @@ pub extern "C" fn fuseworld_next_record(
         × (offset.new ≤ length bytes.now) }
     ensures whole { offset.old < length bytes.now → record_end false offset.old bytes.now ≤ length bytes.now
         → IsRecordName (name_at offset.old bytes.now) → result ≡ 0 }
+    // The name lies within the record.
+    ensures within { result ≡ 0 → out.new.name_offset + out.new.name_length ≤ offset.new }
+    ensures padding { result ≡ 0 → out.new.padding ≡ 0 }
+    ensures short { offset.old < length bytes.now → length bytes.now < record_end false offset.old bytes.now
+        → result ≡ 5 }
+    ensures unnamed { offset.old < length bytes.now → record_end false offset.old bytes.now ≤ length bytes.now
+        → (IsRecordName (name_at offset.old bytes.now) → ⊥) → result ≡ 4 }
     ensures end { (result ≡ 11) ↔ (offset.old ≡ length bytes.now) }
     ensures place { (result ≡ 10) ↔ (length bytes.now < offset.old) }
     ensures kept { result ≢ 0 → (out.new ≡ out.old) × (offset.new ≡ offset.old) }
@@ -137,6 +150,7 @@ fn flat_entry_at(bytes: &[u8], place: usize) -> FlatEntry
     requires { place + 128 ≤ length bytes.now }
     ensures says { entry_said result ≡ entry_at place bytes.now }
     ensures time { result.entry_valid_nsec ≡ number_at (place + 32) 4 bytes.now }
+    ensures padding { result.padding ≡ 0 }
 {
     FlatEntry {
         nodeid: u64_at(bytes, place),
@@ -164,6 +178,13 @@ fn pair_at(bytes: &[u8], place: usize) -> Result<(FlatDirentPlus, usize), u32>
     ensures ends { IfOk result (λ r. (r.1 ≡ record_end true place bytes.now) × (r.1 ≤ length bytes.now)) }
     ensures only { record_end true place bytes.now ≤ length bytes.now → number_at (place + 32) 4 bytes.now ≤ 999999999
         → IsRecordName (name_at (place + 128) bytes.now) → IsOk result }
+    ensures within { IfOk result (λ r. r.0.dirent.name_offset + r.0.dirent.name_length ≤ r.1) }
+    ensures padding { IfOk result (λ r. (r.0.entry.padding ≡ 0) × (r.0.dirent.padding ≡ 0)) }
+    ensures short { length bytes.now < record_end true place bytes.now → result ≡ Err 5 }
+    ensures untimed { 999999999 < number_at (place + 32) 4 bytes.now → result ≡ Err 5 }
+    ensures unnamed { record_end true place bytes.now ≤ length bytes.now
+        → number_at (place + 32) 4 bytes.now ≤ 999999999
+        → (IsRecordName (name_at (place + 128) bytes.now) → ⊥) → result ≡ Err 4 }
     ensures fault { IfErr result (λ e. (e ≢ 0) × (e ≢ 10) × (e ≢ 11)) }
 {
     if bytes.len() - place < 128 {
@@ -200,6 +221,16 @@ pub extern "C" fn fuseworld_next_record_plus(
     ensures whole { offset.old < length bytes.now → record_end true offset.old bytes.now ≤ length bytes.now
         → number_at (offset.old + 32) 4 bytes.now ≤ 999999999
         → IsRecordName (name_at (offset.old + 128) bytes.now) → result ≡ 0 }
+    // The name lies within the pair.
+    ensures within { result ≡ 0 → out.new.dirent.name_offset + out.new.dirent.name_length ≤ offset.new }
+    ensures padding { result ≡ 0 → (out.new.entry.padding ≡ 0) × (out.new.dirent.padding ≡ 0) }
+    ensures short { offset.old < length bytes.now → length bytes.now < record_end true offset.old bytes.now
+        → result ≡ 5 }
+    ensures untimed { offset.old < length bytes.now → 999999999 < number_at (offset.old + 32) 4 bytes.now
+        → result ≡ 5 }
+    ensures unnamed { offset.old < length bytes.now → record_end true offset.old bytes.now ≤ length bytes.now
+        → number_at (offset.old + 32) 4 bytes.now ≤ 999999999
+        → (IsRecordName (name_at (offset.old + 128) bytes.now) → ⊥) → result ≡ 4 }
     ensures end { (result ≡ 11) ↔ (offset.old ≡ length bytes.now) }
     ensures place { (result ≡ 10) ↔ (length bytes.now < offset.old) }
     ensures kept { result ≢ 0 → (out.new ≡ out.old) × (offset.new ≡ offset.old) }

@@ -14,6 +14,11 @@ returns-in-Ok-clause-only c = λ v o ev eo t h. (
       c.replied_opcode.result c.args.minor ev c.in-Some.ensures (sym (c.replied_opcode.ensures.known o eo)) h),
 )
 
+pub returns-in-Ok-clause-others : goal.returns-in-Ok-clause-others
+returns-in-Ok-clause-others c = λ v o ev eo t h. c.in-Ok.ensures.others t
+    (moved (λ (m : Minor) (p : Opcode). SpellsReplyAt m p c.args.bytes.now t) v c.in-Some.version o
+    c.replied_opcode.result c.args.minor ev c.in-Some.ensures (sym (c.replied_opcode.ensures.known o eo)) h)
+
 pub returns-in-Err-clause-only : goal.returns-in-Err-clause-only
 returns-in-Err-clause-only c = λ v o ev eo t h. absurd
     (c.in-Err.ensures.only t
