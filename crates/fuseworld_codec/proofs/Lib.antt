@@ -5,3 +5,4 @@ pub mod Places
 pub mod Written
 pub mod Ends
 pub mod ReplyKinds
+pub mod Replied

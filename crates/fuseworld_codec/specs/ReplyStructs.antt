@@ -1,14 +1,20 @@
 -- What the struct of a reply says. Data stand in it as a place in bytes of the caller's.
-use Rattle.std.specs.Prelude.{◌≡◌, ◌≤◌, ◌+◌, ℕ, ℤ, List, length}
+use Rattle.std.specs.Prelude.{◌≡◌, ◌≤◌, ◌<◌, ◌+◌, ℕ, ℤ, Bool, true, false, IsTrue, List, length}
+use Rattle.std.specs.Int.{cast_unsigned, w32}
 use Rattle.std.specs.Int.RustNames.{bit_and}
 use Rattle.fk_wire.specs.Fields.{bytes_at}
 use Rattle.fk_wire.specs.Entries.{EntryContent, entry_of}
 use Rattle.fk_wire.specs.Dirents.{DirentContent}
 use Rattle.fk_wire.specs.Records.{AreRecords, AreRecordsPlus}
+use Rattle.fk_wire.specs.ReplyFaults.{FitsReply}
 use Rattle.fk_wire.specs.Requests.{known_flags}
+use Rattle.fk_wire.specs.Replies.{HasReplyNames, IsErrorNumber, kind_of_content, knows_kind}
 use Rattle.fk_wire.specs.Replies.{ReplyMessage, ReplyContent, empty_reply, entry_reply, attr_reply, open_reply}
 use Rattle.fk_wire.specs.Replies.{bytes_reply, write_reply, init_reply, create_reply, records_reply, plus_reply}
 use Rattle.fk_wire.specs.declared.entry.Attr.{Attr}
+use Rattle.fk_wire.specs.declared.opcode.Minor.{Minor}
+use Rattle.fk_wire.specs.declared.opcode.Opcode.{Opcode}
+use Rattle.fk_wire.specs.declared.opcode.Opcode.TheVariants as op
 use Rattle.fuseworld_codec.specs.declared.layout.FlatAttr.{FlatAttr}
 use Rattle.fuseworld_codec.specs.declared.layout.FlatDirent.{FlatDirent}
 use Rattle.fuseworld_codec.specs.declared.layout.FlatEntry.{FlatEntry}
@@ -110,3 +116,20 @@ counted_reply (plus_reply ps) r = data_only r
 -- The data of the struct lie within the bytes.
 abbrev pub HasReplyPlace : FlatReply → List ℕ → Type 0
 HasReplyPlace r bytes = r.data_offset + r.data_length ≤ length bytes
+
+-- whether replies to an opcode have data
+abbrev pub has_data : Opcode → Bool
+has_data op.Read = true
+has_data op.Readdir = true
+has_data op.Readdirplus = true
+has_data _ = false
+
+-- The data of the struct count for the opcode, and lead beyond the bytes.
+abbrev pub LeadsBeyond : Opcode → FlatReply → List ℕ → Type 0
+LeadsBeyond o r bytes = IsTrue (has_data o) × (cast_unsigned w32 r.error ≡ 0)
+    × (length bytes < r.data_offset + r.data_length)
+
+-- A reply has a spelling at a minor version.
+abbrev pub HasReplySpelling : Minor → ReplyMessage → Type 0
+HasReplySpelling v t = IsErrorNumber t.error × IsTrue (knows_kind v (kind_of_content t.content)) × FitsReply t
+    × HasReplyNames t.content

@@ -1,6 +1,6 @@
 //! Whether a reply has a spelling, and how long it is.
 
-ghost use Rattle.std.specs.Prelude.{◌≡◌, ◌<◌, ◌+◌, ◌↔◌, IsTrue, IfOk, IfErr, if◌then◌else◌};
+ghost use Rattle.std.specs.Prelude.{◌≡◌, ◌≢◌, ◌<◌, ◌+◌, ◌↔◌, IsTrue, IfOk, IfErr, IsOk, if◌then◌else◌};
 ghost use Rattle.std.specs.Prelude.{List};
 ghost use Rattle.std.specs.Int.{cast_unsigned, w32};
 ghost use Rattle.fk_wire.specs.Fields.{sizes};
@@ -9,6 +9,7 @@ ghost use Rattle.fk_wire.specs.Replies.{IsErrorNumber, IsReplyContent, kind_of_c
 ghost use Rattle.fk_wire.specs.Replies.{IsAlone, plus_reply, reply_content, reply_message, states_15};
 ghost use Rattle.fk_wire.specs.ReplyFaults.{FitsReply, ReplyRefusalIsAt};
 ghost use Rattle.fk_wire.specs.Dirents.{DirentPlusContent, direntpluses};
+ghost use Rattle.fuseworld_codec.specs.ReplyStructs.{HasReplySpelling};
 
 use fk_wire::{Entry, MAX_FRAME, Minor, Reply, ReplyBody, WireFault};
 
@@ -97,7 +98,9 @@ pub(crate) fn frame_size(version: Minor, reply: &Reply<'_>, len: usize) -> Resul
     ensures known { IfOk result (λ n. IsTrue (knows_kind version
         (kind_of_content (reply_content reply.now.body)))) }
     ensures fits { IfOk result (λ n. FitsReply (reply_message reply.now)) }
+    ensures spelled { HasReplySpelling version (reply_message reply.now) → IsOk result }
     ensures fault { IfErr result (ReplyRefusalIsAt version (reply_message reply.now)) }
+    ensures memory { IfErr result (λ f. f ≢ WireFault.Memory) }
 {
     if !is_error_number(reply.error) {
         return Err(WireFault::ErrorRange);

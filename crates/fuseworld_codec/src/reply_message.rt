@@ -1,6 +1,6 @@
 //! The reply that a struct of a C caller says.
 
-ghost use Rattle.std.specs.Prelude.{◌≡◌, ◌≢◌, List, Some, IfOk, IfErr, Err, IsTrue, None, length, ◌↔◌};
+ghost use Rattle.std.specs.Prelude.{◌≡◌, ◌≢◌, ◌<◌, ◌+◌, List, Some, IfOk, IfErr, Err, IsTrue, None, length, ◌↔◌};
 ghost use Rattle.fk_wire.specs.Entries.{entry_content};
 ghost use Rattle.fk_wire.specs.Fields.{sizes};
 ghost use Rattle.fk_wire.specs.Opcodes.{reply_kind_of};
@@ -10,8 +10,8 @@ ghost use Rattle.fk_wire.specs.Replies.{kind_of_content, plus_reply, reply_conte
 ghost use Rattle.fk_wire.specs.declared.opcode.Opcode.{Opcode};
 ghost use Rattle.fk_wire.specs.Dirents.{DirentContent, DirentPlusContent, direntpluses};
 ghost use Rattle.fk_wire.specs.Records.{AreRecords, AreRecordsPlus, pluses_in, records_in};
-ghost use Rattle.fuseworld_codec.specs.ReplyStructs.{HasReplyPlace, Replies, IsReplyStruct, attr_said};
-ghost use Rattle.fuseworld_codec.specs.ReplyStructs.{bytes_said, entry_said};
+ghost use Rattle.fuseworld_codec.specs.ReplyStructs.{HasReplyPlace, LeadsBeyond, Replies, IsReplyStruct};
+ghost use Rattle.fuseworld_codec.specs.ReplyStructs.{attr_said, bytes_said, entry_said, has_data};
 
 use crate::layout::{FlatAttr, FlatEntry, FlatReply};
 use crate::reply_checks::error_word;
@@ -48,7 +48,8 @@ fn entry_of(entry: &FlatEntry) -> Entry
 fn data_of<'a>(r: &FlatReply, bytes: &'a [u8]) -> Result<&'a [u8], u32>
     ensures ok { IfOk result (λ d. d.now ≡ bytes_said r.now bytes.now) }
     ensures len { IfOk result (λ d. length d.now ≡ r.now.data_length) }
-    ensures err { IfErr result (λ e. (e ≡ 10) × (HasReplyPlace r.now bytes.now → ⊥)) }
+    ensures within { IfOk result (λ d. HasReplyPlace r.now bytes.now) }
+    ensures err { IfErr result (λ e. (e ≡ 10) × (length bytes.now < r.now.data_offset + r.now.data_length)) }
 {
     part(bytes, r.data_offset, r.data_length).ok_or(PLACE)
 }
@@ -56,10 +57,10 @@ fn data_of<'a>(r: &FlatReply, bytes: &'a [u8]) -> Result<&'a [u8], u32>
 /// The records that the data are.
 fn records_of<'a>(r: &FlatReply, bytes: &'a [u8]) -> Result<Records<'a>, u32>
     ensures ok { IfOk result (λ x. AreRecords 0 (bytes_said r.now bytes.now) (records_in x)) }
-    ensures none { IfErr result (λ e. HasReplyPlace r.now bytes.now → (ds : List DirentContent)
-        → AreRecords 0 (bytes_said r.now bytes.now) ds → ⊥) }
-    ensures place { IfErr result (λ e. e ≡ 10 → HasReplyPlace r.now bytes.now → ⊥) }
-    ensures status { IfErr result (λ e. (e ≢ 0) × (e ≢ 9)) }
+    ensures within { IfOk result (λ x. HasReplyPlace r.now bytes.now) }
+    ensures beyond { IfErr result (λ e. e ≡ 10 → length bytes.now < r.now.data_offset + r.now.data_length) }
+    ensures body { IfErr result (λ e. e ≢ 10 → (e ≡ 5) × HasReplyPlace r.now bytes.now
+        × ((ds : List DirentContent) → AreRecords 0 (bytes_said r.now bytes.now) ds → ⊥)) }
 {
     let data = data_of(r, bytes)?;
     Records::over(data).ok_or(BODY)
@@ -70,10 +71,10 @@ fn records_of<'a>(r: &FlatReply, bytes: &'a [u8]) -> Result<Records<'a>, u32>
 fn pairs_of<'a>(r: &FlatReply, bytes: &'a [u8]) -> Result<RecordsPlus<'a>, u32>
     ensures ok { IfOk result (λ x. AreRecordsPlus 0 (bytes_said r.now bytes.now) (pluses_in x)) }
     ensures len { IfOk result (λ x. sizes (direntpluses (pluses_in x)) ≡ r.now.data_length) }
-    ensures none { IfErr result (λ e. HasReplyPlace r.now bytes.now → (ps : List DirentPlusContent)
-        → AreRecordsPlus 0 (bytes_said r.now bytes.now) ps → ⊥) }
-    ensures place { IfErr result (λ e. e ≡ 10 → HasReplyPlace r.now bytes.now → ⊥) }
-    ensures status { IfErr result (λ e. (e ≢ 0) × (e ≢ 9)) }
+    ensures within { IfOk result (λ x. HasReplyPlace r.now bytes.now) }
+    ensures beyond { IfErr result (λ e. e ≡ 10 → length bytes.now < r.now.data_offset + r.now.data_length) }
+    ensures body { IfErr result (λ e. e ≢ 10 → (e ≡ 5) × HasReplyPlace r.now bytes.now
+        × ((ps : List DirentPlusContent) → AreRecordsPlus 0 (bytes_said r.now bytes.now) ps → ⊥)) }
 {
     let data = data_of(r, bytes)?;
     RecordsPlus::over(data).ok_or(BODY)
@@ -85,10 +86,14 @@ fn body_of<'a>(opcode: Opcode, r: &FlatReply, bytes: &'a [u8]) -> Result<ReplyBo
         × Replies r.now bytes.now (reply_content b)) }
     ensures len { IfOk result (λ b. (ps : List DirentPlusContent) → reply_content b ≡ plus_reply ps
         → sizes (direntpluses ps) ≡ r.now.data_length) }
-    ensures none { IfErr result (λ e. HasReplyPlace r.now bytes.now → (s : ReplyContent)
-        → reply_kind_of opcode ≡ Some (kind_of_content s) → Replies r.now bytes.now s → ⊥) }
-    ensures place { IfErr result (λ e. e ≡ 10 → HasReplyPlace r.now bytes.now → ⊥) }
-    ensures status { IfErr result (λ e. (e ≢ 0) × (e ≢ 9)) }
+    ensures within { IfOk result (λ b. IsTrue (has_data opcode) → HasReplyPlace r.now bytes.now) }
+    ensures beyond { IfErr result (λ e. e ≡ 10 → IsTrue (has_data opcode)
+        × (length bytes.now < r.now.data_offset + r.now.data_length)) }
+    ensures body { reply_kind_of opcode ≢ None → IfErr result (λ e. e ≢ 10 → (e ≡ 5)
+        × HasReplyPlace r.now bytes.now) }
+    ensures none { IfErr result (λ e. e ≢ 10 → (s : ReplyContent) → reply_kind_of opcode ≡ Some (kind_of_content s)
+        → Replies r.now bytes.now s → ⊥) }
+    ensures status { IfErr result (λ e. (e ≢ 0) × (e ≢ 7) × (e ≢ 9)) }
 {
     Ok(match opcode {
         Opcode::Lookup | Opcode::Mkdir | Opcode::Link => ReplyBody::Entry {
@@ -148,10 +153,13 @@ pub(crate) fn reply_of<'a>(
     ensures alone { IfOk result (λ q. IsAlone (reply_message q)) }
     ensures len { IfOk result (λ q. (ps : List DirentPlusContent) → reply_content q.body ≡ plus_reply ps
         → sizes (direntpluses ps) ≡ r.now.data_length) }
-    ensures none { IfErr result (λ e. HasReplyPlace r.now bytes.now → (t : ReplyMessage)
-        → GoesWith version opcode t → IsReplyStruct r.now bytes.now t → ⊥) }
-    ensures place { IfErr result (λ e. e ≡ 10 → HasReplyPlace r.now bytes.now → ⊥) }
-    ensures status { IfErr result (λ e. (e ≢ 0) × (e ≢ 9)) }
+    ensures within { IfOk result (λ q. LeadsBeyond opcode r.now bytes.now → ⊥) }
+    ensures beyond { IfErr result (λ e. e ≡ 10 → LeadsBeyond opcode r.now bytes.now) }
+    ensures body { reply_kind version opcode ≢ None → IfErr result (λ e. e ≢ 10 → (e ≡ 5)
+        × (LeadsBeyond opcode r.now bytes.now → ⊥)) }
+    ensures none { IfErr result (λ e. e ≢ 10 → (t : ReplyMessage) → GoesWith version opcode t
+        → IsReplyStruct r.now bytes.now t → ⊥) }
+    ensures status { IfErr result (λ e. (e ≢ 0) × (e ≢ 7) × (e ≢ 9)) }
     ensures unknown { reply_kind version opcode ≡ None → result ≡ Err 3 }
 {
     if !has_replies(version, opcode) {

@@ -1,10 +1,11 @@
 //! Whether a request has a spelling, and how long it is.
 
-ghost use Rattle.std.specs.Prelude.{◌≡◌, ◌≤◌, ◌<◌, ◌+◌, ◌↔◌, IsTrue, IfOk, IfErr};
+ghost use Rattle.std.specs.Prelude.{◌≡◌, ◌≢◌, ◌≤◌, ◌<◌, ◌+◌, ◌↔◌, IsTrue, IfOk, IfErr, IsOk};
 ghost use Rattle.fk_wire.specs.Fields.{HaveNames, sizes};
 ghost use Rattle.fk_wire.specs.Faults.{FitsFrame, RefusalIsAt};
 ghost use Rattle.fk_wire.specs.Opcodes.{has_node, minor_knows};
 ghost use Rattle.fk_wire.specs.Requests.{IsNodeOf, opcode_of, request_body, request_content, request_message};
+ghost use Rattle.fuseworld_codec.specs.RequestStructs.{HasSpelling};
 
 use fk_fields::is_name;
 use fk_wire::{MAX_FRAME, Minor, Opcode, Request, RequestBody, WireFault};
@@ -89,7 +90,9 @@ pub(crate) fn frame_size(version: Minor, request: &Request<'_>) -> Result<usize,
     ensures known { IfOk result (λ n. IsTrue (minor_knows version (opcode_of (request_content request.now.body)))) }
     ensures fits { IfOk result (λ n. FitsFrame (request_message request.now)) }
     ensures named { IfOk result (λ n. HaveNames (request_body (request_content request.now.body))) }
+    ensures spelled { HasSpelling version (request_message request.now) → IsOk result }
     ensures fault { IfErr result (RefusalIsAt version (request_message request.now)) }
+    ensures memory { IfErr result (λ f. f ≢ WireFault.Memory) }
 {
     let opcode = request.body.opcode();
     if !is_known(version, opcode) {

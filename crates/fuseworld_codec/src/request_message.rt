@@ -2,10 +2,12 @@
 
 ghost use Rattle.std.specs.Prelude.{◌≡◌, ◌≢◌, ◌≤◌, ◌<◌, ◌+◌, List, ℕ, length, IfOk, IfErr, Err, IsTrue, MatchOption, false, ◌↔◌};
 ghost use Rattle.fk_wire.specs.Fields.{bytes_at, ReadsAs};
+ghost use Rattle.fk_wire.specs.Opcodes.{code_of};
 ghost use Rattle.fk_wire.specs.Pairs.{forget_ones, pairs_in};
 ghost use Rattle.fk_wire.specs.Requests.{RequestContent, RequestMessage, opcode_of, request_content, request_message};
 ghost use Rattle.fk_wire.specs.declared.opcode.Opcode.{Opcode};
-ghost use Rattle.fuseworld_codec.specs.RequestStructs.{StructAsks, HasPlaces, IsRequestStruct, data_in, is_named};
+ghost use Rattle.fuseworld_codec.specs.RequestStructs.{StructAsks, HasPlaces, IsRequestStruct, counted, data_in};
+ghost use Rattle.fuseworld_codec.specs.RequestStructs.{is_named};
 ghost use Rattle.fuseworld_codec.specs.Status.{IsNoOpcode};
 
 use crate::layout::FlatRequest;
@@ -28,7 +30,8 @@ pub(crate) fn part(bytes: &[u8], offset: usize, len: usize) -> Option<&[u8]>
 /// The name that a struct places.
 fn name_of<'a>(r: &FlatRequest, bytes: &'a [u8]) -> Result<&'a [u8], u32>
     ensures ok { IfOk result (λ n. n.now ≡ bytes_at r.now.name_offset r.now.name_length bytes.now) }
-    ensures err { IfErr result (λ e. (e ≡ 10) × (HasPlaces r.now bytes.now → ⊥)) }
+    ensures within { IfOk result (λ n. r.now.name_offset + r.now.name_length ≤ length bytes.now) }
+    ensures err { IfErr result (λ e. (e ≡ 10) × (length bytes.now < r.now.name_offset + r.now.name_length)) }
 {
     part(bytes, r.name_offset, r.name_length).ok_or(PLACE)
 }
@@ -36,7 +39,8 @@ fn name_of<'a>(r: &FlatRequest, bytes: &'a [u8]) -> Result<&'a [u8], u32>
 /// The second name.
 fn newname_of<'a>(r: &FlatRequest, bytes: &'a [u8]) -> Result<&'a [u8], u32>
     ensures ok { IfOk result (λ n. n.now ≡ bytes_at r.now.newname_offset r.now.newname_length bytes.now) }
-    ensures err { IfErr result (λ e. (e ≡ 10) × (HasPlaces r.now bytes.now → ⊥)) }
+    ensures within { IfOk result (λ n. r.now.newname_offset + r.now.newname_length ≤ length bytes.now) }
+    ensures err { IfErr result (λ e. (e ≡ 10) × (length bytes.now < r.now.newname_offset + r.now.newname_length)) }
 {
     part(bytes, r.newname_offset, r.newname_length).ok_or(PLACE)
 }
@@ -44,7 +48,8 @@ fn newname_of<'a>(r: &FlatRequest, bytes: &'a [u8]) -> Result<&'a [u8], u32>
 /// The data.
 fn data_of<'a>(r: &FlatRequest, bytes: &'a [u8]) -> Result<&'a [u8], u32>
     ensures ok { IfOk result (λ d. d.now ≡ bytes_at r.now.data_offset r.now.data_length bytes.now) }
-    ensures err { IfErr result (λ e. (e ≡ 10) × (HasPlaces r.now bytes.now → ⊥)) }
+    ensures within { IfOk result (λ d. r.now.data_offset + r.now.data_length ≤ length bytes.now) }
+    ensures err { IfErr result (λ e. (e ≡ 10) × (length bytes.now < r.now.data_offset + r.now.data_length)) }
 {
     part(bytes, r.data_offset, r.data_length).ok_or(PLACE)
 }
@@ -52,10 +57,10 @@ fn data_of<'a>(r: &FlatRequest, bytes: &'a [u8]) -> Result<&'a [u8], u32>
 /// The pairs that the data are.
 fn pairs_of<'a>(r: &FlatRequest, bytes: &'a [u8]) -> Result<Pairs<'a>, u32>
     ensures ok { IfOk result (λ p. ReadsAs 0 (forget_ones (pairs_in p)) (data_in r.now bytes.now)) }
-    ensures none { IfErr result (λ e. HasPlaces r.now bytes.now → (ps : List (ℕ × ℕ))
-        → ReadsAs 0 (forget_ones ps) (data_in r.now bytes.now) → ⊥) }
-    ensures place { IfErr result (λ e. e ≡ 10 → HasPlaces r.now bytes.now → ⊥) }
-    ensures status { IfErr result (λ e. (e ≢ 0) × (e ≢ 9)) }
+    ensures within { IfOk result (λ p. r.now.data_offset + r.now.data_length ≤ length bytes.now) }
+    ensures beyond { IfErr result (λ e. e ≡ 10 → length bytes.now < r.now.data_offset + r.now.data_length) }
+    ensures body { IfErr result (λ e. e ≢ 10 → (e ≡ 5) × (r.now.data_offset + r.now.data_length ≤ length bytes.now)
+        × ((ps : List (ℕ × ℕ)) → ReadsAs 0 (forget_ones ps) (data_in r.now bytes.now) → ⊥)) }
 {
     let data = data_of(r, bytes)?;
     Pairs::over(data).ok_or(BODY)
@@ -81,10 +86,10 @@ fn named_body<'a>(opcode: Opcode, r: &FlatRequest, bytes: &'a [u8]) -> Result<Re
     requires { IsTrue (is_named opcode) }
     ensures ok { IfOk result (λ b. (opcode_of (request_content b) ≡ opcode)
         × StructAsks r.now bytes.now (request_content b)) }
-    ensures none { IfErr result (λ e. HasPlaces r.now bytes.now → (a : RequestContent) → opcode_of a ≡ opcode
-        → StructAsks r.now bytes.now a → ⊥) }
-    ensures place { IfErr result (λ e. e ≡ 10 → HasPlaces r.now bytes.now → ⊥) }
-    ensures status { IfErr result (λ e. (e ≢ 0) × (e ≢ 9)) }
+    ensures within { IfOk result (λ b. HasPlaces (counted opcode r.now) bytes.now) }
+    ensures beyond { IfErr result (λ e. e ≡ 10 → HasPlaces (counted opcode r.now) bytes.now → ⊥) }
+    ensures body { IfErr result (λ e. e ≢ 10 → (e ≡ 5) × HasPlaces (counted opcode r.now) bytes.now
+        × ((a : RequestContent) → opcode_of a ≡ opcode → StructAsks r.now bytes.now a → ⊥)) }
 {
     let name = name_of(r, bytes)?;
     Ok(match opcode {
@@ -106,10 +111,10 @@ fn other_body<'a>(opcode: Opcode, r: &FlatRequest, bytes: &'a [u8]) -> Result<Re
     requires { is_named opcode ≡ false }
     ensures ok { IfOk result (λ b. (opcode_of (request_content b) ≡ opcode)
         × StructAsks r.now bytes.now (request_content b)) }
-    ensures none { IfErr result (λ e. HasPlaces r.now bytes.now → (a : RequestContent) → opcode_of a ≡ opcode
-        → StructAsks r.now bytes.now a → ⊥) }
-    ensures place { IfErr result (λ e. e ≡ 10 → HasPlaces r.now bytes.now → ⊥) }
-    ensures status { IfErr result (λ e. (e ≢ 0) × (e ≢ 9)) }
+    ensures within { IfOk result (λ b. HasPlaces (counted opcode r.now) bytes.now) }
+    ensures beyond { IfErr result (λ e. e ≡ 10 → HasPlaces (counted opcode r.now) bytes.now → ⊥) }
+    ensures body { IfErr result (λ e. e ≢ 10 → (e ≡ 5) × HasPlaces (counted opcode r.now) bytes.now
+        × ((a : RequestContent) → opcode_of a ≡ opcode → StructAsks r.now bytes.now a → ⊥)) }
 {
     let (offset, size, fh) = (r.offset, r.size, r.fh);
     Ok(match opcode {
@@ -149,10 +154,10 @@ fn other_body<'a>(opcode: Opcode, r: &FlatRequest, bytes: &'a [u8]) -> Result<Re
 fn body_of<'a>(opcode: Opcode, r: &FlatRequest, bytes: &'a [u8]) -> Result<RequestBody<'a>, u32>
     ensures ok { IfOk result (λ b. (opcode_of (request_content b) ≡ opcode)
         × StructAsks r.now bytes.now (request_content b)) }
-    ensures none { IfErr result (λ e. HasPlaces r.now bytes.now → (a : RequestContent) → opcode_of a ≡ opcode
-        → StructAsks r.now bytes.now a → ⊥) }
-    ensures place { IfErr result (λ e. e ≡ 10 → HasPlaces r.now bytes.now → ⊥) }
-    ensures status { IfErr result (λ e. (e ≢ 0) × (e ≢ 9)) }
+    ensures within { IfOk result (λ b. HasPlaces (counted opcode r.now) bytes.now) }
+    ensures beyond { IfErr result (λ e. e ≡ 10 → HasPlaces (counted opcode r.now) bytes.now → ⊥) }
+    ensures body { IfErr result (λ e. e ≢ 10 → (e ≡ 5) × HasPlaces (counted opcode r.now) bytes.now
+        × ((a : RequestContent) → opcode_of a ≡ opcode → StructAsks r.now bytes.now a → ⊥)) }
 {
     if has_one_name(opcode) {
         named_body(opcode, r, bytes)
@@ -167,12 +172,17 @@ fn body_of<'a>(opcode: Opcode, r: &FlatRequest, bytes: &'a [u8]) -> Result<Reque
 ///
 /// 3 where the opcode is not known, 10 where a name or the data lead beyond the bytes, and 5 where the data
 /// of a BATCH_FORGET are no whole number of pairs.
+#[tactic(auto, using(fk_wire::proofs::OneRequest::same_code))]
 pub(crate) fn request_of<'a>(r: &FlatRequest, bytes: &'a [u8]) -> Result<Request<'a>, u32>
     ensures ok { IfOk result (λ q. IsRequestStruct r.now bytes.now (request_message q)) }
-    ensures none { IfErr result (λ e. HasPlaces r.now bytes.now → (m : RequestMessage)
-        → IsRequestStruct r.now bytes.now m → ⊥) }
-    ensures place { IfErr result (λ e. e ≡ 10 → HasPlaces r.now bytes.now → ⊥) }
-    ensures status { IfErr result (λ e. (e ≢ 0) × (e ≢ 9)) }
+    ensures within { (o : Opcode) → code_of o ≡ r.now.opcode
+        → IfOk result (λ q. HasPlaces (counted o r.now) bytes.now) }
+    ensures beyond { (o : Opcode) → code_of o ≡ r.now.opcode
+        → IfErr result (λ e. e ≡ 10 → HasPlaces (counted o r.now) bytes.now → ⊥) }
+    ensures body { (o : Opcode) → code_of o ≡ r.now.opcode
+        → IfErr result (λ e. e ≢ 10 → (e ≡ 5) × HasPlaces (counted o r.now) bytes.now
+        × ((m : RequestMessage) → IsRequestStruct r.now bytes.now m → ⊥)) }
+    ensures status { IfErr result (λ e. (e ≢ 0) × (e ≢ 7) × (e ≢ 9)) }
     ensures unknown { IsNoOpcode r.now.opcode → result ≡ Err 3 }
 {
     let Some(opcode) = opcode_of_code(r.opcode) else {

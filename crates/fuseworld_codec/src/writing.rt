@@ -1,13 +1,14 @@
 //! Request frames that are written.
 
-ghost use Rattle.std.specs.Prelude.{◌≡◌, ◌≢◌, ◌≤◌, ◌<◌, ◌+◌, drop, length, take};
+ghost use Rattle.std.specs.Prelude.{◌≡◌, ◌≢◌, ◌≤◌, ◌<◌, ◌+◌, ◌↔◌, drop, length, take};
 ghost use Rattle.fk_wire.specs.Fields.{sizes};
 ghost use Rattle.fk_wire.specs.Faults.{RefusalIsAt};
 ghost use Rattle.fk_wire.specs.Opcodes.{code_of};
 ghost use Rattle.fk_wire.specs.Requests.{RequestMessage, WrittenAt, opcode_of, request_body, request_content};
 ghost use Rattle.fk_wire.specs.Requests.{request_message};
 ghost use Rattle.fk_wire.specs.declared.opcode.Minor.{Minor};
-ghost use Rattle.fuseworld_codec.specs.RequestStructs.{HasPlaces, IsRequestStruct};
+ghost use Rattle.fk_wire.specs.declared.opcode.Opcode.{Opcode};
+ghost use Rattle.fuseworld_codec.specs.RequestStructs.{HasPlaces, HasSpelling, IsRequestStruct, counted};
 ghost use Rattle.fuseworld_codec.specs.Status.{AnswersFault, IsNoMinor, IsNoOpcode, minor_number_of};
 
 use crate::layout::FlatRequest;
@@ -31,6 +32,10 @@ fn write_message(
     ensures wanted { result ≡ 0 → wanted.new ≡ 40 + sizes (request_body (request_content request.now.body)) }
     ensures room { result ≡ 9 → (wanted.new ≡ 40 + sizes (request_body (request_content request.now.body)))
         × (length buffer.old < wanted.new) }
+    ensures spelled { result ≡ 9 → HasSpelling version (request_message request.now) }
+    ensures done { HasSpelling version (request_message request.now)
+        → 40 + sizes (request_body (request_content request.now.body)) ≤ length buffer.old → result ≡ 0 }
+    ensures status { (result ≢ 7) × (result ≢ 10) }
     ensures fault { result ≢ 0 → result ≢ 9 → AnswersFault result (RefusalIsAt version (request_message request.now)) }
     ensures within { result ≡ 0 → wanted.new ≤ length buffer.old }
     ensures none { result ≢ 0 → result ≢ 9 → wanted.new ≡ 0 }
@@ -73,13 +78,26 @@ pub extern "C" fn fuseworld_write_request(
     ensures ok { (v : Minor) → minor_number_of v ≡ minor → result ≡ 0 → (m : RequestMessage)
         × IsRequestStruct request.now bytes.now m × WrittenAt v m (take wanted.new buffer.new)
         × (drop wanted.new buffer.new ≡ drop wanted.new buffer.old) }
-    // Too small a buffer: this many bytes are needed.
-    ensures room { result ≡ 9 → (m : RequestMessage) × IsRequestStruct request.now bytes.now m
+    // What has a spelling is written where the buffer has room for it.
+    ensures done { (v : Minor) → minor_number_of v ≡ minor → (m : RequestMessage)
+        → IsRequestStruct request.now bytes.now m → HasPlaces (counted (opcode_of m.content) request.now) bytes.now
+        → HasSpelling v m → 40 + sizes (request_body m.content) ≤ length buffer.old → result ≡ 0 }
+    // Too small a buffer for a request that has a spelling: this many bytes are needed.
+    ensures room { (v : Minor) → minor_number_of v ≡ minor → result ≡ 9 → (m : RequestMessage)
+        × IsRequestStruct request.now bytes.now m × HasSpelling v m
         × (wanted.new ≡ 40 + sizes (request_body m.content)) × (length buffer.old < wanted.new) }
-    // Else the answer is the first fault that applies, or there is no such request.
-    ensures fault { (v : Minor) → minor_number_of v ≡ minor → result ≢ 0 → result ≢ 9 → HasPlaces request.now bytes.now
-        → (m : RequestMessage) → IsRequestStruct request.now bytes.now m → AnswersFault result (RefusalIsAt v m) }
-    ensures place { result ≡ 10 → HasPlaces request.now bytes.now → ⊥ }
+    // Else the answer is the first fault that applies.
+    ensures fault { (v : Minor) → minor_number_of v ≡ minor → result ≢ 0 → result ≢ 9 → (m : RequestMessage)
+        → IsRequestStruct request.now bytes.now m → HasPlaces (counted (opcode_of m.content) request.now) bytes.now
+        → AnswersFault result (RefusalIsAt v m) }
+    // A name or the data that count lead beyond the bytes.
+    ensures place { (v : Minor) (o : Opcode) → minor_number_of v ≡ minor → code_of o ≡ request.now.opcode
+        → (result ≡ 10) ↔ (HasPlaces (counted o request.now) bytes.now → ⊥) }
+    // The data are no pairs.
+    ensures body { (v : Minor) (o : Opcode) → minor_number_of v ≡ minor → code_of o ≡ request.now.opcode
+        → HasPlaces (counted o request.now) bytes.now
+        → ((m : RequestMessage) → IsRequestStruct request.now bytes.now m → ⊥) → result ≡ 5 }
+    ensures status { result ≢ 7 }
     ensures unknown { (v : Minor) → minor_number_of v ≡ minor → IsNoOpcode request.now.opcode → result ≡ 3 }
     ensures minor { IsNoMinor minor → result ≡ 8 }
     ensures within { result ≡ 0 → wanted.new ≤ length buffer.old }

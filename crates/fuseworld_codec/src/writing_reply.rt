@@ -1,6 +1,6 @@
 //! Reply frames that are written.
 
-ghost use Rattle.std.specs.Prelude.{◌≡◌, ◌≢◌, ◌⊎◌, ◌≤◌, ◌<◌, ◌+◌, List, None, drop, length, take};
+ghost use Rattle.std.specs.Prelude.{◌≡◌, ◌≢◌, ◌⊎◌, ◌≤◌, ◌<◌, ◌+◌, ◌↔◌, List, None, drop, length, take};
 ghost use Rattle.fk_wire.specs.Fields.{sizes};
 ghost use Rattle.fk_wire.specs.Dirents.{DirentPlusContent, direntpluses};
 ghost use Rattle.fk_wire.specs.Opcodes.{code_of};
@@ -9,7 +9,7 @@ ghost use Rattle.fk_wire.specs.Replies.{reply_body, reply_content, reply_kind, r
 ghost use Rattle.fk_wire.specs.ReplyFaults.{ReplyRefusalIsAt};
 ghost use Rattle.fk_wire.specs.declared.opcode.Minor.{Minor};
 ghost use Rattle.fk_wire.specs.declared.opcode.Opcode.{Opcode};
-ghost use Rattle.fuseworld_codec.specs.ReplyStructs.{HasReplyPlace, IsReplyStruct};
+ghost use Rattle.fuseworld_codec.specs.ReplyStructs.{HasReplySpelling, IsReplyStruct, LeadsBeyond};
 ghost use Rattle.fuseworld_codec.specs.Status.{AnswersFault, IsNoMinor, minor_number_of};
 
 use crate::layout::FlatReply;
@@ -20,6 +20,7 @@ use crate::status::{DONE, ERROR_RANGE, MINOR, OPCODE, ROOM, minor_of};
 use fk_wire::{Minor, Reply, opcode_of_code};
 
 /// Writes the frame of a reply at the beginning of a buffer. Pairs of an entry and a record take `len` bytes in it.
+#[tactic(auto, using(fk_wire::proofs::ReplyNames::names_hold))]
 fn write_message(
     version: Minor,
     reply: &Reply<'_>,
@@ -34,12 +35,15 @@ fn write_message(
         × (drop wanted.new buffer.new ≡ drop wanted.new buffer.old) }
     ensures room { result ≡ 9 → (wanted.new ≡ 16 + sizes (reply_body (reply_content reply.now.body)))
         × (length buffer.old < wanted.new) }
+    ensures spelled { result ≡ 9 → HasReplySpelling version (reply_message reply.now) }
+    ensures done { HasReplySpelling version (reply_message reply.now)
+        → 16 + sizes (reply_body (reply_content reply.now.body)) ≤ length buffer.old → result ≡ 0 }
     ensures fault { result ≢ 0 → result ≢ 9
         → AnswersFault result (ReplyRefusalIsAt version (reply_message reply.now)) }
     ensures within { result ≡ 0 → wanted.new ≤ length buffer.old }
     ensures none { result ≢ 0 → result ≢ 9 → wanted.new ≡ 0 }
     ensures kept { result ≢ 0 → buffer.new ≡ buffer.old }
-    ensures status { result ≢ 10 }
+    ensures status { (result ≢ 7) × (result ≢ 10) }
 {
     let size = match frame_size(version, reply, len) {
         Ok(size) => size,
@@ -81,16 +85,31 @@ pub extern "C" fn fuseworld_write_reply(
         → (t : ReplyMessage) × GoesWith v o t × IsReplyStruct reply.now bytes.now t
         × WrittenReplyAt v t (take wanted.new buffer.new)
         × (drop wanted.new buffer.new ≡ drop wanted.new buffer.old) }
-    // Too small a buffer: this many bytes are needed.
-    ensures room { result ≡ 9 → (t : ReplyMessage) × IsReplyStruct reply.now bytes.now t
+    // What has a spelling is written where the buffer has room for it.
+    ensures done { (v : Minor) (o : Opcode) → minor_number_of v ≡ minor → code_of o ≡ reply.now.opcode
+        → (t : ReplyMessage) → GoesWith v o t → IsReplyStruct reply.now bytes.now t
+        → (LeadsBeyond o reply.now bytes.now → ⊥) → HasReplySpelling v t
+        → 16 + sizes (reply_body t.content) ≤ length buffer.old → result ≡ 0 }
+    // Too small a buffer for a reply that has a spelling: this many bytes are needed.
+    ensures room { (v : Minor) (o : Opcode) → minor_number_of v ≡ minor → code_of o ≡ reply.now.opcode → result ≡ 9
+        → (t : ReplyMessage) × GoesWith v o t × IsReplyStruct reply.now bytes.now t × HasReplySpelling v t
         × (wanted.new ≡ 16 + sizes (reply_body t.content)) × (length buffer.old < wanted.new) }
     // Else there is no such reply, or the answer is the first fault that applies.
     ensures fault { (v : Minor) (o : Opcode) → minor_number_of v ≡ minor → code_of o ≡ reply.now.opcode → result ≢ 0
-        → result ≢ 9 → IsErrorNumber reply.now.error → HasReplyPlace reply.now bytes.now
+        → result ≢ 9 → IsErrorNumber reply.now.error → (LeadsBeyond o reply.now bytes.now → ⊥)
         → ((t : ReplyMessage) → GoesWith v o t → IsReplyStruct reply.now bytes.now t → ⊥)
-        ⊎ ((t : ReplyMessage) × IsReplyStruct reply.now bytes.now t × AnswersFault result (ReplyRefusalIsAt v t)) }
+        ⊎ ((t : ReplyMessage) × GoesWith v o t × IsReplyStruct reply.now bytes.now t
+        × AnswersFault result (ReplyRefusalIsAt v t)) }
     ensures error { (v : Minor) → minor_number_of v ≡ minor → (IsErrorNumber reply.now.error → ⊥) → result ≡ 6 }
-    ensures place { result ≡ 10 → HasReplyPlace reply.now bytes.now → ⊥ }
+    // The data count, and lead beyond the bytes.
+    ensures place { (v : Minor) (o : Opcode) → minor_number_of v ≡ minor → code_of o ≡ reply.now.opcode
+        → IsErrorNumber reply.now.error → reply_kind v o ≢ None
+        → (result ≡ 10) ↔ LeadsBeyond o reply.now bytes.now }
+    // The data are no records.
+    ensures body { (v : Minor) (o : Opcode) → minor_number_of v ≡ minor → code_of o ≡ reply.now.opcode
+        → IsErrorNumber reply.now.error → reply_kind v o ≢ None → (LeadsBeyond o reply.now bytes.now → ⊥)
+        → ((t : ReplyMessage) → GoesWith v o t → IsReplyStruct reply.now bytes.now t → ⊥) → result ≡ 5 }
+    ensures status { result ≢ 7 }
     ensures unknown { (v : Minor) → minor_number_of v ≡ minor → IsErrorNumber reply.now.error
         → ((o : Opcode) → code_of o ≡ reply.now.opcode → reply_kind v o ≡ None) → result ≡ 3 }
     ensures minor { IsNoMinor minor → result ≡ 8 }
