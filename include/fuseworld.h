@@ -59,7 +59,7 @@ enum fuseworld_status {
     FUSEWORLD_MINOR = 8,
     /* The buffer is too small: `*wanted` says how many bytes the frame has. */
     FUSEWORLD_ROOM = 9,
-    /* An offset and its length lead beyond the bytes. */
+    /* An offset and its length, which count for the opcode, lead beyond the bytes. */
     FUSEWORLD_PLACE = 10,
     /* No pair or record is left. */
     FUSEWORLD_END = 11
@@ -168,7 +168,8 @@ struct fuseworld_entry {
  * A reply: the fields of its struct of linux/fuse.h that are not free, in one struct for all opcodes. With an
  * error other than 0, the first three alone count.
  *
- * Under UNLINK, RMDIR, RENAME, RELEASE and INTERRUPT the first three alone count as well.
+ * Under UNLINK, RMDIR, RENAME, RELEASE and INTERRUPT the first three alone count as well. Under another opcode than
+ * those behind it, or an error, a field is 0 when read and is not looked at when written.
  */
 struct fuseworld_reply {
     uint64_t unique;              /* all: the number of the request */
@@ -235,9 +236,10 @@ uint32_t fuseworld_read_reply(uint32_t minor, uint32_t opcode, const uint8_t *by
 /* ---- reading pairs and records, one at a time
  *
  * `bytes` and `len` are the frame, and `*offset` is at first the `data_offset` of its struct. Each call reads what
- * is there and moves `*offset` behind it. Where the answer is not 0, `*offset` and `*out` stay as they were:
- * END where the bytes are at their end, BODY where there is no whole record, NAME where its name breaks the rules,
- * PLACE where `*offset` is greater than `len`. In a frame that was read, there is no answer but 0 and END.
+ * is there, whose name lies before the new `*offset`, and moves `*offset` behind it. Where the answer is not 0,
+ * `*offset` and `*out` stay as they were: END where the bytes are at their end, BODY where there is no whole record or
+ * its entry's nanoseconds are a second or more, NAME where its name breaks the rules, PLACE where `*offset` is greater
+ * than `len`. In a frame that was read, there is no answer but 0 and END.
  */
 
 /* The next pair of a BATCH_FORGET. */
@@ -265,7 +267,7 @@ uint32_t fuseworld_next_record_plus(const uint8_t *bytes, size_t len, size_t *of
 /*
  * Writes a request. Answers the first that applies of MINOR; OPCODE, for a number of no opcode; PLACE; OPCODE, BODY and
  * NAME, as of a frame; and ROOM. The pairs of a BATCH_FORGET are 16 bytes each, nodeid and nlookup in the order of
- * `struct fuse_forget_one`; other data are BODY.
+ * `struct fuse_forget_one`; other data are BODY, also at 7.15.
  */
 uint32_t fuseworld_write_request(uint32_t minor, const struct fuseworld_request *request, const uint8_t *bytes,
                                  size_t len, uint8_t *buffer, size_t capacity, size_t *wanted);

@@ -12,6 +12,7 @@ use Rattle.fk_wire.specs.declared.opcode.Opcode.TheVariants as op
 use Rattle.fk_wire.specs.Dirents.{DirentContent, DirentPlusContent, dirents, direntpluses}
 use Rattle.fk_wire.specs.Replies.{ReplyMessage, SpellsReplyAt, reply_body}
 use Rattle.fk_wire.proofs.PairLists.{list_ends}
+use Rattle.fuseworld_codec.proofs.Ends.{reads_end}
 
 -- a name, without the NUL byte behind it
 pub name_alone : (place : ℕ) (name bytes : List ℕ) → bytes_at place (length name + 1) bytes ≡ name ++ 0 ∷ []
@@ -99,7 +100,7 @@ rest_reads fs place bytes within h = rw (to_the_end place bytes) (reads_after fs
     (subst (λ (p : ℕ). ReadsAs p fs bytes) (omega arith) h))
 
 -- what places the names and the pairs of a request
-pub ruleset flat_places = (name_alone, pairs_after)
+pub ruleset flat_places = (name_alone, pairs_after, reads_end)
 
 -- the records to the end of a frame
 pub records_after : (ds : List DirentContent) (bytes : List ℕ) → 16 ≤ length bytes → ReadsAs 16 (dirents ds) bytes
@@ -111,7 +112,7 @@ pub pluses_after : (ps : List DirentPlusContent) (bytes : List ℕ) → 16 ≤ l
 pluses_after ps = rest_reads (direntpluses ps) 16
 
 -- what places the records of a reply
-pub ruleset reply_places = (records_after, pluses_after)
+pub ruleset reply_places = (records_after, pluses_after, reads_end)
 
 -- the body of a reply's frame, after its header
 pub reply_body_reads : (minor : Minor) (o : Opcode) (bytes : List ℕ) (t : ReplyMessage)

@@ -110,7 +110,7 @@ fn only_attr(attr: Attr) -> FlatEntry
 }
 
 /// The struct of a reply whose frame the bytes are.
-#[tactic(auto, using(crate::proofs::Places::reply_places, crate::proofs::Ends::reads_end, fk_wire::proofs::Masks::and_again))]
+#[tactic(auto, using(crate::proofs::Places::reply_places, fk_wire::proofs::Masks::and_again))]
 pub(crate) fn flat_of(opcode: u32, reply: &Reply<'_>, frame: &[u8]) -> FlatReply
     requires length { 16 ≤ length frame.now }
     requires entries { IsReplyContent (reply_content reply.now.body) }

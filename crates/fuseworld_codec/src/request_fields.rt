@@ -124,7 +124,7 @@ fn with_version(request: &Request<'_>, major: u32, minor: u32, flags: u32) -> Fl
 }
 
 /// The struct of a request whose frame the bytes are.
-#[tactic(auto, using(crate::proofs::Places::flat_places, crate::proofs::Ends::reads_end, fk_wire::proofs::Masks::and_again))]
+#[tactic(auto, using(crate::proofs::Places::flat_places, fk_wire::proofs::Masks::and_again))]
 pub(crate) fn flat_of(request: &Request<'_>, frame: &[u8]) -> FlatRequest
     requires { ReadsAs 40 (request_body (request_content request.now.body)) frame.now }
     ensures says { IsRequestStruct result frame.now (request_message request.now) }

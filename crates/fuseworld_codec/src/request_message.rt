@@ -1,6 +1,7 @@
 //! The request that a struct of a C caller says.
 
-ghost use Rattle.std.specs.Prelude.{◌≡◌, ◌≢◌, ◌≤◌, ◌<◌, ◌+◌, List, ℕ, length, IfOk, IfErr, Err, IsTrue, MatchOption, false, ◌↔◌};
+ghost use Rattle.std.specs.Prelude.{◌≡◌, ◌≢◌, ◌≤◌, ◌<◌, ◌+◌, ◌↔◌, List, ℕ, length};
+ghost use Rattle.std.specs.Prelude.{IfOk, IfErr, Err, IsTrue, MatchOption, false};
 ghost use Rattle.fk_wire.specs.Fields.{bytes_at, ReadsAs};
 ghost use Rattle.fk_wire.specs.Opcodes.{code_of};
 ghost use Rattle.fk_wire.specs.Pairs.{forget_ones, pairs_in};

@@ -1,7 +1,7 @@
 //! The pairs and the records of a frame, one at a time.
 
-ghost use Rattle.std.specs.Prelude.{◌≡◌, ◌≢◌, ◌≤◌, ◌<◌, ◌+◌, ◌-◌, ◌%◌, ◌^◌, ◌↔◌, IsTrue, IfOk, IfErr, IsOk, Err, length};
-ghost use Rattle.std.specs.Prelude.{false, true};
+ghost use Rattle.std.specs.Prelude.{◌≡◌, ◌≢◌, ◌≤◌, ◌<◌, ◌+◌, ◌-◌, ◌%◌, ◌^◌, ◌↔◌, IsTrue, IfOk, IfErr, IsOk, Err};
+ghost use Rattle.std.specs.Prelude.{false, length, true};
 ghost use Rattle.fk_wire.specs.Fields.{IsRecordName, number_at};
 ghost use Rattle.fk_wire.specs.Dirents.{dirent_at};
 ghost use Rattle.fk_wire.specs.Entries.{entry_at};

@@ -60,7 +60,8 @@ returns-in-Err-clause-fault c = λ v o ev eo h k error near.
     let opcode = c.in-Some-opcode_of_code.opcode in
     let same : opcode ≡ o = same_code opcode o (c.in-Some-opcode_of_code.ensures ∙ sym eo) in
     inl (λ t goes says. c.in-Err.ensures.none
-    (λ e. near (subst (λ (p : Opcode). LeadsBeyond p c.args.reply.now c.args.bytes.now) same (c.in-Err.ensures.beyond e)))
+    (λ e. near (subst (λ (p : Opcode). LeadsBeyond p c.args.reply.now c.args.bytes.now) same
+    (c.in-Err.ensures.beyond e)))
     t (moved (λ (m : Minor) (p : Opcode). GoesWith m p t) v c.in-Some.version o opcode c.args.minor ev c.in-Some.ensures
     (sym same) goes) says)
 
@@ -100,6 +101,7 @@ returns-in-Err-clause-done c = λ v o ev eo t goes says near spelled fits.
     let opcode = c.in-Some-opcode_of_code.opcode in
     let same : opcode ≡ o = same_code opcode o (c.in-Some-opcode_of_code.ensures ∙ sym eo) in
     absurd (c.in-Err.ensures.none
-    (λ e. near (subst (λ (p : Opcode). LeadsBeyond p c.args.reply.now c.args.bytes.now) same (c.in-Err.ensures.beyond e)))
+    (λ e. near (subst (λ (p : Opcode). LeadsBeyond p c.args.reply.now c.args.bytes.now) same
+    (c.in-Err.ensures.beyond e)))
     t (moved (λ (m : Minor) (p : Opcode). GoesWith m p t) v c.in-Some.version o opcode c.args.minor ev c.in-Some.ensures
     (sym same) goes) says)
