@@ -3,5 +3,7 @@ pub mod Faults
 pub mod Numbers
 pub mod OpenFiles
 pub mod Parties
+pub mod ReplyActs
+pub mod RequestActs
 pub mod Sessions
 pub mod Waiting

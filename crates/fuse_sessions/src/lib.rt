@@ -7,6 +7,8 @@
 
 pub mod act;
 pub mod fault;
+pub mod transfer;
 
 pub use act::{Act, Asked, File, OpenFile, OpenKind, Taken};
 pub use fault::{Fault, Party};
+pub use transfer::Transfer;

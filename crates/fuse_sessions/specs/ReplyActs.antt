@@ -1,0 +1,96 @@
+-- The acts that an accepted reply is, by what its request asked.
+use Rattle.std.specs.Prelude.{ℕ, ◌^◌, Bool, true, false, ◌&&◌, ◌||◌, List, [], ◌∷◌, ◌++◌, codes, nat_eq, nat_lt, bit_and, if◌then◌else◌}
+use Rattle.std.specs.List.{list_any, flat_map}
+use Rattle.std.specs.Cmp.Lexicographic.{pointwise}
+use Rattle.fuse_protocol.specs.declared.opcode.Opcode.{Opcode}
+use Rattle.fuse_protocol.specs.declared.opcode.Opcode.TheVariants as op
+use Rattle.fuse_replies.specs.declared.entry.Entry.{Entry}
+use Rattle.fuse_replies.specs.declared.entry.Attributes.{Attributes}
+use Rattle.fuse_replies.specs.declared.entry.Opened.{Opened}
+use Rattle.fuse_replies.specs.Record.{EntryRecordContent}
+use Rattle.fuse_replies.specs.Replies.{AnswerContent}
+use Rattle.fuse_replies.specs.Replies as answer
+use Rattle.fuse_sessions.specs.declared.act.Act.{Act}
+use Rattle.fuse_sessions.specs.declared.act.Act.TheVariants.{Faulty, Agrees, Gives, Describes, Opens, OpensNone}
+use Rattle.fuse_sessions.specs.declared.act.Asked.{Asked}
+use Rattle.fuse_sessions.specs.declared.act.File.{File}
+use Rattle.fuse_sessions.specs.declared.act.OpenKind.TheVariants as kind
+use Rattle.fuse_sessions.specs.declared.fault.Fault.TheVariants as fault
+
+-- ENOSYS
+abbrev pub enosys : ℕ
+enosys = 38
+
+-- the type's bits of a mode, octal 0170000
+abbrev pub kind_of : Attributes → ℕ
+kind_of a = bit_and a.mode 61440
+
+-- octal 0010000, 0020000, 0040000, 0060000, 0100000, 0120000, 0140000 (stat(2): S_IFIFO, S_IFCHR, S_IFDIR, S_IFBLK, S_IFREG,
+-- S_IFLNK, S_IFSOCK)
+abbrev pub kinds : List ℕ
+kinds = 4096 ∷ 8192 ∷ 16384 ∷ 24576 ∷ 32768 ∷ 40960 ∷ 49152 ∷ []
+
+abbrev pub is_kind : ℕ → Bool
+is_kind k = list_any (nat_eq k) kinds
+
+abbrev pub file_of : Entry → File
+file_of e = record { generation = e.generation; kind = kind_of e.attributes; ino = e.attributes.ino }
+
+-- Linux takes an entry whose file has a kind and a size that fits. Of another it counts the node or not, by the way that
+-- the entry came. (linux/fs/fuse/dir.c)
+abbrev pub is_counted : Entry → Bool
+is_counted e = is_kind (kind_of e.attributes) && nat_lt e.attributes.size (2 ^ 63)
+
+-- a missing name has an entry of node 0 in a LOOKUP and a READDIRPLUS alone
+abbrev pub may_be_missing : Opcode → Bool
+may_be_missing op.Lookup = true
+may_be_missing op.Readdirplus = true
+may_be_missing o = false
+
+abbrev pub of_no_kind : Entry → List Act
+of_no_kind e = if is_kind (kind_of e.attributes) then [] else Faulty fault.EntryOfNoKind ∷ []
+
+-- what an entry is, in a reply to a request of an opcode
+abbrev pub entry_acts : Opcode → Entry → List Act
+entry_acts o e = if nat_eq e.nodeid 1 then Faulty fault.EntryOfTheRoot ∷ [] else (
+    if nat_eq e.nodeid 0 then (if may_be_missing o then [] else Faulty fault.EntryOfNoNode ∷ [])
+    else (of_no_kind e ++ Gives e.nodeid (file_of e) (is_counted e) ∷ []))
+
+abbrev pub is_name : List ℕ → List ℕ → Bool
+is_name a b = pointwise nat_eq a b
+
+-- A record of `.` or `..` counts nothing. (linux/fs/fuse/readdir.c)
+abbrev pub record_acts : EntryRecordContent → List Act
+record_acts r = if is_name r.said.name (codes ".") || is_name r.said.name (codes "..") then [] else entry_acts op.Readdirplus r.entry
+
+-- a file that is open from now on
+abbrev pub opening : Opcode → (node fh : ℕ) → List Act
+opening op.Open node fh = Opens (record { kind = kind.File; nodeid = node; fh = fh }) ∷ []
+opening op.Opendir node fh = Opens (record { kind = kind.Directory; nodeid = node; fh = fh }) ∷ []
+opening op.Create node fh = Opens (record { kind = kind.File; nodeid = node; fh = fh }) ∷ []
+opening op.Tmpfile node fh = Opens (record { kind = kind.File; nodeid = node; fh = fh }) ∷ []
+opening o node fh = []
+
+abbrev pub opening_none : Opcode → List Act
+opening_none op.Open = OpensNone kind.File ∷ []
+opening_none op.Opendir = OpensNone kind.Directory ∷ []
+opening_none o = []
+
+-- Of WRITE and of the copies the number is how many bytes were written.
+abbrev pub counting : Opcode → (said asked : ℕ) → List Act
+counting op.Write said asked = if nat_lt asked said then Faulty fault.MoreThanWasAsked ∷ [] else []
+counting op.CopyFileRange said asked = if nat_lt asked said then Faulty fault.MoreThanWasAsked ∷ [] else []
+counting op.CopyFileRange64 said asked = if nat_lt asked said then Faulty fault.MoreThanWasAsked ∷ [] else []
+counting o said asked = []
+
+-- The acts of what an accepted reply says.
+abbrev pub answer_acts : Asked → AnswerContent → List Act
+answer_acts a (answer.failed errno) = if nat_eq errno enosys then opening_none a.opcode else []
+answer_acts a (answer.entry e) = entry_acts a.opcode e
+answer_acts a (answer.attributes v) = Describes a.nodeid (kind_of v.attributes) v.attributes.ino ∷ []
+answer_acts a (answer.opened o) = opening a.opcode a.nodeid o.handle
+answer_acts a (answer.created e o) = entry_acts a.opcode e ++ opening a.opcode e.nodeid o.handle
+answer_acts a (answer.number n) = counting a.opcode n a.asked
+answer_acts a (answer.entry_records rs) = flat_map record_acts rs
+answer_acts a (answer.init i) = Agrees i.max_write ∷ []
+answer_acts a other = []
