@@ -25,8 +25,8 @@ enosys = 38
 abbrev pub kind_of : Attributes → ℕ
 kind_of a = bit_and a.mode 61440
 
--- octal 0010000, 0020000, 0040000, 0060000, 0100000, 0120000, 0140000 (stat(2): S_IFIFO, S_IFCHR, S_IFDIR, S_IFBLK, S_IFREG,
--- S_IFLNK, S_IFSOCK)
+-- octal 0010000, 0020000, 0040000, 0060000, 0100000, 0120000, 0140000: a FIFO, a device of characters, a directory, a
+-- device of blocks, a regular file, a link, a socket (stat(2))
 abbrev pub kinds : List ℕ
 kinds = 4096 ∷ 8192 ∷ 16384 ∷ 24576 ∷ 32768 ∷ 40960 ∷ 49152 ∷ []
 
