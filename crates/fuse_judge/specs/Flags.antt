@@ -1,0 +1,30 @@
+-- What is known of a session as a whole.
+use Rattle.std.specs.Prelude.{◌≡◌, ℕ, Bool, false, not, nat_lt, max, Option, Some, None}
+use Rattle.fuse_sessions.specs.declared.act.OpenKind.TheVariants as kind
+use Rattle.fuse_sessions.specs.Sessions.{Session, latest}
+use Rattle.fuse_sessions.specs.Numbers.{was_anything_read, has_agreed, has_several_readers, has_ended, is_out_of_order}
+use Rattle.fuse_sessions.specs.OpenFiles.{has_none}
+use Rattle.fuse_sessions.specs.Faults.{agreed_write}
+use Rattle.fuse_judge.specs.declared.flags.Flags.{Flags}
+
+-- the highest number is this one or a higher one
+abbrev pub is_from : ℕ → Option ℕ → Bool
+is_from unique None = false
+is_from unique (Some highest) = not (nat_lt highest unique)
+
+-- the higher of two, where there are any
+abbrev pub highest_with : Option ℕ → Option ℕ → Option ℕ
+highest_with (Some a) (Some b) = Some (max a b)
+highest_with (Some a) None = Some a
+highest_with None b = b
+
+-- This is true of the session.
+pub record AreFlags (s : Session) (flags : Flags) : Type 0 where
+  pub began : flags.began ≡ was_anything_read s
+  pub agreed : flags.agreed ≡ has_agreed s
+  pub max_write : flags.max_write ≡ latest agreed_write s
+  pub several : flags.has_several_readers ≡ has_several_readers s
+  pub ended : flags.ended ≡ has_ended s
+  pub no_files : flags.opens_no_files ≡ has_none s kind.File
+  pub no_directories : flags.opens_no_directories ≡ has_none s kind.Directory
+  pub highest : (unique : ℕ) → is_out_of_order s unique ≡ is_from unique flags.highest

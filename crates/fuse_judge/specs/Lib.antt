@@ -1,0 +1,5 @@
+pub mod Flags
+pub mod Numbers
+pub mod Verdicts
+pub mod Tallies
+pub mod Handles

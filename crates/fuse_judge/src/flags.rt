@@ -1,0 +1,125 @@
+//! What is known of a session as a whole.
+
+ghost use Rattle.std.specs.Prelude.{◌≡◌, [], ◌∷◌, ◌++◌};
+ghost use Rattle.fuse_sessions.specs.Sessions.{Session};
+ghost use Rattle.fuse_sessions.specs.Numbers.{shows_end};
+ghost use Rattle.fuse_sessions.specs.Faults.{BreaksArrival, BreaksBeginning, BreaksWrite};
+ghost use Rattle.fuse_judge.specs.Flags.{AreFlags, is_from, highest_with};
+ghost use Rattle.fuse_judge.specs.Verdicts.{IsFault};
+
+use crate::projections::{
+    agreed_write, is_agreement, is_of_several, is_reading, opens_none, request_read,
+};
+use fuse_protocol::Opcode;
+use fuse_sessions::{Act, Fault, OpenKind};
+
+/// How many bytes a WRITE may have where fewer are said, or nothing yet.
+const PAGE: u32 = 4096;
+
+/// What is known of a session as a whole.
+#[derive(Clone, Copy)]
+pub struct Flags {
+    /// A request was read.
+    pub began: bool,
+    /// INIT was accepted.
+    pub agreed: bool,
+    /// On WRITEs of at most how many bytes it agreed.
+    pub max_write: Option<u32>,
+    pub has_several_readers: bool,
+    pub ended: bool,
+    pub opens_no_files: bool,
+    pub opens_no_directories: bool,
+    /// The highest number of a request that takes a reply.
+    pub highest: Option<u64>,
+}
+
+/// Nothing is known.
+pub(crate) const fn no_flags() -> Flags
+    ensures { AreFlags [] result }
+{
+    Flags {
+        began: false,
+        agreed: false,
+        max_write: None,
+        has_several_readers: false,
+        ended: false,
+        opens_no_files: false,
+        opens_no_directories: false,
+        highest: None,
+    }
+}
+
+/// Whether a number is below the highest, or that.
+pub(crate) fn is_out_of_order(highest: Option<u64>, unique: u64) -> bool
+    ensures { result ≡ is_from unique highest }
+{
+    match highest {
+        Some(highest) => unique <= highest,
+        None => false,
+    }
+}
+
+/// The fault of a device at which a request is read.
+pub(crate) fn fault_of_arrival(flags: Flags) -> Option<Fault>
+    ensures { (s : Session) → AreFlags s flags → IsFault (BreaksArrival s) result }
+{
+    if flags.ended {
+        Some(Fault::ReadAfterTheEnd)
+    } else {
+        None
+    }
+}
+
+/// The fault of a kernel that begins with a request.
+pub(crate) fn fault_of_beginning(flags: Flags, opcode: Opcode) -> Option<Fault>
+    ensures { (s : Session) → AreFlags s flags → IsFault (BreaksBeginning s opcode) result }
+{
+    match opcode {
+        Opcode::Init if flags.began => Some(Fault::InitNotFirst),
+        Opcode::Init => None,
+        _ if !flags.agreed => Some(Fault::RequestBeforeInit),
+        _ => None,
+    }
+}
+
+/// The fault of a kernel that writes so many bytes.
+pub(crate) fn fault_of_write(flags: Flags, size: u32) -> Option<Fault>
+    ensures { (s : Session) → AreFlags s flags → IsFault (BreaksWrite s size) result }
+{
+    let most = match flags.max_write {
+        Some(max_write) => max_write.max(PAGE),
+        None => PAGE,
+    };
+    if most < size {
+        Some(Fault::WriteTooLarge)
+    } else {
+        None
+    }
+}
+
+/// The highest of a number and those before it.
+fn higher(highest: Option<u64>, read: Option<u64>) -> Option<u64>
+    ensures { result ≡ highest_with highest read }
+{
+    match (highest, read) {
+        (Some(highest), Some(unique)) => Some(highest.max(unique)),
+        (None, read) => read,
+        (highest, None) => highest,
+    }
+}
+
+/// What is known after one more act, which shows the connection's end or not.
+pub(crate) fn flags_with(flags: Flags, act: Act, shows: bool) -> Flags
+    ensures { (s : Session) → AreFlags s flags → shows ≡ shows_end (s, act) → AreFlags (s ++ act ∷ []) result }
+{
+    Flags {
+        began: flags.began | is_reading(act),
+        agreed: flags.agreed | is_agreement(act),
+        max_write: agreed_write(act).or(flags.max_write),
+        has_several_readers: flags.has_several_readers | is_of_several(act),
+        ended: flags.ended | shows,
+        opens_no_files: flags.opens_no_files | opens_none(OpenKind::File, act),
+        opens_no_directories: flags.opens_no_directories | opens_none(OpenKind::Directory, act),
+        highest: higher(flags.highest, request_read(act)),
+    }
+}
