@@ -23,9 +23,3 @@ pub(crate) fn handle_of(file: OpenFile) -> Handle
         fh: file.fh,
     }
 }
-
-fn same(a: Handle, b: Handle) -> bool
-    ensures { result ≡ result }
-{
-    a == b
-}

@@ -1,0 +1,12 @@
+use Rattle.fuse_judge.proofs.PendingLaws.{listed_asked, asked_interrupted}
+use Rattle.fuse_judge.proofs.pending.ask.Goals as goal
+
+pub returns-clause-listed : goal.returns-clause-listed
+returns-clause-listed g c = λ xs are. rw c.put.ensures.entries
+    (listed_asked xs c.args.pending.now.rows.entries c.args.unique c.args.pending.now.named.entries
+    c.args.pending.now.used.entries are c.args.asked c.add_names.new.named.entries c.add_uses.new.used.entries
+    c.requires.gone c.add_names.ensures.counts c.add_uses.ensures.counts)
+
+pub returns-clause-interrupted : goal.returns-clause-interrupted
+returns-clause-interrupted g c = λ s are. rw c.put.ensures.entries
+    (asked_interrupted s c.args.pending.now.rows.entries c.args.unique c.args.asked are)

@@ -1,0 +1,40 @@
+-- The nodes that are counted.
+use Rattle.std.specs.Prelude.{◌≡◌, ◌<◌, ◌≤◌, ℕ, Option, Some, None}
+use Rattle.fuse_spec.specs.Values.Maps.{Map, get}
+use Rattle.fuse_sessions.specs.declared.act.Act.{Act}
+use Rattle.fuse_sessions.specs.declared.act.Act.TheVariants as act
+use Rattle.fuse_sessions.specs.Sessions.{Session}
+use Rattle.fuse_sessions.specs.Counts.{gives_least, gives_most, forgets_of, least_count, most_count, first_file, known}
+use Rattle.fuse_judge.specs.declared.node_change.NodeChange.{NodeChange}
+use Rattle.fuse_judge.specs.declared.node_change.NodeChange.TheVariants as change
+use Rattle.fuse_judge.specs.declared.nodes.NodeRow.{NodeRow}
+
+-- An act neither gives a node nor forgets it.
+pub record LeavesNode (node : ℕ) (a : Act) : Type 0 where
+  pub least : gives_least node a ≡ 0
+  pub most : gives_most node a ≡ 0
+  pub forgets : forgets_of node a ≡ 0
+  pub file : (before : Session) → first_file node (before, a) ≡ None
+
+-- This is what an act does to the counts of nodes.
+abbrev pub IsNodeChange : Act → NodeChange → Type 0
+IsNodeChange a change.Nothing = (node : ℕ) → LeavesNode node a
+IsNodeChange a (change.Gives node file is_certain) = a ≡ act.Gives node file is_certain
+IsNodeChange a (change.Forgets node lookups) = a ≡ act.Forgets node lookups
+
+-- A row of a node that may be counted.
+pub record IsCounted (s : Session) (node : ℕ) (row : NodeRow) : Type 0 where
+  pub some : 0 < row.most
+  pub within : row.least ≤ row.most
+  pub least : least_count s node ≡ row.least
+  pub most : most_count s node ≡ row.most
+  pub file : known s node ≡ Some row.file
+
+-- This is true of the node: no row stands for one that is not counted.
+abbrev pub IsNode : Session → ℕ → Option NodeRow → Type 0
+IsNode s node None = (least_count s node ≡ 0) × (most_count s node ≡ 0)
+IsNode s node (Some row) = IsCounted s node row
+
+-- The table of nodes is right.
+abbrev pub AreNodes : Session → Map NodeRow → Type 0
+AreNodes s nodes = (node : ℕ) → IsNode s node (get nodes node)

@@ -1,0 +1,135 @@
+//! The files that are open: the tables, and what is a fault by them.
+
+ghost use Rattle.std.specs.Prelude.{◌≡◌, ◌↔◌, ℕ, ◌<◌, ◌≤◌, ◌+◌, ◌^◌, [], ◌∷◌, ◌++◌, IsTrue, length, nat_lt};
+ghost use Rattle.indexmap.specs.IndexMap.{spare};
+ghost use Rattle.fuse_sessions.specs.declared.act.Act.TheVariants.{Opens, Releases};
+ghost use Rattle.fuse_sessions.specs.Sessions.{Session};
+ghost use Rattle.fuse_sessions.specs.Waiting.{is_used};
+ghost use Rattle.fuse_sessions.specs.OpenFiles.{opened, has_none, HasOpen};
+ghost use Rattle.fuse_sessions.specs.Faults.{BreaksUse, BreaksRelease};
+ghost use Rattle.fuse_judge.specs.Flags.{AreFlags};
+ghost use Rattle.fuse_judge.specs.Opens.{AreOpen};
+ghost use Rattle.fuse_judge.specs.Verdicts.{IsFault};
+
+use crate::flags::Flags;
+use crate::handle::{Handle, handle_of};
+use crate::open_change::{OpenChange, open_change_of};
+use crate::tally::{Tally, add, count, take};
+use fuse_sessions::{Act, Fault, OpenFile, OpenKind};
+use std::alloc::{Allocator, Global};
+
+/// The files that are open.
+#[derive(Drop)]
+pub struct OpenFiles<A: Allocator = Global> {
+    /// How often each is open.
+    pub counts: Tally<Handle, A>,
+    /// How many of those that are open each node has.
+    pub nodes: Tally<u64, A>,
+}
+
+/// How often a file is open.
+pub(crate) fn open_count<A: Allocator + Copy>(opens: &OpenFiles<A>, file: OpenFile) -> u64
+    ensures { (s : Session) → AreOpen s opens.now.counts.entries opens.now.nodes.entries → result ≡ opened s file }
+{
+    count(&opens.counts, handle_of(file))
+}
+
+/// Whether some file of a node is open.
+pub(crate) fn has_open<A: Allocator + Copy>(opens: &OpenFiles<A>, node: u64) -> bool
+    ensures { (s : Session) → AreOpen s opens.now.counts.entries opens.now.nodes.entries
+        → IsTrue result ↔ HasOpen s node }
+{
+    count(&opens.nodes, node) > 0
+}
+
+/// Whether the server opens none of a kind.
+fn opens_none(flags: Flags, kind: OpenKind) -> bool
+    ensures { (s : Session) → AreFlags s flags → result ≡ has_none s kind }
+{
+    match kind {
+        OpenKind::File => flags.opens_no_files,
+        OpenKind::Directory => flags.opens_no_directories,
+    }
+}
+
+/// The fault of a kernel that uses an open file, which is open so often.
+pub(crate) fn fault_of_use(count: u64, flags: Flags, file: OpenFile) -> Option<Fault>
+    ensures { (s : Session) → count ≡ opened s file → AreFlags s flags → IsFault (BreaksUse s file) result }
+{
+    let none = opens_none(flags, file.kind) && file.fh == 0;
+    if none || count > 0 {
+        None
+    } else {
+        Some(Fault::HandleNotOpen)
+    }
+}
+
+/// The fault of a kernel that releases an open file, which is open so often and which a request uses or not.
+pub(crate) fn fault_of_release(
+    count: u64,
+    flags: Flags,
+    file: OpenFile,
+    used: bool,
+) -> Option<Fault>
+    ensures { (s : Session) → count ≡ opened s file → AreFlags s flags → used ≡ is_used s file
+        → IsFault (BreaksRelease s file) result }
+{
+    let none = opens_none(flags, file.kind) && file.fh == 0;
+    if !none && count == 0 {
+        Some(Fault::ReleaseOfWhatIsNotOpen)
+    } else if count == 1 && used {
+        Some(Fault::ReleaseBesideAUse)
+    } else {
+        None
+    }
+}
+
+/// A file is open once more.
+fn open<A: Allocator + Copy>(opens: &mut OpenFiles<A>, file: OpenFile)
+    requires room { 0 < spare opens.old.counts }
+    requires nodes_room { 0 < spare opens.old.nodes }
+    requires few { (s : Session) × AreOpen s opens.old.counts.entries opens.old.nodes.entries × (length s + 1 < 2 ^ 64) }
+    ensures kept { (s : Session) → AreOpen s opens.old.counts.entries opens.old.nodes.entries
+        → AreOpen (s ++ Opens file ∷ []) opens.new.counts.entries opens.new.nodes.entries }
+    ensures room { spare opens.old.counts ≤ spare opens.new.counts + 1 }
+    ensures nodes_room { spare opens.old.nodes ≤ spare opens.new.nodes + 1 }
+{
+    let key = handle_of(file);
+    let was = count(&opens.counts, key);
+    add(&mut opens.counts, key);
+    if was == 0 {
+        add(&mut opens.nodes, file.nodeid);
+    }
+}
+
+/// A file is open once less.
+fn release<A: Allocator + Copy>(opens: &mut OpenFiles<A>, file: OpenFile)
+    ensures kept { (s : Session) → AreOpen s opens.old.counts.entries opens.old.nodes.entries
+        → AreOpen (s ++ Releases file ∷ []) opens.new.counts.entries opens.new.nodes.entries }
+    ensures room { spare opens.old.counts ≤ spare opens.new.counts }
+    ensures nodes_room { spare opens.old.nodes ≤ spare opens.new.nodes }
+{
+    let key = handle_of(file);
+    let was = count(&opens.counts, key);
+    take(&mut opens.counts, key);
+    if was == 1 {
+        take(&mut opens.nodes, file.nodeid);
+    }
+}
+
+/// Writes down what an act does to the files that are open.
+pub(crate) fn note_opens<A: Allocator + Copy>(opens: &mut OpenFiles<A>, act: Act)
+    requires room { 0 < spare opens.old.counts }
+    requires nodes_room { 0 < spare opens.old.nodes }
+    requires few { (s : Session) × AreOpen s opens.old.counts.entries opens.old.nodes.entries × (length s + 1 < 2 ^ 64) }
+    ensures kept { (s : Session) → AreOpen s opens.old.counts.entries opens.old.nodes.entries
+        → AreOpen (s ++ act ∷ []) opens.new.counts.entries opens.new.nodes.entries }
+    ensures room { spare opens.old.counts ≤ spare opens.new.counts + 1 }
+    ensures nodes_room { spare opens.old.nodes ≤ spare opens.new.nodes + 1 }
+{
+    match open_change_of(act) {
+        OpenChange::Nothing => {}
+        OpenChange::Opens(file) => open(opens, file),
+        OpenChange::Releases(file) => release(opens, file),
+    }
+}

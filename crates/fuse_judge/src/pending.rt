@@ -1,0 +1,247 @@
+//! The requests that wait: the tables, and what is a fault by them.
+
+ghost use Rattle.std.specs.Prelude.{◌≡◌, ℕ, ◌+◌, ◌*◌, ◌<◌, ◌≤◌, ◌^◌, Bool, false, ◌&&◌, List, [], ◌∷◌, ◌++◌, None, Some, nat_eq, filter, not, is_some, length};
+ghost use Rattle.fuse_spec.specs.Values.Maps.{get};
+ghost use Rattle.indexmap.specs.IndexMap.{spare};
+ghost use Rattle.fuse_sessions.specs.declared.act.Act.{Act};
+ghost use Rattle.fuse_sessions.specs.declared.act.Act.TheVariants.{Asks};
+ghost use Rattle.fuse_sessions.specs.declared.act.Asked.{Asked};
+ghost use Rattle.fuse_sessions.specs.declared.act.OpenFile.{OpenFile};
+ghost use Rattle.fuse_sessions.specs.Sessions.{Session};
+ghost use Rattle.fuse_sessions.specs.Numbers.{has_ended};
+ghost use Rattle.fuse_judge.specs.declared.pending.Waiting.{Waiting};
+ghost use Rattle.fuse_sessions.specs.Faults.{BreaksInterrupt, BreaksTaking, BreaksReply, BreaksReplyToInterrupt};
+ghost use Rattle.fuse_judge.specs.Flags.{AreFlags};
+ghost use Rattle.fuse_judge.specs.Handles.{handle, same_handle};
+ghost use Rattle.fuse_judge.specs.Numbers.{AreNumbers};
+ghost use Rattle.fuse_judge.specs.Pending.{AreListed, AreInterrupted, ArePending, AreWaiting, HasEffect, entry_of};
+ghost use Rattle.fuse_judge.specs.Tallies as words;
+ghost use Rattle.fuse_judge.specs.Tallies.{count_in};
+ghost use Rattle.fuse_judge.specs.Verdicts.{IsFault};
+
+use crate::change::{Change, change_of};
+use crate::handle::Handle;
+use crate::named::{add_names, add_uses, take_names, take_uses};
+use crate::numbers::{was_forget, was_read};
+use crate::rows::write;
+use crate::tally::Tally;
+use fuse_sessions::{Act, Asked, Fault, Taken};
+use fuse_tables::RisingTable;
+use std::alloc::{Allocator, Global};
+
+/// A request that waits.
+#[derive(Clone, Copy, Drop)]
+pub struct Waiting {
+    pub asked: Asked,
+    /// How many INTERRUPTs of it were read, and how many were answered EAGAIN.
+    pub interrupts: u64,
+    pub agains: u64,
+}
+
+/// The requests that wait.
+#[derive(Drop)]
+pub struct Pending<A: Allocator = Global> {
+    pub rows: RisingTable<Waiting, A>,
+    /// How many of them name a node.
+    pub named: Tally<u64, A>,
+    /// How many of them use an open file.
+    pub used: Tally<Handle, A>,
+}
+
+/// The fault of a kernel that interrupts a request.
+pub(crate) fn fault_of_interrupt<A: Allocator + Copy>(
+    rows: &RisingTable<Waiting, A>,
+    unique: u64,
+    original: u64,
+) -> Option<Fault>
+    ensures { (s : Session) → AreWaiting s rows.now.entries → IsFault (BreaksInterrupt s unique original) result }
+{
+    let Some(row) = rows.get(original) else {
+        return Some(Fault::InterruptOfNothing);
+    };
+    if original == u64::MAX || unique != original + 1 {
+        Some(Fault::InterruptUnderAnotherNumber)
+    } else if row.agains < row.interrupts {
+        Some(Fault::InterruptTooOften)
+    } else {
+        None
+    }
+}
+
+/// The fault of a device that takes a reply or refuses it.
+pub(crate) fn fault_of_taking<A: Allocator + Copy>(
+    rows: &RisingTable<Waiting, A>,
+    ended: bool,
+    unique: u64,
+    taken: Taken,
+    fits: bool,
+) -> Option<Fault>
+    ensures { (s : Session) → AreWaiting s rows.now.entries → ended ≡ has_ended s
+        → IsFault (BreaksTaking s unique taken fits) result }
+{
+    let waits = rows.get(unique).is_some();
+    match taken {
+        Taken::Accepted if ended => Some(Fault::AcceptedAfterTheEnd),
+        Taken::Accepted if !waits => Some(Fault::AcceptedReplyToNothing),
+        Taken::Accepted if !fits => Some(Fault::AcceptedWrongBody),
+        Taken::Invalid if fits && waits && !ended => Some(Fault::RefusedReply),
+        _ => None,
+    }
+}
+
+/// The fault of a server that replies under a number.
+pub(crate) fn fault_of_reply<A: Allocator + Copy>(
+    rows: &RisingTable<Waiting, A>,
+    numbers: &RisingTable<bool, A>,
+    unique: u64,
+) -> Option<Fault>
+    ensures { (s : Session) → AreWaiting s rows.now.entries → AreNumbers s numbers.now.entries
+        → IsFault (BreaksReply s unique) result }
+{
+    if rows.get(unique).is_some() {
+        None
+    } else if was_forget(numbers, unique) {
+        Some(Fault::ReplyToForget)
+    } else if was_read(numbers, unique) {
+        Some(Fault::SecondReply)
+    } else {
+        Some(Fault::ReplyToNothing)
+    }
+}
+
+/// The fault of a server that replies to an INTERRUPT.
+pub(crate) fn fault_of_reply_to_interrupt<A: Allocator + Copy>(
+    rows: &RisingTable<Waiting, A>,
+    numbers: &RisingTable<bool, A>,
+    original: u64,
+) -> Option<Fault>
+    ensures { (s : Session) → AreWaiting s rows.now.entries → AreNumbers s numbers.now.entries
+        → IsFault (BreaksReplyToInterrupt s original) result }
+{
+    if !was_read(numbers, original) {
+        return Some(Fault::ReplyToNothing);
+    }
+    let row = rows.get(original)?;
+    if row.interrupts == 0 {
+        Some(Fault::ReplyToNoInterrupt)
+    } else {
+        None
+    }
+}
+
+/// Whether a request waits under a number.
+pub(crate) fn waits<A: Allocator + Copy>(rows: &RisingTable<Waiting, A>, unique: u64) -> bool
+    ensures { result ≡ is_some (get rows.now.entries unique) }
+{
+    rows.get(unique).is_some()
+}
+
+/// What waits under a number ends.
+fn end<A: Allocator + Copy>(pending: &mut Pending<A>, unique: u64)
+    ensures listed { (xs : List (ℕ × Asked))
+        → AreListed xs pending.old.rows.entries pending.old.named.entries pending.old.used.entries
+        → AreListed (filter (λ (e : ℕ × Asked). not (nat_eq unique e.0)) xs) pending.new.rows.entries
+            pending.new.named.entries pending.new.used.entries }
+    ensures interrupted { (s : Session) → AreInterrupted s pending.old.rows.entries → AreInterrupted s pending.new.rows.entries }
+    ensures gone { get pending.new.rows.entries unique ≡ None }
+    ensures names { (n : ℕ) → count_in nat_eq pending.new.named.entries n ≤ count_in nat_eq pending.old.named.entries n }
+    ensures uses { (f : OpenFile) → count_in same_handle pending.new.used.entries (handle f)
+        ≤ count_in same_handle pending.old.used.entries (handle f) }
+    ensures room { pending.old.rows.room ≤ pending.new.rows.room }
+    ensures named_room { spare pending.old.named ≤ spare pending.new.named }
+    ensures used_room { spare pending.old.used ≤ spare pending.new.used }
+{
+    if let Some(row) = pending.rows.remove(unique) {
+        take_names(&mut pending.named, row.asked);
+        take_uses(&mut pending.used, row.asked);
+    }
+}
+
+/// A request waits, under a number under which none does.
+fn ask<A: Allocator + Copy>(pending: &mut Pending<A>, unique: u64, asked: Asked)
+    requires gone { get pending.old.rows.entries unique ≡ None }
+    requires room { 0 < pending.old.rows.room }
+    requires named_room { 2 ≤ spare pending.old.named }
+    requires used_room { 2 ≤ spare pending.old.used }
+    requires names { (n : ℕ) → count_in nat_eq pending.old.named.entries n + 2 < 2 ^ 64 }
+    requires uses { (f : OpenFile) → count_in same_handle pending.old.used.entries (handle f) + 2 < 2 ^ 64 }
+    ensures listed { (xs : List (ℕ × Asked))
+        → AreListed xs pending.old.rows.entries pending.old.named.entries pending.old.used.entries
+        → AreListed (xs ++ (unique, asked) ∷ []) pending.new.rows.entries pending.new.named.entries
+            pending.new.used.entries }
+    ensures interrupted { (s : Session) → AreInterrupted s pending.old.rows.entries
+        → AreInterrupted (s ++ Asks unique asked ∷ []) pending.new.rows.entries }
+    ensures room { pending.old.rows.room ≤ pending.new.rows.room + 1 }
+    ensures named_room { spare pending.old.named ≤ spare pending.new.named + 2 }
+    ensures used_room { spare pending.old.used ≤ spare pending.new.used + 2 }
+{
+    let row = Waiting {
+        asked,
+        interrupts: 0,
+        agains: 0,
+    };
+    pending.rows.put(unique, row);
+    add_names(&mut pending.named, asked);
+    add_uses(&mut pending.used, asked);
+}
+
+/// One, or none.
+fn one_if(counts: bool) -> u64
+    ensures value { result ≡ words.one_if counts }
+    ensures small { result ≤ 1 }
+{
+    if counts { 1 } else { 0 }
+}
+
+/// Counts an INTERRUPT of what waits under a number, or an EAGAIN to one.
+fn interrupt<A: Allocator + Copy>(
+    rows: &mut RisingTable<Waiting, A>,
+    unique: u64,
+    interrupts: bool,
+    agains: bool,
+)
+    requires few { (u : ℕ) (row : Waiting) → get rows.old.entries u ≡ Some row
+        → (row.interrupts + 1 < 2 ^ 64) × (row.agains + 1 < 2 ^ 64) }
+    ensures once { (u : ℕ) → entry_of u (get rows.new.entries u) ≡ entry_of u (get rows.old.entries u) }
+    ensures interrupted { (s : Session) (act : Act)
+        → ((u : ℕ) → HasEffect u act false (words.one_if (nat_eq unique u && interrupts)) (words.one_if (nat_eq unique u && agains)))
+        → AreInterrupted s rows.old.entries → AreInterrupted (s ++ act ∷ []) rows.new.entries }
+    ensures room { rows.old.room ≤ rows.new.room }
+{
+    let Some(row) = rows.get(unique) else {
+        return;
+    };
+    let row = Waiting {
+        interrupts: row.interrupts + one_if(interrupts),
+        agains: row.agains + one_if(agains),
+        ..*row
+    };
+    let _old = rows.replace(unique, row);
+}
+
+/// Writes down what an act does to the requests that wait.
+pub(crate) fn note_pending<A: Allocator + Copy>(pending: &mut Pending<A>, act: Act)
+    requires room { 0 < pending.old.rows.room }
+    requires named_room { 2 ≤ spare pending.old.named }
+    requires used_room { 2 ≤ spare pending.old.used }
+    requires few { (s : Session)
+        × ArePending s pending.old.rows.entries pending.old.named.entries pending.old.used.entries
+        × (2 * length s + 2 < 2 ^ 64) }
+    ensures kept { (s : Session)
+        → ArePending s pending.old.rows.entries pending.old.named.entries pending.old.used.entries
+        → ArePending (s ++ act ∷ []) pending.new.rows.entries pending.new.named.entries pending.new.used.entries }
+    ensures room { pending.old.rows.room ≤ pending.new.rows.room + 1 }
+    ensures named_room { spare pending.old.named ≤ spare pending.new.named + 2 }
+    ensures used_room { spare pending.old.used ≤ spare pending.new.used + 2 }
+{
+    match change_of(act) {
+        Change::Nothing => {}
+        Change::Asks { unique, asked } => {
+            end(pending, unique);
+            ask(pending, unique, asked);
+        }
+        Change::Ends(unique) => end(pending, unique),
+        Change::Interrupts(unique) => interrupt(&mut pending.rows, unique, true, false),
+        Change::Again(unique) => interrupt(&mut pending.rows, unique, false, true),
+    }
+}
