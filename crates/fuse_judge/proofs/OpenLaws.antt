@@ -1,6 +1,7 @@
 -- The files that are open, with one more act.
-use Rattle.std.proofs.Common.{◌≡◌, ◌≢◌, ◌≤◌, ◌<◌, ℕ, ◌+◌, ◌-◌, ◌*◌, Bool, true, false, true≢false, ◌&&◌, not, cond, [], ◌∷◌, ◌++◌, length, Option, Some, None, refl, sym, ◌∙◌, ap, subst, arith, rules, nat_eq, inl, inr, List, ◌↔◌}
+use Rattle.std.proofs.Common.{◌≡◌, ◌≢◌, ◌≤◌, ◌<◌, ℕ, ◌+◌, ◌-◌, ◌*◌, Bool, true, false, true≢false, ◌&&◌, not, cond, [], ◌∷◌, ◌++◌, length, suc, Option, Some, None, refl, sym, ◌∙◌, ap, subst, arith, rules, nat_eq, inl, inr, List, ◌↔◌}
 use Rattle.std.specs.Prelude.{sum_by, filter, nat_lt, IsTrue}
+use Rattle.std.proofs.lemmas.List.{length_push}
 use Rattle.fuse_sessions.specs.declared.act.Act.{Act}
 use Rattle.fuse_sessions.specs.declared.act.Act.TheVariants.{Opens, Releases}
 use Rattle.fuse_sessions.specs.declared.act.OpenFile.{OpenFile}
@@ -84,6 +85,17 @@ NodeCounts = List (ℕ × ℕ)
 abbrev if_open : ℕ → OpenFile → List OpenFile
 if_open n q = cond (nat_lt 0 n) (q ∷ []) []
 
+one_longer : (s : Session) (a : Act) (n : ℕ) → n ≤ length s → n ≤ length (s ++ a ∷ [])
+one_longer s a n h = let long : length (s ++ a ∷ []) ≡ length s + 1 = length_push s a in omega (arith, long, h)
+
+fewer : {X : Type 0} (p : X → Bool) (xs : List X) → length (filter p xs) ≤ length xs
+fewer p [] = omega arith
+fewer p (x ∷ xs) = by (p x) (fewer p xs)
+  where
+    by : (b : Bool) → length (filter p xs) ≤ length xs → length (cond b (x ∷ filter p xs) (filter p xs)) ≤ suc (length xs)
+    by true h = omega (arith, h)
+    by false h = omega (arith, h)
+
 pub left_open : (s : Session) (a : Act) (counts : Counts) (nodes : NodeCounts) → ((q : OpenFile) → LeavesOpen q a)
     → AreOpen s counts nodes → AreOpen (s ++ a ∷ []) counts nodes
 left_open s a counts nodes is are = record {
@@ -91,6 +103,7 @@ left_open s a counts nodes is are = record {
   files = are.files;
   once = λ q. are.once q ∙ ap (λ n. if_open n q) (sym (opened_same s a q (is q).opens (is q).releases));
   of_nodes = are.of_nodes;
+  few = one_longer s a (length are.files) are.few;
 }
 
 module _ (s : Session) (f : OpenFile) (counts new : Counts) (nodes : NodeCounts) (are : AreOpen s counts nodes) where
@@ -103,6 +116,7 @@ module _ (s : Session) (f : OpenFile) (counts new : Counts) (nodes : NodeCounts)
     once = λ q. are.once q ∙ ap (λ b. cond b (q ∷ []) [])
         (by q (same_open f q) refl ∙ ap (nat_lt 0) (sym (opened_more s f q)));
     of_nodes = are.of_nodes;
+    few = one_longer s (Opens f) (length are.files) are.few;
   }
     where
       by : (q : OpenFile) (b : Bool) → same_open f q ≡ b → nat_lt 0 (opened s q) ≡ nat_lt 0 (opened s q + one_if (same_open f q))
@@ -121,6 +135,10 @@ module _ (s : Session) (f : OpenFile) (counts new : Counts) (nodes : NodeCounts)
     files = f ∷ are.files;
     once = λ q. by q (same_open f q) refl ∙ ap (λ n. if_open n q) (sym (opened_more s f q));
     of_nodes = λ n. named n ∙ ap (λ k. k + one_if (nat_eq f.nodeid n)) (are.of_nodes n) ∙ sum n;
+    few =
+        let long : length (s ++ Opens f ∷ []) ≡ length s + 1 = length_push s (Opens f) in
+        let was : length are.files ≤ length s = are.few in
+        omega (arith, long, was);
   }
     where
       by : (q : OpenFile) (b : Bool) → same_open f q ≡ b
@@ -151,6 +169,7 @@ module _ (s : Session) (f : OpenFile) (counts new : Counts) (nodes : NodeCounts)
     once = λ q. are.once q ∙ ap (λ b. cond b (q ∷ []) [])
         (by q (same_open f q) refl ∙ ap (nat_lt 0) (sym (opened_less s f q)));
     of_nodes = are.of_nodes;
+    few = one_longer s (Releases f) (length are.files) are.few;
   }
     where
       by : (q : OpenFile) (b : Bool) → same_open f q ≡ b → nat_lt 0 (opened s q) ≡ nat_lt 0 (opened s q - one_if (same_open f q))
@@ -169,6 +188,11 @@ module _ (s : Session) (f : OpenFile) (counts new : Counts) (nodes : NodeCounts)
     files = filter (λ o. not (same_open f o)) are.files;
     once = λ q. by q (same_open f q) refl ∙ ap (λ n. if_open n q) (sym (opened_less s f q));
     of_nodes = λ n. named n ∙ ap (λ k. k - one_if (nat_eq f.nodeid n)) (are.of_nodes n) ∙ sum n;
+    few =
+        let less : length (filter (λ o. not (same_open f o)) are.files) ≤ length are.files
+        = fewer (λ o. not (same_open f o)) are.files in
+        let was : length are.files ≤ length s = are.few in
+        one_longer s (Releases f) _ (omega (arith, less, was));
   }
     where
       apart : (q : OpenFile) → same_open f q ≡ false → (x : OpenFile) → same_open q x ≡ true → not (same_open f x) ≡ true
@@ -202,34 +226,36 @@ module _ (s : Session) (f : OpenFile) (counts new : Counts) (nodes : NodeCounts)
 abbrev weight : ℕ → OpenFile → ℕ
 weight n o = one_if (nat_eq o.nodeid n)
 
-found_one : (n : ℕ) (xs : List OpenFile) → 0 < sum_by (weight n) xs
-    → (o : OpenFile) × (o.nodeid ≡ n) × (filter (same_open o) xs ≢ [])
-found_one n [] h = absurd (none h)
-  where
-    none : 0 < 0 → ⊥
-    none e = omega (arith, e)
-found_one n (x ∷ xs) h = by (nat_eq x.nodeid n) refl
-  where
-    here : filter (same_open x) (x ∷ xs) ≢ []
-    here e = absurd (cons_nil (sym (ap (λ b. cond b (x ∷ filter (same_open x) xs) (filter (same_open x) xs)) (open_self x)) ∙ e))
-      where
-        cons_nil : x ∷ filter (same_open x) xs ≡ [] → ⊥
-        cons_nil h = cc
+not_empty : {X : Type 0} (x : X) (xs : List X) → x ∷ xs ≢ []
+not_empty x xs e = cc
 
-    later : (o : OpenFile) → filter (same_open o) xs ≢ [] → filter (same_open o) (x ∷ xs) ≢ []
-    later o some = on (same_open o x)
-      where
-        on : (b : Bool) → cond b (x ∷ filter (same_open o) xs) (filter (same_open o) xs) ≢ []
-        on true e = cc
-        on false e = some e
+still : (o x : OpenFile) (xs : List OpenFile) → filter (same_open o) xs ≢ [] → filter (same_open o) (x ∷ xs) ≢ []
+still o x xs some = on (same_open o x)
+  where
+    on : (b : Bool) → cond b (x ∷ filter (same_open o) xs) (filter (same_open o) xs) ≢ []
+    on true = not_empty x (filter (same_open o) xs)
+    on false = some
 
-    by : (b : Bool) → nat_eq x.nodeid n ≡ b → (o : OpenFile) × (o.nodeid ≡ n) × (filter (same_open o) (x ∷ xs) ≢ [])
-    by true e = (x, same_numbers x.nodeid n e, here)
-    by false e =
+itself : (x : OpenFile) (xs : List OpenFile) → filter (same_open x) (x ∷ xs) ≢ []
+itself x xs = rw (open_self x) (not_empty x (filter (same_open x) xs))
+
+abbrev Found : ℕ → List OpenFile → Type 0
+Found n xs = (o : OpenFile) × (o.nodeid ≡ n) × (filter (same_open o) xs ≢ [])
+
+none_found : 0 < 0 → ⊥
+none_found e = omega (arith, e)
+
+found_one : (n : ℕ) (xs : List OpenFile) → 0 < sum_by (weight n) xs → Found n xs
+found_one n [] h = absurd (none_found h)
+found_one n (x ∷ xs) h = by (nat_eq x.nodeid n) refl (found_one n xs)
+  where
+    by : (b : Bool) → nat_eq x.nodeid n ≡ b → (0 < sum_by (weight n) xs → Found n xs) → Found n (x ∷ xs)
+    by true e ih = (x, same_numbers x.nodeid n e, itself x xs)
+    by false e ih =
         let first : sum_by (weight n) (x ∷ xs) ≡ weight n x + sum_by (weight n) xs = sum_first (weight n) x xs in
         let zero_here : weight n x ≡ 0 = ap one_if e in
-        let rest = found_one n xs (omega (arith, first, zero_here, h)) in
-        (rest.0, rest.1, later rest.0 rest.2)
+        let rest : Found n xs = ih (omega (arith, first, zero_here, h)) in
+        (rest.0, rest.1, still rest.0 x xs rest.2)
 
 pub has_open_some : (s : Session) (counts : Counts) (nodes : NodeCounts) → AreOpen s counts nodes → (n : ℕ)
     → 0 < count_in nat_eq nodes n → HasOpen s n
@@ -269,3 +295,40 @@ opened_few s counts nodes are limit small q =
     let is : count_in same_handle counts (handle q) ≡ opened s q = are.open_count q in
     let few : opened s q ≤ length s = left_small (opens_this q) (releases_this q) (opens_small q) s in
     omega (arith, is, few, small)
+
+pub open_nodes_few : (s : Session) (counts : Counts) (nodes : NodeCounts) → AreOpen s counts nodes → (limit : ℕ)
+    → length s + 1 < limit → (n : ℕ) → count_in nat_eq nodes n + 1 < limit
+open_nodes_few s counts nodes are limit small n =
+    let is : count_in nat_eq nodes n ≡ sum_by (weight n) are.files = are.of_nodes n in
+    let few : sum_by (weight n) are.files ≤ 1 * length are.files
+    = sum_small (weight n) 1 (λ o. one_small (nat_eq o.nodeid n)) are.files in
+    let short : length are.files ≤ length s = are.few in
+    omega (arith, is, few, short, small)
+
+-- A node has one more, or one fewer.
+module _ (old new : NodeCounts) (key : ℕ) where
+  pub node_more : ((q : ℕ) → count_in nat_eq new q
+      ≡ cond (nat_eq key q) (count_in nat_eq old key + 1) (count_in nat_eq old q))
+      → (q : ℕ) → count_in nat_eq new q ≡ count_in nat_eq old q + one_if (nat_eq key q)
+  node_more is q = is q ∙ by (nat_eq key q) refl
+    where
+      by : (b : Bool) → nat_eq key q ≡ b → cond b (count_in nat_eq old key + 1) (count_in nat_eq old q)
+          ≡ count_in nat_eq old q + one_if b
+      by true e = ap (λ k. count_in nat_eq old k + 1) (same_numbers key q e)
+      by false e = omega arith
+
+  pub node_fewer : ((q : ℕ) → count_in nat_eq new q
+      ≡ cond (nat_eq key q) (count_in nat_eq old key - 1) (count_in nat_eq old q))
+      → (q : ℕ) → count_in nat_eq new q ≡ count_in nat_eq old q - one_if (nat_eq key q)
+  node_fewer is q = is q ∙ by (nat_eq key q) refl
+    where
+      by : (b : Bool) → nat_eq key q ≡ b → cond b (count_in nat_eq old key - 1) (count_in nat_eq old q)
+          ≡ count_in nat_eq old q - one_if b
+      by true e = ap (λ k. count_in nat_eq old k - 1) (same_numbers key q e)
+      by false e = omega arith
+
+pub above_zero : (k : ℕ) → nat_lt 0 k ≡ true → 0 < k
+above_zero k e = grind (arith, e, rules)
+
+pub is_above : (k : ℕ) → 0 < k → nat_lt 0 k ≡ true
+is_above k h = grind (arith, h, rules)

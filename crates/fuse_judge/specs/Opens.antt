@@ -1,5 +1,5 @@
 -- The files that are open.
-use Rattle.std.specs.Prelude.{◌≡◌, ℕ, List, [], ◌∷◌, if◌then◌else◌, nat_eq, nat_lt, filter, sum_by}
+use Rattle.std.specs.Prelude.{◌≡◌, ◌≤◌, ℕ, length, List, [], ◌∷◌, if◌then◌else◌, nat_eq, nat_lt, filter, sum_by}
 use Rattle.fuse_sessions.specs.declared.act.Act.{Act}
 use Rattle.fuse_sessions.specs.declared.act.Act.TheVariants as act
 use Rattle.fuse_sessions.specs.declared.act.OpenFile.{OpenFile}
@@ -29,3 +29,4 @@ pub record AreOpen (s : Session) (counts : List (Handle × ℕ)) (nodes : List (
   pub files : List OpenFile
   pub once : (file : OpenFile) → filter (same_open file) files ≡ (if nat_lt 0 (opened s file) then file ∷ [] else [])
   pub of_nodes : (node : ℕ) → count_in nat_eq nodes node ≡ sum_by (λ file. one_if (nat_eq file.nodeid node)) files
+  pub few : length files ≤ length s

@@ -1,0 +1,4 @@
+use Rattle.fuse_judge.proofs.opens.opens_none.Goals as goal
+
+pub returns-in-Directory : goal.returns-in-Directory
+returns-in-Directory c = λ s are. rw c.in-Directory.is are.no_directories
