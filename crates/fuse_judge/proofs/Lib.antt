@@ -5,3 +5,5 @@ pub mod PendingLaws
 pub mod HandleLaws
 pub mod NodeLaws
 pub mod OpenLaws
+pub mod VerdictLaws
+pub mod SeenSoFar

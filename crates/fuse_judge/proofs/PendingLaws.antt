@@ -1,5 +1,5 @@
 -- The requests that wait, with one more act.
-use Rattle.std.proofs.Common.{◌≡◌, ◌≢◌, ◌≤◌, ◌<◌, ℕ, ◌+◌, ◌-◌, ◌*◌, Bool, true, false, true≢false, not, cond, List, [], ◌∷◌, ◌++◌, length, length-append, suc, ◌&&◌, Option, Some, None, refl, sym, ◌∙◌, ap, subst, arith, rules, nat_eq, inl, inr}
+use Rattle.std.proofs.Common.{◌≡◌, ◌≢◌, ◌≤◌, ◌<◌, ℕ, ◌+◌, ◌-◌, ◌*◌, Bool, true, false, true≢false, not, cond, List, [], ◌∷◌, ◌++◌, length, length-append, suc, ◌&&◌, ◌||◌, nat_lt, Option, Some, None, refl, sym, ◌∙◌, ap, subst, arith, rules, nat_eq, inl, inr}
 use Rattle.std.specs.Prelude.{sum_by, filter}
 use Rattle.std.specs.List.{list_any}
 use Rattle.std.specs.Map.{lookup}
@@ -13,7 +13,7 @@ use Rattle.fuse_sessions.specs.declared.act.Act.TheVariants as act
 use Rattle.fuse_sessions.specs.declared.act.Asked.{Asked}
 use Rattle.fuse_sessions.specs.declared.act.OpenFile.{OpenFile}
 use Rattle.fuse_sessions.specs.Sessions.{Session, since}
-use Rattle.fuse_sessions.specs.Waiting.{waiting, waits, asked_by, ends, is_that, reaches}
+use Rattle.fuse_sessions.specs.Waiting.{waiting, waits, asked_by, ends, is_that, reaches, names_node, uses_file, is_named, is_used}
 use Rattle.fuse_sessions.specs.Numbers.{interrupts, agains, asks_under, interrupts_of, agains_of}
 use Rattle.fuse_sessions.proofs.Laws.{sum-more, since-more, waiting-more, same_filter}
 use Rattle.fuse_judge.specs.declared.handle.Handle.{Handle}
@@ -434,3 +434,32 @@ module _ (s : Session) (rows : Map Waiting) (named : Names) (used : Uses) (are :
       one_again : (q : ℕ) (a : Act) → agains_of q a ≤ 1
       one_again q (act.RepliesToInterrupt o is_again t) = one_small (nat_eq o q && (is_again && reaches t))
       one_again q a = omega arith
+
+-- whether some request that waits names a node, or uses an open file
+
+or_positive : (a b : ℕ) → (nat_lt 0 a || nat_lt 0 b) ≡ nat_lt 0 (a + b)
+or_positive a b = grind (arith, rules)
+
+either_one : (b c : Bool) → (b || c) ≡ nat_lt 0 (one_if b + one_if c)
+either_one true true = refl
+either_one true false = refl
+either_one false true = refl
+either_one false false = refl
+
+any_sum : {X : Type 0} (test : X → Bool) (w : X → ℕ) → ((x : X) → test x ≡ nat_lt 0 (w x)) → (xs : List X)
+    → list_any test xs ≡ nat_lt 0 (sum_by w xs)
+any_sum test w is [] = refl
+any_sum test w is (x ∷ xs) = ap (λ b. b || list_any test xs) (is x)
+    ∙ ap (λ b. nat_lt 0 (w x) || b) (any_sum test w is xs) ∙ or_positive (w x) (sum_by w xs)
+    ∙ ap (nat_lt 0) (sym (sum_first w x xs))
+
+module _ (s : Session) (rows : Map Waiting) (named : Names) (used : Uses) (are : ArePending s rows named used) where
+  pub named_counts : (n : ℕ) → nat_lt 0 (count_in nat_eq named n) ≡ is_named s n
+  named_counts n = ap (nat_lt 0) (are.listed.names n) ∙ sym
+      (any_sum (λ (e : ℕ × Asked). names_node n e.1) (λ (e : ℕ × Asked). names_of n e.1)
+      (λ e. either_one (nat_eq e.1.nodeid n) (nat_eq e.1.other n)) (waiting s))
+
+  pub used_counts : (f : OpenFile) → nat_lt 0 (count_in same_handle used (handle f)) ≡ is_used s f
+  used_counts f = ap (nat_lt 0) (are.listed.uses f) ∙ sym
+      (any_sum (λ (e : ℕ × Asked). uses_file f e.1) (λ (e : ℕ × Asked). uses_of f e.1)
+      (λ e. either_one (is_that f e.1.uses) (is_that f e.1.copies_to)) (waiting s))

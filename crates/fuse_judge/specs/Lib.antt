@@ -6,3 +6,4 @@ pub mod Handles
 pub mod Pending
 pub mod Nodes
 pub mod Opens
+pub mod Seen

@@ -1,16 +1,20 @@
 //! A judge of one session: which act has which fault, by what the definitions of `fuse_sessions` say.
 #![tactic(auto)]
 
-mod flags;
-mod numbers;
-mod projections;
-mod rows;
-mod tally;
-mod handle;
 mod change;
+mod flags;
+mod handle;
+mod judge;
 mod named;
-mod pending;
 mod node_change;
 mod nodes;
+mod numbers;
 mod open_change;
 mod opens;
+mod pending;
+mod projections;
+mod rows;
+mod tables;
+mod tally;
+
+pub use judge::Judge;

@@ -1,0 +1,96 @@
+//! The judge.
+
+ghost use Rattle.std.specs.Prelude.{◌≡◌, ◌↔◌, ℕ, [], ◌++◌, OnOk, OnErr, Some, length, slice_get};
+ghost use Rattle.fuse_sessions.specs.declared.fault.Fault.{Fault};
+ghost use Rattle.fuse_sessions.specs.Sessions.{Session};
+ghost use Rattle.fuse_sessions.specs.Faults.{HasFaultAt};
+ghost use Rattle.fuse_judge.specs.Seen.{HasSeen};
+
+use crate::flags::no_flags;
+use crate::opens::OpenFiles;
+use crate::pending::Pending;
+use crate::tables::Tables;
+use fuse_sessions::{Act, Fault};
+use fuse_tables::RisingTable;
+use indexmap::IndexMap;
+use std::alloc::{AllocError, Allocator, Global};
+use std::marker::Model;
+
+/// How many acts a judge sees at most.
+const LIMIT: u64 = 1 << 62;
+
+/// A judge of one session.
+#[derive(Drop)]
+pub struct Judge<A: Allocator = Global> {
+    tables: Tables<A>,
+    /// How many acts were seen.
+    acts: u64,
+}
+
+impl<A: Allocator> Model for Judge<A> {
+    ghost use Rattle.std.specs.Coded.{codes};
+    ghost use Rattle.fuse_judge.specs.Seen.{JudgeState, HasSeenFew, state_of};
+
+    ghost Value = { JudgeState };
+
+    ghost coded = { Prim.hlevel (codes) };
+
+    ghost view = { λ j. state_of j.tables };
+
+    ghost invariant = { λ j. HasSeenFew j.acts (state_of j.tables) };
+}
+
+impl<A: Allocator + Copy> Judge<A> {
+    /// A judge that has seen nothing.
+    pub fn new(alloc: A) -> Self
+        ensures { HasSeen [] result }
+    {
+        Judge {
+            tables: Tables {
+                flags: no_flags(),
+                numbers: RisingTable::new(alloc),
+                nodes: RisingTable::new(alloc),
+                pending: Pending {
+                    rows: RisingTable::new(alloc),
+                    named: IndexMap::new(alloc),
+                    used: IndexMap::new(alloc),
+                },
+                opens: OpenFiles {
+                    counts: IndexMap::new(alloc),
+                    nodes: IndexMap::new(alloc),
+                },
+            },
+            acts: 0,
+        }
+    }
+
+    /// Sees the next acts, one after another, and writes a verdict on each: its fault, or `None`. What the vector had
+    /// goes.
+    ///
+    /// # Errors
+    ///
+    /// Out of memory, or more than 2^62 acts in all. Nothing was seen.
+    pub fn see(
+        &mut self,
+        acts: &[Act],
+        verdicts: &mut Vec<Option<Fault>, A>,
+    ) -> Result<(), AllocError>
+        ensures verdicts { OnOk result ((before : Session) → HasSeen before self.old → (place : ℕ) (fault : Fault)
+            → slice_get verdicts.new.items place ≡ Some (Some fault) ↔ HasFaultAt before acts.now place fault) }
+        ensures seen { OnOk result ((before : Session) → HasSeen before self.old
+            → HasSeen (before ++ acts.now) self.new) }
+        ensures refused { OnErr result ((before : Session) → HasSeen before self.old → HasSeen before self.new) }
+        ensures len { OnOk result (length verdicts.new.items ≡ length acts.now) }
+    {
+        let more = acts.len() as u64;
+        if LIMIT < self.acts || LIMIT - self.acts < more {
+            return Err(AllocError);
+        }
+        verdicts.clear();
+        verdicts.reserve(acts.len())?;
+        self.tables.reserve(acts.len())?;
+        self.tables.see(acts, verdicts);
+        self.acts += more;
+        Ok(())
+    }
+}

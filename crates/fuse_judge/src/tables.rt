@@ -1,0 +1,181 @@
+//! The judge's tables, seen act after act.
+
+ghost use Rattle.std.specs.Prelude.{◌≡◌, ◌↔◌, ℕ, ◌<◌, ◌≤◌, ◌+◌, ◌*◌, ◌^◌, [], ◌∷◌, ◌++◌, IsTrue, OnOk, length, vec_capacity};
+ghost use Rattle.fuse_sessions.specs.Sessions.{Session};
+ghost use Rattle.fuse_sessions.specs.Waiting as words;
+ghost use Rattle.fuse_sessions.specs.Numbers as numbers;
+ghost use Rattle.fuse_sessions.specs.Faults.{IsInUse};
+ghost use Rattle.fuse_judge.specs.Opens.{AreOpen};
+ghost use Rattle.fuse_judge.specs.Pending.{ArePending, AreWaiting};
+ghost use Rattle.fuse_judge.specs.Seen.{HasSeen, HasRoom, state_of};
+ghost use Rattle.fuse_judge.specs.Verdicts.{IsVerdict, AreVerdicts};
+
+use crate::flags::{
+    Flags, fault_of_arrival, fault_of_beginning, fault_of_write, flags_with,
+};
+use crate::handle::handle_of;
+use crate::nodes::{
+    NodeRow, fault_of_attributes, fault_of_forget, fault_of_gift, fault_of_name, note_nodes,
+};
+use crate::numbers::{fault_of_number, note_number};
+use crate::opens::{
+    OpenFiles, fault_of_release, fault_of_use, has_open, note_opens, open_count,
+};
+use crate::pending::{
+    Pending, fault_of_interrupt, fault_of_reply, fault_of_reply_to_interrupt, fault_of_taking,
+    note_pending, waits,
+};
+use crate::tally::count;
+use fuse_sessions::{Act, Fault, OpenFile, Taken};
+use fuse_tables::RisingTable;
+use std::alloc::{AllocError, Allocator, Global};
+
+/// What is known of a session.
+#[derive(Drop)]
+pub struct Tables<A: Allocator = Global> {
+    pub flags: Flags,
+    pub numbers: RisingTable<bool, A>,
+    pub nodes: RisingTable<NodeRow, A>,
+    pub pending: Pending<A>,
+    pub opens: OpenFiles<A>,
+}
+
+/// Whether a request that waits names a node.
+fn is_named<A: Allocator + Copy>(pending: &Pending<A>, node: u64) -> bool
+    ensures { (s : Session)
+        → ArePending s pending.now.rows.entries pending.now.named.entries pending.now.used.entries
+        → result ≡ words.is_named s node }
+{
+    count(&pending.named, node) > 0
+}
+
+/// Whether a request that waits uses an open file.
+fn is_used<A: Allocator + Copy>(pending: &Pending<A>, file: OpenFile) -> bool
+    ensures { (s : Session)
+        → ArePending s pending.now.rows.entries pending.now.named.entries pending.now.used.entries
+        → result ≡ words.is_used s file }
+{
+    count(&pending.used, handle_of(file)) > 0
+}
+
+/// Whether an act shows that the connection has ended.
+fn shows_end<A: Allocator + Copy>(pending: &Pending<A>, act: Act) -> bool
+    ensures { (s : Session) → AreWaiting s pending.now.rows.entries → result ≡ numbers.shows_end (s, act) }
+{
+    match act {
+        Act::Takes {
+            unique,
+            taken: Taken::NoEntry,
+            ..
+        } => waits(&pending.rows, unique),
+        Act::Ends => true,
+        _ => false,
+    }
+}
+
+impl<A: Allocator + Copy> Tables<A> {
+    /// Makes room for so many acts.
+    ///
+    /// # Errors
+    ///
+    /// Out of memory.
+    pub fn reserve(&mut self, acts: usize) -> Result<(), AllocError>
+        ensures state { state_of self.new ≡ state_of self.old }
+        ensures room { OnOk result (HasRoom acts self.new) }
+    {
+        let twice = acts.checked_mul(2).ok_or(AllocError)?;
+        self.numbers.reserve(acts)?;
+        self.nodes.reserve(acts)?;
+        self.pending.rows.reserve(acts)?;
+        self.pending.named.reserve(twice)?;
+        self.pending.used.reserve(twice)?;
+        self.opens.counts.reserve(acts)?;
+        self.opens.nodes.reserve(acts)?;
+        Ok(())
+    }
+
+    /// Whether something uses a node: a request that waits names it, or a file of it is open.
+    fn is_in_use(&self, node: u64) -> bool
+        ensures { (s : Session) → HasSeen s (state_of self.now) → IsTrue result ↔ IsInUse s node }
+    {
+        let named = is_named(&self.pending, node);
+        let opened = has_open(&self.opens, node);
+        named | opened
+    }
+
+    /// The fault of the next act, if it has one.
+    pub fn fault(&self, act: Act) -> Option<Fault>
+        ensures { (s : Session) → HasSeen s (state_of self.now) → IsVerdict s act result }
+    {
+        let rows = &self.pending.rows;
+        match act {
+            Act::Faulty(that) => Some(that),
+            Act::Arrives => fault_of_arrival(self.flags),
+            Act::Begins(opcode) => fault_of_beginning(self.flags, opcode),
+            Act::Read { unique, .. } => fault_of_number(&self.numbers, self.flags, unique),
+            Act::Interrupts { unique, original } => fault_of_interrupt(rows, unique, original),
+            Act::Names(node) => fault_of_name(&self.nodes, node),
+            Act::Forgets(node, lookups) => {
+                fault_of_forget(&self.nodes, node, lookups, self.is_in_use(node))
+            }
+            Act::Uses(file) => fault_of_use(open_count(&self.opens, file), self.flags, file),
+            Act::Releases(file) => fault_of_release(
+                open_count(&self.opens, file),
+                self.flags,
+                file,
+                is_used(&self.pending, file),
+            ),
+            Act::Writes(size) => fault_of_write(self.flags, size),
+            Act::Takes {
+                unique,
+                taken,
+                fits,
+            } => fault_of_taking(rows, self.flags.ended, unique, taken, fits),
+            Act::Replies { unique, .. } => fault_of_reply(rows, &self.numbers, unique),
+            Act::RepliesToInterrupt { original, .. } => {
+                fault_of_reply_to_interrupt(rows, &self.numbers, original)
+            }
+            Act::Gives { nodeid, file, .. } => fault_of_gift(&self.nodes, nodeid, file),
+            Act::Describes { nodeid, kind, ino } => {
+                fault_of_attributes(&self.nodes, nodeid, kind, ino)
+            }
+            Act::Asks { .. }
+            | Act::Agrees(_)
+            | Act::Opens(_)
+            | Act::OpensNone(_)
+            | Act::SeveralReaders
+            | Act::Ends => None,
+        }
+    }
+
+    /// Writes the next act down, whether or not it has a fault.
+    pub fn note(&mut self, act: Act)
+        requires room { HasRoom 1 self.old }
+        requires few { (s : Session) × HasSeen s (state_of self.old) × (2 * length s + 2 < 2 ^ 64) }
+        ensures right { (s : Session) → HasSeen s (state_of self.old) → HasSeen (s ++ act ∷ []) (state_of self.new) }
+        ensures room { (acts : ℕ) → HasRoom (acts + 1) self.old → HasRoom acts self.new }
+    {
+        let shows = shows_end(&self.pending, act);
+        self.flags = flags_with(self.flags, act, shows);
+        note_number(&mut self.numbers, act);
+        note_nodes(&mut self.nodes, act);
+        note_pending(&mut self.pending, act);
+        note_opens(&mut self.opens, act);
+    }
+
+    /// Sees acts one after another, and writes a verdict on each.
+    pub fn see(&mut self, acts: &[Act], verdicts: &mut Vec<Option<Fault>, A>)
+        requires empty { verdicts.old.items ≡ [] }
+        requires verdict_room { length acts.now ≤ vec_capacity verdicts.old }
+        requires room { HasRoom (length acts.now) self.old }
+        requires few { (s : Session) × HasSeen s (state_of self.old) × (length s + length acts.now ≤ 2 ^ 62) }
+        ensures verdicts { (s : Session) → HasSeen s (state_of self.old) → AreVerdicts s acts.now verdicts.new.items }
+        ensures right { (s : Session) → HasSeen s (state_of self.old) → HasSeen (s ++ acts.now) (state_of self.new) }
+        ensures len { length verdicts.new.items ≡ length acts.now }
+    {
+        for act in acts {
+            verdicts.push_reserved(self.fault(*act));
+            self.note(*act);
+        }
+    }
+}
