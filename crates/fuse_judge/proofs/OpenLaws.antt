@@ -220,7 +220,6 @@ module _ (s : Session) (f : OpenFile) (counts new : Counts) (nodes : NodeCounts)
           let it : sum_by w (f ∷ []) ≡ one_if (nat_eq f.nodeid n) + 0 = sum_first w f [] in
           omega (arith, split, here, it)
 
-
 -- Some file of a node is open where its count says so.
 
 abbrev weight : ℕ → OpenFile → ℕ

@@ -150,9 +150,10 @@ pub asked_interrupted : (s : Session) (rows : Map Waiting) (u : ℕ) (asked : As
     → AreInterrupted (s ++ act.Asks u asked ∷ []) (put rows u (record { asked = asked; interrupts = 0; agains = 0 }))
 asked_interrupted s rows u asked are =
     let a : Act = act.Asks u asked in
-    all_after_put (IsInterrupted (s ++ a ∷ [])) rows u _
-    ( rw (counted_since (asks_under u) (interrupts_of u) s a, same u) refl
-    , rw (counted_since (asks_under u) (agains_of u) s a, same u) refl)
+    all_after_put (IsInterrupted (s ++ a ∷ [])) rows u _ (
+      rw (counted_since (asks_under u) (interrupts_of u) s a, same u) refl,
+      rw (counted_since (asks_under u) (agains_of u) s a, same u) refl,
+    )
     (λ q ne. other_row s a q (get rows q) (differ u q ne) refl refl (are q))
 
 module _ (s : Session) (a : Act) (rows : Map Waiting) (u : ℕ) (i g : Bool)
@@ -176,9 +177,10 @@ module _ (s : Session) (a : Act) (rows : Map Waiting) (u : ℕ) (i g : Bool)
       let again : agains (s ++ a ∷ []) u ≡ agains s u + agains_of u a
       = more_since (asks_under u) (agains_of u) s a (is u).under in
       let once : agains_of u a ≡ one_if g = (is u).again ∙ ap (λ b. one_if (b && g)) (same u) in
-      all_after_put (IsInterrupted (s ++ a ∷ [])) rows u _
-      ( more ∙ ap (λ n. n + interrupts_of u a) was.0 ∙ ap (λ n. row.interrupts + n) one
-      , again ∙ ap (λ n. n + agains_of u a) was.1 ∙ ap (λ n. row.agains + n) once)
+      all_after_put (IsInterrupted (s ++ a ∷ [])) rows u _ (
+        more ∙ ap (λ n. n + interrupts_of u a) was.0 ∙ ap (λ n. row.interrupts + n) one,
+        again ∙ ap (λ n. n + agains_of u a) was.1 ∙ ap (λ n. row.agains + n) once,
+      )
       beside
 
   pub interrupted_none : get rows u ≡ None → AreInterrupted (s ++ a ∷ []) rows
@@ -398,7 +400,7 @@ module _ (s : Session) (rows : Map Waiting) (named : Names) (used : Uses) (are :
       let is : count_in nat_eq named n ≡ sum_by (λ (e : ℕ × Asked). names_of n e.1) (waiting s) = are.listed.names n in
       let few : sum_by (λ (e : ℕ × Asked). names_of n e.1) (waiting s) ≤ 2 * length (waiting s)
       = sum_small (λ (e : ℕ × Asked). names_of n e.1) 2
-          (λ e. two (nat_eq e.1.nodeid n) (nat_eq e.1.other n)) (waiting s) in
+      (λ e. two (nat_eq e.1.nodeid n) (nat_eq e.1.other n)) (waiting s) in
       let short : length (waiting s) ≤ length s = waiting_short s in
       omega (arith, is, few, short, small)
     where

@@ -11,10 +11,7 @@ use fuse_sessions::{Act, Asked, Taken};
 pub enum Change {
     Nothing,
     /// This request waits, in place of any under its number.
-    Asks {
-        unique: u64,
-        asked: Asked,
-    },
+    Asks { unique: u64, asked: Asked },
     /// None waits under this number any more.
     Ends(u64),
     /// What waits under this number is interrupted.

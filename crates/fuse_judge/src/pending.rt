@@ -141,7 +141,7 @@ fn end<A: Allocator + Copy>(pending: &mut Pending<A>, unique: u64)
     ensures listed { (xs : List (ℕ × Asked))
         → AreListed xs pending.old.rows.entries pending.old.named.entries pending.old.used.entries
         → AreListed (filter (λ (e : ℕ × Asked). not (nat_eq unique e.0)) xs) pending.new.rows.entries
-            pending.new.named.entries pending.new.used.entries }
+        pending.new.named.entries pending.new.used.entries }
     ensures interrupted { (s : Session) → AreInterrupted s pending.old.rows.entries → AreInterrupted s pending.new.rows.entries }
     ensures gone { get pending.new.rows.entries unique ≡ None }
     ensures names { (n : ℕ) → count_in nat_eq pending.new.named.entries n ≤ count_in nat_eq pending.old.named.entries n }
@@ -168,7 +168,7 @@ fn ask<A: Allocator + Copy>(pending: &mut Pending<A>, unique: u64, asked: Asked)
     ensures listed { (xs : List (ℕ × Asked))
         → AreListed xs pending.old.rows.entries pending.old.named.entries pending.old.used.entries
         → AreListed (xs ++ (unique, asked) ∷ []) pending.new.rows.entries pending.new.named.entries
-            pending.new.used.entries }
+        pending.new.used.entries }
     ensures interrupted { (s : Session) → AreInterrupted s pending.old.rows.entries
         → AreInterrupted (s ++ Asks unique asked ∷ []) pending.new.rows.entries }
     ensures room { pending.old.rows.room ≤ pending.new.rows.room + 1 }

@@ -62,7 +62,7 @@ pub(crate) fn read_by(act: Act) -> Option<Reading>
     ensures { MatchOption result
         ((unique : ℕ) → (words.reads unique act ≡ false) × (words.reads_forget unique act ≡ false))
         (λ reading. (unique : ℕ) → (words.reads unique act ≡ nat_eq reading.unique unique)
-            × (words.reads_forget unique act ≡ (nat_eq reading.unique unique && reading.is_forget))) }
+        × (words.reads_forget unique act ≡ (nat_eq reading.unique unique && reading.is_forget))) }
 {
     match act {
         Act::Read { opcode, unique } => Some(Reading {

@@ -7,7 +7,11 @@ use fuse_tables::RisingTable;
 use std::alloc::Allocator;
 
 /// Writes the row of a key.
-pub(crate) fn write<V: Copy + Drop, A: Allocator + Copy>(table: &mut RisingTable<V, A>, key: u64, row: V)
+pub(crate) fn write<V: Copy + Drop, A: Allocator + Copy>(
+    table: &mut RisingTable<V, A>,
+    key: u64,
+    row: V,
+)
     requires { 0 < table.old.room }
     ensures entries { table.new.entries ≡ put table.old.entries key row }
     ensures room { table.old.room ≤ table.new.room + 1 }

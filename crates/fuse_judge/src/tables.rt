@@ -10,17 +10,13 @@ ghost use Rattle.fuse_judge.specs.Pending.{ArePending, AreWaiting};
 ghost use Rattle.fuse_judge.specs.Seen.{HasSeen, HasRoom, state_of};
 ghost use Rattle.fuse_judge.specs.Verdicts.{IsVerdict, AreVerdicts};
 
-use crate::flags::{
-    Flags, fault_of_arrival, fault_of_beginning, fault_of_write, flags_with,
-};
+use crate::flags::{Flags, fault_of_arrival, fault_of_beginning, fault_of_write, flags_with};
 use crate::handle::handle_of;
 use crate::nodes::{
     NodeRow, fault_of_attributes, fault_of_forget, fault_of_gift, fault_of_name, note_nodes,
 };
 use crate::numbers::{fault_of_number, note_number};
-use crate::opens::{
-    OpenFiles, fault_of_release, fault_of_use, has_open, note_opens, open_count,
-};
+use crate::opens::{OpenFiles, fault_of_release, fault_of_use, has_open, note_opens, open_count};
 use crate::pending::{
     Pending, fault_of_interrupt, fault_of_reply, fault_of_reply_to_interrupt, fault_of_taking,
     note_pending, waits,

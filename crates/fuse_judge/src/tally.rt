@@ -22,10 +22,7 @@ pub(crate) fn count<K: Copy + Eq + Hash + Drop, A: Allocator + Copy>(
 }
 
 /// A key has one more.
-pub(crate) fn add<K: Copy + Eq + Hash + Drop, A: Allocator + Copy>(
-    tally: &mut Tally<K, A>,
-    key: K,
-)
+pub(crate) fn add<K: Copy + Eq + Hash + Drop, A: Allocator + Copy>(tally: &mut Tally<K, A>, key: K)
     requires room { 0 < spare tally.old }
     requires few { count_in K.eq tally.old.entries key + 1 < 2 ^ 64 }
     ensures counts { (q : K) → count_in K.eq tally.new.entries q
@@ -37,10 +34,7 @@ pub(crate) fn add<K: Copy + Eq + Hash + Drop, A: Allocator + Copy>(
 }
 
 /// A key has one fewer, if it has one.
-pub(crate) fn take<K: Copy + Eq + Hash + Drop, A: Allocator + Copy>(
-    tally: &mut Tally<K, A>,
-    key: K,
-)
+pub(crate) fn take<K: Copy + Eq + Hash + Drop, A: Allocator + Copy>(tally: &mut Tally<K, A>, key: K)
     ensures counts { (q : K) → count_in K.eq tally.new.entries q
         ≡ (if K.eq key q then count_in K.eq tally.old.entries key - 1 else count_in K.eq tally.old.entries q) }
     ensures room { spare tally.old ≤ spare tally.new }

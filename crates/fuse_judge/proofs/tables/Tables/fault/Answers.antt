@@ -1,0 +1,31 @@
+use Rattle.fuse_judge.proofs.PendingLaws.{pending_waiting}
+use Rattle.fuse_judge.proofs.tables.Tables.fault.Goals as goal
+
+pub returns-in-Interrupts : goal.returns-in-Interrupts
+returns-in-Interrupts g c = λ s are. rw c.in-Interrupts.is
+    (c.fault_of_interrupt.ensures s (pending_waiting s _ _ _ are.right_pending))
+
+pub returns-in-Forgets : goal.returns-in-Forgets
+returns-in-Forgets g c = λ s are. rw c.in-Forgets.is
+    (c.fault_of_forget.ensures s are.right_nodes (c.is_in_use.ensures s are))
+
+pub returns-in-Uses : goal.returns-in-Uses
+returns-in-Uses g c = λ s are. rw c.in-Uses.is
+    (c.fault_of_use.ensures s (c.open_count.ensures s are.right_opens) are.right_flags)
+
+pub returns-in-Releases : goal.returns-in-Releases
+returns-in-Releases g c = λ s are. rw c.in-Releases.is
+    (c.fault_of_release.ensures s (c.open_count-in-Releases.ensures s are.right_opens) are.right_flags
+    (c.is_used.ensures s are.right_pending))
+
+pub returns-in-Takes : goal.returns-in-Takes
+returns-in-Takes g c = λ s are. rw c.in-Takes.is
+    (c.fault_of_taking.ensures s (pending_waiting s _ _ _ are.right_pending) are.right_flags.ended)
+
+pub returns-in-Replies : goal.returns-in-Replies
+returns-in-Replies g c = λ s are. rw c.in-Replies.is
+    (c.fault_of_reply.ensures s (pending_waiting s _ _ _ are.right_pending) are.right_numbers)
+
+pub returns-in-RepliesToInterrupt : goal.returns-in-RepliesToInterrupt
+returns-in-RepliesToInterrupt g c = λ s are. rw c.in-RepliesToInterrupt.is
+    (c.fault_of_reply_to_interrupt.ensures s (pending_waiting s _ _ _ are.right_pending) are.right_numbers)
