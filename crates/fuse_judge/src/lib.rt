@@ -16,5 +16,7 @@ mod projections;
 mod rows;
 mod tables;
 mod tally;
+#[cfg(test)]
+mod tests;
 
 pub use judge::Judge;
