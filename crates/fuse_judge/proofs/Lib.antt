@@ -7,3 +7,4 @@ pub mod NodeLaws
 pub mod OpenLaws
 pub mod VerdictLaws
 pub mod SeenSoFar
+pub mod MarkLaws

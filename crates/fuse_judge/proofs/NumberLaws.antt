@@ -1,27 +1,62 @@
 -- The table of numbers, with one more act.
-use Rattle.std.proofs.Common.{◌≡◌, ◌≢◌, ℕ, Bool, true, false, ◌||◌, ◌&&◌, [], ◌∷◌, ◌++◌, Option, Some, None, refl, sym, ◌∙◌, ap, nat_eq}
-use Rattle.fuse_spec.specs.Values.Maps.{Map, get, put}
+use Rattle.std.proofs.Common.{◌≡◌, ◌≢◌, ℕ, Bool, true, false, ◌||◌, ◌&&◌, cond, [], ◌∷◌, ◌++◌, refl, sym, ◌∙◌, ap, subst, nat_eq, inl, inr}
+use Rattle.std.proofs.lemmas.Bool.{cases_eq}
+use Rattle.fuse_spec.specs.Values.Maps.{Map}
 use Rattle.fuse_sessions.specs.declared.act.Act.{Act}
 use Rattle.fuse_sessions.specs.Sessions.{Session}
 use Rattle.fuse_sessions.specs.Numbers.{reads, reads_forget, was_read, was_forget}
 use Rattle.fuse_sessions.proofs.Laws.{any-more}
-use Rattle.fuse_judge.specs.Numbers.{IsMark, AreNumbers, marks_forget}
-use Rattle.fuse_judge.proofs.Keys.{same, differ, or_false, or_true, all_after_put}
+use Rattle.fuse_judge.specs.declared.marks.Block.{Block}
+use Rattle.fuse_judge.specs.declared.marks.Mark.{Mark}
+use Rattle.fuse_judge.specs.Numbers.{IsMark, AreNumbers, AreWhole, is_read, is_forgets, read_mark, mark_in}
+use Rattle.fuse_judge.proofs.Keys.{same, differ, or_false, or_true}
 
-pub other_mark : (s : Session) (a : Act) (q : ℕ) (mark : Option Bool) → reads q a ≡ false → reads_forget q a ≡ false
-    → IsMark s q mark → IsMark (s ++ a ∷ []) q mark
-other_mark s a q mark no_read no_forget is = record {
+pub other_mark : (s : Session) (a : Act) (q : ℕ) (m : Mark) → reads q a ≡ false → reads_forget q a ≡ false
+    → IsMark s q m → IsMark (s ++ a ∷ []) q m
+other_mark s a q m no_read no_forget is = record {
   read = rw (any-more (reads q) s a, no_read, or_false (was_read s q)) is.read;
   forget = rw (any-more (reads_forget q) s a, no_forget, or_false (was_forget s q)) is.forget;
 }
 
-pub number_read : (s : Session) (a : Act) (numbers : Map Bool) (u : ℕ) (is_forget : Bool)
+pub quiet_numbers : (s : Session) (a : Act) (numbers : Map Block)
+    → ((q : ℕ) → (reads q a ≡ false) × (reads_forget q a ≡ false)) → AreNumbers s numbers
+    → AreNumbers (s ++ a ∷ []) numbers
+quiet_numbers s a numbers quiet are = record {
+  marked = λ q. other_mark s a q _ (quiet q).0 (quiet q).1 (are.marked q);
+  whole = are.whole;
+}
+
+reads_it : (b : Bool) → true ≡ is_read (read_mark b)
+reads_it true = refl
+reads_it false = refl
+
+forgets_it : (b : Bool) → b ≡ is_forgets (read_mark b)
+forgets_it true = refl
+forgets_it false = refl
+
+pub number_read : (s : Session) (a : Act) (numbers new : Map Block) (u : ℕ) (is_forget : Bool)
     → ((q : ℕ) → (reads q a ≡ nat_eq u q) × (reads_forget q a ≡ (nat_eq u q && is_forget))) → AreNumbers s numbers
-    → AreNumbers (s ++ a ∷ []) (put numbers u (marks_forget (get numbers u) || is_forget))
-number_read s a numbers u is_forget is are =
-    all_after_put (IsMark (s ++ a ∷ [])) numbers u _
-    (record {
-      read = rw (any-more (reads u) s a, (is u).0, same u, or_true (was_read s u)) refl;
-      forget = rw (any-more (reads_forget u) s a, (is u).1, same u, (are u).forget) refl;
-    })
-    (λ q ne. other_mark s a q _ (rw ((is q).0) (differ u q ne)) (rw ((is q).1, differ u q ne) refl) (are q))
+    → ((q : ℕ) → mark_in new q ≡ cond (nat_eq u q) (read_mark (is_forgets (mark_in numbers u) || is_forget)) (mark_in numbers q))
+    → AreWhole new → AreNumbers (s ++ a ∷ []) new
+number_read s a numbers new u is_forget is are after whole = record {
+  marked = λ q. elim (cases_eq u q) [
+    | inl e ↦ subst (λ k. IsMark (s ++ a ∷ []) k (mark_in new k)) e here
+    | inr ne ↦ subst (IsMark (s ++ a ∷ []) q)
+        (sym (after q ∙ ap (λ b. cond b (read_mark (is_forgets (mark_in numbers u) || is_forget)) (mark_in numbers q)) (differ u q ne)))
+        (other_mark s a q _ ((is q).0 ∙ differ u q ne) ((is q).1 ∙ ap (λ b. b && is_forget) (differ u q ne)) (are.marked q))
+  ];
+  whole = whole;
+}
+  where
+    now : mark_in new u ≡ read_mark (is_forgets (mark_in numbers u) || is_forget)
+    now = after u ∙ ap (λ b. cond b (read_mark (is_forgets (mark_in numbers u) || is_forget)) (mark_in numbers u)) (same u)
+
+    here : IsMark (s ++ a ∷ []) u (mark_in new u)
+    here = subst (IsMark (s ++ a ∷ []) u) (sym now) record {
+      read = any-more (reads u) s a ∙ ap (λ b. was_read s u || b) ((is u).0 ∙ same u) ∙ or_true (was_read s u)
+          ∙ reads_it (is_forgets (mark_in numbers u) || is_forget);
+      forget = any-more (reads_forget u) s a
+          ∙ ap (λ b. was_forget s u || b) ((is u).1 ∙ ap (λ b. b && is_forget) (same u))
+          ∙ ap (λ b. b || is_forget) (are.marked u).forget
+          ∙ forgets_it (is_forgets (mark_in numbers u) || is_forget);
+    }

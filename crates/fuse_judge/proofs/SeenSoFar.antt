@@ -1,8 +1,16 @@
 -- What is true of the tables and the verdicts in the middle of the acts that are seen.
-use Rattle.std.proofs.Common.{List, [], ◌∷◌, ◌++◌, Option, append_assoc, subst}
+use Rattle.std.proofs.Common.{◌≡◌, ℕ, List, [], ◌∷◌, ◌++◌, Option, append_assoc, subst, refl, arith}
+use Rattle.std.proofs.lemmas.Option.{none-some}
+use Rattle.fuse_spec.specs.Values.Maps.{Map}
 use Rattle.fuse_sessions.specs.declared.act.Act.{Act}
 use Rattle.fuse_sessions.specs.declared.fault.Fault.{Fault}
 use Rattle.fuse_sessions.specs.Sessions.{Session}
+use Rattle.fuse_judge.specs.declared.flags.Flags.{Flags}
+use Rattle.fuse_judge.specs.declared.handle.Handle.{Handle}
+use Rattle.fuse_judge.specs.declared.marks.Block.{Block}
+use Rattle.fuse_judge.specs.declared.nodes.NodeRow.{NodeRow}
+use Rattle.fuse_judge.specs.declared.pending.Waiting.{Waiting}
+use Rattle.fuse_judge.specs.Flags.{AreFlags}
 use Rattle.fuse_judge.specs.Verdicts.{IsVerdict, AreVerdicts}
 use Rattle.fuse_judge.specs.Seen.{JudgeState, HasSeen}
 use Rattle.fuse_judge.proofs.VerdictLaws.{verdicts-more}
@@ -23,4 +31,45 @@ seen-more old acts verdicts now act verdict new so_far is_verdict step = record 
       (is_verdict (s ++ acts) (so_far.right s are));
   right = λ s are. subst (λ t. HasSeen t new) (append_assoc s acts (act ∷ []))
       (step (s ++ acts) (so_far.right s are));
+}
+
+-- Empty tables are right of the empty session.
+pub seen_nothing : (flags : Flags) (numbers : Map Block) (nodes : Map NodeRow) (waiting : Map Waiting)
+    (named : List (ℕ × ℕ)) (used open_counts : List (Handle × ℕ)) (open_nodes : List (ℕ × ℕ)) → AreFlags [] flags
+    → numbers ≡ [] → nodes ≡ [] → waiting ≡ [] → named ≡ [] → used ≡ [] → open_counts ≡ [] → open_nodes ≡ []
+    → HasSeen [] record {
+      flags = flags;
+      numbers = numbers;
+      nodes = nodes;
+      waiting = waiting;
+      named = named;
+      used = used;
+      open_counts = open_counts;
+      open_nodes = open_nodes;
+    }
+seen_nothing flags numbers nodes waiting named used open_counts open_nodes are a b c d e f g = rw (a, b, c, d, e, f, g) record {
+  right_flags = are;
+  right_numbers = record {
+    marked = λ u. record {
+      read = refl;
+      forget = refl;
+    };
+    whole = λ k x none. absurd (none-some x none);
+  };
+  right_nodes = λ n. (refl, refl);
+  right_pending = record {
+    listed = record {
+      once = λ u. refl;
+      names = λ n. refl;
+      uses = λ o. refl;
+    };
+    interrupted = λ u. tt;
+  };
+  right_opens = record {
+    open_count = λ o. refl;
+    files = [];
+    once = λ o. refl;
+    of_nodes = λ n. refl;
+    few = omega arith;
+  };
 }

@@ -1,10 +1,11 @@
 -- What the judge's tables say of the session that it has seen: a fact for each table.
-use Rattle.std.specs.Prelude.{◌≤◌, ◌*◌, ◌^◌, ◌+◌, ℕ, Bool, List, length}
+use Rattle.std.specs.Prelude.{◌≤◌, ◌*◌, ◌^◌, ◌+◌, ℕ, List, length}
 use Rattle.indexmap.specs.IndexMap.{spare}
 use Rattle.fuse_spec.specs.Values.Maps.{Map}
 use Rattle.fuse_sessions.specs.Sessions.{Session}
 use Rattle.fuse_judge.specs.declared.flags.Flags.{Flags}
 use Rattle.fuse_judge.specs.declared.handle.Handle.{Handle}
+use Rattle.fuse_judge.specs.declared.marks.Block.{Block}
 use Rattle.fuse_judge.specs.declared.nodes.NodeRow.{NodeRow}
 use Rattle.fuse_judge.specs.declared.pending.Waiting.{Waiting}
 use Rattle.fuse_judge.specs.declared.tables.Tables.{Tables}
@@ -17,7 +18,7 @@ use Rattle.fuse_judge.specs.Pending.{ArePending}
 -- What contracts see of a judge: its tables.
 pub record JudgeState : Type 0 where
   pub flags : Flags
-  pub numbers : Map Bool
+  pub numbers : Map Block
   pub nodes : Map NodeRow
   pub waiting : Map Waiting
   pub named : List (ℕ × ℕ)

@@ -5,6 +5,7 @@ mod change;
 mod flags;
 mod handle;
 mod judge;
+mod marks;
 mod named;
 mod node_change;
 mod nodes;

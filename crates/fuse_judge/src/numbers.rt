@@ -1,40 +1,35 @@
 //! The numbers that were read: the table, and what is a fault by it.
 
-ghost use Rattle.std.specs.Prelude.{◌≡◌, ◌+◌, ◌<◌, ◌≤◌, [], ◌∷◌, ◌++◌, is_some};
-ghost use Rattle.fuse_spec.specs.Values.Maps.{get};
+ghost use Rattle.std.specs.Prelude.{◌≡◌, ◌+◌, ◌<◌, ◌≤◌, [], ◌∷◌, ◌++◌};
 ghost use Rattle.fuse_sessions.specs.Sessions.{Session};
 ghost use Rattle.fuse_sessions.specs.Faults.{BreaksNumber};
 ghost use Rattle.fuse_judge.specs.Flags.{AreFlags};
-ghost use Rattle.fuse_judge.specs.Numbers.{AreNumbers, marks_forget};
+ghost use Rattle.fuse_judge.specs.Numbers.{AreNumbers, is_read, is_forgets, mark_in};
 ghost use Rattle.fuse_judge.specs.Verdicts.{IsFault};
 
 use crate::flags::{Flags, is_out_of_order};
+use crate::marks::{Mark, Marks, mark_of, set_mark};
 use crate::projections::read_by;
-use crate::rows::write;
 use fuse_sessions::{Act, Fault};
-use fuse_tables::RisingTable;
 use std::alloc::Allocator;
 
 /// Whether a request was read under a number.
-pub(crate) fn was_read<A: Allocator + Copy>(numbers: &RisingTable<bool, A>, unique: u64) -> bool
-    ensures { result ≡ is_some (get numbers.now.entries unique) }
+pub(crate) fn was_read<A: Allocator + Copy>(numbers: &Marks<A>, unique: u64) -> bool
+    ensures { result ≡ is_read (mark_in numbers.now.entries unique) }
 {
-    numbers.get(unique).is_some()
+    !matches!(mark_of(numbers, unique), Mark::Unread)
 }
 
 /// Whether a FORGET was read under a number.
-pub(crate) fn was_forget<A: Allocator + Copy>(numbers: &RisingTable<bool, A>, unique: u64) -> bool
-    ensures { result ≡ marks_forget (get numbers.now.entries unique) }
+pub(crate) fn was_forget<A: Allocator + Copy>(numbers: &Marks<A>, unique: u64) -> bool
+    ensures { result ≡ is_forgets (mark_in numbers.now.entries unique) }
 {
-    match numbers.get(unique) {
-        Some(is_forget) => *is_forget,
-        None => false,
-    }
+    matches!(mark_of(numbers, unique), Mark::Forget)
 }
 
 /// The fault of a kernel whose request has this number.
 pub(crate) fn fault_of_number<A: Allocator + Copy>(
-    numbers: &RisingTable<bool, A>,
+    numbers: &Marks<A>,
     flags: Flags,
     unique: u64,
 ) -> Option<Fault>
@@ -52,13 +47,13 @@ pub(crate) fn fault_of_number<A: Allocator + Copy>(
 }
 
 /// Marks the number that an act reads.
-pub(crate) fn note_number<A: Allocator + Copy>(numbers: &mut RisingTable<bool, A>, act: Act)
+pub(crate) fn note_number<A: Allocator + Copy>(numbers: &mut Marks<A>, act: Act)
     requires { 0 < numbers.old.room }
     ensures kept { (s : Session) → AreNumbers s numbers.old.entries → AreNumbers (s ++ act ∷ []) numbers.new.entries }
     ensures room { numbers.old.room ≤ numbers.new.room + 1 }
 {
     if let Some(reading) = read_by(act) {
         let is_forget = was_forget(numbers, reading.unique) | reading.is_forget;
-        write(numbers, reading.unique, is_forget);
+        set_mark(numbers, reading.unique, is_forget);
     }
 }

@@ -21,6 +21,7 @@ ghost use Rattle.fuse_judge.specs.Verdicts.{IsFault};
 
 use crate::change::{Change, change_of};
 use crate::handle::Handle;
+use crate::marks::Marks;
 use crate::named::{add_names, add_uses, take_names, take_uses};
 use crate::numbers::{was_forget, was_read};
 use crate::rows::write;
@@ -92,7 +93,7 @@ pub(crate) fn fault_of_taking<A: Allocator + Copy>(
 /// The fault of a server that replies under a number.
 pub(crate) fn fault_of_reply<A: Allocator + Copy>(
     rows: &RisingTable<Waiting, A>,
-    numbers: &RisingTable<bool, A>,
+    numbers: &Marks<A>,
     unique: u64,
 ) -> Option<Fault>
     ensures { (s : Session) → AreWaiting s rows.now.entries → AreNumbers s numbers.now.entries
@@ -112,7 +113,7 @@ pub(crate) fn fault_of_reply<A: Allocator + Copy>(
 /// The fault of a server that replies to an INTERRUPT.
 pub(crate) fn fault_of_reply_to_interrupt<A: Allocator + Copy>(
     rows: &RisingTable<Waiting, A>,
-    numbers: &RisingTable<bool, A>,
+    numbers: &Marks<A>,
     original: u64,
 ) -> Option<Fault>
     ensures { (s : Session) → AreWaiting s rows.now.entries → AreNumbers s numbers.now.entries

@@ -12,6 +12,7 @@ ghost use Rattle.fuse_judge.specs.Verdicts.{IsVerdict, AreVerdicts};
 
 use crate::flags::{Flags, fault_of_arrival, fault_of_beginning, fault_of_write, flags_with};
 use crate::handle::handle_of;
+use crate::marks::Marks;
 use crate::nodes::{
     NodeRow, fault_of_attributes, fault_of_forget, fault_of_gift, fault_of_name, note_nodes,
 };
@@ -30,7 +31,7 @@ use std::alloc::{AllocError, Allocator, Global};
 #[derive(Drop)]
 pub struct Tables<A: Allocator = Global> {
     pub flags: Flags,
-    pub numbers: RisingTable<bool, A>,
+    pub numbers: Marks<A>,
     pub nodes: RisingTable<NodeRow, A>,
     pub pending: Pending<A>,
     pub opens: OpenFiles<A>,

@@ -1,0 +1,77 @@
+//! Marks of numbers, in a table of blocks.
+
+ghost use Rattle.std.specs.Prelude.{◌≡◌, ℕ, ◌/◌, ◌+◌, ◌<◌, ◌≤◌, if◌then◌else◌, nat_eq};
+ghost use Rattle.fuse_spec.specs.Values.Maps.{get};
+ghost use Rattle.fuse_judge.specs.Numbers.{mark_in, block_in, read_mark, AreWhole};
+
+use crate::rows::write;
+use fuse_tables::RisingTable;
+use std::alloc::Allocator;
+
+/// How many marks a block has.
+const MARKS: usize = 64;
+
+/// What is known of a number.
+#[derive(Clone, Copy)]
+pub enum Mark {
+    Unread,
+    /// Requests were read under it, and no FORGET.
+    Request,
+    /// A FORGET or a BATCH_FORGET was.
+    Forget,
+}
+
+/// The marks of 64 numbers, one after another.
+#[derive(Clone, Copy, Drop)]
+pub struct Block {
+    pub marks: [Mark; MARKS],
+}
+
+/// The marks, 64 numbers to a row: the row of a number is that of its 64th part.
+pub(crate) type Marks<A> = RisingTable<Block, A>;
+
+/// The mark of a number.
+pub(crate) fn mark_of<A: Allocator + Copy>(numbers: &Marks<A>, unique: u64) -> Mark
+    ensures { result ≡ mark_in numbers.now.entries unique }
+{
+    match numbers.get(unique / 64) {
+        Some(block) => block.marks[(unique % 64) as usize],
+        None => Mark::Unread,
+    }
+}
+
+/// The block of a key.
+fn block_of<A: Allocator + Copy>(numbers: &Marks<A>, key: u64) -> Block
+    ensures { result ≡ block_in (get numbers.now.entries key) }
+{
+    match numbers.get(key) {
+        Some(block) => *block,
+        None => Block {
+            marks: [Mark::Unread; MARKS],
+        },
+    }
+}
+
+/// Marks a number.
+pub(crate) fn set_mark<A: Allocator + Copy>(numbers: &mut Marks<A>, unique: u64, is_forget: bool)
+    requires { 0 < numbers.old.room }
+    ensures marks { AreWhole numbers.old.entries → (q : ℕ) → mark_in numbers.new.entries q
+        ≡ (if nat_eq unique q then read_mark is_forget else mark_in numbers.old.entries q) }
+    ensures whole { AreWhole numbers.old.entries → AreWhole numbers.new.entries }
+    ensures room { numbers.old.room ≤ numbers.new.room + 1 }
+{
+    let mut block = block_of(numbers, unique / 64);
+    block.marks[(unique % 64) as usize] = read(is_forget);
+    write(numbers, unique / 64, block);
+}
+
+/// The mark of a number that was read.
+fn read(is_forget: bool) -> Mark
+    ensures { result ≡ read_mark is_forget }
+{
+    if is_forget {
+        Mark::Forget
+    } else {
+        Mark::Request
+    }
+}
