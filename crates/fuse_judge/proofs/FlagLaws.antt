@@ -1,5 +1,5 @@
 -- What is known of a session as a whole, with one more act.
-use Rattle.std.proofs.Common.{◌≡◌, ◌≢◌, ℕ, Bool, true, false, true≢false, ◌||◌, [], ◌∷◌, ◌++◌, Option, Some, None, refl, sym, ◌∙◌, ap, subst, arith, rules}
+use Rattle.std.proofs.Common.{◌≡◌, ◌≢◌, ℕ, true, true≢false, ◌||◌, [], ◌∷◌, ◌++◌, Option, Some, None, refl, sym, ◌∙◌, ap, subst, arith, rules}
 use Rattle.std.specs.Prelude.{IsFalse, not, nat_lt, max}
 use Rattle.std.specs.List.{list_any}
 use Rattle.std.proofs.lemmas.Option.{none-some, same_Some}
@@ -9,7 +9,7 @@ use Rattle.fuse_sessions.specs.declared.act.Act.{Act}
 use Rattle.fuse_sessions.specs.declared.fault.Fault.{Fault}
 use Rattle.fuse_sessions.specs.declared.fault.Fault.TheVariants as fault
 use Rattle.fuse_sessions.specs.declared.act.OpenKind.TheVariants as kind
-use Rattle.fuse_sessions.specs.Sessions.{Session, latest, or_earlier, moments}
+use Rattle.fuse_sessions.specs.Sessions.{Session, or_earlier, moments}
 use Rattle.fuse_sessions.specs.Numbers.{is_reading, is_agreement, is_of_several, shows_end, reads_request_from, has_agreed}
 use Rattle.fuse_sessions.specs.OpenFiles.{opens_none}
 use Rattle.fuse_sessions.specs.Faults.{agreed_write, BreaksBeginning}
@@ -72,7 +72,8 @@ only_before s f b = absurd b
 pub is_before_init : (s : Session) (o : Opcode) → o ≢ op.Init → IsFalse (has_agreed s)
     → IsFault (BreaksBeginning s o) (Some fault.RequestBeforeInit)
 is_before_init s o ne h f = (
-  (λ e. subst (BreaksBeginning s o) (same_Some fault.RequestBeforeInit f e) (is_before s o fault.RequestBeforeInit ne h)),
+  (λ e. subst (BreaksBeginning s o) (same_Some fault.RequestBeforeInit f e)
+      (is_before s o fault.RequestBeforeInit ne h)),
   (λ b. ap Some (sym (only_before s f (not_init s o f ne b)))),
 )
 

@@ -1,5 +1,5 @@
 -- A table of blocks of marks, as one number is marked.
-use Rattle.std.proofs.Common.{◌≡◌, ◌≢◌, ℕ, ◌+◌, ◌*◌, ◌/◌, ◌%◌, ◌<◌, Bool, true, false, cond, length, replicate, get_or, Option, Some, None, refl, sym, ◌∙◌, ap, subst, arith, nat_eq, inl, inr}
+use Rattle.std.proofs.Common.{◌≡◌, ℕ, ◌+◌, ◌*◌, ◌/◌, ◌%◌, ◌<◌, cond, length, get_or, Option, Some, None, refl, sym, ◌∙◌, ap, subst, arith, nat_eq, inl, inr}
 use Rattle.std.specs.Prelude.{slice_set}
 use Rattle.std.proofs.Math.Nat.{div-add-mod, mod-lt}
 use Rattle.std.proofs.lemmas.Bool.{cases_eq}
@@ -61,7 +61,8 @@ module _ (numbers : Map Block) (u : ℕ) (m : Mark) (whole : AreWhole numbers) w
   ]
 
   pub whole_after : AreWhole (put numbers (u / 64) new_block)
-  whole_after = all_after_put (λ q o. (block : Block) → o ≡ Some block → length block.marks ≡ 64) numbers (u / 64) new_block
+  whole_after = all_after_put (λ q o. (block : Block) → o ≡ Some block → length block.marks
+      ≡ 64) numbers (u / 64) new_block
       (λ block e. subst (λ b. length b.marks ≡ 64) (same_Some new_block block e)
       (length-set (block_in (get numbers (u / 64))).marks (u % 64) m ∙ whole_block numbers whole (u / 64)))
       (λ q ne block e. whole q block e)

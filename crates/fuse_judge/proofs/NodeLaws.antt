@@ -1,5 +1,5 @@
 -- The counts of nodes, with one more act.
-use Rattle.std.proofs.Common.{◌≡◌, ◌≢◌, ◌≤◌, ◌<◌, ℕ, ◌+◌, ◌-◌, ◌*◌, Bool, true, false, [], ◌∷◌, ◌++◌, length, max, Option, Some, None, refl, sym, ◌∙◌, ap, subst, arith, nat_eq, inl, inr, List}
+use Rattle.std.proofs.Common.{◌≡◌, ◌≢◌, ◌≤◌, ◌<◌, ℕ, ◌+◌, ◌-◌, ◌*◌, Bool, true, false, [], ◌∷◌, ◌++◌, length, Option, Some, None, refl, sym, ◌∙◌, ap, subst, arith, nat_eq, inl, inr, List}
 use Rattle.std.specs.Prelude.{sum_by}
 use Rattle.std.proofs.lemmas.Bool.{cases_eq}
 use Rattle.fuse_spec.specs.Values.Maps.{Map, get, put, remove}
@@ -13,7 +13,7 @@ use Rattle.fuse_judge.specs.declared.nodes.NodeRow.{NodeRow}
 use Rattle.fuse_judge.specs.Nodes.{LeavesNode, IsCounted, IsNode, AreNodes}
 use Rattle.fuse_judge.specs.Tallies.{one_if}
 use Rattle.fuse_judge.proofs.Keys.{same, differ, all_after_put, all_after_remove}
-use Rattle.fuse_judge.proofs.PendingLaws.{sum_small, sum_first, one_small}
+use Rattle.fuse_judge.proofs.PendingLaws.{sum_small, one_small}
 
 known-more : (s : Session) (a : Act) (n : ℕ) → known (s ++ a ∷ []) n ≡ or_earlier (first_file n (s, a)) (known s n)
 known-more s a n = ap (latest (first_file n)) (moments-more [] s a) ∙ latest-more (first_file n) (moments s) (s, a)
@@ -134,7 +134,8 @@ module _ (s : Session) (nodes : Map NodeRow) (n lookups : ℕ) (are : AreNodes s
       (omega (arith, least_left, is.least, is.within, all), omega (arith, most_left, is.most, all))
       others_left
 
-  pub forgot_some : (row : NodeRow) → get nodes n ≡ Some row → lookups < row.most → AreNodes (s ++ Forgets n lookups ∷ [])
+  pub forgot_some : (row : NodeRow) → get nodes n ≡ Some row → lookups < row.most
+      → AreNodes (s ++ Forgets n lookups ∷ [])
       (put nodes n (record { least = row.least - lookups; most = row.most - lookups; file = row.file }))
   forgot_some row there some =
       let is : IsCounted s n row = subst (IsNode s n) there (are n) in
@@ -160,7 +161,8 @@ module _ (s : Session) (nodes : Map NodeRow) (n lookups : ℕ) (are : AreNodes s
 
 -- No count is larger than the session.
 
-pub left_small : {A : Type 0} (gives takes : A → ℕ) → ((a : A) → gives a ≤ 1) → (s : List A) → left gives takes s ≤ length s
+pub left_small : {A : Type 0} (gives takes : A → ℕ) → ((a : A) → gives a ≤ 1) → (s : List A)
+    → left gives takes s ≤ length s
 left_small gives takes small [] = omega arith
 left_small gives takes small (a ∷ s) =
     let all : sum_by gives (a ∷ s) ≤ 1 * length (a ∷ s) = sum_small gives 1 small (a ∷ s) in

@@ -1,5 +1,5 @@
 -- The table of numbers, with one more act.
-use Rattle.std.proofs.Common.{◌≡◌, ◌≢◌, ℕ, Bool, true, false, ◌||◌, ◌&&◌, cond, [], ◌∷◌, ◌++◌, refl, sym, ◌∙◌, ap, subst, nat_eq, inl, inr}
+use Rattle.std.proofs.Common.{◌≡◌, ℕ, Bool, true, false, ◌||◌, ◌&&◌, cond, [], ◌∷◌, ◌++◌, refl, sym, ◌∙◌, ap, subst, nat_eq, inl, inr}
 use Rattle.std.proofs.lemmas.Bool.{cases_eq}
 use Rattle.fuse_spec.specs.Values.Maps.{Map}
 use Rattle.fuse_sessions.specs.declared.act.Act.{Act}
@@ -36,20 +36,24 @@ forgets_it false = refl
 
 pub number_read : (s : Session) (a : Act) (numbers new : Map Block) (u : ℕ) (is_forget : Bool)
     → ((q : ℕ) → (reads q a ≡ nat_eq u q) × (reads_forget q a ≡ (nat_eq u q && is_forget))) → AreNumbers s numbers
-    → ((q : ℕ) → mark_in new q ≡ cond (nat_eq u q) (read_mark (is_forgets (mark_in numbers u) || is_forget)) (mark_in numbers q))
+    → ((q : ℕ) → mark_in new q ≡ cond (nat_eq u q) (read_mark (is_forgets (mark_in numbers u) || is_forget))
+    (mark_in numbers q))
     → AreWhole new → AreNumbers (s ++ a ∷ []) new
 number_read s a numbers new u is_forget is are after whole = record {
   marked = λ q. elim (cases_eq u q) [
     | inl e ↦ subst (λ k. IsMark (s ++ a ∷ []) k (mark_in new k)) e here
     | inr ne ↦ subst (IsMark (s ++ a ∷ []) q)
-        (sym (after q ∙ ap (λ b. cond b (read_mark (is_forgets (mark_in numbers u) || is_forget)) (mark_in numbers q)) (differ u q ne)))
-        (other_mark s a q _ ((is q).0 ∙ differ u q ne) ((is q).1 ∙ ap (λ b. b && is_forget) (differ u q ne)) (are.marked q))
+        (sym (after q ∙ ap (λ b. cond b (read_mark (is_forgets (mark_in numbers u) || is_forget))
+        (mark_in numbers q)) (differ u q ne)))
+        (other_mark s a q _ ((is q).0 ∙ differ u q ne) ((is q).1
+        ∙ ap (λ b. b && is_forget) (differ u q ne)) (are.marked q))
   ];
   whole = whole;
 }
   where
     now : mark_in new u ≡ read_mark (is_forgets (mark_in numbers u) || is_forget)
-    now = after u ∙ ap (λ b. cond b (read_mark (is_forgets (mark_in numbers u) || is_forget)) (mark_in numbers u)) (same u)
+    now = after u ∙ ap (λ b. cond b (read_mark (is_forgets (mark_in numbers u) || is_forget)) (mark_in numbers u))
+        (same u)
 
     here : IsMark (s ++ a ∷ []) u (mark_in new u)
     here = subst (IsMark (s ++ a ∷ []) u) (sym now) record {

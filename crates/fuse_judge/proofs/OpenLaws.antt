@@ -1,13 +1,13 @@
 -- The files that are open, with one more act.
-use Rattle.std.proofs.Common.{◌≡◌, ◌≢◌, ◌≤◌, ◌<◌, ℕ, ◌+◌, ◌-◌, ◌*◌, Bool, true, false, true≢false, ◌&&◌, not, cond, [], ◌∷◌, ◌++◌, length, suc, Option, Some, None, refl, sym, ◌∙◌, ap, subst, arith, rules, nat_eq, inl, inr, List, ◌↔◌}
-use Rattle.std.specs.Prelude.{sum_by, filter, nat_lt, IsTrue}
+use Rattle.std.proofs.Common.{◌≡◌, ◌≢◌, ◌≤◌, ◌<◌, ℕ, ◌+◌, ◌-◌, ◌*◌, Bool, true, false, true≢false, ◌&&◌, not, cond, [], ◌∷◌, ◌++◌, length, suc, refl, sym, ◌∙◌, ap, subst, arith, rules, nat_eq, inl, inr, List}
+use Rattle.std.specs.Prelude.{sum_by, filter, nat_lt}
 use Rattle.std.proofs.lemmas.List.{length_push}
 use Rattle.fuse_sessions.specs.declared.act.Act.{Act}
 use Rattle.fuse_sessions.specs.declared.act.Act.TheVariants.{Opens, Releases}
 use Rattle.fuse_sessions.specs.declared.act.OpenFile.{OpenFile}
 use Rattle.fuse_sessions.specs.declared.act.OpenKind.{OpenKind}
 use Rattle.fuse_sessions.specs.declared.act.OpenKind.TheVariants as kind
-use Rattle.fuse_sessions.specs.Sessions.{Session, left}
+use Rattle.fuse_sessions.specs.Sessions.{Session}
 use Rattle.fuse_sessions.specs.Waiting.{same_open, same_kind}
 use Rattle.fuse_sessions.specs.OpenFiles.{opened, opens_this, releases_this, HasOpen}
 use Rattle.fuse_sessions.proofs.Laws.{left-more}
@@ -16,7 +16,7 @@ use Rattle.fuse_judge.specs.Handles.{handle, same_handle}
 use Rattle.fuse_judge.specs.Opens.{LeavesOpen, AreOpen}
 use Rattle.fuse_judge.specs.Tallies.{count_in, one_if}
 use Rattle.fuse_judge.proofs.Keys.{same}
-use Rattle.fuse_judge.proofs.HandleLaws.{left_of, right_of, same_numbers, one_more, one_fewer}
+use Rattle.fuse_judge.proofs.HandleLaws.{left_of, right_of, same_numbers}
 use Rattle.fuse_judge.proofs.NodeLaws.{left_small}
 use Rattle.fuse_judge.proofs.PendingLaws.{kept_both, kept_none, sum_split, sum_first, sum_small, one_small}
 
@@ -92,7 +92,8 @@ fewer : {X : Type 0} (p : X → Bool) (xs : List X) → length (filter p xs) ≤
 fewer p [] = omega arith
 fewer p (x ∷ xs) = by (p x) (fewer p xs)
   where
-    by : (b : Bool) → length (filter p xs) ≤ length xs → length (cond b (x ∷ filter p xs) (filter p xs)) ≤ suc (length xs)
+    by : (b : Bool) → length (filter p xs) ≤ length xs → length (cond b (x ∷ filter p xs) (filter p xs)) ≤ suc
+        (length xs)
     by true h = omega (arith, h)
     by false h = omega (arith, h)
 
@@ -108,7 +109,8 @@ left_open s a counts nodes is are = record {
 
 module _ (s : Session) (f : OpenFile) (counts new : Counts) (nodes : NodeCounts) (are : AreOpen s counts nodes) where
   -- a file is opened again
-  pub opened_again : ((q : OpenFile) → count_in same_handle new (handle q) ≡ count_in same_handle counts (handle q) + one_if (same_open f q))
+  pub opened_again : ((q : OpenFile) → count_in same_handle new (handle q)
+      ≡ count_in same_handle counts (handle q) + one_if (same_open f q))
       → opened s f ≢ 0 → AreOpen (s ++ Opens f ∷ []) new nodes
   opened_again more some = record {
     open_count = λ q. more q ∙ ap (λ n. n + one_if (same_open f q)) (are.open_count q) ∙ sym (opened_more s f q);
@@ -119,7 +121,8 @@ module _ (s : Session) (f : OpenFile) (counts new : Counts) (nodes : NodeCounts)
     few = one_longer s (Opens f) (length are.files) are.few;
   }
     where
-      by : (q : OpenFile) (b : Bool) → same_open f q ≡ b → nat_lt 0 (opened s q) ≡ nat_lt 0 (opened s q + one_if (same_open f q))
+      by : (q : OpenFile) (b : Bool) → same_open f q ≡ b → nat_lt 0 (opened s q)
+          ≡ nat_lt 0 (opened s q + one_if (same_open f q))
       by q true e =
           let there : opened s q ≢ 0 = subst (λ x. opened s x ≢ 0) (open_is f q e) some in
           rw e (grind (arith, there, rules))
@@ -172,7 +175,8 @@ module _ (s : Session) (f : OpenFile) (counts new : Counts) (nodes : NodeCounts)
     few = one_longer s (Releases f) (length are.files) are.few;
   }
     where
-      by : (q : OpenFile) (b : Bool) → same_open f q ≡ b → nat_lt 0 (opened s q) ≡ nat_lt 0 (opened s q - one_if (same_open f q))
+      by : (q : OpenFile) (b : Bool) → same_open f q ≡ b → nat_lt 0 (opened s q)
+          ≡ nat_lt 0 (opened s q - one_if (same_open f q))
       by q true e =
           let there : opened s q ≢ 1 = subst (λ x. opened s x ≢ 1) (open_is f q e) not_one in
           rw e (grind (arith, there, rules))
@@ -195,7 +199,8 @@ module _ (s : Session) (f : OpenFile) (counts new : Counts) (nodes : NodeCounts)
         one_longer s (Releases f) _ (omega (arith, less, was));
   }
     where
-      apart : (q : OpenFile) → same_open f q ≡ false → (x : OpenFile) → same_open q x ≡ true → not (same_open f x) ≡ true
+      apart : (q : OpenFile) → same_open f q ≡ false → (x : OpenFile) → same_open q x ≡ true → not (same_open f x)
+          ≡ true
       apart q e x h = ap not (subst (λ y. same_open f y ≡ false) (open_is q x h) e)
 
       by : (q : OpenFile) (b : Bool) → same_open f q ≡ b

@@ -13,7 +13,7 @@ use Rattle.fuse_sessions.specs.declared.act.Act.TheVariants as act
 use Rattle.fuse_sessions.specs.declared.act.Asked.{Asked}
 use Rattle.fuse_sessions.specs.declared.act.OpenFile.{OpenFile}
 use Rattle.fuse_sessions.specs.Sessions.{Session, since}
-use Rattle.fuse_sessions.specs.Waiting.{waiting, waits, asked_by, ends, is_that, reaches, names_node, uses_file, is_named, is_used}
+use Rattle.fuse_sessions.specs.Waiting.{waiting, asked_by, ends, is_that, reaches, names_node, uses_file, is_named, is_used}
 use Rattle.fuse_sessions.specs.Numbers.{interrupts, agains, asks_under, interrupts_of, agains_of}
 use Rattle.fuse_sessions.proofs.Laws.{sum-more, since-more, waiting-more, same_filter}
 use Rattle.fuse_judge.specs.declared.handle.Handle.{Handle}
@@ -143,7 +143,8 @@ other_row s a q (Some row) no_ask no_more no_again is =
       omega (arith, again, no_again, is.1),
     )
 
-pub removed_interrupted : (s : Session) (rows : Map Waiting) (u : ℕ) → AreInterrupted s rows → AreInterrupted s (remove rows u)
+pub removed_interrupted : (s : Session) (rows : Map Waiting) (u : ℕ) → AreInterrupted s rows
+    → AreInterrupted s (remove rows u)
 removed_interrupted s rows u are = all_after_remove (IsInterrupted s) rows u tt (λ q ne. are q)
 
 pub asked_interrupted : (s : Session) (rows : Map Waiting) (u : ℕ) (asked : Asked) → AreInterrupted s rows
@@ -212,7 +213,8 @@ module _ (xs : List (ℕ × Asked)) (rows : Map Waiting) (u : ℕ) (named : Name
     (are : AreListed xs rows named used) where
   pub ended_some : (row : Waiting) (names : Names) (uses : Uses) → get rows u ≡ Some row
       → ((n : ℕ) → count_in nat_eq names n ≡ count_in nat_eq named n - names_of n row.asked)
-      → ((f : OpenFile) → count_in same_handle uses (handle f) ≡ count_in same_handle used (handle f) - uses_of f row.asked)
+      → ((f : OpenFile) → count_in same_handle uses (handle f)
+      ≡ count_in same_handle used (handle f) - uses_of f row.asked)
       → AreListed (without u xs) (remove rows u) names uses
   ended_some row names uses there fewer less = record {
     once = once_ended xs rows u are.once;
@@ -276,7 +278,8 @@ module _ (s : Session) (a : Act) (rows : Map Waiting) (named : Names) (used : Us
     (are : ArePending s rows named used) where
   pub pending_kept : ((q : ℕ) → HasEffect q a false 0 0) → ArePending (s ++ a ∷ []) rows named used
   pending_kept is = record {
-    listed = subst (λ xs. AreListed xs rows named used) (sym (waiting_kept s a (λ q. (is q).ending) (is 0).asking)) are.listed;
+    listed = subst (λ xs. AreListed xs rows named used) (sym (waiting_kept s a (λ q. (is q).ending)
+        (is 0).asking)) are.listed;
     interrupted = λ q. other_row s a q (get rows q) (is q).under (is q).interrupting (is q).again (are.interrupted q);
   }
 
@@ -284,16 +287,19 @@ module _ (s : Session) (a : Act) (rows : Map Waiting) (named : Names) (used : Us
       → ((q : ℕ) → HasEffect q a (nat_eq u q) 0 0) → AreListed (without u (waiting s)) new names uses
       → AreInterrupted s new → ArePending (s ++ a ∷ []) new names uses
   pending_ended u new names uses is listed interrupted = record {
-    listed = subst (λ xs. AreListed xs new names uses) (sym (waiting_ended s a u (λ q. (is q).ending) (is 0).asking)) listed;
+    listed = subst (λ xs. AreListed xs new names uses) (sym (waiting_ended s a u (λ q. (is q).ending)
+        (is 0).asking)) listed;
     interrupted = λ q. other_row s a q (get new q) (is q).under (is q).interrupting (is q).again (interrupted q);
   }
 
-  pub pending_interrupted : (more again : ℕ → ℕ) (new : Map Waiting) → ((q : ℕ) → HasEffect q a false (more q) (again q))
+  pub pending_interrupted : (more again : ℕ → ℕ) (new : Map Waiting) → ((q : ℕ)
+      → HasEffect q a false (more q) (again q))
       → ((q : ℕ) → entry_of q (get new q) ≡ entry_of q (get rows q)) → AreInterrupted (s ++ a ∷ []) new
       → ArePending (s ++ a ∷ []) new named used
   pending_interrupted more again new is alike interrupted = record {
     listed = listed_alike (waiting (s ++ a ∷ [])) rows 0 named used
-        (subst (λ xs. AreListed xs rows named used) (sym (waiting_kept s a (λ q. (is q).ending) (is 0).asking)) are.listed)
+        (subst (λ xs. AreListed xs rows named used) (sym (waiting_kept s a (λ q. (is q).ending)
+        (is 0).asking)) are.listed)
         new alike;
     interrupted = interrupted;
   }
@@ -319,7 +325,8 @@ found_first u (x ∷ xs) = by (nat_eq u x.0) (found_first u xs)
   where
     by : (b : Bool) → lookup (nat_eq u) xs ≡ first_asked (filter (λ (e : ℕ × Asked). nat_eq u e.0) xs)
         → cond b (Some x.1) (lookup (nat_eq u) xs)
-        ≡ first_asked (cond b (x ∷ filter (λ (e : ℕ × Asked). nat_eq u e.0) xs) (filter (λ (e : ℕ × Asked). nat_eq u e.0) xs))
+        ≡ first_asked (cond b (x ∷ filter (λ (e : ℕ × Asked). nat_eq u e.0) xs) (filter (λ (e : ℕ
+        × Asked). nat_eq u e.0) xs))
     by true ih = refl
     by false ih = ih
 
@@ -338,7 +345,8 @@ pub one_small : (b : Bool) → one_if b ≤ 1
 one_small true = omega arith
 one_small false = omega arith
 
-pub sum_small : {X : Type 0} (w : X → ℕ) (most : ℕ) → ((x : X) → w x ≤ most) → (xs : List X) → sum_by w xs ≤ most * length xs
+pub sum_small : {X : Type 0} (w : X → ℕ) (most : ℕ) → ((x : X) → w x ≤ most) → (xs : List X)
+    → sum_by w xs ≤ most * length xs
 sum_small w most small [] = omega arith
 sum_small w most small (x ∷ xs) =
     let first : sum_by w (x ∷ xs) ≡ w x + sum_by w xs = sum_first w x xs in
@@ -362,7 +370,8 @@ waiting_short (a ∷ s) =
     = one_asked (λ e. not (list_any (ends e.0) s)) a in
     let rest : length (waiting s) ≤ length s = waiting_short s in
     let both : length (filter (λ (e : ℕ × Asked). not (list_any (ends e.0) s)) (asked_by a) ++ waiting s)
-    ≡ length (filter (λ (e : ℕ × Asked). not (list_any (ends e.0) s)) (asked_by a)) + length (waiting s) = length-append _ _ in
+    ≡ length (filter (λ (e : ℕ × Asked). not (list_any (ends e.0) s)) (asked_by a)) + length (waiting s)
+    = length-append _ _ in
     omega (arith, here, rest, both)
 
 pub since_short : {A : Type 0} (test : A → Bool) (s : List A) → length (since test s) ≤ length s
@@ -412,14 +421,16 @@ module _ (s : Session) (rows : Map Waiting) (named : Names) (used : Uses) (are :
       let is : count_in same_handle used (handle f) ≡ sum_by (λ (e : ℕ × Asked). uses_of f e.1) (waiting s)
       = are.listed.uses f in
       let few : sum_by (λ (e : ℕ × Asked). uses_of f e.1) (waiting s) ≤ 2 * length (waiting s)
-      = sum_small (λ (e : ℕ × Asked). uses_of f e.1) 2 (λ e. two (is_that f e.1.uses) (is_that f e.1.copies_to)) (waiting s) in
+      = sum_small (λ (e : ℕ × Asked). uses_of f e.1) 2 (λ e. two (is_that f e.1.uses) (is_that f e.1.copies_to))
+      (waiting s) in
       let short : length (waiting s) ≤ length s = waiting_short s in
       omega (arith, is, few, short, small)
     where
       two : (b c : Bool) → one_if b + one_if c ≤ 2
       two b c = let h : one_if b ≤ 1 = one_small b in let k : one_if c ≤ 1 = one_small c in omega (arith, h, k)
 
-  pub interrupts_few : (u : ℕ) (row : Waiting) → get rows u ≡ Some row → (row.interrupts + 1 < limit) × (row.agains + 1 < limit)
+  pub interrupts_few : (u : ℕ) (row : Waiting) → get rows u ≡ Some row
+      → (row.interrupts + 1 < limit) × (row.agains + 1 < limit)
   interrupts_few u row there =
       let is : IsInterrupted s u (Some row) = subst (IsInterrupted s u) there (are.interrupted u) in
       let since_few : length (since (asks_under u) s) ≤ length s = since_short (asks_under u) s in

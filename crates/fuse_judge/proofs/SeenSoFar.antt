@@ -16,7 +16,8 @@ use Rattle.fuse_judge.specs.Seen.{JudgeState, HasSeen}
 use Rattle.fuse_judge.proofs.VerdictLaws.{verdicts-more}
 
 -- The first acts are seen, and each has its verdict.
-pub record AreSeen (old : JudgeState) (acts : List Act) (verdicts : List (Option Fault)) (now : JudgeState) : Type 0 where
+pub record AreSeen (old : JudgeState) (acts : List Act) (verdicts : List (Option Fault))
+    (now : JudgeState) : Type 0 where
   pub judged : (s : Session) → HasSeen s old → AreVerdicts s acts verdicts
   pub right : (s : Session) → HasSeen s old → HasSeen (s ++ acts) now
 
@@ -47,29 +48,30 @@ pub seen_nothing : (flags : Flags) (numbers : Map Block) (nodes : Map NodeRow) (
       open_counts = open_counts;
       open_nodes = open_nodes;
     }
-seen_nothing flags numbers nodes waiting named used open_counts open_nodes are a b c d e f g = rw (a, b, c, d, e, f, g) record {
-  right_flags = are;
-  right_numbers = record {
-    marked = λ u. record {
-      read = refl;
-      forget = refl;
-    };
-    whole = λ k x none. absurd (none-some x none);
-  };
-  right_nodes = λ n. (refl, refl);
-  right_pending = record {
-    listed = record {
-      once = λ u. refl;
-      names = λ n. refl;
-      uses = λ o. refl;
-    };
-    interrupted = λ u. tt;
-  };
-  right_opens = record {
-    open_count = λ o. refl;
-    files = [];
-    once = λ o. refl;
-    of_nodes = λ n. refl;
-    few = omega arith;
-  };
-}
+seen_nothing flags numbers nodes waiting named used open_counts open_nodes are a b c d e f g = rw
+    (a, b, c, d, e, f, g) record {
+      right_flags = are;
+      right_numbers = record {
+        marked = λ u. record {
+          read = refl;
+          forget = refl;
+        };
+        whole = λ k x none. absurd (none-some x none);
+      };
+      right_nodes = λ n. (refl, refl);
+      right_pending = record {
+        listed = record {
+          once = λ u. refl;
+          names = λ n. refl;
+          uses = λ o. refl;
+        };
+        interrupted = λ u. tt;
+      };
+      right_opens = record {
+        open_count = λ o. refl;
+        files = [];
+        once = λ o. refl;
+        of_nodes = λ n. refl;
+        few = omega arith;
+      };
+    }

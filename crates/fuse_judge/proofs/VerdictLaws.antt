@@ -23,7 +23,8 @@ verdicts-more s (a ∷ acts) (v ∷ verdicts) act verdict are is = (
 )
 
 -- the verdict at a place is the fault of the act there
-pub verdict_at : (s acts : Session) (verdicts : List (Option Fault)) → AreVerdicts s acts verdicts → (place : ℕ) (fault : Fault)
+pub verdict_at : (s acts : Session) (verdicts : List (Option Fault)) → AreVerdicts s acts verdicts
+    → (place : ℕ) (fault : Fault)
     → slice_get verdicts place ≡ Some (Some fault) ↔ HasFaultAt s acts place fault
 verdict_at s [] [] are place fault = ((λ e. absurd (none-some _ e)), (λ at. absurd (none-some _ at.stands)))
 verdict_at s [] (v ∷ verdicts) are place fault = absurd are
@@ -39,7 +40,8 @@ verdict_at s (a ∷ acts) (v ∷ verdicts) are zero fault = (
 )
 verdict_at s (a ∷ acts) (v ∷ verdicts) are (suc place) fault =
     let later = verdict_at (s ++ a ∷ []) acts verdicts are.1 place fault in
-    let joined : s ++ a ∷ [] ++ take place acts ≡ s ++ (a ∷ take place acts) = append_assoc s (a ∷ []) (take place acts) in (
+    let joined : s ++ a ∷ [] ++ take place acts ≡ s ++ (a ∷ take place acts) = append_assoc s (a ∷ [])
+    (take place acts) in (
       (λ e. let at = later.0 e in record {
         act = at.act;
         stands = at.stands;

@@ -1,5 +1,5 @@
 -- What the judge's tables say of the session that it has seen: a fact for each table.
-use Rattle.std.specs.Prelude.{◌≤◌, ◌*◌, ◌^◌, ◌+◌, ℕ, List, length}
+use Rattle.std.specs.Prelude.{◌≤◌, ◌*◌, ℕ, List, length}
 use Rattle.indexmap.specs.IndexMap.{spare}
 use Rattle.fuse_spec.specs.Values.Maps.{Map}
 use Rattle.fuse_sessions.specs.Sessions.{Session}

@@ -33,7 +33,8 @@ pub(crate) fn fault_of_number<A: Allocator + Copy>(
     flags: Flags,
     unique: u64,
 ) -> Option<Fault>
-    ensures { (s : Session) → AreNumbers s numbers.now.entries → AreFlags s flags → IsFault (BreaksNumber s unique) result }
+    ensures { (s : Session) → AreNumbers s numbers.now.entries → AreFlags s flags
+        → IsFault (BreaksNumber s unique) result }
 {
     if unique % 2 == 1 {
         Some(Fault::OddNumber)

@@ -88,7 +88,8 @@ pub(crate) fn fault_of_release(
 fn open<A: Allocator + Copy>(opens: &mut OpenFiles<A>, file: OpenFile)
     requires room { 0 < spare opens.old.counts }
     requires nodes_room { 0 < spare opens.old.nodes }
-    requires few { (s : Session) × AreOpen s opens.old.counts.entries opens.old.nodes.entries × (length s + 1 < 2 ^ 64) }
+    requires few { (s : Session) × AreOpen s opens.old.counts.entries opens.old.nodes.entries ×
+        (length s + 1 < 2 ^ 64) }
     ensures kept { (s : Session) → AreOpen s opens.old.counts.entries opens.old.nodes.entries
         → AreOpen (s ++ Opens file ∷ []) opens.new.counts.entries opens.new.nodes.entries }
     ensures room { spare opens.old.counts ≤ spare opens.new.counts + 1 }
@@ -121,7 +122,8 @@ fn release<A: Allocator + Copy>(opens: &mut OpenFiles<A>, file: OpenFile)
 pub(crate) fn note_opens<A: Allocator + Copy>(opens: &mut OpenFiles<A>, act: Act)
     requires room { 0 < spare opens.old.counts }
     requires nodes_room { 0 < spare opens.old.nodes }
-    requires few { (s : Session) × AreOpen s opens.old.counts.entries opens.old.nodes.entries × (length s + 1 < 2 ^ 64) }
+    requires few { (s : Session) × AreOpen s opens.old.counts.entries opens.old.nodes.entries ×
+        (length s + 1 < 2 ^ 64) }
     ensures kept { (s : Session) → AreOpen s opens.old.counts.entries opens.old.nodes.entries
         → AreOpen (s ++ act ∷ []) opens.new.counts.entries opens.new.nodes.entries }
     ensures room { spare opens.old.counts ≤ spare opens.new.counts + 1 }

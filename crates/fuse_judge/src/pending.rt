@@ -143,9 +143,11 @@ fn end<A: Allocator + Copy>(pending: &mut Pending<A>, unique: u64)
         → AreListed xs pending.old.rows.entries pending.old.named.entries pending.old.used.entries
         → AreListed (filter (λ (e : ℕ × Asked). not (nat_eq unique e.0)) xs) pending.new.rows.entries
         pending.new.named.entries pending.new.used.entries }
-    ensures interrupted { (s : Session) → AreInterrupted s pending.old.rows.entries → AreInterrupted s pending.new.rows.entries }
+    ensures interrupted { (s : Session) → AreInterrupted s pending.old.rows.entries
+        → AreInterrupted s pending.new.rows.entries }
     ensures gone { get pending.new.rows.entries unique ≡ None }
-    ensures names { (n : ℕ) → count_in nat_eq pending.new.named.entries n ≤ count_in nat_eq pending.old.named.entries n }
+    ensures names { (n : ℕ)
+        → count_in nat_eq pending.new.named.entries n ≤ count_in nat_eq pending.old.named.entries n }
     ensures uses { (f : OpenFile) → count_in same_handle pending.new.used.entries (handle f)
         ≤ count_in same_handle pending.old.used.entries (handle f) }
     ensures room { pending.old.rows.room ≤ pending.new.rows.room }
@@ -205,7 +207,8 @@ fn interrupt<A: Allocator + Copy>(
         → (row.interrupts + 1 < 2 ^ 64) × (row.agains + 1 < 2 ^ 64) }
     ensures once { (u : ℕ) → entry_of u (get rows.new.entries u) ≡ entry_of u (get rows.old.entries u) }
     ensures interrupted { (s : Session) (act : Act)
-        → ((u : ℕ) → HasEffect u act false (words.one_if (nat_eq unique u && interrupts)) (words.one_if (nat_eq unique u && agains)))
+        → ((u : ℕ) → HasEffect u act false (words.one_if (nat_eq unique u && interrupts)) (words.one_if
+        (nat_eq unique u && agains)))
         → AreInterrupted s rows.old.entries → AreInterrupted (s ++ act ∷ []) rows.new.entries }
     ensures room { rows.old.room ≤ rows.new.room }
 {

@@ -1,4 +1,3 @@
-use Rattle.std.proofs.Common.{◌∙◌}
 use Rattle.fuse_judge.proofs.MarkLaws.{marks_after, whole_after}
 use Rattle.fuse_judge.proofs.marks.set_mark.Goals as goal
 

@@ -1,4 +1,3 @@
-use Rattle.std.proofs.Common.{subst}
 use Rattle.fuse_judge.proofs.HandleLaws.{one_more}
 use Rattle.fuse_judge.proofs.named.add_use.Goals as goal
 
@@ -7,4 +6,5 @@ add-requires-clause-few g c = rw c.handle_of.ensures (c.requires.few c.in-Some.f
 
 pub returns-in-Some-clause-counts : goal.returns-in-Some-clause-counts
 returns-in-Some-clause-counts g c = rw c.in-Some.is
-    (one_more c.args.used.now.entries c.add.new.tally.entries c.in-Some.file (rw c.handle_of.ensures at c.add.ensures.counts))
+    (one_more c.args.used.now.entries c.add.new.tally.entries c.in-Some.file
+    (rw c.handle_of.ensures at c.add.ensures.counts))

@@ -1,4 +1,4 @@
-use Rattle.std.proofs.Common.{◌≡◌, ◌≤◌, ◌+◌, Some, ap, sym, ◌∙◌, arith}
+use Rattle.std.proofs.Common.{ap, sym, ◌∙◌}
 use Rattle.std.specs.Option.{option_copied}
 use Rattle.fuse_judge.proofs.NodeLaws.{gave_first, gave_more}
 use Rattle.fuse_judge.proofs.nodes.give.Goals as goal

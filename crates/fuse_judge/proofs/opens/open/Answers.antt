@@ -1,4 +1,4 @@
-use Rattle.std.proofs.Common.{◌≡◌, ◌≢◌, ◌^◌, ◌∙◌, sym}
+use Rattle.std.proofs.Common.{◌^◌, ◌∙◌, sym}
 use Rattle.fuse_judge.proofs.HandleLaws.{one_more}
 use Rattle.fuse_judge.proofs.OpenLaws.{opened_first, opened_again, opened_few, open_nodes_few, node_more}
 use Rattle.fuse_judge.proofs.opens.open.Goals as goal

@@ -1,4 +1,4 @@
-use Rattle.std.proofs.Common.{◌≡◌, ◌≢◌, ◌∙◌, sym}
+use Rattle.std.proofs.Common.{◌∙◌, sym}
 use Rattle.fuse_judge.proofs.HandleLaws.{one_fewer}
 use Rattle.fuse_judge.proofs.OpenLaws.{released_last, released_not_last, node_fewer}
 use Rattle.fuse_judge.proofs.opens.release.Goals as goal

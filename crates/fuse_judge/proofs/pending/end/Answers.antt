@@ -14,7 +14,8 @@ returns-in-Some-clause-interrupted g c = λ s are. rw c.remove.ensures.entries
     (removed_interrupted s c.args.pending.now.rows.entries c.args.unique are)
 
 pub returns-in-Some-clause-gone : goal.returns-in-Some-clause-gone
-returns-in-Some-clause-gone g c = rw c.remove.ensures.entries (get_gone_here c.args.pending.now.rows.entries c.args.unique)
+returns-in-Some-clause-gone g c = rw c.remove.ensures.entries
+    (get_gone_here c.args.pending.now.rows.entries c.args.unique)
 
 pub returns-in_default-clause-listed : goal.returns-in_default-clause-listed
 returns-in_default-clause-listed g c = λ xs are. rw c.remove.ensures.entries
@@ -26,4 +27,5 @@ returns-in_default-clause-interrupted g c = λ s are. rw c.remove.ensures.entrie
     (removed_interrupted s c.args.pending.now.rows.entries c.args.unique are)
 
 pub returns-in_default-clause-gone : goal.returns-in_default-clause-gone
-returns-in_default-clause-gone g c = rw c.remove.ensures.entries (get_gone_here c.args.pending.now.rows.entries c.args.unique)
+returns-in_default-clause-gone g c = rw c.remove.ensures.entries
+    (get_gone_here c.args.pending.now.rows.entries c.args.unique)

@@ -1,4 +1,4 @@
-use Rattle.std.proofs.Common.{◌≡◌, ◌≤◌, ◌<◌, ◌+◌, ◌^◌, arith, nat_eq}
+use Rattle.std.proofs.Common.{◌<◌, ◌+◌, ◌^◌, arith, nat_eq}
 use Rattle.fuse_sessions.specs.Waiting.{waiting}
 use Rattle.fuse_judge.specs.Handles.{handle, same_handle}
 use Rattle.fuse_judge.specs.Tallies.{count_in}
@@ -39,9 +39,11 @@ returns-in-Ends-clause-kept g c = λ s are. pending_ended s c.args.act _ _ _ are
     (c.end-in-Ends.ensures.listed (waiting s) are.listed) (c.end-in-Ends.ensures.interrupted s are.interrupted)
 
 pub returns-in-Interrupts-clause-kept : goal.returns-in-Interrupts-clause-kept
-returns-in-Interrupts-clause-kept g c = λ s are. pending_interrupted s c.args.act _ _ _ are _ _ _ c.in-Interrupts.ensures
+returns-in-Interrupts-clause-kept g c
+    = λ s are. pending_interrupted s c.args.act _ _ _ are _ _ _ c.in-Interrupts.ensures
     c.interrupt.ensures.once
-    (c.interrupt.ensures.interrupted s c.args.act (as_interrupt c.args.act c.in-Interrupts.unique c.in-Interrupts.ensures)
+    (c.interrupt.ensures.interrupted s c.args.act
+    (as_interrupt c.args.act c.in-Interrupts.unique c.in-Interrupts.ensures)
     are.interrupted)
 
 pub returns-in-Again-clause-kept : goal.returns-in-Again-clause-kept

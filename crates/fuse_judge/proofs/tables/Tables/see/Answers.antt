@@ -1,4 +1,4 @@
-use Rattle.std.proofs.Common.{◌≡◌, ◌+◌, ◌-◌, ◌++◌, length, subst, ap, ◌∙◌, arith, take_all}
+use Rattle.std.proofs.Common.{◌≡◌, ◌+◌, ◌-◌, length, subst, ap, ◌∙◌, arith}
 use Rattle.std.proofs.lemmas.List.{length_push, take_more}
 use Rattle.fuse_sessions.specs.declared.act.Act.TheVariants.{Faulty}
 use Rattle.fuse_sessions.specs.declared.fault.Fault.TheVariants.{MalformedRequest}
