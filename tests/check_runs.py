@@ -1,7 +1,7 @@
 #!/usr/bin/env python3
 """Whether the worked runs of the definitions are the scripts of tests/rows, event for event and record for record.
 
-A worked run is crates/fuse_spec/specs/Worked/NAME.antt, which the gate computes in the definitions; its script is the row
+A worked run is crates/fuse_runs/specs/NAME.antt, which the gate computes in the definitions; its script is the row
 of the same name. A record has no opcode and no length, so these are left out of the row's output. Prints a line for each
 run that differs, then `N passed, M failed`, and ends with status 1 where one does.
 """
@@ -11,7 +11,7 @@ from pathlib import Path
 
 TOP = Path(__file__).resolve().parent.parent
 ROWS = TOP / "tests" / "rows"
-WORKED = TOP / "crates" / "fuse_spec" / "specs" / "Worked"
+WORKED = TOP / "crates" / "fuse_runs" / "specs"
 REFUSALS = ["Busy", "NoSuch", "InterruptFirst", "NotReady", "Full", "NoCopy", "NoMemory", "Exhausted", "BadTime", "LinkLost"]
 WORDS = {"Held": "held", "Forgot": "forgot", "Marked": "marked", "Ignored": "ignored", "Again": "again"}
 RESULTS = {"Accepted": "0", "NoEntry": "2", "Invalid": "22"}
@@ -226,7 +226,7 @@ def first_difference(run, row):
 
 
 def main():
-    runs = {file.stem: file for file in WORKED.glob("*.antt") if file.stem != "LockStep"}
+    runs = {file.stem: file for file in WORKED.glob("*.antt") if file.stem not in ("Lib", "LockStep")}
     rows = {"".join(part.capitalize() for part in file.stem.split("-")): file.stem for file in ROWS.glob("*.script")}
     wrong = [f"{name}: no row of that name" for name in runs if name not in rows and name not in NO_ROW]
     wrong += [f"{row}: no worked run of that name" for name, row in rows.items() if name not in runs and row not in NO_RUN]

@@ -6,4 +6,3 @@ pub mod Server
 pub mod World
 pub mod Reference
 pub mod Claim
-pub mod Worked

@@ -1,12 +1,11 @@
-//! The definitions of the project, in `specs/`; the plain values, error numbers and limits that definitions and code
-//! share; and worked runs, computed over the definitions.
+//! The definitions of the project, in `specs/`, and the plain values, error numbers and limits that definitions and code
+//! share.
 #![tactic(auto)]
 
 pub mod errno;
 pub mod limits;
 mod name;
 mod operation;
-pub mod worked_runs;
 
 pub use name::is_dots;
 pub use operation::{NoOpenFile, Operation};

@@ -1,0 +1,99 @@
+-- A worked run: abort after do and remount.
+use Rattle.fuse_spec.specs.declared.Minor.TheVariants as minor
+use Rattle.std.specs.Prelude.{◌≡◌, List, [], ◌∷◌, codes, false}
+use Rattle.fuse_spec.specs.World.Events.{Event}
+use Rattle.fuse_spec.specs.World.Events as event
+use Rattle.fuse_spec.specs.World.Records.{Record, outcome, refused, answered}
+use Rattle.fuse_runs.specs.LockStep.{Both, IsRecorded, after_all, start, nodes_shown}
+use Rattle.fuse_spec.specs.Calls.Calls as call
+use Rattle.fuse_spec.specs.Calls.Answers as answer
+use Rattle.fuse_spec.specs.declared.Taken.TheVariants as word
+use Rattle.fuse_spec.specs.declared.WriteResult.TheVariants as result
+use Rattle.fuse_spec.specs.declared.Refusal.TheVariants as refusal
+use Rattle.fuse_spec.specs.declared.Kind.TheVariants as kind
+
+-- The events of the run, what both worlds have to record of them, and both worlds after them.
+abbrev pub events_0 : List Event
+events_0 =
+    event.mount 1000 0 minor.M31 ∷
+    event.read_pending 0 ∷
+    event.take 0 ∷
+    event.perform 2 ∷
+    event.write 0 ∷
+    event.settle 0 ∷
+    event.call (call.mkdir (codes "/a")) ∷
+    event.call (call.stat (codes "/")) ∷
+    event.read_pending 0 ∷
+    event.take 0 ∷
+    event.perform 4 ∷
+    event.abort ∷
+    event.call (call.stat (codes "/")) ∷
+    event.read_pending 0 ∷
+    event.write 0 ∷
+    event.again 4 ∷
+    event.mount 1000 0 minor.M31 ∷
+    event.read_pending 0 ∷
+    event.take 0 ∷
+    event.perform 2 ∷
+    event.write 0 ∷
+    event.settle 0 ∷
+    event.call (call.stat (codes "/a")) ∷
+    event.read_pending 0 ∷
+    event.take 0 ∷
+    event.perform 4 ∷
+    event.write 0 ∷
+    event.settle 0 ∷
+    event.read_pending 0 ∷
+    event.take 0 ∷
+    event.perform 6 ∷
+    event.write 0 ∷
+    event.settle 0 ∷
+    []
+
+abbrev pub records_0 : List Record
+records_0 =
+    outcome event.mounted ∷
+    outcome (event.is_read 2) ∷
+    outcome (event.taken 2 word.Held) ∷
+    outcome (event.performed 2 0 false) ∷
+    outcome (event.written 2 result.Accepted) ∷
+    outcome (event.settled 2 result.Accepted) ∷
+    outcome (event.begun 1) ∷
+    outcome (event.begun 2) ∷
+    outcome (event.is_read 4) ∷
+    outcome (event.taken 4 word.Held) ∷
+    outcome (event.performed 4 0 false) ∷
+    outcome event.aborted ∷
+    answered 1 (answer.failed 103) ∷
+    answered 2 (answer.failed 103) ∷
+    outcome (event.begun 3) ∷
+    answered 3 (answer.failed 107) ∷
+    refused refusal.NotReady ∷
+    refused refusal.NoSuch ∷
+    refused refusal.NoCopy ∷
+    outcome event.mounted ∷
+    outcome (event.is_read 2) ∷
+    outcome (event.taken 2 word.Held) ∷
+    outcome (event.performed 2 0 false) ∷
+    outcome (event.written 2 result.Accepted) ∷
+    outcome (event.settled 2 result.Accepted) ∷
+    outcome (event.begun 4) ∷
+    outcome (event.is_read 4) ∷
+    outcome (event.taken 4 word.Held) ∷
+    outcome (event.performed 4 0 false) ∷
+    outcome (event.written 4 result.Accepted) ∷
+    outcome (event.settled 4 result.Accepted) ∷
+    outcome (event.is_read 6) ∷
+    outcome (event.taken 6 word.Held) ∷
+    outcome (event.performed 6 0 false) ∷
+    outcome (event.written 6 result.Accepted) ∷
+    answered 4 (answer.attributes (record { kind = kind.Directory; ino = 2; size = 0; nlink = 1 })) ∷
+    outcome (event.settled 6 result.Accepted) ∷
+    []
+
+abbrev pub worlds_0 : Both
+worlds_0 = after_all start events_0
+
+-- Both worlds record this, and the kernel and the server hold these nodes.
+abbrev pub IsComputed : Type 0
+IsComputed = IsRecorded worlds_0 records_0 × (nodes_shown worlds_0 ≡ (((2, 2, 1) ∷ []), ((2, 2, 1) ∷ [])))

@@ -1,0 +1,71 @@
+-- A worked run: fatal signals unread and read.
+use Rattle.fuse_spec.specs.declared.Minor.TheVariants as minor
+use Rattle.std.specs.Prelude.{List, [], ◌∷◌, codes, true, false}
+use Rattle.fuse_spec.specs.World.Events.{Event}
+use Rattle.fuse_spec.specs.World.Events as event
+use Rattle.fuse_spec.specs.World.Records.{Record, outcome, refused, answered}
+use Rattle.fuse_runs.specs.LockStep.{Both, IsRecorded, after_all, start}
+use Rattle.fuse_spec.specs.Calls.Calls as call
+use Rattle.fuse_spec.specs.Calls.Answers as answer
+use Rattle.fuse_spec.specs.declared.Taken.TheVariants as word
+use Rattle.fuse_spec.specs.declared.WriteResult.TheVariants as result
+use Rattle.fuse_spec.specs.declared.IntrEffect.TheVariants as effect
+use Rattle.fuse_spec.specs.declared.Refusal.TheVariants as refusal
+
+-- The events of the run, what both worlds have to record of them, and both worlds after them.
+abbrev pub events_0 : List Event
+events_0 =
+    event.mount 1000 0 minor.M31 ∷
+    event.read_pending 0 ∷
+    event.take 0 ∷
+    event.perform 2 ∷
+    event.write 0 ∷
+    event.settle 0 ∷
+    event.call (call.mkdir (codes "/a")) ∷
+    event.intr 1 true ∷
+    event.read_pending 0 ∷
+    event.call (call.mkdir (codes "/a")) ∷
+    event.call (call.stat (codes "/")) ∷
+    event.read_pending 0 ∷
+    event.intr 2 true ∷
+    event.read_pending 0 ∷
+    event.read_interrupt ∷
+    event.read_pending 0 ∷
+    event.take 0 ∷
+    event.take 0 ∷
+    event.perform 6 ∷
+    event.write 0 ∷
+    []
+
+abbrev pub records_0 : List Record
+records_0 =
+    outcome event.mounted ∷
+    outcome (event.is_read 2) ∷
+    outcome (event.taken 2 word.Held) ∷
+    outcome (event.performed 2 0 false) ∷
+    outcome (event.written 2 result.Accepted) ∷
+    outcome (event.settled 2 result.Accepted) ∷
+    outcome (event.begun 1) ∷
+    outcome (event.interrupted 1 effect.Dequeued) ∷
+    answered 1 (answer.failed 4) ∷
+    refused refusal.NoSuch ∷
+    outcome (event.begun 2) ∷
+    outcome (event.begun 3) ∷
+    outcome (event.is_read 6) ∷
+    outcome (event.interrupted 2 effect.Queued) ∷
+    refused refusal.InterruptFirst ∷
+    outcome (event.is_read 7) ∷
+    outcome (event.is_read 8) ∷
+    outcome (event.taken 6 word.Held) ∷
+    outcome (event.taken 7 word.Marked) ∷
+    outcome (event.performed 6 4 false) ∷
+    outcome (event.written 6 result.Accepted) ∷
+    answered 2 (answer.failed 4) ∷
+    []
+
+abbrev pub worlds_0 : Both
+worlds_0 = after_all start events_0
+
+-- Both worlds record this.
+abbrev pub IsComputed : Type 0
+IsComputed = IsRecorded worlds_0 records_0

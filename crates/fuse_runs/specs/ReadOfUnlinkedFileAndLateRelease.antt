@@ -1,0 +1,112 @@
+-- A worked run: read of unlinked file and late release.
+use Rattle.fuse_spec.specs.declared.Minor.TheVariants as minor
+use Rattle.std.specs.Prelude.{List, [], ◌∷◌, codes, false}
+use Rattle.fuse_spec.specs.World.Events.{Event}
+use Rattle.fuse_spec.specs.World.Events as event
+use Rattle.fuse_spec.specs.World.Records.{Record, outcome, refused, answered}
+use Rattle.fuse_runs.specs.LockStep.{Both, IsRecorded, after_all, start}
+use Rattle.fuse_spec.specs.Calls.Calls as call
+use Rattle.fuse_spec.specs.Calls.Answers as answer
+use Rattle.fuse_spec.specs.declared.Taken.TheVariants as word
+use Rattle.fuse_spec.specs.declared.WriteResult.TheVariants as result
+use Rattle.fuse_spec.specs.declared.Refusal.TheVariants as refusal
+
+-- The events of the run, what both worlds have to record of them, and both worlds after them.
+abbrev pub events_0 : List Event
+events_0 =
+    event.mount 1000 0 minor.M31 ∷
+    event.read_pending 0 ∷
+    event.take 0 ∷
+    event.perform 2 ∷
+    event.write 0 ∷
+    event.settle 0 ∷
+    event.call (call.create (codes "/a")) ∷
+    event.read_pending 0 ∷
+    event.take 0 ∷
+    event.perform 4 ∷
+    event.write 0 ∷
+    event.settle 0 ∷
+    event.call (call.write 1 0 (104 ∷ 105 ∷ [])) ∷
+    event.read_pending 0 ∷
+    event.take 0 ∷
+    event.perform 6 ∷
+    event.write 0 ∷
+    event.settle 0 ∷
+    event.call (call.unlink (codes "/a")) ∷
+    event.read_pending 0 ∷
+    event.take 0 ∷
+    event.perform 8 ∷
+    event.write 0 ∷
+    event.settle 0 ∷
+    event.call (call.read 1 0 10) ∷
+    event.read_pending 0 ∷
+    event.call (call.close 1) ∷
+    event.read_pending 0 ∷
+    event.take 0 ∷
+    event.perform 10 ∷
+    event.write 0 ∷
+    event.settle 0 ∷
+    event.read_pending 0 ∷
+    event.take 0 ∷
+    event.perform 12 ∷
+    event.write 0 ∷
+    event.settle 0 ∷
+    event.evict 2 ∷
+    event.call (call.read 1 0 1) ∷
+    []
+
+abbrev pub records_0 : List Record
+records_0 =
+    outcome event.mounted ∷
+    outcome (event.is_read 2) ∷
+    outcome (event.taken 2 word.Held) ∷
+    outcome (event.performed 2 0 false) ∷
+    outcome (event.written 2 result.Accepted) ∷
+    outcome (event.settled 2 result.Accepted) ∷
+    outcome (event.begun 1) ∷
+    outcome (event.is_read 4) ∷
+    outcome (event.taken 4 word.Held) ∷
+    outcome (event.performed 4 0 false) ∷
+    outcome (event.written 4 result.Accepted) ∷
+    answered 1 answer.done ∷
+    outcome (event.settled 4 result.Accepted) ∷
+    outcome (event.begun 2) ∷
+    outcome (event.is_read 6) ∷
+    outcome (event.taken 6 word.Held) ∷
+    outcome (event.performed 6 0 false) ∷
+    outcome (event.written 6 result.Accepted) ∷
+    answered 2 (answer.written 2) ∷
+    outcome (event.settled 6 result.Accepted) ∷
+    outcome (event.begun 3) ∷
+    outcome (event.is_read 8) ∷
+    outcome (event.taken 8 word.Held) ∷
+    outcome (event.performed 8 0 false) ∷
+    outcome (event.written 8 result.Accepted) ∷
+    answered 3 answer.done ∷
+    outcome (event.settled 8 result.Accepted) ∷
+    outcome (event.begun 4) ∷
+    outcome (event.is_read 10) ∷
+    outcome (event.begun 5) ∷
+    answered 5 answer.done ∷
+    refused refusal.NoSuch ∷
+    outcome (event.taken 10 word.Held) ∷
+    outcome (event.performed 10 0 false) ∷
+    outcome (event.written 10 result.Accepted) ∷
+    answered 4 (answer.content (104 ∷ 105 ∷ [])) ∷
+    outcome (event.settled 10 result.Accepted) ∷
+    outcome (event.is_read 12) ∷
+    outcome (event.taken 12 word.Held) ∷
+    outcome (event.performed 12 0 false) ∷
+    outcome (event.written 12 result.Accepted) ∷
+    outcome (event.settled 12 result.Accepted) ∷
+    outcome (event.evicted 2 1) ∷
+    outcome (event.begun 6) ∷
+    answered 6 (answer.failed 9) ∷
+    []
+
+abbrev pub worlds_0 : Both
+worlds_0 = after_all start events_0
+
+-- Both worlds record this.
+abbrev pub IsComputed : Type 0
+IsComputed = IsRecorded worlds_0 records_0

@@ -1,5 +1,0 @@
-use Rattle.std.proofs.Common.{refl}
-use Rattle.fuse_spec.proofs.worked_runs.copy_in_flight_holds_node_and_id.Goals as goal
-
-pub returns : goal.returns
-returns g = ((refl, refl), refl, (refl, refl), refl, (refl, refl), refl)

@@ -1,5 +1,0 @@
-use Rattle.std.proofs.Common.{refl}
-use Rattle.fuse_spec.proofs.worked_runs.dequeued_read_of_a_closed_file.Goals as goal
-
-pub returns : goal.returns
-returns g = (refl, refl)

@@ -1,5 +1,0 @@
-use Rattle.std.proofs.Common.{refl}
-use Rattle.fuse_spec.proofs.worked_runs.id_used_again_while_older_reply_is_kept.Goals as goal
-
-pub returns : goal.returns
-returns g = ((refl, refl), refl)

@@ -1,5 +1,0 @@
-use Rattle.std.proofs.Common.{refl}
-use Rattle.fuse_spec.proofs.worked_runs.listplus_of_thirty_names_in_two_replies.Goals as goal
-
-pub returns : goal.returns
-returns g = (refl, refl)

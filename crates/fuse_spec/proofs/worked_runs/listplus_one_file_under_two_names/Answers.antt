@@ -1,5 +1,0 @@
-use Rattle.std.proofs.Common.{refl}
-use Rattle.fuse_spec.proofs.worked_runs.listplus_one_file_under_two_names.Goals as goal
-
-pub returns : goal.returns
-returns g = ((refl, refl), refl)

@@ -1,5 +1,0 @@
-use Rattle.std.proofs.Common.{refl}
-use Rattle.fuse_spec.proofs.worked_runs.minor15_listplus_sends_readdir_then_minor31.Goals as goal
-
-pub returns : goal.returns
-returns g = ((refl, refl), refl, (refl, refl), refl)

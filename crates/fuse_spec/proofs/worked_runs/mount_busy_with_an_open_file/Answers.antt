@@ -1,5 +1,0 @@
-use Rattle.std.proofs.Common.{refl}
-use Rattle.fuse_spec.proofs.worked_runs.mount_busy_with_an_open_file.Goals as goal
-
-pub returns : goal.returns
-returns g = (refl, refl)

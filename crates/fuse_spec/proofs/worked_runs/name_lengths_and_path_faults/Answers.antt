@@ -1,5 +1,0 @@
-use Rattle.std.proofs.Common.{refl}
-use Rattle.fuse_spec.proofs.worked_runs.name_lengths_and_path_faults.Goals as goal
-
-pub returns : goal.returns
-returns g = (refl, refl)

@@ -1,5 +1,0 @@
-use Rattle.std.proofs.Common.{refl}
-use Rattle.fuse_spec.proofs.worked_runs.read_of_unlinked_file_and_late_release.Goals as goal
-
-pub returns : goal.returns
-returns g = (refl, refl)

@@ -1,5 +1,0 @@
-use Rattle.std.proofs.Common.{refl}
-use Rattle.fuse_spec.proofs.worked_runs.refused_copy_gives_count_back.Goals as goal
-
-pub returns : goal.returns
-returns g = ((refl, refl), refl, (refl, refl), refl, (refl, refl), refl)

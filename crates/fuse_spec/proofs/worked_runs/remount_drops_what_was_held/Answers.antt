@@ -1,5 +1,0 @@
-use Rattle.std.proofs.Common.{refl}
-use Rattle.fuse_spec.proofs.worked_runs.remount_drops_what_was_held.Goals as goal
-
-pub returns : goal.returns
-returns g = (refl, refl)

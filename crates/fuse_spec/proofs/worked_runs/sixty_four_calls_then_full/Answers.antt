@@ -1,5 +1,0 @@
-use Rattle.std.proofs.Common.{refl}
-use Rattle.fuse_spec.proofs.worked_runs.sixty_four_calls_then_full.Goals as goal
-
-pub returns : goal.returns
-returns g = (refl, refl)

@@ -1,5 +1,0 @@
-use Rattle.std.proofs.Common.{refl}
-use Rattle.fuse_spec.proofs.worked_runs.stat_of_missing_name.Goals as goal
-
-pub returns : goal.returns
-returns g = (refl, refl)

@@ -1,5 +1,0 @@
-use Rattle.std.proofs.Common.{refl}
-use Rattle.fuse_spec.proofs.worked_runs.walk_of_two_words_and_expiry.Goals as goal
-
-pub returns : goal.returns
-returns g = (refl, refl)
