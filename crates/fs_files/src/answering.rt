@@ -1,7 +1,8 @@
 //! Held requests are performed on the tree.
 
-ghost use Rattle.std.specs.Prelude.{◌≡◌, ◌≤◌, IfOk, OnErr, OnOk};
+ghost use Rattle.std.specs.Prelude.{◌≡◌, ◌≤◌, true, IfOk, OnErr, OnOk};
 ghost use Rattle.fuse_spec.specs.Kernel.Messages.{asks, release};
+ghost use Rattle.fuse_spec.specs.Server.Memory.{held_takes_memory, operation_takes_memory};
 ghost use Rattle.fuse_spec.specs.Server.Nodes.{is_open, file_of};
 ghost use Rattle.fuse_spec.specs.Values.Numbers.{counter_end, max_validity};
 ghost use Rattle.fuse_spec.specs.Server.Performs.{is_open_for, is_still_held};
@@ -39,6 +40,7 @@ impl<S: NodeStore> Files<S> {
         requires cookies { (tree_said (server_at minor self.old validity) held.now).next_cookie ≤ counter_end }
         requires day { validity.missing_ms ≤ max_validity }
         ensures err { OnErr result (self.new ≡ self.old) }
+        ensures memory { OnErr result (held_takes_memory held.now ≡ true) }
         ensures says { IfOk result (λ outcome. outcome_reply validity.found_ms outcome
             ≡ said (server_at minor self.old validity) held.now) }
         ensures repliable { IfOk result (λ outcome. IsRepliable self.new.tree outcome) }
@@ -77,6 +79,7 @@ impl<S: NodeStore> Files<S> {
             (asks (held_operation_of operation.now))).next_cookie ≤ counter_end }
         requires day { validity.missing_ms ≤ max_validity }
         ensures err { OnErr result (self.new ≡ self.old) }
+        ensures memory { OnErr result (operation_takes_memory (held_operation_of operation.now) ≡ true) }
         ensures ok { IfOk result (λ outcome. ComesTo (server_of self.old validity)
             (asks (held_operation_of operation.now)) outcome self.new.tree) }
         ensures handles { self.new.handles ≡ self.old.handles }

@@ -6,10 +6,11 @@ ghost use Rattle.fuse_spec.specs.Files.FileOperations.{refusal, tree_unrefused};
 ghost use Rattle.fuse_spec.specs.Values.Numbers.{counter_end, max_validity};
 ghost use Rattle.fuse_spec.specs.Files.Operations.{create, getattr, link, lookup, mkdir, read, rename, rmdir, unlink, write};
 ghost use Rattle.fuse_spec.specs.Files.TreeShape.{WritesRegular};
+ghost use Rattle.fuse_spec.specs.Server.Memory.{operation_takes_memory};
 ghost use Rattle.fs_files.specs.Bounds.{AreLow, AreThere, IsThere};
 ghost use Rattle.fs_files.specs.Listing.{Lists, listing};
 ghost use Rattle.fs_files.specs.Performing.{Operates};
-ghost use Rattle.fs_files.specs.Values.{on_files};
+ghost use Rattle.fs_files.specs.Values.{held_operation_of, on_files};
 
 use crate::held::HeldOperation;
 use crate::nodes::Nodes;
@@ -40,6 +41,7 @@ pub(crate) fn operate<A: Allocator + Copy, S: NodeStore>(
     ensures ok { IfOk result (λ outcome. Operates validity tree.old
         (on_files nodes.now.table operation.now) outcome tree.new) }
     ensures err { OnErr result (tree.new ≡ tree.old) }
+    ensures memory { OnErr result (operation_takes_memory (held_operation_of operation.now) ≡ true) }
 {
     tree.lemma_shaped();
     let file = nodes.file_of(operation.header_node());

@@ -16,7 +16,8 @@ use Rattle.fuse_spec.specs.World.Worlds.{Sent}
 use Rattle.fuse_theorem.specs.ServerTables.{ServerSound}
 use Rattle.fuse_theorem.proofs.Lookups.RowCounts.{all_taken_count}
 use Rattle.fuse_theorem.proofs.Nodes.ServerSound.{taking_sound}
-use Rattle.fs_server.specs.Effects.{RefusesFrame, TakingNeedsMemory, as_fault, copy_of, fault_or, past_or_memory, refused_for, word_takes_memory}
+use Rattle.fs_server.specs.Effects.{RefusesFrame, TakingNeedsMemory, as_fault, copy_of, fault_or, past_or_memory, refused_for}
+use Rattle.fuse_spec.specs.Server.Memory.{word_takes_memory}
 use Rattle.fs_server.specs.declared.server.ServerFault.{ServerFault}
 use Rattle.fs_server.specs.declared.server.ServerFault.TheVariants.{Memory}
 use Rattle.fuse_frames.specs.RequestTies.{SaysRequest}

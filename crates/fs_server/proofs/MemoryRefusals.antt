@@ -11,7 +11,8 @@ use Rattle.fk_wire.specs.Requests.{RequestMessage}
 use Rattle.fuse_frames.specs.RequestTies.{body_in}
 use Rattle.fs_server.specs.declared.server.ServerFault.{ServerFault}
 use Rattle.fs_server.specs.declared.server.ServerFault.TheVariants.{Memory}
-use Rattle.fs_server.specs.Effects.{CanTake, TakingNeedsMemory, as_fault, request_fault, word_takes_memory}
+use Rattle.fs_server.specs.Effects.{CanTake, TakingNeedsMemory, as_fault, request_fault}
+use Rattle.fuse_spec.specs.Server.Memory.{word_takes_memory}
 use Rattle.fs_server.specs.Taking.{IsTakeable, request_body_of, holds_request, waits}
 use Rattle.fs_server.proofs.TakingEffects.{asked_body, can_take}
 

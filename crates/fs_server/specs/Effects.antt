@@ -8,13 +8,12 @@ use Rattle.fuse_spec.specs.Server.Performs.{served, files_given}
 use Rattle.fuse_spec.specs.World.Worlds.{Sent}
 use Rattle.fuse_spec.specs.Server.Server.{Server, HeldRequest, Kept, Copy, RequestFault, unknown_opcode, unknown_node, too_many_forgets, repeated_unique, all_taken_back, fault_of, forgetting, is_file_held}
 use Rattle.fuse_spec.specs.Server.Copies.{given_back, files_named, handles_back, is_current, rows_back, sent_again, settled}
+use Rattle.fuse_spec.specs.Server.Memory.{word_takes_memory}
 use Rattle.fuse_spec.specs.Server.Taking.{taking}
 use Rattle.fuse_spec.specs.Kernel.Refusals.{refusal_in, accepted}
 use Rattle.fuse_spec.specs.Server.Refusals.{is_server_past_end, to_perform, to_send_again}
 use Rattle.fuse_spec.specs.Values.Numbers.{counter_end}
 use Rattle.fuse_spec.specs.declared.Entry.{Entry}
-use Rattle.fuse_spec.specs.declared.Taken.{Taken as TakenWord}
-use Rattle.fuse_spec.specs.declared.Taken.TheVariants.{Held, Forgot, Marked, Ignored, Again}
 use Rattle.fuse_spec.specs.declared.Refusal.{Refusal}
 use Rattle.fuse_spec.specs.declared.Refusal.TheVariants.{NoSuch, Exhausted}
 use Rattle.fuse_spec.specs.declared.Validity.{Validity}
@@ -91,14 +90,6 @@ pub record TakesFrame {A : Type 0} (old : Server) (bytes : List ℕ) (taken : Ta
 pub record RefusesFrame (old : Server) (bytes : List ℕ) (fault : ServerFault) : Type 0 where
   pub of_request : (request : Request) → SaysRequest bytes request → fault ≡ refused_for old request
   pub of_none : ((request : Request) → SaysRequest bytes request → ⊥) → fault ≡ Wire
-
--- Whether a request that is taken with this word takes memory: what is held does, and what is answered at once.
-abbrev pub word_takes_memory : TakenWord → Bool
-word_takes_memory Held = true
-word_takes_memory Again = true
-word_takes_memory Forgot = false
-word_takes_memory Marked = false
-word_takes_memory Ignored = false
 
 -- Taking the request that a frame spells takes memory.
 abbrev pub TakingNeedsMemory : Server → List ℕ → Type 0

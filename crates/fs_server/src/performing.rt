@@ -2,6 +2,8 @@
 
 ghost use Rattle.std.specs.Prelude.{◌≡◌, ◌⊎◌, ◌+◌, ◌<◌, ◌≤◌, true, false, OnOk, OnErr, IfOk, IfErr, IfSome, IfNone};
 ghost use Rattle.fuse_spec.specs.declared.Refusal.TheVariants.{NoMemory};
+ghost use Rattle.fuse_spec.specs.Server.Memory.{performing_takes_memory};
+ghost use Rattle.fuse_spec.specs.Values.Maps.{get};
 ghost use Rattle.fs_files.specs.Replies.{HasSpare};
 ghost use Rattle.fs_files.specs.Values.{names_for, reply_room_for};
 ghost use Rattle.fs_server.specs.Effects.{PerformsHeld, RefusesHeld};
@@ -49,7 +51,8 @@ impl<S: NodeStore> ServerOf<S> {
     pub fn perform(&mut self, unique: u64) -> Result<Done<S::Heap>, Refusal>
         ensures err { OnErr result (self.new ≡ self.old) }
         ensures refusal { IfErr result (λ refusal. RefusesHeld self.old unique refusal ⊎ (refusal ≡ NoMemory)) }
-        ensures memory { IfErr result (λ refusal. refusal ≡ NoMemory → CanPerform self.old unique) }
+        ensures memory { IfErr result (λ refusal. refusal ≡ NoMemory → CanPerform self.old unique
+            × (performing_takes_memory self.old (get self.old.held unique) ≡ true)) }
         ensures performed { IfOk result (λ done. PerformsHeld self.old unique done.errno done.sent self.new) }
     {
         if let Some(refusal) = self.perform_refusal(unique) {
@@ -71,6 +74,7 @@ impl<S: NodeStore> ServerOf<S> {
         requires aborted { self.old.aborted ≡ true }
         requires can { CanPerform self.old unique }
         ensures err { OnErr result (self.new ≡ self.old) }
+        ensures memory { OnErr result (performing_takes_memory self.old (get self.old.held unique) ≡ true) }
         ensures performed { IfOk result (λ done. PerformsHeld self.old unique done.errno done.sent self.new) }
     {
         let Some(held) = self.held.get(unique) else {

@@ -1,6 +1,7 @@
 -- One event: exactly which refusal it gets, or what it does. The server may choose the ids that it gives; all else is
 -- determined.
 use Rattle.std.specs.Prelude.{◌≡◌, ◌⊎◌, ℕ, ◌+◌, Bool, true, false, ◌||◌, List, Option, Some, None, Result, Ok, Err, nat_lt, slice_get, max}
+use Rattle.std.specs.Option.{option_map_or}
 use Rattle.fuse_spec.specs.Values.Maps.{get}
 use Rattle.fuse_spec.specs.Values.Numbers.{max_validity}
 use Rattle.fuse_spec.specs.Files.Operations.{errno_of}
@@ -21,6 +22,7 @@ use Rattle.fuse_spec.specs.Kernel.Replies.{reply_written}
 use Rattle.fuse_spec.specs.Kernel.Refusals as kernel
 use Rattle.fuse_spec.specs.Kernel.Refusals.{unless, found, when_live, to_mount, to_call, to_pass, to_read_interrupt, to_read_forgets, to_read_pending, to_signal, to_drop, to_evict}
 use Rattle.fuse_spec.specs.Server.Nodes.{MayChoose}
+use Rattle.fuse_spec.specs.Server.Memory.{word_takes_memory, performing_takes_memory}
 use Rattle.fuse_spec.specs.Server.Server.{HeldRequest, Kept}
 use Rattle.fuse_spec.specs.Server.Taking.{TakeResult, taking}
 use Rattle.fuse_spec.specs.Server.Performs.{PerformResult, served, files_given}
@@ -148,20 +150,25 @@ Happens w event outcome after = (choice : ℕ → ℕ) × MayStep choice w event
 abbrev pub IsRefused : World → Event → Refusal → Type 0
 IsRefused w event refusal = (choice : ℕ → ℕ) → MayStep choice w event → step choice w event ≡ Err refusal
 
--- Whether an event may take memory: these six never do, as their room was made before. (this project's rule)
-abbrev pub takes_memory : Event → Bool
-takes_memory (event.settle k) = false
-takes_memory (event.intr call fatal) = false
-takes_memory (event.tick ms) = false
-takes_memory (event.drop_name directory name) = false
-takes_memory (event.evict node) = false
-takes_memory event.abort = false
-takes_memory other = true
+-- Whether an event may take memory in this world. Six never do, as their room was made before, nor does a request that
+-- is neither held nor answered, or that an abort left without a reply and that makes nothing. (this project's rule)
+abbrev pub takes_memory : World → Event → Bool
+takes_memory w (event.take k) =
+    option_map_or (λ request. word_takes_memory (taking w.server request.unique request.body).word)
+    (slice_get w.requests k) false
+takes_memory w (event.perform unique) = performing_takes_memory w.server (get w.server.held unique)
+takes_memory w (event.settle k) = false
+takes_memory w (event.intr call fatal) = false
+takes_memory w (event.tick ms) = false
+takes_memory w (event.drop_name directory name) = false
+takes_memory w (event.evict node) = false
+takes_memory w event.abort = false
+takes_memory w other = true
 
 -- Out of memory: this is the last refusal, of an event that takes memory and that nothing else refuses.
 pub record OutOfMemory (w : World) (event : Event) (refusal : Refusal) : Type 0 where
   pub out_of_memory : refusal ≡ NoMemory
-  pub takes : takes_memory event ≡ true
+  pub takes : takes_memory w event ≡ true
   pub last : (other : Refusal) → IsRefused w event other → ⊥
 
 -- The event is refused so, or memory ran out.
