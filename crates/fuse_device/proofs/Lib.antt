@@ -1,2 +1,3 @@
 mod Frames
 mod Moving
+mod Tries

@@ -1,3 +1,5 @@
 pub mod Transfers
+pub mod ErrorNumbers
+pub mod Calls
 pub mod Listed
 pub mod Streamed

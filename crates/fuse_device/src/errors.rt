@@ -1,6 +1,7 @@
 //! What the error numbers of reads and writes say of a device.
 
-ghost use Rattle.std.specs.Prelude.{◌≢◌, IfOk};
+ghost use Rattle.std.specs.Prelude.{◌≡◌};
+ghost use Rattle.fuse_device.specs.ErrorNumbers.{end_of, is_read_again, is_time_over, is_written_again, result_of};
 
 use crate::device::DeviceEnd;
 use fuse_spec::WriteResult;
@@ -12,7 +13,7 @@ const ENOENT: i32 = 2;
 const EINTR: i32 = 4;
 
 /// EAGAIN, nothing is there yet.
-pub(crate) const EAGAIN: i32 = 11;
+const EAGAIN: i32 = 11;
 
 /// ENODEV of a read: the mount has gone.
 const ENODEV: i32 = 19;
@@ -28,17 +29,30 @@ const ECONNABORTED: i32 = 103;
 const ECONNRESET: i32 = 104;
 
 /// Whether the system asks to try a read again that failed with this error number.
-pub(crate) fn is_read_again(number: i32) -> bool {
+pub(crate) fn is_read_again(number: i32) -> bool
+    ensures { result ≡ is_read_again number }
+{
     number == EINTR || number == EAGAIN || number == ENOENT
 }
 
+/// Whether a read that failed with this error number says that the time is over for which the reader waits.
+pub(crate) fn is_time_over(times_out: bool, number: i32) -> bool
+    ensures { result ≡ is_time_over times_out number }
+{
+    times_out && number == EAGAIN
+}
+
 /// Whether the system asks to try a write again that failed with this error number.
-pub(crate) fn is_written_again(number: i32) -> bool {
+pub(crate) fn is_written_again(number: i32) -> bool
+    ensures { result ≡ is_written_again number }
+{
     number == EINTR
 }
 
 /// What a call that failed with this error number says of the device.
-pub(crate) fn end_of(number: i32) -> DeviceEnd {
+pub(crate) fn end_of(number: i32) -> DeviceEnd
+    ensures { result ≡ end_of number }
+{
     match number {
         ENODEV | EPIPE | ECONNABORTED | ECONNRESET => DeviceEnd::Ended,
         _ => DeviceEnd::Failed,
@@ -47,7 +61,7 @@ pub(crate) fn end_of(number: i32) -> DeviceEnd {
 
 /// What a write of a packet that failed with this error number says of the frame.
 pub(crate) fn result_of(number: i32) -> Result<WriteResult, DeviceEnd>
-    ensures { IfOk result (λ w. w ≢ WriteResult.Accepted) }
+    ensures { result ≡ result_of number }
 {
     match number {
         ENOENT => Ok(WriteResult::NoEntry),

@@ -3,6 +3,7 @@
 //! /dev/fuse is such a device, and so is a socket with a FUSE server or a kernel behind it.
 #![tactic(auto)]
 
+mod calls;
 mod device;
 mod errors;
 mod list;
@@ -10,6 +11,7 @@ mod packet;
 mod reading;
 mod stream;
 
+pub use calls::{ReadOnce, WriteOnce};
 pub use device::{Device, DeviceEnd};
 pub use list::ListDevice;
 pub use packet::PacketDevice;

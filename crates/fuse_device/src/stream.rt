@@ -1,10 +1,12 @@
 //! A device over a stream of bytes, which is cut into frames by the length that each states.
 
-ghost use Rattle.std.specs.Prelude.{◌≡◌, ℕ, ◌+◌, ◌<◌, ◌≤◌, ◌++◌, [], List, length, take, IfErr, IfOk, IsErrOf, OnOk, OnErr};
+ghost use Rattle.std.specs.Prelude.{◌≡◌, ℕ, ◌+◌, ◌<◌, ◌≤◌, ◌++◌, false, true, [], List, length, take, IfErr, IfOk, IsErrOf, OnOk, OnErr};
 ghost use Rattle.std.specs.Io.KnownBytes.{Appends, Consumes};
+ghost use Rattle.fuse_device.specs.Calls.{HasBrokenOff, HasEnded, TriedUntil, write_result};
 ghost use Rattle.fuse_device.specs.Streamed.{IsWholeFrame, ReadsStream};
 ghost use Rattle.fuse_device.specs.Transfers.{stopped};
 
+use crate::calls::{ReadOnce, WriteOnce};
 use crate::device::{Device, DeviceEnd};
 use crate::errors::{end_of, is_written_again};
 use crate::reading::read_some;
@@ -31,7 +33,7 @@ struct Cut {
 }
 
 /// Reads behind the front of the room.
-fn read_at<R: Read>(
+fn read_at<R: ReadOnce>(
     from: &mut R,
     room: &mut [u8],
     at: usize,
@@ -42,17 +44,19 @@ fn read_at<R: Read>(
     ensures bytes { IfOk result (λ n. (bytes : List ℕ) × (take (at + n) room.new ≡ take at room.old ++ bytes)
         × Consumes (R.remaining from.old) (R.remaining from.new) bytes) }
     ensures end { OnErr result (Consumes (R.remaining from.old) (R.remaining from.new) []) }
+    ensures why { IfErr result (λ end. HasEnded R.gives times_out from.new end) }
 {
     read_some(from, &mut room[at..], times_out)
 }
 
 /// Fills the room. Where the stream ends before its first byte that is given, and else it is a failure.
-fn fill<R: Read>(from: &mut R, room: &mut [u8], times_out: bool) -> Result<(), DeviceEnd>
+fn fill<R: ReadOnce>(from: &mut R, room: &mut [u8], times_out: bool) -> Result<(), DeviceEnd>
     ensures ok { OnOk result (Consumes (R.remaining from.old) (R.remaining from.new) room.new) }
     ensures ended { IsErrOf result DeviceEnd.Ended → Consumes (R.remaining from.old) (R.remaining from.new) [] }
     ensures timed_out { IsErrOf result DeviceEnd.TimedOut → Consumes (R.remaining from.old) (R.remaining from.new) [] }
     ensures failed { OnErr result ((bytes : List ℕ) × (length bytes < length room.old)
         × Consumes (R.remaining from.old) (R.remaining from.new) bytes) }
+    ensures why { IfErr result (λ end. HasEnded R.gives times_out from.new end) }
 {
     let mut done = 0;
     while done < room.len() {
@@ -66,12 +70,13 @@ fn fill<R: Read>(from: &mut R, room: &mut [u8], times_out: bool) -> Result<(), D
 }
 
 /// Reads one frame into the front of the room, and says how many bytes it has.
-fn read_frame<R: Read>(from: &mut R, room: &mut [u8], cut: Cut) -> Result<usize, DeviceEnd>
+fn read_frame<R: ReadOnce>(from: &mut R, room: &mut [u8], cut: Cut) -> Result<usize, DeviceEnd>
     ensures count { IfOk result (λ n. n ≤ length room.new) }
     ensures frame { IfOk result (λ n. IsWholeFrame cut.least (take n room.new)
         × Consumes (R.remaining from.old) (R.remaining from.new) (take n room.new)) }
     ensures end { IfErr result (λ end. (bytes : List ℕ) × ReadsStream cut.least (stopped end) bytes
         × Consumes (R.remaining from.old) (R.remaining from.new) bytes) }
+    ensures why { IfErr result (λ end. HasEnded R.gives cut.times_out from.new end) }
 {
     if room.len() < cut.least {
         return Err(DeviceEnd::Failed);
@@ -88,17 +93,18 @@ fn read_frame<R: Read>(from: &mut R, room: &mut [u8], cut: Cut) -> Result<usize,
 }
 
 /// Writes bytes, and says how many were taken. A write of none is a failure.
-fn write_some<W: Write>(out: &mut W, bytes: &[u8]) -> Result<usize, DeviceEnd>
+fn write_some<W: WriteOnce>(out: &mut W, bytes: &[u8]) -> Result<usize, DeviceEnd>
     ensures count { IfOk result (λ n. (0 < n) × (n ≤ length bytes.now)) }
     ensures ok { IfOk result (λ n. Appends (W.contents out.old) (W.contents out.new) (take n bytes.now)) }
     ensures end { OnErr result (Appends (W.contents out.old) (W.contents out.new) []) }
+    ensures tried { TriedUntil (λ old new r. W.takes old new bytes.now r) write_result out.old result out.new }
+    ensures why { IfErr result (λ end. HasBrokenOff W.takes out.new end) }
 {
     for _try in 0..u64::MAX {
-        match out.write(bytes) {
+        match out.write_once(bytes) {
             Ok(0) => return Err(DeviceEnd::Failed),
             Ok(count) => return Ok(count),
-            Err(error) => {
-                let number = error.raw_os_error().unwrap_or(0);
+            Err(number) => {
                 if !is_written_again(number) {
                     return Err(end_of(number));
                 }
@@ -109,9 +115,10 @@ fn write_some<W: Write>(out: &mut W, bytes: &[u8]) -> Result<usize, DeviceEnd>
 }
 
 /// Writes a whole frame. Where it reaches the end, a beginning of it may be written.
-fn write_frame<W: Write>(out: &mut W, frame: &[u8]) -> Result<(), DeviceEnd>
+fn write_frame<W: WriteOnce>(out: &mut W, frame: &[u8]) -> Result<(), DeviceEnd>
     ensures ok { OnOk result (Appends (W.contents out.old) (W.contents out.new) frame.now) }
     ensures end { OnErr result ((n : ℕ) × Appends (W.contents out.old) (W.contents out.new) (take n frame.now)) }
+    ensures why { IfErr result (λ end. HasBrokenOff W.takes out.new end) }
 {
     let mut rest = frame;
     while !rest.is_empty() {
@@ -134,7 +141,8 @@ pub struct StreamDevice<R: Read + Drop, W: Write + Drop> {
 impl<R: Read + Drop, W: Write + Drop> StreamDevice<R, W> {
     /// The device of these, over which requests are received: a frame has 40 bytes or more.
     pub fn new(reader: R, writer: W) -> Self
-        ensures { (result.reader ≡ reader) × (result.writer ≡ writer) × (result.cut.least ≡ 40) }
+        ensures parts { (result.reader ≡ reader) × (result.writer ≡ writer) }
+        ensures cut { (result.cut.least ≡ 40) × (result.cut.times_out ≡ false) }
     {
         StreamDevice {
             reader,
@@ -149,7 +157,8 @@ impl<R: Read + Drop, W: Write + Drop> StreamDevice<R, W> {
     /// The device of these, over which replies are received: a frame has 16 bytes or more. It times out where no frame
     /// comes in the time for which the reader waits, which it shows by EAGAIN.
     pub fn of_replies(reader: R, writer: W) -> Self
-        ensures { (result.reader ≡ reader) × (result.writer ≡ writer) × (result.cut.least ≡ 16) }
+        ensures parts { (result.reader ≡ reader) × (result.writer ≡ writer) }
+        ensures cut { (result.cut.least ≡ 16) × (result.cut.times_out ≡ true) }
     {
         StreamDevice {
             reader,
@@ -162,11 +171,11 @@ impl<R: Read + Drop, W: Write + Drop> StreamDevice<R, W> {
     }
 }
 
-impl<R: Read + Drop, W: Write + Drop> Device for StreamDevice<R, W> {
+impl<R: ReadOnce + Drop, W: WriteOnce + Drop> Device for StreamDevice<R, W> {
     ghost use Rattle.fuse_device.specs.Streamed.{IsCutInto, nothing_cut, cut_in_turn};
 
-    ghost logs = { λ old new log. IsCutInto R.remaining W.contents old.cut.least new.cut.least old.reader new.reader
-        old.writer new.writer log };
+    ghost logs = { λ old new log. IsCutInto R.remaining W.contents R.gives W.takes old.cut.least new.cut.least
+        old.cut.times_out new.cut.times_out old.reader new.reader old.writer new.writer log };
 
     fn receive(&mut self, room: &mut [u8]) -> Result<usize, DeviceEnd> {
         read_frame(&mut self.reader, room, self.cut)
@@ -179,8 +188,10 @@ impl<R: Read + Drop, W: Write + Drop> Device for StreamDevice<R, W> {
         }
     }
 
-    ghost stays = { λ device. nothing_cut R.remaining W.contents device.cut.least device.reader device.writer };
+    ghost stays = { λ device. nothing_cut R.remaining W.contents R.gives W.takes device.cut.least device.cut.times_out
+        device.reader device.writer };
 
-    ghost goes_on = { λ first mid last. cut_in_turn R.remaining W.contents first.cut.least mid.cut.least last.cut.least
-        first.reader mid.reader last.reader first.writer mid.writer last.writer };
+    ghost goes_on = { λ first mid last. cut_in_turn R.remaining W.contents R.gives W.takes first.cut.least mid.cut.least
+        last.cut.least first.cut.times_out mid.cut.times_out last.cut.times_out first.reader mid.reader last.reader
+        first.writer mid.writer last.writer };
 }
