@@ -1,5 +1,5 @@
 -- The last frame of a link.
-use Rattle.std.proofs.Common.{◌≡◌, ℕ, ◌+◌, ◌-◌, Bool, true, false, List, [], ◌∷◌, ◌++◌, None, Some, length, get_or, slice_get, refl, ap, sym, subst, ◌∙◌, arith}
+use Rattle.std.proofs.Common.{◌≡◌, ℕ, ◌+◌, ◌-◌, Bool, true, false, List, [], ◌∷◌, ◌++◌, None, Some, length, get_or, slice_get, refl, ap, sym, ◌∙◌, arith}
 use Rattle.std.proofs.Math.Seq.{get_or-append_seam}
 use Rattle.std.proofs.lemmas.List.{length-append}
 use Rattle.std.proofs.lemmas.Option.{none-some, slice_get-get_or}
@@ -12,17 +12,7 @@ use Rattle.fuse_spec.specs.World.Worlds.{World, Sent}
 use Rattle.fk_wire.specs.declared.opcode.Opcode.{Opcode}
 use Rattle.fuse_frames.specs.RequestTies.{IsRequestFrame, asked_opcode}
 use Rattle.fuse_frames.specs.ReplyTies.{IsReplyFrame}
-use Rattle.fw_world.specs.Frames.{IsCopyFrame, IsLastFrame, of_request, of_reply, ShowsRequest, ShowsReply}
-
-pub last_request : (w : World) (requests : List Request) (request : Request) (bytes : List ℕ) → requests ≡ w.requests
-    → slice_get requests (length requests - 1) ≡ Some request → IsRequestFrame bytes request → IsLastFrame w bytes
-last_request w requests request bytes same is_last frame =
-    of_request request (subst (λ (rs : List Request). slice_get rs (length rs - 1) ≡ Some request) same is_last) frame
-
-pub last_copy : (w : World) (copies : List Sent) (sent : Sent) (bytes : List ℕ) → copies ≡ w.replies
-    → slice_get copies (length copies - 1) ≡ Some sent → IsCopyFrame bytes sent → IsLastFrame w bytes
-last_copy w copies sent bytes same is_last frame =
-    of_reply sent (subst (λ (ss : List Sent). slice_get ss (length ss - 1) ≡ Some sent) same is_last) frame
+use Rattle.fw_world.specs.Frames.{IsCopyFrame, ShowsRequest, ShowsReply}
 
 -- What a copy's bytes are, as they are read off it.
 pub copy_frame : (bytes : List ℕ) (sent : Sent) → (opcode : Opcode)
@@ -81,6 +71,17 @@ first_under : (aborted : Bool) (number unique : ℕ) (wire : WireReply) (copy : 
 first_under true number unique wire copy is = absurd (cc is)
 first_under false number unique wire copy is = let same : ◌≡◌ {A = Sent} copy
     (record { number = number; unique = unique; wire = wire }) = cc is in sym (ap (λ (c : Sent). c.unique) same)
+
+live_first : (aborted : Bool) (number unique : ℕ) (wire : WireReply) (copy : Sent)
+    → Some copy ≡ first_copy aborted number unique wire → aborted ≡ false
+live_first true number unique wire copy is = absurd (cc is)
+live_first false number unique wire copy is = refl
+
+-- A copy is sent while the mount is not aborted.
+pub performed_live : (s : Server) (unique errno : ℕ) (copy : Sent) (new : Server)
+    → PerformsHeld s unique errno (Some copy) new → s.aborted ≡ false
+performed_live s unique errno copy new does = live_first s.aborted s.next_copy unique
+    (served does.choice s unique does.held).wire copy does.copy_is
 
 pub performed_under : (s : Server) (unique errno : ℕ) (copy : Sent) (new : Server)
     → PerformsHeld s unique errno (Some copy) new → unique ≡ copy.unique

@@ -14,7 +14,7 @@ use Rattle.fuse_spec.specs.Values.Maps.{get, put}
 use Rattle.fuse_spec.specs.Calls.Vfs.{Advance, begun}
 use Rattle.fuse_spec.specs.Files.Operations.{Operation}
 use Rattle.fuse_spec.specs.declared.Opened.{Opened}
-use Rattle.fuse_spec.specs.Kernel.Messages.{Forget, Request, RequestBody, WireReply}
+use Rattle.fuse_spec.specs.Kernel.Messages.{Forget, Request, RequestBody, WireReply, init, asks, release, forget, batch_forget, interrupt}
 use Rattle.fuse_spec.specs.Values.Numbers.{counter_end, max_calls, max_validity}
 use Rattle.fuse_spec.specs.Files.Operations.{errno_of}
 use Rattle.fuse_spec.specs.Server.Performs.{served}
@@ -23,12 +23,13 @@ use Rattle.fuse_spec.specs.declared.Mark.TheVariants as mark
 use Rattle.fuse_spec.specs.declared.QueuedRequest.{QueuedRequest}
 use Rattle.fuse_spec.specs.Kernel.Queues.{pending}
 use Rattle.fuse_spec.specs.Kernel.QueueCalls.{after_reading, pending_at, can_read_forgets, after_read_forgets}
-use Rattle.fuse_spec.specs.Server.Server.{Server}
+use Rattle.fuse_spec.specs.Server.Memory.{held_takes_memory, performing_takes_memory, word_takes_memory}
+use Rattle.fuse_spec.specs.Server.Server.{HeldRequest, Kept, Server}
 use Rattle.fuse_spec.specs.Kernel.Refusals.{unless, found, first_found, pending_found, refusal_in, accepted, when_live, when_not_interrupted, is_ready, is_kernel_past_end, is_counted_out}
 use Rattle.fw_world.proofs.Judged.{passed, finds}
 use Rattle.fuse_spec.specs.World.Steps.{is_past, takes_memory, IsRefused, MayChooseFor, RefusedWith, Happens}
 use Rattle.fuse_spec.specs.World.Worlds as worlds
-use Rattle.fuse_spec.specs.Server.Taking.{taking}
+use Rattle.fuse_spec.specs.Server.Taking.{interrupting, taking}
 use Rattle.std.specs.List.{remove as without}
 use Rattle.fuse_frames.specs.RequestTies.{IsRequestFrame}
 use Rattle.fuse_frames.proofs.RequestLemmas.{one_request, frame_says}
@@ -39,7 +40,7 @@ use Rattle.fuse_spec.specs.Kernel.Refusals as kernel
 use Rattle.fk_kernel.specs.Refused.{read_interrupt_refusal, read_forgets_refusal}
 use Rattle.fuse_spec.specs.Server.Refusals as server
 use Rattle.fs_server.specs.declared.server.Taken.{Taken}
-use Rattle.fs_server.specs.Effects.{as_fault, CanSendAgain, CanTake, TakesFrame, AnswersFrame, copy_of, RefusesFrame, fault_or, past_or_memory}
+use Rattle.fs_server.specs.Effects.{as_fault, CanSendAgain, CanTake, TakesFrame, AnswersFrame, TakingNeedsMemory, copy_of, RefusesFrame, fault_or, past_or_memory}
 use Rattle.fs_server.specs.declared.server.ServerFault.{ServerFault}
 use Rattle.fs_server.specs.declared.server.ServerFault.TheVariants.{Memory}
 use Rattle.fuse_spec.specs.Server.Server.{RequestFault, fault_of}
@@ -58,7 +59,7 @@ use Rattle.fw_world.proofs.Happening.{mounts, calls, reads, reads_forgets, takes
 use Rattle.fw_world.proofs.Interrupts.{reads_interrupt}
 
 -- An event that can happen is refused only as out of memory.
-pub out_of_memory : (w : World) (e : Event) (o : Outcome) (after : World) → takes_memory e ≡ true → Happens w e o after
+pub out_of_memory : (w : World) (e : Event) (o : Outcome) (after : World) → takes_memory w e ≡ true → Happens w e o after
     → (given : Refusal) → given ≡ refusal.NoMemory → RefusedWith w e given
 out_of_memory w e o after takes happens given is = inr
     (record { out_of_memory = is; takes = takes; last = λ other refused. not_both w e other refused o after happens })
@@ -249,19 +250,26 @@ module _ (w : World) (within : is_past w ≡ false) where
   same_server v number unique None = refl
   same_server v number unique (Some wire) = refl
 
-  pub perform_out_of_memory : (unique : ℕ) → CanPerform w.server unique → (given : Refusal) → given ≡ refusal.NoMemory
-      → RefusedWith w (event.perform unique) given
-  perform_out_of_memory unique can given is =
+  pub perform_out_of_memory : (unique : ℕ) → CanPerform w.server unique
+      → performing_takes_memory w.server (get w.server.held unique) ≡ true → (given : Refusal)
+      → given ≡ refusal.NoMemory → RefusedWith w (event.perform unique) given
+  perform_out_of_memory unique can takes given is =
       let some = some_choice w (event.perform unique) in
       let may = subst (MayChooseFor some.0 w) can.there some.1 in
       let did = served some.0 w.server unique can.held in
       let after = after_perform w unique did in
       let reply = cond w.server.aborted None (Some did.wire) in
       let low = performs_within w.server unique can.held can.there can server_within some.0 may in
-      out_of_memory w (event.perform unique) (event.performed unique (errno_of did.wire) w.server.aborted) after refl
+      out_of_memory w (event.perform unique) (event.performed unique (errno_of did.wire) w.server.aborted) after takes
       (performs some.0 w unique can.held can.there can.counts some.1 did refl
       (past_of did.server low after (same_kernel (record w { server = did.server }) w.server.next_copy unique reply)
       (same_server (record w { server = did.server }) w.server.next_copy unique reply))) given is
+
+  -- While the mount is not aborted the reply takes memory.
+  pub reply_takes : (unique : ℕ) → w.server.aborted ≡ false → CanPerform w.server unique
+      → performing_takes_memory w.server (get w.server.held unique) ≡ true
+  reply_takes unique live can =
+      ap (performing_takes_memory w.server) can.there ∙ ap (λ (b : Bool). not b || held_takes_memory can.held) live
 
   pub again_out_of_memory : (unique : ℕ) → CanSendAgain w.server unique → (given : Refusal) → given ≡ refusal.NoMemory
       → RefusedWith w (event.again unique) given
@@ -308,19 +316,48 @@ taken_server w place request = by (taking w.server request.unique request.body).
     by None = refl
     by (Some wire) = refl
 
+interrupt_takes : (s : Server) (unique original : ℕ) (held : Option HeldRequest) (kept : Option Kept)
+    (reply : WireReply) → (interrupting s unique original held kept).reply ≡ Some reply
+    → word_takes_memory (interrupting s unique original held kept).word ≡ true
+interrupt_takes s unique original (Some taken) kept reply is = absurd (cc is)
+interrupt_takes s unique original None (Some kept) reply is = absurd (cc is)
+interrupt_takes s unique original None None reply is = refl
+
+-- What is answered at once takes memory.
+answer_takes : (s : Server) (unique : ℕ) (body : RequestBody) (reply : WireReply)
+    → (taking s unique body).reply ≡ Some reply → word_takes_memory (taking s unique body).word ≡ true
+answer_takes s unique (init flags) reply is = refl
+answer_takes s unique (asks operation) reply is = refl
+answer_takes s unique (release opened) reply is = refl
+answer_takes s unique (forget f) reply is = absurd (cc is)
+answer_takes s unique (batch_forget fs) reply is = absurd (cc is)
+answer_takes s unique (interrupt original) reply is =
+    interrupt_takes s unique original (get s.held original) (get s.kept original) reply is
+
+-- The same of a request at its place, where the frame is answered.
+pub answered_takes : (s : Server) (request : Request) (bytes : List ℕ) → IsRequestFrame bytes request
+    → AnswersFrame s bytes → word_takes_memory (taking s request.unique request.body).word ≡ true
+answered_takes s request bytes frame answers =
+    let same : answers.can.request ≡ request = sym (one_request bytes answers.can.request answers.can.says)
+    ∙ one_request bytes request (frame_says bytes request frame) in
+    answer_takes s request.unique request.body answers.reply
+    (subst (λ (r : Request). (taking s r.unique r.body).reply ≡ Some answers.reply) same answers.replies)
+
 -- Where nothing but out of memory can refuse the frame of the request at this place.
 pub take_out_of_memory : (w : World) → is_past w ≡ false → (place : ℕ) (request : Request) (bytes : List ℕ)
     → slice_get w.requests place ≡ Some request → IsRequestFrame bytes request → CanTake w.server bytes
-    → (given : Refusal) → given ≡ refusal.NoMemory
+    → word_takes_memory (taking w.server request.unique request.body).word ≡ true → (given : Refusal) → given ≡ refusal.NoMemory
     → RefusedWith w (event.take place) given
-take_out_of_memory w within place request bytes there frame can given is =
+take_out_of_memory w within place request bytes there frame can takes_it given is =
     let same : can.request ≡ request = sym (one_request bytes can.request can.says) ∙ one_request bytes request
     (frame_says bytes request frame) in
     let low = subst (λ (r : Request). server.is_server_past_end (taking w.server r.unique r.body).server
     ≡ false) same can.within in
     let took = taking w.server request.unique request.body in
     let after = after_take w place request.unique took in
-    out_of_memory w (event.take place) (event.taken request.unique took.word) after refl
+    out_of_memory w (event.take place) (event.taken request.unique took.word) after
+    (ap (λ (o : Option Request). option_map_or
+    (λ (r : Request). word_takes_memory (taking w.server r.unique r.body).word) o false) there ∙ takes_it)
     (takes w place request there (past_of w within took.server low after (taken_kernel w place request)
     (taken_server w place request))) given is
 
@@ -328,8 +365,9 @@ take_out_of_memory w within place request bytes there frame can given is =
 pub take_refused : (w : World) → is_past w ≡ false → IsSoundWorld w
     → (place : ℕ) (request : Request) (bytes : List ℕ) (fault : ServerFault)
     → slice_get w.requests place ≡ Some request → IsRequestFrame bytes request → RefusesFrame w.server bytes fault
-    → (fault ≡ Memory → CanTake w.server bytes) → RefusedWith w (event.take place) (refusal_for fault)
-take_refused w within here place request bytes fault there frame refuses can =
+    → (fault ≡ Memory → CanTake w.server bytes) → (fault ≡ Memory → TakingNeedsMemory w.server bytes)
+    → RefusedWith w (event.take place) (refusal_for fault)
+take_refused w within here place request bytes fault there frame refuses can needs =
     let all = here.sound in
     let none : fault_of w.server request ≡ None = All-at
     (λ (r : Request). fault_of w.server r ≡ None) w.requests place request
@@ -353,7 +391,8 @@ take_refused w within here place request bytes fault there frame refuses can =
         (λ choice may.
         ap (λ o. found o (taking_request w place)) there
         ∙ is_exhausted (event.taken request.unique did.word) after (past_by_server after over))
-    by false past is = take_out_of_memory w within place request bytes there frame (can is) refusal.NoMemory refl
+    by false past is = take_out_of_memory w within place request bytes there frame (can is)
+        (needs is request (frame_says bytes request frame)) refusal.NoMemory refl
 
 -- The copy with which a frame is taken, if it is answered at once, has the room that was made for it.
 pub answer_has_room : {A P : Type 0} (s : Server) (bytes : List ℕ) (took : Taken A) (new : Server)

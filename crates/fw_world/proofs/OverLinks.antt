@@ -24,8 +24,10 @@ use Rattle.fw_world.specs.declared.record.Record.{Record}
 use Rattle.fw_world.specs.declared.record.Record.TheVariants as recorded
 use Rattle.fw_world.specs.Sends.{IsSent, IsLostOn, LosesIn}
 use Rattle.fw_world.specs.Values.{event_of, outcome_of, run_record_of}
-use Rattle.fw_world.specs.Runs.{calls_not_over}
-use Rattle.fw_world.specs.OverLinks.{RecordedOver, none_left, one_refused, one_accepted, one_lost, one_too_late, RunsOver, session_of}
+use Rattle.fw_world.specs.Frames.{AreShownAfter, IsShownAfter}
+use Rattle.fw_world.specs.Runs.{calls_not_over, RunsEach, no_event}
+use Rattle.fw_world.proofs.Recording.{one_more_ran}
+use Rattle.fw_world.specs.OverLinks.{RecordedOver, none_left, one_refused, one_accepted, one_lost, one_too_late, RunsOver, RunsOneOver, session_of}
 
 -- ---- room for the records
 
@@ -125,6 +127,7 @@ module _ {L : Type 0} (carries : L → L → Traffic → Type 0) (failed : L →
     abbrev pub AddsOver : Session → L → EventValue → List (Record A) → Session → L → List (Record A) → Type 0
     AddsOver s link e had t next has = (added : List (Record A)) × (has ≡ had ++ added)
         × RecordedOver carries failed s link (event_of e ∷ []) (map run_record_of added) t next
+        × AreShownAfter s.world (event_of e) added
 
     adds_refusal : (w : World) (link : L) (e : EventValue) (refusal : Refusal) → RefusedWith w (event_of e) refusal
         → (had has : List (Record A)) → has ≡ had ++ recorded.Refused refusal ∷ []
@@ -134,6 +137,7 @@ module _ {L : Type 0} (carries : L → L → Traffic → Type 0) (failed : L →
       has_is,
       one_refused w link (event_of e) refusal [] [] (linked w) link judged
           (none_left (linked w) link),
+      tt,
     )
 
     adds_too_late : (w : World) (link : L) (e : EventValue) (had has : List (Record A))
@@ -143,6 +147,7 @@ module _ {L : Type 0} (carries : L → L → Traffic → Type 0) (failed : L →
       has_is,
       one_too_late w link (event_of e) [] [] (lost w) link
           (none_left (lost w) link),
+      tt,
     )
 
     -- What a refused event adds.
@@ -166,11 +171,11 @@ module _ {L : Type 0} (carries : L → L → Traffic → Type 0) (failed : L →
 
     adds_accepted : (w mid : World) (link next : L) (e : EventValue) (o : OutcomeValue)
         → Happens w (event_of e) (outcome_of o) mid → IsSent mid (outcome_of o) (carries link next)
-        → failed next ≡ failed link
+        → failed next ≡ failed link → IsShownAfter w (event_of e) o
         → (had has answers : List (Record A)) → has ≡ had ++ (recorded.Outcome o ∷ answers)
         → map run_record_of answers ≡ answers_of mid.kernel.vfs.answers
         → AddsOver (linked w) link e had (linked (collected mid)) next has
-    adds_accepted w mid link next e o happens sent same had has answers has_is answers_are =
+    adds_accepted w mid link next e o happens sent same shown had has answers has_is answers_are =
         let one : RecordedOver carries failed (linked w) link (event_of e ∷ [])
         (records.outcome (outcome_of o) ∷ answers_of mid.kernel.vfs.answers ++ []) (linked (collected mid)) next =
         one_accepted w link (event_of e) (outcome_of o) mid next [] [] (linked (collected mid)) next happens sent same
@@ -183,14 +188,15 @@ module _ {L : Type 0} (carries : L → L → Traffic → Type 0) (failed : L →
           has_is,
           subst (λ (rs : List records.Record). RecordedOver carries failed (linked w) link (event_of e ∷ []) rs
               (linked (collected mid)) next) records_are one,
+          shown,
         )
 
     adds_loss : (w gone : World) (link next : L) (e : EventValue) (o : OutcomeValue)
         → LosesIn w (event_of e) (outcome_of o) gone (carries link next) (failed link) (failed next)
-        → (had has answers : List (Record A)) → has ≡ had ++ (recorded.Outcome o ∷ recorded.LinkLost ∷ answers)
+        → IsShownAfter w (event_of e) o → (had has answers : List (Record A)) → has ≡ had ++ (recorded.Outcome o ∷ recorded.LinkLost ∷ answers)
         → map run_record_of answers ≡ answers_of gone.kernel.vfs.answers
         → AddsOver (linked w) link e had (lost (collected gone)) next has
-    adds_loss w gone link next e o loses had has answers has_is answers_are =
+    adds_loss w gone link next e o loses shown had has answers has_is answers_are =
         let one : RecordedOver carries failed (linked w) link (event_of e ∷ [])
         (records.outcome (outcome_of o) ∷ records.link_lost ∷ answers_of gone.kernel.vfs.answers ++ [])
         (lost (collected gone)) next =
@@ -206,6 +212,7 @@ module _ {L : Type 0} (carries : L → L → Traffic → Type 0) (failed : L →
           has_is,
           subst (λ (rs : List records.Record). RecordedOver carries failed (linked w) link (event_of e ∷ []) rs
               (lost (collected gone)) next) records_are one,
+          shown,
         )
 
     -- The record of a lost link.
@@ -218,12 +225,12 @@ module _ {L : Type 0} (carries : L → L → Traffic → Type 0) (failed : L →
         → (is_lost ≡ false → IsSent after (outcome_of o) (carries link next))
         → (is_lost ≡ false → failed next ≡ failed link)
         → (is_lost ≡ true → LosesIn w (event_of e) (outcome_of o) after (carries link next) (failed link)
-        (failed next)) → (new : World) → new ≡ collected after
+        (failed next)) → IsShownAfter w (event_of e) o → (new : World) → new ≡ collected after
         → (had made begun noted has answers : List (Record A)) → made ≡ had → begun ≡ made ++ recorded.Outcome o ∷ []
         → noted ≡ begun ++ loss_of is_lost → has ≡ noted ++ answers
         → map run_record_of answers ≡ answers_of after.kernel.vfs.answers
         → AddsOver (session_of w was) link e had (session_of new is_lost) next has
-    adds_outcome w after was is_lost link next e o linked_before happens sent same loses new new_is had made begun noted has answers made_is begun_is noted_is has_is answers_are =
+    adds_outcome w after was is_lost link next e o linked_before happens sent same loses shown new new_is had made begun noted has answers made_is begun_is noted_is has_is answers_are =
         subst (λ (b : Bool). AddsOver (session_of w b) link e had (session_of new is_lost) next has) (sym linked_before)
         (subst (λ (v : World). AddsOver (linked w) link e had (session_of v is_lost) next has) (sym new_is)
         (by is_lost happens sent same loses noted_is))
@@ -236,12 +243,12 @@ module _ {L : Type 0} (carries : L → L → Traffic → Type 0) (failed : L →
             → (b ≡ true → LosesIn w (event_of e) (outcome_of o) after (carries link next) (failed link) (failed next))
             → noted ≡ begun ++ loss_of b → AddsOver (linked w) link e had (session_of (collected after) b) next has
         by false went through fine lose noted_so =
-            adds_accepted w after link next e o (went refl) (through refl) (fine refl) had has answers
+            adds_accepted w after link next e o (went refl) (through refl) (fine refl) shown had has answers
             (has_is ∙ ap (λ (xs : List (Record A)). xs ++ answers)
             (noted_so ∙ append-nil begun ∙ begun_so) ∙ append_assoc had
             (recorded.Outcome o ∷ []) answers) answers_are
         by true went through fine lose noted_so =
-            adds_loss w after link next e o (lose refl) had has answers
+            adds_loss w after link next e o (lose refl) shown had has answers
             (has_is ∙ ap (λ (xs : List (Record A)). xs ++ answers)
             (noted_so ∙ ap (λ (xs : List (Record A)). xs ++ recorded.LinkLost ∷ []) begun_so ∙ append_assoc had
             (recorded.Outcome o ∷ []) (recorded.LinkLost ∷ []))
@@ -255,15 +262,53 @@ module _ {L : Type 0} (carries : L → L → Traffic → Type 0) (failed : L →
       pub added : List (Record A)
       pub items : has ≡ had ++ added
       pub recorded_so : RecordedOver carries failed old link (map event_of events) (map run_record_of added) new last
+      pub each : RunsEach (RunsOneOver carries failed) (old, link) events added (new, last)
 
     pub none_ran : (s : Session) (link : L) (events : List EventValue) (had : List (Record A))
         → RanOver s link (take 0 events) had s link had
-    none_ran s link events had = record { added = []; items = sym (append-nil had); recorded_so = none_left s link }
+    none_ran s link events had = record {
+      added = [];
+      items = sym (append-nil had);
+      recorded_so = none_left s link;
+      each = no_event (s, link);
+    }
+
+    -- What the machine records of one event is a run of it.
+    pub runs_one : (old : Session) (link : L) → IsSoundWorld old.world → (e : EventValue) (added : List (Record A))
+        (new : Session) (last : L)
+        → RecordedOver carries failed old link (event_of e ∷ []) (map run_record_of added) new last
+        → AreShownAfter old.world (event_of e) added → RunsOneOver carries failed (old, link) e added (new, last)
+    runs_one old link here e added new last recorded_one shown_one =
+        let events = event_of e ∷ [] in
+        let by_it = by_machine old new link last events (map run_record_of added) recorded_one in
+        let answers = session_answers old here events (map run_record_of added) new by_it in
+        record {
+          runs = record {
+            recorded = recorded_one;
+            plain_run = λ p refines. session_refines old here events (map run_record_of added) new by_it p refines;
+            keeps = session_keeps old here events (map run_record_of added) new by_it;
+            once = answers.0;
+            ended = answers.1;
+          };
+          shown = shown_one;
+        }
+
+    -- What is added of one event, which ran so.
+    abbrev pub AddsRun : Session → L → EventValue → List (Record A) → Session → L → List (Record A) → Type 0
+    AddsRun s link e had t next has = (added : List (Record A)) × (has ≡ had ++ added)
+        × RecordedOver carries failed s link (event_of e ∷ []) (map run_record_of added) t next
+        × RunsOneOver carries failed (s, link) e added (t, next)
+
+    pub adds_run : (s : Session) (link : L) → IsSoundWorld s.world → (e : EventValue) (had : List (Record A))
+        (t : Session) (next : L) (has : List (Record A)) → AddsOver s link e had t next has
+        → AddsRun s link e had t next has
+    adds_run s link here e had t next has adds =
+        (adds.0, adds.1, adds.2, runs_one s link here e adds.0 t next adds.2 adds.3)
 
     pub one_more : (old : Session) (link : L) (events : List EventValue) (had : List (Record A)) (s : Session) (at : L)
         (has : List (Record A)) (k : ℕ) (d : EventValue) (new : Session) (last : L) (more : List (Record A))
         → k < length events → RanOver old link (take k events) had s at has
-        → AddsOver s at (get_or events k d) has new last more → RanOver old link (take (k + 1) events) had new last more
+        → AddsRun s at (get_or events k d) has new last more → RanOver old link (take (k + 1) events) had new last more
     one_more old link events had s at has k d new last more within ran adds =
         let whole : take (k + 1) events ≡ take k events ++ get_or events k d ∷ [] = take_more events k d within in
         let joined = then_over old s new link at last (map event_of (take k events))
@@ -281,6 +326,8 @@ module _ {L : Type 0} (carries : L → L → Traffic → Type 0) (failed : L →
           recorded_so = subst (λ (x : List Event
               × List records.Record). RecordedOver carries failed old link x.0 x.1 new last)
               (λ i. (events_are i, records_are i)) joined;
+          each = one_more_ran (RunsOneOver carries failed) (old, link) (s, at) (new, last) events k d ran.added adds.0
+              within ran.each adds.3;
         }
 
     module _ (old : Session) (link : L) (here : IsSoundWorld old.world) (events : List EventValue)
@@ -289,6 +336,7 @@ module _ {L : Type 0} (carries : L → L → Traffic → Type 0) (failed : L →
       abbrev pub ComesOver : Session → L → List (Record A) → Type 0
       ComesOver new last has = (added : List (Record A)) × (has ≡ had ++ added)
           × RunsOver carries failed old link (map event_of events) (map run_record_of added) new last
+          × RunsEach (RunsOneOver carries failed) (old, link) events added (new, last)
 
       pub comes_over : (new : Session) (last : L) (has : List (Record A)) → RanOver old link events had new last has
           → ComesOver new last has
@@ -305,6 +353,7 @@ module _ {L : Type 0} (carries : L → L → Traffic → Type 0) (failed : L →
               once = answers.0;
               ended = answers.1;
             },
+            ran.each,
           )
 
     -- Once k is past the events, all of them ran.

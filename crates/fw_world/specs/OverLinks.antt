@@ -1,5 +1,5 @@
 -- What a list of events results in over a link of bytes.
-use Rattle.std.specs.Prelude.{◌≡◌, ℕ, Bool, List, [], ◌∷◌, ◌++◌}
+use Rattle.std.specs.Prelude.{◌≡◌, ℕ, Bool, List, [], ◌∷◌, ◌++◌, map}
 use Rattle.fuse_spec.specs.declared.Refusal.{Refusal}
 use Rattle.fuse_spec.specs.declared.Refusal.TheVariants.{LinkLost}
 use Rattle.fuse_spec.specs.Claim.Counts.{Protocol}
@@ -12,7 +12,11 @@ use Rattle.fuse_spec.specs.Claim.Sessions.{Session, SessionRun, linked, lost}
 use Rattle.fuse_spec.specs.World.Steps.{Happens, RefusedWith}
 use Rattle.fuse_spec.specs.World.Worlds.{World}
 use Rattle.fw_link.specs.Traffic.{Traffic}
+use Rattle.fw_world.specs.declared.event.Event.{Event as EventValue}
+use Rattle.fw_world.specs.declared.record.Record.{Record as RecordValue}
+use Rattle.fw_world.specs.Frames.{AreShownAfter}
 use Rattle.fw_world.specs.Runs.{StepsAs}
+use Rattle.fw_world.specs.Values.{event_of, run_record_of}
 use Rattle.fw_world.specs.Sends.{IsSent, IsLostOn}
 
 -- A session by its two parts.
@@ -67,3 +71,10 @@ pub data StepsOver (old : World) (event : Event) (o : Outcome) : Session → Typ
   goes_on : (new : World) → StepsAs old event o new → StepsOver old event o (linked new)
   link_fails : (mid new : World) → StepsAs old event o mid → StepsAs mid abort aborted new
       → StepsOver old event o (lost new)
+
+-- One event ran over the link with these records, from a session and its link to such. What the first of them says of
+-- the event's frame is so, as in a world.
+pub record RunsOneOver {L A : Type 0} (carries : L → L → Traffic → Type 0) (failed : L → ℕ) (old : Session × L)
+    (event : EventValue) (added : List (RecordValue A)) (new : Session × L) : Type 0 where
+  pub runs : RunsOver carries failed old.0 old.1 (event_of event ∷ []) (map run_record_of added) new.0 new.1
+  pub shown : AreShownAfter old.0.world (event_of event) added

@@ -1,5 +1,5 @@
 -- What an event and a list of events come to.
-use Rattle.std.specs.Prelude.{ℕ, ◌+◌, List, Result, Ok, Err, length, take}
+use Rattle.std.specs.Prelude.{ℕ, ◌+◌, List, [], ◌∷◌, ◌++◌, Result, Ok, Err, length, map, take}
 use Rattle.fuse_spec.specs.Values.Maps.{remove}
 use Rattle.fuse_spec.specs.World.Worlds.{World}
 use Rattle.fuse_spec.specs.World.Events.{Event, Outcome}
@@ -9,6 +9,10 @@ use Rattle.fuse_spec.specs.Reference.PlainWords.{Steps}
 use Rattle.fuse_spec.specs.Claim.Counts.{Protocol}
 use Rattle.fuse_spec.specs.Claim.Alike.{Alike}
 use Rattle.fuse_spec.specs.Claim.Runs.{Run, AnswersOnce, CallsEnd, IsOver}
+use Rattle.fw_world.specs.declared.event.Event.{Event as EventValue}
+use Rattle.fw_world.specs.declared.record.Record.{Record as RecordValue}
+use Rattle.fw_world.specs.Frames.{AreShownAfter}
+use Rattle.fw_world.specs.Values.{event_of, run_record_of}
 
 -- How many calls are not over: those that are unanswered, and those whose answer waits to be collected.
 abbrev pub calls_not_over : World → ℕ
@@ -40,3 +44,19 @@ pub record RunsAs (old : World) (events : List Event) (added : List Record) (new
   pub keeps : Protocol new
   pub once : AnswersOnce added
   pub ended : CallsEnd old added new
+
+-- One event ran with these records, whose first, if it is an outcome, says of the event's frame what is so: its opcode
+-- and its length.
+pub record RunsOne {A : Type 0} (old : World) (event : EventValue) (added : List (RecordValue A)) (new : World)
+    : Type 0 where
+  pub runs : RunsAs old (event_of event ∷ []) (map run_record_of added) new
+  pub shown : AreShownAfter old (event_of event) added
+
+-- Each of these events ran so, one after another.
+pub data RunsEach {S A : Type 0} (Runs : S → EventValue → List (RecordValue A) → S → Type 0) : S → List EventValue
+    → List (RecordValue A) → S → Type 0 where
+  no_event : (s : S) → RunsEach Runs s [] [] s
+  event_ran : (first : S) (event : EventValue) (added : List (RecordValue A)) (next : S) (events : List EventValue)
+      (records : List (RecordValue A)) (last : S)
+      → Runs first event added next → RunsEach Runs next events records last
+      → RunsEach Runs first (event ∷ events) (added ++ records) last

@@ -8,8 +8,8 @@ ghost use Rattle.fw_world.specs.Sends.{SendsReply, SendsRequest, SendsResult, re
 ghost use Rattle.fw_world.specs.Values.{outcome_of};
 
 use crate::event::Outcome;
+use crate::sides::SidesOf;
 use crate::tables::Tables;
-use crate::world::WorldOf;
 use fk_wire::write_result;
 use fuse_spec::{ReplyResult, Taken, WriteResult};
 use fw_link::{Carrier, Envelope, Link, LinkFault, Side};
@@ -48,7 +48,7 @@ fn frame_result<A: Allocator>(frame: &mut Vec<u8, A>, settled: ReplyResult)
 
 /// Sends the request that was put last on its link.
 fn send_request<T: Tables, L: Link>(
-    world: &WorldOf<T>,
+    world: &SidesOf<T>,
     link: &mut L,
     carrier: &mut Carrier<T::Heap>,
 ) -> Result<(), LinkFault>
@@ -74,7 +74,7 @@ fn send_request<T: Tables, L: Link>(
 
 /// Sends the copy that was put last on its link.
 fn send_copy<T: Tables, L: Link>(
-    world: &WorldOf<T>,
+    world: &SidesOf<T>,
     link: &mut L,
     carrier: &mut Carrier<T::Heap>,
 ) -> Result<(), LinkFault>
@@ -100,7 +100,7 @@ fn send_copy<T: Tables, L: Link>(
 
 /// Sends the result that was put last on its link, in this frame.
 fn send_result<T: Tables, L: Link>(
-    world: &WorldOf<T>,
+    world: &SidesOf<T>,
     frame: &mut Vec<u8, T::Heap>,
     link: &mut L,
     carrier: &mut Carrier<T::Heap>,
@@ -130,7 +130,7 @@ fn send_result<T: Tables, L: Link>(
 
 /// Sends the envelope of an accepted event with this outcome, if it has one.
 pub(crate) fn send<T: Tables, L: Link>(
-    world: &WorldOf<T>,
+    world: &SidesOf<T>,
     outcome: &Outcome,
     frame: &mut Vec<u8, T::Heap>,
     link: &mut L,

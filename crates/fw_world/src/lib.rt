@@ -8,6 +8,7 @@ mod links;
 mod record;
 mod runs;
 mod session;
+mod sides;
 mod tables;
 mod world;
 
@@ -18,5 +19,6 @@ pub use laws::lost_where_failed;
 pub use record::Record;
 pub use runs::run;
 pub use session::{Session, SessionOf};
+pub use sides::SidesOf;
 pub use tables::{Lists, Maps, Tables};
 pub use world::{ListWorld, ListWorldIn, World, WorldIn, WorldOf};

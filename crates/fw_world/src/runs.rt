@@ -7,17 +7,18 @@ ghost use Rattle.fuse_spec.specs.World.Records.{answers_of, collected};
 ghost use Rattle.fuse_theorem.specs.Recorded.{Recorded};
 ghost use Rattle.fw_world.specs.declared.record.Record.{Record as RecordValue};
 ghost use Rattle.fw_world.specs.Values.{event_of, run_record_of};
-ghost use Rattle.fw_world.specs.Runs.{RunsAs, calls_not_over, events_run};
+ghost use Rattle.fw_world.specs.Runs.{RunsAs, RunsEach, RunsOne, calls_not_over, events_run};
 
 use crate::event::Event;
 use crate::record::Record;
+use crate::sides::SidesOf;
 use crate::tables::Tables;
 use crate::world::WorldOf;
 use std::alloc::Allocator;
 
 /// Runs the events one after another. The records of each are its outcome or refusal, and then the answers that it
 /// gave, in rising call number. This carries the headline: whatever the events, there is a run of a plain world with
-/// these records.
+/// these records. What an outcome says of its event's frame is so in the world after the event.
 ///
 /// # Errors
 ///
@@ -30,11 +31,12 @@ pub fn run<T: Tables>(
     records: &mut Vec<Record<T::Heap>, T::Heap>,
 ) -> Result<(), usize>
     ensures ran { (added : List (RecordValue T.Heap)) × (records.new.items ≡ records.old.items ++ added)
-        × RunsAs world.old (map event_of (events_run result events.now)) (map run_record_of added) world.new }
+        × RunsAs world.old.sides (map event_of (events_run result events.now)) (map run_record_of added) world.new.sides
+        × RunsEach RunsOne world.old.sides (events_run result events.now) added world.new.sides }
     ensures err { IfErr result (λ k. k < length events.now) }
     ensures full { OnErr result (vec_capacity records.old < vec_len records.old
-        + calls_not_over world.old + 2 * length events.now) }
-    ensures room { OnErr result (world.old.kernel.vfs.answers ≡ []
+        + calls_not_over world.old.sides + 2 * length events.now) }
+    ensures room { OnErr result (world.old.sides.kernel.vfs.answers ≡ []
         → vec_capacity records.old < vec_len records.old + 66 * length events.now) }
 {
     world.lemma_protocol();
@@ -48,7 +50,7 @@ pub fn run<T: Tables>(
 
 /// The next event results in at most this many records: one of its own, one of a call that begins and is answered in it
 /// or of a link that is lost in it, and the answers of calls that wait.
-pub(crate) fn most_records<T: Tables>(world: &WorldOf<T>) -> Option<usize>
+pub(crate) fn most_records<T: Tables>(world: &SidesOf<T>) -> Option<usize>
     ensures some { IfSome result (λ room. room ≡ calls_not_over world.now + 2) }
     ensures none { IfNone result (2 ^ 64 ≤ calls_not_over world.now + 2) }
 {
@@ -62,17 +64,19 @@ fn run_one<T: Tables>(
     event: &Event<'_>,
     records: &mut Vec<Record<T::Heap>, T::Heap>,
 ) -> bool
-    ensures not_run { result ≡ false → (world.new ≡ world.old) × (records.new.items ≡ records.old.items) }
-    ensures full { result ≡ false → vec_capacity records.old < vec_len records.old + calls_not_over world.old + 2 }
+    ensures not_run { result ≡ false → (world.new.sides ≡ world.old.sides) × (records.new.items ≡ records.old.items) }
+    ensures full { result ≡ false →
+        vec_capacity records.old < vec_len records.old + calls_not_over world.old.sides + 2 }
     ensures ran { IsTrue result → (added : List (RecordValue T.Heap))
         × (records.new.items ≡ records.old.items ++ added)
-        × Recorded world.old (event_of event.now ∷ []) (map run_record_of added) world.new }
+        × Recorded world.old.sides (event_of event.now ∷ []) (map run_record_of added) world.new.sides
+        × RunsOne world.old.sides event.now added world.new.sides }
     ensures room { IsTrue result →
-        vec_len records.new + calls_not_over world.new + vec_capacity records.old
-        ≤ vec_len records.old + calls_not_over world.old + 2 + vec_capacity records.new }
+        vec_len records.new + calls_not_over world.new.sides + vec_capacity records.old
+        ≤ vec_len records.old + calls_not_over world.old.sides + 2 + vec_capacity records.new }
 {
     world.lemma_protocol();
-    let Some(room) = most_records(world) else {
+    let Some(room) = most_records(&world.sides) else {
         return false;
     };
     if records.reserve(room).is_err() {
@@ -81,7 +85,7 @@ fn run_one<T: Tables>(
     match world.step(event) {
         Ok(outcome) => {
             records.push_reserved(Record::Outcome(outcome));
-            collect_all(world, records);
+            collect_all(&mut world.sides, records);
         }
         Err(refusal) => records.push_reserved(Record::Refused(refusal)),
     }
@@ -91,7 +95,7 @@ fn run_one<T: Tables>(
 /// Collects and records every answer that waits.
 #[inline(always)]
 pub(crate) fn collect_all<T: Tables>(
-    world: &mut WorldOf<T>,
+    world: &mut SidesOf<T>,
     records: &mut Vec<Record<T::Heap>, T::Heap>,
 )
     requires { vec_len records.old + length world.old.kernel.vfs.answers ≤ vec_capacity records.old }

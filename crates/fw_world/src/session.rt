@@ -1,7 +1,8 @@
 //! A world whose two sides talk over a link of bytes.
 
-ghost use Rattle.std.specs.Prelude.{◌≡◌, ◌≤◌, [], false, true, Err, IfErr, IfOk, IfNone};
+ghost use Rattle.std.specs.Prelude.{◌≡◌, ◌≤◌, [], false, true, Err, IfErr, IfOk, IfNone, None};
 ghost use Rattle.std.specs.Prelude.{IfSome, OnErr, option_map, slice_get, vec_capacity};
+ghost use Rattle.std.specs.Result.{result_ok};
 ghost use Rattle.fuse_spec.specs.World.Events.{abort, aborted};
 ghost use Rattle.fuse_spec.specs.Claim.Counts.{Protocol};
 ghost use Rattle.fuse_spec.specs.Reference.Plain.{Plain, first_plain};
@@ -12,7 +13,7 @@ ghost use Rattle.fuse_spec.specs.Claim.Runs.{plain_handed_out};
 ghost use Rattle.fk_syscalls.specs.Values.{answer_of};
 ghost use Rattle.fw_link.specs.Carrying.{IsEmpty};
 ghost use Rattle.fuse_theorem.specs.SoundWorlds.{IsSoundWorld};
-ghost use Rattle.fw_world.specs.Frames.{IsFrameOf, IsLastFrame, IsShown};
+ghost use Rattle.fw_world.specs.Frames.{IsFrameOf, IsLastPut, IsShown, IsShownAfter};
 ghost use Rattle.fw_world.specs.ListedNodes.{AreListed};
 ghost use Rattle.fw_world.specs.OverLinks.{StepsOver, session_of};
 ghost use Rattle.fw_world.specs.Runs.{call_collected};
@@ -23,15 +24,15 @@ mod lists;
 
 use crate::envelopes::{RESULT_LEN, send};
 use crate::event::{Event, Outcome};
+use crate::sides::SidesOf;
 use crate::tables::{Maps, Tables};
-use crate::world::WorldOf;
 use fk_kernel::Answer;
 use fuse_spec::Refusal;
 use fw_link::{Carrier, Link};
 use std::alloc::{AllocError, Global};
 
 /// Aborts the mount of a world on whose links something is.
-fn abort_after_loss<T: Tables>(world: &mut WorldOf<T>)
+fn abort_after_loss<T: Tables>(world: &mut SidesOf<T>)
     requires { (world.old.requests ≡ []) × (world.old.replies ≡ []) × (world.old.results ≡ []) → ⊥ }
     ensures { Happens world.old abort aborted world.new }
 {
@@ -43,7 +44,8 @@ fn abort_after_loss<T: Tables>(world: &mut WorldOf<T>)
 /// that event. Once the link is lost every event is refused.
 #[derive(Drop)]
 pub struct SessionOf<T: Tables, L: Link + Drop> {
-    world: WorldOf<T>,
+    world: SidesOf<T>,
+    last: Option<Outcome>,
     link: L,
     carrier: Carrier<T::Heap>,
     frame: Vec<u8, T::Heap>,
@@ -67,6 +69,7 @@ impl<T: Tables, L: Link + Drop> SessionOf<T, L> {
         ensures first { IfOk result (λ session. session.world ≡ first_world) }
         ensures refines { IfOk result (λ session. Alike session.world first_plain) }
         ensures link { IfOk result (λ session. (session.link ≡ link) × (session.is_lost ≡ false)) }
+        ensures last { IfOk result (λ session. session.last ≡ None) }
         ensures back { IfErr result (λ back. back ≡ link) }
     {
         let Ok(carrier) = Carrier::new(alloc) else {
@@ -76,11 +79,12 @@ impl<T: Tables, L: Link + Drop> SessionOf<T, L> {
             return Err(link);
         };
         // Last, so that no world is dropped here.
-        let Ok(world) = WorldOf::new(alloc) else {
+        let Ok(world) = SidesOf::new(alloc) else {
             return Err(link);
         };
         Ok(SessionOf {
             world,
+            last: None,
             link,
             carrier,
             frame,
@@ -92,6 +96,7 @@ impl<T: Tables, L: Link + Drop> SessionOf<T, L> {
     pub fn end(self) {
         let SessionOf {
             world,
+            last: _,
             link,
             carrier,
             frame,
@@ -103,7 +108,7 @@ impl<T: Tables, L: Link + Drop> SessionOf<T, L> {
         drop(frame);
     }
 
-    /// One event. A refused one changes nothing.
+    /// One event. A refused one changes nothing, but that no frame is the last put.
     ///
     /// # Errors
     ///
@@ -126,12 +131,15 @@ impl<T: Tables, L: Link + Drop> SessionOf<T, L> {
             LosesIn self.old.world (event_of event.now) (outcome_of outcome) self.new.world
             (L.carries self.old.link self.new.link) (L.failed self.old.link) (L.failed self.new.link)) }
         ensures shows { IfOk result (λ outcome. self.new.is_lost ≡ false → IsShown self.new.world outcome) }
+        ensures shown_after { IfOk result (IsShownAfter self.old.world (event_of event.now)) }
+        ensures last { self.new.last ≡ result_ok result }
         ensures not_failed { self.new.is_lost ≡ false → L.failed self.new.link ≡ L.failed self.old.link }
         ensures lost_before { IfErr result (λ refusal. refusal ≡ LinkLost → self.old.is_lost ≡ true) }
         ensures refines { IfOk result (λ outcome. StepsOver self.old.world (event_of event.now) (outcome_of outcome)
             (session_of self.new.world self.new.is_lost)) }
     {
         self.world.lemma_protocol();
+        self.last = None;
         if self.is_lost {
             return Err(Refusal::LinkLost);
         }
@@ -140,6 +148,7 @@ impl<T: Tables, L: Link + Drop> SessionOf<T, L> {
             Err(refusal) => return Err(refusal),
         };
         self.carry(&outcome);
+        self.last = Some(outcome);
         Ok(outcome)
     }
 
@@ -148,6 +157,7 @@ impl<T: Tables, L: Link + Drop> SessionOf<T, L> {
         requires open { self.old.is_lost ≡ false }
         requires out { IsOut self.old.world (outcome_of outcome.now) }
         ensures same { self.new.is_lost ≡ false → self.new.world ≡ self.old.world }
+        ensures last { self.new.last ≡ self.old.last }
         ensures sent { self.new.is_lost ≡ false →
             IsSent self.old.world (outcome_of outcome.now) (L.carries self.old.link self.new.link) }
         ensures not_failed { self.new.is_lost ≡ false → L.failed self.new.link ≡ L.failed self.old.link }
@@ -183,6 +193,7 @@ impl<T: Tables, L: Link + Drop> SessionOf<T, L> {
         ensures none { IfNone result (self.new.world ≡ self.old.world) }
         ensures taken { IfSome result (λ r. self.new.world ≡ call_collected self.old.world r.0) }
         ensures link { (self.new.link ≡ self.old.link) × (self.new.is_lost ≡ self.old.is_lost) }
+        ensures last { self.new.last ≡ self.old.last }
         ensures refines { IfSome result (λ r. (p : Plain) → Alike self.old.world p →
             Alike self.new.world (plain_handed_out p r.0)) }
     {
@@ -199,11 +210,14 @@ impl<T: Tables, L: Link + Drop> SessionOf<T, L> {
         self.world.lemma_protocol();
     }
 
-    /// The request or reply frame that the last step put on its link.
+    /// The request or reply frame that the last step put on its link, as that of a world; none once it was lost there.
     pub fn last_put(&self) -> Option<&[u8]>
-        ensures { IfSome result (λ bytes. IsLastFrame self.now.world bytes.now) }
+        ensures { IsLastPut self.now.world self.now.last (option_map (λ bytes. bytes.now) result) }
     {
-        self.world.last_put()
+        match &self.last {
+            Some(outcome) => self.world.frame_of(outcome),
+            None => None,
+        }
     }
 
     /// The frame that an event with this outcome put on its link, as that of a world.

@@ -1,10 +1,10 @@
 //! The world.
 
-ghost use Rattle.std.specs.Prelude.{◌≡◌, OnErr};
+ghost use Rattle.std.specs.Prelude.{◌≡◌, OnErr, None};
 ghost use Rattle.std.specs.Prelude.{IfOk, IfErr, IfNone, IfSome, length, option_map, slice_get};
-ghost use Rattle.fuse_spec.specs.World.Events as event;
-ghost use Rattle.fuse_spec.specs.World.Steps.{Happens, IsRefused, RefusedWith};
-ghost use Rattle.fuse_spec.specs.World.Worlds.{World as WorldState, first_world};
+ghost use Rattle.std.specs.Result.{result_ok};
+ghost use Rattle.fuse_spec.specs.World.Steps.{Happens, RefusedWith};
+ghost use Rattle.fuse_spec.specs.World.Worlds.{first_world};
 ghost use Rattle.fuse_spec.specs.Claim.Counts.{Protocol};
 ghost use Rattle.fuse_spec.specs.Reference.Plain.{Plain, first_plain};
 ghost use Rattle.fuse_spec.specs.Claim.Alike.{Alike};
@@ -12,48 +12,23 @@ ghost use Rattle.fuse_spec.specs.Claim.Runs.{plain_handed_out};
 ghost use Rattle.fuse_spec.specs.declared.Refusal.TheVariants.{NoMemory};
 ghost use Rattle.fuse_theorem.specs.SoundWorlds.{IsSoundWorld};
 ghost use Rattle.fk_syscalls.specs.Values.{answer_of};
-ghost use Rattle.fw_world.specs.Frames.{IsFrameOf, IsLastFrame, IsShown};
+ghost use Rattle.fw_world.specs.Frames.{IsFrameOf, IsLastPut, IsShown};
 ghost use Rattle.fw_world.specs.ListedNodes.{AreListed};
 ghost use Rattle.fw_world.specs.Runs.{StepsAs, call_collected};
 ghost use Rattle.fw_world.specs.Values.{counted_nodes, event_of, held_nodes, outcome_of};
 
-mod counters;
-mod kernel_events;
-mod last_sent;
-mod refusals;
-mod server_events;
-
 use crate::event::{Event, Outcome};
-use crate::links::clear_links;
+use crate::sides::SidesOf;
 use crate::tables::{Lists, Maps, Tables};
-use fk_kernel::{Answer, Call, KernelOf};
-use fs_server::ServerOf;
-use fuse_frames::{RequestFrame, Sent};
-use fuse_spec::limits::MAX_VALIDITY;
-use fuse_spec::{Minor, Refusal, ReplyResult, Taken};
-use fuse_tables::last;
+use fk_kernel::Answer;
+use fuse_spec::Refusal;
 use std::alloc::{AllocError, Global};
-use std::collections::VecDeque;
-use std::marker::Model;
 
-/// Which frame the last step put on a link.
-#[derive(Clone, Copy, Debug, PartialEq, Eq)]
-enum LastPut {
-    Nothing,
-    Request,
-    Reply,
-}
-
-/// One kernel, one server, and the links of requests, of replies and of the results of replies between them, over any
-/// tables.
+/// One kernel, one server and the links between them, with what the last step came to, over any tables.
 #[derive(Drop)]
 pub struct WorldOf<T: Tables> {
-    kernel: KernelOf<T::Queues, T::Counts>,
-    server: ServerOf<T::Nodes>,
-    requests: VecDeque<RequestFrame<T::Heap>, T::Heap>,
-    replies: VecDeque<Sent<T::Heap>, T::Heap>,
-    results: VecDeque<ReplyResult, T::Heap>,
-    last_put: LastPut,
+    pub(crate) sides: SidesOf<T>,
+    last: Option<Outcome>,
 }
 
 /// The world of the program, whose tables are maps and slabs.
@@ -68,32 +43,6 @@ pub type ListWorld = ListWorldIn<Global>;
 /// That world in memory that an allocator gives.
 pub type ListWorldIn<A = Global> = WorldOf<Lists<A>>;
 
-impl<T: Tables> Model for WorldOf<T> {
-    ghost use Rattle.std.specs.Coded.{codes};
-    ghost use Rattle.fuse_spec.specs.World.Worlds.{World as WorldState};
-    ghost use Rattle.fuse_theorem.specs.SoundWorlds.{IsSoundWorld};
-
-    ghost Value = { WorldState };
-
-    ghost coded = { Prim.hlevel (codes) };
-
-    ghost view = { λ w. record {
-      kernel = w.kernel;
-      server = w.server;
-      requests = w.requests.items;
-      replies = w.replies.items;
-      results = w.results.items;
-    } };
-
-    ghost invariant = { λ w. IsSoundWorld (record {
-      kernel = w.kernel;
-      server = w.server;
-      requests = w.requests.items;
-      replies = w.replies.items;
-      results = w.results.items;
-    }) };
-}
-
 impl<T: Tables> WorldOf<T> {
     /// A world before its first mount, whose tree is the root alone.
     ///
@@ -101,38 +50,19 @@ impl<T: Tables> WorldOf<T> {
     ///
     /// `NoMemory`.
     pub fn new(alloc: T::Heap) -> Result<Self, Refusal>
-        ensures first { IfOk result (λ world. world ≡ first_world) }
-        ensures refines { IfOk result (λ world. Alike world first_plain) }
+        ensures first { IfOk result (λ world. world.sides ≡ first_world) }
+        ensures last { IfOk result (λ world. world.last ≡ None) }
+        ensures refines { IfOk result (λ world. Alike world.sides first_plain) }
         ensures refusal { IfErr result (λ refusal. refusal ≡ NoMemory) }
     {
-        let Ok(server) = ServerOf::new(alloc) else {
-            return Err(Refusal::NoMemory);
-        };
-        Ok(WorldOf {
-            kernel: KernelOf::new(alloc),
-            server,
-            requests: VecDeque::new(alloc),
-            replies: VecDeque::new(alloc),
-            results: VecDeque::new(alloc),
-            last_put: LastPut::Nothing,
-        })
+        let sides = SidesOf::new(alloc)?;
+        Ok(WorldOf { sides, last: None })
     }
 
     /// Ends the world. It is a drop, whose parts are so proved in one crate, and not in each that has a world.
     pub fn end(self) {
-        let WorldOf {
-            kernel,
-            server,
-            requests,
-            replies,
-            results,
-            last_put: _,
-        } = self;
-        kernel.end();
-        server.end();
-        drop(requests);
-        drop(replies);
-        drop(results);
+        let WorldOf { sides, last: _ } = self;
+        sides.end();
     }
 
     /// One event. A refused one changes nothing, but that no frame is the last put.
@@ -141,119 +71,71 @@ impl<T: Tables> WorldOf<T> {
     ///
     /// Each event has its refusals in the order in which `Steps.antt` of the definitions judges them. `NoMemory` is the
     /// last of them: nothing else refuses the event, and `Settle`, `Interrupt`, `Tick`, `DropName`, `Evict` and `Abort`
-    /// never get it.
+    /// never get it; nor does `Take` of what is neither held nor answered, nor `Do` after an abort of what makes nothing.
     pub fn step(&mut self, event: &Event<'_>) -> Result<Outcome, Refusal>
-        ensures err { OnErr result (self.new ≡ self.old) }
-        ensures refusal { IfErr result (RefusedWith self.old (event_of event.now)) }
-        ensures happens { IfOk result (λ outcome. Happens self.old (event_of event.now) (outcome_of outcome) self.new) }
-        ensures shows { IfOk result (IsShown self.new) }
-        ensures refines { IfOk result (λ outcome. StepsAs self.old (event_of event.now) (outcome_of outcome) self.new) }
+        ensures err { OnErr result (self.new.sides ≡ self.old.sides) }
+        ensures refusal { IfErr result (RefusedWith self.old.sides (event_of event.now)) }
+        ensures happens { IfOk result (λ outcome. Happens self.old.sides (event_of event.now)
+            (outcome_of outcome) self.new.sides) }
+        ensures shows { IfOk result (IsShown self.new.sides) }
+        ensures last { self.new.last ≡ result_ok result }
+        ensures refines { IfOk result (λ outcome. StepsAs self.old.sides (event_of event.now)
+            (outcome_of outcome) self.new.sides) }
     {
-        self.lemma_protocol();
-        self.dispatch(event)
-    }
-
-    /// Runs one event, by its kind.
-    fn dispatch(&mut self, event: &Event<'_>) -> Result<Outcome, Refusal>
-        ensures err { OnErr result (self.new ≡ self.old) }
-        ensures refusal { IfErr result (RefusedWith self.old (event_of event.now)) }
-        ensures happens { IfOk result (λ outcome. Happens self.old (event_of event.now) (outcome_of outcome) self.new) }
-        ensures shows { IfOk result (IsShown self.new) }
-    {
-        self.last_put = LastPut::Nothing;
-        match event {
-            Event::Mount {
-                found_ms,
-                missing_ms,
-                minor,
-            } => self.mount(*found_ms, *missing_ms, *minor),
-            Event::Call(call) => self.call(call),
-            Event::Read(pick) => self.read(*pick),
-            Event::Take(place) => self.take(*place),
-            Event::Do(unique) => self.perform(*unique),
-            Event::Again(unique) => self.again(*unique),
-            Event::Write(place) => self.write(*place),
-            Event::Settle(place) => self.settle(*place),
-            Event::Interrupt { call, fatal } => self.interrupt(*call, *fatal),
-            Event::Tick(ms) => self.tick(*ms),
-            Event::DropName { directory, name } => self.drop_name(*directory, name),
-            Event::Evict(node) => self.evict(*node),
-            Event::Abort => self.abort(),
-        }
+        let result = self.sides.step(event);
+        self.last = match result {
+            Ok(outcome) => Some(outcome),
+            Err(_) => None,
+        };
+        result
     }
 
     /// Collects, once, the answer of the lowest answered call.
     pub fn collect(&mut self) -> Option<(u64, Answer<T::Heap>)>
-        ensures answer { option_map (λ r. (r.0, answer_of r.1)) result ≡ slice_get self.old.kernel.vfs.answers 0 }
-        ensures none { IfNone result (self.new ≡ self.old) }
-        ensures taken { IfSome result (λ r. self.new ≡ call_collected self.old r.0) }
-        ensures refines { IfSome result (λ r. (p : Plain) → Alike self.old p
-            → Alike self.new (plain_handed_out p r.0)) }
+        ensures answer { option_map (λ r. (r.0, answer_of r.1)) result
+            ≡ slice_get self.old.sides.kernel.vfs.answers 0 }
+        ensures none { IfNone result (self.new.sides ≡ self.old.sides) }
+        ensures taken { IfSome result (λ r. self.new.sides ≡ call_collected self.old.sides r.0) }
+        ensures last { self.new.last ≡ self.old.last }
+        ensures refines { IfSome result (λ r. (p : Plain) → Alike self.old.sides p
+            → Alike self.new.sides (plain_handed_out p r.0)) }
     {
-        self.lemma_protocol();
-        self.kernel.collect()
+        self.sides.collect()
     }
 
     /// How many answers wait to be collected.
     pub fn answered(&self) -> usize
-        ensures { result ≡ length self.now.kernel.vfs.answers }
+        ensures { result ≡ length self.now.sides.kernel.vfs.answers }
     {
-        self.kernel.answered()
-    }
-
-    /// How many calls are unanswered.
-    pub(crate) fn unanswered(&self) -> usize
-        ensures { result ≡ length self.now.kernel.vfs.calls }
-    {
-        self.kernel.unanswered()
+        self.sides.answered()
     }
 
     /// A call without effect, for a caller's proof: what every event keeps is true of the world, it is alike to some
     /// plain world, and the reference protocol holds of it.
     pub fn lemma_protocol(&self)
-        ensures sound { IsSoundWorld self.now }
-        ensures refines { (p : Plain) × Alike self.now p }
-        ensures keeps { Protocol self.now }
+        ensures sound { IsSoundWorld self.now.sides }
+        ensures refines { (p : Plain) × Alike self.now.sides p }
+        ensures keeps { Protocol self.now.sides }
     {
-        // A field is touched so that the type's invariant is at hand.
-        let _ = &self.kernel;
+        self.sides.lemma_protocol();
     }
 
-    /// The request or reply frame that the last step put, if its link still has it.
+    /// The request or reply frame that the last step put on a link; none after a refused step, or one that put none.
     pub fn last_put(&self) -> Option<&[u8]>
-        ensures { IfSome result (λ bytes. IsLastFrame self.now bytes.now) }
+        ensures { IsLastPut self.now.sides self.now.last (option_map (λ bytes. bytes.now) result) }
     {
-        match self.last_put {
-            LastPut::Nothing => None,
-            LastPut::Request => match last(&self.requests) {
-                Some(frame) => Some(frame.bytes()),
-                None => None,
-            },
-            LastPut::Reply => match last(&self.replies) {
-                Some(copy) => Some(copy.bytes()),
-                None => None,
-            },
+        match &self.last {
+            Some(outcome) => self.sides.frame_of(outcome),
+            None => None,
         }
     }
 
     /// The frame that an event with this outcome put, while nothing else was put on its link: of `Read` the request's,
     /// of `Done`, of `SentAgain` and of `Taken` with the word `Again` the reply's. Other events put none.
     pub fn frame_of(&self, outcome: &Outcome) -> Option<&[u8]>
-        ensures { IsFrameOf self.now outcome.now (option_map (λ bytes. bytes.now) result) }
+        ensures { IsFrameOf self.now.sides outcome.now (option_map (λ bytes. bytes.now) result) }
     {
-        match outcome {
-            Outcome::Read { .. } => self.last_request(),
-            Outcome::Taken {
-                word: Taken::Again,
-                ..
-            }
-            | Outcome::Done { .. }
-            | Outcome::SentAgain { .. } => match self.last_copy() {
-                Some((_, frame)) => Some(frame),
-                None => None,
-            },
-            _ => None,
-        }
+        self.sides.frame_of(outcome)
     }
 
     /// The nodes that the kernel counts, in rising id and without the root: id, generation and lookup count of each.
@@ -262,12 +144,10 @@ impl<T: Tables> WorldOf<T> {
     ///
     /// Where there is no memory for the list.
     pub fn kernel_nodes(&self) -> Result<Vec<(u64, u64, u64), T::Heap>, AllocError>
-        ensures nodes { IfOk result (λ nodes. nodes.items ≡ counted_nodes self.now.kernel.nodes) }
+        ensures nodes { IfOk result (λ nodes. nodes.items ≡ counted_nodes self.now.sides.kernel.nodes) }
         ensures listed { IfOk result (λ nodes. AreListed nodes.items) }
     {
-        self.lemma_protocol();
-        self.kernel.lemma_counts_in_range();
-        self.kernel.nodes(*self.requests.allocator())
+        self.sides.kernel_nodes()
     }
 
     /// The nodes that the server holds, in rising id and without the root: id, generation and lookup count of each.
@@ -276,43 +156,9 @@ impl<T: Tables> WorldOf<T> {
     ///
     /// Where there is no memory for the list.
     pub fn server_nodes(&self) -> Result<Vec<(u64, u64, u64), T::Heap>, AllocError>
-        ensures nodes { IfOk result (λ nodes. nodes.items ≡ held_nodes self.now.server.nodes.rows) }
+        ensures nodes { IfOk result (λ nodes. nodes.items ≡ held_nodes self.now.sides.server.nodes.rows) }
         ensures listed { IfOk result (λ nodes. AreListed nodes.items) }
     {
-        self.lemma_protocol();
-        self.server.lemma_sound();
-        self.server.nodes(*self.requests.allocator())
-    }
-
-    fn mount(&mut self, found_ms: u64, missing_ms: u64, minor: Minor) -> Result<Outcome, Refusal>
-        ensures err { OnErr result (self.new ≡ self.old) }
-        ensures refusal { IfErr result (RefusedWith self.old (event.mount found_ms missing_ms minor)) }
-        ensures happens { IfOk result (λ outcome. Happens self.old (event.mount found_ms missing_ms minor)
-            (outcome_of outcome) self.new) }
-        ensures shows { IfOk result (IsShown self.new) }
-    {
-        if found_ms > MAX_VALIDITY || missing_ms > MAX_VALIDITY {
-            return Err(Refusal::BadTime);
-        }
-        if let Err(refusal) = self.kernel.mount() {
-            return Err(refusal);
-        }
-        self.server.remount(found_ms, missing_ms, minor);
-        clear_links(&mut self.requests, &mut self.replies, &mut self.results);
-        Ok(Outcome::Mounted)
-    }
-
-    fn abort(&mut self) -> Result<Outcome, Refusal>
-        ensures err { OnErr result (self.new ≡ self.old) }
-        ensures refusal { IfErr result (IsRefused self.old event.abort) }
-        ensures happens { IfOk result (λ outcome. Happens self.old event.abort (outcome_of outcome) self.new) }
-        ensures shows { IfOk result (IsShown self.new) }
-    {
-        if let Err(refusal) = self.kernel.abort() {
-            return Err(refusal);
-        }
-        self.server.connection_lost();
-        clear_links(&mut self.requests, &mut self.replies, &mut self.results);
-        Ok(Outcome::Aborted)
+        self.sides.server_nodes()
     }
 }

@@ -3,8 +3,8 @@
 ghost use Rattle.std.specs.Prelude.{◌≡◌, ◌+◌, ◌*◌, ◌<◌, ◌≤◌, ◌++◌, ◌∷◌, [], false};
 ghost use Rattle.std.specs.Prelude.{if◌then◌else◌, List, IsTrue, IfErr, OnErr, length, map};
 ghost use Rattle.std.specs.Vec.{vec_len, vec_capacity};
-ghost use Rattle.fw_world.specs.OverLinks.{RecordedOver, RunsOver, session_of};
-ghost use Rattle.fw_world.specs.Runs.{calls_not_over, events_run};
+ghost use Rattle.fw_world.specs.OverLinks.{RecordedOver, RunsOneOver, RunsOver, session_of};
+ghost use Rattle.fw_world.specs.Runs.{RunsEach, calls_not_over, events_run};
 ghost use Rattle.fw_world.specs.Values.{event_of, run_record_of};
 ghost use Rattle.fw_world.specs.declared.record.Record.{Record as RecordValue};
 ghost use Rattle.fw_world.specs.declared.record.Record.TheVariants.{LinkLost};
@@ -34,7 +34,9 @@ impl<T: Tables, L: Link + Drop> SessionOf<T, L> {
         ensures ran { (added : List (RecordValue T.Heap)) × (records.new.items ≡ records.old.items ++ added)
             × RunsOver L.carries L.failed (session_of self.old.world self.old.is_lost) self.old.link
             (map event_of (events_run result events.now)) (map run_record_of added)
-            (session_of self.new.world self.new.is_lost) self.new.link }
+            (session_of self.new.world self.new.is_lost) self.new.link
+            × RunsEach (RunsOneOver L.carries L.failed) (session_of self.old.world self.old.is_lost, self.old.link)
+            (events_run result events.now) added (session_of self.new.world self.new.is_lost, self.new.link) }
         ensures err { IfErr result (λ k. k < length events.now) }
         ensures full { OnErr result (vec_capacity records.old < vec_len records.old
             + calls_not_over self.old.world + 2 * length events.now) }
@@ -58,7 +60,9 @@ impl<T: Tables, L: Link + Drop> SessionOf<T, L> {
             + calls_not_over self.old.world + 2 }
         ensures ran { IsTrue result → (added : List (RecordValue T.Heap)) × (records.new.items ≡ records.old.items ++ added)
             × RecordedOver L.carries L.failed (session_of self.old.world self.old.is_lost) self.old.link
-            (event_of event.now ∷ []) (map run_record_of added) (session_of self.new.world self.new.is_lost) self.new.link }
+            (event_of event.now ∷ []) (map run_record_of added) (session_of self.new.world self.new.is_lost) self.new.link
+            × RunsOneOver L.carries L.failed (session_of self.old.world self.old.is_lost, self.old.link) event.now added
+            (session_of self.new.world self.new.is_lost, self.new.link) }
         ensures room { IsTrue result →
             vec_len records.new + calls_not_over self.new.world + vec_capacity records.old
             ≤ vec_len records.old + calls_not_over self.old.world + 2 + vec_capacity records.new }

@@ -8,12 +8,12 @@ use Rattle.fw_world.proofs.OverLinks.{room_for_all}
 use Rattle.fw_world.proofs.runs.run.Goals as goal
 
 pub loop-k-init : goal.loop-k-init
-loop-k-init g c = (none_ran c.args.world.now c.args.events.now c.args.records.now.items, omega (arith))
+loop-k-init g c = (none_ran c.args.world.now.sides c.args.events.now c.args.records.now.items, omega (arith))
 
 pub loop-k-preserved : goal.loop-k-preserved
 loop-k-preserved g c = (
-  one_more c.args.world.now c.args.events.now c.args.records.now.items c.loop-k.world c.loop-k.records.items c.loop-k.k
-      (Mount 0 0 M15) c.run_one.new.world c.run_one.new.records.items c.loop-k-test.true c.loop-k.invariant.0
+  one_more c.args.world.now.sides c.args.events.now c.args.records.now.items c.loop-k.world.sides c.loop-k.records.items c.loop-k.k
+      (Mount 0 0 M15) c.run_one.new.world.sides c.run_one.new.records.items c.loop-k-test.true c.loop-k.invariant.0
       (c.run_one.ensures.ran c.if-not-run_one.false),
   omega (arith, c.loop-k.invariant.1, c.run_one.ensures.room c.if-not-run_one.false),
 )
@@ -21,13 +21,13 @@ loop-k-preserved g c = (
 pub returns-then-not-run_one-clause-ran : goal.returns-then-not-run_one-clause-ran
 returns-then-not-run_one-clause-ran g c =
     let same = c.run_one.ensures.not_run c.if-not-run_one.true in
-    comes_as_before c.args.world.now c.lemma_protocol.ensures.sound
-    (take c.loop-k.k c.args.events.now) c.args.records.now.items c.loop-k.world c.run_one.new.world c.loop-k.records.items c.run_one.new.records.items c.loop-k.invariant.0 same.0 same.1
+    comes_as_before c.args.world.now.sides c.lemma_protocol.ensures.sound
+    (take c.loop-k.k c.args.events.now) c.args.records.now.items c.loop-k.world.sides c.run_one.new.world.sides c.loop-k.records.items c.run_one.new.records.items c.loop-k.invariant.0 same.0 same.1
 
 pub returns-clause-ran : goal.returns-clause-ran
 returns-clause-ran g c =
-    comes_to c.args.world.now c.lemma_protocol.ensures.sound c.args.events.now c.args.records.now.items c.loop-k.world c.loop-k.records.items
-    (all_ran c.args.world.now c.args.events.now c.loop-k.k c.loop-k-test.false c.args.records.now.items c.loop-k.world c.loop-k.records.items c.loop-k.invariant.0)
+    comes_to c.args.world.now.sides c.lemma_protocol.ensures.sound c.args.events.now c.args.records.now.items c.loop-k.world.sides c.loop-k.records.items
+    (all_ran c.args.world.now.sides c.args.events.now c.loop-k.k c.loop-k-test.false c.args.records.now.items c.loop-k.world.sides c.loop-k.records.items c.loop-k.invariant.0)
 
 pub returns-then-not-run_one-clause-full : goal.returns-then-not-run_one-clause-full
 returns-then-not-run_one-clause-full g c = omega
@@ -36,7 +36,7 @@ returns-then-not-run_one-clause-full g c = omega
 pub returns-then-not-run_one-clause-room : goal.returns-then-not-run_one-clause-room
 returns-then-not-run_one-clause-room g c =
     let full : vec_capacity c.args.records.now < vec_len c.args.records.now
-    + calls_not_over c.args.world.now + 2 * length c.args.events.now =
+    + calls_not_over c.args.world.now.sides + 2 * length c.args.events.now =
     omega (arith, c.loop-k.invariant.1, c.loop-k-test.true, c.run_one.ensures.full c.if-not-run_one.true) in
-    room_for_all c.args.world.now c.lemma_protocol.ensures.sound (vec_len c.args.records.now)
+    room_for_all c.args.world.now.sides c.lemma_protocol.ensures.sound (vec_len c.args.records.now)
     (vec_capacity c.args.records.now) c.loop-k.k (length c.args.events.now) c.loop-k-test.true full

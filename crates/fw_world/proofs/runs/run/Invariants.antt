@@ -7,6 +7,6 @@ use Rattle.fw_world.proofs.runs.run.Given as goal
 -- The first k events ran, and used room for two records each, beside that of the calls that waited.
 abbrev pub invariant-loop-k : goal.invariant-loop-k
 invariant-loop-k g l =
-    RanSo l.fn.world (take l.k l.events) l.fn.records.items l.world l.records.items
-    × (vec_len l.records + calls_not_over l.world + vec_capacity l.fn.records
-    ≤ vec_len l.fn.records + calls_not_over l.fn.world + 2 * l.k + vec_capacity l.records)
+    RanSo l.fn.world.sides (take l.k l.events) l.fn.records.items l.world.sides l.records.items
+    × (vec_len l.records + calls_not_over l.world.sides + vec_capacity l.fn.records
+    ≤ vec_len l.fn.records + calls_not_over l.fn.world.sides + 2 * l.k + vec_capacity l.records)

@@ -2,7 +2,8 @@ use Rattle.std.proofs.Common.{◌+◌, ◌≤◌, sym, ap, length, ◌∙◌, ar
 use Rattle.fuse_spec.specs.World.Worlds.{World}
 use Rattle.std.specs.Vec.{vec_len, vec_capacity}
 use Rattle.fw_world.specs.Values.{event_of, outcome_of}
-use Rattle.fw_world.proofs.OverLinks.{adds_outcome, adds_refused, one_more_at_most}
+use Rattle.fw_world.specs.OverLinks.{session_of}
+use Rattle.fw_world.proofs.OverLinks.{adds_outcome, adds_refused, adds_run, one_more_at_most}
 use Rattle.fw_world.proofs.Recording.{made_room, wanted_room}
 use Rattle.fw_world.proofs.session.SessionOf.run_one.Goals as goal
 
@@ -25,14 +26,16 @@ collect_all-requires g c =
 pub returns-in-Ok-clause-ran : goal.returns-in-Ok-clause-ran
 returns-in-Ok-clause-ran g c ran =
     let all = c.collect_all.ensures.records in
-    adds_outcome g.L.Link.carries g.L.Link.failed c.args.self.now.world c.step.new.self.world c.args.self.now.is_lost c.step.new.self.is_lost c.args.self.now.link c.step.new.self.link c.args.event.now c.in-Ok.outcome c.in-Ok.ensures.accepted c.in-Ok.ensures.happens c.in-Ok.ensures.sent
-    c.in-Ok.ensures.not_failed c.in-Ok.ensures.lost c.collect_all.new.world c.collect_all.ensures.world c.args.records.now.items c.reserve.new.self.items c.push_reserved.new.self.items c.add_loss.new.records.items c.collect_all.new.records.items all.0 c.reserve.ensures.items c.push_reserved.ensures.items c.add_loss.ensures.items all.1 all.2
+    adds_run g.L.Link.carries g.L.Link.failed (session_of c.args.self.now.world c.args.self.now.is_lost) c.args.self.now.link c.lemma_protocol.ensures.sound c.args.event.now c.args.records.now.items (session_of c.collect_all.new.world c.step.new.self.is_lost) c.step.new.self.link c.collect_all.new.records.items
+    (adds_outcome g.L.Link.carries g.L.Link.failed c.args.self.now.world c.step.new.self.world c.args.self.now.is_lost c.step.new.self.is_lost c.args.self.now.link c.step.new.self.link c.args.event.now c.in-Ok.outcome c.in-Ok.ensures.accepted c.in-Ok.ensures.happens c.in-Ok.ensures.sent
+    c.in-Ok.ensures.not_failed c.in-Ok.ensures.lost c.in-Ok.ensures.shown_after c.collect_all.new.world c.collect_all.ensures.world c.args.records.now.items c.reserve.new.self.items c.push_reserved.new.self.items c.add_loss.new.records.items c.collect_all.new.records.items all.0 c.reserve.ensures.items c.push_reserved.ensures.items c.add_loss.ensures.items all.1 all.2)
 
 pub returns-in-Err-clause-ran : goal.returns-in-Err-clause-ran
 returns-in-Err-clause-ran g c ran =
     let same = c.in-Err.ensures.err in
-    adds_refused g.L.Link.carries g.L.Link.failed c.args.self.now.world c.step.new.self.world c.args.self.now.is_lost c.step.new.self.is_lost c.args.self.now.link c.step.new.self.link c.args.event.now c.in-Err.refusal (λ gone. let e = c.in-Err.ensures.too_late gone in cc (e)) c.in-Err.ensures.refusal
-    same.0 same.2 same.1 c.args.records.now.items c.reserve.new.self.items c.push_reserved-in-Err.new.self.items c.reserve.ensures.items c.push_reserved-in-Err.ensures.items
+    adds_run g.L.Link.carries g.L.Link.failed (session_of c.args.self.now.world c.args.self.now.is_lost) c.args.self.now.link c.lemma_protocol.ensures.sound c.args.event.now c.args.records.now.items (session_of c.step.new.self.world c.step.new.self.is_lost) c.step.new.self.link c.push_reserved-in-Err.new.self.items
+    (adds_refused g.L.Link.carries g.L.Link.failed c.args.self.now.world c.step.new.self.world c.args.self.now.is_lost c.step.new.self.is_lost c.args.self.now.link c.step.new.self.link c.args.event.now c.in-Err.refusal (λ gone. let e = c.in-Err.ensures.too_late gone in cc (e)) c.in-Err.ensures.refusal
+    same.0 same.2 same.1 c.args.records.now.items c.reserve.new.self.items c.push_reserved-in-Err.new.self.items c.reserve.ensures.items c.push_reserved-in-Err.ensures.items)
 
 pub returns-in-Ok-clause-room : goal.returns-in-Ok-clause-room
 returns-in-Ok-clause-room g c ran =
