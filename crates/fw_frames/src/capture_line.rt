@@ -4,6 +4,7 @@ ghost use Rattle.std.specs.Prelude.{IfOk};
 ghost use Rattle.fw_frames.specs.Captures.{IsCaptureLine};
 
 use crate::hex_text::is_hex;
+use thiserror::Error;
 
 /// A line of a capture: `>` and a request, or `<` and a reply, each as one word of hex after a space.
 #[derive(Clone, Copy)]
@@ -23,13 +24,16 @@ pub(crate) enum Direction {
 }
 
 /// What is wrong with a line of a capture.
-#[derive(Clone, Copy)]
+#[derive(Clone, Copy, Debug, Drop, Error)]
 pub(crate) enum CaptureFault {
     /// The line begins with neither `>` nor `<`.
+    #[error("unknown direction")]
     UnknownDirection,
     /// No space and word follow.
+    #[error("wrong words")]
     WrongWords,
     /// What follows is not one or more pairs of lower-case hex digits.
+    #[error("bad hex")]
     BadHex,
 }
 

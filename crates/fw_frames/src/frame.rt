@@ -4,6 +4,7 @@ ghost use Rattle.std.specs.Prelude.{◌≡◌, ◌≢◌, ◌⊎◌, ◌++◌, �
 ghost use Rattle.std.specs.Prelude.{if◌then◌else◌};
 ghost use Rattle.std.specs.Io.KnownBytes.{Appends};
 ghost use Rattle.fk_wire.specs.Requests.{request_content, request_message};
+ghost use Rattle.fw_frames.specs.Endings.{EndsFrame};
 ghost use Rattle.fw_frames.specs.Frames.{PrintsFrame, fault_text, request_head, request_text};
 ghost use Rattle.fw_frames.specs.HexTexts.{SpellsHex};
 ghost use Rattle.fw_frames.specs.Stops.{frame_status_of};
@@ -120,11 +121,7 @@ pub fn run_frame<A: Allocator, W: Write, F: Write>(
     out: &mut W,
     faults: &mut F,
 ) -> u8
-    ensures statuses { Contains (0 ∷ 1 ∷ 3 ∷ 5 ∷ []) result }
-    ensures printed { result ≡ 0 → (frame : List ℕ) × SpellsHex text.now frame
-        × PrintsFrame words frame (W.contents out.old) (W.contents out.new) }
-    ensures bad_hex { result ≡ 1 → (frame : List ℕ) → IsBytes frame → ¬ (SpellsHex text.now frame) }
-    ensures silent { (result ≡ 1) ⊎ (result ≡ 3) → out.new ≡ out.old }
+    ensures { EndsFrame W.contents words text.now out.old out.new result }
 {
     match run(alloc, text, words, out) {
         Ok(()) => 0,

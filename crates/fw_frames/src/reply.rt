@@ -5,6 +5,7 @@ ghost use Rattle.std.specs.Io.KnownBytes.{Appends};
 ghost use Rattle.fk_wire.specs.Opcodes.{name_of};
 ghost use Rattle.fk_wire.specs.Replies.{reply_content, reply_message};
 ghost use Rattle.fk_wire.specs.declared.opcode.Opcode.{Opcode};
+ghost use Rattle.fw_frames.specs.Endings.{EndsReply};
 ghost use Rattle.fw_frames.specs.Frames.{PrintsReply, reply_head, reply_text};
 ghost use Rattle.fw_frames.specs.HexTexts.{SpellsHex};
 ghost use Rattle.fw_frames.specs.Stops.{frame_status_of};
@@ -103,12 +104,7 @@ pub fn run_reply<A: Allocator, W: Write, F: Write>(
     out: &mut W,
     faults: &mut F,
 ) -> u8
-    ensures statuses { Contains (0 ∷ 1 ∷ 2 ∷ 3 ∷ 5 ∷ []) result }
-    ensures printed { result ≡ 0 → (o : Opcode) × (name_of o ≡ name.now) × (frame : List ℕ) × SpellsHex text.now frame
-        × PrintsReply o frame (W.contents out.old) (W.contents out.new) }
-    ensures bad_hex { result ≡ 1 → (frame : List ℕ) → IsBytes frame → ¬ (SpellsHex text.now frame) }
-    ensures unknown { result ≡ 2 → (o : Opcode) → name_of o ≢ name.now }
-    ensures silent { (result ≡ 1) ⊎ (result ≡ 2) ⊎ (result ≡ 3) → out.new ≡ out.old }
+    ensures { EndsReply W.contents name.now text.now out.old out.new result }
 {
     let Some(opcode) = opcode_of_name(name) else {
         return Stop::UnknownOpcode { name }.report(faults);

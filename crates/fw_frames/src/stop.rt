@@ -1,55 +1,27 @@
 //! Why a command ends early: its line on standard error, and its exit status.
 
-ghost use Rattle.std.specs.Prelude.{◌≡◌, Some};
-ghost use Rattle.fw_frames.specs.Stops.{capture_fault_words, frame_status_of, frame_stop_line};
+ghost use Rattle.std.specs.Prelude.{◌≡◌};
+ghost use Rattle.fw_frames.specs.Stops.{frame_status_of};
 
 use crate::capture_line::CaptureFault;
-use std::fmt;
 use std::io::Write;
+use thiserror::Error;
 
 /// Why a command ends early.
-#[derive(Clone, Copy)]
+#[derive(Clone, Copy, Debug, Drop, Error)]
 pub(crate) enum Stop<'a> {
+    #[error("cannot read {name}")]
     CannotRead { name: &'a str },
+    #[error("line {number}: {fault}")]
     BadLine { number: u64, fault: CaptureFault },
+    #[error("bad hex")]
     BadHex,
+    #[error("unknown opcode {name}")]
     UnknownOpcode { name: &'a str },
+    #[error("no memory")]
     NoMemory,
+    #[error("output refused")]
     OutputRefused,
-}
-
-/// A line's fault, in words.
-fn words_of_fault(fault: CaptureFault) -> &'static str
-    ensures { result.now ≡ capture_fault_words fault }
-{
-    match fault {
-        CaptureFault::UnknownDirection => "unknown direction",
-        CaptureFault::WrongWords => "wrong words",
-        CaptureFault::BadHex => "bad hex",
-    }
-}
-
-impl fmt::Display for CaptureFault {
-    ghost output = { λ fault. Some (capture_fault_words fault) };
-
-    fn fmt<W: fmt::Write>(&self, f: &mut fmt::Formatter<W>) -> fmt::Result {
-        write!(f, "{}", words_of_fault(*self))
-    }
-}
-
-impl fmt::Display for Stop<'_> {
-    ghost output = { λ stop. Some (frame_stop_line stop) };
-
-    fn fmt<W: fmt::Write>(&self, f: &mut fmt::Formatter<W>) -> fmt::Result {
-        match *self {
-            Stop::CannotRead { name } => write!(f, "cannot read {name}"),
-            Stop::BadLine { number, fault } => write!(f, "line {number}: {fault}"),
-            Stop::BadHex => write!(f, "bad hex"),
-            Stop::UnknownOpcode { name } => write!(f, "unknown opcode {name}"),
-            Stop::NoMemory => write!(f, "no memory"),
-            Stop::OutputRefused => write!(f, "output refused"),
-        }
-    }
 }
 
 impl Stop<'_> {

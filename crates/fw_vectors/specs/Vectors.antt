@@ -1,6 +1,6 @@
 -- The lines of the vectors: what was read, and the codec's verdict on it.
 use Rattle.std.specs.Prelude.{◌≡◌, ◌⊎◌, ◌++◌, ℕ, ℤ, List, [], ◌∷◌, Option, codes, decimal, flat_map}
-use Rattle.std.specs.Prelude.{if◌then◌else◌, nat_lt, length}
+use Rattle.std.specs.Prelude.{Contains, if◌then◌else◌, nat_lt, length}
 use Rattle.std.specs.Fmt.{signed_decimal}
 use Rattle.std.specs.Io.KnownBytes.{Appends}
 use Rattle.hex.specs.Hex.{encode_lower}
@@ -94,3 +94,10 @@ AreVectorLines (line ∷ lines) = IsVectorLine line × AreVectorLines lines
 -- the writer got lines of vectors alone
 abbrev pub PrintsVectors : (old new : Option (List ℕ)) → Type 0
 PrintsVectors old new = (lines : List (List ℕ)) × AreVectorLines lines × Appends old new (flat_map (λ line. line) lines)
+
+-- What becomes of an output, of which `out` says what it holds, where the vectors are printed, by the exit status: 0, 3
+-- where memory runs out, 5 where the output refuses.
+pub record EndsVectors {W : Type 0} (out : W → Option (List ℕ)) (old new : W) (status : ℕ) : Type 0 where
+  pub statuses : Contains (0 ∷ 3 ∷ 5 ∷ []) status
+  pub printed : status ≡ 0 → PrintsVectors (out old) (out new)
+  pub silent : status ≡ 3 → new ≡ old

@@ -2,7 +2,7 @@
 
 ghost use Rattle.std.specs.Prelude.{◌≡◌, ◌∷◌, [], ℕ, List, Contains, OnOk};
 ghost use Rattle.std.specs.Io.KnownBytes.{Appends};
-ghost use Rattle.fw_vectors.specs.Vectors.{IsVectorLine, PrintsVectors};
+ghost use Rattle.fw_vectors.specs.Vectors.{EndsVectors, IsVectorLine, PrintsVectors};
 
 use crate::frame_vector::{Direction, FrameVector, VectorList};
 use crate::replies::add_replies;
@@ -62,9 +62,7 @@ pub fn print_vectors<A: Allocator + Copy, W: Write, F: Write>(
     out: &mut W,
     faults: &mut F,
 ) -> u8
-    ensures statuses { Contains (0 ∷ 3 ∷ 5 ∷ []) result }
-    ensures printed { result ≡ 0 → PrintsVectors (W.contents out.old) (W.contents out.new) }
-    ensures silent { result ≡ 3 → out.new ≡ out.old }
+    ensures { EndsVectors W.contents out.old out.new result }
 {
     let Ok(list) = make(alloc) else {
         let _ = writeln!(faults, "no memory");
