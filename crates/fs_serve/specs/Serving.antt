@@ -2,9 +2,10 @@
 use Rattle.std.specs.Prelude.{◌≡◌, ◌≢◌, ◌⊎◌, ℕ, ℤ, negsuc, Bool, true, false, List, [], ◌∷◌, ◌++◌, drop, Some, None}
 use Rattle.fuse_spec.specs.Kernel.Messages.{Request}
 use Rattle.fk_wire.specs.Requests.{RequestContent, interrupt}
-use Rattle.fuse_spec.specs.Values.Maps.{remove}
+use Rattle.fuse_spec.specs.Values.Maps.{get, remove}
 use Rattle.fuse_spec.specs.Server.Server.{Server}
 use Rattle.fuse_spec.specs.Server.Refusals.{is_server_past_end}
+use Rattle.fuse_spec.specs.Server.Memory.{performing_takes_memory}
 use Rattle.fuse_spec.specs.Server.Taking.{taking}
 use Rattle.fuse_spec.specs.World.Worlds.{Sent}
 use Rattle.fuse_spec.specs.declared.Taken.TheVariants.{Held}
@@ -12,6 +13,7 @@ use Rattle.fuse_spec.specs.declared.Refusal.{Refusal}
 use Rattle.fuse_spec.specs.declared.Refusal.TheVariants.{NoMemory}
 use Rattle.fuse_frames.specs.RequestTies.{SaysRequest}
 use Rattle.fs_server.specs.Effects.{CanTake, PerformsHeld, RefusesFrame, RefusesHeld, TakingNeedsMemory, copy_of, request_fault}
+use Rattle.fs_server.specs.Steps.{CanPerform}
 use Rattle.fs_server.specs.declared.server.ServerFault.{ServerFault}
 use Rattle.fs_server.specs.declared.server.ServerFault.TheVariants.{Memory}
 use Rattle.fuse_device.specs.Transfers.{Transfer, received, stopped, ended_in}
@@ -43,14 +45,19 @@ abbrev pub is_interrupt : RequestContent → Bool
 is_interrupt (interrupt unique) = true
 is_interrupt content = false
 
--- A held request is performed, and its reply sent; after an abort there is none. One for which memory or a number runs
--- out is held no longer, and its reply is an error.
+-- Memory runs out for a held request that can be performed, and takes memory.
+abbrev pub RunsOutOfMemory : Server → (unique : ℕ) → Refusal → Type 0
+RunsOutOfMemory s unique refusal = (refusal ≡ NoMemory) × CanPerform s unique
+    × (performing_takes_memory s (get s.held unique) ≡ true)
+
+-- A held request is performed, and its reply sent; after an abort there is none. One that cannot be performed, or for
+-- which memory runs out that it takes, is held no longer, and its reply is an error.
 pub data ServesHeld (old : Server) (unique : ℕ) : List Transfer → Server → Type 0 where
   replied : (errno : ℕ) (copy : Sent) (did : Server) → PerformsHeld old unique errno (Some copy) did
       → (log : List Transfer) (new : Server) → Delivers copy did log new → ServesHeld old unique log new
   unreplied : (errno : ℕ) (new : Server) → PerformsHeld old unique errno None new → ServesHeld old unique [] new
-  dropped : (refusal : Refusal) → RefusesHeld old unique refusal ⊎ (refusal ≡ NoMemory) → (log : List Transfer)
-      → SendsError unique (error_for refusal) log
+  dropped : (refusal : Refusal) → RefusesHeld old unique refusal ⊎ RunsOutOfMemory old unique refusal
+      → (log : List Transfer) → SendsError unique (error_for refusal) log
       → ServesHeld old unique log (record old { held = remove old.held unique })
 
 -- One frame is served.

@@ -1,4 +1,4 @@
-use Rattle.std.proofs.Common.{Option, [], refl, sym, subst, ap, ◌∙◌}
+use Rattle.std.proofs.Common.{Option, [], inl, inr, refl, sym, subst, ap, ◌∙◌}
 use Rattle.fuse_spec.specs.Values.Maps.{remove}
 use Rattle.fuse_spec.specs.Server.Server.{Server}
 use Rattle.fuse_spec.specs.World.Worlds.{Sent}
@@ -24,6 +24,10 @@ returns g c =
       log,
       logs,
       subst (λ (s : Server). ServesHeld c.args.server.now c.args.unique log s) (sym same)
-          (dropped c.in-Err.refusal c.in-Err.ensures.refusal log sends),
+          (dropped c.in-Err.refusal (elim c.in-Err.ensures.refusal [
+            | inl refuses ↦ inl refuses
+            | inr none_left ↦
+                let both = c.in-Err.ensures.memory none_left in inr (none_left, both.0, both.1)
+          ]) log sends),
       ends,
     )
