@@ -1,5 +1,5 @@
 -- How frames that are served follow one another, and what a taken frame results in.
-use Rattle.std.proofs.Common.{◌≡◌, ℕ, List, [], ◌∷◌, ◌++◌, ◌-◌, drop, length, min, take, Option, Some, None, refl, ap, append_assoc, sym, subst, take-append-drop, ◌∙◌}
+use Rattle.std.proofs.Common.{◌≡◌, ℕ, List, [], ◌∷◌, ◌++◌, ◌+◌, ◌-◌, drop, length, min, take, Option, Some, None, refl, ap, append_assoc, sym, subst, take-append-drop, length-append, arith, ◌∙◌}
 use Rattle.std.proofs.lemmas.List.{take_rest}
 use Rattle.fuse_spec.specs.Kernel.Messages.{WireReply}
 use Rattle.fuse_spec.specs.Server.Server.{Server}
@@ -9,9 +9,13 @@ use Rattle.fs_server.specs.declared.server.Taken.{Taken}
 use Rattle.fs_server.specs.Effects.{TakesFrame, copy_of}
 use Rattle.fuse_device.specs.Transfers.{Transfer, received, sent, unsent, stopped, ended_in}
 use Rattle.fuse_device.specs.declared.device.DeviceEnd.{DeviceEnd}
-use Rattle.fs_serve.specs.Sending.{Delivers, GoesOver}
+use Rattle.fuse_device.specs.Listed.{frames_received, frames_received-append}
+use Rattle.fuse_spec.specs.declared.Minor.{Minor}
+use Rattle.fs_server.specs.declared.server.ServerFault.{ServerFault}
+use Rattle.fs_serve.specs.Sending.{Delivers, GoesOver, SendsBytes, SendsFault, at_end, settled, unsettled, with_result}
+use Rattle.fs_serve.specs.Sending.{replied as fault_replied, unreplied as fault_unreplied}
 use Rattle.fs_serve.specs.LongBatches.{part_of}
-use Rattle.fs_serve.specs.Serving.{TakesRequest, ServesFrame, ServesHeld, ServesNext, ServesPairs, ServesBatch, Serves, done_at_once, replied_at_once, performed, next, more_pairs}
+use Rattle.fs_serve.specs.Serving.{IsToTheEnd, TakesRequest, ServesFrame, ServesHeld, ServesNext, ServesPairs, ServesBatch, Serves, batch, done_at_once, dropped, more_pairs, next, no_pairs, none, one, performed, refused, replied, replied_at_once, uninterrupted, unreplied, untaken}
 
 reply_none : (number unique : ℕ) (reply : Option WireReply) → None ≡ copy_of number unique reply → reply ≡ None
 reply_none number unique None same = refl
@@ -37,25 +41,97 @@ module _ {A : Type 0} (old taken : Server) (frame : List ℕ) (word : Taken A) (
       (subst (λ (u : ℕ). ServesHeld taken u log new) (sym t.under) serves)
 
 pub ended_append : (h k : List Transfer) → ended_in h ≡ None → ended_in (h ++ k) ≡ ended_in k
-ended_append [] k none = refl
-ended_append (received frame ∷ h) k none = ended_append h k none
-ended_append (sent frame result ∷ h) k none = ended_append h k none
-ended_append (unsent frame end ∷ h) k none = let no : ◌≡◌ {A = Option DeviceEnd} (Some end) None = none in cc
-ended_append (stopped end ∷ h) k none = let no : ◌≡◌ {A = Option DeviceEnd} (Some end) None = none in cc
+ended_append [] k going = refl
+ended_append (received frame ∷ h) k going = ended_append h k going
+ended_append (sent frame result ∷ h) k going = ended_append h k going
+ended_append (unsent frame end ∷ h) k going = let no : ◌≡◌ {A = Option DeviceEnd} (Some end) None = going in cc
+ended_append (stopped end ∷ h) k going = let no : ◌≡◌ {A = Option DeviceEnd} (Some end) None = going in cc
 
--- one more frame after those that are served
-pub serves_more : {D : Type 0} (logs : D → D → List Transfer → Type 0)
-    → ((first mid last : D) (h k : List Transfer) → logs first mid h → logs mid last k → logs first last (h ++ k))
-    → (first mid last : D) (old served new : Server) (end : Option DeviceEnd)
-    → GoesOver logs first mid None (λ log. Serves old log served)
-    → GoesOver logs mid last end (λ log. ServesNext served log new)
-    → GoesOver logs first last end (λ log. Serves old log new)
-serves_more logs goes_on first mid last old served new end (h, before, serves, no_end) (k, over, follows, ends) = (
-  h ++ k,
-  goes_on first mid last h k before over,
-  next h served serves (sym no_end) k new follows,
-  ends ∙ sym (ended_append h k (sym no_end)),
-)
+-- ---- how many frames are received
+
+sends_no_frame : (bytes : List ℕ) (log : List Transfer) → SendsBytes bytes log → frames_received log ≡ []
+sends_no_frame bytes log (with_result result) = refl
+sends_no_frame bytes log (at_end end) = refl
+
+delivers_no_frame : (copy : Sent) (old : Server) (log : List Transfer) (new : Server) → Delivers copy old log new
+    → frames_received log ≡ []
+delivers_no_frame copy old log new (settled opcode bytes frame result new' is) = refl
+delivers_no_frame copy old log new (unsettled opcode bytes frame end) = refl
+
+held_no_frame : (old : Server) (unique : ℕ) (log : List Transfer) (new : Server) → ServesHeld old unique log new
+    → frames_received log ≡ []
+held_no_frame old unique log new (replied errno copy did performs log' new' delivers) =
+    delivers_no_frame copy did log new delivers
+held_no_frame old unique log new (unreplied errno new' performs) = refl
+held_no_frame old unique log new (dropped refusal refuses log' sends) = sends_no_frame sends.bytes log sends.sends
+
+fault_no_frame : (minor : Minor) (frame : List ℕ) (fault : ServerFault) (log : List Transfer)
+    → SendsFault minor frame fault log → frames_received log ≡ []
+fault_no_frame minor frame fault log (fault_replied bytes reply log' sends) = sends_no_frame bytes log sends
+fault_no_frame minor frame fault log (fault_unreplied quiet) = refl
+
+-- none while one is served
+frame_no_frame : (old : Server) (frame : List ℕ) (log : List Transfer) (new : Server) → ServesFrame old frame log new
+    → frames_received log ≡ []
+frame_no_frame old frame log new (done_at_once request new' took silent not_held) = refl
+frame_no_frame old frame log new (replied_at_once request taken took copy is log' new' delivers) =
+    delivers_no_frame copy taken log new delivers
+frame_no_frame old frame log new (performed request taken took held log' new' serves) =
+    held_no_frame taken request.unique log new serves
+frame_no_frame old frame log new (untaken can wants not_interrupt log' sends) =
+    sends_no_frame sends.bytes log sends.sends
+frame_no_frame old frame log new (uninterrupted can wants is_interrupt) = refl
+frame_no_frame old frame log new (refused fault refuses not_memory low log' sends) =
+    fault_no_frame old.minor frame fault log sends
+
+pairs_no_frame : (bytes : List ℕ) (old : Server) (pairs : List ℕ) (log : List Transfer) (new : Server)
+    → ServesPairs bytes old pairs log new → frames_received log ≡ []
+pairs_no_frame bytes old pairs log new no_pairs = refl
+pairs_no_frame bytes old pairs log new (more_pairs served before mid serves going left split log' new' more) =
+    frames_received-append before log'
+    ∙ ap (λ (l : List (List ℕ)). l ++ frames_received log') (pairs_no_frame bytes old served before mid serves)
+    ∙ frame_no_frame mid _ log' new more
+
+-- one each time, where the device did not come to its end
+next_received : (old : Server) (log : List Transfer) (new : Server) → ServesNext old log new → ended_in log ≡ None
+    → length (frames_received log) ≡ 1
+next_received old log new (one bytes frame read log' new' serves) going =
+    ap (λ (l : List (List ℕ)). length (bytes ∷ l)) (frame_no_frame old frame log' new serves)
+next_received old log new (batch bytes long log' new' serves) going =
+    ap (λ (l : List (List ℕ)). length (bytes ∷ l)) (pairs_no_frame bytes old serves.pairs log' new serves.serves)
+next_received old log new (none end) going = let no : ◌≡◌ {A = Option DeviceEnd} (Some end) None = going in cc
+
+-- one more frame after those that are served, unless the device came to its end at it
+module _ {D : Type 0} (logs : D → D → List Transfer → Type 0)
+    (goes_on : (first mid last : D) (h k : List Transfer) → logs first mid h → logs mid last k → logs first last (h ++ k))
+    (first mid last : D) (old served new : Server) (count : ℕ)
+    (so_far : GoesOver logs first mid None (λ log. Serves old log served × (length (frames_received log) ≡ count))) where
+  pub serves_more : GoesOver logs mid last None (λ log. ServesNext served log new)
+      → GoesOver logs first last None (λ log. Serves old log new × (length (frames_received log) ≡ count + 1))
+  serves_more (k, over, follows, ends) =
+      let (h, before, so, no_end) = so_far in
+      let once = next_received served k new follows (sym ends) in
+      let all = ap length (frames_received-append h k) in
+      let sum = length-append (frames_received h) (frames_received k) in (
+        h ++ k,
+        goes_on first mid last h k before over,
+        (next h served so.0 (sym no_end) k new follows, let count_so = so.1 in omega (arith, all, sum, once, count_so)),
+        ends ∙ sym (ended_append h k (sym no_end)),
+      )
+
+  pub serves_to_the_end : (end : DeviceEnd) → GoesOver logs mid last (Some end) (λ log. ServesNext served log new)
+      → GoesOver logs first last (Some end) (λ log. Serves old log new × IsToTheEnd log)
+  serves_to_the_end end (k, over, follows, ends) =
+      let (h, before, so, no_end) = so_far in
+      let ended = ends ∙ sym (ended_append h k (sym no_end)) in (
+        h ++ k,
+        goes_on first mid last h k before over,
+        (
+          next h served so.0 (sym no_end) k new follows,
+          λ going. let no : ◌≡◌ {A = Option DeviceEnd} (Some end) None = ended ∙ going in cc,
+        ),
+        ended,
+      )
 
 -- one more frame of the pairs of a long BATCH_FORGET
 pub pairs_more : {D : Type 0} (logs : D → D → List Transfer → Type 0)
@@ -92,7 +168,7 @@ batch_ended logs first last bytes old new end pairs (log, over, serves, ends) = 
   record {
     pairs = pairs;
     serves = serves;
-    all = λ none. let no : ◌≡◌ {A = Option DeviceEnd} (Some end) None = ends ∙ none in cc;
+    all = λ going. let no : ◌≡◌ {A = Option DeviceEnd} (Some end) None = ends ∙ going in cc;
   },
   ends,
 )

@@ -20,7 +20,7 @@ use Rattle.fs_serve.specs.LongBatches.{IsLongBatch, first_pairs, part_of}
 use Rattle.fs_serve.specs.LongInits.{IsReadAs}
 use Rattle.fs_serve.specs.Sending.{SendsBytes}
 use Rattle.fs_serve.specs.NodePairs.{GivesPairsOnce}
-use Rattle.fs_serve.specs.Serving.{Serves}
+use Rattle.fs_serve.specs.Serving.{IsToTheEnd, Serves}
 
 -- How often the server counts a node: 0 where it holds none of this id. (libfuse, low-level: lookup)
 abbrev pub lookup_count : Server → ℕ → ℕ
@@ -92,9 +92,10 @@ pub data Follows (minor : Minor) (old : ℕ → ℕ) : List Transfer → (ℕ �
   end : (before : List Transfer) (mid : ℕ → ℕ) → Follows minor old before mid → (end : DeviceEnd)
       → Follows minor old (before ++ stopped end ∷ []) mid
 
--- All that went over a device is served so. Of a server that was just mounted the lookup counts follow it, and no pair
--- of nodeid and generation is given twice.
+-- All that went over a device is served so, until the device came to its end. Of a server that was just mounted the
+-- lookup counts follow it, and no pair of nodeid and generation is given twice.
 pub record IsServed (old : Server) (log : List Transfer) (new : Server) : Type 0 where
   pub serves : Serves old log new
+  pub to_the_end : IsToTheEnd log
   pub counts : IsFresh old → Follows old.minor (lookup_count old) log (lookup_count new)
   pub pairs : IsFresh old → GivesPairsOnce old

@@ -1,5 +1,5 @@
 -- How a server serves what comes over a device.
-use Rattle.std.specs.Prelude.{◌≡◌, ◌≢◌, ◌⊎◌, ℕ, ℤ, negsuc, Bool, true, false, List, [], ◌∷◌, ◌++◌, drop, Some, None}
+use Rattle.std.specs.Prelude.{◌≡◌, ◌≢◌, ◌⊎◌, ℕ, ◌-◌, ◌^◌, ℤ, negsuc, Bool, true, false, List, [], ◌∷◌, ◌++◌, drop, length, Some, None}
 use Rattle.fuse_spec.specs.Kernel.Messages.{Request}
 use Rattle.fk_wire.specs.Requests.{RequestContent, interrupt}
 use Rattle.fuse_spec.specs.Values.Maps.{get, remove}
@@ -17,6 +17,7 @@ use Rattle.fs_server.specs.Steps.{CanPerform}
 use Rattle.fs_server.specs.declared.server.ServerFault.{ServerFault}
 use Rattle.fs_server.specs.declared.server.ServerFault.TheVariants.{Memory}
 use Rattle.fuse_device.specs.Transfers.{Transfer, received, stopped, ended_in}
+use Rattle.fuse_device.specs.Listed.{frames_received}
 use Rattle.fuse_device.specs.declared.device.DeviceEnd.{DeviceEnd}
 use Rattle.fs_serve.specs.LongBatches.{IsLongBatch, first_pairs, part_of}
 use Rattle.fs_serve.specs.LongInits.{IsReadAs}
@@ -112,3 +113,7 @@ pub data Serves (old : Server) : List Transfer → Server → Type 0 where
   nothing : Serves old [] old
   next : (before : List Transfer) (mid : Server) → Serves old before mid → ended_in before ≡ None
       → (log : List Transfer) (new : Server) → ServesNext mid log new → Serves old (before ++ log) new
+
+-- It went on until the device came to its end, or 2^64 - 1 frames were received.
+abbrev pub IsToTheEnd : List Transfer → Type 0
+IsToTheEnd log = ended_in log ≡ None → length (frames_received log) ≡ 2 ^ 64 - 1

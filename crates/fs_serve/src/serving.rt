@@ -6,7 +6,7 @@ ghost use Rattle.fs_server.specs.declared.server.ServerFault.TheVariants.{Memory
 ghost use Rattle.fs_serve.specs.LookupCounts.{IsServed};
 ghost use Rattle.fs_serve.specs.Sending.{Delivers, GoesOver, SendsError, end_of};
 ghost use Rattle.fs_serve.specs.LongBatches.{IsLongBatch};
-ghost use Rattle.fs_serve.specs.Serving.{Serves, ServesBatch, ServesFrame, ServesHeld, ServesNext, error_for, is_interrupt};
+ghost use Rattle.fs_serve.specs.Serving.{IsToTheEnd, Serves, ServesBatch, ServesFrame, ServesHeld, ServesNext, error_for, is_interrupt};
 ghost use Rattle.fk_wire.specs.Requests.{request_content};
 
 use crate::batch::{PAIRS, is_long_batch, pairs_in, put_part};
@@ -57,7 +57,8 @@ fn serve_frames<S: NodeStore, D: Device>(
     device: &mut D,
     room: &mut [u8],
 ) -> Option<DeviceEnd>
-    ensures { GoesOver D.logs device.old device.new result (λ log. Serves server.old log server.new) }
+    ensures { GoesOver D.logs device.old device.new result
+        (λ log. Serves server.old log server.new × IsToTheEnd log) }
 {
     for _frame in 0..u64::MAX {
         if let Err(end) = serve_next(server, device, room) {

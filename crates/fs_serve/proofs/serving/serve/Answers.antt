@@ -4,12 +4,13 @@ use Rattle.fs_serve.proofs.serving.serve.Goals as goal
 
 pub returns-clause-served : goal.returns-clause-served
 returns-clause-served g c =
-    let (log, logs, serves, ends) = c.serve_frames.ensures in (
+    let (log, logs, both, ends) = c.serve_frames.ensures in (
       log,
       logs,
       record {
-        serves = serves;
-        counts = counts_follow c.args.server.now log c.serve_frames.new.server serves;
+        serves = both.0;
+        to_the_end = both.1;
+        counts = counts_follow c.args.server.now log c.serve_frames.new.server both.0;
         pairs = pairs_once c.args.server.now;
       },
       ends,
