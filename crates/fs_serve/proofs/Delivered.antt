@@ -18,16 +18,20 @@ use Rattle.fuse_theorem.proofs.Nodes.NodesSound.{left_none}
 use Rattle.fuse_theorem.proofs.Nodes.ServerSound.{result_sound}
 use Rattle.fuse_device.specs.Transfers.{Transfer, sent, unsent, ended_in}
 use Rattle.fuse_device.specs.declared.device.DeviceEnd.{DeviceEnd}
-use Rattle.fs_serve.specs.LookupCounts.{lookup_count, GivesLookups, reply_accepted, refused, cut_off}
+use Rattle.fs_serve.specs.LookupCounts.{GivesLookups, RepliesWith, cut_off, lookup_count, refused, reply_accepted}
 use Rattle.fs_serve.specs.Sending.{Delivers, IsSettled, settled as is_settled, unsettled}
 use Rattle.fk_wire.specs.declared.opcode.Opcode.{Opcode}
 use Rattle.fuse_frames.specs.ReplyTies.{IsReplyFrame}
+use Rattle.fuse_frames.specs.RequestTies.{SaysRequest, asked_opcode}
+use Rattle.fuse_spec.specs.Kernel.Messages.{Request}
 use Rattle.fs_serve.proofs.BetweenFrames.{IsBetween}
+use Rattle.fs_serve.proofs.ReplyKinds.{GoesFor, frame_for}
 
 -- After what was sent, the counts have risen by what was given, and the server is between frames again.
-pub record Delivered (minor : Minor) (counts : ℕ → ℕ) (log : List Transfer) (new : Server) : Type 0 where
+pub record Delivered (minor : Minor) (counts : ℕ → ℕ) (frame : List ℕ) (log : List Transfer) (new : Server)
+    : Type 0 where
   pub more : ℕ → ℕ
-  pub tells : GivesLookups log more
+  pub tells : GivesLookups frame log more
   pub balance : (id : ℕ) → lookup_count new id ≡ counts id + more id
   pub between : ended_in log ≡ None → IsBetween minor new
 
@@ -55,7 +59,9 @@ pub record SendsOne (minor : Minor) (counts : ℕ → ℕ) (copy : Sent) (s : Se
   pub entries : EntriesHeld s.nodes copy.wire
   pub counted : (id : ℕ) → lookup_count s id ≡ counts id + times_named id copy.wire
 
-module _ (minor : Minor) (counts : ℕ → ℕ) (copy : Sent) (s : Server) (sends : SendsOne minor counts copy s) where
+module _ (minor : Minor) (counts : ℕ → ℕ) (asked : List ℕ) (request : Request) (asks_it : SaysRequest asked request)
+    (copy : Sent) (s : Server) (sends : SendsOne minor counts copy s) (under : copy.unique ≡ request.unique)
+    (goes : GoesFor request.body copy.wire) where
   abbrev known : Copy
   known = record { unique = copy.unique; wire = copy.wire; first = sends.first }
 
@@ -125,11 +131,21 @@ module _ (minor : Minor) (counts : ℕ → ℕ) (copy : Sent) (s : Server) (send
 
   module _ (opcode : Opcode) (bytes : List ℕ)
       (frame : IsReplyFrame opcode bytes (record { unique = copy.unique; wire = copy.wire })) where
+    -- the copy's frame is one of a reply to the request
+    replies : RepliesWith asked bytes copy.wire
+    replies = record {
+      request = request;
+      says = asks_it;
+      framed = subst (λ (u : ℕ). IsReplyFrame (asked_opcode request.body) bytes
+          (record { unique = u; wire = copy.wire })) under
+          (frame_for opcode request.body copy.unique copy.wire bytes goes frame);
+    }
+
     by_result : (result : WriteResult)
-        → Delivered minor counts (sent bytes result ∷ []) (after_result without_it copy.wire result)
+        → Delivered minor counts asked (sent bytes result ∷ []) (after_result without_it copy.wire result)
     by_result Accepted = record {
       more = λ id. times_named id copy.wire;
-      tells = reply_accepted opcode copy.unique copy.wire bytes frame;
+      tells = reply_accepted copy.wire bytes replies;
       balance = sends.counted;
       between = λ none. between Accepted;
     }
@@ -147,23 +163,23 @@ module _ (minor : Minor) (counts : ℕ → ℕ) (copy : Sent) (s : Server) (send
     }
 
     by_settled : (result : WriteResult) (new : Server) → IsSettled s copy.number result new
-        → Delivered minor counts (sent bytes result ∷ []) new
+        → Delivered minor counts asked (sent bytes result ∷ []) new
     by_settled result new (inl settles) =
         let is : settles.copy ≡ known = some_same settles.copy known (sym settles.there ∙ there) in
-        subst (Delivered minor counts (sent bytes result ∷ []))
+        subst (Delivered minor counts asked (sent bytes result ∷ []))
         (sym (settles.after ∙ ap (λ (c : Copy). settled s copy.number c result) is)) (by_result result)
     by_settled result new (inr (refusal, absent, same)) =
         let no : ◌≡◌ {A = Option Copy} (Some known) None = sym there ∙ absent.absent in cc
 
-    by_end : (end : DeviceEnd) → Delivered minor counts (unsent bytes end ∷ []) s
+    by_end : (end : DeviceEnd) → Delivered minor counts asked (unsent bytes end ∷ []) s
     by_end end = record {
       more = λ id. times_named id copy.wire;
-      tells = cut_off opcode copy.unique copy.wire bytes frame end;
+      tells = cut_off copy.wire bytes replies end;
       balance = sends.counted;
       between = λ none. let no : ◌≡◌ {A = Option DeviceEnd} (Some end) None = none in cc;
     }
 
-  pub delivered : (log : List Transfer) (new : Server) → Delivers copy s log new → Delivered minor counts log new
+  pub delivered : (log : List Transfer) (new : Server) → Delivers copy s log new → Delivered minor counts asked log new
   delivered log new (is_settled opcode bytes frame result after settles) =
       by_settled opcode bytes frame result after settles
   delivered log new (unsettled opcode bytes frame end) = by_end opcode bytes frame end

@@ -2,7 +2,7 @@
 use Rattle.std.proofs.Common.{◌≡◌, ℕ, ◌+◌, Bool, false, cond, List, [], Option, Some, None, nat_eq, refl, ap, sym, subst, ◌∙◌, arith}
 use Rattle.fuse_spec.specs.declared.Minor.{Minor}
 use Rattle.fuse_spec.specs.Values.Maps.{Map, get, put, remove}
-use Rattle.fuse_spec.specs.Server.Server.{Server, Kept, Copy}
+use Rattle.fuse_spec.specs.Server.Server.{Copy, HeldRequest, Kept, Server}
 use Rattle.fuse_spec.specs.Server.Copies.{kept_after}
 use Rattle.fuse_spec.specs.Server.Performs.{PerformResult, performed, served}
 use Rattle.fuse_spec.specs.Claim.Counts.{times_named}
@@ -18,19 +18,28 @@ use Rattle.fs_server.specs.Effects.{PerformsHeld, first_copy}
 use Rattle.fuse_device.specs.Transfers.{Transfer}
 use Rattle.fs_serve.specs.LookupCounts.{lookup_count, error}
 use Rattle.fs_serve.specs.Serving.{ServesHeld, replied, unreplied, dropped, error_for}
+use Rattle.fuse_frames.specs.RequestTies.{SaysRequest}
+use Rattle.fuse_spec.specs.Kernel.Messages.{Request, RequestBody}
+use Rattle.fs_serve.proofs.ReplyKinds.{GoesFor, IsRepliedTo, served_goes}
 use Rattle.fs_serve.proofs.Delivered.{Delivered, SendsOne, alone_gone, delivered, some_same}
 
--- The server that holds one request alone, whose counts are these.
-pub record HoldsOne (minor : Minor) (counts : ℕ → ℕ) (unique : ℕ) (s : Server) : Type 0 where
+-- The server that holds this request alone, which has replies, and whose counts are these.
+pub record HoldsOne (minor : Minor) (counts : ℕ → ℕ) (request : Request) (s : Server) : Type 0 where
   pub sound : ServerSound s
-  pub alone : remove s.held unique ≡ []
+  pub alone : remove s.held request.unique ≡ []
+  pub body : (held : HeldRequest) → get s.held request.unique ≡ Some held → held.body ≡ request.body
+  pub has_reply : IsRepliedTo request.body
   pub kept : s.kept ≡ []
   pub copies : s.copies ≡ []
   pub live : s.aborted ≡ false
   pub for_minor : s.minor ≡ minor
   pub counted : (id : ℕ) → lookup_count s id ≡ counts id
 
-module _ (minor : Minor) (counts : ℕ → ℕ) (unique : ℕ) (s : Server) (holds : HoldsOne minor counts unique s) where
+module _ (minor : Minor) (counts : ℕ → ℕ) (asked : List ℕ) (request : Request) (asks_it : SaysRequest asked request)
+    (s : Server) (holds : HoldsOne minor counts request s) where
+  abbrev unique : ℕ
+  unique = request.unique
+
   -- the reply whose one copy is sent isn't kept any longer
   not_kept : (kept : Kept) (copy : Copy) → kept.first ≡ copy.first → copy.unique ≡ unique → (all : Map Kept)
       → all ≡ put [] unique kept → kept_after all copy (get all copy.unique) ≡ []
@@ -98,18 +107,29 @@ module _ (minor : Minor) (counts : ℕ → ℕ) (unique : ℕ) (s : Server) (hol
           ∙ ap (λ (n : ℕ). n + times_named id all.wire) (holds.counted id);
     }
 
+    -- its reply goes with the request
+    goes : GoesFor request.body all.wire
+    goes =
+        let same = holds.body performs.held performs.there in
+        subst (λ (b : RequestBody). GoesFor b all.wire) same
+        (served_goes performs.choice s unique performs.held (subst IsRepliedTo (sym same) holds.has_reply))
+
     -- there is a copy, and it is this
     copy_is : o ≡ Some first_sent
     copy_is = performs.copy_is ∙ ap (λ (b : Bool). first_copy b s.next_copy unique all.wire) holds.live
 
   -- The counts follow what is sent for it.
-  pub held_follows : (log : List Transfer) (new : Server) → ServesHeld s unique log new → Delivered minor counts log new
+  pub held_follows : (log : List Transfer) (new : Server) → ServesHeld s unique log new
+      → Delivered minor counts asked log new
   held_follows log new (replied errno copy did performs log' new' delivers) =
       let is = some_same copy (first_sent errno (Some copy) did performs) (copy_is errno (Some copy) did performs) in
-      delivered minor counts copy did
+      delivered minor counts asked request asks_it copy did
       (subst (SendsOne minor counts copy) (sym performs.server_is)
       (subst (λ (c : Sent). SendsOne minor counts c (all errno (Some copy) did performs).server) (sym is)
-      (sends errno (Some copy) did performs))) log new delivers
+      (sends errno (Some copy) did performs)))
+      (ap (λ (c : Sent). c.unique) is)
+      (subst (λ (c : Sent). GoesFor request.body c.wire) (sym is) (goes errno (Some copy) did performs))
+      log new delivers
   held_follows log new (unreplied errno new' performs) =
       let no : ◌≡◌ {A = Option Sent} None (Some (first_sent errno None new performs)) = copy_is errno None new performs in
       cc

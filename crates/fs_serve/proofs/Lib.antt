@@ -7,3 +7,4 @@ mod HeldCounts
 mod LookupCounts
 mod NodesLater
 mod PairsOnce
+mod ReplyKinds

@@ -32,6 +32,8 @@ use Rattle.fs_serve.proofs.BetweenFrames.{IsBetween, fresh_between}
 use Rattle.fs_serve.proofs.Delivered.{Delivered, SendsOne, alone_gone, delivered, some_same}
 use Rattle.fs_serve.proofs.Forgetting.{faultless, may_forget, within_still}
 use Rattle.fs_serve.proofs.HeldCounts.{HoldsOne, held_follows}
+use Rattle.fuse_spec.proofs.Tables.{get_put_here}
+use Rattle.fs_serve.proofs.ReplyKinds.{GoesFor, IsRepliedTo, asked_replied, init_replied, interrupt_replied, release_replied}
 use Rattle.fs_serve.proofs.Servings.{ended_append}
 
 -- The counts follow what is sent after a frame, and the server is between frames again.
@@ -92,7 +94,7 @@ module _ (minor : Minor) (old : Server) (is : IsBetween minor old) (bytes : List
         ∙ ap (λ (m : Map Kept). interrupting old unique original None (get m original)) is.kept
 
     -- without forgets, the counts follow what is delivered
-    of_delivered : gives ≡ [] → (log : List Transfer) (new : Server) → Delivered minor counts log new
+    of_delivered : gives ≡ [] → (log : List Transfer) (new : Server) → Delivered minor counts bytes log new
         → Follow minor counts bytes log new
     of_delivered quiet log new d = record {
       counts = record {
@@ -202,14 +204,21 @@ module _ (minor : Minor) (old : Server) (is : IsBetween minor old) (bytes : List
             let copy_is : copy ≡ eagain = some_same copy eagain (sent ∙ ap (copy_of old.next_copy unique)
             (reply_of (interrupt original) same ∙ ap (λ (t : TakeResult). t.reply) took)) in
             let after = after_body (interrupt original) same ∙ ap (λ (t : TakeResult). t.server) took in
-            of_delivered (ap forgets_of same) log new (delivered minor counts copy taken
-            (subst (λ (c : Sent). SendsOne minor counts c taken) (sym copy_is) (sends_eagain original after)) log new delivers)
+            of_delivered (ap forgets_of same) log new (delivered minor counts bytes request takes.says copy taken
+            (subst (λ (c : Sent). SendsOne minor counts c taken) (sym copy_is) (sends_eagain original after))
+            (ap (λ (c : Sent). c.unique) copy_is)
+            (subst (λ (c : Sent). GoesFor request.body c.wire) (sym copy_is)
+            (subst (λ (b : RequestBody). GoesFor b (failed 11)) (sym same) (interrupt_replied original))) log new delivers)
 
     -- what is held is performed
-    holds : (body : RequestBody) → taken ≡ holding old unique body → HoldsOne minor counts unique taken
-    holds body after = subst (HoldsOne minor counts unique) (sym after) (record {
+    holds : (body : RequestBody) → request.body ≡ body → IsRepliedTo body → taken ≡ holding old unique body
+        → HoldsOne minor counts request taken
+    holds body same is_replied_to after = subst (HoldsOne minor counts request) (sym after) (record {
       sound = subst ServerSound after taken_sound;
       alone = gone_from unique old.held _ is.held;
+      body = λ held there. ap (λ (h : HeldRequest). h.body)
+          (some_same held _ (sym there ∙ get_put_here old.held unique _)) ∙ sym same;
+      has_reply = subst IsRepliedTo (sym same) is_replied_to;
       kept = is.kept;
       copies = is.copies;
       live = is.live;
@@ -221,15 +230,16 @@ module _ (minor : Minor) (old : Server) (is : IsBetween minor old) (bytes : List
         → ServesHeld taken unique log new → Follow minor counts bytes log new
     performs held log new serves = by request.body refl
       where
-        follow : (body : RequestBody) → request.body ≡ body → forgets_of body ≡ []
+        follow : (body : RequestBody) → request.body ≡ body → IsRepliedTo body → forgets_of body ≡ []
             → (taking old unique body).server ≡ holding old unique body → Follow minor counts bytes log new
-        follow body same quiet holding_it = of_delivered (ap forgets_of same ∙ quiet) log new
-            (held_follows minor counts unique taken (holds body (after_body body same ∙ holding_it)) log new serves)
+        follow body same is_replied_to quiet holding_it = of_delivered (ap forgets_of same ∙ quiet) log new
+            (held_follows minor counts bytes request takes.says taken
+            (holds body same is_replied_to (after_body body same ∙ holding_it)) log new serves)
 
         by : (body : RequestBody) → request.body ≡ body → Follow minor counts bytes log new
-        by (init flags) same = follow (init flags) same refl refl
-        by (asks operation) same = follow (asks operation) same refl refl
-        by (release o) same = follow (release o) same refl refl
+        by (init flags) same = follow (init flags) same (init_replied flags) refl refl
+        by (asks operation) same = follow (asks operation) same (asked_replied operation) refl refl
+        by (release o) same = follow (release o) same (release_replied o) refl refl
         by (forget f) same = absurd (forgot_is_not_held (sym (word_of (forget f) same) ∙ held))
         by (batch_forget fs) same = absurd (forgot_is_not_held (sym (word_of (batch_forget fs) same) ∙ held))
         by (interrupt original) same = absurd (again_is_not_held (sym (word_of (interrupt original) same
@@ -237,7 +247,7 @@ module _ (minor : Minor) (old : Server) (is : IsBetween minor old) (bytes : List
 
   -- ---- a request isn't taken
 
-  unchanged : FrameGivesBack minor counts bytes (λ id. 0) → (log : List Transfer) → GivesLookups log (λ id. 0)
+  unchanged : FrameGivesBack minor counts bytes (λ id. 0) → (log : List Transfer) → GivesLookups bytes log (λ id. 0)
       → Follow minor counts bytes log old
   unchanged back log tells = record {
     counts = record {
@@ -294,7 +304,8 @@ module _ (minor : Minor) (old : Server) (is : IsBetween minor old) (bytes : List
           (subst (λ (b : RequestBody). MayForget counts (forgets_of b)) same may_be) refl)
       by request says known may_be (interrupt original) same = ap forgets_of same
 
-  fault_tells : (fault : ServerFault) (log : List Transfer) → SendsFault old.minor bytes fault log → GivesLookups log (λ id. 0)
+  fault_tells : (fault : ServerFault) (log : List Transfer) → SendsFault old.minor bytes fault log
+      → GivesLookups bytes log (λ id. 0)
   fault_tells fault log (replied reply written log' sends) = error _ written.error reply written.written log sends
   fault_tells fault log (unreplied quiet) = nothing_sent
 

@@ -10,9 +10,8 @@ use Rattle.fuse_spec.specs.Server.Server.{Server, count_in, forgets_of, forgotte
 use Rattle.fuse_spec.specs.Server.Copies.{remounted}
 use Rattle.fuse_spec.specs.Claim.Counts.{times_named}
 use Rattle.fuse_spec.specs.World.Worlds.{first_server}
-use Rattle.fk_wire.specs.declared.opcode.Opcode.{Opcode}
 use Rattle.fk_wire.specs.Replies.{WrittenReply, empty_reply}
-use Rattle.fuse_frames.specs.RequestTies.{SaysRequest}
+use Rattle.fuse_frames.specs.RequestTies.{SaysRequest, asked_opcode}
 use Rattle.fuse_frames.specs.ReplyTies.{IsReplyFrame}
 use Rattle.fuse_device.specs.Transfers.{Transfer, received, sent, unsent, stopped, ended_in}
 use Rattle.fuse_device.specs.declared.device.DeviceEnd.{DeviceEnd}
@@ -46,28 +45,33 @@ pub data FrameGivesBack (minor : Minor) (counts : ℕ → ℕ) (frame : List ℕ
       → MayForget counts (forgets_of request.body) → forgets_of request.body ≡ [])
       → FrameGivesBack minor counts frame (λ id. 0)
 
--- How many lookups of each node what is sent after a frame gives: as many as entries of an accepted reply name it. A
--- refused reply gives none, and an error none. One at which the device came to its end is counted as accepted, since
--- nobody knows.
-pub data GivesLookups : List Transfer → (ℕ → ℕ) → Type 0 where
-  nothing_sent : GivesLookups [] (λ id. 0)
-  reply_accepted : (opcode : Opcode) (unique : ℕ) (wire : WireReply) (bytes : List ℕ)
-      → IsReplyFrame opcode bytes (record { unique = unique; wire = wire })
-      → GivesLookups (sent bytes Accepted ∷ []) (λ id. times_named id wire)
-  refused : (bytes : List ℕ) (result : WriteResult) → result ≢ Accepted → GivesLookups (sent bytes result ∷ []) (λ id. 0)
-  cut_off : (opcode : Opcode) (unique : ℕ) (wire : WireReply) (bytes : List ℕ)
-      → IsReplyFrame opcode bytes (record { unique = unique; wire = wire }) → (end : DeviceEnd)
-      → GivesLookups (unsent bytes end ∷ []) (λ id. times_named id wire)
+-- The bytes are the frame of this reply to the request that a frame spells.
+pub record RepliesWith (frame bytes : List ℕ) (wire : WireReply) : Type 0 where
+  pub request : Request
+  pub says : SaysRequest frame request
+  pub framed : IsReplyFrame (asked_opcode request.body) bytes (record { unique = request.unique; wire = wire })
+
+-- How many lookups of each node what is sent after a frame gives: as many as entries of an accepted reply to it name the
+-- node. A refused reply gives none, and an error none. One at which the device came to its end is counted as accepted,
+-- since nobody knows.
+pub data GivesLookups (frame : List ℕ) : List Transfer → (ℕ → ℕ) → Type 0 where
+  nothing_sent : GivesLookups frame [] (λ id. 0)
+  reply_accepted : (wire : WireReply) (bytes : List ℕ) → RepliesWith frame bytes wire
+      → GivesLookups frame (sent bytes Accepted ∷ []) (λ id. times_named id wire)
+  refused : (bytes : List ℕ) (result : WriteResult) → result ≢ Accepted
+      → GivesLookups frame (sent bytes result ∷ []) (λ id. 0)
+  cut_off : (wire : WireReply) (bytes : List ℕ) → RepliesWith frame bytes wire → (end : DeviceEnd)
+      → GivesLookups frame (unsent bytes end ∷ []) (λ id. times_named id wire)
   error : (unique : ℕ) (code : ℤ) (bytes : List ℕ)
       → WrittenReply (record { unique = unique; error = code; content = empty_reply }) bytes
-      → (log : List Transfer) → SendsBytes bytes log → GivesLookups log (λ id. 0)
+      → (log : List Transfer) → SendsBytes bytes log → GivesLookups frame log (λ id. 0)
 
 -- After a frame each count has risen by what was given and fallen by what was given back.
 pub record FollowsFrame (minor : Minor) (old : ℕ → ℕ) (frame : List ℕ) (log : List Transfer) (new : ℕ → ℕ) : Type 0 where
   pub back : ℕ → ℕ
   pub gives_back : FrameGivesBack minor old frame back
   pub more : ℕ → ℕ
-  pub tells : GivesLookups log more
+  pub tells : GivesLookups frame log more
   pub balance : (id : ℕ) → new id + back id ≡ old id + more id
 
 -- The counts follow the pairs of a long BATCH_FORGET up to some place, 64 after 64: each frame of them that may be
