@@ -97,9 +97,11 @@ pub data Follows (minor : Minor) (old : ℕ → ℕ) : List Transfer → (ℕ �
       → Follows minor old (before ++ stopped end ∷ []) mid
 
 -- All that went over a device is served so, until the device came to its end. Of a server that was just mounted the
--- lookup counts follow it, and no pair of nodeid and generation is given twice.
+-- lookup counts follow the frames, at every moment between two of them, and no pair of nodeid and generation is given
+-- twice.
 pub record IsServed (old : Server) (log : List Transfer) (new : Server) : Type 0 where
   pub serves : Serves old log new
   pub to_the_end : IsToTheEnd log
-  pub counts : IsFresh old → Follows old.minor (lookup_count old) log (lookup_count new)
+  pub counts : IsFresh old → (before : List Transfer) (mid : Server) → Serves old before mid
+      → Follows old.minor (lookup_count old) before (lookup_count mid)
   pub pairs : IsFresh old → GivesPairsOnce old

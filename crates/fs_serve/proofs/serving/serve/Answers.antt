@@ -10,7 +10,7 @@ returns-clause-served g c =
       record {
         serves = both.0;
         to_the_end = both.1;
-        counts = counts_follow c.args.server.now log c.serve_frames.new.server both.0;
+        counts = λ mounted before mid serves_before. counts_follow c.args.server.now before mid serves_before mounted;
         pairs = pairs_once c.args.server.now;
       },
       ends,
