@@ -1,5 +1,5 @@
 -- How the server's nodes change while it serves: a node of an older generation stays as it was, or goes.
-use Rattle.std.proofs.Common.{◌≡◌, ℕ, ◌+◌, ◌-◌, ◌≤◌, ◌<◌, Bool, true, false, cond, List, [], ◌∷◌, Option, Some, None, ◌⊎◌, inl, inr, refl, ap, sym, subst, ◌∙◌, arith}
+use Rattle.std.proofs.Common.{◌≡◌, ℕ, ◌+◌, ◌-◌, ◌≤◌, ◌<◌, Bool, true, false, cond, List, [], ◌∷◌, Option, Some, None, ◌⊎◌, inl, inr, refl, sym, subst, ◌∙◌, arith}
 use Rattle.std.specs.Prelude.{nat_lt}
 use Rattle.fuse_spec.specs.declared.Entry.{Entry}
 use Rattle.fuse_spec.specs.declared.WriteResult.{WriteResult}
@@ -12,7 +12,7 @@ use Rattle.fuse_spec.specs.Server.Nodes.{HeldNode, NodeTable, all_given, file_of
 use Rattle.fuse_spec.specs.Server.Server.{Server, HeldRequest, Kept, Copy, all_taken_back}
 use Rattle.fuse_spec.specs.Server.Taking.{interrupting, taking}
 use Rattle.fuse_spec.specs.Server.Performs.{doing, file_operation_of, is_open_for, is_still_held, performed, performing, refusing, served}
-use Rattle.fuse_spec.specs.Server.Copies.{after_result, kept_after, row_back, rows_back, settled}
+use Rattle.fuse_spec.specs.Server.Copies.{row_back, rows_back, settled}
 use Rattle.fuse_theorem.proofs.Nodes.NodesSound.{put_found, left_found}
 
 -- The same node, but for its lookup count.

@@ -1,6 +1,6 @@
 -- The reply that performing a request gives goes with the request's opcode.
-use Rattle.std.proofs.Common.{◌≡◌, ◌≢◌, ◌∙◌, ◌-◌, ◌^◌, ℕ, negsuc, Bool, true, false, cond, List, [], Option, Some, None, refl, ap, sym}
-use Rattle.std.specs.Prelude.{if◌then◌else◌, ◌==◌}
+use Rattle.std.proofs.Common.{◌≡◌, ◌≢◌, ◌∙◌, ◌-◌, ℕ, negsuc, Bool, true, false, cond, List, [], Option, Some, None, refl, ap, sym}
+use Rattle.std.specs.Prelude.{if◌then◌else◌}
 use Rattle.std.specs.Int.{cast_signed, cast_unsigned, w32}
 use Rattle.std.proofs.lemmas.Bool.{ne_eqb}
 use Rattle.std.proofs.lemmas.Int.{to_z-of_z}
@@ -15,14 +15,14 @@ use Rattle.fuse_spec.specs.Files.Trees.{Tree, file_at}
 use Rattle.fuse_spec.specs.Kernel.Messages.{RequestBody, WireReply, asks, batch_forget, forget, init, interrupt, release}
 use Rattle.fuse_spec.specs.Server.Nodes.{NodeTable, all_given, file_of, handle_back, is_open}
 use Rattle.fuse_spec.specs.Server.Server.{HeldRequest, Server}
-use Rattle.fuse_spec.specs.Server.Performs.{doing, entry_for, file_operation_of, is_open_for, is_still_held, performed, performing, refusing, served, wire_of}
+use Rattle.fuse_spec.specs.Server.Performs.{doing, entry_for, file_operation_of, is_open_for, is_still_held, performing, refusing, served, wire_of}
 use Rattle.fuse_spec.specs.Files.Operations.{files_in_reply}
 use Rattle.fk_wire.specs.declared.opcode.Opcode.{Opcode}
 use Rattle.fk_wire.proofs.OneReply.{error_fits}
 use Rattle.fk_wire.specs.Opcodes.{latest_minor}
-use Rattle.fk_wire.specs.Replies.{GoesWith, IsErrorNumber, ReplyContent, attr_reply, bytes_reply, create_reply, empty_reply, entry_reply, init_reply, kind_of_content, open_reply, plus_reply, records_reply, reply_kind, write_reply}
+use Rattle.fk_wire.specs.Replies.{IsErrorNumber, ReplyContent, attr_reply, bytes_reply, create_reply, empty_reply, entry_reply, init_reply, kind_of_content, open_reply, plus_reply, records_reply, reply_kind, write_reply}
 use Rattle.fk_wire.specs.Entries.{missing}
-use Rattle.fuse_frames.specs.ReplyTies.{IsReplyFrame, message_of, reply_content_of}
+use Rattle.fuse_frames.specs.ReplyTies.{IsReplyFrame, reply_content_of}
 use Rattle.fuse_frames.specs.RequestTies.{asked_opcode}
 
 -- The request has replies.

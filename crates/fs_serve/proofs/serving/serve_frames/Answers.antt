@@ -1,4 +1,4 @@
-use Rattle.std.proofs.Common.{[], refl, None, Some, arith}
+use Rattle.std.proofs.Common.{[], refl, arith}
 use Rattle.fs_serve.specs.Serving.{nothing}
 use Rattle.fs_serve.proofs.Servings.{serves_more, serves_to_the_end}
 use Rattle.fs_serve.proofs.serving.serve_frames.Goals as goal
