@@ -112,6 +112,7 @@ pub fn fill_handle(frame: &mut [u8], fh: u64)
     requires { (m : RequestMessage) × Spells frame.old m × IsListing m.content }
     ensures long { length frame.new ≡ length frame.old }
     ensures same { (request : Request) → SaysRequest frame.old request → SaysRequest frame.new request }
+    ensures only { ChangesOnly 40 8 frame.old frame.new }
     ensures handle { number_at 40 8 frame.new ≡ fh }
 {
     spelled_is_decoded();
