@@ -1,17 +1,24 @@
 -- What a change of a connection results in.
-use Rattle.std.proofs.Common.{◌≡◌, ℕ, zero, suc, ◌+◌, ◌<◌, Bool, List, Vec, [], ◌∷◌, ◌++◌, length, map, get_or, take, drop, refl, sym, ap, subst, ◌∙◌, arith}
-use Rattle.std.proofs.lemmas.List.{map-append}
+use Rattle.std.proofs.Common.{◌≡◌, ℕ, zero, suc, ◌+◌, ◌<◌, Bool, true, false, cond, not, Option, Some, None, List, Vec, [], ◌∷◌, ◌++◌, length, map, get_or, take, drop, length-take, refl, sym, ap, subst, ◌∙◌, arith}
+use Rattle.std.specs.Prelude.{◌==◌, ◌^◌, ◌≢◌, All, nat_lt, position, remove, slice_get}
+use Rattle.std.specs.List.{position_or_len}
+use Rattle.std.proofs.lemmas.Bool.Decides.{nat_tests}
+use Rattle.std.proofs.lemmas.List.{get_or-take, map-append}
+use Rattle.std.proofs.lemmas.List.Elements.{All-map}
+use Rattle.std.proofs.lemmas.List.Quantifiers.{position-Some}
+use Rattle.std.proofs.lemmas.List.Sums.{prefix_len_passes}
+use Rattle.std.proofs.lemmas.Option.{get_or_from_slice_get}
 use Rattle.fuse_spec.specs.declared.Opened.{Opened}
-use Rattle.fuse_spec.specs.declared.WriteResult.{WriteResult}
 use Rattle.fuse_spec.specs.Kernel.Kernel.{Kernel}
 use Rattle.fuse_spec.specs.Kernel.Messages.{Request}
 use Rattle.fuse_device.specs.Transfers.{Transfer, received}
-use Rattle.fk_drive_frames.specs.Agreements.{IsHandedOn}
+use Rattle.fuse_frames.specs.DecodedReplies.{HasReplyHead, head_unique}
 use Rattle.fk_drive_frames.specs.Asides.{IsOtherFrame}
 use Rattle.fk_drive_frames.specs.OwnRequests.{GivesHandle, IsReleasedir}
-use Rattle.fk_drive.specs.Driven.{driven}
-use Rattle.fk_drive.specs.Driving.{Driven, SendsFrame, DriveStep, Turn, is_given, opened, opening, releases, sets_aside, waits, writes}
-use Rattle.fk_drive.specs.KernelSteps.{IsReplyTaken}
+use Rattle.fk_drive.specs.Driven.{KeepsWaiting, directories_in, driven}
+use Rattle.fk_drive_frames.specs.declared.filling.FreeFields.{FreeFields}
+use Rattle.fk_drive.specs.Driving.{Driven, SendsFrame, DriveStep, ReleasesBehind, Turn, is_given, opened, opening, releases, sets_aside, waits}
+use Rattle.fk_drive.specs.Steps.{IsKept, SendStep}
 use Rattle.fk_drive.specs.declared.connection.Connection.{Connection}
 use Rattle.fk_drive.specs.declared.connection.Directory.{Directory}
 
@@ -31,19 +38,22 @@ pair d = (d.unique, d.opened)
 abbrev pub bytes : {A : Type 0} → Vec ℕ A → List ℕ
 bytes frame = frame.items
 
+-- a step at which this frame is received, and waits or is set aside
+abbrev pub Keeping : List ℕ → Driven → Driven → Type 0
+Keeping frame old new = (step : DriveStep old (received frame ∷ []) new) × IsKept frame step
+
 module _ {A : Type 0} (kernel : Kernel) (old new : Connection A) where
   pub noted : new ≡ record old { other_frames = new.other_frames } → (turn : Turn) → driven kernel new turn ≡ driven kernel old turn
   noted same turn = ap (λ (c : Connection A). driven kernel c turn) same
 
   pub other_frame_step : new ≡ record old { other_frames = new.other_frames } → (turn : Turn) (frame : List ℕ) → IsOtherFrame old.next frame
-      → DriveStep (driven kernel old turn) (received frame ∷ []) (driven kernel new turn)
+      → Keeping frame (driven kernel old turn) (driven kernel new turn)
   other_frame_step same turn frame is =
-      subst (λ (s : Driven). DriveStep (driven kernel old turn) (received frame ∷ []) s) (sym (noted same turn))
-      (sets_aside frame is)
+      subst (λ (s : Driven). Keeping frame (driven kernel old turn) s) (sym (noted same turn)) (sets_aside frame is, refl)
 
   pub step_waits : (frame : Vec ℕ A) → new.waiting.items ≡ old.waiting.items ++ frame ∷ []
       → new ≡ record old { waiting = new.waiting } → (turn : Turn) → (IsOtherFrame old.next frame.items → ⊥)
-      → DriveStep (driven kernel old turn) (received frame.items ∷ []) (driven kernel new turn)
+      → Keeping frame.items (driven kernel old turn) (driven kernel new turn)
   step_waits frame items same turn is =
       let to : driven kernel new turn ≡ state kernel (map bytes old.waiting.items ++ frame.items ∷ []) old.next old.asks
       (map pair old.directories.items) turn =
@@ -51,13 +61,14 @@ module _ {A : Type 0} (kernel : Kernel) (old new : Connection A) where
       ∙ ap (λ (w : List (Vec ℕ A)). state kernel (map bytes w) old.next old.asks (map pair old.directories.items) turn) items
       ∙ ap (λ (w : List (List ℕ)). state kernel w old.next old.asks (map pair old.directories.items) turn)
       (map-append bytes old.waiting.items (frame ∷ [])) in
-      subst (λ (s : Driven). DriveStep (driven kernel old turn) (received frame.items ∷ []) s) (sym to) (waits frame.items is)
+      subst (λ (s : Driven). Keeping frame.items (driven kernel old turn) s) (sym to) (waits frame.items is, refl)
 
   pub step_given : (request : Request) (own node fh unique : ℕ) → request.unique ≡ unique
       → new.directories.items ≡ old.directories.items ++ (record { unique = unique; opened = record { nodeid = node; fh = fh } }) ∷ []
       → new ≡ record old { directories = new.directories } → (frame : List ℕ) → GivesHandle frame own fh
-      → DriveStep (driven kernel old (opening request own node)) (received frame ∷ []) (driven kernel new (opened request fh))
-  step_given request own node fh unique under items same frame gives =
+      → (free_fields : FreeFields)
+      → SendStep free_fields (driven kernel old (opening request own node)) (received frame ∷ []) (driven kernel new (opened request fh))
+  step_given request own node fh unique under items same frame gives free_fields =
       let place : Opened = record { nodeid = node; fh = fh } in
       let turn = opened request fh in
       let to : driven kernel new turn ≡ state kernel (map bytes old.waiting.items) old.next old.asks
@@ -68,14 +79,19 @@ module _ {A : Type 0} (kernel : Kernel) (old new : Connection A) where
       (map-append pair old.directories.items ((record { unique = unique; opened = place }) ∷ []))
       ∙ ap (λ (u : ℕ). state kernel (map bytes old.waiting.items) old.next old.asks
       (map pair old.directories.items ++ (u, place) ∷ []) turn) (sym under) in
-      subst (λ (s : Driven). DriveStep (driven kernel old (opening request own node)) (received frame ∷ []) s) (sym to)
-      (is_given request own node refl frame fh gives)
+      subst (λ (s : Driven). SendStep free_fields (driven kernel old (opening request own node)) (received frame ∷ []) s) (sym to)
+      (is_given request own node refl frame fh gives, tt)
 
 -- the first of a list with some, and what is left
-first_of : {X : Type 0} (xs ys : List X) (x : X) → 0 < length xs → x ≡ get_or xs 0 x → ys ≡ take 0 xs ++ drop 1 xs
+pub first_of : {X : Type 0} (xs ys : List X) (x : X) → 0 < length xs → x ≡ get_or xs 0 x → ys ≡ take 0 xs ++ drop 1 xs
     → xs ≡ x ∷ ys
 first_of [] ys x some first rest = absurd (omega (arith, some))
 first_of (a ∷ xs) ys x some first rest = ap (λ y. y ∷ xs) (sym first) ∙ ap (λ l. x ∷ l) (sym rest)
+
+-- two that are first are the same
+pub first_same : {X : Type 0} (xs : List X) (x y : X) → 0 < length xs → x ≡ get_or xs 0 x → y ≡ get_or xs 0 y → x ≡ y
+first_same [] x y some one two = absurd (omega (arith, some))
+first_same (a ∷ xs) x y some one two = one ∙ sym two
 
 -- the frame that waits first, before the others
 pub first_waits : {A : Type 0} (connection : Connection A) (first : Vec ℕ A) → 0 < length connection.waiting.items
@@ -83,19 +99,6 @@ pub first_waits : {A : Type 0} (connection : Connection A) (first : Vec ℕ A) �
     → map bytes connection.waiting.items ≡ first.items ∷ map bytes (drop 1 connection.waiting.items)
 first_waits connection first some is =
     ap (map bytes) (first_of connection.waiting.items (drop 1 connection.waiting.items) first some is refl)
-
-pub step_writes : {A : Type 0} (kernel after : Kernel) (old new : Connection A) (first : Vec ℕ A)
-    → 0 < length old.waiting.items → first ≡ get_or old.waiting.items 0 first
-    → new.waiting.items ≡ take 0 old.waiting.items ++ drop 1 old.waiting.items
-    → new ≡ record old { waiting = new.waiting } → (turn : Turn) (handed : List ℕ) → IsHandedOn first.items handed
-    → (result : WriteResult) → IsReplyTaken kernel handed result after
-    → DriveStep (driven kernel old turn) [] (driven after new turn)
-step_writes {A} kernel after old new first some is rest same turn handed on result takes =
-    let split : map bytes old.waiting.items ≡ first.items ∷ map bytes new.waiting.items =
-    ap (map bytes) (first_of old.waiting.items new.waiting.items first some is rest) in
-    subst (λ (s : Driven). DriveStep (driven kernel old turn) [] s)
-    (sym (ap (λ (c : Connection A). driven after c turn) same))
-    (writes first.items (map bytes new.waiting.items) split handed on result after takes)
 
 -- what stands before a place, at it and behind it
 parts_at : {X : Type 0} (xs : List X) (i : ℕ) (x : X) → i < length xs → x ≡ get_or xs i x
@@ -107,19 +110,76 @@ parts_at {X} (a ∷ xs) (suc i) x within is =
     ap (λ l. a ∷ l) (parts_at xs i x (omega (arith, within)) is)
     ∙ ap (λ (n : ℕ). (a ∷ take i xs) ++ x ∷ drop n (a ∷ xs)) (sym next)
 
-pub step_releases : {A : Type 0} (kernel : Kernel) (old : Connection A) (directories : List Directory) (i : ℕ) (d : Directory)
-    → i < length old.directories.items → d ≡ get_or old.directories.items i d
-    → directories ≡ take i old.directories.items ++ drop (i + 1) old.directories.items
-    → (turn : Turn) (frame : List ℕ) → IsReleasedir frame old.next d.opened → (log : List Transfer) → SendsFrame frame log
-    → DriveStep (driven kernel old turn) log (state kernel (map bytes old.waiting.items) (old.next + 2) old.asks
-    (map pair directories) turn)
-step_releases kernel old directories i d within is left turn frame about log sends =
-    let before = take i old.directories.items in
-    let after = drop (i + 1) old.directories.items in
-    let split : map pair old.directories.items ≡ map pair before ++ (d.unique, d.opened) ∷ map pair after =
-    ap (map pair) (parts_at old.directories.items i d within is) ∙ map-append pair before (d ∷ after) in
-    let rest : map pair directories ≡ map pair before ++ map pair after =
-    ap (map pair) left ∙ map-append pair before after in
-    subst (λ (ds : List (ℕ × Opened)). DriveStep (driven kernel old turn) log
-    (state kernel (map bytes old.waiting.items) (old.next + 2) old.asks ds turn)) (sym rest)
-    (releases (map pair before) (map pair after) d.unique d.opened split frame about log sends)
+-- what a test that is passed, or is not, says
+is_under : (x u : ℕ) → (x == u) ≡ true → x ≡ u
+is_under x u e = grind (arith, nat_tests, e)
+
+not_under : (x u : ℕ) → (x == u) ≡ false → x ≢ u
+not_under x u e same = grind (arith, nat_tests, e, same)
+
+not_passed : (b : Bool) → not b ≡ true → b ≡ false
+not_passed true e = absurd (cc e)
+not_passed false e = refl
+
+none_passes : {X : Type 0} (p : X → Bool) (xs : List X) → position p xs ≡ None → (k : ℕ) (d : X) → k < length xs
+    → p (get_or xs k d) ≡ false
+none_passes {X} p xs none k d low = by (nat_lt (position_or_len p xs) (length xs)) refl
+  where
+    by : (b : Bool) → nat_lt (position_or_len p xs) (length xs) ≡ b → p (get_or xs k d) ≡ false
+    by true e =
+        let no : ◌≡◌ {A = Option ℕ} (Some (position_or_len p xs)) None =
+        ap (λ (b : Bool). cond b (Some (position_or_len p xs)) None) (sym e) ∙ none in
+        absurd (cc no)
+    by false e =
+        not_passed (p (get_or xs k d)) (prefix_len_passes (λ x. not (p x)) xs k d (grind (arith, nat_tests, e, low)))
+
+-- a directory that stands at the first place with its number
+pub releases_at : (frame : List ℕ) → HasReplyHead frame → (next : ℕ) → next < 2 ^ 63 → (directories : List Directory) (i : ℕ)
+    (d : Directory) → position (λ x. x.unique == head_unique frame) directories ≡ Some i → slice_get directories i ≡ Some d
+    → (bytes : List ℕ) → IsReleasedir bytes next d.opened → (log : List Transfer) → SendsFrame bytes log
+    → ReleasesBehind frame next (map pair directories) log (next + 2) (map pair (remove directories i))
+releases_at frame head next low directories i d first there spelled about log sends =
+    let u : ℕ = head_unique frame in
+    let test : Directory → Bool = λ x. x.unique == u in
+    let before : List Directory = take i directories in
+    let after : List Directory = drop (i + 1) directories in
+    let at = position-Some test directories i d first in
+    let is : get_or directories i d ≡ d = get_or_from_slice_get directories i d d there in
+    let under : d.unique ≡ u = is_under d.unique u (subst (λ (x : Directory). test x ≡ true) is at.1) in
+    let split : map pair directories ≡ map pair before ++ (u, d.opened) ∷ map pair after =
+    ap (map pair) (parts_at directories i d at.0 (sym is)) ∙ map-append pair before (d ∷ after)
+    ∙ ap (λ (n : ℕ). map pair before ++ (n, d.opened) ∷ map pair after) under in
+    let unlike : All (λ (x : Directory). x.unique ≢ u) before = λ k e short.
+    let lower : k < i = omega (arith, short, length-take i directories) in
+    not_under _ u (ap test (get_or-take i directories k e lower) ∙ (position-Some test directories i e first).2 k lower) in
+    let same : suc i ≡ i + 1 = omega arith in
+    let left : map pair (remove directories i) ≡ map pair before ++ map pair after =
+    ap (λ (n : ℕ). map pair (before ++ drop n directories)) same ∙ map-append pair before after in
+    subst (λ (ds : List (ℕ × Opened)). ReleasesBehind frame next (map pair directories) log (next + 2) ds) (sym left)
+    (releases head low (map pair before) (map pair after) d.opened split (All-map (λ x. x.0 ≢ u) pair before unlike) spelled about log
+    sends)
+
+-- none has it
+pub releases_nothing : (frame : List ℕ) (directories : List Directory)
+    → position (λ x. x.unique == head_unique frame) directories ≡ None → All (λ x. x.0 ≢ head_unique frame) (map pair directories)
+releases_nothing frame directories none =
+    All-map (λ x. x.0 ≢ head_unique frame) pair directories
+    (λ k d low. not_under _ (head_unique frame) (none_passes (λ x. x.unique == head_unique frame) directories none k d low))
+
+-- what a connection is once it was released
+pub released : {A : Type 0} (old new : Connection A) (frame : List ℕ) (i : ℕ)
+    → new.directories.items ≡ remove old.directories.items i
+    → new ≡ record old { next = old.next + 2; directories = new.directories } → (log : List Transfer)
+    → ReleasesBehind frame old.next (directories_in old) log (old.next + 2) (map pair (remove old.directories.items i))
+    → ReleasesBehind frame old.next (directories_in old) log new.next (directories_in new)
+released {A} old new frame i left same log behind =
+    let next : new.next ≡ old.next + 2 = ap (λ (c : Connection A). c.next) same in
+    subst (λ (n : ℕ). ReleasesBehind frame old.next (directories_in old) log n (directories_in new)) (sym next)
+    (subst (λ (ds : List Directory). ReleasesBehind frame old.next (directories_in old) log (old.next + 2) (map pair ds))
+    (sym left) behind)
+
+pub keeps_waiting : {A : Type 0} (old new : Connection A)
+    → new ≡ record old { next = old.next + 2; directories = new.directories } → KeepsWaiting old new
+keeps_waiting {A} old new same =
+    same ∙ ap (λ (n : ℕ). record old { next = n; directories = new.directories })
+    (sym (ap (λ (c : Connection A). c.next) same))

@@ -1,19 +1,41 @@
 -- How steps follow one another.
-use Rattle.std.proofs.Common.{◌≡◌, List, [], ◌∷◌, ◌++◌, sym, subst, append_assoc, append-nil}
-use Rattle.fuse_device.specs.Transfers.{Transfer, stopped}
-use Rattle.fk_drive.specs.Exchanges.{WentOver, StopsAt}
-use Rattle.fk_drive.specs.declared.end.DriveEnd.{DriveEnd}
-use Rattle.fk_drive.specs.declared.end.DriveEnd.TheVariants as at
-use Rattle.fk_drive.specs.Driving.{Driven, Drives, DrivesOver, DriveStep, ends, next, nothing}
+use Rattle.std.proofs.Common.{◌≡◌, List, [], ◌∷◌, ◌++◌, sym, subst, append_assoc, append-nil, Option, Some, None}
+use Rattle.fuse_device.specs.Transfers.{Transfer, received, sent, unsent, stopped}
+use Rattle.fuse_device.specs.declared.device.DeviceEnd.{DeviceEnd}
+use Rattle.fk_drive.specs.Exchanges.{Ends, WentOver}
+use Rattle.fk_drive.specs.Driving.{Driven, Drives, DrivesOver, DriveStep, Runs, next, nothing}
+
+module _ {S : Type 0} (Step : S → List Transfer → S → Type 0) where
+  pub runs_on : (a b c : S) (h k : List Transfer) → Runs Step a h b → Runs Step b k c → Runs Step a (h ++ k) c
+  runs_on a b c h _ one nothing = subst (λ (l : List Transfer). Runs Step a l b) (sym (append-nil h)) one
+  runs_on a b c h _ one (next before mid two log new step) =
+      subst (λ (l : List Transfer). Runs Step a l new) (append_assoc h before log)
+      (next (h ++ before) mid (runs_on a b mid h before one two) log new step)
+
+  pub one_run : (a b : S) (log : List Transfer) → Step a log b → Runs Step a log b
+  one_run a b log step = next [] a nothing log b step
+
+  -- steps of this kind are steps of a driven run
+  pub as_drives : (state : S → Driven)
+      → ((a : S) (log : List Transfer) (b : S) → Step a log b → DriveStep (state a) log (state b))
+      → (a : S) (log : List Transfer) (b : S) → Runs Step a log b → Drives (state a) log (state b)
+  as_drives state is a _ _ nothing = nothing
+  as_drives state is a _ _ (next before mid run log new step) =
+      next before (state mid) (as_drives state is a before mid run) log (state new) (is mid log new step)
 
 pub drives_on : (a b c : Driven) (h k : List Transfer) → Drives a h b → Drives b k c → Drives a (h ++ k) c
-drives_on a b c h _ one nothing = subst (λ (l : List Transfer). Drives a l b) (sym (append-nil h)) one
-drives_on a b c h _ one (next before mid two log new step) =
-    subst (λ (l : List Transfer). Drives a l new) (append_assoc h before log)
-    (next (h ++ before) mid (drives_on a b mid h before one two) log new step)
+drives_on = runs_on DriveStep
 
 pub one_step : (a b : Driven) (log : List Transfer) → DriveStep a log b → Drives a log b
-one_step a b log step = next [] a nothing log b step
+one_step = one_run DriveStep
+
+-- nothing was asked of the device behind its end
+pub ends_on : (end : Option DeviceEnd) (h k : List Transfer) → Ends None h → Ends end k → Ends end (h ++ k)
+ends_on end [] k none ends = ends
+ends_on end (received frame ∷ h) k none ends = ends_on end h k none ends
+ends_on end (sent frame result ∷ h) k none ends = ends_on end h k none ends
+ends_on end (unsent frame came ∷ h) k none ends = let no : ◌≡◌ {A = Option DeviceEnd} None (Some came) = none.0 in absurd (cc no)
+ends_on end (stopped came ∷ h) k none ends = let no : ◌≡◌ {A = Option DeviceEnd} None (Some came) = none.0 in absurd (cc no)
 
 module _ {D : Type 0} (logs : D → D → List Transfer → Type 0)
     (goes_on : (first mid last : D) (h k : List Transfer) → logs first mid h → logs mid last k → logs first last (h ++ k)) where
@@ -21,27 +43,10 @@ module _ {D : Type 0} (logs : D → D → List Transfer → Type 0)
   over_on d e f a b c (h, one, drives) (k, two, drives_more) =
       (h ++ k, goes_on d e f h k one two, drives_on a b c h k drives drives_more)
 
-  pub over_step : (d e : D) (a b : Driven) (log : List Transfer) → logs d e log → DriveStep a log b → DrivesOver logs d e a b
-  over_step d e a b log over step = (log, over, one_step a b log step)
-
-  -- one more step
-  pub over_more : (d e f : D) (a b c : Driven) (log : List Transfer) → DrivesOver logs d e a b → logs e f log
-      → DriveStep b log c → DrivesOver logs d f a c
-  over_more d e f a b c log before over step = over_on d e f a b c before (over_step e f b c log over step)
-
-  -- one more at which nothing goes over
-  pub over_quiet : ((d : D) → logs d d []) → (d e : D) (a b c : Driven) → DrivesOver logs d e a b → DriveStep b [] c
-      → DrivesOver logs d e a c
-  over_quiet stays d e a b c before step = over_more d e e a b c [] before (stays e) step
-
-  -- the device came to its end as a frame was to be received
-  pub over_stopped : (d e : D) (end : DriveEnd) → WentOver logs d e (StopsAt end) → (a : Driven) → DrivesOver logs d e a a
-  over_stopped d e (at.Device end) (log, over, is) a =
-      (log, over, subst (λ (l : List Transfer). Drives a l a) (sym is) (one_step a a (stopped end ∷ []) (ends end)))
-  over_stopped d e at.Memory (log, over, is) a = (log, over, subst (λ (l : List Transfer). Drives a l a) (sym is) nothing)
-  over_stopped d e (at.Refused refusal) (log, over, is) a =
-      (log, over, subst (λ (l : List Transfer). Drives a l a) (sym is) nothing)
-
-  -- nothing went over, and the state is the same
-  pub over_same : ((d : D) → logs d d []) → (d : D) (a b : Driven) → b ≡ a → DrivesOver logs d d a b
-  over_same stays d a b same = ([], stays d, subst (λ (s : Driven). Drives a [] s) (sym same) nothing)
+  -- one run of such steps after another, which has an end only where the second has
+  pub went_on : {S : Type 0} (Step : S → List Transfer → S → Type 0) (IsEnd : List Transfer → Type 0)
+      → ((h k : List Transfer) → Ends None h → IsEnd k → IsEnd (h ++ k)) → (d e f : D) (a b c : S)
+      → WentOver logs d e (Ends None) (λ log. Runs Step a log b) → WentOver logs e f IsEnd (λ log. Runs Step b log c)
+      → WentOver logs d f IsEnd (λ log. Runs Step a log c)
+  went_on Step IsEnd ends d e f a b c (h, one, none, runs) (k, two, end, runs_more) =
+      (h ++ k, goes_on d e f h k one two, ends h k none end, runs_on Step a b c h k runs runs_more)

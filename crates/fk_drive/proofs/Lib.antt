@@ -1,4 +1,7 @@
 pub mod Drivings
+pub mod Ending
+pub mod Keeping
 pub mod Changes
 pub mod Requests
 pub mod Sent
+pub mod WrittenNext

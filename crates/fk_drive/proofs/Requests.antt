@@ -5,9 +5,11 @@ use Rattle.fk_wire.specs.Opcodes.{latest_minor}
 use Rattle.fk_wire.specs.Requests as wire
 use Rattle.fk_wire.specs.Requests.{RequestContent, RequestMessage, Spells, SpellsAt, WrittenAt, decoded}
 use Rattle.fuse_spec.specs.Kernel.Messages.{Request, RequestBody}
-use Rattle.fuse_frames.specs.RequestTies.{IsRequestFrame, SaysRequest, body_in, body_or}
-use Rattle.fk_drive_frames.specs.Filling.{IsListing}
+use Rattle.fuse_frames.specs.RequestTies.{IsRequestFrame, SaysRequest, body_in, body_or, request_content_of}
+use Rattle.fk_drive_frames.specs.Filling.{FillsFor, IsListing}
 use Rattle.fk_drive_frames.specs.OwnRequests.{ListsNode, readdir, readdirplus}
+use Rattle.fk_drive_frames.specs.declared.filling.FreeFields.{FreeFields}
+use Rattle.fk_drive.specs.Steps.{IsSentFor}
 
 -- The frame in which a request is written says it.
 pub says_of : ((minor : Minor) (m : RequestMessage) (bytes : List ℕ) → WrittenAt minor m bytes → SpellsAt minor bytes m)
@@ -36,3 +38,27 @@ lists_of decodes bytes node (m, spells, about, is) request says =
     let listing = subst (λ (n : RequestMessage). IsListing n.content) same is in
     let at : says.message.nodeid ≡ node = sym (ap (λ (n : RequestMessage). n.nodeid) same) ∙ about in
     subst (λ (n : ℕ). ListsNode request.body n) at (lists_in says.message.nodeid says.message.content request.body listing says.says)
+
+lists_content : (body : RequestBody) (node : ℕ) → ListsNode body node → IsListing (request_content_of body)
+lists_content _ _ (readdir node after size) = tt
+lists_content _ _ (readdirplus node after size) = tt
+
+-- The frame of what lists a directory spells that.
+pub not_listed : ((minor : Minor) (m : RequestMessage) (bytes : List ℕ) → WrittenAt minor m bytes → SpellsAt minor bytes m)
+    → (bytes : List ℕ) (request : Request) → IsRequestFrame bytes request
+    → ((m : RequestMessage) → Spells bytes m → IsListing m.content → ⊥) → (node : ℕ) → ListsNode request.body node → ⊥
+not_listed spells bytes request is none node lists =
+    none is.message (spells latest_minor is.message bytes is.written)
+    (subst IsListing (sym is.content) (lists_content request.body node lists))
+
+-- A frame that is filled for what the kernel's spells.
+pub sent_for : ((minor : Minor) (m : RequestMessage) (bytes : List ℕ) → WrittenAt minor m bytes → SpellsAt minor bytes m)
+    → (bytes : List ℕ) (request : Request) → IsRequestFrame bytes request → (free_fields : FreeFields) (frame : List ℕ)
+    → ((m : RequestMessage) → Spells bytes m → FillsFor m.content free_fields bytes frame)
+    → IsSentFor request free_fields frame
+sent_for spells bytes request is free_fields frame filled = record {
+  read = bytes;
+  is = is;
+  filled = subst (λ (content : RequestContent). FillsFor content free_fields bytes frame) is.content
+      (filled is.message (spells latest_minor is.message bytes is.written));
+}

@@ -1,5 +1,5 @@
 -- How a kernel drives a server that stands behind a device.
-use Rattle.std.specs.Prelude.{◌≡◌, ◌≢◌, ◌+◌, ℕ, ℤ, Bool, true, false, List, [], ◌∷◌, ◌++◌, None}
+use Rattle.std.specs.Prelude.{◌≡◌, ◌≢◌, ◌<◌, ◌^◌, ◌+◌, ℕ, ℤ, Bool, true, false, List, [], ◌∷◌, ◌++◌, All, None}
 use Rattle.fuse_spec.specs.declared.Opened.{Opened}
 use Rattle.fuse_spec.specs.declared.WriteResult.{WriteResult}
 use Rattle.fuse_spec.specs.Kernel.Kernel.{Kernel}
@@ -60,6 +60,17 @@ pub data SendsFrame (bytes : List ℕ) : List Transfer → Type 0 where
   with_result : (result : WriteResult) → SendsFrame bytes (sent bytes result ∷ [])
   at_end : (end : DeviceEnd) → SendsFrame bytes (unsent bytes end ∷ [])
 
+-- RELEASEDIR goes behind a frame that is the reply to what listed an open directory, under the number that comes next,
+-- while there is one. Of two directories under one number it is the first.
+pub data ReleasesBehind (frame : List ℕ) (next : ℕ) (directories : List (ℕ × Opened))
+    : List Transfer → ℕ → List (ℕ × Opened) → Type 0 where
+  releases : HasReplyHead frame → next < 2 ^ 63 → (before after : List (ℕ × Opened)) (directory : Opened)
+      → directories ≡ before ++ (head_unique frame, directory) ∷ after → All (λ d. d.0 ≢ head_unique frame) before
+      → (bytes : List ℕ) → IsReleasedir bytes next directory → (log : List Transfer) → SendsFrame bytes log
+      → ReleasesBehind frame next directories log (next + 2) (before ++ after)
+  releases_none : (HasReplyHead frame → next < 2 ^ 63 → All (λ d. d.0 ≢ head_unique frame) directories)
+      → ReleasesBehind frame next directories [] next directories
+
 -- One step, and what goes over the device at it.
 pub data DriveStep (old : Driven) : List Transfer → Driven → Type 0 where
   -- The kernel does something without its server.
@@ -70,12 +81,16 @@ pub data DriveStep (old : Driven) : List Transfer → Driven → Type 0 where
         kernel = record old.kernel { queues = after_pick old.kernel.queues pick };
         turn = picked request;
       })
-  -- It is sent, in a frame that spells it.
-  sends : (request : Request) → old.turn ≡ picked request → (frame : List ℕ) → SaysRequest frame request
-      → (log : List Transfer) → SendsFrame frame log → DriveStep old log (record old { turn = idle })
-  -- Before one that lists a directory, OPENDIR is sent under a number that the kernel never allocates.
-  opens : (request : Request) → old.turn ≡ picked request → old.asks ≡ true → (node : ℕ) → ListsNode request.body node
-      → (frame : List ℕ) → IsOpendir frame old.next node → (log : List Transfer) → SendsFrame frame log
+  -- It is sent, in a frame that spells it, unless OPENDIR goes before it.
+  sends : (request : Request) → old.turn ≡ picked request
+      → (old.asks ≡ true → old.next < 2 ^ 63 → (node : ℕ) → ListsNode request.body node → ⊥)
+      → (frame : List ℕ) → SaysRequest frame request → (log : List Transfer) → SendsFrame frame log
+      → DriveStep old log (record old { turn = idle })
+  -- Before one that lists a directory, OPENDIR is sent where it is asked, under a number that the kernel never allocates,
+  -- while there is one.
+  opens : (request : Request) → old.turn ≡ picked request → old.asks ≡ true → old.next < 2 ^ 63
+      → (node : ℕ) → ListsNode request.body node → (frame : List ℕ) → IsOpendir frame old.next node
+      → (log : List Transfer) → SendsFrame frame log
       → DriveStep old log (record old { next = old.next + 2; turn = opening request old.next node })
   -- OPENDIR is answered: with an fh; with ENOSYS, and is not asked again; with another error; or with what is no reply
   -- to it, which counts as EIO (this project's rule).
@@ -107,23 +122,29 @@ pub data DriveStep (old : Driven) : List Transfer → Driven → Type 0 where
       → DriveStep old (received frame ∷ []) (record old { waiting = old.waiting ++ frame ∷ [] })
   -- One is received that is not for the kernel, and is set aside.
   sets_aside : (frame : List ℕ) → IsOtherFrame old.next frame → DriveStep old (received frame ∷ []) old
-  -- The first frame that waits is written to the kernel.
+  -- The first frame that waits is written to the kernel, and RELEASEDIR goes behind it where it is the reply to what
+  -- listed an open directory.
   writes : (frame : List ℕ) (rest : List (List ℕ)) → old.waiting ≡ frame ∷ rest → (handed : List ℕ)
       → IsHandedOn frame handed → (result : WriteResult) (new : Kernel) → IsReplyTaken old.kernel handed result new
-      → DriveStep old [] (record old { kernel = new; waiting = rest })
-  -- RELEASEDIR of an open directory is sent.
-  releases : (before after : List (ℕ × Opened)) (unique : ℕ) (directory : Opened)
-      → old.directories ≡ before ++ (unique, directory) ∷ after → (frame : List ℕ)
-      → IsReleasedir frame old.next directory → (log : List Transfer) → SendsFrame frame log
-      → DriveStep old log (record old { next = old.next + 2; directories = before ++ after })
+      → (log : List Transfer) (next : ℕ) (directories : List (ℕ × Opened))
+      → ReleasesBehind frame old.next old.directories log next directories → DriveStep old log (record old {
+        kernel = new;
+        waiting = rest;
+        next = next;
+        directories = directories;
+      })
   -- The device ends as a frame is to be received.
   ends : (end : DeviceEnd) → DriveStep old (stopped end ∷ []) old
 
+-- Steps of one kind follow one another.
+pub data Runs {S : Type 0} (Step : S → List Transfer → S → Type 0) (old : S) : List Transfer → S → Type 0 where
+  nothing : Runs Step old [] old
+  next : (before : List Transfer) (mid : S) → Runs Step old before mid → (log : List Transfer) (new : S)
+      → Step mid log new → Runs Step old (before ++ log) new
+
 -- All that went over a device is so driven, one step after another.
-pub data Drives (old : Driven) : List Transfer → Driven → Type 0 where
-  nothing : Drives old [] old
-  next : (before : List Transfer) (mid : Driven) → Drives old before mid → (log : List Transfer) (new : Driven)
-      → DriveStep mid log new → Drives old (before ++ log) new
+abbrev pub Drives : Driven → List Transfer → Driven → Type 0
+Drives = Runs DriveStep
 
 -- What went over a device from one of its states to another is so driven.
 abbrev pub DrivesOver : {D : Type 0} → (D → D → List Transfer → Type 0) → D → D → Driven → Driven → Type 0

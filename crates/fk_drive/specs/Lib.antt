@@ -3,6 +3,9 @@ pub mod Exchanges
 pub mod Driving
 pub mod Driven
 pub mod Rooms
+pub mod Steps
 pub mod Openings
 pub mod Sending
+pub mod Receiving
+pub mod Writing
 pub mod WriteRefusals

@@ -3,7 +3,7 @@
 ghost use Rattle.std.specs.Prelude.{◌≡◌, ◌∷◌, [], List, IfOk, IfErr};
 ghost use Rattle.fuse_device.specs.Transfers.{Transfer, received};
 ghost use Rattle.fk_drive.specs.Driving.{SendsFrame};
-ghost use Rattle.fk_drive.specs.Exchanges.{WentOver, StopsAt};
+ghost use Rattle.fk_drive.specs.Exchanges.{EndsAs, StopsAt, WentOver};
 
 use crate::end::DriveEnd;
 use fuse_device::Device;
@@ -14,11 +14,11 @@ const ROOM: usize = 131_072;
 
 /// Sends a frame. A server refuses none: what it says of one is lost.
 pub(crate) fn send_bytes<D: Device>(device: &mut D, bytes: &[u8]) -> Result<(), DriveEnd>
-    ensures { WentOver D.logs device.old device.new (SendsFrame bytes.now) }
+    ensures { WentOver D.logs device.old device.new (EndsAs result) (SendsFrame bytes.now) }
 {
     match device.send(bytes) {
         Ok(_result) => Ok(()),
-        Err(end) => Err(DriveEnd::Device(end)),
+        Err(unsent) => Err(DriveEnd::Device(unsent)),
     }
 }
 
@@ -32,7 +32,7 @@ pub(crate) fn receive_frame<A: Allocator + Copy, D: Device>(
     device: &mut D,
 ) -> Result<Vec<u8, A>, DriveEnd>
     ensures frame { IfOk result (λ frame. D.logs device.old device.new (received frame.items ∷ [])) }
-    ensures end { IfErr result (λ end. WentOver D.logs device.old device.new (StopsAt end)) }
+    ensures end { IfErr result (λ end. (log : List Transfer) × D.logs device.old device.new log × StopsAt end log) }
 {
     let Ok(mut frame) = vec![in alloc; 0u8; ROOM] else {
         return Err(DriveEnd::Memory);

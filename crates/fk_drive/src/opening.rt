@@ -1,19 +1,24 @@
 //! A directory is opened before it is listed.
 
-ghost use Rattle.std.specs.Prelude.{◌≡◌, ◌<◌, ◌^◌, ◌++◌, ◌∷◌, [], ℕ, List, true};
+ghost use Rattle.std.specs.Prelude.{◌≡◌, ◌↔◌, ◌<◌, ◌^◌, ◌++◌, ◌∷◌, [], ℕ, List, IfNone, IfSome, IsTrue, OnSome, true};
 ghost use Rattle.fuse_spec.specs.Kernel.Kernel.{Kernel as KernelState};
 ghost use Rattle.fuse_spec.specs.Kernel.Messages.{Request};
 ghost use Rattle.fuse_device.specs.Transfers.{received};
+ghost use Rattle.fk_wire.specs.Requests.{RequestMessage, Spells};
+ghost use Rattle.fk_drive_frames.specs.Filling.{IsListing};
 ghost use Rattle.fk_drive_frames.specs.OwnRequests.{ListsNode, SaysOfOpendir};
+ghost use Rattle.fk_drive_frames.specs.declared.filling.FreeFields.{FreeFields};
 ghost use Rattle.fk_drive.specs.Driven.{driven};
-ghost use Rattle.fk_drive.specs.Driving.{DrivesOver, DriveStep, Turn, opening, picked};
-ghost use Rattle.fk_drive.specs.Openings.{HasErrorNumber, turn_of, turn_where};
+ghost use Rattle.fk_drive.specs.Driving.{Runs, opening, picked};
+ghost use Rattle.fk_drive.specs.Exchanges.{WentOver};
+ghost use Rattle.fk_drive.specs.Openings.{AwaitsUntil, HasErrorNumber, StopsAsking, StopsAskingWhere, turn_of, turn_where};
 ghost use Rattle.fk_drive.specs.Rooms.{HasRoomForFrame};
+ghost use Rattle.fk_drive.specs.Steps.{SendStep};
 
 use crate::connection::{Connection, Directory};
 use crate::end::DriveEnd;
 use crate::exchange::{receive_frame, send_bytes};
-use fk_drive_frames::{OPENDIR_UNIQUES_END, OpendirSaid, opendir, said_in};
+use fk_drive_frames::{OPENDIR_UNIQUES_END, OpendirSaid, node_listed, opendir, said_in};
 use fuse_device::Device;
 use fuse_spec::Opened;
 use std::alloc::Allocator;
@@ -37,10 +42,28 @@ pub(crate) struct Listing {
 }
 
 /// Whether a directory is opened before the request that lists it.
-pub(crate) fn is_opened_first<A: Allocator + Copy>(connection: &Connection<A>) -> bool
-    ensures { result ≡ true → (connection.now.asks ≡ true) × (connection.now.next < 2 ^ 63) }
+fn is_opened_first<A: Allocator + Copy>(connection: &Connection<A>) -> bool
+    ensures { IsTrue result ↔ ((connection.now.asks ≡ true) × (connection.now.next < 2 ^ 63)) }
 {
     connection.asks && connection.next < OPENDIR_UNIQUES_END
+}
+
+/// The node of the directory that a frame lists, where it is opened before that.
+pub(crate) fn node_opened<A: Allocator + Copy>(
+    connection: &Connection<A>,
+    frame: &[u8],
+) -> Option<u64>
+    ensures asked { OnSome result ((connection.now.asks ≡ true) × (connection.now.next < 2 ^ 63)) }
+    ensures listed { IfSome result (λ node. (m : RequestMessage) × Spells frame.now m × (m.nodeid ≡ node)
+        × IsListing m.content) }
+    ensures none { IfNone result (connection.now.asks ≡ true → connection.now.next < 2 ^ 63
+        → (m : RequestMessage) → Spells frame.now m → IsListing m.content → ⊥) }
+{
+    if is_opened_first(connection) {
+        node_listed(frame)
+    } else {
+        None
+    }
 }
 
 impl<A: Allocator + Copy> Connection<A> {
@@ -56,10 +79,11 @@ impl<A: Allocator + Copy> Connection<A> {
     /// Takes what the reply to OPENDIR said.
     fn take_said(&mut self, listing: Listing, said: OpendirSaid)
         requires { HasRoomForFrame self.old }
-        ensures { (kernel : KernelState) (request : Request) (own : ℕ) (frame : List ℕ)
+        ensures said { (free_fields : FreeFields) (kernel : KernelState) (request : Request) (own : ℕ) (frame : List ℕ)
             → request.unique ≡ listing.unique → SaysOfOpendir frame own said
-            → DriveStep (driven kernel self.old (opening request own listing.node)) (received frame ∷ [])
+            → SendStep free_fields (driven kernel self.old (opening request own listing.node)) (received frame ∷ [])
             (driven kernel self.new (turn_of request said)) }
+        ensures asks { StopsAsking said self.new.asks }
     {
         match said {
             OpendirSaid::Handle(fh) => {
@@ -83,11 +107,12 @@ fn receive_said<A: Allocator + Copy, D: Device>(
     own: u64,
     listing: Listing,
 ) -> Awaited
-    ensures drives { (kernel : KernelState) (request : Request) → request.unique ≡ listing.unique
-        → DrivesOver D.logs device.old device.new
-        (driven kernel connection.old (opening request own listing.node))
-        (driven kernel connection.new (turn_where request own listing.node result)) }
+    ensures sends { (free_fields : FreeFields) (kernel : KernelState) (request : Request)
+        → request.unique ≡ listing.unique → WentOver D.logs device.old device.new (AwaitsUntil result)
+        (λ log. Runs (SendStep free_fields) (driven kernel connection.old (opening request own listing.node)) log
+        (driven kernel connection.new (turn_where request own listing.node result))) }
     ensures number { HasErrorNumber result }
+    ensures asks { StopsAskingWhere result connection.new.asks }
 {
     if let Err(end) = connection.make_room() {
         return Awaited::Ended(end);
@@ -115,11 +140,12 @@ fn await_opendir<A: Allocator + Copy, D: Device>(
     own: u64,
     listing: Listing,
 ) -> Awaited
-    ensures drives { (kernel : KernelState) (request : Request) → request.unique ≡ listing.unique
-        → DrivesOver D.logs device.old device.new
-        (driven kernel connection.old (opening request own listing.node))
-        (driven kernel connection.new (turn_where request own listing.node result)) }
+    ensures sends { (free_fields : FreeFields) (kernel : KernelState) (request : Request)
+        → request.unique ≡ listing.unique → WentOver D.logs device.old device.new (AwaitsUntil result)
+        (λ log. Runs (SendStep free_fields) (driven kernel connection.old (opening request own listing.node)) log
+        (driven kernel connection.new (turn_where request own listing.node result))) }
     ensures number { HasErrorNumber result }
+    ensures asks { StopsAskingWhere result connection.new.asks }
 {
     for _frame in 0..u64::MAX {
         match receive_said(connection, device, own, listing) {
@@ -139,16 +165,18 @@ pub(crate) fn open_directory<A: Allocator + Copy, D: Device>(
 ) -> Awaited
     requires asks { connection.old.asks ≡ true }
     requires numbers { connection.old.next < 2 ^ 63 }
-    ensures drives { (kernel : KernelState) (request : Request) → request.unique ≡ listing.unique
-        → ListsNode request.body listing.node → DrivesOver D.logs device.old device.new
-        (driven kernel connection.old (picked request))
-        (driven kernel connection.new (turn_where request connection.old.next listing.node result)) }
+    ensures sends { (free_fields : FreeFields) (kernel : KernelState) (request : Request)
+        → request.unique ≡ listing.unique → ListsNode request.body listing.node
+        → WentOver D.logs device.old device.new (AwaitsUntil result)
+        (λ log. Runs (SendStep free_fields) (driven kernel connection.old (picked request)) log
+        (driven kernel connection.new (turn_where request connection.old.next listing.node result))) }
     ensures number { HasErrorNumber result }
+    ensures asks { StopsAskingWhere result connection.new.asks }
 {
     let own = connection.next;
     connection.next += 2;
-    if let Err(end) = send_bytes(device, &opendir(own, listing.node)) {
-        return Awaited::Ended(end);
+    match send_bytes(device, &opendir(own, listing.node)) {
+        Ok(()) => await_opendir(connection, device, own, listing),
+        Err(end) => Awaited::Ended(end),
     }
-    await_opendir(connection, device, own, listing)
 }

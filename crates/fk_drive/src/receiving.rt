@@ -1,11 +1,15 @@
 //! Frames are received, and wait for the kernel or are set aside.
 
-ghost use Rattle.std.specs.Prelude.{◌≡◌, ◌++◌, ◌∷◌, [], OnOk};
+ghost use Rattle.std.specs.Prelude.{◌≡◌, ◌++◌, ◌∷◌, [], IfErr, OnOk};
 ghost use Rattle.fuse_spec.specs.Kernel.Kernel.{Kernel as KernelState};
 ghost use Rattle.fuse_device.specs.Transfers.{received};
-ghost use Rattle.fk_drive.specs.Driven.{Keeps, driven};
-ghost use Rattle.fk_drive.specs.Driving.{DrivesOver, DriveStep, Turn};
+ghost use Rattle.fk_drive.specs.Driven.{Keeps, driven, waiting_in};
+ghost use Rattle.fk_drive.specs.Driving.{DriveStep, Runs, Turn};
+ghost use Rattle.fk_drive.specs.Exchanges.{WentOver};
+ghost use Rattle.fk_drive.specs.Receiving.{ReceivesUntil};
 ghost use Rattle.fk_drive.specs.Rooms.{HasRoomForFrame};
+ghost use Rattle.fk_drive.specs.Steps.{IsKept, ReceiveStep};
+ghost use Rattle.fk_drive.specs.declared.end.DriveEnd.TheVariants.{Memory};
 
 use crate::connection::Connection;
 use crate::end::DriveEnd;
@@ -19,6 +23,7 @@ impl<A: Allocator + Copy> Connection<A> {
     pub(crate) fn make_room(&mut self) -> Result<(), DriveEnd>
         ensures same { Keeps self.old self.new }
         ensures room { OnOk result (HasRoomForFrame self.new) }
+        ensures memory { IfErr result (λ end. end ≡ Memory) }
     {
         let waiting = self.waiting.reserve(1);
         let other_frames = self.other_frames.reserve(1);
@@ -48,8 +53,9 @@ impl<A: Allocator + Copy> Connection<A> {
     /// A frame waits for the kernel, or is set aside.
     pub(crate) fn keep(&mut self, frame: Vec<u8, A>)
         requires { HasRoomForFrame self.old }
-        ensures { (kernel : KernelState) (turn : Turn) → DriveStep (driven kernel self.old turn) (received frame.items ∷ [])
-            (driven kernel self.new turn) }
+        ensures { (kernel : KernelState) (turn : Turn)
+            → (step : DriveStep (driven kernel self.old turn) (received frame.items ∷ []) (driven kernel self.new turn))
+            × IsKept frame.items step }
     {
         match other_frame_in(self.next, frame.as_slice()) {
             Some(other_frame) => self.note_other_frame(other_frame),
@@ -58,7 +64,7 @@ impl<A: Allocator + Copy> Connection<A> {
     }
 }
 
-/// Receives one frame, which waits for the kernel or is set aside.
+/// Receives one frame while none waits: it waits for the kernel, or is set aside.
 ///
 /// # Errors
 ///
@@ -67,8 +73,10 @@ pub(crate) fn receive_next<A: Allocator + Copy, D: Device>(
     connection: &mut Connection<A>,
     device: &mut D,
 ) -> Result<(), DriveEnd>
-    ensures { (kernel : KernelState) (turn : Turn) → DrivesOver D.logs device.old device.new
-        (driven kernel connection.old turn) (driven kernel connection.new turn) }
+    requires { waiting_in connection.old ≡ [] }
+    ensures { (kernel : KernelState) (turn : Turn) → WentOver D.logs device.old device.new
+        (ReceivesUntil result (driven kernel connection.new turn))
+        (λ log. Runs ReceiveStep (driven kernel connection.old turn) log (driven kernel connection.new turn)) }
 {
     connection.make_room()?;
     let frame = receive_frame(connection.alloc, device)?;

@@ -1,25 +1,27 @@
 //! What the kernel's read gives is sent.
 
 ghost use Rattle.std.specs.Prelude.{◌≡◌, ◌≤◌, ◌<◌, ◌^◌, ℕ, List, true, IfErr, IfOk, OnErr, OnOk, length};
+ghost use Rattle.fuse_device.specs.Transfers.{Transfer};
 ghost use Rattle.fuse_spec.specs.Kernel.Messages.{Request};
 ghost use Rattle.fuse_spec.specs.declared.WriteResult.{WriteResult};
 ghost use Rattle.fk_wire.specs.Replies.{IsErrorNumber, WrittenReply, empty_reply};
 ghost use Rattle.fk_drive.specs.KernelSteps.{IsReplyTaken};
 ghost use Rattle.fk_wire.specs.Requests.{RequestMessage, Spells};
-ghost use Rattle.fuse_frames.specs.RequestTies.{SaysRequest};
+ghost use Rattle.fuse_frames.specs.RequestTies.{IsRequestFrame};
 ghost use Rattle.fk_drive_frames.specs.Filling.{IsListing};
 ghost use Rattle.fk_drive_frames.specs.OwnRequests.{ListsNode};
 ghost use Rattle.fk_drive.specs.Driven.{driven};
-ghost use Rattle.fk_drive.specs.Driving.{DrivesOver, Turn, idle, picked};
-ghost use Rattle.fk_drive.specs.Exchanges.{WentOver};
-ghost use Rattle.fk_drive.specs.Sending.{IsDone, IsReadRefused, IsRequestSent, SendsListing, SendsSame};
+ghost use Rattle.fk_drive.specs.Driving.{DrivesOver, Runs, Turn, idle, picked};
+ghost use Rattle.fk_drive.specs.Exchanges.{EndsAs, WentOver};
+ghost use Rattle.fk_drive.specs.Sending.{IsAnswerRefusedAs, IsReadRefused, IsRequestSent, SendsListing, SendsNext, SendsSame, SendsUntil};
+ghost use Rattle.fk_drive.specs.Steps.{SendStep};
 ghost use Rattle.fk_kernel.specs.Picks.{IsPicked};
 
 use crate::connection::Connection;
 use crate::end::{DriveEnd, NotSent};
 use crate::exchange::send_bytes;
-use crate::opening::{Awaited, Listing, is_opened_first, open_directory};
-use fk_drive_frames::{FreeFields, OpendirSaid, fill, fill_handle, node_listed};
+use crate::opening::{Awaited, Listing, node_opened, open_directory};
+use fk_drive_frames::{FreeFields, OpendirSaid, fill, fill_handle};
 use fk_kernel::{KernelOf, Pick};
 use fk_lookup_count::CountTable;
 use fk_queues::QueueTable;
@@ -35,7 +37,7 @@ fn send_same<D: Device>(
     free_fields: FreeFields,
 ) -> Result<(), DriveEnd>
     requires { length frame.now ≤ 4176 }
-    ensures { WentOver D.logs device.old device.new (SendsSame frame.now free_fields) }
+    ensures { WentOver D.logs device.old device.new (EndsAs result) (SendsSame frame.now free_fields) }
 {
     let mut room = [0u8; MAX_FRAME];
     let filled = &mut room[..frame.len()];
@@ -48,7 +50,7 @@ fn send_same<D: Device>(
 fn send_listing<D: Device>(device: &mut D, frame: &[u8], fh: u64) -> Result<(), DriveEnd>
     requires short { length frame.now ≤ 4176 }
     requires lists { (m : RequestMessage) × Spells frame.now m × IsListing m.content }
-    ensures { WentOver D.logs device.old device.new (SendsListing frame.now fh) }
+    ensures { WentOver D.logs device.old device.new (EndsAs result) (SendsListing frame.now fh) }
 {
     let mut room = [0u8; MAX_FRAME];
     let filled = &mut room[..frame.len()];
@@ -71,11 +73,13 @@ fn send_opened<Q: QueueTable<Purpose> + Drop, C: CountTable<Heap = Q::Heap> + Dr
     requires lists { (m : RequestMessage) × Spells frame.now m × IsListing m.content }
     requires asks { connection.old.asks ≡ true }
     requires numbers { connection.old.next < 2 ^ 63 }
-    ensures { (request : Request) → SaysRequest frame.now request → request.unique ≡ listing.unique
-        → ListsNode request.body listing.node → (turn : Turn) × IsDone result turn
-        × DrivesOver D.logs device.old device.new (driven kernel.old connection.old (picked request))
-        (driven kernel.new connection.new turn) }
+    ensures { (request : Request) → IsRequestFrame frame.now request → request.unique ≡ listing.unique
+        → ListsNode request.body listing.node → (turn : Turn)
+        × WentOver D.logs device.old device.new (SendsUntil result (driven kernel.new connection.new turn))
+        (λ log. Runs (SendStep free_fields) (driven kernel.old connection.old (picked request)) log
+        (driven kernel.new connection.new turn)) }
 {
+    written_is_spelled();
     let said = match open_directory(connection, device, listing) {
         Awaited::Said(said) => said,
         Awaited::NotYet => return Err(DriveEnd::Memory),
@@ -98,7 +102,8 @@ fn answer<Q: QueueTable<Purpose> + Drop, C: CountTable<Heap = Q::Heap> + Drop>(
     ensures ok { OnOk result ((bytes : List ℕ) × (written : WriteResult)
         × WrittenReply (record { unique = unique; error = error; content = empty_reply }) bytes
         × IsReplyTaken kernel.old bytes written kernel.new) }
-    ensures err { OnErr result (kernel.new ≡ kernel.old) }
+    ensures err { IfErr result (IsAnswerRefusedAs kernel.old unique error) }
+    ensures same { OnErr result (kernel.new ≡ kernel.old) }
 {
     match kernel.write(&frame_of_error(unique, error)) {
         Ok(_result) => Ok(()),
@@ -116,15 +121,15 @@ fn send_read<Q: QueueTable<Purpose> + Drop, C: CountTable<Heap = Q::Heap> + Drop
     unique: u64,
 ) -> Result<(), DriveEnd>
     requires short { length frame.now ≤ 4176 }
-    ensures { (request : Request) → SaysRequest frame.now request → request.unique ≡ unique
-        → (turn : Turn) × IsDone result turn
-        × DrivesOver D.logs device.old device.new (driven kernel.old connection.old (picked request))
-        (driven kernel.new connection.new turn) }
+    ensures { (request : Request) → IsRequestFrame frame.now request → request.unique ≡ unique → (turn : Turn)
+        × WentOver D.logs device.old device.new (SendsUntil result (driven kernel.new connection.new turn))
+        (λ log. Runs (SendStep free_fields) (driven kernel.old connection.old (picked request)) log
+        (driven kernel.new connection.new turn)) }
 {
+    written_is_spelled();
     spelled_is_decoded();
-    let listed = node_listed(frame);
-    match listed {
-        Some(node) if is_opened_first(connection) => send_opened(
+    match node_opened(connection, frame) {
+        Some(node) => send_opened(
             kernel,
             connection,
             device,
@@ -132,7 +137,7 @@ fn send_read<Q: QueueTable<Purpose> + Drop, C: CountTable<Heap = Q::Heap> + Drop
             free_fields,
             Listing { unique, node },
         ),
-        _ => send_same(device, frame, free_fields),
+        None => send_same(device, frame, free_fields),
     }
 }
 
@@ -148,12 +153,14 @@ pub fn send_next<Q: QueueTable<Purpose> + Drop, C: CountTable<Heap = Q::Heap> + 
     pick: Pick,
     free_fields: FreeFields,
 ) -> Result<RequestFrame<Q::Heap>, NotSent>
+    ensures sends { (turn : Turn) × (log : List Transfer) × D.logs device.old device.new log
+        × SendsNext result pick free_fields (driven kernel.old connection.old idle) log
+        (driven kernel.new connection.new turn) }
     ensures drives { (turn : Turn) × IsRequestSent result turn × DrivesOver D.logs device.old device.new
         (driven kernel.old connection.old idle) (driven kernel.new connection.new turn) }
     ensures picked { IfOk result (λ frame. IsPicked kernel.old pick frame) }
     ensures refused { IfErr result (IsReadRefused kernel.old pick) }
 {
-    written_is_spelled();
     let frame = match kernel.read(pick) {
         Ok(frame) => frame,
         Err(refusal) => return Err(NotSent::Refused(refusal)),

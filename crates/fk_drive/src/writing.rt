@@ -1,12 +1,20 @@
 //! What was received is written to the kernel.
 
-ghost use Rattle.std.specs.Prelude.{◌≡◌, ◌<◌, ◌^◌, [], ℕ, List, IfErr, IfOk, IfSome, OnErr, OnOk, length, vec_len};
+ghost use Rattle.std.specs.Prelude.{◌≡◌, ◌==◌, ◌+◌, ◌<◌, ◌^◌, [], ℕ, List, Some, IfErr, IfOk, OnErr, OnOk, position, remove, slice_get, vec_len};
 ghost use Rattle.fuse_spec.specs.Kernel.Kernel.{Kernel as KernelState};
 ghost use Rattle.fk_drive_frames.specs.Agreements.{IsHandedOn};
-ghost use Rattle.fk_drive.specs.Driven.{driven};
-ghost use Rattle.fk_drive.specs.Driving.{DrivesOver, DriveStep, Turn};
+ghost use Rattle.fuse_device.specs.Transfers.{Transfer};
+ghost use Rattle.fuse_frames.specs.DecodedReplies.{HasReplyHead, head_unique};
+ghost use Rattle.fk_drive_frames.specs.OwnRequests.{IsReleasedir};
+ghost use Rattle.fk_drive.specs.Driven.{KeepsWaiting, directories_in, driven};
+ghost use Rattle.fk_drive.specs.Driving.{DrivesOver, ReleasesBehind, Runs, SendsFrame, Turn};
+ghost use Rattle.fk_drive.specs.Exchanges.{EndsAs, WentOver};
 ghost use Rattle.fk_drive.specs.KernelSteps.{IsReplyTaken};
+ghost use Rattle.fk_drive.specs.Receiving.{ReceivesUntil};
+ghost use Rattle.fk_drive.specs.Steps.{ReceiveStep};
 ghost use Rattle.fk_drive.specs.WriteRefusals.{IsFirstRefused, IsWriteRefused};
+ghost use Rattle.fk_drive.specs.Writing.{WritesFirst, WritesNext};
+ghost use Rattle.fk_drive.specs.declared.connection.Directory.{Directory};
 
 use crate::connection::{Connection, Directory};
 use crate::end::DriveEnd;
@@ -55,8 +63,9 @@ fn receive_one<A: Allocator + Copy, D: Device>(
     connection: &mut Connection<A>,
     device: &mut D,
 ) -> Result<(), DriveEnd>
-    ensures drives { (kernel : KernelState) (turn : Turn) → DrivesOver D.logs device.old device.new
-        (driven kernel connection.old turn) (driven kernel connection.new turn) }
+    ensures receives { (kernel : KernelState) (turn : Turn) → WentOver D.logs device.old device.new
+        (ReceivesUntil result (driven kernel connection.new turn))
+        (λ log. Runs ReceiveStep (driven kernel connection.old turn) log (driven kernel connection.new turn)) }
     ensures waits { OnOk result (0 < vec_len connection.new.waiting) }
 {
     for _frame in 0..u64::MAX {
@@ -65,7 +74,11 @@ fn receive_one<A: Allocator + Copy, D: Device>(
         }
         receive_next(connection, device)?;
     }
-    Err(DriveEnd::Memory)
+    if connection.waiting.len() != 0 {
+        Ok(())
+    } else {
+        Err(DriveEnd::Memory)
+    }
 }
 
 /// Sends RELEASEDIR of the open directory at a place.
@@ -76,8 +89,14 @@ fn release_at<A: Allocator + Copy, D: Device>(
 ) -> Result<(), DriveEnd>
     requires place { place < vec_len connection.old.directories }
     requires numbers { connection.old.next < 2 ^ 63 }
-    ensures { (kernel : KernelState) (turn : Turn) → DrivesOver D.logs device.old device.new
-        (driven kernel connection.old turn) (driven kernel connection.new turn) }
+    ensures sends { WentOver D.logs device.old device.new (EndsAs result) (λ log. (bytes : List ℕ) × (directory : Directory)
+        × (slice_get connection.old.directories.items place ≡ Some directory)
+        × IsReleasedir bytes connection.old.next directory.opened × SendsFrame bytes log) }
+    ensures left { connection.new.directories.items ≡ remove connection.old.directories.items place }
+    ensures same { connection.new ≡ record connection.old {
+      next = connection.old.next + 2;
+      directories = connection.new.directories;
+    } }
 {
     let directory = connection.directories.remove(place);
     let own = connection.next;
@@ -87,7 +106,7 @@ fn release_at<A: Allocator + Copy, D: Device>(
 
 /// Where the directory stands that was opened for the request under a number.
 fn place_of(directories: &[Directory], unique: u64) -> Option<usize>
-    ensures { IfSome result (λ place. place < length directories.now) }
+    ensures { result ≡ position (λ directory. directory.unique == unique) directories.now }
 {
     directories
         .iter()
@@ -100,14 +119,18 @@ fn release_directory<A: Allocator + Copy, D: Device>(
     device: &mut D,
     unique: u64,
 ) -> Result<(), DriveEnd>
-    ensures { (kernel : KernelState) (turn : Turn) → DrivesOver D.logs device.old device.new
-        (driven kernel connection.old turn) (driven kernel connection.new turn) }
+    ensures releases { (frame : List ℕ) → HasReplyHead frame → head_unique frame ≡ unique
+        → WentOver D.logs device.old device.new (EndsAs result)
+        (λ log. ReleasesBehind frame connection.old.next (directories_in connection.old) log connection.new.next
+        (directories_in connection.new)) }
+    ensures same { KeepsWaiting connection.old connection.new }
 {
+    if connection.next >= OPENDIR_UNIQUES_END {
+        return Ok(());
+    }
     match place_of(&connection.directories, unique) {
-        Some(place) if connection.next < OPENDIR_UNIQUES_END => release_at(
-            connection, device, place,
-        ),
-        _ => Ok(()),
+        Some(place) => release_at(connection, device, place),
+        None => Ok(()),
     }
 }
 
@@ -117,8 +140,7 @@ fn write_first<Q: QueueTable<Purpose> + Drop, C: CountTable<Heap = Q::Heap> + Dr
     connection: &mut Connection<Q::Heap>,
 ) -> Result<Written<Q::Heap>, Refusal>
     requires { 0 < vec_len connection.old.waiting }
-    ensures ok { OnOk result ((turn : Turn) → DriveStep (driven kernel.old connection.old turn) []
-        (driven kernel.new connection.new turn)) }
+    ensures ok { IfOk result (WritesFirst kernel.old connection.old kernel.new connection.new) }
     ensures err { OnErr result ((kernel.new ≡ kernel.old) × (connection.new ≡ connection.old)) }
     ensures refused { IfErr result (IsFirstRefused kernel.new connection.new) }
 {
@@ -137,18 +159,19 @@ fn write_first<Q: QueueTable<Purpose> + Drop, C: CountTable<Heap = Q::Heap> + Dr
 }
 
 /// Sends RELEASEDIR behind a frame that was written, where that is the reply to what listed an open directory.
-fn release_after<A: Allocator + Copy, D: Device>(
+fn release_behind<A: Allocator + Copy, D: Device>(
     connection: &mut Connection<A>,
     device: &mut D,
-    written: &mut Written<A>,
-)
-    ensures { (kernel : KernelState) (turn : Turn) → DrivesOver D.logs device.old device.new
-        (driven kernel connection.old turn) (driven kernel connection.new turn) }
+    frame: &[u8],
+) -> Result<(), DriveEnd>
+    ensures releases { WentOver D.logs device.old device.new (EndsAs result)
+        (λ log. ReleasesBehind frame.now connection.old.next (directories_in connection.old) log connection.new.next
+        (directories_in connection.new)) }
+    ensures same { KeepsWaiting connection.old connection.new }
 {
-    if let Ok(head) = ReplyHead::read(&written.frame) {
-        if let Err(end) = release_directory(connection, device, head.unique) {
-            written.end = Some(end);
-        }
+    match ReplyHead::read(frame) {
+        Ok(head) => release_directory(connection, device, head.unique),
+        Err(_) => Ok(()),
     }
 }
 
@@ -163,6 +186,8 @@ pub fn write_next<Q: QueueTable<Purpose> + Drop, C: CountTable<Heap = Q::Heap> +
     connection: &mut Connection<Q::Heap>,
     device: &mut D,
 ) -> Result<Result<Written<Q::Heap>, Refusal>, DriveEnd>
+    ensures writes { (turn : Turn) → (log : List Transfer) × D.logs device.old device.new log
+        × WritesNext result (driven kernel.old connection.old turn) log (driven kernel.new connection.new turn) }
     ensures drives { (turn : Turn) → DrivesOver D.logs device.old device.new (driven kernel.old connection.old turn)
         (driven kernel.new connection.new turn) }
     ensures refused { IfOk result (λ written. IfErr written (IsFirstRefused kernel.new connection.new)) }
@@ -170,7 +195,7 @@ pub fn write_next<Q: QueueTable<Purpose> + Drop, C: CountTable<Heap = Q::Heap> +
     receive_one(connection, device)?;
     match write_first(kernel, connection) {
         Ok(mut written) => {
-            release_after(connection, device, &mut written);
+            written.end = release_behind(connection, device, &written.frame).err();
             Ok(Ok(written))
         }
         Err(refusal) => Ok(Err(refusal)),

@@ -1,13 +1,16 @@
-use Rattle.std.proofs.Common.{◌≡◌}
+use Rattle.std.proofs.Common.{◌≡◌, None}
 use Rattle.fuse_spec.specs.Kernel.Kernel.{Kernel}
 use Rattle.fuse_spec.specs.Kernel.Messages.{Request}
+use Rattle.fk_drive_frames.specs.declared.filling.FreeFields.{FreeFields}
 use Rattle.fk_drive.specs.Driven.{driven}
-use Rattle.fk_drive.specs.Driving.{DrivesOver, opening}
+use Rattle.fk_drive.specs.Driving.{Runs, opening}
+use Rattle.fk_drive.specs.Exchanges.{Ends, WentOver}
+use Rattle.fk_drive.specs.Steps.{SendStep}
 use Rattle.fk_drive.proofs.opening.await_opendir.Given as goal
 
 -- no reply to OPENDIR came yet
 abbrev pub invariant-loop-frame : goal.invariant-loop-frame
-invariant-loop-frame g l = (kernel : Kernel) (request : Request) → request.unique ≡ l.listing.unique
-    → DrivesOver g.D.Device.logs l.initial.device l.device
-    (driven kernel l.initial.connection (opening request l.own l.listing.node))
-    (driven kernel l.connection (opening request l.own l.listing.node))
+invariant-loop-frame g l = (free_fields : FreeFields) (kernel : Kernel) (request : Request)
+    → request.unique ≡ l.listing.unique → WentOver g.D.Device.logs l.initial.device l.device (Ends None)
+    (λ log. Runs (SendStep free_fields) (driven kernel l.initial.connection (opening request l.own l.listing.node)) log
+    (driven kernel l.connection (opening request l.own l.listing.node)))

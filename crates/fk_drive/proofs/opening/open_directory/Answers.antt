@@ -1,30 +1,45 @@
+use Rattle.std.proofs.Common.{◌+◌, refl}
 use Rattle.fk_drive.specs.Driven.{driven}
 use Rattle.fk_drive.specs.Driving.{opening, opens, picked}
-use Rattle.std.proofs.Common.{refl, ◌+◌}
-use Rattle.fk_drive.specs.Openings.{turn_where}
-use Rattle.fk_drive.proofs.Drivings.{over_on, over_step}
+use Rattle.fk_drive.specs.Openings.{AwaitsUntil, turn_where}
+use Rattle.fk_drive.specs.Steps.{SendStep}
+use Rattle.fk_drive.proofs.Drivings.{one_run, went_on}
+use Rattle.fk_drive.proofs.Ending.{awaits_as, awaits_on}
 use Rattle.fk_drive.proofs.opening.open_directory.Goals as goal
 
-pub returns-in-Err-clause-drives : goal.returns-in-Err-clause-drives
-returns-in-Err-clause-drives g c kernel request under lists =
-    let (log, over, sends) = c.send_bytes.ensures in
-    let first = c.args.connection.now in
-    over_step g.D.Device.logs g.met.D.Device.goes_on c.args.device.now c.send_bytes.new.device
-    (driven kernel first (picked request))
-    (driven kernel (record first { next = first.next + 2 }) (opening request first.next c.args.listing.node)) log over
-    (opens request refl c.requires.asks c.args.listing.node lists c.opendir.result c.opendir.ensures log sends)
+pub returns-in-Err-clause-sends : goal.returns-in-Err-clause-sends
+returns-in-Err-clause-sends g c free_fields kernel request under lists =
+    let (log, over, ends, sends) = c.in-Err.ensures in
+    let first = c.args.connection.now in (
+      log,
+      over,
+      awaits_as c.in-Err.end log ends,
+      one_run (SendStep free_fields) (driven kernel first (picked request))
+          (driven kernel (record first { next = first.next + 2 }) (opening request first.next c.args.listing.node)) log (
+            opens request refl c.requires.asks c.requires.numbers c.args.listing.node lists c.opendir.result
+                c.opendir.ensures log sends,
+            tt,
+          ),
+    )
 
-pub returns-clause-drives : goal.returns-clause-drives
-returns-clause-drives g c kernel request under lists =
-    let (log, over, sends) = c.send_bytes.ensures in
+pub returns-in-Ok-clause-sends : goal.returns-in-Ok-clause-sends
+returns-in-Ok-clause-sends g c free_fields kernel request under lists =
+    let (log, over, ends, sends) = c.in-Ok.ensures in
     let first = c.args.connection.now in
     let turn = opening request first.next c.args.listing.node in
-    over_on g.D.Device.logs g.met.D.Device.goes_on c.args.device.now c.send_bytes.new.device
-    c.await_opendir.new.device (driven kernel first (picked request))
-    (driven kernel (record first { next = first.next + 2 }) turn)
+    let mid = driven kernel (record first { next = first.next + 2 }) turn in
+    went_on g.D.Device.logs g.met.D.Device.goes_on (SendStep free_fields) (AwaitsUntil c.await_opendir.result)
+    (awaits_on c.await_opendir.result) c.args.device.now c.send_bytes.new.device
+    c.await_opendir.new.device (driven kernel first (picked request)) mid
     (driven kernel c.await_opendir.new.connection
-    (turn_where request first.next c.args.listing.node c.await_opendir.result))
-    (over_step g.D.Device.logs g.met.D.Device.goes_on c.args.device.now c.send_bytes.new.device
-    (driven kernel first (picked request)) (driven kernel (record first { next = first.next + 2 }) turn) log over
-    (opens request refl c.requires.asks c.args.listing.node lists c.opendir.result c.opendir.ensures log sends))
-    (c.await_opendir.ensures.drives kernel request under)
+    (turn_where request first.next c.args.listing.node c.await_opendir.result)) (
+      log,
+      over,
+      ends,
+      one_run (SendStep free_fields) (driven kernel first (picked request)) mid log (
+        opens request refl c.requires.asks c.requires.numbers c.args.listing.node lists c.opendir.result
+            c.opendir.ensures log sends,
+        tt,
+      ),
+    )
+    (c.await_opendir.ensures.sends free_fields kernel request under)

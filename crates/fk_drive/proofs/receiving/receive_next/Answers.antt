@@ -1,28 +1,56 @@
-use Rattle.std.proofs.Common.{[], ◌∷◌, subst}
+use Rattle.std.proofs.Common.{◌≡◌, [], ◌∷◌, refl, subst, sym}
 use Rattle.fuse_device.specs.Transfers.{received}
 use Rattle.fk_drive.specs.Driven.{driven}
-use Rattle.fk_drive.specs.Driving.{Driven, DrivesOver, DriveStep}
-use Rattle.fk_drive.proofs.Drivings.{over_same, over_step, over_stopped}
+use Rattle.fk_drive.specs.Driving.{Driven, Runs, nothing}
+use Rattle.fk_drive.specs.Receiving.{ReceivesUntil}
+use Rattle.fk_drive.specs.Steps.{ReceiveStep}
+use Rattle.std.specs.Prelude.{Err}
+use Rattle.std.proofs.lemmas.Result.{err_from_is_err_and}
+use Rattle.fk_drive.specs.declared.end.DriveEnd.{DriveEnd}
+use Rattle.fk_drive.proofs.Drivings.{one_run}
+use Rattle.fk_drive.proofs.Keeping.{kept_receives, receives_stopped}
 use Rattle.fk_drive.proofs.receiving.receive_next.Goals as goal
 
 pub returns-in_err-make_room : goal.returns-in_err-make_room
-returns-in_err-make_room g c kernel turn = over_same g.D.Device.logs g.met.D.Device.goes_on g.met.D.Device.stays
-    c.args.device.now (driven kernel c.args.connection.now turn) (driven kernel c.make_room.new.self turn)
-    (c.make_room.ensures.same kernel turn)
+returns-in_err-make_room g c kernel turn =
+    let first = driven kernel c.args.connection.now turn in
+    let room = driven kernel c.make_room.new.self turn in
+    let same = c.make_room.ensures.same kernel turn in
+    let none : room.waiting ≡ [] = subst (λ (s : Driven). s.waiting ≡ []) (sym same) c.requires in
+    let p = err_from_is_err_and c.from_residual.result c.from_residual.ensures.1 in (
+      [],
+      g.met.D.Device.stays c.args.device.now,
+      rw (p.1, p.2) (subst (λ (end : DriveEnd). ReceivesUntil {T = Unit {0}} (Err end) room [])
+          (sym c.in_err-make_room.ensures.memory) (refl, none)),
+      subst (λ (s : Driven). Runs ReceiveStep first [] s) (sym same) nothing,
+    )
 
 pub returns-in_err-frame : goal.returns-in_err-frame
 returns-in_err-frame g c kernel turn =
     let room = driven kernel c.make_room.new.self turn in
-    subst (λ (s : Driven). DrivesOver g.D.Device.logs c.args.device.now c.receive_frame.new.device s room)
-    (c.make_room.ensures.same kernel turn)
-    (over_stopped g.D.Device.logs g.met.D.Device.goes_on c.args.device.now c.receive_frame.new.device
-    c.in_err-frame.field-0.0 c.in_err-frame.ensures.end room)
+    let same = c.make_room.ensures.same kernel turn in
+    let none : room.waiting ≡ [] = subst (λ (s : Driven). s.waiting ≡ []) (sym same) c.requires in
+    let (log, over, is) = c.in_err-frame.ensures.end in
+    let (ends, runs) = receives_stopped c.in_err-frame.field-0.0 log is room none in
+    let p = err_from_is_err_and c.from_residual-in_err-frame.result c.from_residual-in_err-frame.ensures.1 in (
+      log,
+      over,
+      rw (p.1, p.2) ends,
+      subst (λ (s : Driven). Runs ReceiveStep s log room) same runs,
+    )
 
 pub returns : goal.returns
 returns g c kernel turn =
-    let frame = c.in_ok-frame.frame.items in
-    over_step g.D.Device.logs g.met.D.Device.goes_on c.args.device.now c.receive_frame.new.device
-    (driven kernel c.args.connection.now turn) (driven kernel c.keep.new.self turn) (received frame ∷ [])
-    c.in_ok-frame.ensures.frame
-    (subst (λ (s : Driven). DriveStep s (received frame ∷ []) (driven kernel c.keep.new.self turn))
-    (c.make_room.ensures.same kernel turn) (c.keep.ensures kernel turn))
+    let first = driven kernel c.args.connection.now turn in
+    let room = driven kernel c.make_room.new.self turn in
+    let same = c.make_room.ensures.same kernel turn in
+    let none : room.waiting ≡ [] = subst (λ (s : Driven). s.waiting ≡ []) (sym same) c.requires in
+    let after = driven kernel c.keep.new.self turn in
+    let frame = c.in_ok-frame.frame.items in (
+      received frame ∷ [],
+      c.in_ok-frame.ensures.frame,
+      refl,
+      one_run ReceiveStep first after (received frame ∷ [])
+          (subst (λ (s : Driven). ReceiveStep s (received frame ∷ []) after) same
+          (kept_receives room (received frame ∷ []) after frame none (c.keep.ensures kernel turn))),
+    )

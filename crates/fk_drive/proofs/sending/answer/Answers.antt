@@ -16,3 +16,12 @@ returns-in-Ok-clause-ok g c =
       taken_of c.args.kernel.now bytes written c.write.new.self c.in-Ok.ensures.headless c.in-Ok.ensures.unawaited
           c.in-Ok.ensures.taken,
     )
+
+pub returns-in-Err-clause-err : goal.returns-in-Err-clause-err
+returns-in-Err-clause-err g c =
+    let bytes = c.frame_of_error.result in (
+      bytes,
+      subst (λ (e : ℤ). WrittenReply (record { unique = c.args.unique; error = e; content = empty_reply }) bytes)
+          (same_error c.args.error c.requires) c.frame_of_error.ensures,
+      c.in-Err.ensures.refusal,
+    )

@@ -1,23 +1,35 @@
 use Rattle.std.proofs.Common.{refl}
 use Rattle.fk_drive.specs.Driven.{driven}
 use Rattle.fk_drive.specs.Driving.{idle, picked, sends}
-use Rattle.fk_drive.proofs.Drivings.{over_step}
-use Rattle.fk_drive.proofs.Requests.{lists_of}
-use Rattle.fk_drive.proofs.Sent.{done_idle}
+use Rattle.fk_drive.specs.Steps.{SendStep}
+use Rattle.fk_drive.proofs.Drivings.{one_run}
+use Rattle.fk_drive.proofs.Requests.{lists_of, not_listed, says_of, sent_for}
+use Rattle.fk_drive.proofs.Sent.{sent_until}
 use Rattle.fk_drive.proofs.sending.send_read.Goals as goal
 
 pub returns-in-Some : goal.returns-in-Some
-returns-in-Some g c request says under =
-    c.send_opened.ensures request says under
-    (lists_of c.spelled_is_decoded.ensures c.args.frame.now c.in-Some.node c.in-Some.ensures.some request says)
+returns-in-Some g c request is under =
+    c.send_opened.ensures request is under
+    (lists_of c.spelled_is_decoded.ensures c.args.frame.now c.in-Some.node c.in-Some.ensures.listed request
+    (says_of c.written_is_spelled.ensures c.args.frame.now request is))
 
-pub returns-in_default : goal.returns-in_default
-returns-in_default g c request says under =
-    let (log, over, sent) = c.send_same.ensures in
-    let kernel = c.args.kernel.now in (
+pub returns-in-None : goal.returns-in-None
+returns-in-None g c request is under =
+    let (log, over, ends, sent) = c.send_same.ensures in
+    let spells = c.written_is_spelled.ensures in
+    let frame = c.args.frame.now in
+    let first = driven c.args.kernel.now c.args.connection.now (picked request) in
+    let last = driven c.args.kernel.now c.args.connection.now idle in (
       idle,
-      done_idle c.send_same.result,
-      over_step g.D.Device.logs g.met.D.Device.goes_on c.args.device.now c.send_same.new.device
-          (driven kernel c.args.connection.now (picked request)) (driven kernel c.args.connection.now idle) log over
-          (sends request refl sent.frame (sent.same request says) log sent.sends),
+      (
+        log,
+        over,
+        sent_until c.send_same.result last refl log ends,
+        one_run (SendStep c.args.free_fields) first last log (
+          sends request refl
+              (λ asks left. not_listed spells frame request is (c.in-None.ensures.none asks left))
+              sent.frame (sent.same request (says_of spells frame request is)) log sent.sends,
+          sent_for spells frame request is c.args.free_fields sent.frame sent.filled,
+        ),
+      ),
     )

@@ -7,10 +7,11 @@ use Rattle.fk_drive.proofs.sending.send_same.Goals as goal
 
 pub returns : goal.returns
 returns g c =
-    let (log, over, sends) = c.send_bytes.ensures in
+    let (log, over, ends, sends) = c.send_bytes.ensures in
     let filled = c.fill.new.frame in (
       log,
       over,
+      ends,
       record {
         frame = filled;
         same = subst (λ (l : List ℕ). (request : Request) → SaysRequest l request → SaysRequest filled request)

@@ -1,0 +1,42 @@
+-- How calls end, one after another.
+use Rattle.std.proofs.Common.{List, ◌++◌, Some, None}
+use Rattle.std.specs.Prelude.{Result, Ok, Err}
+use Rattle.fuse_device.specs.Transfers.{Transfer}
+use Rattle.fk_drive.specs.Driving.{Driven}
+use Rattle.fk_drive.specs.Exchanges.{Ends, EndsAs}
+use Rattle.fk_drive.specs.Openings.{AwaitsUntil}
+use Rattle.fk_drive.specs.Receiving.{ReceivesUntil}
+use Rattle.fk_drive.specs.Sending.{SendsUntil}
+use Rattle.fk_drive.specs.declared.end.DriveEnd.{DriveEnd}
+use Rattle.fk_drive.specs.declared.end.DriveEnd.TheVariants as at
+use Rattle.fk_drive.specs.declared.opening.Awaited.{Awaited}
+use Rattle.fk_drive.specs.declared.opening.Awaited.TheVariants.{Said, NotYet, Ended}
+use Rattle.fk_drive.proofs.Drivings.{ends_on}
+
+pub receives_on : {T : Type 0} (r : Result T DriveEnd) (new : Driven) (h k : List Transfer) → Ends None h
+    → ReceivesUntil r new k → ReceivesUntil r new (h ++ k)
+receives_on (Ok _) new h k none ends = ends_on None h k none ends
+receives_on (Err (at.Device end)) new h k none ends = ends_on (Some end) h k none ends
+receives_on (Err at.Memory) new h k none ends = (ends_on None h k none ends.0, ends.1)
+receives_on (Err (at.Refused refusal)) new h k none ends = ends
+
+pub awaits_on : (awaited : Awaited) (h k : List Transfer) → Ends None h → AwaitsUntil awaited k
+    → AwaitsUntil awaited (h ++ k)
+awaits_on (Said said) h k none ends = ends_on None h k none ends
+awaits_on NotYet h k none ends = ends_on None h k none ends
+awaits_on (Ended (at.Device end)) h k none ends = ends_on (Some end) h k none ends
+awaits_on (Ended at.Memory) h k none ends = ends_on None h k none ends
+awaits_on (Ended (at.Refused refusal)) h k none ends = ends
+
+pub sends_on : {T : Type 0} (r : Result T DriveEnd) (new : Driven) (h k : List Transfer) → Ends None h
+    → SendsUntil r new k → SendsUntil r new (h ++ k)
+sends_on (Ok _) new h k none ends = (ends_on None h k none ends.0, ends.1)
+sends_on (Err (at.Device end)) new h k none ends = ends_on (Some end) h k none ends
+sends_on (Err at.Memory) new h k none ends = (ends_on None h k none ends.0, ends.1)
+sends_on (Err (at.Refused refusal)) new h k none ends = (ends_on None h k none ends.0, ends.1)
+
+-- the device ended as OPENDIR was sent
+pub awaits_as : (end : DriveEnd) (log : List Transfer) → EndsAs {T = Unit {0}} (Err end) log → AwaitsUntil (Ended end) log
+awaits_as (at.Device end) log ends = ends
+awaits_as at.Memory log ends = absurd ends
+awaits_as (at.Refused refusal) log ends = absurd ends
