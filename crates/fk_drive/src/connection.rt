@@ -1,6 +1,6 @@
 //! What is kept of a kernel's connection to a server.
 
-ghost use Rattle.std.specs.Prelude.{◌≡◌};
+ghost use Rattle.std.specs.Prelude.{◌≡◌, []};
 
 use fk_drive_frames::{FIRST_OPENDIR_UNIQUE, OtherFrame};
 use fuse_spec::Opened;
@@ -26,7 +26,7 @@ pub struct Connection<A: Allocator + Copy> {
 
 impl<A: Allocator + Copy> Connection<A> {
     ghost use Rattle.fk_drive.specs.Driving.{first_driven};
-    ghost use Rattle.fk_drive.specs.Driven.{Keeps, driven};
+    ghost use Rattle.fk_drive.specs.Driven.{Keeps, driven, other_frames_in};
     ghost use Rattle.fk_drive.specs.Driving.{idle};
     ghost use Rattle.fuse_spec.specs.World.Worlds.{first_kernel};
 
@@ -46,7 +46,9 @@ impl<A: Allocator + Copy> Connection<A> {
 
     /// The frames that were set aside since this was last asked, the oldest first. They are gone then.
     pub fn take_other_frames(&mut self) -> Vec<OtherFrame, A>
-        ensures { Keeps self.old self.new }
+        ensures keeps { Keeps self.old self.new }
+        ensures given { result.items ≡ other_frames_in self.old }
+        ensures gone { other_frames_in self.new ≡ [] }
     {
         let empty = Vec::new(self.alloc);
         std::mem::replace(&mut self.other_frames, empty)
