@@ -83,14 +83,14 @@ pub(crate) fn fault_of_beginning(flags: Flags, opcode: Opcode) -> Option<Fault>
 }
 
 /// The fault of a kernel that writes so many bytes.
-pub(crate) fn fault_of_write(flags: Flags, size: u32) -> Option<Fault>
+pub(crate) fn fault_of_write(flags: Flags, size: u64) -> Option<Fault>
     ensures { (s : Session) → AreFlags s flags → IsFault (BreaksWrite s size) result }
 {
     let most = match flags.max_write {
         Some(max_write) => max_write.max(PAGE),
         None => PAGE,
     };
-    if most < size {
+    if u64::from(most) < size {
         Some(Fault::WriteTooLarge)
     } else {
         None

@@ -30,6 +30,7 @@ fn asks(unique: u64, opcode: Opcode, nodeid: u64, uses: Option<OpenFile>) -> Act
     let asked = Asked {
         opcode,
         asked: 0,
+        writes: 0,
         nodeid,
         other: 0,
         uses,

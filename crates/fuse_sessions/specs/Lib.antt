@@ -1,5 +1,6 @@
 pub mod Counts
 pub mod Faults
+pub mod Frames
 pub mod Numbers
 pub mod OpenFiles
 pub mod Parties

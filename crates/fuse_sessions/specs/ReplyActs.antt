@@ -50,11 +50,15 @@ may_be_missing o = false
 abbrev pub of_no_kind : Entry → List Act
 of_no_kind e = if is_kind (kind_of e.attributes) then [] else Faulty fault.EntryOfNoKind ∷ []
 
+-- an entry gives its node
+abbrev pub gift_acts : Entry → List Act
+gift_acts e = of_no_kind e ++ Gives e.nodeid (file_of e) (is_counted e) ∷ []
+
 -- what an entry is, in a reply to a request of an opcode
 abbrev pub entry_acts : Opcode → Entry → List Act
 entry_acts o e = if nat_eq e.nodeid 1 then Faulty fault.EntryOfTheRoot ∷ [] else (
     if nat_eq e.nodeid 0 then (if may_be_missing o then [] else Faulty fault.EntryOfNoNode ∷ [])
-    else (of_no_kind e ++ Gives e.nodeid (file_of e) (is_counted e) ∷ []))
+    else gift_acts e)
 
 abbrev pub is_name : List ℕ → List ℕ → Bool
 is_name a b = pointwise nat_eq a b
@@ -77,11 +81,11 @@ opening_none op.Opendir = OpensNone kind.Directory ∷ []
 opening_none o = []
 
 -- Of WRITE and of the copies the number is how many bytes were written.
-abbrev pub counting : Opcode → (said asked : ℕ) → List Act
-counting op.Write said asked = if nat_lt asked said then Faulty fault.MoreThanWasAsked ∷ [] else []
-counting op.CopyFileRange said asked = if nat_lt asked said then Faulty fault.MoreThanWasAsked ∷ [] else []
-counting op.CopyFileRange64 said asked = if nat_lt asked said then Faulty fault.MoreThanWasAsked ∷ [] else []
-counting o said asked = []
+abbrev pub counting : Opcode → (said most : ℕ) → List Act
+counting op.Write said most = if nat_lt most said then Faulty fault.MoreThanWasAsked ∷ [] else []
+counting op.CopyFileRange said most = if nat_lt most said then Faulty fault.MoreThanWasAsked ∷ [] else []
+counting op.CopyFileRange64 said most = if nat_lt most said then Faulty fault.MoreThanWasAsked ∷ [] else []
+counting o said most = []
 
 -- The acts of what an accepted reply says.
 abbrev pub answer_acts : Asked → AnswerContent → List Act
@@ -90,7 +94,7 @@ answer_acts a (answer.entry e) = entry_acts a.opcode e
 answer_acts a (answer.attributes v) = Describes a.nodeid (kind_of v.attributes) v.attributes.ino ∷ []
 answer_acts a (answer.opened o) = opening a.opcode a.nodeid o.handle
 answer_acts a (answer.created e o) = entry_acts a.opcode e ++ opening a.opcode e.nodeid o.handle
-answer_acts a (answer.number n) = counting a.opcode n a.asked
+answer_acts a (answer.number n) = counting a.opcode n a.writes
 answer_acts a (answer.entry_records rs) = flat_map record_acts rs
 answer_acts a (answer.init i) = Agrees i.max_write ∷ []
 answer_acts a other = []

@@ -28,32 +28,37 @@ node_named op.Init node = 0
 node_named op.Destroy node = 0
 node_named o node = node
 
+-- the open file of a handle
+abbrev pub file_of_handle : ℕ → OpenHandle → Option OpenFile
+file_of_handle node (handle.File fh) = Some (record { kind = kind.File; nodeid = node; fh = fh })
+file_of_handle node (handle.Directory fh) = Some (record { kind = kind.Directory; nodeid = node; fh = fh })
+file_of_handle node (handle.TwoFiles fh other) = Some (record { kind = kind.File; nodeid = node; fh = fh })
+file_of_handle node handle.None = None
+
 -- the open file that a request uses: none that releases one does
 abbrev pub file_used : Opcode → ℕ → OpenHandle → Option OpenFile
 file_used op.Release node h = None
 file_used op.Releasedir node h = None
-file_used o node (handle.File fh) = Some (record { kind = kind.File; nodeid = node; fh = fh })
-file_used o node (handle.Directory fh) = Some (record { kind = kind.Directory; nodeid = node; fh = fh })
-file_used o node (handle.TwoFiles fh other) = Some (record { kind = kind.File; nodeid = node; fh = fh })
-file_used o node handle.None = None
+file_used o node h = file_of_handle node h
 
 -- the open file to which a range is copied
 abbrev pub file_copied_to : ℕ → OpenHandle → Option OpenFile
 file_copied_to other (handle.TwoFiles fh to) = Some (record { kind = kind.File; nodeid = other; fh = to })
 file_copied_to other h = None
 
--- how many bytes a reply may have, or say that were written
-abbrev pub bytes_asked : Opcode → RequestMessage → ℕ
-bytes_asked op.Write m = number_of (number_in (places_at op.Write).size m.fixed)
-bytes_asked op.CopyFileRange m = number_of (number_in (places_at op.CopyFileRange).size m.fixed)
-bytes_asked op.CopyFileRange64 m = number_of (number_in (places_at op.CopyFileRange64).size m.fixed)
-bytes_asked o m = m.asked
+-- how many bytes a request writes or copies, at most
+abbrev pub bytes_written : Opcode → RequestMessage → ℕ
+bytes_written op.Write m = number_of (number_in (places_at op.Write).size m.fixed)
+bytes_written op.CopyFileRange m = number_of (number_in (places_at op.CopyFileRange).size m.fixed)
+bytes_written op.CopyFileRange64 m = number_of (number_in (places_at op.CopyFileRange64).size m.fixed)
+bytes_written o m = 0
 
 -- what others are judged by
 abbrev pub asked_of : Opcode → RequestMessage → Asked
 asked_of o m = record {
   opcode = o;
-  asked = bytes_asked o m;
+  asked = m.asked;
+  writes = bytes_written o m;
   nodeid = node_named o m.nodeid;
   other = or_none m.node;
   uses = file_used o m.nodeid m.handle;

@@ -30,8 +30,10 @@ pub struct File {
 #[derive(Clone, Copy, Debug, PartialEq, Eq)]
 pub struct Asked {
     pub opcode: Opcode,
-    /// How many bytes its reply may have or say; 0 where it asks for none.
+    /// How many bytes its reply may have; 0 where it asks for none.
     pub asked: u32,
+    /// How many bytes it writes or copies, at most; else 0.
+    pub writes: u64,
     /// The node that it names, or 0.
     pub nodeid: u64,
     /// The further node that it names, or 0: RENAME's new directory, LINK's old node, where a range is copied to.
@@ -91,7 +93,7 @@ pub enum Act {
     /// An open file is released.
     Releases(OpenFile),
     /// A WRITE has this many bytes.
-    Writes(u32),
+    Writes(u64),
 
     // Of the server and the device.
     /// The device takes a reply under a number, or refuses it; the reply is one to its request or not.

@@ -7,8 +7,10 @@
 
 pub mod act;
 pub mod fault;
+pub mod known;
 pub mod transfer;
 
 pub use act::{Act, Asked, File, OpenFile, OpenKind, Taken};
 pub use fault::{Fault, Party};
+pub use known::Known;
 pub use transfer::Transfer;

@@ -1,0 +1,149 @@
+-- What went over a device, read as acts: by the shapes of its frames, by what INIT agreed on, and by what waits.
+-- Sources: linux/fuse.h, the kernel's fuse.rst and dev.c.
+use Rattle.std.specs.Prelude.{◌≡◌, ℕ, ◌+◌, ◌-◌, ◌%◌, ◌^◌, ◌==◌, ◌⊎◌, Bool, true, false, MatchBool, if◌then◌else◌, bit_and, List, [], ◌∷◌, ◌++◌, Option, Some, None}
+use Rattle.fk_fields.specs.Fields.{number_at}
+use Rattle.fuse_protocol.specs.declared.agreed.Agreed.{Agreed}
+use Rattle.fuse_protocol.specs.declared.init.InitRequest.{InitRequest}
+use Rattle.fuse_protocol.specs.declared.init.InitReply.{InitReply}
+use Rattle.fuse_protocol.specs.declared.opcode.Opcode.{Opcode}
+use Rattle.fuse_protocol.specs.declared.opcode.Opcode.TheVariants as op
+use Rattle.fuse_protocol.specs.Agreement.{before_init, IsAgreement}
+use Rattle.fuse_protocol.specs.Init.{init_request_at}
+use Rattle.fuse_protocol.specs.Inits.{IsInit}
+use Rattle.fuse_protocol.specs.Requests.{RequestMessage, IsRequest}
+use Rattle.fuse_protocol.specs.Table.{row_at}
+use Rattle.fuse_replies.specs.Replies.{AnswerContent, ReplyMessage, IsFrame, IsErrorWord, IsReply}
+use Rattle.fuse_replies.specs.Replies as answer
+use Rattle.fuse_replies.specs.Notifications.{NotificationContent, IsNotification}
+use Rattle.fuse_sessions.specs.declared.act.Act.{Act}
+use Rattle.fuse_sessions.specs.declared.act.Act.TheVariants.{Faulty, Arrives, Takes, Replies, RepliesToInterrupt, SeveralReaders, Ends}
+use Rattle.fuse_sessions.specs.declared.act.Asked.{Asked}
+use Rattle.fuse_sessions.specs.declared.act.Taken.{Taken}
+use Rattle.fuse_sessions.specs.declared.act.Taken.TheVariants as taken
+use Rattle.fuse_sessions.specs.declared.fault.Fault.TheVariants as fault
+use Rattle.fuse_sessions.specs.declared.known.Known.{Known}
+use Rattle.fuse_sessions.specs.declared.transfer.Transfer.{Transfer}
+use Rattle.fuse_sessions.specs.declared.transfer.Transfer.TheVariants as transfer
+use Rattle.fuse_sessions.specs.Sessions.{Session}
+use Rattle.fuse_sessions.specs.Waiting.{waits}
+use Rattle.fuse_sessions.specs.RequestActs.{request_acts}
+use Rattle.fuse_sessions.specs.ReplyActs.{answer_acts}
+
+-- Read as a message, this is done by what it says; where it is none, this.
+abbrev pub Reads : {M : Type 0} → (Is Does : M → Type 0) → (else_does : Type 0) → Type 0
+Reads {M} Is Does else_does = ((m : M) × Is m × Does m) ⊎ (((m : M) → Is m → ⊥) × else_does)
+
+-- ---- requests
+
+-- The bytes are a request of an opcode's row.
+abbrev pub IsRequestOf : Agreed → List ℕ → Opcode × RequestMessage → Type 0
+IsRequestOf agreed bytes q = IsRequest agreed bytes (row_at q.0) q.1
+
+-- A request is one of a row, or it arrives and is malformed.
+abbrev pub AreRequestActs : Agreed → List ℕ → List Act → Type 0
+AreRequestActs agreed bytes acts = Reads (IsRequestOf agreed bytes) (λ q. acts ≡ request_acts q.0 q.1)
+    (acts ≡ Arrives ∷ Faulty fault.MalformedRequest ∷ [])
+
+-- What is offered is what the first INIT offers.
+abbrev pub IsFirstInit : Known → List ℕ → Type 0
+IsFirstInit k bytes = (k.offered ≡ None) × IsInit bytes
+
+abbrev pub IsOffered : Known → List ℕ → Known → Type 0
+IsOffered k bytes later = (IsFirstInit k bytes × (later ≡ record k { offered = Some (init_request_at bytes) }))
+    ⊎ ((IsFirstInit k bytes → ⊥) × (later ≡ k))
+
+-- ---- replies and notifications
+
+-- the number and the error of a frame that is written
+abbrev pub number_in : List ℕ → ℕ
+number_in bytes = number_at 8 8 bytes
+
+abbrev pub error_in : List ℕ → ℕ
+error_in bytes = number_at 4 4 bytes
+
+-- A notification has number 0. None is an act that others are judged by.
+abbrev pub AreNotificationActs : Agreed → List ℕ → List Act → Type 0
+AreNotificationActs agreed bytes acts = Reads (IsNotification agreed bytes) (λ m. acts ≡ [])
+    (acts ≡ Faulty fault.MalformedNotification ∷ [])
+
+-- -EAGAIN, -11, in 32 bits
+abbrev pub eagain : ℕ
+eagain = 2 ^ 32 - 11
+
+-- A reply under an odd number is one to the INTERRUPT of the request one below. (fuse.rst)
+abbrev pub interrupt_acts : List ℕ → Taken → List Act
+interrupt_acts bytes t = RepliesToInterrupt (number_in bytes - 1) (error_in bytes == eagain) t ∷ []
+
+-- INIT's reply is of protocol 7, and has no flag that its request lacks. (linux/fuse.h)
+abbrev pub of_version : InitReply → List Act
+of_version i = if i.major == 7 then [] else Faulty fault.InitOfAnotherVersion ∷ []
+
+abbrev pub of_offered : InitRequest → InitReply → List Act
+of_offered r i = if bit_and i.flags r.flags == i.flags then [] else Faulty fault.FlagsThatWereNotOffered ∷ []
+
+abbrev pub init_acts : Option InitRequest → AnswerContent → List Act
+init_acts (Some r) (answer.init i) = of_version i ++ of_offered r i
+init_acts offered content = []
+
+-- what a reply says, once the device has accepted it
+abbrev pub said_acts : Known → Asked → Taken → AnswerContent → List Act
+said_acts k a taken.Accepted content = init_acts k.offered content ++ answer_acts a content
+said_acts k a t content = []
+
+-- What the two sides agree on is known from an accepted reply to INIT on.
+abbrev pub IsAgreed : Known → Option InitRequest → InitReply → Known → Type 0
+IsAgreed k None i later = later ≡ k
+IsAgreed k (Some r) i later = Reads (IsAgreement r i) (λ agreed. later ≡ record k { agreed = agreed }) (later ≡ k)
+
+abbrev pub IsTold : Known → Taken → AnswerContent → Known → Type 0
+IsTold k taken.Accepted (answer.init i) later = IsAgreed k k.offered i later
+IsTold k t content later = later ≡ k
+
+-- the device takes a reply, whose body fits its request or not, and it replies
+abbrev pub replied : ℕ → Taken → Bool → List Act
+replied unique t fits = Takes unique t fits ∷ Replies unique t ∷ []
+
+-- A reply, by what waits under its number. Where nothing does, nothing is said of its body.
+abbrev pub IsReplyTo : Known → List ℕ → Taken → Option Asked → List Act → Known → Type 0
+IsReplyTo k bytes t None acts later = (acts ≡ replied (number_in bytes) t true) × (later ≡ k)
+IsReplyTo k bytes t (Some a) acts later = Reads (IsReply k.agreed (row_at a.opcode).reply a.asked bytes)
+    (λ m. (acts ≡ replied (number_in bytes) t true ++ said_acts k a t m.answer) × IsTold k t m.answer later)
+    ((acts ≡ Faulty fault.BodyOfAnotherRequest ∷ replied (number_in bytes) t false) × (later ≡ k))
+
+-- The header is whole, and its error is one; a notification has its code there.
+abbrev pub IsHead : List ℕ → Type 0
+IsHead bytes = IsFrame bytes × MatchBool (number_in bytes == 0) (Unit {0}) (IsErrorWord (error_in bytes))
+
+-- what is written under a good header
+abbrev pub IsHeaded : Known → Session → List ℕ → Taken → List Act → Known → Type 0
+IsHeaded k s bytes t acts later = MatchBool (number_in bytes == 0)
+    (AreNotificationActs k.agreed bytes acts × (later ≡ k))
+    (MatchBool (number_in bytes % 2 == 1) ((acts ≡ interrupt_acts bytes t) × (later ≡ k))
+    (IsReplyTo k bytes t (waits s (number_in bytes)) acts later))
+
+abbrev pub IsWritten : Known → Session → List ℕ → Taken → List Act → Known → Type 0
+IsWritten k s bytes t acts later = (IsHead bytes × IsHeaded k s bytes t acts later)
+    ⊎ ((IsHead bytes → ⊥) × (acts ≡ Faulty fault.MalformedReply ∷ []) × (later ≡ k))
+
+-- ---- transfers
+
+-- These are the acts of the next transfer, and what is known after it.
+abbrev pub AreActs : Known → Session → Transfer → List Act → Known → Type 0
+AreActs k s (transfer.Request bytes) acts later = AreRequestActs k.agreed bytes.now acts × IsOffered k bytes.now later
+AreActs k s (transfer.Written bytes t) acts later = IsWritten k s bytes.now t acts later
+AreActs k s transfer.SeveralReaders acts later = (acts ≡ SeveralReaders ∷ []) × (later ≡ k)
+AreActs k s transfer.Ended acts later = (acts ≡ Ends ∷ []) × (later ≡ k)
+
+-- The transfers lead from one session, with what was known, to another.
+abbrev pub Lead : Known → Session → List Transfer → Known → Session → Type 0
+Lead k s [] later all = (later ≡ k) × (all ≡ s)
+Lead k s (t ∷ ts) later all =
+    (acts : List Act) × (next : Known) × AreActs k s t acts next × Lead next (s ++ acts) ts later all
+
+-- before anything
+abbrev pub nothing_known : Known
+nothing_known = record { offered = None; agreed = before_init }
+
+-- The session of these transfers has these acts, and this is known after it.
+abbrev pub IsSession : List Transfer → Known → Session → Type 0
+IsSession transfers k s = Lead nothing_known [] transfers k s
