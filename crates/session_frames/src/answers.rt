@@ -1,0 +1,102 @@
+//! The acts of what an accepted reply says.
+
+ghost use Rattle.std.specs.Prelude.{◌≡◌, ◌++◌, OnOk};
+ghost use Rattle.fuse_replies.specs.Replies.{answer_content};
+ghost use Rattle.fuse_sessions.specs.ReplyActs as words;
+
+use crate::entries::{kind_of, write_entry, write_records};
+use crate::writing::write;
+use fuse_protocol::Opcode;
+use fuse_replies::Answer;
+use fuse_sessions::{Act, Asked, Fault, OpenFile, OpenKind};
+use std::alloc::{AllocError, Allocator};
+
+const ENOSYS: u32 = 38;
+
+/// A file is open from now on.
+fn write_opening<A: Allocator + Copy>(
+    acts: &mut Vec<Act, A>,
+    opcode: Opcode,
+    nodeid: u64,
+    fh: u64,
+) -> Result<(), AllocError>
+    ensures { OnOk result (acts.new.items ≡ acts.old.items ++ words.opening opcode nodeid fh) }
+{
+    let kind = match opcode {
+        Opcode::Open | Opcode::Create | Opcode::Tmpfile => OpenKind::File,
+        Opcode::Opendir => OpenKind::Directory,
+        _ => return Ok(()),
+    };
+    write(acts, Act::Opens(OpenFile { kind, nodeid, fh }))
+}
+
+/// The server opens none.
+fn write_opening_none<A: Allocator + Copy>(
+    acts: &mut Vec<Act, A>,
+    opcode: Opcode,
+) -> Result<(), AllocError>
+    ensures { OnOk result (acts.new.items ≡ acts.old.items ++ words.opening_none opcode) }
+{
+    match opcode {
+        Opcode::Open => write(acts, Act::OpensNone(OpenKind::File)),
+        Opcode::Opendir => write(acts, Act::OpensNone(OpenKind::Directory)),
+        _ => Ok(()),
+    }
+}
+
+/// So many bytes were written or copied, of so many at most.
+fn write_counting<A: Allocator + Copy>(
+    acts: &mut Vec<Act, A>,
+    opcode: Opcode,
+    said: u64,
+    most: u64,
+) -> Result<(), AllocError>
+    ensures { OnOk result (acts.new.items ≡ acts.old.items ++ words.counting opcode said most) }
+{
+    match opcode {
+        Opcode::Write | Opcode::CopyFileRange | Opcode::CopyFileRange64 if most < said => {
+            write(acts, Act::Faulty(Fault::MoreThanWasAsked))
+        }
+        _ => Ok(()),
+    }
+}
+
+/// The acts of what an accepted reply says.
+///
+/// # Errors
+///
+/// Out of memory.
+pub(crate) fn write_answer<A: Allocator + Copy>(
+    acts: &mut Vec<Act, A>,
+    asked: Asked,
+    answer: &Answer<'_>,
+) -> Result<(), AllocError>
+    ensures { OnOk result (acts.new.items ≡ acts.old.items ++ words.answer_acts asked (answer_content answer.now)) }
+{
+    let opcode = asked.opcode;
+    match answer {
+        Answer::Failed(errno) => if *errno == ENOSYS {
+            write_opening_none(acts, opcode)
+        } else {
+            Ok(())
+        },
+        Answer::Entry(entry) => write_entry(acts, opcode, entry),
+        Answer::Attributes(valid) => {
+            let describes = Act::Describes {
+                nodeid: asked.nodeid,
+                kind: kind_of(&valid.attributes),
+                ino: valid.attributes.ino,
+            };
+            write(acts, describes)
+        }
+        Answer::Opened(opened) => write_opening(acts, opcode, asked.nodeid, opened.handle),
+        Answer::Created(entry, opened) => {
+            write_entry(acts, opcode, entry)?;
+            write_opening(acts, opcode, entry.nodeid, opened.handle)
+        }
+        Answer::Number(number) => write_counting(acts, opcode, *number, asked.writes),
+        Answer::EntryRecords(records) => write_records(acts, *records),
+        Answer::Init(init) => write(acts, Act::Agrees(init.max_write)),
+        Answer::Done | Answer::Bytes(_) | Answer::Records(_) => Ok(()),
+    }
+}

@@ -1,0 +1,124 @@
+//! The acts of entries.
+
+ghost use Rattle.std.specs.Prelude.{◌≡◌, ◌++◌, OnOk, flat_map};
+ghost use Rattle.fuse_replies.specs.Record.{entry_record_content};
+ghost use Rattle.fuse_replies.specs.Records.{entry_records_in};
+ghost use Rattle.fuse_sessions.specs.ReplyActs as words;
+
+use crate::writing::write;
+use fuse_protocol::Opcode;
+use fuse_replies::{Attributes, Entry, EntryRecord, EntryRecords};
+use fuse_sessions::{Act, Fault, File};
+use std::alloc::{AllocError, Allocator};
+
+/// The type's bits of a mode (stat(2)).
+const TYPE_BITS: u32 = 0o170000;
+
+/// The kind of a file.
+pub(crate) fn kind_of(attributes: &Attributes) -> u32
+    ensures { result ≡ words.kind_of attributes.now }
+{
+    attributes.mode & TYPE_BITS
+}
+
+/// Whether a file has this kind.
+fn is_kind(kind: u32) -> bool
+    ensures { result ≡ words.is_kind kind }
+{
+    kind == 0o010000
+        || kind == 0o020000
+        || kind == 0o040000
+        || kind == 0o060000
+        || kind == 0o100000
+        || kind == 0o120000
+        || kind == 0o140000
+}
+
+/// What must stay as it is while the node of an entry is counted.
+fn file_of(entry: &Entry) -> File
+    ensures { result ≡ words.file_of entry.now }
+{
+    File {
+        generation: entry.generation,
+        kind: kind_of(&entry.attributes),
+        ino: entry.attributes.ino,
+    }
+}
+
+/// Whether Linux counts the node of an entry for certain.
+fn is_counted(entry: &Entry) -> bool
+    ensures { result ≡ words.is_counted entry.now }
+{
+    is_kind(kind_of(&entry.attributes)) && entry.attributes.size < 1 << 63
+}
+
+/// Whether an entry of node 0 may stand in a reply to a request of an opcode.
+fn may_be_missing(opcode: Opcode) -> bool
+    ensures { result ≡ words.may_be_missing opcode }
+{
+    matches!(opcode, Opcode::Lookup | Opcode::Readdirplus)
+}
+
+/// An entry of a node that is neither 0 nor the root.
+fn write_gift<A: Allocator + Copy>(acts: &mut Vec<Act, A>, entry: &Entry) -> Result<(), AllocError>
+    ensures { OnOk result (acts.new.items ≡ acts.old.items ++ words.gift_acts entry.now) }
+{
+    if !is_kind(kind_of(&entry.attributes)) {
+        write(acts, Act::Faulty(Fault::EntryOfNoKind))?;
+    }
+    let gives = Act::Gives {
+        nodeid: entry.nodeid,
+        file: file_of(entry),
+        is_certain: is_counted(entry),
+    };
+    write(acts, gives)
+}
+
+/// An entry in a reply to a request of an opcode.
+pub(crate) fn write_entry<A: Allocator + Copy>(
+    acts: &mut Vec<Act, A>,
+    opcode: Opcode,
+    entry: &Entry,
+) -> Result<(), AllocError>
+    ensures { OnOk result (acts.new.items ≡ acts.old.items ++ words.entry_acts opcode entry.now) }
+{
+    if entry.nodeid == 1 {
+        write(acts, Act::Faulty(Fault::EntryOfTheRoot))
+    } else if entry.nodeid != 0 {
+        write_gift(acts, entry)
+    } else if may_be_missing(opcode) {
+        Ok(())
+    } else {
+        write(acts, Act::Faulty(Fault::EntryOfNoNode))
+    }
+}
+
+/// A record of a listing with its entry.
+fn write_record<A: Allocator + Copy>(
+    acts: &mut Vec<Act, A>,
+    listed: &EntryRecord<'_>,
+) -> Result<(), AllocError>
+    ensures { OnOk result (acts.new.items ≡ acts.old.items ++ words.record_acts (entry_record_content listed.now)) }
+{
+    let name = listed.record.name;
+    if name == b".".as_slice() || name == b"..".as_slice() {
+        Ok(())
+    } else {
+        write_entry(acts, Opcode::Readdirplus, &listed.entry)
+    }
+}
+
+/// The records of a listing.
+pub(crate) fn write_records<A: Allocator + Copy>(
+    acts: &mut Vec<Act, A>,
+    records: EntryRecords<'_>,
+) -> Result<(), AllocError>
+    ensures { OnOk result (acts.new.items
+        ≡ acts.old.items ++ flat_map words.record_acts (entry_records_in records.entry)) }
+{
+    let mut left = records;
+    'records: while let Some(record) = left.next() {
+        write_record(acts, &record)?;
+    }
+    Ok(())
+}

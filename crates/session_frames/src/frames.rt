@@ -1,0 +1,77 @@
+//! The acts of a transfer.
+
+ghost use Rattle.std.specs.Prelude.{◌≡◌, ℕ, [], IfOk, OnOk};
+ghost use Rattle.fuse_sessions.specs.Frames as words;
+ghost use Rattle.fuse_sessions.specs.Sessions.{Session};
+ghost use Rattle.fuse_sessions.specs.Waiting.{waits};
+ghost use Rattle.session_frames.specs.Numbers.{IsReplyNumber};
+
+use crate::init::known_after_request;
+use crate::replies::write_written;
+use crate::requests::write_request;
+use crate::writing::write;
+use fk_fields::u64_at;
+use fuse_protocol::{Agreed, read_request};
+use fuse_sessions::{Act, Asked, Fault, Known, Transfer};
+use std::alloc::{AllocError, Allocator};
+
+/// A request that was read.
+fn write_read<A: Allocator + Copy>(
+    acts: &mut Vec<Act, A>,
+    agreed: Agreed,
+    bytes: &[u8],
+) -> Result<(), AllocError>
+    requires { acts.old.items ≡ [] }
+    ensures { OnOk result (words.AreRequestActs agreed bytes.now acts.new.items) }
+{
+    match read_request(agreed, bytes) {
+        Ok(request) => write_request(acts, &request),
+        Err(_) => {
+            write(acts, Act::Arrives)?;
+            write(acts, Act::Faulty(Fault::MalformedRequest))
+        }
+    }
+}
+
+/// The number under which a transfer replies: that of a frame that is written, and else 0.
+pub fn reply_number(transfer: Transfer<'_>) -> u64
+    ensures { IsReplyNumber transfer.entry result }
+{
+    match transfer {
+        Transfer::Written(bytes, _) if bytes.len() >= 16 => u64_at(bytes, 8),
+        _ => 0,
+    }
+}
+
+/// The acts of a transfer, by what waits under its number, in place of what the vector had. Returns what is known after
+/// it.
+///
+/// # Errors
+///
+/// Out of memory.
+pub fn write_transfer<A: Allocator + Copy>(
+    acts: &mut Vec<Act, A>,
+    known: Known,
+    asked: Option<Asked>,
+    transfer: Transfer<'_>,
+) -> Result<Known, AllocError>
+    ensures { IfOk result (λ later. (s : Session) (n : ℕ) → IsReplyNumber transfer.entry n → waits s n ≡ asked
+        → words.AreActs known s transfer.entry acts.new.items later) }
+{
+    acts.clear();
+    match transfer {
+        Transfer::Request(bytes) => {
+            write_read(acts, known.agreed, bytes)?;
+            Ok(known_after_request(known, bytes))
+        }
+        Transfer::Written(bytes, taken) => write_written(acts, known, asked, bytes, taken),
+        Transfer::SeveralReaders => {
+            write(acts, Act::SeveralReaders)?;
+            Ok(known)
+        }
+        Transfer::Ended => {
+            write(acts, Act::Ends)?;
+            Ok(known)
+        }
+    }
+}

@@ -1,0 +1,82 @@
+//! What INIT makes known.
+
+ghost use Rattle.std.specs.Prelude.{◌≡◌, ◌++◌, OnOk};
+ghost use Rattle.fuse_replies.specs.Replies.{answer_content};
+ghost use Rattle.fuse_sessions.specs.Frames as words;
+
+use crate::writing::write;
+use fuse_protocol::{Agreed, InitReply, InitRequest, read_init};
+use fuse_replies::Answer;
+use fuse_sessions::{Act, Fault, Known, Taken};
+use std::alloc::{AllocError, Allocator};
+
+/// What is known once a request was read: what the first INIT offers.
+pub(crate) fn known_after_request(known: Known, bytes: &[u8]) -> Known
+    ensures { words.IsOffered known bytes.now result }
+{
+    if known.offered.is_some() {
+        return known;
+    }
+    match read_init(bytes) {
+        Ok(init) => Known {
+            offered: Some(init),
+            ..known
+        },
+        Err(_) => known,
+    }
+}
+
+/// What is known once INIT was answered.
+fn known_by_init(known: Known, reply: &InitReply) -> Known
+    ensures { words.IsAgreed known known.offered reply.now result }
+{
+    let Some(request) = known.offered else {
+        return known;
+    };
+    match Agreed::of_init(&request, reply) {
+        Ok(agreed) => Known { agreed, ..known },
+        Err(_) => known,
+    }
+}
+
+/// What is known once a reply was written.
+pub(crate) fn known_after_reply(known: Known, taken: Taken, answer: &Answer<'_>) -> Known
+    ensures { words.IsTold known taken (answer_content answer.now) result }
+{
+    match (taken, answer) {
+        (Taken::Accepted, Answer::Init(reply)) => known_by_init(known, reply),
+        _ => known,
+    }
+}
+
+/// The faults of an INIT's reply to what was offered.
+fn write_offered<A: Allocator + Copy>(
+    acts: &mut Vec<Act, A>,
+    request: &InitRequest,
+    reply: &InitReply,
+) -> Result<(), AllocError>
+    ensures { OnOk result (acts.new.items
+        ≡ acts.old.items ++ (words.of_version reply.now ++ words.of_offered request.now reply.now)) }
+{
+    if reply.major != 7 {
+        write(acts, Act::Faulty(Fault::InitOfAnotherVersion))?;
+    }
+    if reply.flags & request.flags != reply.flags {
+        write(acts, Act::Faulty(Fault::FlagsThatWereNotOffered))?;
+    }
+    Ok(())
+}
+
+/// The faults of a reply, if it is one to INIT.
+pub(crate) fn write_init<A: Allocator + Copy>(
+    acts: &mut Vec<Act, A>,
+    offered: Option<InitRequest>,
+    answer: &Answer<'_>,
+) -> Result<(), AllocError>
+    ensures { OnOk result (acts.new.items ≡ acts.old.items ++ words.init_acts offered (answer_content answer.now)) }
+{
+    match (offered, answer) {
+        (Some(request), Answer::Init(reply)) => write_offered(acts, &request, reply),
+        _ => Ok(()),
+    }
+}

@@ -1,0 +1,201 @@
+//! The acts of what the server writes.
+
+ghost use Rattle.std.specs.Prelude.{◌≡◌, ◌≤◌, ◌↔◌, [], ◌++◌, Some, IfOk, IsTrue, OnOk, length};
+ghost use Rattle.fuse_replies.specs.Replies.{IsFrame, answer_content};
+ghost use Rattle.fuse_sessions.specs.Frames as words;
+ghost use Rattle.fuse_sessions.specs.Sessions.{Session};
+ghost use Rattle.fuse_sessions.specs.Waiting.{waits};
+
+use crate::answers::write_answer;
+use crate::init::{known_after_reply, write_init};
+use crate::writing::write;
+use fk_fields::{u32_at, u64_at};
+use fuse_protocol::{Agreed, MAX_FRAME, RequestHead};
+use fuse_replies::{Answer, read_notification, read_reply};
+use fuse_sessions::{Act, Asked, Fault, Known, Taken};
+use std::alloc::{AllocError, Allocator};
+
+/// -EAGAIN.
+const AGAIN: u32 = u32::MAX - 10;
+
+/// -511, the lowest error.
+const LOWEST: u32 = u32::MAX - 510;
+
+/// Whether a frame has a whole header, and is as long as that says.
+fn is_frame(bytes: &[u8]) -> bool
+    ensures { IsTrue result ↔ IsFrame bytes.now }
+{
+    bytes.len() >= 16 && bytes.len() <= MAX_FRAME && u32_at(bytes, 0) as usize == bytes.len()
+}
+
+/// Whether a frame has a good header.
+fn has_head(bytes: &[u8]) -> bool
+    ensures { IsTrue result ↔ words.IsHead bytes.now }
+{
+    if !is_frame(bytes) {
+        return false;
+    }
+    let error = u32_at(bytes, 4);
+    u64_at(bytes, 8) == 0 || error == 0 || error >= LOWEST
+}
+
+/// A notification.
+fn write_notification<A: Allocator + Copy>(
+    acts: &mut Vec<Act, A>,
+    agreed: Agreed,
+    bytes: &[u8],
+) -> Result<(), AllocError>
+    requires { acts.old.items ≡ [] }
+    ensures { OnOk result (words.AreNotificationActs agreed bytes.now acts.new.items) }
+{
+    match read_notification(agreed, bytes) {
+        Ok(_) => Ok(()),
+        Err(_) => write(acts, Act::Faulty(Fault::MalformedNotification)),
+    }
+}
+
+/// The device takes a reply, and it replies.
+fn write_replied<A: Allocator + Copy>(
+    acts: &mut Vec<Act, A>,
+    unique: u64,
+    taken: Taken,
+    fits: bool,
+) -> Result<(), AllocError>
+    ensures { OnOk result (acts.new.items ≡ acts.old.items ++ words.replied unique taken fits) }
+{
+    let takes = Act::Takes {
+        unique,
+        taken,
+        fits,
+    };
+    write(acts, takes)?;
+    write(acts, Act::Replies { unique, taken })
+}
+
+/// What a reply says, once the device has accepted it.
+fn write_said<A: Allocator + Copy>(
+    acts: &mut Vec<Act, A>,
+    known: Known,
+    asked: Asked,
+    taken: Taken,
+    answer: &Answer<'_>,
+) -> Result<(), AllocError>
+    ensures { OnOk result (acts.new.items
+        ≡ acts.old.items ++ words.said_acts known asked taken (answer_content answer.now)) }
+{
+    match taken {
+        Taken::Accepted => {
+            write_init(acts, known.offered, answer)?;
+            write_answer(acts, asked, answer)
+        }
+        _ => Ok(()),
+    }
+}
+
+/// A reply to a request that waits. Returns what is known after it.
+fn write_answered<A: Allocator + Copy>(
+    acts: &mut Vec<Act, A>,
+    known: Known,
+    asked: Asked,
+    bytes: &[u8],
+    taken: Taken,
+) -> Result<Known, AllocError>
+    requires empty { acts.old.items ≡ [] }
+    requires frame { IsFrame bytes.now }
+    ensures { IfOk result (words.IsReplyTo known bytes.now taken (Some asked) acts.new.items) }
+{
+    let unique = u64_at(bytes, 8);
+    let request = RequestHead {
+        opcode: asked.opcode,
+        unique,
+        nodeid: asked.nodeid,
+        asked: asked.asked,
+    };
+    match read_reply(known.agreed, &request, bytes) {
+        Ok(reply) => {
+            write_replied(acts, unique, taken, true)?;
+            write_said(acts, known, asked, taken, &reply.answer)?;
+            Ok(known_after_reply(known, taken, &reply.answer))
+        }
+        Err(_) => {
+            write(acts, Act::Faulty(Fault::BodyOfAnotherRequest))?;
+            write_replied(acts, unique, taken, false)?;
+            Ok(known)
+        }
+    }
+}
+
+/// A reply, by what waits under its number. Returns what is known after it.
+fn write_reply<A: Allocator + Copy>(
+    acts: &mut Vec<Act, A>,
+    known: Known,
+    asked: Option<Asked>,
+    bytes: &[u8],
+    taken: Taken,
+) -> Result<Known, AllocError>
+    requires empty { acts.old.items ≡ [] }
+    requires frame { IsFrame bytes.now }
+    ensures { IfOk result (words.IsReplyTo known bytes.now taken asked acts.new.items) }
+{
+    match asked {
+        Some(asked) => write_answered(acts, known, asked, bytes, taken),
+        None => {
+            write_replied(acts, u64_at(bytes, 8), taken, true)?;
+            Ok(known)
+        }
+    }
+}
+
+/// What is written under a good header, by what waits under its number. Returns what is known after it.
+fn write_headed<A: Allocator + Copy>(
+    acts: &mut Vec<Act, A>,
+    known: Known,
+    asked: Option<Asked>,
+    bytes: &[u8],
+    taken: Taken,
+) -> Result<Known, AllocError>
+    requires empty { acts.old.items ≡ [] }
+    requires frame { IsFrame bytes.now }
+    ensures { IfOk result (λ later. (s : Session) → waits s (words.number_in bytes.now) ≡ asked
+        → words.IsHeaded known s bytes.now taken acts.new.items later) }
+{
+    let unique = u64_at(bytes, 8);
+    if unique == 0 {
+        write_notification(acts, known.agreed, bytes)?;
+        return Ok(known);
+    }
+    if unique % 2 == 1 {
+        let replies = Act::RepliesToInterrupt {
+            original: unique - 1,
+            is_again: u32_at(bytes, 4) == AGAIN,
+            taken,
+        };
+        write(acts, replies)?;
+        return Ok(known);
+    }
+    write_reply(acts, known, asked, bytes, taken)
+}
+
+/// What the server writes, by what waits under its number. Returns what is known after it.
+///
+/// # Errors
+///
+/// Out of memory.
+pub(crate) fn write_written<A: Allocator + Copy>(
+    acts: &mut Vec<Act, A>,
+    known: Known,
+    asked: Option<Asked>,
+    bytes: &[u8],
+    taken: Taken,
+) -> Result<Known, AllocError>
+    requires { acts.old.items ≡ [] }
+    ensures { IfOk result (λ later. (s : Session)
+        → (16 ≤ length bytes.now → waits s (words.number_in bytes.now) ≡ asked)
+        → words.IsWritten known s bytes.now taken acts.new.items later) }
+{
+    if has_head(bytes) {
+        return write_headed(acts, known, asked, bytes, taken);
+    }
+    write(acts, Act::Faulty(Fault::MalformedReply))?;
+    Ok(known)
+}
