@@ -3,14 +3,15 @@
 ghost use Rattle.std.specs.Prelude.{◌≡◌, ◌↔◌, ℕ, [], ◌++◌, OnOk, OnErr, Some, length, slice_get};
 ghost use Rattle.fuse_sessions.specs.declared.fault.Fault.{Fault};
 ghost use Rattle.fuse_sessions.specs.Sessions.{Session};
+ghost use Rattle.fuse_sessions.specs.Waiting.{waits};
 ghost use Rattle.fuse_sessions.specs.Faults.{HasFaultAt};
 ghost use Rattle.fuse_judge.specs.Seen.{HasSeen};
 
 use crate::flags::no_flags;
 use crate::opens::OpenFiles;
-use crate::pending::Pending;
+use crate::pending::{Pending, asked_under};
 use crate::tables::Tables;
-use fuse_sessions::{Act, Fault};
+use fuse_sessions::{Act, Asked, Fault};
 use fuse_tables::RisingTable;
 use indexmap::IndexMap;
 use std::alloc::{AllocError, Allocator, Global};
@@ -62,6 +63,13 @@ impl<A: Allocator + Copy> Judge<A> {
             },
             acts: 0,
         }
+    }
+
+    /// The request that waits under a number: it was read, and no reply has ended it.
+    pub fn waiting(&self, unique: u64) -> Option<Asked>
+        ensures { (s : Session) → HasSeen s self.now → result ≡ waits s unique }
+    {
+        asked_under(&self.tables.pending.rows, unique)
     }
 
     /// Sees the next acts, one after another, and writes a verdict on each: its fault, or `None`. What the vector had

@@ -9,6 +9,7 @@ ghost use Rattle.fuse_sessions.specs.declared.act.Asked.{Asked};
 ghost use Rattle.fuse_sessions.specs.declared.act.OpenFile.{OpenFile};
 ghost use Rattle.fuse_sessions.specs.Sessions.{Session};
 ghost use Rattle.fuse_sessions.specs.Numbers.{has_ended};
+ghost use Rattle.fuse_sessions.specs.Waiting.{waits};
 ghost use Rattle.fuse_judge.specs.declared.pending.Waiting.{Waiting};
 ghost use Rattle.fuse_sessions.specs.Faults.{BreaksInterrupt, BreaksTaking, BreaksReply, BreaksReplyToInterrupt};
 ghost use Rattle.fuse_judge.specs.Flags.{AreFlags};
@@ -127,6 +128,19 @@ pub(crate) fn fault_of_reply_to_interrupt<A: Allocator + Copy>(
         Some(Fault::ReplyToNoInterrupt)
     } else {
         None
+    }
+}
+
+/// The request that waits under a number.
+pub(crate) fn asked_under<A: Allocator + Copy>(
+    rows: &RisingTable<Waiting, A>,
+    unique: u64,
+) -> Option<Asked>
+    ensures { (s : Session) → AreWaiting s rows.now.entries → result ≡ waits s unique }
+{
+    match rows.get(unique) {
+        Some(row) => Some(row.asked),
+        None => None,
     }
 }
 
