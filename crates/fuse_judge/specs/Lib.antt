@@ -7,3 +7,4 @@ pub mod Pending
 pub mod Nodes
 pub mod Opens
 pub mod Seen
+pub mod Transfers

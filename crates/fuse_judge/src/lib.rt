@@ -1,8 +1,11 @@
-//! A judge of one session: which act has which fault, by what the definitions of `fuse_sessions` say.
+//! A judge of one session: which act, and which act of a transfer, has which fault, by what the definitions of
+//! `fuse_sessions` say.
 #![tactic(auto)]
 
 mod change;
 mod flags;
+#[cfg(test)]
+mod frame_tests;
 mod handle;
 mod judge;
 mod marks;
@@ -15,9 +18,11 @@ mod opens;
 mod pending;
 mod projections;
 mod rows;
+mod session;
 mod tables;
 mod tally;
 #[cfg(test)]
 mod tests;
 
 pub use judge::Judge;
+pub use session::SessionJudge;

@@ -1,0 +1,34 @@
+-- What a judge of transfers has seen, and what it says of the next.
+use Rattle.std.specs.Prelude.{◌≡◌, ◌↔◌, ℕ, List, [], ◌∷◌, ◌++◌, Option, Some, slice_get}
+use Rattle.fuse_sessions.specs.declared.act.Act.{Act}
+use Rattle.fuse_sessions.specs.declared.fault.Fault.{Fault}
+use Rattle.fuse_sessions.specs.declared.known.Known.{Known}
+use Rattle.fuse_sessions.specs.declared.transfer.Transfer.{Transfer}
+use Rattle.fuse_sessions.specs.Sessions.{Session}
+use Rattle.fuse_sessions.specs.Faults.{HasFaultAt}
+use Rattle.fuse_sessions.specs.Frames.{AreActs, IsSession}
+use Rattle.fuse_judge.specs.Seen.{JudgeState, HasSeen}
+
+-- What contracts see of a judge of transfers.
+pub record SessionState : Type 0 where
+  pub judge : JudgeState
+  pub known : Known
+
+-- It has seen these transfers, which have these acts.
+pub record HasSeenTransfers (transfers : List Transfer) (s : Session) (j : SessionState) : Type 0 where
+  pub are : IsSession transfers j.known s
+  pub seen : HasSeen s j.judge
+
+-- The verdicts are the faults of the next transfer's acts, each at its act, and no other.
+abbrev pub AreFaults : Session → List Act → List (Option Fault) → Type 0
+AreFaults s acts verdicts =
+    (place : ℕ) (f : Fault) → slice_get verdicts place ≡ Some (Some f) ↔ HasFaultAt s acts place f
+
+-- The next transfer has these acts and no others, and they are judged and seen.
+pub record IsJudged (transfers : List Transfer) (s : Session) (t : Transfer) (old new : SessionState)
+    (verdicts : List (Option Fault)) : Type 0 where
+  pub acts : List Act
+  pub are : AreActs old.known s t acts new.known
+  pub once : (others : List Act) (later : Known) → AreActs old.known s t others later → others ≡ acts
+  pub faults : AreFaults s acts verdicts
+  pub seen : HasSeenTransfers (transfers ++ t ∷ []) (s ++ acts) new
