@@ -1,11 +1,11 @@
 -- How the run of a script ends.
-use Rattle.std.proofs.Common.{◌≡◌, ◌≢◌, ◌++◌, ℕ, Bool, true, false, List, [], append-nil, Option, Some, None, Result, Ok, Err, inl, inr, ◌⊎◌, refl, sym, subst, codes}
+use Rattle.std.proofs.Common.{◌≡◌, ◌≢◌, ◌++◌, ℕ, Bool, false, List, Option, Some, None, Result, Ok, Err, inl, inr, ◌⊎◌, refl, subst, codes}
 use Rattle.std.specs.Prelude.{IfSome}
 use Rattle.std.specs.Io.KnownBytes.{Keeps}
 use Rattle.fuse_spec.specs.World.Worlds.{World, first_world}
 use Rattle.fuse_spec.specs.Claim.Counts.{Protocol as KeepsProtocol}
 use Rattle.fw_script.specs.Outputs.{AppendsSome}
-use Rattle.fw_script.specs.Running.{HasPrinted, InputEnds, JudgingEnds, LinesEnd, OverEnds, ReadingEnds, RunEnds, SessionEnds, UnreadEnds}
+use Rattle.fw_script.specs.Running.{HasPrinted, InputEnds, IsEither, JudgingEnds, LinesEnd, OverEnds, ReadingEnds, RunEnds, SessionEnds, UnreadEnds}
 use Rattle.fw_script.specs.Scripts.{FirstFaultIs, IsRunOf, IsRunOver, Prints, PrintsFirst, PrintsSome, lines_of, session_machine, world_machine}
 use Rattle.fw_script.specs.Stops.{SaysFault, status_of, stop_line, unreadable}
 use Rattle.fw_script.specs.declared.stop.Stop.{Stop}
@@ -13,7 +13,6 @@ use Rattle.fw_script.specs.declared.stop.Stop.TheVariants as stop
 use Rattle.fw_link.specs.Traffic.{Traffic}
 use Rattle.fw_script.proofs.SessionRuns.{lines_run_over}
 use Rattle.fw_script.proofs.WorldRuns.{lines_run}
-use Rattle.fw_script.proofs.Writes.{some_all}
 
 pub Keeps-same : (known : Option (List ℕ)) → Keeps known known
 Keeps-same None = tt
@@ -140,6 +139,11 @@ never_0 (stop.BadLine number fault) at = cc at
 never_0 stop.NoMemory at = cc at
 never_0 stop.OutputRefused at = cc at
 
+-- It stopped, so that of the two statuses it can be the last alone.
+pub at_0_or_5 : {X : Type 0} (s : Stop) → (status_of s ≡ 5 → X) → (status_of s ≡ 0) ⊎ (status_of s ≡ 5) → X
+at_0_or_5 s refused (inl at) = absurd (never_0 s at)
+at_0_or_5 s refused (inr at) = refused at
+
 -- ---- a session over a link
 
 module _ (A : Type 0) {L : Type 0} (carries : L → L → Traffic → Type 0) (failed : L → ℕ) (link : L) (hex : Bool) where
@@ -174,56 +178,35 @@ module _ (A : Type 0) {L : Type 0} (carries : L → L → Traffic → Type 0) (f
             (subst (λ (s : World × Bool × L). KeepsProtocol s.0) is keeps) prints;
       }
 
-  -- the link is lost
-  pub lost_ends : {T : Type 0} → (lines : List (List ℕ)) (first last : World × Bool × L) (r : Result T Stop)
-      (old new : Option (List ℕ)) → first ≡ (first_world, false, link) → KeepsProtocol first.0 → last.1 ≡ true
-      → LinesEnd (session_machine A L carries failed) hex first lines last r old new
-      → SessionEnds Over lines (Ok true) old new
-  lost_ends lines first last (Ok done) old new is keeps lost (text, has, written) = (
-    lines,
-    [],
-    sym (append-nil lines),
-    text,
-    run_over true lines text first last is keeps lost has,
-    some_all old new text written,
-  )
-  lost_ends lines first last (Err stop.OutputRefused) old new is keeps lost (done, rest, split, text, has, written) =
-      (done, rest, split, text, run_over true done text first last is keeps lost has, written)
-  lost_ends lines first last (Err stop.NoMemory) old new is keeps lost (done, rest, split, text, has, written) =
-      (done, rest, split, text, run_over true done text first last is keeps lost has, some_all old new text written)
-  lost_ends lines first last (Err (stop.CannotRead name)) old new is keeps lost ends = absurd ends
-  lost_ends lines first last (Err (stop.BadLine number fault)) old new is keeps lost ends = absurd ends
-
-  -- it is not
+  -- all of it was written
   pub all_over : {T : Type 0} → (lines : List (List ℕ)) (first last : World × Bool × L) (done : T)
-      (old new : Option (List ℕ)) → first ≡ (first_world, false, link) → KeepsProtocol first.0 → last.1 ≡ false
+      (old new : Option (List ℕ)) → first ≡ (first_world, false, link) → KeepsProtocol first.0
       → LinesEnd (session_machine A L carries failed) hex first lines last (Ok done) old new
-      → SessionEnds Over lines (Ok false) old new
-  all_over lines first last done old new is keeps lost (text, has, written) =
-      (text, run_over false lines text first last is keeps lost has, written)
+      → SessionEnds Over lines (Ok last.1) old new
+  all_over lines first last done old new is keeps (text, has, written) =
+      (text, run_over last.1 lines text first last is keeps refl has, written)
 
+  -- it stopped early
   pub stopped_over : (T : Type 0) → (lines : List (List ℕ)) (first last : World × Bool × L) (s : Stop)
-      (old new : Option (List ℕ)) → first ≡ (first_world, false, link) → KeepsProtocol first.0 → last.1 ≡ false
+      (old new : Option (List ℕ)) → first ≡ (first_world, false, link) → KeepsProtocol first.0
       → LinesEnd {T = T} (session_machine A L carries failed) hex first lines last (Err s) old new
       → SessionEnds Over lines (Err s) old new
-  stopped_over T lines first last stop.OutputRefused old new is keeps lost (done, rest, split, text, has, written) =
-      (done, rest, split, text, run_over false done text first last is keeps lost has, written)
-  stopped_over T lines first last stop.NoMemory old new is keeps lost (done, rest, split, text, has, written) =
-      inr (done, rest, split, text, run_over false done text first last is keeps lost has, written)
-  stopped_over T lines first last (stop.CannotRead name) old new is keeps lost ends = absurd ends
-  stopped_over T lines first last (stop.BadLine number fault) old new is keeps lost ends = absurd ends
+  stopped_over T lines first last stop.OutputRefused old new is keeps (done, rest, split, text, has, written) =
+      (done, rest, split, text, (last.1, run_over last.1 done text first last is keeps refl has), written)
+  stopped_over T lines first last stop.NoMemory old new is keeps (done, rest, split, text, has, written) =
+      inr (done, rest, split, text, (last.1, run_over last.1 done text first last is keeps refl has), written)
+  stopped_over T lines first last (stop.CannotRead name) old new is keeps ends = absurd ends
+  stopped_over T lines first last (stop.BadLine number fault) old new is keeps ends = absurd ends
 
 -- the script was read and run over the link
 pub ran_over_ends : (IsRun : Bool → List (List ℕ) → List ℕ → Type 0) (name : List ℕ) (known : Option (List ℕ))
     (script : List ℕ) (r : Result Bool Stop) (old new : Option (List ℕ)) → IfSome known (λ bytes. script ≡ bytes)
     → SessionEnds IsRun (lines_of script) r old new → OverEnds IsRun name known r old new
-ran_over_ends IsRun name None script (Ok true) old new is ends = tt
-ran_over_ends IsRun name (Some bytes) script (Ok true) old new is ends =
-    subst (λ (s : List ℕ). SessionEnds IsRun (lines_of s) (Ok true) old new) is ends
-ran_over_ends IsRun name known script (Ok false) old new is ends =
-    ran_ends Bool (IsRun false) name known script (Ok false) old new is ends
+ran_over_ends IsRun name None script (Ok is_lost) old new is ends = tt
+ran_over_ends IsRun name (Some bytes) script (Ok is_lost) old new is ends =
+    subst (λ (s : List ℕ). SessionEnds IsRun (lines_of s) (Ok is_lost) old new) is ends
 ran_over_ends IsRun name known script (Err s) old new is ends =
-    ran_ends Bool (IsRun false) name known script (Err s) old new is ends
+    ran_ends Bool (IsEither IsRun) name known script (Err s) old new is ends
 
 pub never_4 : (s : Stop) → status_of s ≢ 4
 never_4 (stop.CannotRead n) at = cc at

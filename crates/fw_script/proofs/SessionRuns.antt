@@ -110,7 +110,7 @@ module _ {L : Type 0} (carries : L → L → Traffic → Type 0) (failed : L →
       → RunsOver carries failed (session_of old.0 old.1) old.2 (map event_of events) (map run_record_of records)
       (session_of new.0 new.1) new.2
   line_runs hex old line events records text new keeps (nothing empty) = over_none (session_of old.0 old.1) old.2 keeps
-  line_runs hex old line events records text new keeps (event e added put last says runs is_put) = runs
+  line_runs hex old line events records text new keeps (event e added put last says ran is_put) = ran.runs
   line_runs hex old line events records text new keeps (nodes shows) = over_none (session_of old.0 old.1) old.2 keeps
 
   -- The records that lines print are those of one run of their events.

@@ -1,7 +1,7 @@
 -- The runs of a world, one after another.
 use Rattle.std.proofs.Common.{◌≡◌, ◌++◌, ◌<◌, ℕ, Bool, List, [], ◌∷◌, length, map, take, suc, zero, refl, sym, ap, subst, ◌∙◌, append_assoc, arith}
 use Rattle.std.specs.Prelude.{All}
-use Rattle.std.proofs.lemmas.List.{map-append}
+use Rattle.std.proofs.lemmas.List.{append-nil, map-append}
 use Rattle.std.proofs.lemmas.List.Elements.{All-nil, All-append, All-head, All-tail}
 use Rattle.std.proofs.lemmas.List.Kept.{AllPairs-cons}
 use Rattle.fuse_spec.specs.World.Worlds.{World}
@@ -14,7 +14,7 @@ use Rattle.fuse_spec.specs.Claim.Runs.{AnswersApart, AnswersOnce, CallsEnd, Ends
 use Rattle.fw_script.specs.Scripts.{Prints, PrintsLine, no_line, next_line, nothing, event, nodes, world_machine}
 use Rattle.fw_world.specs.declared.event.Event.{Event}
 use Rattle.fw_world.specs.declared.record.Record.{Record}
-use Rattle.fw_world.specs.Runs.{RunsAs}
+use Rattle.fw_world.specs.Runs.{RunsAs, RunsEach, event_ran, no_event}
 use Rattle.fw_world.specs.Values.{event_of, run_record_of}
 
 -- ---- answers
@@ -124,13 +124,19 @@ runs_then a b c events more xs ys first later = record {
   ended = ends_then a b c xs ys first.ended later.ended;
 }
 
+-- Of one event that ran.
+pub one_of_each : {S A : Type 0} → (Runs : S → Event → List (Record A) → S → Type 0) (first last : S) (e : Event)
+    (records : List (Record A)) → RunsEach Runs first (e ∷ []) records last → Runs first e records last
+one_of_each {A = A} Runs first last e records (event_ran s x added next events others end ran (no_event t)) =
+    subst (λ (xs : List (Record A)). Runs first e xs last) (sym (append-nil added)) ran
+
 -- ---- what a script prints
 
 line_runs : {A : Type 0} (hex : Bool) (old : World) (line : List ℕ) (events : List Event) (records : List (Record A))
     (text : List ℕ) (new : World) → Protocol old → PrintsLine (world_machine A) hex old line events records text new
     → RunsAs old (map event_of events) (map run_record_of records) new
 line_runs hex old line events records text new keeps (nothing empty) = runs_none old keeps
-line_runs hex old line events records text new keeps (event e added put last says runs is_put) = runs
+line_runs hex old line events records text new keeps (event e added put last says ran is_put) = ran.runs
 line_runs hex old line events records text new keeps (nodes shows) = runs_none old keeps
 
 -- The records that lines print are those of one run of their events.

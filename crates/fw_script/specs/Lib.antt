@@ -1,6 +1,7 @@
 pub mod Arguments
 pub mod CallLines
 pub mod Chunks
+pub mod Endings
 pub mod Forms
 pub mod Lines
 pub mod Outputs

@@ -1,5 +1,5 @@
 -- How lines that are read come to what is printed, and what ends that early.
-use Rattle.std.specs.Prelude.{◌≡◌, ◌++◌, ◌∷◌, [], ◌⊎◌, ℕ, Bool, true, false, List, Option, Result, Ok, Err, IfSome}
+use Rattle.std.specs.Prelude.{◌≡◌, ◌++◌, ◌∷◌, [], ◌⊎◌, ℕ, Bool, List, Option, Result, Ok, Err, IfSome}
 use Rattle.std.specs.Io.KnownBytes.{Appends, Keeps}
 use Rattle.fw_script.specs.Lines.{LineHasWords}
 use Rattle.fw_script.specs.Outputs.{AppendsSome}
@@ -98,17 +98,19 @@ UnreadEnds name script (stop.BadLine number fault) = IfSome script (λ s. FirstF
 UnreadEnds name script stop.NoMemory = Unit {0}
 UnreadEnds name script other = ⊥
 
--- A run over a link ended: the link was lost, and a beginning was written of what is printed until some line after
--- that; or it was not, and the run ended as one of a world.
+-- A run over a link whose end is not known to be lost or not.
+abbrev pub IsEither : (Bool → List (List ℕ) → List ℕ → Type 0) → List (List ℕ) → List ℕ → Type 0
+IsEither IsRun lines text = (is_lost : Bool) × IsRun is_lost lines text
+
+-- A run over a link ended: all of its text was written, and the link was lost or was not; or it stopped early as one of
+-- a world does, over a link that was lost by then or was not.
 abbrev pub SessionEnds : (Bool → List (List ℕ) → List ℕ → Type 0) → List (List ℕ) → Result Bool Stop
     → (had has : Option (List ℕ)) → Type 0
-SessionEnds IsRun lines (Ok true) had has =
-    (done : List (List ℕ)) × (rest : List (List ℕ)) × (lines ≡ done ++ rest) × (text : List ℕ) × IsRun true done text
-    × AppendsSome had has text
-SessionEnds IsRun lines other had has = RunEnds (IsRun false) lines other had has
+SessionEnds IsRun lines (Ok is_lost) had has = (text : List ℕ) × IsRun is_lost lines text × Appends had has text
+SessionEnds IsRun lines (Err stop) had has = RunEnds {T = Bool} (IsEither IsRun) lines (Err stop) had has
 
 -- How a run ends whose script was to be read, judged and run.
 abbrev pub OverEnds : (Bool → List (List ℕ) → List ℕ → Type 0) → (name : List ℕ) → (script : Option (List ℕ))
     → Result Bool Stop → (had has : Option (List ℕ)) → Type 0
-OverEnds IsRun name script (Ok true) had has = PrintsSome (IsRun true) script had has
-OverEnds IsRun name script other had has = InputEnds (IsRun false) name script other had has
+OverEnds IsRun name script (Ok is_lost) had has = PrintsAll (IsRun is_lost) script had has
+OverEnds IsRun name script (Err stop) had has = InputEnds {T = Bool} (IsEither IsRun) name script (Err stop) had has

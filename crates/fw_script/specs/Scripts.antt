@@ -17,8 +17,8 @@ use Rattle.fw_world.specs.declared.event.Outcome.{Outcome}
 use Rattle.fw_world.specs.declared.record.Record.{Record}
 use Rattle.fw_world.specs.declared.record.Record.TheVariants as records
 use Rattle.fw_world.specs.Frames.{IsFrameOf}
-use Rattle.fw_world.specs.OverLinks.{RunsOver, session_of}
-use Rattle.fw_world.specs.Runs.{RunsAs}
+use Rattle.fw_world.specs.OverLinks.{RunsOver, RunsOneOver, session_of}
+use Rattle.fw_world.specs.Runs.{RunsAs, RunsOne}
 use Rattle.fw_world.specs.Values.{counted_nodes, event_of, held_nodes, run_record_of}
 
 -- ---- lines
@@ -101,7 +101,7 @@ pub data Prints {S A : Type 0} (m : Machine S A) (hex : Bool) (first : S) : List
 -- A world.
 abbrev pub world_machine : (A : Type 0) → Machine World A
 world_machine A = record {
-  runs = λ old event added new. RunsAs old (event_of event ∷ []) (map run_record_of added) new;
+  runs = RunsOne;
   puts = IsFrameOf;
   counted = λ w. counted_nodes w.kernel.nodes;
   held = λ w. held_nodes w.server.nodes.rows;
@@ -111,8 +111,8 @@ world_machine A = record {
 abbrev pub session_machine : (A L : Type 0) → (L → L → Traffic → Type 0) → (L → ℕ) → Machine (World × Bool × L) A
 session_machine A L carries failed = record {
   runs =
-      λ old event added new. RunsOver carries failed (session_of old.0 old.1) old.2 (event_of event ∷ [])
-      (map run_record_of added) (session_of new.0 new.1) new.2;
+      λ old event added new. RunsOneOver carries failed (session_of old.0 old.1, old.2) event added
+      (session_of new.0 new.1, new.2);
   puts = λ s. IsFrameOf s.0;
   counted = λ s. counted_nodes s.0.kernel.nodes;
   held = λ s. held_nodes s.0.server.nodes.rows;

@@ -5,7 +5,7 @@ ghost use Rattle.fw_script.specs.Scripts.{Machine as MachineBy, session_machine,
 ghost use Rattle.fw_world.specs.declared.record.Record.{Record as RecordValue};
 
 use fw_link::Link;
-use fw_world::{Event, Outcome, Record, SessionOf, Tables, WorldOf, run};
+use fw_world::{Event, Outcome, Record, SessionOf, SidesOf, Tables, WorldOf, run};
 use std::alloc::{AllocError, Allocator};
 use std::slice::from_ref;
 
@@ -38,9 +38,9 @@ pub(crate) trait Machine<A: Allocator> {
 }
 
 impl<T: Tables> Machine<T::Heap> for WorldOf<T> {
-    type State = WorldOf<T>;
+    type State = SidesOf<T>;
 
-    ghost state = { λ world. world };
+    ghost state = { λ world. world.sides };
 
     ghost acts = { world_machine T.Heap };
 
@@ -70,7 +70,7 @@ impl<T: Tables> Machine<T::Heap> for WorldOf<T> {
 }
 
 impl<T: Tables, L: Link + Drop> Machine<T::Heap> for SessionOf<T, L> {
-    type State = (WorldOf<T>, bool, L);
+    type State = (SidesOf<T>, bool, L);
 
     ghost state = { λ session. (session.world, session.is_lost, session.link) };
 

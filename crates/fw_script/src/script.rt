@@ -7,7 +7,8 @@ ghost use Rattle.fw_frames.specs.HexTexts.{IsHexOrNone};
 ghost use Rattle.fw_script.specs.Lines.{IsWritten, LineHasWords};
 ghost use Rattle.fw_script.specs.Outputs.{AppendsSome};
 ghost use Rattle.fw_script.specs.Records.{event_text, node_words, nodes_text};
-ghost use Rattle.fw_script.specs.Running.{InputEnds, LineEnds, LinesEnd, OverEnds, ReadingEnds, RunEnds, Say};
+ghost use Rattle.fw_script.specs.Endings.{EndsScript};
+ghost use Rattle.fw_script.specs.Running.{InputEnds, IsEither, LineEnds, LinesEnd, OverEnds, ReadingEnds, RunEnds, Say};
 ghost use Rattle.fw_script.specs.Running.{SessionEnds, UnreadEnds};
 ghost use Rattle.fw_script.specs.Scripts.{IsGoodScript, IsPut, IsRunOf, IsRunOver, PrintsAll, PrintsFirst};
 ghost use Rattle.fw_script.specs.Scripts.{PrintsSome, LineSaysEvent, SaysShow, lines_of};
@@ -284,8 +285,7 @@ fn run_events<T: Tables, W: Write>(
     ended
 }
 
-/// Runs the lines of a script on a new session over a link, and says whether the link was lost, which is judged before
-/// out of memory and an output that refuses.
+/// Runs the lines of a script on a new session over a link, and says whether the link was lost.
 fn run_session<T: Tables, L: Link + Drop, W: Write>(
     alloc: T::Heap,
     link: L,
@@ -307,11 +307,8 @@ fn run_session<T: Tables, L: Link + Drop, W: Write>(
     let ended = run_lines(&mut session, lines, &mut room, hex, out);
     let is_lost = session.is_lost();
     session.end();
-    if is_lost {
-        return Ok(true);
-    }
     match ended {
-        Ok(()) => Ok(false),
+        Ok(()) => Ok(is_lost),
         Err(stop) => Err(stop),
     }
 }
@@ -370,15 +367,19 @@ pub struct Script<A: Allocator = Global> {
 
 impl<A: Allocator> Model for Script<A> {
     ghost use Rattle.std.specs.Prelude.{ℕ, List};
+    ghost use Rattle.fw_script.specs.Scripts.{IsGoodScript};
 
     ghost Value = { List ℕ };
 
     ghost view = { λ script. script.text.items };
+
+    ghost invariant = { λ script. IsGoodScript script.text.items };
 }
 
 impl<A: Allocator + Copy> Script<A> {
     /// Reads a script, and judges its lines.
     fn read_from<'a, R: Read>(alloc: A, name: &'a str, input: &mut R) -> Result<Script<A>, Stop<'a>>
+        ensures good { IfOk result IsGoodScript }
         ensures judged { OnOk result (IfSome (R.remaining input.old) IsGoodScript) }
         ensures text { IfOk result (λ script. IfSome (R.remaining input.old) (λ bytes. script ≡ bytes)) }
         ensures refused { IfErr result (UnreadEnds name.now (R.remaining input.old)) }
@@ -397,6 +398,7 @@ impl<A: Allocator + Copy> Script<A> {
         input: &mut R,
         faults: &mut F,
     ) -> Result<Script<A>, u8>
+        ensures good { IfOk result IsGoodScript }
         ensures judged { OnOk result (IfSome (R.remaining input.old) IsGoodScript) }
         ensures text { IfOk result (λ script. IfSome (R.remaining input.old) (λ bytes. script ≡ bytes)) }
         ensures statuses { IfErr result (Contains (1 ∷ 3 ∷ [])) }
@@ -427,11 +429,11 @@ impl<A: Allocator + Copy> Script<A> {
         ensures printed { result ≡ 0 → PrintsAll (IsRunOver A L.carries L.failed link hex false) (Some self.now)
             (W.contents out.old) (W.contents out.new) }
         ensures stopped { result ≡ 3 → Keeps (W.contents out.old) (W.contents out.new)
-            ⊎ PrintsFirst (IsRunOver A L.carries L.failed link hex false) (Some self.now)
+            ⊎ PrintsFirst (IsEither (IsRunOver A L.carries L.failed link hex)) (Some self.now)
             (W.contents out.old) (W.contents out.new) }
-        ensures lost { result ≡ 4 → PrintsSome (IsRunOver A L.carries L.failed link hex true) (Some self.now)
+        ensures lost { result ≡ 4 → PrintsAll (IsRunOver A L.carries L.failed link hex true) (Some self.now)
             (W.contents out.old) (W.contents out.new) }
-        ensures refused { result ≡ 5 → PrintsSome (IsRunOver A L.carries L.failed link hex false) (Some self.now)
+        ensures refused { result ≡ 5 → PrintsSome (IsEither (IsRunOver A L.carries L.failed link hex)) (Some self.now)
             (W.contents out.old) (W.contents out.new) }
         ensures no_memory { result ≡ 3 → AppendsSome (F.contents faults.old) (F.contents faults.new)
             (codes "no memory\n") }
@@ -495,24 +497,8 @@ fn run_on<T: Tables, R: Read, W: Write, F: Write>(
     out: &mut W,
     faults: &mut F,
 ) -> u8
-    ensures statuses { Contains (0 ∷ 1 ∷ 3 ∷ 5 ∷ []) result }
-    // Nothing is run of a script with a bad line.
-    ensures judged { (result ≡ 0) ⊎ (result ≡ 5) → IfSome (R.remaining input.old) IsGoodScript }
-    ensures silent { result ≡ 1 → out.new ≡ out.old }
-    // What is printed is the text of the records of one run of all events that the script says.
-    ensures printed { result ≡ 0 → PrintsAll (IsRunOf T.Heap hex) (R.remaining input.old)
-        (W.contents out.old) (W.contents out.new) }
-    // Where memory runs out it is that of the script's first lines, or nothing.
-    ensures stopped { result ≡ 3 → Keeps (W.contents out.old) (W.contents out.new)
-        ⊎ PrintsFirst (IsRunOf T.Heap hex) (R.remaining input.old) (W.contents out.old) (W.contents out.new) }
-    // Where the output refuses it is a beginning of that.
-    ensures refused { result ≡ 5 → PrintsSome (IsRunOf T.Heap hex) (R.remaining input.old)
-        (W.contents out.old) (W.contents out.new) }
-    ensures fault { result ≡ 1 → SaysFault name.now (R.remaining input.old)
-        (F.contents faults.old) (F.contents faults.new) }
-    ensures no_memory { result ≡ 3 → AppendsSome (F.contents faults.old) (F.contents faults.new)
-        (codes "no memory\n") }
-    ensures no_fault { (result ≡ 0) ⊎ (result ≡ 5) → faults.new ≡ faults.old }
+    ensures { EndsScript W.contents F.contents (IsRunOf T.Heap hex) name.now (R.remaining input.old) out.old out.new
+        faults.old faults.new result }
 {
     match run_input::<T, R, W>(alloc, name, hex, input, out) {
         Ok(()) => 0,
@@ -534,24 +520,8 @@ pub fn run_script<A: Allocator + Copy, R: Read, W: Write, F: Write>(
     out: &mut W,
     faults: &mut F,
 ) -> u8
-    ensures statuses { Contains (0 ∷ 1 ∷ 3 ∷ 5 ∷ []) result }
-    // Nothing is run of a script with a bad line.
-    ensures judged { (result ≡ 0) ⊎ (result ≡ 5) → IfSome (R.remaining input.old) IsGoodScript }
-    ensures silent { result ≡ 1 → out.new ≡ out.old }
-    // What is printed is the text of the records of one run of all events that the script says.
-    ensures printed { result ≡ 0 → PrintsAll (IsRunOf A hex) (R.remaining input.old)
-        (W.contents out.old) (W.contents out.new) }
-    // Where memory runs out it is that of the script's first lines, or nothing.
-    ensures stopped { result ≡ 3 → Keeps (W.contents out.old) (W.contents out.new)
-        ⊎ PrintsFirst (IsRunOf A hex) (R.remaining input.old) (W.contents out.old) (W.contents out.new) }
-    // Where the output refuses it is a beginning of that.
-    ensures refused { result ≡ 5 → PrintsSome (IsRunOf A hex) (R.remaining input.old)
-        (W.contents out.old) (W.contents out.new) }
-    ensures fault { result ≡ 1 → SaysFault name.now (R.remaining input.old)
-        (F.contents faults.old) (F.contents faults.new) }
-    ensures no_memory { result ≡ 3 → AppendsSome (F.contents faults.old) (F.contents faults.new)
-        (codes "no memory\n") }
-    ensures no_fault { (result ≡ 0) ⊎ (result ≡ 5) → faults.new ≡ faults.old }
+    ensures { EndsScript W.contents F.contents (IsRunOf A hex) name.now (R.remaining input.old) out.old out.new
+        faults.old faults.new result }
 {
     run_on::<Maps<A>, R, W, F>(alloc, name, hex, input, out, faults)
 }
@@ -565,24 +535,8 @@ pub fn run_lists<A: Allocator + Copy, R: Read, W: Write, F: Write>(
     out: &mut W,
     faults: &mut F,
 ) -> u8
-    ensures statuses { Contains (0 ∷ 1 ∷ 3 ∷ 5 ∷ []) result }
-    // Nothing is run of a script with a bad line.
-    ensures judged { (result ≡ 0) ⊎ (result ≡ 5) → IfSome (R.remaining input.old) IsGoodScript }
-    ensures silent { result ≡ 1 → out.new ≡ out.old }
-    // What is printed is the text of the records of one run of all events that the script says.
-    ensures printed { result ≡ 0 → PrintsAll (IsRunOf A hex) (R.remaining input.old)
-        (W.contents out.old) (W.contents out.new) }
-    // Where memory runs out it is that of the script's first lines, or nothing.
-    ensures stopped { result ≡ 3 → Keeps (W.contents out.old) (W.contents out.new)
-        ⊎ PrintsFirst (IsRunOf A hex) (R.remaining input.old) (W.contents out.old) (W.contents out.new) }
-    // Where the output refuses it is a beginning of that.
-    ensures refused { result ≡ 5 → PrintsSome (IsRunOf A hex) (R.remaining input.old)
-        (W.contents out.old) (W.contents out.new) }
-    ensures fault { result ≡ 1 → SaysFault name.now (R.remaining input.old)
-        (F.contents faults.old) (F.contents faults.new) }
-    ensures no_memory { result ≡ 3 → AppendsSome (F.contents faults.old) (F.contents faults.new)
-        (codes "no memory\n") }
-    ensures no_fault { (result ≡ 0) ⊎ (result ≡ 5) → faults.new ≡ faults.old }
+    ensures { EndsScript W.contents F.contents (IsRunOf A hex) name.now (R.remaining input.old) out.old out.new
+        faults.old faults.new result }
 {
     run_on::<Lists<A>, R, W, F>(alloc, name, hex, input, out, faults)
 }
@@ -605,13 +559,13 @@ pub fn run_over<A: Allocator + Copy, L: Link + Drop, R: Read, W: Write, F: Write
     ensures printed { result ≡ 0 → PrintsAll (IsRunOver A L.carries L.failed link hex false) (R.remaining input.old)
         (W.contents out.old) (W.contents out.new) }
     ensures stopped { result ≡ 3 → Keeps (W.contents out.old) (W.contents out.new)
-        ⊎ PrintsFirst (IsRunOver A L.carries L.failed link hex false) (R.remaining input.old)
+        ⊎ PrintsFirst (IsEither (IsRunOver A L.carries L.failed link hex)) (R.remaining input.old)
         (W.contents out.old) (W.contents out.new) }
-    // Where the link is lost, a beginning of that up to a line after it was.
-    ensures lost { result ≡ 4 → PrintsSome (IsRunOver A L.carries L.failed link hex true) (R.remaining input.old)
+    // The same where the link is lost.
+    ensures lost { result ≡ 4 → PrintsAll (IsRunOver A L.carries L.failed link hex true) (R.remaining input.old)
         (W.contents out.old) (W.contents out.new) }
-    ensures refused { result ≡ 5 → PrintsSome (IsRunOver A L.carries L.failed link hex false) (R.remaining input.old)
-        (W.contents out.old) (W.contents out.new) }
+    ensures refused { result ≡ 5 → PrintsSome (IsEither (IsRunOver A L.carries L.failed link hex))
+        (R.remaining input.old) (W.contents out.old) (W.contents out.new) }
     ensures fault { result ≡ 1 → SaysFault name.now (R.remaining input.old)
         (F.contents faults.old) (F.contents faults.new) }
     ensures no_memory { result ≡ 3 → AppendsSome (F.contents faults.old) (F.contents faults.new)

@@ -1,5 +1,5 @@
-use Rattle.std.proofs.Common.{Bool, false, List, ℕ, Result, subst, sym}
-use Rattle.fw_script.specs.Running.{JudgingEnds, OverEnds, Say, SessionEnds}
+use Rattle.std.proofs.Common.{Bool, List, ℕ, Result, subst, sym}
+use Rattle.fw_script.specs.Running.{IsEither, JudgingEnds, OverEnds, Say, SessionEnds}
 use Rattle.fw_script.specs.Scripts.{IsRunOver, lines_of}
 use Rattle.fw_script.specs.declared.line.Line.{Line}
 use Rattle.fw_script.specs.declared.stop.Stop.{Stop}
@@ -14,7 +14,7 @@ returns-in_err-script-clause-ends g c =
     by_error c.from_residual.result c.in_err-script.field-0.0
     (λ (r : Result Bool Stop). OverEnds (IsRunOver _ g.L.Link.carries g.L.Link.failed c.args.link c.args.hex) c.args.name.now known r old old)
     c.from_residual.ensures.1
-    (unread_ends Bool (IsRunOver _ g.L.Link.carries g.L.Link.failed c.args.link c.args.hex false) c.args.name.now known c.in_err-script.field-0.0 old
+    (unread_ends Bool (IsEither (IsRunOver _ g.L.Link.carries g.L.Link.failed c.args.link c.args.hex)) c.args.name.now known c.in_err-script.field-0.0 old
     c.in_err-script.ensures.err)
 
 pub returns-in_err-lines-clause-ends : goal.returns-in_err-lines-clause-ends
@@ -24,7 +24,7 @@ returns-in_err-lines-clause-ends g c =
     by_error c.from_residual-in_err-lines.result c.in_err-lines.field-0.0
     (λ (r : Result Bool Stop). OverEnds (IsRunOver _ g.L.Link.carries g.L.Link.failed c.args.link c.args.hex) c.args.name.now known r old old)
     c.from_residual-in_err-lines.ensures.1
-    (judged_ends Bool (IsRunOver _ g.L.Link.carries g.L.Link.failed c.args.link c.args.hex false) c.args.name.now known c.in_ok-script.script.items
+    (judged_ends Bool (IsEither (IsRunOver _ g.L.Link.carries g.L.Link.failed c.args.link c.args.hex)) c.args.name.now known c.in_ok-script.script.items
     c.in_err-lines.field-0.0 old c.in_ok-script.ensures.ok
     (subst (λ (text : List ℕ). JudgingEnds text c.in_err-lines.field-0.0) c.as_slice.ensures.value
     c.in_err-lines.ensures.refused))
