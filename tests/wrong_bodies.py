@@ -4,7 +4,10 @@
 tests/wrong_bodies/CRATE/NAME.edit turns a body of that crate into a wrong one, in the form of a must-fail edit. Each is
 tried in a copy of the tree (with what earlier checks kept, so that only what the edit turns is proved again): a line each
 with the clause that refused it, then `N passed, M failed`. Names of crates as arguments try those alone. Status 1 where
-one is not refused.
+one is not refused, or has no verdict.
+
+A proof file answers goals by their names. Where a wrong body has no longer such a goal, the check ends there and says
+nothing of the clause: that is no verdict, and the proof file has to be adapted in the edit's favour by hand.
 """
 import re
 import shutil
@@ -16,6 +19,9 @@ from pathlib import Path
 
 TOP = Path(__file__).resolve().parent.parent
 EDITS = TOP / "tests" / "wrong_bodies"
+
+# What rt says where a proof answers a goal, or cites a part of one, that the wrong body does not have.
+GONE = re.compile(r"has no field|can be named from here")
 
 
 def copy_of_the_tree(room):
@@ -57,9 +63,11 @@ def main(names):
             if not edits or names and folder.name not in names:
                 continue
             for name, said in try_crate(room, folder.name, edits):
-                is_refused = said.startswith("refused, as it must be")
+                ended = said.startswith("refused, as it must be")
+                is_refused = ended and not GONE.search(said)
                 why = f"by {clause_in(said)}" if is_refused else said
-                print(f"{'refused' if is_refused else 'NOT REFUSED'} {folder.name}/{name}: {why}", flush=True)
+                verdict = "refused" if is_refused else "NO VERDICT" if ended else "NOT REFUSED"
+                print(f"{verdict} {folder.name}/{name}: {why}", flush=True)
                 passed, failed = passed + is_refused, failed + (not is_refused)
     print(f"{time.monotonic() - start:.0f} seconds")
     print(f"{passed} passed, {failed} failed")

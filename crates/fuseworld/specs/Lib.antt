@@ -2,4 +2,5 @@ pub mod Arguments
 pub mod Commands
 pub mod Values
 pub mod Tasks
+pub mod Doing
 pub mod Statuses

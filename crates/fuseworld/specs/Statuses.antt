@@ -7,8 +7,18 @@ use Rattle.fuseworld.specs.Tasks.{AsksFor}
 use Rattle.fuseworld.specs.Values.{IsOffer}
 use Rattle.fuseworld.specs.declared.command.Task.{Task}
 use Rattle.fuseworld.specs.declared.command.Task.TheVariants as task
+use Rattle.fuseworld.specs.declared.doing.InputTask.{InputTask}
+use Rattle.fuseworld.specs.declared.doing.InputTask.TheVariants as input
 use Rattle.fuseworld.specs.declared.frame_commands.FrameTask.{FrameTask}
 use Rattle.fuseworld.specs.declared.frame_commands.FrameTask.TheVariants as frame
+
+-- the exit statuses of a task on one input
+abbrev pub input_statuses : InputTask → List ℕ
+input_statuses (input.Script name hex) = 0 ∷ 1 ∷ 3 ∷ 5 ∷ []
+input_statuses (input.Picture name) = 0 ∷ 1 ∷ 3 ∷ 5 ∷ []
+input_statuses (input.Frame hex words) = 0 ∷ 1 ∷ 3 ∷ 5 ∷ []
+input_statuses (input.Reply name hex) = 0 ∷ 1 ∷ 2 ∷ 3 ∷ 5 ∷ []
+input_statuses input.Vectors = 0 ∷ 3 ∷ 5 ∷ []
 
 -- the exit statuses of a command on frames
 abbrev pub frame_statuses : FrameTask → List ℕ

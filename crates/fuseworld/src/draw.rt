@@ -4,8 +4,8 @@ ghost use Rattle.std.specs.Prelude.{◌∷◌, [], Contains, IfOk};
 ghost use Rattle.fuseworld.specs.Commands.{IsCommand, draw_app};
 
 use crate::arguments::needed;
+use crate::doing::{InputTask, do_task};
 use clap::Command;
-use fw_draw::draw_script;
 use fw_script::{cannot_read, no_memory};
 use std::alloc::{AllocError, Global};
 use std::fs::File;
@@ -35,11 +35,12 @@ pub fn run_draw(rt: &HostRuntime, path: &str) -> u8
     let Ok(mut out) = BufWriter::new(alloc, io::writer(rt)) else {
         return no_memory(&mut faults);
     };
+    let task = InputTask::Picture { name: path };
     if path == "-" {
-        return draw_script(alloc, path, &mut rt.reader(), &mut out, &mut faults);
+        return do_task(alloc, task, &mut rt.reader(), &mut out, &mut faults);
     }
     match File::open(rt, path) {
-        Ok(mut input) => draw_script(alloc, path, &mut input, &mut out, &mut faults),
+        Ok(mut input) => do_task(alloc, task, &mut input, &mut out, &mut faults),
         Err(error) if error.kind() == ErrorKind::OutOfMemory => no_memory(&mut faults),
         Err(_) => cannot_read(path, &mut faults),
     }

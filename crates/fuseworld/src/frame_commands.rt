@@ -4,15 +4,14 @@ ghost use Rattle.std.specs.Prelude.{◌≡◌, ◌∷◌, [], Contains, IfOk, If
 ghost use Rattle.clap.specs.Words.{found_of, rows_of};
 ghost use Rattle.fuseworld.specs.Arguments.{IsArgument, needed};
 ghost use Rattle.fuseworld.specs.Commands.{IsCommand, frame_app, reply_app, decode_app, vectors_app};
-ghost use Rattle.fuseworld.specs.Statuses.{frame_statuses};
+ghost use Rattle.fuseworld.specs.Statuses.{frame_statuses, input_statuses};
 ghost use Rattle.fuseworld.specs.Tasks.{AsksFrame, is_frame_command};
 
 use crate::arguments::{flag, needed, optional};
 use crate::decode::run_decode;
+use crate::doing::{InputTask, do_task};
 use crate::values::{is_set, text, text_or_none};
 use clap::{Arg, ArgMatches, Command};
-use fw_frames::{run_frame, run_reply};
-use fw_vectors::print_vectors;
 use std::alloc::{AllocError, Global};
 use std::io;
 use std::io::{BufWriter, Write};
@@ -121,19 +120,35 @@ fn run_vectors(rt: &HostRuntime) -> u8
         let _ = writeln!(faults, "no memory");
         return 3;
     };
-    print_vectors(rt.alloc(), &mut out, &mut faults)
+    do_task(
+        rt.alloc(),
+        InputTask::Vectors,
+        &mut rt.reader(),
+        &mut out,
+        &mut faults,
+    )
+}
+
+/// Reads one frame, and gives the exit status.
+fn run_one(rt: &HostRuntime, task: InputTask<'_>) -> u8
+    ensures { Contains (input_statuses task.entry) result }
+{
+    do_task(
+        rt.alloc(),
+        task,
+        &mut rt.reader(),
+        &mut io::writer(rt),
+        &mut rt.stderr(),
+    )
 }
 
 /// Runs a command on frames, and gives the exit status.
 pub fn run_frame_task(rt: &HostRuntime, task: FrameTask<'_>) -> u8
     ensures { Contains (frame_statuses task.entry) result }
 {
-    let alloc = rt.alloc();
-    let mut out = io::writer(rt);
-    let mut faults = rt.stderr();
     match task {
-        FrameTask::Frame { hex, words } => run_frame(alloc, hex, words, &mut out, &mut faults),
-        FrameTask::Reply { name, hex } => run_reply(alloc, name, hex, &mut out, &mut faults),
+        FrameTask::Frame { hex, words } => run_one(rt, InputTask::Frame { hex, words }),
+        FrameTask::Reply { name, hex } => run_one(rt, InputTask::Reply { name, hex }),
         FrameTask::Decode { file } => run_decode(rt, file),
         FrameTask::Vectors => run_vectors(rt),
     }

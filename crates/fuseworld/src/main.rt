@@ -4,6 +4,7 @@
 mod arguments;
 mod command;
 mod decode;
+mod doing;
 mod draw;
 mod drive;
 mod frame_commands;
@@ -21,10 +22,11 @@ ghost use Rattle.fuseworld.specs.Statuses.{EndsWith, ExitsAt, RefusesWith};
 
 use clap::Error;
 use command::{Task, is_memory, read_task};
+use doing::{InputTask, do_task};
 use draw::run_draw;
 use drive::run_drive_task;
 use frame_commands::run_frame_task;
-use fw_script::{Script, cannot_read, no_memory, run_script};
+use fw_script::{Script, cannot_read, no_memory};
 use serve::run_serve;
 use sides::run_side;
 use socket::run_socket;
@@ -52,10 +54,12 @@ fn run_input<W: Write>(rt: &HostRuntime, file: Option<&str>, hex: bool, out: &mu
     let alloc = rt.alloc();
     let mut faults = rt.stderr();
     let Some(path) = file else {
-        return run_script(alloc, "-", hex, &mut rt.reader(), out, &mut faults);
+        let task = InputTask::Script { name: "-", hex };
+        return do_task(alloc, task, &mut rt.reader(), out, &mut faults);
     };
+    let task = InputTask::Script { name: path, hex };
     match File::open(rt, path) {
-        Ok(mut input) => run_script(alloc, path, hex, &mut input, out, &mut faults),
+        Ok(mut input) => do_task(alloc, task, &mut input, out, &mut faults),
         Err(error) if error.kind() == ErrorKind::OutOfMemory => no_memory(&mut faults),
         Err(_) => cannot_read(path, &mut faults),
     }

@@ -1,11 +1,6 @@
 //! The command `draw`.
 
-ghost use Rattle.std.specs.Prelude.{◌≡◌, ◌⊎◌, ◌∷◌, [], ℕ, List, Contains, IfSome, codes};
-ghost use Rattle.std.specs.Io.KnownBytes.{Appends};
-ghost use Rattle.fw_draw.specs.Svg.{svg_text};
-ghost use Rattle.fw_script.specs.Outputs.{AppendsSome};
-ghost use Rattle.fw_script.specs.Scripts.{IsGoodScript};
-ghost use Rattle.fw_script.specs.Stops.{SaysFault};
+ghost use Rattle.fw_draw.specs.Endings.{EndsDrawing};
 
 use crate::run::draw_run;
 use crate::script::read_good_text;
@@ -36,17 +31,8 @@ pub fn draw_script<A: Allocator + Copy, R: Read, W: Write, F: Write>(
     out: &mut W,
     faults: &mut F,
 ) -> u8
-    ensures statuses { Contains (0 ∷ 1 ∷ 3 ∷ 5 ∷ []) result }
-    // Nothing is drawn of a script with a bad line.
-    ensures judged { (result ≡ 0) ⊎ (result ≡ 5) → IfSome (R.remaining input.old) IsGoodScript }
-    ensures printed { result ≡ 0 → (inner : List ℕ)
-        × Appends (W.contents out.old) (W.contents out.new) (svg_text inner) }
-    ensures silent { (result ≡ 1) ⊎ (result ≡ 3) → out.new ≡ out.old }
-    ensures fault { result ≡ 1 → SaysFault name.now (R.remaining input.old)
-        (F.contents faults.old) (F.contents faults.new) }
-    ensures no_memory { result ≡ 3 → AppendsSome (F.contents faults.old) (F.contents faults.new)
-        (codes "no memory\n") }
-    ensures no_fault { (result ≡ 0) ⊎ (result ≡ 5) → faults.new ≡ faults.old }
+    ensures { EndsDrawing W.contents F.contents name.now (R.remaining input.old) out.old out.new faults.old faults.new
+        result }
 {
     let script = match read_good_text(alloc, name, input, faults) {
         Ok(script) => script,

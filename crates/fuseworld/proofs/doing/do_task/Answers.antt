@@ -1,0 +1,31 @@
+use Rattle.fuseworld.proofs.doing.do_task.Goals as goal
+
+pub returns-in-Script-clause-statuses : goal.returns-in-Script-clause-statuses
+returns-in-Script-clause-statuses g c = rw c.in-Script.is c.run_script.ensures.statuses
+
+pub returns-in-Script-clause-does : goal.returns-in-Script-clause-does
+returns-in-Script-clause-does g c = rw c.in-Script.is c.run_script.ensures
+
+pub returns-in-Picture-clause-statuses : goal.returns-in-Picture-clause-statuses
+returns-in-Picture-clause-statuses g c = rw c.in-Picture.is c.draw_script.ensures.statuses
+
+pub returns-in-Picture-clause-does : goal.returns-in-Picture-clause-does
+returns-in-Picture-clause-does g c = rw c.in-Picture.is c.draw_script.ensures
+
+pub returns-in-Frame-clause-statuses : goal.returns-in-Frame-clause-statuses
+returns-in-Frame-clause-statuses g c = rw c.in-Frame.is c.run_frame.ensures.statuses
+
+pub returns-in-Frame-clause-does : goal.returns-in-Frame-clause-does
+returns-in-Frame-clause-does g c = rw c.in-Frame.is c.run_frame.ensures
+
+pub returns-in-Reply-clause-statuses : goal.returns-in-Reply-clause-statuses
+returns-in-Reply-clause-statuses g c = rw c.in-Reply.is c.run_reply.ensures.statuses
+
+pub returns-in-Reply-clause-does : goal.returns-in-Reply-clause-does
+returns-in-Reply-clause-does g c = rw c.in-Reply.is c.run_reply.ensures
+
+pub returns-in-Vectors-clause-statuses : goal.returns-in-Vectors-clause-statuses
+returns-in-Vectors-clause-statuses g c = rw c.in-Vectors.is c.print_vectors.ensures.statuses
+
+pub returns-in-Vectors-clause-does : goal.returns-in-Vectors-clause-does
+returns-in-Vectors-clause-does g c = rw c.in-Vectors.is c.print_vectors.ensures
