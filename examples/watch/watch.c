@@ -35,8 +35,8 @@
 
 enum {
 	READ = 15, WRITE = 16, OUT_HEADER = 16, IN_HEADER = 40, WRITE_IN = 40,
-	/* No packet is longer than ROOM: the kernel makes a socket's buffer twice as large as is asked. */
-	SOCKET_BUFFER = 16 << 20, ROOM = 2 * SOCKET_BUFFER,
+	/* Linux sends no packet of much more than 4 MiB. */
+	SOCKET_BUFFER = 16 << 20, ROOM = 8 << 20,
 	/* What a server splices comes in pieces of 16 pipe buffers. What is shorter is the device's to refuse. */
 	SHORTEST_PIECE = 32768,
 	/* For so many milliseconds a reply waits for the notifications before it, which may wait in the kernel for it. */
@@ -51,7 +51,7 @@ static int device, server, signals;    /* descriptors; `server` is our end of th
 static pid_t server_process, guardian;
 static sigset_t told, told_before;     /* the signals that end all, blocked, and what was blocked before */
 static FILE *capture;
-static int is_keen, is_held;
+static int is_keen, is_held;           /* the option -k; the server has no room for the request */
 static size_t data_kept = SIZE_MAX, request_length, reply_length;
 static unsigned char request[ROOM] __attribute__((aligned(8))), reply[ROOM] __attribute__((aligned(8)));
 static pthread_mutex_t lines_lock = PTHREAD_MUTEX_INITIALIZER;
@@ -95,8 +95,7 @@ static struct line *begin_line(char sign, const unsigned char *frame, size_t len
 	struct line *line = need(malloc(sizeof *line));
 	char *text = need(malloc(2 * kept + 64));
 	*line = (struct line) {NULL, text, 2 * kept + 2, 0};
-	text[0] = sign;
-	text[1] = ' ';
+	sprintf(text, "%c ", sign);
 	for (size_t at = 0; at < kept; at++) {
 		text[2 * at + 2] = digits[frame[at] >> 4];
 		text[2 * at + 3] = digits[frame[at] & 15];
@@ -161,9 +160,9 @@ static void await_notes(int milliseconds)
 static void hand_on(void)
 {
 	ssize_t sent = send(server, request, request_length, MSG_NOSIGNAL | MSG_DONTWAIT);
-	is_held = sent < 0 && (errno == EAGAIN || errno == EINTR || errno == ENOBUFS);
-	if (sent < 0 && errno == EMSGSIZE)
-		is_not_whole = fail("a request is too long for the socket");
+	is_held = sent < 0 && (errno == EAGAIN || errno == EINTR);
+	if (sent < 0 && !is_held && errno != EPIPE && errno != ECONNRESET)
+		is_not_whole = fail("a request does not fit the socket");
 }
 
 /* Reads a request. Gives 0, or the errno that is the device's end. */
@@ -172,11 +171,11 @@ static int read_request(void)
 	ssize_t length = read(device, request, ROOM);
 	if (length < 0)
 		return errno == EAGAIN || errno == EINTR || errno == ENOENT ? 0 : errno;
-	request_length = length;
 	uint32_t opcode = ((const uint32_t *) request)[1];
 	uint64_t unique = ((const uint64_t *) request)[1];
 	if (opcode == READ)
 		reads[unique / 2 % 4096] = unique;
+	request_length = length;
 	settle(begin_line('>', request, length, opcode == WRITE ? IN_HEADER + WRITE_IN : length), 0);
 	hand_on();
 	return 0;
@@ -358,7 +357,8 @@ static int watch(char **words)
 	detach();
 	close(notes[1]);
 	pthread_join(notifier, NULL);
-	if (how == NULL || fprintf(capture, "= %s%s%s\n", how, end == 0 ? "" : " ", end == 0 ? "" : name_of(end)) < 0)
+	int is_end = how != NULL && (end == 0 || end == ENODEV || end == ECONNABORTED);
+	if (!is_end || fprintf(capture, "= %s%s%s\n", how, end == 0 ? "" : " ", end == 0 ? "" : name_of(end)) < 0)
 		is_not_whole = 1;
 	end_server();
 	if (fclose(capture) != 0 || is_not_whole)
