@@ -6,7 +6,7 @@
 
 SCRIPT ?= tests/rows/stat-of-root.script
 
-.PHONY: run try test build mount vectors lib install uninstall bench drive-tests wrong-bodies check rows docs fmt
+.PHONY: run try test build mount vectors lib install uninstall bench drive-tests watch-tests wrong-bodies check rows docs fmt
 
 run: build
 	@crates/fuseworld/out/fuseworld run "$(SCRIPT)"
@@ -83,6 +83,10 @@ bench: build
 # The scripts of examples/drive, on the servers of others whose packages are there.
 drive-tests: build
 	@python3 tests/drive_servers.py
+
+# A small server on a watched mount: examples/watch writes down each frame, and leaves no mount.
+watch-tests:
+	@sh tests/watch.sh
 
 # Whether each wrong body of tests/wrong_bodies is refused; CRATES names the crates whose bodies are tried, or none for all.
 wrong-bodies:
