@@ -24,7 +24,7 @@ pub returns-in_default-perform : goal.returns-in_default-perform
 returns-in_default-perform g c =
     let held : c.in-Ok.taken.word ≡ Held = search rules in (
       refl,
-      waits c.args.server.now c.take.new.self c.args.frame.now c.in-Ok.taken c.in-Ok.ensures.effect c.perform.new.self c.in_default-perform.field-0 held c.in_default-perform.ensures.err c.in_default-perform.ensures.refusal c.in_default-perform.ensures.memory,
+      waits c.args.server.now c.take.new.self c.args.frame.now c.in-Ok.taken c.in-Ok.ensures.effect c.perform.new.self c.in_default-perform.field-0 held c.in_default-perform.ensures.err c.in_default-perform.ensures.refusal (λ is. (c.in_default-perform.ensures.memory is).0),
     )
 
 pub returns-in-Some-sent : goal.returns-in-Some-sent
