@@ -21,7 +21,7 @@ TOP = Path(__file__).resolve().parent.parent
 EDITS = TOP / "tests" / "wrong_bodies"
 
 # What rt says where a proof answers a goal, or cites a part of one, that the wrong body does not have.
-GONE = re.compile(r"has no field|can be named from here")
+GONE = re.compile(r"only because a proof file names what the edit took away")
 
 
 def copy_of_the_tree(room):
