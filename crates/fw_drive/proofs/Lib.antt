@@ -1,5 +1,3 @@
 pub mod ActsAlone
 pub mod Following
-pub mod KnownScripts
 pub mod StopStatuses
-pub mod Words

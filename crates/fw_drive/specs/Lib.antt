@@ -1,4 +1,2 @@
 pub mod Acts
-pub mod DriveLines
-pub mod Judging
 pub mod Runs

@@ -1,8 +1,5 @@
 //! What a script of `drive` has in its lines.
 
-ghost use Rattle.std.specs.Prelude.{◌↔◌, IsTrue};
-ghost use Rattle.fw_drive.specs.DriveLines.{IsOfCalls};
-
 /// The kinds of scripts.
 #[derive(Clone, Copy, Debug, PartialEq, Eq)]
 pub enum Form {
@@ -16,12 +13,7 @@ pub enum Form {
 
 impl Form {
     /// Whether the script has calls alone.
-    pub(crate) fn is_of_calls(self) -> bool
-        ensures { IsTrue result ↔ IsOfCalls self }
-    {
-        match self {
-            Form::Events => false,
-            Form::Calls | Form::CallsBeside => true,
-        }
+    pub(crate) fn is_of_calls(self) -> bool {
+        self != Form::Events
     }
 }
