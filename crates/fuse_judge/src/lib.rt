@@ -4,8 +4,6 @@
 
 mod change;
 mod flags;
-#[cfg(test)]
-mod frame_tests;
 mod handle;
 mod judge;
 mod marks;
