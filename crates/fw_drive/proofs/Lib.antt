@@ -1,3 +1,5 @@
 pub mod ActsAlone
 pub mod Following
+pub mod KnownScripts
 pub mod StopStatuses
+pub mod Words

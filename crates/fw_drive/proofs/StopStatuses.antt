@@ -1,9 +1,54 @@
 -- The statuses of a run are those of its end, and others.
-use Rattle.std.proofs.Common.{◌≡◌, ℕ, zero, suc, ◌<◌, List, [], ◌∷◌, length, arith}
+use Rattle.std.proofs.Common.{◌≡◌, ◌⊎◌, inl, inr, ℕ, zero, suc, List, [], ◌∷◌, arith, sym}
 use Rattle.std.specs.Prelude.{Contains}
+use Rattle.fw_script.specs.declared.line.LineFault.{LineFault}
+use Rattle.fw_drive.specs.DriveLines.{FirstDriveFaultIs}
+use Rattle.fw_drive.specs.Judging.{JudgingEnds, bad_status}
+use Rattle.fw_drive.specs.declared.form.Form.{Form}
+use Rattle.fw_drive.specs.declared.lines.BadScript.{BadScript}
+use Rattle.fw_drive.specs.declared.lines.BadScript.TheVariants as bad
 
 pub among_all : (s : ℕ) → Contains (3 ∷ 4 ∷ 5 ∷ []) s → Contains (0 ∷ 1 ∷ 3 ∷ 4 ∷ 5 ∷ []) s
 among_all s (zero, low, is) = (2, omega arith, is)
 among_all s (suc zero, low, is) = (3, omega arith, is)
 among_all s (suc (suc zero), low, is) = (4, omega arith, is)
 among_all s (suc (suc (suc k)), low, is) = absurd (omega (arith, low))
+
+-- that of a run is neither 0 nor 1
+pub never_1 : (s : ℕ) → Contains (3 ∷ 4 ∷ 5 ∷ []) s → s ≡ 1 → ⊥
+never_1 s (zero, low, is) one = omega (arith, is, one)
+never_1 s (suc zero, low, is) one = omega (arith, is, one)
+never_1 s (suc (suc zero), low, is) one = omega (arith, is, one)
+never_1 s (suc (suc (suc k)), low, is) one = omega (arith, low)
+
+pub never_0 : (s : ℕ) → Contains (3 ∷ 4 ∷ 5 ∷ []) s → s ≡ 0 → ⊥
+never_0 s (zero, low, is) none = omega (arith, is, none)
+never_0 s (suc zero, low, is) none = omega (arith, is, none)
+never_0 s (suc (suc zero), low, is) none = omega (arith, is, none)
+never_0 s (suc (suc (suc k)), low, is) none = omega (arith, low)
+
+-- that of a script which cannot be read is 1 or 3
+pub unread_among : (s : ℕ) → Contains (1 ∷ 3 ∷ []) s → Contains (0 ∷ 1 ∷ 3 ∷ 4 ∷ 5 ∷ []) s
+unread_among s (zero, low, is) = (1, omega arith, is)
+unread_among s (suc zero, low, is) = (2, omega arith, is)
+unread_among s (suc (suc k), low, is) = absurd (omega (arith, low))
+
+pub unread_never : (s : ℕ) → Contains (1 ∷ 3 ∷ []) s → (s ≡ 0) ⊎ (s ≡ 4) ⊎ (s ≡ 5) → ⊥
+unread_never s (zero, low, is) (inl h) = omega (arith, is, h)
+unread_never s (zero, low, is) (inr (inl h)) = omega (arith, is, h)
+unread_never s (zero, low, is) (inr (inr h)) = omega (arith, is, h)
+unread_never s (suc zero, low, is) (inl h) = omega (arith, is, h)
+unread_never s (suc zero, low, is) (inr (inl h)) = omega (arith, is, h)
+unread_never s (suc zero, low, is) (inr (inr h)) = omega (arith, is, h)
+unread_never s (suc (suc k), low, is) h = omega (arith, low)
+
+-- and so is that of one whose lines are not kept
+pub bad_among : (b : BadScript) (s : ℕ) → s ≡ bad_status b → Contains (1 ∷ 3 ∷ []) s
+bad_among (bad.BadLine number fault) s is = (0, omega arith, sym is)
+bad_among bad.NoMemory s is = (1, omega arith, sym is)
+
+-- it is 1 for a line with a fault
+pub bad_at_1 : (form : Form) (script : List ℕ) (b : BadScript) (s : ℕ) → s ≡ bad_status b → JudgingEnds form script b
+    → s ≡ 1 → (number : ℕ) × (fault : LineFault) × FirstDriveFaultIs form script number fault
+bad_at_1 form script (bad.BadLine number fault) s is ends one = (number, fault, ends)
+bad_at_1 form script bad.NoMemory s is ends one = absurd (omega (arith, is, one))

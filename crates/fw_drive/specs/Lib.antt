@@ -1,2 +1,4 @@
 pub mod Acts
+pub mod DriveLines
+pub mod Judging
 pub mod Runs

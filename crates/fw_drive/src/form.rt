@@ -1,5 +1,8 @@
 //! What a script of `drive` has in its lines.
 
+ghost use Rattle.std.specs.Prelude.{◌↔◌, IsTrue};
+ghost use Rattle.fw_drive.specs.DriveLines.{IsOfCalls};
+
 /// The kinds of scripts.
 #[derive(Clone, Copy, Debug, PartialEq, Eq)]
 pub enum Form {
@@ -13,7 +16,12 @@ pub enum Form {
 
 impl Form {
     /// Whether the script has calls alone.
-    pub(crate) fn is_of_calls(self) -> bool {
-        self != Form::Events
+    pub(crate) fn is_of_calls(self) -> bool
+        ensures { IsTrue result ↔ IsOfCalls self }
+    {
+        match self {
+            Form::Events => false,
+            Form::Calls | Form::CallsBeside => true,
+        }
     }
 }

@@ -1,8 +1,17 @@
 //! The lines of a script that drives a server.
 
+ghost use Rattle.std.specs.Prelude.{◌≡◌, ◌≢◌, ◌<◌, ◌⊎◌, ◌∷◌, ◌↔◌, [], ℕ, List, IfOk};
+ghost use Rattle.std.specs.Prelude.{IsTrue, MatchOption, MatchResult, codes, length};
+ghost use Rattle.fw_script.specs.Arguments.{IsText};
+ghost use Rattle.fw_script.specs.Scripts.{IsPassedOver};
+ghost use Rattle.fw_script.specs.Words.{words_of};
+ghost use Rattle.fw_drive.specs.DriveLines.{DriveFaultIs, DriveLineFaultIs, DriveLineHasWords, IsFlagsWord, IsForeign};
+ghost use Rattle.fw_drive.specs.DriveLines.{IsGoodDriveLine, IsOfCalls, IsOfFrames, IsOfServer, OpensWith};
+
 use crate::form::Form;
-use fw_script::{Line, LineFault, is_hex_or_none, read_line};
-use fw_world::{Call, Event};
+use crate::parts::{four_words, one_word, split_word};
+use fw_script::{Line, LineFault, is_passed_over, read_line};
+use fw_world::{Call, Event, Pick};
 
 /// O_RDONLY, O_WRONLY and O_RDWR of open(2), each with O_LARGEFILE, as a kernel sends them in OPEN.
 const READING: u32 = 0x8000;
@@ -14,8 +23,10 @@ pub(crate) const BOTH: u32 = 0x8002;
 /// What a line says. Paths, names and hex are borrowed from it.
 #[derive(Clone, Copy)]
 pub(crate) enum DriveLine<'a> {
-    /// An event of the kernel. A request that is read is sent.
+    /// An event of the kernel that needs no server.
     Event(Event<'a>),
+    /// A request is read from the kernel, and sent.
+    Read(Pick),
     /// The file at a path is opened, and OPEN has these flags from now on.
     Open {
         path: &'a [u8],
@@ -33,47 +44,31 @@ pub(crate) enum DriveLine<'a> {
     Show,
 }
 
-/// The first word of a line.
-fn first_word(line: &[u8]) -> &[u8] {
-    match line.iter().position(|byte| *byte == b' ') {
-        Some(place) => &line[..place],
-        None => line,
-    }
-}
-
 /// Whether a word begins the lines of a server alone.
-fn is_of_server(word: &[u8]) -> bool {
+fn is_of_server(word: &[u8]) -> bool
+    ensures { IsTrue result ↔ IsOfServer word.now }
+{
     matches!(word, b"take" | b"do" | b"again" | b"settle")
 }
 
-/// Whether a script of calls has an event.
-fn is_among_calls(event: &Event<'_>) -> bool {
-    matches!(
-        event,
-        Event::Call(_) | Event::Tick(_) | Event::DropName { .. } | Event::Evict(_) | Event::Abort
-    )
+/// Whether a word begins lines that a script of calls has not.
+fn is_of_frames(word: &[u8]) -> bool
+    ensures { IsTrue result ↔ IsOfFrames word.now }
+{
+    matches!(word, b"mount" | b"read" | b"write" | b"intr")
 }
 
-/// Whether a script has an event, by its form.
-fn judge_event(form: Form, event: &Event<'_>) -> Result<(), LineFault> {
-    match event {
-        Event::Take(_) | Event::Do(_) | Event::Again(_) | Event::Settle(_) => {
-            Err(LineFault::UnknownEvent)
-        }
-        Event::Write(_) => Err(LineFault::WrongWords),
-        event if form.is_of_calls() && !is_among_calls(event) => Err(LineFault::UnknownEvent),
-        _ => Ok(()),
-    }
-}
-
-/// A line without its last word, and that word, where the line has a space.
-fn split_last(line: &[u8]) -> Option<(&[u8], &[u8])> {
-    let place = line.iter().rposition(|byte| *byte == b' ')?;
-    Some((&line[..place], &line[place + 1..]))
+/// Whether a word begins no line of such a script.
+fn is_foreign(form: Form, word: &[u8]) -> bool
+    ensures { IsTrue result ↔ (IsOfServer word.now ⊎ (IsOfCalls form × IsOfFrames word.now)) }
+{
+    is_of_server(word) || (form.is_of_calls() && is_of_frames(word))
 }
 
 /// The flags of OPEN that a word names.
-fn flags_of(word: &[u8]) -> Option<u32> {
+fn flags_of(word: &[u8]) -> Option<u32>
+    ensures { MatchOption result ((flags : ℕ) → ¬ (IsFlagsWord flags word.now)) (λ flags. IsFlagsWord flags word.now) }
+{
     match word {
         b"r" => Some(READING),
         b"w" => Some(WRITING),
@@ -82,40 +77,78 @@ fn flags_of(word: &[u8]) -> Option<u32> {
     }
 }
 
-/// What `call open PATH` says with a word behind it for the flags.
-fn read_open(line: &[u8]) -> Option<DriveLine<'_>> {
-    let (front, word) = split_last(line)?;
-    let flags = flags_of(word)?;
-    match read_line(front) {
-        Ok(Line::Event(Event::Call(Call::Open { path }))) => Some(DriveLine::Open { path, flags }),
-        _ => None,
+/// Whether a word is a path: it is not empty, and made of bytes from 33 to 126.
+fn is_path(word: &[u8]) -> bool
+    ensures { IsTrue result ↔ (IsText word.now × (0 < length word.now)) }
+{
+    !word.is_empty() && word.iter().all(|byte| 33 <= *byte && *byte <= 126)
+}
+
+/// The path and the flags of a line `call open PATH FLAGS`.
+fn read_open(line: &[u8]) -> Option<(&[u8], u32)>
+    ensures { MatchOption result
+        ((path : List ℕ) (flags : ℕ) → ¬ (OpensWith path flags (words_of line.now)))
+        (λ opens. OpensWith opens.0.now opens.1 (words_of line.now)) }
+{
+    let (call, open, path, word) = four_words(line)?;
+    if call != b"call".as_slice() || open != b"open".as_slice() || !is_path(path) {
+        return None;
+    }
+    match flags_of(word) {
+        Some(flags) => Some((path, flags)),
+        None => None,
     }
 }
 
 /// What a line says whose words are those of a script's line.
-fn read_script_line(form: Form, line: &[u8]) -> Result<DriveLine<'_>, LineFault> {
-    match read_line(line)? {
-        Line::Event(Event::Call(Call::Open { path })) => Ok(DriveLine::Open { path, flags: BOTH }),
-        Line::Event(event) => {
-            judge_event(form, &event)?;
-            Ok(DriveLine::Event(event))
-        }
-        Line::CallWrite {
-            open_call,
-            offset,
-            hex,
-        } => {
-            if !is_hex_or_none(hex) {
-                return Err(LineFault::BadText);
-            }
-            Ok(DriveLine::CallWrite {
+fn read_script_line(form: Form, line: &[u8]) -> Result<DriveLine<'_>, LineFault>
+    requires known { ¬ (IsForeign form (words_of line.now)) }
+    requires placed { words_of line.now ≢ codes "write" ∷ [] }
+    requires plain { (path : List ℕ) (flags : ℕ) → ¬ (OpensWith path flags (words_of line.now)) }
+    ensures { MatchResult result (λ l. DriveLineHasWords form l (words_of line.now))
+        (DriveFaultIs form (words_of line.now)) }
+{
+    let _ = form;
+    match read_line(line) {
+        Ok(Line::Event(Event::Call(Call::Open { path }))) => Ok(DriveLine::Open {
+            path,
+            flags: BOTH,
+        }),
+        Ok(Line::Event(Event::Read(pick))) => Ok(DriveLine::Read(pick)),
+        Ok(Line::Event(Event::Write(_))) => Err(LineFault::WrongWords),
+        Ok(Line::Event(event)) => Ok(DriveLine::Event(event)),
+        Ok(
+            Line::CallWrite {
                 open_call,
                 offset,
                 hex,
-            })
-        }
-        Line::Show => Ok(DriveLine::Show),
+            },
+        ) => Ok(DriveLine::CallWrite {
+            open_call,
+            offset,
+            hex,
+        }),
+        Ok(Line::Show) => Ok(DriveLine::Show),
+        Err(fault) => Err(fault),
     }
+}
+
+/// Whether a line is the word `write` alone.
+fn is_write(line: &[u8]) -> bool
+    ensures { IsTrue result ↔ (words_of line.now ≡ codes "write" ∷ []) }
+{
+    match one_word(Some(line)) {
+        Some(word) => word == b"write".as_slice(),
+        None => false,
+    }
+}
+
+/// Whether a line begins as no line of such a script does.
+fn begins_foreign(form: Form, line: &[u8]) -> bool
+    ensures { IsTrue result ↔ IsForeign form (words_of line.now) }
+{
+    let (word, _) = split_word(line);
+    is_foreign(form, word)
 }
 
 /// What a line says: a line of scripts that is the kernel's, where `call open` takes a further word, `r`, `w` or `rw`,
@@ -124,26 +157,35 @@ fn read_script_line(form: Form, line: &[u8]) -> Result<DriveLine<'_>, LineFault>
 /// # Errors
 ///
 /// The first of `UnknownEvent`, `WrongWords`, `BadNumber` and `BadText` that applies, as of a script's line.
-pub(crate) fn read_drive_line(form: Form, line: &[u8]) -> Result<DriveLine<'_>, LineFault> {
-    let word = first_word(line);
-    if is_of_server(word)
-        || (form.is_of_calls() && matches!(word, b"mount" | b"read" | b"write" | b"intr"))
-    {
+fn read_drive_line(form: Form, line: &[u8]) -> Result<DriveLine<'_>, LineFault>
+    ensures { MatchResult result (λ l. DriveLineHasWords form l (words_of line.now))
+        (DriveFaultIs form (words_of line.now)) }
+{
+    if begins_foreign(form, line) {
         return Err(LineFault::UnknownEvent);
     }
-    if matches!(line, b"write") {
+    if is_write(line) {
         return Ok(DriveLine::Write);
     }
     match read_open(line) {
-        Some(said) => Ok(said),
+        Some((path, flags)) => Ok(DriveLine::Open { path, flags }),
         None => read_script_line(form, line),
     }
 }
 
-/// The first line of a text, and what stands behind its line feed, if it has one.
-pub(crate) fn first_line(text: &[u8]) -> (&[u8], Option<&[u8]>) {
-    match text.iter().position(|byte| *byte == b'\n') {
-        Some(place) => (&text[..place], Some(&text[place + 1..])),
-        None => (text, None),
+/// What a line says, if it says anything.
+///
+/// # Errors
+///
+/// As `read_drive_line`.
+pub(crate) fn read_any(form: Form, line: &[u8]) -> Result<Option<DriveLine<'_>>, LineFault>
+    ensures judged { MatchResult result (λ said. IsGoodDriveLine form line.now) (DriveLineFaultIs form line.now) }
+    ensures says { IfOk result (λ said. MatchOption said (IsPassedOver line.now)
+        (λ l. DriveLineHasWords form l (words_of line.now))) }
+{
+    if is_passed_over(line) {
+        return Ok(None);
     }
+    let said = read_drive_line(form, line)?;
+    Ok(Some(said))
 }

@@ -1,13 +1,20 @@
 //! The run of a script that drives a server.
 
-ghost use Rattle.std.specs.Prelude.{◌≡◌, ◌∷◌, [], Contains, IfErr};
+ghost use Rattle.std.specs.Prelude.{◌≡◌, ◌⊎◌, ◌++◌, ◌∷◌, [], ℕ, Contains, IfErr, IfOk, IfSome, OnOk, codes};
 ghost use Rattle.fk_drive.specs.Driving.{Driven, DrivesOver, first_driven};
+ghost use Rattle.fw_script.specs.declared.line.LineFault.{LineFault};
+ghost use Rattle.fw_script.specs.Outputs.{AppendsSome};
+ghost use Rattle.fw_script.specs.Stops.{unreadable};
+ghost use Rattle.fw_drive.specs.DriveLines.{FirstDriveFaultIs, IsGoodDriveScript};
+ghost use Rattle.fw_drive.specs.Judging.{IsUnrun};
 ghost use Rattle.fw_drive.specs.Runs.{GoesOn};
 
 use crate::driver::Driver;
 use crate::form::Form;
+use crate::line::DriveLine;
+use crate::lines::read_lines;
 use crate::notes::Notes;
-use crate::script::{first_fault, print_end, run_text};
+use crate::script::{print_end, run_script};
 use crate::stop::Stop;
 use fk_drive::FreeFields;
 use fuse_device::Device;
@@ -34,12 +41,12 @@ fn run_driver<T: Tables, D: Device, W: Write>(
     driver: &mut Driver<T>,
     device: &mut D,
     notes: &mut Notes<T>,
-    text: &[u8],
+    lines: &[DriveLine<'_>],
     out: &mut W,
 ) -> Result<(), Stop>
     ensures { GoesOn D.logs device.old device.new driver.old driver.new result }
 {
-    match run_text(alloc, driver, device, notes, text, out) {
+    match run_script(alloc, driver, device, notes, lines, out) {
         Ok(()) => print_end(driver, notes, out),
         Err(stop) => Err(stop),
     }
@@ -50,40 +57,70 @@ fn run_good<T: Tables, D: Device, W: Write>(
     alloc: T::Heap,
     task: Task<'_>,
     device: &mut D,
-    text: &[u8],
+    lines: &[DriveLine<'_>],
     out: &mut W,
 ) -> Result<(), Stop>
     ensures { (new : Driven) × DrivesOver D.logs device.old device.new (first_driven task.entry.opens_directories) new }
 {
     let mut notes = Notes::<T>::new(alloc, task.form)?;
     let mut driver = Driver::<T>::new(alloc, task.opens_directories, task.free_fields);
-    let ended = run_driver(alloc, &mut driver, device, &mut notes, text, out);
+    let ended = run_driver(alloc, &mut driver, device, &mut notes, lines, out);
     driver.end();
     notes.end();
     ended
 }
 
-/// The bytes of a script whose lines are good, or the exit status once it is said why not.
+/// The bytes of a script, or the exit status once it is said why they cannot be read.
 fn read_script<A: Allocator, R: Read, F: Write>(
     alloc: A,
     task: Task<'_>,
     input: &mut R,
     faults: &mut F,
 ) -> Result<Vec<u8, A>, u8>
-    ensures { IfErr result (Contains (1 ∷ 3 ∷ [])) }
+    ensures ok { IfOk result (λ script. IfSome (R.remaining input.old) (λ bytes. script.items ≡ bytes)) }
+    ensures silent { OnOk result (faults.new ≡ faults.old) }
+    ensures statuses { IfErr result (Contains (1 ∷ 3 ∷ [])) }
+    ensures unreadable { IfErr result (λ status. status ≡ 1 → AppendsSome (F.contents faults.old)
+        (F.contents faults.new) (unreadable task.entry.name.now ++ codes "\n")) }
+    ensures no_memory { IfErr result (λ status. status ≡ 3 → AppendsSome (F.contents faults.old)
+        (F.contents faults.new) (codes "no memory\n")) }
 {
     let mut text = Vec::new(alloc);
     match input.read_to_end(&mut text) {
-        Ok(_) => {}
-        Err(error) if error.kind() == ErrorKind::OutOfMemory => return Err(no_memory(faults)),
-        Err(_) => return Err(cannot_read(task.name, faults)),
+        Ok(_) => Ok(text),
+        Err(error) if error.kind() == ErrorKind::OutOfMemory => Err(no_memory(faults)),
+        Err(_) => Err(cannot_read(task.name, faults)),
     }
-    match first_fault(task.form, text.as_slice()) {
-        Some((number, fault)) => {
-            let _ = writeln!(faults, "line {number}: {fault}");
-            Err(1)
-        }
-        None => Ok(text),
+}
+
+/// Runs a script whose text is known, and gives the exit status, as `run_drive` does.
+fn run_text<A: Allocator + Copy, D: Device, W: Write, F: Write>(
+    alloc: A,
+    task: Task<'_>,
+    device: &mut D,
+    script: &[u8],
+    out: &mut W,
+    faults: &mut F,
+) -> u8
+    ensures statuses { Contains (0 ∷ 1 ∷ 3 ∷ 4 ∷ 5 ∷ []) result }
+    ensures judged { (result ≡ 0) ⊎ (result ≡ 4) ⊎ (result ≡ 5) → IsGoodDriveScript task.entry.form script.now }
+    ensures unsent { IsGoodDriveScript task.entry.form script.now
+        ⊎ ((device.new ≡ device.old) × (out.new ≡ out.old)) }
+    ensures unrun { result ≡ 1 → device.new ≡ device.old }
+    ensures silent { result ≡ 1 → out.new ≡ out.old }
+    ensures fault { result ≡ 1 → (number : ℕ) × (fault : LineFault)
+        × FirstDriveFaultIs task.entry.form script.now number fault }
+    ensures no_memory { result ≡ 3 → AppendsSome (F.contents faults.old) (F.contents faults.new) (codes "no memory\n") }
+    ensures no_fault { (result ≡ 0) ⊎ (result ≡ 4) ⊎ (result ≡ 5) → faults.new ≡ faults.old }
+    ensures drives { (new : Driven) × DrivesOver D.logs device.old device.new (first_driven task.entry.opens_directories) new }
+{
+    let lines = match read_lines(alloc, task.form, script) {
+        Ok(lines) => lines,
+        Err(bad) => return bad.say(faults),
+    };
+    match run_good::<Maps<A>, D, W>(alloc, task, device, lines.as_slice(), out) {
+        Ok(()) => 0,
+        Err(stop) => stop.report::<A, W, F>(out, faults),
     }
 }
 
@@ -101,15 +138,21 @@ pub fn run_drive<A: Allocator + Copy, D: Device, R: Read, W: Write, F: Write>(
     faults: &mut F,
 ) -> u8
     ensures statuses { Contains (0 ∷ 1 ∷ 3 ∷ 4 ∷ 5 ∷ []) result }
+    // Nothing is sent and nothing printed of a script with a bad line.
+    ensures judged { (result ≡ 0) ⊎ (result ≡ 4) ⊎ (result ≡ 5) →
+        IfSome (R.remaining input.old) (IsGoodDriveScript task.entry.form) }
+    ensures unsent { IfSome (R.remaining input.old) (IsGoodDriveScript task.entry.form)
+        ⊎ ((device.new ≡ device.old) × (out.new ≡ out.old)) }
     ensures unrun { result ≡ 1 → device.new ≡ device.old }
+    ensures silent { result ≡ 1 → out.new ≡ out.old }
+    ensures fault { result ≡ 1 → IsUnrun task.entry.form task.entry.name.now (R.remaining input.old)
+        (F.contents faults.old) (F.contents faults.new) }
+    ensures no_memory { result ≡ 3 → AppendsSome (F.contents faults.old) (F.contents faults.new) (codes "no memory\n") }
+    ensures no_fault { (result ≡ 0) ⊎ (result ≡ 4) ⊎ (result ≡ 5) → faults.new ≡ faults.old }
     ensures drives { (new : Driven) × DrivesOver D.logs device.old device.new (first_driven task.entry.opens_directories) new }
 {
-    let text = match read_script(alloc, task, input, faults) {
-        Ok(text) => text,
-        Err(status) => return status,
-    };
-    match run_good::<Maps<A>, D, W>(alloc, task, device, text.as_slice(), out) {
-        Ok(()) => 0,
-        Err(stop) => stop.report::<A, W, F>(out, faults),
+    match read_script(alloc, task, input, faults) {
+        Ok(text) => run_text(alloc, task, device, text.as_slice(), out, faults),
+        Err(status) => status,
     }
 }

@@ -5,32 +5,16 @@ ghost use Rattle.fw_drive.specs.Runs.{GoesOn, MovesAlone};
 use crate::carrying::{carry, mount};
 use crate::driver::Driver;
 use crate::form::Form;
-use crate::line::{DriveLine, first_line, read_drive_line};
+use crate::line::DriveLine;
 use crate::moves::{act, receive, send, show};
 use crate::notes::Notes;
 use crate::printing::print_refusal;
 use crate::stop::Stop;
 use fuse_device::Device;
-use fw_script::{LineFault, is_hex_or_none, is_passed_over, read_hex_or_none};
+use fw_script::{is_hex_or_none, read_hex_or_none};
 use fw_world::{Call, Event, Refusal, Tables};
 use std::alloc::Allocator;
 use std::io::Write;
-
-/// The number of the first line with a fault, from 1, and the fault.
-pub(crate) fn first_fault(form: Form, text: &[u8]) -> Option<(u64, LineFault)> {
-    let mut rest = Some(text);
-    for number in 1..u64::MAX {
-        let (line, behind) = first_line(rest?);
-        rest = behind;
-        if is_passed_over(line) {
-            continue;
-        }
-        if let Err(fault) = read_drive_line(form, line) {
-            return Some((number, fault));
-        }
-    }
-    None
-}
 
 /// Prints why a request or a reply is refused, if it is.
 fn print_refused<A: Allocator, W: Write>(
@@ -78,7 +62,7 @@ fn run_line<T: Tables, D: Device, W: Write>(
     ensures { GoesOn D.logs device.old device.new driver.old driver.new result }
 {
     match line {
-        DriveLine::Event(Event::Read(pick)) => match send(driver, device, notes, pick, out) {
+        DriveLine::Read(pick) => match send(driver, device, notes, pick, out) {
             Ok(sent) => print_refused::<T::Heap, W>(sent, out),
             Err(stop) => Err(stop),
         },
@@ -117,31 +101,20 @@ fn run_carried<T: Tables, D: Device, W: Write>(
     }
 }
 
-/// What a line says, if it says anything.
-fn good_line(form: Form, line: &[u8]) -> Option<DriveLine<'_>> {
-    if is_passed_over(line) {
-        return None;
-    }
-    read_drive_line(form, line).ok()
-}
-
-/// Does what a line says, if it says anything, and hands on what was printed.
+/// Does what a line says, and hands on what was printed.
 fn do_line<T: Tables, D: Device, W: Write>(
     alloc: T::Heap,
     driver: &mut Driver<T>,
     device: &mut D,
     notes: &mut Notes<T>,
-    line: &[u8],
+    line: DriveLine<'_>,
     out: &mut W,
 ) -> Result<(), Stop>
     ensures { GoesOn D.logs device.old device.new driver.old driver.new result }
 {
-    match good_line(notes.form, line) {
-        Some(said) => match run_carried(alloc, driver, device, notes, said, out) {
-            Ok(()) => flush(out),
-            Err(stop) => Err(stop),
-        },
-        None => Ok(()),
+    match run_carried(alloc, driver, device, notes, line, out) {
+        Ok(()) => flush(out),
+        Err(stop) => Err(stop),
     }
 }
 
@@ -159,19 +132,13 @@ fn run_lines<T: Tables, D: Device, W: Write>(
     driver: &mut Driver<T>,
     device: &mut D,
     notes: &mut Notes<T>,
-    text: &[u8],
+    lines: &[DriveLine<'_>],
     out: &mut W,
 ) -> Result<(), Stop>
     ensures { GoesOn D.logs device.old device.new driver.old driver.new result }
 {
-    let mut rest = Some(text);
-    for _line in 0..u64::MAX {
-        let Some(left) = rest else {
-            return Ok(());
-        };
-        let (line, behind) = first_line(left);
-        rest = behind;
-        if let Err(stop) = do_line(alloc, driver, device, notes, line, out) {
+    for line in lines {
+        if let Err(stop) = do_line(alloc, driver, device, notes, *line, out) {
             return Err(stop);
         }
     }
@@ -179,21 +146,21 @@ fn run_lines<T: Tables, D: Device, W: Write>(
 }
 
 /// Does what a script says whose lines are good, behind a mount where it is one of calls.
-pub(crate) fn run_text<T: Tables, D: Device, W: Write>(
+pub(crate) fn run_script<T: Tables, D: Device, W: Write>(
     alloc: T::Heap,
     driver: &mut Driver<T>,
     device: &mut D,
     notes: &mut Notes<T>,
-    text: &[u8],
+    lines: &[DriveLine<'_>],
     out: &mut W,
 ) -> Result<(), Stop>
     ensures { GoesOn D.logs device.old device.new driver.old driver.new result }
 {
     if !notes.form.is_of_calls() {
-        return run_lines(alloc, driver, device, notes, text, out);
+        return run_lines(alloc, driver, device, notes, lines, out);
     }
     match mount(driver, device, notes, out) {
-        Ok(()) => run_lines(alloc, driver, device, notes, text, out),
+        Ok(()) => run_lines(alloc, driver, device, notes, lines, out),
         Err(stop) => Err(stop),
     }
 }

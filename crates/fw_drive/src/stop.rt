@@ -1,6 +1,7 @@
 //! Why a driven run ends before its script does.
 
-ghost use Rattle.std.specs.Prelude.{◌∷◌, [], Contains};
+ghost use Rattle.std.specs.Prelude.{◌≡◌, ◌⊎◌, ◌∷◌, [], Contains, codes};
+ghost use Rattle.fw_script.specs.Outputs.{AppendsSome};
 
 use crate::printing::{print_refusal, taken};
 use fk_drive::DriveEnd;
@@ -64,7 +65,9 @@ impl Stop {
 
     /// Says it, out of memory on `faults` and all else on the output, and gives the exit status.
     pub(crate) fn report<A: Allocator, W: Write, F: Write>(self, out: &mut W, faults: &mut F) -> u8
-        ensures { Contains (3 ∷ 4 ∷ 5 ∷ []) result }
+        ensures statuses { Contains (3 ∷ 4 ∷ 5 ∷ []) result }
+        ensures no_memory { result ≡ 3 → AppendsSome (F.contents faults.old) (F.contents faults.new) (codes "no memory\n") }
+        ensures no_fault { (result ≡ 4) ⊎ (result ≡ 5) → faults.new ≡ faults.old }
     {
         match (self, self.write_line::<A, W>(out)) {
             (Stop::NoMemory | Stop::Refused(Refusal::NoMemory), _) => no_memory(faults),

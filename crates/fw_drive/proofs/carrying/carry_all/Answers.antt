@@ -2,7 +2,7 @@ use Rattle.std.proofs.Common.{[], refl}
 use Rattle.fk_drive.specs.Driving.{idle, nothing}
 use Rattle.fk_drive.proofs.Drivings.{over_on}
 use Rattle.fw_drive.specs.Runs.{at}
-use Rattle.fw_drive.proofs.Following.{goes_then, over_of}
+use Rattle.fw_drive.proofs.Following.{over_of}
 use Rattle.fw_drive.proofs.carrying.carry_all.Goals as goal
 
 pub loop-request-init : goal.loop-request-init

@@ -1,11 +1,45 @@
-use Rattle.std.proofs.Common.{[]}
+use Rattle.std.proofs.Common.{[], ℕ, List, inl, inr, refl, subst}
 use Rattle.fk_drive.specs.Driving.{first_driven, nothing}
-use Rattle.fw_drive.proofs.StopStatuses.{among_all}
+use Rattle.fw_script.specs.declared.line.LineFault.{LineFault}
+use Rattle.fw_drive.specs.DriveLines.{FirstDriveFaultIs, IsGoodDriveScript}
+use Rattle.fw_drive.proofs.KnownScripts.{good_or, of_known}
+use Rattle.fw_drive.proofs.StopStatuses.{unread_among, unread_never}
 use Rattle.fw_drive.proofs.run.run_drive.Goals as goal
 
 pub returns-in-Err-clause-drives : goal.returns-in-Err-clause-drives
 returns-in-Err-clause-drives g c =
     (first_driven c.args.task.opens_directories, ([], g.met.D.Device.stays c.args.device.now, nothing))
 
-pub returns-clause-statuses : goal.returns-clause-statuses
-returns-clause-statuses g c = among_all c.report.result c.report.ensures
+pub returns-in-Err-clause-statuses : goal.returns-in-Err-clause-statuses
+returns-in-Err-clause-statuses g c = unread_among c.in-Err.status c.in-Err.ensures.statuses
+
+pub returns-in-Err-clause-judged : goal.returns-in-Err-clause-judged
+returns-in-Err-clause-judged g c run = absurd (unread_never c.in-Err.status c.in-Err.ensures.statuses run)
+
+pub returns-in-Err-clause-unsent : goal.returns-in-Err-clause-unsent
+returns-in-Err-clause-unsent g c = inr (refl, refl)
+
+pub returns-in-Ok-clause-unsent : goal.returns-in-Ok-clause-unsent
+returns-in-Ok-clause-unsent g c =
+    let IsGood = IsGoodDriveScript c.args.task.form in
+    good_or IsGood (g.R.Read.remaining c.args.input.now) c.in-Ok.text.items c.as_slice.result.now _
+    c.as_slice.ensures.value c.in-Ok.ensures.ok c.run_text.ensures.unsent
+
+pub returns-in-Err-clause-no_fault : goal.returns-in-Err-clause-no_fault
+returns-in-Err-clause-no_fault g c run = absurd (unread_never c.in-Err.status c.in-Err.ensures.statuses run)
+
+pub returns-in-Err-clause-fault : goal.returns-in-Err-clause-fault
+returns-in-Err-clause-fault g c one = inl (c.in-Err.ensures.unreadable one)
+
+pub returns-in-Ok-clause-judged : goal.returns-in-Ok-clause-judged
+returns-in-Ok-clause-judged g c run =
+    let IsGood = IsGoodDriveScript c.args.task.form in
+    of_known IsGood (g.R.Read.remaining c.args.input.now) c.in-Ok.text.items c.in-Ok.ensures.ok
+    (subst IsGood c.as_slice.ensures.value (c.run_text.ensures.judged run))
+
+pub returns-in-Ok-clause-fault : goal.returns-in-Ok-clause-fault
+returns-in-Ok-clause-fault g c one =
+    let HasFault : List ℕ → Type 0 =
+    λ s. (number : ℕ) × (fault : LineFault) × FirstDriveFaultIs c.args.task.form s number fault in
+    inr (of_known HasFault (g.R.Read.remaining c.args.input.now) c.in-Ok.text.items c.in-Ok.ensures.ok
+    (subst HasFault c.as_slice.ensures.value (c.run_text.ensures.fault one)))

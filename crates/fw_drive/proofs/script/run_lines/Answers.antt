@@ -22,10 +22,7 @@ pub loop-line-preserved : goal.loop-line-preserved
 loop-line-preserved g c =
     over_on g.D.Device.logs g.met.D.Device.goes_on c.args.device.now c.loop-line.device c.do_line.new.device
     (at c.args.driver.now idle) (at c.loop-line.driver idle) (at c.do_line.new.driver idle) c.loop-line.invariant
-    (over_of g.D.Device.logs g.met.D.Device.goes_on g.met.D.Device.stays c.loop-line.device c.do_line.new.device c.loop-line.driver c.do_line.new.driver c.in_default-do_line.ensures)
+    (over_of g.D.Device.logs g.met.D.Device.goes_on g.met.D.Device.stays c.loop-line.device c.do_line.new.device c.loop-line.driver c.do_line.new.driver c.in_default.ensures)
 
 pub returns : goal.returns
 returns g c = (idle, refl, c.loop-line.invariant)
-
-pub returns-in_default : goal.returns-in_default
-returns-in_default g c = (idle, refl, c.loop-line.invariant)

@@ -1,5 +1,5 @@
 use Rattle.fw_drive.proofs.Following.{goes_then, over_of}
-use Rattle.fw_drive.proofs.script.run_text.Goals as goal
+use Rattle.fw_drive.proofs.script.run_script.Goals as goal
 
 pub returns-in-Ok : goal.returns-in-Ok
 returns-in-Ok g c =

@@ -1,0 +1,71 @@
+use Rattle.std.proofs.Common.{rules, ◌≡◌, ◌++◌, ◌∷◌, [], List, ℕ, Bor, map, ap, sym, subst, arith, append_assoc, length-append, ◌∙◌}
+use Rattle.std.specs.Prelude.{option_copied}
+use Rattle.std.proofs.lemmas.List.{length-map, map-append}
+use Rattle.std.proofs.lemmas.List.Elements.{All-push}
+use Rattle.fw_script.specs.Scripts.{lines_left}
+use Rattle.fw_script.proofs.Numbering.{line_number_fits}
+use Rattle.fw_drive.specs.DriveLines.{IsGoodDriveLine}
+use Rattle.fw_drive.specs.Judging.{Say, no_more, passed_over, says}
+use Rattle.fw_drive.specs.declared.line.DriveLine.{DriveLine}
+use Rattle.fw_drive.proofs.lines.read_lines.Goals as goal
+
+abbrev text_of : Bor (List ℕ) → List ℕ
+text_of line = line.now
+
+pub overflow_add-number : goal.overflow_add-number
+overflow_add-number g c =
+    let fits = line_number_fits c.args.script.now (map text_of c.loop-line.yielded)
+    (lines_left (option_copied c.loop-line.line-iterator.rest))
+    c.loop-line.invariant.split (omega (arith, c.well_formed.0.1)) in
+    let same = length-map c.loop-line.yielded text_of in
+    omega (arith, fits, same, c.loop-line.invariant.counted)
+
+pub loop-line-init : goal.loop-line-init
+loop-line-init g c =
+    let none : c.new-lines.result.items ≡ [] = search rules in
+    record {
+      counted = search rules;
+      split = search rules;
+      good = search rules;
+      say = subst (λ (lines : List DriveLine). Say c.args.form [] lines) (sym none) no_more;
+    }
+
+pub loop-line-preserved-in-Ok-None : goal.loop-line-preserved-in-Ok-None
+loop-line-preserved-in-Ok-None g c =
+    let before = map text_of c.loop-line.yielded in
+    let after = lines_left (option_copied c.next.new.self.rest) in
+    let more = map-append text_of c.loop-line.yielded (c.in-Some.line ∷ []) in
+    let size = length-append c.loop-line.yielded (c.in-Some.line ∷ []) in
+    record {
+      counted = omega (arith, size, c.loop-line.invariant.counted);
+      split =
+          c.loop-line.invariant.split
+          ∙ ap (λ (rest : List (List ℕ)). before ++ rest) c.in-Some.ensures.steps
+          ∙ sym (append_assoc before (c.in-Some.line.now ∷ []) after)
+          ∙ ap (λ (lines : List (List ℕ)). lines ++ after) (sym more);
+      good = rw more (All-push (IsGoodDriveLine c.args.form) before c.in-Some.line.now c.loop-line.invariant.good
+          c.in-Ok-None.ensures.judged);
+      say = rw more (passed_over before c.loop-line.lines.items c.loop-line.invariant.say c.in-Some.line.now
+          (rw c.in-Ok-None.field-0-is at c.in-Ok-None.ensures.says));
+    }
+
+pub loop-line-preserved : goal.loop-line-preserved
+loop-line-preserved g c =
+    let before = map text_of c.loop-line.yielded in
+    let after = lines_left (option_copied c.next.new.self.rest) in
+    let more = map-append text_of c.loop-line.yielded (c.in-Some.line ∷ []) in
+    let size = length-append c.loop-line.yielded (c.in-Some.line ∷ []) in
+    let read = c.loop-line.lines.items in
+    let names = rw c.in-Ok-Some.field-0-is at c.in-Ok-Some.ensures.says in
+    let kept : c.push.new.self.items ≡ read ++ c.in-Ok-Some.said ∷ [] = search rules in
+    record {
+      counted = omega (arith, size, c.loop-line.invariant.counted);
+      split =
+          c.loop-line.invariant.split
+          ∙ ap (λ (rest : List (List ℕ)). before ++ rest) c.in-Some.ensures.steps
+          ∙ sym (append_assoc before (c.in-Some.line.now ∷ []) after)
+          ∙ ap (λ (lines : List (List ℕ)). lines ++ after) (sym more);
+      good = rw more (All-push (IsGoodDriveLine c.args.form) before c.in-Some.line.now c.loop-line.invariant.good
+          c.in-Ok-Some.ensures.judged);
+      say = rw (more, kept) (says before read c.loop-line.invariant.say c.in-Some.line.now c.in-Ok-Some.said names);
+    }

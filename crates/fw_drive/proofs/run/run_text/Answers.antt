@@ -1,0 +1,43 @@
+use Rattle.std.proofs.Common.{[], inl, inr, refl}
+use Rattle.fk_drive.specs.Driving.{first_driven, nothing}
+use Rattle.fw_drive.proofs.StopStatuses.{among_all, bad_among, bad_at_1, never_0, never_1, unread_among, unread_never}
+use Rattle.fw_drive.proofs.run.run_text.Goals as goal
+
+pub returns-in-Err-clause-statuses : goal.returns-in-Err-clause-statuses
+returns-in-Err-clause-statuses g c =
+    unread_among c.say.result (bad_among c.in-Err.bad c.say.result c.say.ensures.status)
+
+pub returns-in-Err-clause-judged : goal.returns-in-Err-clause-judged
+returns-in-Err-clause-judged g c run =
+    absurd (unread_never c.say.result (bad_among c.in-Err.bad c.say.result c.say.ensures.status) run)
+
+pub returns-in-Err-clause-unsent : goal.returns-in-Err-clause-unsent
+returns-in-Err-clause-unsent g c = inr (refl, refl)
+
+pub returns-in-Err-clause-fault : goal.returns-in-Err-clause-fault
+returns-in-Err-clause-fault g c one =
+    bad_at_1 c.args.task.form c.args.script.now c.in-Err.bad c.say.result c.say.ensures.status c.in-Err.ensures.refused one
+
+pub returns-in-Err-clause-no_fault : goal.returns-in-Err-clause-no_fault
+returns-in-Err-clause-no_fault g c run =
+    absurd (unread_never c.say.result (bad_among c.in-Err.bad c.say.result c.say.ensures.status) run)
+
+pub returns-in-Err-clause-drives : goal.returns-in-Err-clause-drives
+returns-in-Err-clause-drives g c =
+    (first_driven c.args.task.opens_directories, ([], g.met.D.Device.stays c.args.device.now, nothing))
+
+pub returns-clause-statuses : goal.returns-clause-statuses
+returns-clause-statuses g c = among_all c.report.result c.report.ensures.statuses
+
+pub returns-clause-unrun : goal.returns-clause-unrun
+returns-clause-unrun g c one = absurd (never_1 c.report.result c.report.ensures.statuses one)
+
+pub returns-clause-silent : goal.returns-clause-silent
+returns-clause-silent g c one = absurd (never_1 c.report.result c.report.ensures.statuses one)
+
+pub returns-clause-fault : goal.returns-clause-fault
+returns-clause-fault g c one = absurd (never_1 c.report.result c.report.ensures.statuses one)
+
+pub returns-clause-no_fault : goal.returns-clause-no_fault
+returns-clause-no_fault g c (inl none) = absurd (never_0 c.report.result c.report.ensures.statuses none)
+returns-clause-no_fault g c (inr run) = c.report.ensures.no_fault run

@@ -1,0 +1,36 @@
+-- What the lines of a script say, and why a script is not run.
+use Rattle.std.specs.Prelude.{◌⊎◌, ◌++◌, ◌∷◌, [], ℕ, List, Option, IfSome, codes}
+use Rattle.fw_script.specs.Outputs.{AppendsSome}
+use Rattle.fw_script.specs.Scripts.{IsPassedOver}
+use Rattle.fw_script.specs.Stops.{unreadable}
+use Rattle.fw_script.specs.Words.{words_of}
+use Rattle.fw_script.specs.declared.line.LineFault.{LineFault}
+use Rattle.fw_drive.specs.DriveLines.{DriveLineHasWords, FirstDriveFaultIs, IsGoodDriveScript}
+use Rattle.fw_drive.specs.declared.form.Form.{Form}
+use Rattle.fw_drive.specs.declared.line.DriveLine.{DriveLine}
+use Rattle.fw_drive.specs.declared.lines.BadScript.{BadScript}
+use Rattle.fw_drive.specs.declared.lines.BadScript.TheVariants as bad
+
+-- The lines say this, in their order; a line that is passed over says nothing.
+pub data Say (form : Form) : List (List ℕ) → List DriveLine → Type 0 where
+  no_more : Say form [] []
+  passed_over : (lines : List (List ℕ)) (said : List DriveLine) → Say form lines said → (line : List ℕ)
+      → IsPassedOver line → Say form (lines ++ line ∷ []) said
+  says : (lines : List (List ℕ)) (said : List DriveLine) → Say form lines said → (line : List ℕ) (l : DriveLine)
+      → DriveLineHasWords form l (words_of line) → Say form (lines ++ line ∷ []) (said ++ l ∷ [])
+
+-- why the lines of a script are not kept: its first bad line, or out of memory for good ones
+abbrev pub JudgingEnds : Form → List ℕ → BadScript → Type 0
+JudgingEnds form script (bad.BadLine number fault) = FirstDriveFaultIs form script number fault
+JudgingEnds form script bad.NoMemory = IsGoodDriveScript form script
+
+-- the exit status of that
+abbrev pub bad_status : BadScript → ℕ
+bad_status (bad.BadLine number fault) = 1
+bad_status bad.NoMemory = 3
+
+-- Why a script is not run: it cannot be read, which is said, or a beginning of it, or a line has a fault.
+abbrev pub IsUnrun : Form → (name : List ℕ) → (script : Option (List ℕ)) → (old new : Option (List ℕ)) → Type 0
+IsUnrun form name script old new =
+    AppendsSome old new (unreadable name ++ codes "\n")
+    ⊎ IfSome script (λ s. (number : ℕ) × (fault : LineFault) × FirstDriveFaultIs form s number fault)
