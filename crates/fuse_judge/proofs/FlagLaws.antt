@@ -1,5 +1,5 @@
 -- What is known of a session as a whole, with one more act.
-use Rattle.std.proofs.Common.{◌≡◌, ◌≢◌, ℕ, true, true≢false, ◌||◌, [], ◌∷◌, ◌++◌, Option, Some, None, refl, sym, ◌∙◌, ap, subst, arith, rules}
+use Rattle.std.proofs.Common.{◌≡◌, ◌≢◌, ℕ, true, false, true≢false, ◌||◌, [], ◌∷◌, ◌++◌, Option, Some, None, refl, sym, ◌∙◌, ap, subst, arith, rules}
 use Rattle.std.specs.Prelude.{IsFalse, not, nat_lt, max}
 use Rattle.std.specs.List.{list_any}
 use Rattle.std.proofs.lemmas.Option.{none-some, same_Some}
@@ -15,8 +15,9 @@ use Rattle.fuse_sessions.specs.OpenFiles.{opens_none}
 use Rattle.fuse_sessions.specs.Faults.{agreed_write, BreaksBeginning}
 use Rattle.fuse_sessions.proofs.Laws.{any-more, latest-more, moments-more}
 use Rattle.fuse_judge.specs.declared.flags.Flags.{Flags}
-use Rattle.fuse_judge.specs.Flags.{AreFlags, is_from, highest_with}
+use Rattle.fuse_judge.specs.Flags.{AreFlags, LeavesFlags, is_from, highest_with}
 use Rattle.fuse_judge.specs.Verdicts.{IsFault}
+use Rattle.fuse_judge.proofs.Keys.{or_false}
 
 of_two : (a b u : ℕ) → not (nat_lt (max a b) u) ≡ (not (nat_lt a u) || not (nat_lt b u))
 of_two a b u = grind (arith, rules)
@@ -50,6 +51,22 @@ flags-more s a f read are reads = record {
   no_directories = rw (any-more (opens_none kind.Directory) s a, are.no_directories) refl;
   highest = λ u. any-more (reads_request_from u) s a ∙ ap (λ b. b || reads_request_from u a) (are.highest u)
       ∙ ap (λ b. is_from u f.highest || b) (reads u) ∙ sym (from_either u f.highest read);
+}
+
+-- an act that leaves them as they are
+pub flags-kept : (s : Session) (a : Act) (f : Flags) → LeavesFlags a → false ≡ shows_end (s, a) → AreFlags s f
+    → AreFlags (s ++ a ∷ []) f
+flags-kept s a f leaves not_ended are = record {
+  began = are.began ∙ sym (any-more is_reading s a ∙ rw leaves.began (or_false _));
+  agreed = are.agreed ∙ sym (any-more is_agreement s a ∙ rw leaves.agreed (or_false _));
+  max_write = are.max_write ∙ sym (latest-more agreed_write s a ∙ rw leaves.max_write refl);
+  several = are.several ∙ sym (any-more is_of_several s a ∙ rw leaves.several (or_false _));
+  ended = are.ended ∙ sym (ap (list_any shows_end) (moments-more [] s a)
+      ∙ any-more shows_end (moments s) (s, a) ∙ rw (← not_ended) (or_false _));
+  no_files = are.no_files ∙ sym (any-more (opens_none kind.File) s a ∙ rw leaves.no_files (or_false _));
+  no_directories = are.no_directories
+      ∙ sym (any-more (opens_none kind.Directory) s a ∙ rw leaves.no_directories (or_false _));
+  highest = λ u. any-more (reads_request_from u) s a ∙ rw (leaves.highest u) (or_false _) ∙ are.highest u;
 }
 
 -- Requests but INIT: what is a fault of them as they begin.

@@ -8,3 +8,4 @@ pub mod OpenLaws
 pub mod VerdictLaws
 pub mod SeenSoFar
 pub mod MarkLaws
+pub mod TallyLaws

@@ -14,7 +14,7 @@ use Rattle.fuse_sessions.proofs.Laws.{left-more}
 use Rattle.fuse_judge.specs.declared.handle.Handle.{Handle}
 use Rattle.fuse_judge.specs.Handles.{handle, same_handle}
 use Rattle.fuse_judge.specs.Opens.{LeavesOpen, AreOpen}
-use Rattle.fuse_judge.specs.Tallies.{count_in, one_if}
+use Rattle.fuse_judge.specs.Tallies.{Counts, count_in, one_if}
 use Rattle.fuse_judge.proofs.Keys.{same}
 use Rattle.fuse_judge.proofs.HandleLaws.{left_of, right_of, same_numbers}
 use Rattle.fuse_judge.proofs.NodeLaws.{left_small}
@@ -76,12 +76,6 @@ opened_less s f q =
     let one : releases_this q (Releases f) ≡ one_if (same_open f q) = refl in
     omega (arith, more, one)
 
-abbrev pub Counts : Type 0
-Counts = List (Handle × ℕ)
-
-abbrev pub NodeCounts : Type 0
-NodeCounts = List (ℕ × ℕ)
-
 abbrev if_open : ℕ → OpenFile → List OpenFile
 if_open n q = cond (nat_lt 0 n) (q ∷ []) []
 
@@ -97,7 +91,7 @@ fewer p (x ∷ xs) = by (p x) (fewer p xs)
     by true h = omega (arith, h)
     by false h = omega (arith, h)
 
-pub left_open : (s : Session) (a : Act) (counts : Counts) (nodes : NodeCounts) → ((q : OpenFile) → LeavesOpen q a)
+pub left_open : (s : Session) (a : Act) (counts : Counts Handle) (nodes : Counts ℕ) → ((q : OpenFile) → LeavesOpen q a)
     → AreOpen s counts nodes → AreOpen (s ++ a ∷ []) counts nodes
 left_open s a counts nodes is are = record {
   open_count = λ q. are.open_count q ∙ sym (opened_same s a q (is q).opens (is q).releases);
@@ -107,7 +101,19 @@ left_open s a counts nodes is are = record {
   few = one_longer s a (length are.files) are.few;
 }
 
-module _ (s : Session) (f : OpenFile) (counts new : Counts) (nodes : NodeCounts) (are : AreOpen s counts nodes) where
+-- other tables with the same counts
+pub open_recounted : (s : Session) (counts new : Counts Handle) (nodes names : Counts ℕ) → AreOpen s counts nodes
+    → ((q : Handle) → count_in same_handle new q ≡ count_in same_handle counts q)
+    → ((n : ℕ) → count_in nat_eq names n ≡ count_in nat_eq nodes n) → AreOpen s new names
+open_recounted s counts new nodes names are same_counts same_names = record {
+  open_count = λ q. same_counts (handle q) ∙ are.open_count q;
+  files = are.files;
+  once = are.once;
+  of_nodes = λ n. same_names n ∙ are.of_nodes n;
+  few = are.few;
+}
+
+module _ (s : Session) (f : OpenFile) (counts new : Counts Handle) (nodes : Counts ℕ) (are : AreOpen s counts nodes) where
   -- a file is opened again
   pub opened_again : ((q : OpenFile) → count_in same_handle new (handle q)
       ≡ count_in same_handle counts (handle q) + one_if (same_open f q))
@@ -129,7 +135,7 @@ module _ (s : Session) (f : OpenFile) (counts new : Counts) (nodes : NodeCounts)
       by q false e = rw e (ap (nat_lt 0) (omega arith))
 
   -- a file is opened first
-  pub opened_first : (names : NodeCounts) → ((q : OpenFile) → count_in same_handle new (handle q)
+  pub opened_first : (names : Counts ℕ) → ((q : OpenFile) → count_in same_handle new (handle q)
       ≡ count_in same_handle counts (handle q) + one_if (same_open f q))
       → ((n : ℕ) → count_in nat_eq names n ≡ count_in nat_eq nodes n + one_if (nat_eq f.nodeid n))
       → opened s f ≡ 0 → AreOpen (s ++ Opens f ∷ []) new names
@@ -183,7 +189,7 @@ module _ (s : Session) (f : OpenFile) (counts new : Counts) (nodes : NodeCounts)
       by q false e = rw e (ap (nat_lt 0) (omega arith))
 
   -- a file is released for the last time
-  pub released_last : (names : NodeCounts) → ((q : OpenFile) → count_in same_handle new (handle q)
+  pub released_last : (names : Counts ℕ) → ((q : OpenFile) → count_in same_handle new (handle q)
       ≡ count_in same_handle counts (handle q) - one_if (same_open f q))
       → ((n : ℕ) → count_in nat_eq names n ≡ count_in nat_eq nodes n - one_if (nat_eq f.nodeid n))
       → opened s f ≡ 1 → AreOpen (s ++ Releases f ∷ []) new names
@@ -261,7 +267,7 @@ found_one n (x ∷ xs) h = by (nat_eq x.nodeid n) refl (found_one n xs)
         let rest : Found n xs = ih (omega (arith, first, zero_here, h)) in
         (rest.0, rest.1, still rest.0 x xs rest.2)
 
-pub has_open_some : (s : Session) (counts : Counts) (nodes : NodeCounts) → AreOpen s counts nodes → (n : ℕ)
+pub has_open_some : (s : Session) (counts : Counts Handle) (nodes : Counts ℕ) → AreOpen s counts nodes → (n : ℕ)
     → 0 < count_in nat_eq nodes n → HasOpen s n
 has_open_some s counts nodes are n h =
     let found = found_one n are.files (subst (λ k. 0 < k) (are.of_nodes n) h) in
@@ -274,7 +280,7 @@ has_open_some s counts nodes are n h =
         by true e = grind (arith, e, rules)
         by false e = absurd (some (rw e refl))
 
-pub has_open_counts : (s : Session) (counts : Counts) (nodes : NodeCounts) → AreOpen s counts nodes → (n : ℕ)
+pub has_open_counts : (s : Session) (counts : Counts Handle) (nodes : Counts ℕ) → AreOpen s counts nodes → (n : ℕ)
     → HasOpen s n → 0 < count_in nat_eq nodes n
 has_open_counts s counts nodes are n (o, of_node, some) =
     let split : sum_by (weight n) are.files ≡ sum_by (weight n) (filter (same_open o) are.files)
@@ -293,14 +299,14 @@ opens_small : (q : OpenFile) (a : Act) → opens_this q a ≤ 1
 opens_small q (Opens o) = one_small (same_open o q)
 opens_small q a = omega arith
 
-pub opened_few : (s : Session) (counts : Counts) (nodes : NodeCounts) → AreOpen s counts nodes → (limit : ℕ)
+pub opened_few : (s : Session) (counts : Counts Handle) (nodes : Counts ℕ) → AreOpen s counts nodes → (limit : ℕ)
     → length s + 1 < limit → (q : OpenFile) → count_in same_handle counts (handle q) + 1 < limit
 opened_few s counts nodes are limit small q =
     let is : count_in same_handle counts (handle q) ≡ opened s q = are.open_count q in
     let few : opened s q ≤ length s = left_small (opens_this q) (releases_this q) (opens_small q) s in
     omega (arith, is, few, small)
 
-pub open_nodes_few : (s : Session) (counts : Counts) (nodes : NodeCounts) → AreOpen s counts nodes → (limit : ℕ)
+pub open_nodes_few : (s : Session) (counts : Counts Handle) (nodes : Counts ℕ) → AreOpen s counts nodes → (limit : ℕ)
     → length s + 1 < limit → (n : ℕ) → count_in nat_eq nodes n + 1 < limit
 open_nodes_few s counts nodes are limit small n =
     let is : count_in nat_eq nodes n ≡ sum_by (weight n) are.files = are.of_nodes n in
@@ -308,28 +314,6 @@ open_nodes_few s counts nodes are limit small n =
     = sum_small (weight n) 1 (λ o. one_small (nat_eq o.nodeid n)) are.files in
     let short : length are.files ≤ length s = are.few in
     omega (arith, is, few, short, small)
-
--- A node has one more, or one fewer.
-module _ (old new : NodeCounts) (key : ℕ) where
-  pub node_more : ((q : ℕ) → count_in nat_eq new q
-      ≡ cond (nat_eq key q) (count_in nat_eq old key + 1) (count_in nat_eq old q))
-      → (q : ℕ) → count_in nat_eq new q ≡ count_in nat_eq old q + one_if (nat_eq key q)
-  node_more is q = is q ∙ by (nat_eq key q) refl
-    where
-      by : (b : Bool) → nat_eq key q ≡ b → cond b (count_in nat_eq old key + 1) (count_in nat_eq old q)
-          ≡ count_in nat_eq old q + one_if b
-      by true e = ap (λ k. count_in nat_eq old k + 1) (same_numbers key q e)
-      by false e = omega arith
-
-  pub node_fewer : ((q : ℕ) → count_in nat_eq new q
-      ≡ cond (nat_eq key q) (count_in nat_eq old key - 1) (count_in nat_eq old q))
-      → (q : ℕ) → count_in nat_eq new q ≡ count_in nat_eq old q - one_if (nat_eq key q)
-  node_fewer is q = is q ∙ by (nat_eq key q) refl
-    where
-      by : (b : Bool) → nat_eq key q ≡ b → cond b (count_in nat_eq old key - 1) (count_in nat_eq old q)
-          ≡ count_in nat_eq old q - one_if b
-      by true e = ap (λ k. count_in nat_eq old k - 1) (same_numbers key q e)
-      by false e = omega arith
 
 pub above_zero : (k : ℕ) → nat_lt 0 k ≡ true → 0 < k
 above_zero k e = grind (arith, e, rules)

@@ -20,7 +20,7 @@ use Rattle.fuse_judge.specs.declared.handle.Handle.{Handle}
 use Rattle.fuse_judge.specs.declared.pending.Waiting.{Waiting}
 use Rattle.fuse_judge.specs.Handles.{handle, same_handle}
 use Rattle.fuse_judge.specs.Pending.{HasEffect, entry_of, names_of, uses_of, AreListed, IsInterrupted, AreInterrupted, ArePending, IsWaiting, AreWaiting}
-use Rattle.fuse_judge.specs.Tallies.{count_in, one_if}
+use Rattle.fuse_judge.specs.Tallies.{Counts, count_in, one_if}
 use Rattle.fuse_judge.proofs.Keys.{same, differ, all_after_put, all_after_remove}
 
 -- filters
@@ -203,15 +203,9 @@ same_entries rows u row new there is =
 one_sum : (w : ℕ × Asked → ℕ) (e : ℕ × Asked) → sum_by w (e ∷ []) ≡ w e
 one_sum w e = grind (arith, common_steps)
 
-abbrev pub Names : Type 0
-Names = List (ℕ × ℕ)
-
-abbrev pub Uses : Type 0
-Uses = List (Handle × ℕ)
-
-module _ (xs : List (ℕ × Asked)) (rows : Map Waiting) (u : ℕ) (named : Names) (used : Uses)
+module _ (xs : List (ℕ × Asked)) (rows : Map Waiting) (u : ℕ) (named : Counts ℕ) (used : Counts Handle)
     (are : AreListed xs rows named used) where
-  pub ended_some : (row : Waiting) (names : Names) (uses : Uses) → get rows u ≡ Some row
+  pub ended_some : (row : Waiting) (names : Counts ℕ) (uses : Counts Handle) → get rows u ≡ Some row
       → ((n : ℕ) → count_in nat_eq names n ≡ count_in nat_eq named n - names_of n row.asked)
       → ((f : OpenFile) → count_in same_handle uses (handle f)
       ≡ count_in same_handle used (handle f) - uses_of f row.asked)
@@ -238,7 +232,7 @@ module _ (xs : List (ℕ × Asked)) (rows : Map Waiting) (u : ℕ) (named : Name
       sum : (w : ℕ × Asked → ℕ) → sum_by w (without u xs) ≡ sum_by w xs
       sum w = sum_ended w xs u None (are.once u ∙ ap (entry_of u) gone) ∙ omega arith
 
-  pub listed_asked : (asked : Asked) (names : Names) (uses : Uses) → get rows u ≡ None
+  pub listed_asked : (asked : Asked) (names : Counts ℕ) (uses : Counts Handle) → get rows u ≡ None
       → ((n : ℕ) → count_in nat_eq names n ≡ count_in nat_eq named n + names_of n asked)
       → ((f : OpenFile) → count_in same_handle uses (handle f) ≡ count_in same_handle used (handle f) + uses_of f asked)
       → AreListed (xs ++ (u, asked) ∷ []) (put rows u (record { asked = asked; interrupts = 0; agains = 0 })) names uses
@@ -258,6 +252,19 @@ module _ (xs : List (ℕ × Asked)) (rows : Map Waiting) (u : ℕ) (named : Name
     uses = are.uses;
   }
 
+-- other tables with the same counts
+pub pending_recounted : (s : Session) (rows : Map Waiting) (named names : Counts ℕ) (used uses : Counts Handle)
+    → ArePending s rows named used → ((n : ℕ) → count_in nat_eq names n ≡ count_in nat_eq named n)
+    → ((q : Handle) → count_in same_handle uses q ≡ count_in same_handle used q) → ArePending s rows names uses
+pending_recounted s rows named names used uses are same_names same_uses = record {
+  listed = record {
+    once = are.listed.once;
+    names = λ n. same_names n ∙ are.listed.names n;
+    uses = λ f. same_uses (handle f) ∙ are.listed.uses f;
+  };
+  interrupted = are.interrupted;
+}
+
 -- The requests that wait after one more act.
 
 pub waiting_kept : (s : Session) (a : Act) → ((q : ℕ) → ends q a ≡ false) → asked_by a ≡ []
@@ -274,7 +281,7 @@ waiting_ended s a u here none = waiting-more s a
     ∙ same_filter (λ (e : ℕ × Asked). not (ends e.0 a)) (λ (e : ℕ × Asked). not (nat_eq u e.0))
     (λ (e : ℕ × Asked). ap not (here e.0)) (waiting s)
 
-module _ (s : Session) (a : Act) (rows : Map Waiting) (named : Names) (used : Uses)
+module _ (s : Session) (a : Act) (rows : Map Waiting) (named : Counts ℕ) (used : Counts Handle)
     (are : ArePending s rows named used) where
   pub pending_kept : ((q : ℕ) → HasEffect q a false 0 0) → ArePending (s ++ a ∷ []) rows named used
   pending_kept is = record {
@@ -283,7 +290,7 @@ module _ (s : Session) (a : Act) (rows : Map Waiting) (named : Names) (used : Us
     interrupted = λ q. other_row s a q (get rows q) (is q).under (is q).interrupting (is q).again (are.interrupted q);
   }
 
-  pub pending_ended : (u : ℕ) (new : Map Waiting) (names : Names) (uses : Uses)
+  pub pending_ended : (u : ℕ) (new : Map Waiting) (names : Counts ℕ) (uses : Counts Handle)
       → ((q : ℕ) → HasEffect q a (nat_eq u q) 0 0) → AreListed (without u (waiting s)) new names uses
       → AreInterrupted s new → ArePending (s ++ a ∷ []) new names uses
   pending_ended u new names uses is listed interrupted = record {
@@ -304,7 +311,7 @@ module _ (s : Session) (a : Act) (rows : Map Waiting) (named : Names) (used : Us
     interrupted = interrupted;
   }
 
-pub pending_asked : (s : Session) (u : ℕ) (asked : Asked) (rows : Map Waiting) (named : Names) (used : Uses)
+pub pending_asked : (s : Session) (u : ℕ) (asked : Asked) (rows : Map Waiting) (named : Counts ℕ) (used : Counts Handle)
     → AreListed (without u (waiting s) ++ (u, asked) ∷ []) rows named used
     → AreInterrupted (s ++ act.Asks u asked ∷ []) rows → ArePending (s ++ act.Asks u asked ∷ []) rows named used
 pending_asked s u asked rows named used listed interrupted = record {
@@ -335,7 +342,7 @@ is_waiting : (s : Session) (u : ℕ) (o : Option Waiting)
 is_waiting s u None e is = found_first u (waiting s) ∙ ap first_asked e
 is_waiting s u (Some row) e is = (found_first u (waiting s) ∙ ap first_asked e, is.0, is.1)
 
-pub pending_waiting : (s : Session) (rows : Map Waiting) (named : Names) (used : Uses) → ArePending s rows named used
+pub pending_waiting : (s : Session) (rows : Map Waiting) (named : Counts ℕ) (used : Counts Handle) → ArePending s rows named used
     → AreWaiting s rows
 pending_waiting s rows named used are u = is_waiting s u (get rows u) (are.listed.once u) (are.interrupted u)
 
@@ -402,7 +409,7 @@ pub as_again : (a : Act) (u : ℕ) → ((q : ℕ) → HasEffect q a false 0 (one
     → (q : ℕ) → HasEffect q a false (one_if (nat_eq u q && false)) (one_if (nat_eq u q && true))
 as_again a u is q = effect_again q a (nat_eq u q) (is q)
 
-module _ (s : Session) (rows : Map Waiting) (named : Names) (used : Uses) (are : ArePending s rows named used)
+module _ (s : Session) (rows : Map Waiting) (named : Counts ℕ) (used : Counts Handle) (are : ArePending s rows named used)
     (limit : ℕ) (small : 2 * length s + 2 < limit) where
   pub names_few : (n : ℕ) → count_in nat_eq named n + 2 < limit
   names_few n =
@@ -466,7 +473,7 @@ any_sum test w is (x ∷ xs) = ap (λ b. b || list_any test xs) (is x)
     ∙ ap (λ b. nat_lt 0 (w x) || b) (any_sum test w is xs) ∙ or_positive (w x) (sum_by w xs)
     ∙ ap (nat_lt 0) (sym (sum_first w x xs))
 
-module _ (s : Session) (rows : Map Waiting) (named : Names) (used : Uses) (are : ArePending s rows named used) where
+module _ (s : Session) (rows : Map Waiting) (named : Counts ℕ) (used : Counts Handle) (are : ArePending s rows named used) where
   pub named_counts : (n : ℕ) → nat_lt 0 (count_in nat_eq named n) ≡ is_named s n
   named_counts n = ap (nat_lt 0) (are.listed.names n) ∙ sym
       (any_sum (λ (e : ℕ × Asked). names_node n e.1) (λ (e : ℕ × Asked). names_of n e.1)

@@ -1,5 +1,5 @@
 -- What is true of the tables and the verdicts in the middle of the acts that are seen.
-use Rattle.std.proofs.Common.{◌≡◌, ℕ, List, [], ◌∷◌, ◌++◌, Option, append_assoc, subst, refl, arith}
+use Rattle.std.proofs.Common.{◌≡◌, ℕ, List, [], ◌∷◌, ◌++◌, Option, append_assoc, subst, refl, arith, nat_eq}
 use Rattle.std.proofs.lemmas.Option.{none-some}
 use Rattle.fuse_spec.specs.Values.Maps.{Map}
 use Rattle.fuse_sessions.specs.declared.act.Act.{Act}
@@ -11,6 +11,8 @@ use Rattle.fuse_judge.specs.declared.marks.Block.{Block}
 use Rattle.fuse_judge.specs.declared.nodes.NodeRow.{NodeRow}
 use Rattle.fuse_judge.specs.declared.pending.Waiting.{Waiting}
 use Rattle.fuse_judge.specs.Flags.{AreFlags}
+use Rattle.fuse_judge.specs.Handles.{handle, same_handle}
+use Rattle.fuse_judge.specs.Tallies.{Counts, count_in}
 use Rattle.fuse_judge.specs.Verdicts.{IsVerdict, AreVerdicts}
 use Rattle.fuse_judge.specs.Seen.{JudgeState, HasSeen}
 use Rattle.fuse_judge.proofs.VerdictLaws.{verdicts-more}
@@ -36,8 +38,10 @@ seen-more old acts verdicts now act verdict new so_far is_verdict step = record 
 
 -- Empty tables are right of the empty session.
 pub seen_nothing : (flags : Flags) (numbers : Map Block) (nodes : Map NodeRow) (waiting : Map Waiting)
-    (named : List (ℕ × ℕ)) (used open_counts : List (Handle × ℕ)) (open_nodes : List (ℕ × ℕ)) → AreFlags [] flags
-    → numbers ≡ [] → nodes ≡ [] → waiting ≡ [] → named ≡ [] → used ≡ [] → open_counts ≡ [] → open_nodes ≡ []
+    (named : Counts ℕ) (used open_counts : Counts Handle) (open_nodes : Counts ℕ) → AreFlags [] flags
+    → numbers ≡ [] → nodes ≡ [] → waiting ≡ [] → ((q : ℕ) → count_in nat_eq named q ≡ 0)
+    → ((q : Handle) → count_in same_handle used q ≡ 0) → ((q : Handle) → count_in same_handle open_counts q ≡ 0)
+    → ((q : ℕ) → count_in nat_eq open_nodes q ≡ 0)
     → HasSeen [] record {
       flags = flags;
       numbers = numbers;
@@ -49,7 +53,7 @@ pub seen_nothing : (flags : Flags) (numbers : Map Block) (nodes : Map NodeRow) (
       open_nodes = open_nodes;
     }
 seen_nothing flags numbers nodes waiting named used open_counts open_nodes are a b c d e f g = rw
-    (a, b, c, d, e, f, g) record {
+    (a, b, c) record {
       right_flags = are;
       right_numbers = record {
         marked = λ u. record {
@@ -62,16 +66,16 @@ seen_nothing flags numbers nodes waiting named used open_counts open_nodes are a
       right_pending = record {
         listed = record {
           once = λ u. refl;
-          names = λ n. refl;
-          uses = λ o. refl;
+          names = λ n. d n;
+          uses = λ o. e (handle o);
         };
         interrupted = λ u. tt;
       };
       right_opens = record {
-        open_count = λ o. refl;
+        open_count = λ o. f (handle o);
         files = [];
         once = λ o. refl;
-        of_nodes = λ n. refl;
+        of_nodes = λ n. g n;
         few = omega arith;
       };
     }

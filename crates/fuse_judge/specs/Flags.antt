@@ -1,9 +1,10 @@
 -- What is known of a session as a whole.
 use Rattle.std.specs.Prelude.{◌≡◌, ℕ, Bool, false, not, nat_lt, max, Option, Some, None}
 use Rattle.fuse_sessions.specs.declared.act.OpenKind.TheVariants as kind
+use Rattle.fuse_sessions.specs.declared.act.Act.{Act}
 use Rattle.fuse_sessions.specs.Sessions.{Session, latest}
-use Rattle.fuse_sessions.specs.Numbers.{was_anything_read, has_agreed, has_several_readers, has_ended, is_out_of_order}
-use Rattle.fuse_sessions.specs.OpenFiles.{has_none}
+use Rattle.fuse_sessions.specs.Numbers.{was_anything_read, has_agreed, has_several_readers, has_ended, is_out_of_order, is_reading, is_agreement, is_of_several, reads_request_from}
+use Rattle.fuse_sessions.specs.OpenFiles.{has_none, opens_none}
 use Rattle.fuse_sessions.specs.Faults.{agreed_write}
 use Rattle.fuse_judge.specs.declared.flags.Flags.{Flags}
 
@@ -17,6 +18,16 @@ abbrev pub highest_with : Option ℕ → Option ℕ → Option ℕ
 highest_with (Some a) (Some b) = Some (max a b)
 highest_with (Some a) None = Some a
 highest_with None b = b
+
+-- An act leaves what is known as it is, if it does not show the connection's end.
+pub record LeavesFlags (a : Act) : Type 0 where
+  pub began : is_reading a ≡ false
+  pub agreed : is_agreement a ≡ false
+  pub max_write : agreed_write a ≡ None
+  pub several : is_of_several a ≡ false
+  pub no_files : opens_none kind.File a ≡ false
+  pub no_directories : opens_none kind.Directory a ≡ false
+  pub highest : (unique : ℕ) → reads_request_from unique a ≡ false
 
 -- This is true of the session.
 pub record AreFlags (s : Session) (flags : Flags) : Type 0 where

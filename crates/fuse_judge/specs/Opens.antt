@@ -10,7 +10,7 @@ use Rattle.fuse_judge.specs.declared.open_change.OpenChange.{OpenChange}
 use Rattle.fuse_judge.specs.declared.open_change.OpenChange.TheVariants as change
 use Rattle.fuse_judge.specs.declared.handle.Handle.{Handle}
 use Rattle.fuse_judge.specs.Handles.{handle, same_handle}
-use Rattle.fuse_judge.specs.Tallies.{count_in, one_if}
+use Rattle.fuse_judge.specs.Tallies.{Counts, count_in, one_if}
 
 -- An act neither opens a file nor releases it.
 pub record LeavesOpen (file : OpenFile) (a : Act) : Type 0 where
@@ -24,7 +24,7 @@ IsOpenChange a (change.Opens file) = a ≡ act.Opens file
 IsOpenChange a (change.Releases file) = a ≡ act.Releases file
 
 -- The tables of open files are right: how often each is open, and of those that are open how many each node has.
-pub record AreOpen (s : Session) (counts : List (Handle × ℕ)) (nodes : List (ℕ × ℕ)) : Type 0 where
+pub record AreOpen (s : Session) (counts : Counts Handle) (nodes : Counts ℕ) : Type 0 where
   pub open_count : (file : OpenFile) → count_in same_handle counts (handle file) ≡ opened s file
   pub files : List OpenFile
   pub once : (file : OpenFile) → filter (same_open file) files ≡ (if nat_lt 0 (opened s file) then file ∷ [] else [])

@@ -13,7 +13,7 @@ use Rattle.fuse_judge.specs.declared.change.Change.TheVariants as change
 use Rattle.fuse_judge.specs.declared.handle.Handle.{Handle}
 use Rattle.fuse_judge.specs.declared.pending.Waiting.{Waiting}
 use Rattle.fuse_judge.specs.Handles.{handle, same_handle}
-use Rattle.fuse_judge.specs.Tallies.{count_in, one_if}
+use Rattle.fuse_judge.specs.Tallies.{Counts, count_in, one_if}
 
 -- What an act does to the request under a number, where it asks none.
 pub record HasEffect (unique : ℕ) (act : Act) (is_end : Bool) (more replied : ℕ) : Type 0 where
@@ -45,8 +45,7 @@ uses_of file asked = one_if (is_that file asked.uses) + one_if (is_that file ask
 
 -- These requests are in the tables, each under its number once, with the nodes that they name and the open files that
 -- they use.
-pub record AreListed (xs : List (ℕ × Asked)) (rows : Map Waiting) (named : List (ℕ × ℕ)) (used : List (Handle
-    × ℕ)) : Type 0 where
+pub record AreListed (xs : List (ℕ × Asked)) (rows : Map Waiting) (named : Counts ℕ) (used : Counts Handle) : Type 0 where
   pub once : (unique : ℕ) → filter (λ e. nat_eq unique e.0) xs ≡ entry_of unique (get rows unique)
   pub names : (node : ℕ) → count_in nat_eq named node ≡ sum_by (λ e. names_of node e.1) xs
   pub uses : (file : OpenFile) → count_in same_handle used (handle file) ≡ sum_by (λ e. uses_of file e.1) xs
@@ -60,8 +59,7 @@ abbrev pub AreInterrupted : Session → Map Waiting → Type 0
 AreInterrupted s rows = (unique : ℕ) → IsInterrupted s unique (get rows unique)
 
 -- The tables of requests that wait are right.
-pub record ArePending (s : Session) (rows : Map Waiting) (named : List (ℕ × ℕ)) (used : List (Handle
-    × ℕ)) : Type 0 where
+pub record ArePending (s : Session) (rows : Map Waiting) (named : Counts ℕ) (used : Counts Handle) : Type 0 where
   pub listed : AreListed (waiting s) rows named used
   pub interrupted : AreInterrupted s rows
 

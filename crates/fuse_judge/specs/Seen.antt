@@ -1,6 +1,5 @@
 -- What the judge's tables say of the session that it has seen: a fact for each table.
-use Rattle.std.specs.Prelude.{◌≤◌, ◌*◌, ℕ, List, length}
-use Rattle.indexmap.specs.IndexMap.{spare}
+use Rattle.std.specs.Prelude.{◌≤◌, ◌*◌, ℕ, length}
 use Rattle.fuse_spec.specs.Values.Maps.{Map}
 use Rattle.fuse_sessions.specs.Sessions.{Session}
 use Rattle.fuse_judge.specs.declared.flags.Flags.{Flags}
@@ -14,6 +13,7 @@ use Rattle.fuse_judge.specs.Numbers.{AreNumbers}
 use Rattle.fuse_judge.specs.Nodes.{AreNodes}
 use Rattle.fuse_judge.specs.Opens.{AreOpen}
 use Rattle.fuse_judge.specs.Pending.{ArePending}
+use Rattle.fuse_judge.specs.Tallies.{Counts}
 
 -- What contracts see of a judge: its tables.
 pub record JudgeState : Type 0 where
@@ -21,10 +21,10 @@ pub record JudgeState : Type 0 where
   pub numbers : Map Block
   pub nodes : Map NodeRow
   pub waiting : Map Waiting
-  pub named : List (ℕ × ℕ)
-  pub used : List (Handle × ℕ)
-  pub open_counts : List (Handle × ℕ)
-  pub open_nodes : List (ℕ × ℕ)
+  pub named : Counts ℕ
+  pub used : Counts Handle
+  pub open_counts : Counts Handle
+  pub open_nodes : Counts ℕ
 
 abbrev pub state_of : {A : Type 0} → Tables A → JudgeState
 state_of t = record {
@@ -32,10 +32,10 @@ state_of t = record {
   numbers = t.numbers.entries;
   nodes = t.nodes.entries;
   waiting = t.pending.rows.entries;
-  named = t.pending.named.entries;
-  used = t.pending.used.entries;
-  open_counts = t.opens.counts.entries;
-  open_nodes = t.opens.nodes.entries;
+  named = t.pending.named.counts;
+  used = t.pending.used.counts;
+  open_counts = t.opens.counts.counts;
+  open_nodes = t.opens.nodes.counts;
 }
 
 -- The judge has seen this session: its tables are right of it.
@@ -51,10 +51,10 @@ pub record HasRoom {A : Type 0} (acts : ℕ) (t : Tables A) : Type 0 where
   pub numbers : acts ≤ t.numbers.room
   pub nodes : acts ≤ t.nodes.room
   pub waiting : acts ≤ t.pending.rows.room
-  pub named : 2 * acts ≤ spare t.pending.named
-  pub used : 2 * acts ≤ spare t.pending.used
-  pub open_counts : acts ≤ spare t.opens.counts
-  pub open_nodes : acts ≤ spare t.opens.nodes
+  pub named : 2 * acts ≤ t.pending.named.room
+  pub used : 2 * acts ≤ t.pending.used.room
+  pub open_counts : acts ≤ t.opens.counts.room
+  pub open_nodes : acts ≤ t.opens.nodes.room
 
 -- Some session was seen, of so many acts at most.
 abbrev pub HasSeenFew : ℕ → JudgeState → Type 0

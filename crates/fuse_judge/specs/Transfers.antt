@@ -1,5 +1,5 @@
 -- What a judge of transfers has seen, and what it says of the next.
-use Rattle.std.specs.Prelude.{◌≡◌, ◌↔◌, ℕ, List, [], ◌∷◌, ◌++◌, Option, Some, slice_get}
+use Rattle.std.specs.Prelude.{◌≡◌, ◌↔◌, ℕ, List, [], ◌∷◌, ◌++◌, Option, Some, length, slice_get}
 use Rattle.fuse_sessions.specs.declared.act.Act.{Act}
 use Rattle.fuse_sessions.specs.declared.fault.Fault.{Fault}
 use Rattle.fuse_sessions.specs.declared.known.Known.{Known}
@@ -25,10 +25,10 @@ AreFaults s acts verdicts =
     (place : ℕ) (f : Fault) → slice_get verdicts place ≡ Some (Some f) ↔ HasFaultAt s acts place f
 
 -- The next transfer has these acts and no others, and they are judged and seen.
-pub record IsJudged (transfers : List Transfer) (s : Session) (t : Transfer) (old new : SessionState)
+pub record IsJudged (transfers : List Transfer) (s : Session) (t : Transfer) (old new : SessionState) (acts : List Act)
     (verdicts : List (Option Fault)) : Type 0 where
-  pub acts : List Act
   pub are : AreActs old.known s t acts new.known
   pub once : (others : List Act) (later : Known) → AreActs old.known s t others later → others ≡ acts
   pub faults : AreFaults s acts verdicts
+  pub each : length verdicts ≡ length acts
   pub seen : HasSeenTransfers (transfers ++ t ∷ []) (s ++ acts) new

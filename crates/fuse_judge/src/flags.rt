@@ -1,10 +1,10 @@
 //! What is known of a session as a whole.
 
-ghost use Rattle.std.specs.Prelude.{◌≡◌, [], ◌∷◌, ◌++◌};
+ghost use Rattle.std.specs.Prelude.{◌≡◌, false, [], ◌∷◌, ◌++◌};
 ghost use Rattle.fuse_sessions.specs.Sessions.{Session};
 ghost use Rattle.fuse_sessions.specs.Numbers.{shows_end};
 ghost use Rattle.fuse_sessions.specs.Faults.{BreaksArrival, BreaksBeginning, BreaksWrite};
-ghost use Rattle.fuse_judge.specs.Flags.{AreFlags, is_from, highest_with};
+ghost use Rattle.fuse_judge.specs.Flags.{AreFlags, LeavesFlags, is_from, highest_with};
 ghost use Rattle.fuse_judge.specs.Verdicts.{IsFault};
 
 use crate::projections::{
@@ -108,8 +108,18 @@ fn higher(highest: Option<u64>, read: Option<u64>) -> Option<u64>
     }
 }
 
+/// Whether an act may change what is known of a session as a whole. Few do.
+fn is_of_flags(act: Act) -> bool
+    ensures { result ≡ false → LeavesFlags act }
+{
+    matches!(
+        act,
+        Act::Read { .. } | Act::Agrees(_) | Act::OpensNone(_) | Act::SeveralReaders
+    )
+}
+
 /// What is known after one more act, which shows the connection's end or not.
-pub(crate) fn flags_with(flags: Flags, act: Act, shows: bool) -> Flags
+fn flags_with(flags: Flags, act: Act, shows: bool) -> Flags
     ensures { (s : Session) → AreFlags s flags → shows ≡ shows_end (s, act) → AreFlags (s ++ act ∷ []) result }
 {
     Flags {
@@ -121,5 +131,15 @@ pub(crate) fn flags_with(flags: Flags, act: Act, shows: bool) -> Flags
         opens_no_files: flags.opens_no_files | opens_none(OpenKind::File, act),
         opens_no_directories: flags.opens_no_directories | opens_none(OpenKind::Directory, act),
         highest: higher(flags.highest, request_read(act)),
+    }
+}
+
+/// Writes down what an act makes known, which shows the connection's end or not.
+pub(crate) fn note_flags(flags: &mut Flags, act: Act, shows: bool)
+    ensures { (s : Session) → AreFlags s flags.old → shows ≡ shows_end (s, act)
+        → AreFlags (s ++ act ∷ []) flags.new }
+{
+    if shows | is_of_flags(act) {
+        *flags = flags_with(*flags, act, shows);
     }
 }

@@ -6,7 +6,7 @@ ghost use Rattle.fuse_judge.specs.Handles.{handle};
 use fuse_sessions::{OpenFile, OpenKind};
 
 /// An open file, as a key of tables.
-#[derive(Clone, Copy, PartialEq, Eq, Hash)]
+#[derive(Clone, Copy, PartialEq, Eq, PartialOrd, Ord)]
 pub struct Handle {
     pub is_directory: bool,
     pub nodeid: u64,

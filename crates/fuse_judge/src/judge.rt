@@ -11,9 +11,9 @@ use crate::flags::no_flags;
 use crate::opens::OpenFiles;
 use crate::pending::{Pending, asked_under};
 use crate::tables::Tables;
+use crate::tally::Tally;
 use fuse_sessions::{Act, Asked, Fault};
 use fuse_tables::RisingTable;
-use indexmap::IndexMap;
 use std::alloc::{AllocError, Allocator, Global};
 use std::marker::Model;
 
@@ -53,12 +53,12 @@ impl<A: Allocator + Copy> Judge<A> {
                 nodes: RisingTable::new(alloc),
                 pending: Pending {
                     rows: RisingTable::new(alloc),
-                    named: IndexMap::new(alloc),
-                    used: IndexMap::new(alloc),
+                    named: Tally::new(alloc),
+                    used: Tally::new(alloc),
                 },
                 opens: OpenFiles {
-                    counts: IndexMap::new(alloc),
-                    nodes: IndexMap::new(alloc),
+                    counts: Tally::new(alloc),
+                    nodes: Tally::new(alloc),
                 },
             },
             acts: 0,

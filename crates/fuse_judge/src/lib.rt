@@ -4,6 +4,8 @@
 
 mod change;
 mod flags;
+#[cfg(test)]
+mod frame_tests;
 mod handle;
 mod judge;
 mod marks;
@@ -19,6 +21,8 @@ mod rows;
 mod session;
 mod tables;
 mod tally;
+mod tally_list;
+mod tally_rows;
 #[cfg(test)]
 mod tests;
 

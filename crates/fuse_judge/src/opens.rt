@@ -1,7 +1,6 @@
 //! The files that are open: the tables, and what is a fault by them.
 
-ghost use Rattle.std.specs.Prelude.{◌≡◌, ◌↔◌, ℕ, ◌<◌, ◌≤◌, ◌+◌, ◌^◌, [], ◌∷◌, ◌++◌, IsTrue, length, nat_lt};
-ghost use Rattle.indexmap.specs.IndexMap.{spare};
+ghost use Rattle.std.specs.Prelude.{◌≡◌, ◌↔◌, ℕ, ◌<◌, ◌≤◌, ◌+◌, ◌^◌, [], ◌∷◌, ◌++◌, IsTrue, OnOk, length, nat_lt};
 ghost use Rattle.fuse_sessions.specs.declared.act.Act.TheVariants.{Opens, Releases};
 ghost use Rattle.fuse_sessions.specs.Sessions.{Session};
 ghost use Rattle.fuse_sessions.specs.Waiting.{is_used};
@@ -14,9 +13,9 @@ ghost use Rattle.fuse_judge.specs.Verdicts.{IsFault};
 use crate::flags::Flags;
 use crate::handle::{Handle, handle_of};
 use crate::open_change::{OpenChange, open_change_of};
-use crate::tally::{Tally, add, count, take};
+use crate::tally::Tally;
 use fuse_sessions::{Act, Fault, OpenFile, OpenKind};
-use std::alloc::{Allocator, Global};
+use std::alloc::{AllocError, Allocator, Global};
 
 /// The files that are open.
 #[derive(Drop)]
@@ -27,19 +26,37 @@ pub struct OpenFiles<A: Allocator = Global> {
     pub nodes: Tally<u64, A>,
 }
 
+/// Makes room for this many openings.
+///
+/// # Errors
+///
+/// Out of memory.
+pub(crate) fn reserve_opens<A: Allocator + Copy>(
+    opens: &mut OpenFiles<A>,
+    more: usize,
+) -> Result<(), AllocError>
+    ensures kept { (s : Session) → AreOpen s opens.old.counts.counts opens.old.nodes.counts
+        → AreOpen s opens.new.counts.counts opens.new.nodes.counts }
+    ensures room { OnOk result (more ≤ opens.new.counts.room) }
+    ensures nodes_room { OnOk result (more ≤ opens.new.nodes.room) }
+{
+    opens.counts.reserve(more)?;
+    opens.nodes.reserve(more)
+}
+
 /// How often a file is open.
 pub(crate) fn open_count<A: Allocator + Copy>(opens: &OpenFiles<A>, file: OpenFile) -> u64
-    ensures { (s : Session) → AreOpen s opens.now.counts.entries opens.now.nodes.entries → result ≡ opened s file }
+    ensures { (s : Session) → AreOpen s opens.now.counts.counts opens.now.nodes.counts → result ≡ opened s file }
 {
-    count(&opens.counts, handle_of(file))
+    opens.counts.count(handle_of(file))
 }
 
 /// Whether some file of a node is open.
 pub(crate) fn has_open<A: Allocator + Copy>(opens: &OpenFiles<A>, node: u64) -> bool
-    ensures { (s : Session) → AreOpen s opens.now.counts.entries opens.now.nodes.entries
+    ensures { (s : Session) → AreOpen s opens.now.counts.counts opens.now.nodes.counts
         → IsTrue result ↔ HasOpen s node }
 {
-    count(&opens.nodes, node) > 0
+    opens.nodes.count(node) > 0
 }
 
 /// Whether the server opens none of a kind.
@@ -86,48 +103,48 @@ pub(crate) fn fault_of_release(
 
 /// A file is open once more.
 fn open<A: Allocator + Copy>(opens: &mut OpenFiles<A>, file: OpenFile)
-    requires room { 0 < spare opens.old.counts }
-    requires nodes_room { 0 < spare opens.old.nodes }
-    requires few { (s : Session) × AreOpen s opens.old.counts.entries opens.old.nodes.entries ×
+    requires room { 0 < opens.old.counts.room }
+    requires nodes_room { 0 < opens.old.nodes.room }
+    requires few { (s : Session) × AreOpen s opens.old.counts.counts opens.old.nodes.counts ×
         (length s + 1 < 2 ^ 64) }
-    ensures kept { (s : Session) → AreOpen s opens.old.counts.entries opens.old.nodes.entries
-        → AreOpen (s ++ Opens file ∷ []) opens.new.counts.entries opens.new.nodes.entries }
-    ensures room { spare opens.old.counts ≤ spare opens.new.counts + 1 }
-    ensures nodes_room { spare opens.old.nodes ≤ spare opens.new.nodes + 1 }
+    ensures kept { (s : Session) → AreOpen s opens.old.counts.counts opens.old.nodes.counts
+        → AreOpen (s ++ Opens file ∷ []) opens.new.counts.counts opens.new.nodes.counts }
+    ensures room { opens.old.counts.room ≤ opens.new.counts.room + 1 }
+    ensures nodes_room { opens.old.nodes.room ≤ opens.new.nodes.room + 1 }
 {
     let key = handle_of(file);
-    let was = count(&opens.counts, key);
-    add(&mut opens.counts, key);
+    let was = opens.counts.count(key);
+    opens.counts.add(key);
     if was == 0 {
-        add(&mut opens.nodes, file.nodeid);
+        opens.nodes.add(file.nodeid);
     }
 }
 
 /// A file is open once less.
 fn release<A: Allocator + Copy>(opens: &mut OpenFiles<A>, file: OpenFile)
-    ensures kept { (s : Session) → AreOpen s opens.old.counts.entries opens.old.nodes.entries
-        → AreOpen (s ++ Releases file ∷ []) opens.new.counts.entries opens.new.nodes.entries }
-    ensures room { spare opens.old.counts ≤ spare opens.new.counts }
-    ensures nodes_room { spare opens.old.nodes ≤ spare opens.new.nodes }
+    ensures kept { (s : Session) → AreOpen s opens.old.counts.counts opens.old.nodes.counts
+        → AreOpen (s ++ Releases file ∷ []) opens.new.counts.counts opens.new.nodes.counts }
+    ensures room { opens.old.counts.room ≤ opens.new.counts.room }
+    ensures nodes_room { opens.old.nodes.room ≤ opens.new.nodes.room }
 {
     let key = handle_of(file);
-    let was = count(&opens.counts, key);
-    take(&mut opens.counts, key);
+    let was = opens.counts.count(key);
+    opens.counts.take(key);
     if was == 1 {
-        take(&mut opens.nodes, file.nodeid);
+        opens.nodes.take(file.nodeid);
     }
 }
 
 /// Writes down what an act does to the files that are open.
 pub(crate) fn note_opens<A: Allocator + Copy>(opens: &mut OpenFiles<A>, act: Act)
-    requires room { 0 < spare opens.old.counts }
-    requires nodes_room { 0 < spare opens.old.nodes }
-    requires few { (s : Session) × AreOpen s opens.old.counts.entries opens.old.nodes.entries ×
+    requires room { 0 < opens.old.counts.room }
+    requires nodes_room { 0 < opens.old.nodes.room }
+    requires few { (s : Session) × AreOpen s opens.old.counts.counts opens.old.nodes.counts ×
         (length s + 1 < 2 ^ 64) }
-    ensures kept { (s : Session) → AreOpen s opens.old.counts.entries opens.old.nodes.entries
-        → AreOpen (s ++ act ∷ []) opens.new.counts.entries opens.new.nodes.entries }
-    ensures room { spare opens.old.counts ≤ spare opens.new.counts + 1 }
-    ensures nodes_room { spare opens.old.nodes ≤ spare opens.new.nodes + 1 }
+    ensures kept { (s : Session) → AreOpen s opens.old.counts.counts opens.old.nodes.counts
+        → AreOpen (s ++ act ∷ []) opens.new.counts.counts opens.new.nodes.counts }
+    ensures room { opens.old.counts.room ≤ opens.new.counts.room + 1 }
+    ensures nodes_room { opens.old.nodes.room ≤ opens.new.nodes.room + 1 }
 {
     match open_change_of(act) {
         OpenChange::Nothing => {}

@@ -1,8 +1,7 @@
 //! The requests that wait: the tables, and what is a fault by them.
 
-ghost use Rattle.std.specs.Prelude.{◌≡◌, ℕ, ◌+◌, ◌*◌, ◌<◌, ◌≤◌, ◌^◌, Bool, false, ◌&&◌, List, [], ◌∷◌, ◌++◌, None, Some, nat_eq, filter, not, is_some, length};
+ghost use Rattle.std.specs.Prelude.{◌≡◌, ℕ, ◌+◌, ◌*◌, ◌<◌, ◌≤◌, ◌^◌, Bool, false, ◌&&◌, List, [], ◌∷◌, ◌++◌, None, OnOk, Some, nat_eq, filter, not, is_some, length};
 ghost use Rattle.fuse_spec.specs.Values.Maps.{get};
-ghost use Rattle.indexmap.specs.IndexMap.{spare};
 ghost use Rattle.fuse_sessions.specs.declared.act.Act.{Act};
 ghost use Rattle.fuse_sessions.specs.declared.act.Act.TheVariants.{Asks};
 ghost use Rattle.fuse_sessions.specs.declared.act.Asked.{Asked};
@@ -29,7 +28,7 @@ use crate::rows::write;
 use crate::tally::Tally;
 use fuse_sessions::{Act, Asked, Fault, Taken};
 use fuse_tables::RisingTable;
-use std::alloc::{Allocator, Global};
+use std::alloc::{AllocError, Allocator, Global};
 
 /// A request that waits.
 #[derive(Clone, Copy, Drop)]
@@ -48,6 +47,28 @@ pub struct Pending<A: Allocator = Global> {
     pub named: Tally<u64, A>,
     /// How many of them use an open file.
     pub used: Tally<Handle, A>,
+}
+
+/// Makes room for this many requests, each of which names two nodes and uses two open files.
+///
+/// # Errors
+///
+/// Out of memory.
+pub(crate) fn reserve_pending<A: Allocator + Copy>(
+    pending: &mut Pending<A>,
+    more: usize,
+) -> Result<(), AllocError>
+    ensures kept { (s : Session)
+        → ArePending s pending.old.rows.entries pending.old.named.counts pending.old.used.counts
+        → ArePending s pending.new.rows.entries pending.new.named.counts pending.new.used.counts }
+    ensures room { OnOk result (more ≤ pending.new.rows.room) }
+    ensures named_room { OnOk result (2 * more ≤ pending.new.named.room) }
+    ensures used_room { OnOk result (2 * more ≤ pending.new.used.room) }
+{
+    let twice = more.checked_mul(2).ok_or(AllocError)?;
+    pending.rows.reserve(more)?;
+    pending.named.reserve(twice)?;
+    pending.used.reserve(twice)
 }
 
 /// The fault of a kernel that interrupts a request.
@@ -154,19 +175,19 @@ pub(crate) fn waits<A: Allocator + Copy>(rows: &RisingTable<Waiting, A>, unique:
 /// What waits under a number ends.
 fn end<A: Allocator + Copy>(pending: &mut Pending<A>, unique: u64)
     ensures listed { (xs : List (ℕ × Asked))
-        → AreListed xs pending.old.rows.entries pending.old.named.entries pending.old.used.entries
+        → AreListed xs pending.old.rows.entries pending.old.named.counts pending.old.used.counts
         → AreListed (filter (λ (e : ℕ × Asked). not (nat_eq unique e.0)) xs) pending.new.rows.entries
-        pending.new.named.entries pending.new.used.entries }
+        pending.new.named.counts pending.new.used.counts }
     ensures interrupted { (s : Session) → AreInterrupted s pending.old.rows.entries
         → AreInterrupted s pending.new.rows.entries }
     ensures gone { get pending.new.rows.entries unique ≡ None }
     ensures names { (n : ℕ)
-        → count_in nat_eq pending.new.named.entries n ≤ count_in nat_eq pending.old.named.entries n }
-    ensures uses { (f : OpenFile) → count_in same_handle pending.new.used.entries (handle f)
-        ≤ count_in same_handle pending.old.used.entries (handle f) }
+        → count_in nat_eq pending.new.named.counts n ≤ count_in nat_eq pending.old.named.counts n }
+    ensures uses { (f : OpenFile) → count_in same_handle pending.new.used.counts (handle f)
+        ≤ count_in same_handle pending.old.used.counts (handle f) }
     ensures room { pending.old.rows.room ≤ pending.new.rows.room }
-    ensures named_room { spare pending.old.named ≤ spare pending.new.named }
-    ensures used_room { spare pending.old.used ≤ spare pending.new.used }
+    ensures named_room { pending.old.named.room ≤ pending.new.named.room }
+    ensures used_room { pending.old.used.room ≤ pending.new.used.room }
 {
     if let Some(row) = pending.rows.remove(unique) {
         take_names(&mut pending.named, row.asked);
@@ -178,19 +199,19 @@ fn end<A: Allocator + Copy>(pending: &mut Pending<A>, unique: u64)
 fn ask<A: Allocator + Copy>(pending: &mut Pending<A>, unique: u64, asked: Asked)
     requires gone { get pending.old.rows.entries unique ≡ None }
     requires room { 0 < pending.old.rows.room }
-    requires named_room { 2 ≤ spare pending.old.named }
-    requires used_room { 2 ≤ spare pending.old.used }
-    requires names { (n : ℕ) → count_in nat_eq pending.old.named.entries n + 2 < 2 ^ 64 }
-    requires uses { (f : OpenFile) → count_in same_handle pending.old.used.entries (handle f) + 2 < 2 ^ 64 }
+    requires named_room { 2 ≤ pending.old.named.room }
+    requires used_room { 2 ≤ pending.old.used.room }
+    requires names { (n : ℕ) → count_in nat_eq pending.old.named.counts n + 2 < 2 ^ 64 }
+    requires uses { (f : OpenFile) → count_in same_handle pending.old.used.counts (handle f) + 2 < 2 ^ 64 }
     ensures listed { (xs : List (ℕ × Asked))
-        → AreListed xs pending.old.rows.entries pending.old.named.entries pending.old.used.entries
-        → AreListed (xs ++ (unique, asked) ∷ []) pending.new.rows.entries pending.new.named.entries
-        pending.new.used.entries }
+        → AreListed xs pending.old.rows.entries pending.old.named.counts pending.old.used.counts
+        → AreListed (xs ++ (unique, asked) ∷ []) pending.new.rows.entries pending.new.named.counts
+        pending.new.used.counts }
     ensures interrupted { (s : Session) → AreInterrupted s pending.old.rows.entries
         → AreInterrupted (s ++ Asks unique asked ∷ []) pending.new.rows.entries }
     ensures room { pending.old.rows.room ≤ pending.new.rows.room + 1 }
-    ensures named_room { spare pending.old.named ≤ spare pending.new.named + 2 }
-    ensures used_room { spare pending.old.used ≤ spare pending.new.used + 2 }
+    ensures named_room { pending.old.named.room ≤ pending.new.named.room + 2 }
+    ensures used_room { pending.old.used.room ≤ pending.new.used.room + 2 }
 {
     let row = Waiting {
         asked,
@@ -240,17 +261,17 @@ fn interrupt<A: Allocator + Copy>(
 /// Writes down what an act does to the requests that wait.
 pub(crate) fn note_pending<A: Allocator + Copy>(pending: &mut Pending<A>, act: Act)
     requires room { 0 < pending.old.rows.room }
-    requires named_room { 2 ≤ spare pending.old.named }
-    requires used_room { 2 ≤ spare pending.old.used }
+    requires named_room { 2 ≤ pending.old.named.room }
+    requires used_room { 2 ≤ pending.old.used.room }
     requires few { (s : Session)
-        × ArePending s pending.old.rows.entries pending.old.named.entries pending.old.used.entries
+        × ArePending s pending.old.rows.entries pending.old.named.counts pending.old.used.counts
         × (2 * length s + 2 < 2 ^ 64) }
     ensures kept { (s : Session)
-        → ArePending s pending.old.rows.entries pending.old.named.entries pending.old.used.entries
-        → ArePending (s ++ act ∷ []) pending.new.rows.entries pending.new.named.entries pending.new.used.entries }
+        → ArePending s pending.old.rows.entries pending.old.named.counts pending.old.used.counts
+        → ArePending (s ++ act ∷ []) pending.new.rows.entries pending.new.named.counts pending.new.used.counts }
     ensures room { pending.old.rows.room ≤ pending.new.rows.room + 1 }
-    ensures named_room { spare pending.old.named ≤ spare pending.new.named + 2 }
-    ensures used_room { spare pending.old.used ≤ spare pending.new.used + 2 }
+    ensures named_room { pending.old.named.room ≤ pending.new.named.room + 2 }
+    ensures used_room { pending.old.used.room ≤ pending.new.used.room + 2 }
 {
     match change_of(act) {
         Change::Nothing => {}

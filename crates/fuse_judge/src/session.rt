@@ -3,11 +3,12 @@
 ghost use Rattle.std.specs.Prelude.{◌≡◌, [], List, OnErr, OnOk};
 ghost use Rattle.fuse_sessions.specs.declared.transfer.Transfer.{Transfer};
 ghost use Rattle.fuse_sessions.specs.Sessions.{Session};
+ghost use Rattle.fuse_sessions.specs.Waiting.{waits};
 ghost use Rattle.fuse_judge.specs.Transfers.{HasSeenTransfers, IsJudged};
 
 use crate::judge::Judge;
-use fuse_protocol::BEFORE_INIT;
-use fuse_sessions::{Act, Fault, Known, Transfer};
+use fuse_protocol::{Agreed, BEFORE_INIT};
+use fuse_sessions::{Act, Asked, Fault, Known, Transfer};
 use session_frames::{reply_number, write_transfer};
 use std::alloc::{AllocError, Allocator, Global};
 use std::marker::Model;
@@ -17,8 +18,6 @@ use std::marker::Model;
 pub struct SessionJudge<A: Allocator = Global> {
     judge: Judge<A>,
     known: Known,
-    /// The acts of one transfer. The buffer is kept, so that few transfers take memory.
-    acts: Vec<Act, A>,
 }
 
 impl<A: Allocator> Model for SessionJudge<A> {
@@ -43,11 +42,24 @@ impl<A: Allocator + Copy> SessionJudge<A> {
                 offered: None,
                 agreed: BEFORE_INIT,
             },
-            acts: Vec::new(alloc),
         }
     }
 
-    /// Sees the next transfer, and writes a verdict on each of its acts: the act's fault, or `None`. What the vector had
+    /// What the two sides agree on: by it frames are read.
+    pub fn agreed(&self) -> Agreed
+        ensures { result ≡ self.now.known.agreed }
+    {
+        self.known.agreed
+    }
+
+    /// The request that waits under a number: it was read, and no reply has ended it.
+    pub fn waiting(&self, unique: u64) -> Option<Asked>
+        ensures { (before : List Transfer) (s : Session) → HasSeenTransfers before s self.now → result ≡ waits s unique }
+    {
+        self.judge.waiting(unique)
+    }
+
+    /// Sees the next transfer, writes its acts, and a verdict on each: the act's fault, or `None`. What the vectors had
     /// goes.
     ///
     /// # Errors
@@ -56,16 +68,17 @@ impl<A: Allocator + Copy> SessionJudge<A> {
     pub fn see(
         &mut self,
         transfer: Transfer<'_>,
+        acts: &mut Vec<Act, A>,
         verdicts: &mut Vec<Option<Fault>, A>,
     ) -> Result<(), AllocError>
         ensures judged { OnOk result ((before : List Transfer) (s : Session) → HasSeenTransfers before s self.old
-            → IsJudged before s transfer.entry self.old self.new verdicts.new.items) }
+            → IsJudged before s transfer.entry self.old self.new acts.new.items verdicts.new.items) }
         ensures refused { OnErr result ((before : List Transfer) (s : Session) → HasSeenTransfers before s self.old
             → HasSeenTransfers before s self.new) }
     {
         let asked = self.judge.waiting(reply_number(transfer));
-        let known = write_transfer(&mut self.acts, self.known, asked, transfer)?;
-        self.judge.see(&self.acts, verdicts)?;
+        let known = write_transfer(acts, self.known, asked, transfer)?;
+        self.judge.see(acts, verdicts)?;
         self.known = known;
         Ok(())
     }

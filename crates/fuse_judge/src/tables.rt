@@ -10,19 +10,20 @@ ghost use Rattle.fuse_judge.specs.Pending.{ArePending, AreWaiting};
 ghost use Rattle.fuse_judge.specs.Seen.{HasSeen, HasRoom, state_of};
 ghost use Rattle.fuse_judge.specs.Verdicts.{IsVerdict, AreVerdicts};
 
-use crate::flags::{Flags, fault_of_arrival, fault_of_beginning, fault_of_write, flags_with};
+use crate::flags::{Flags, fault_of_arrival, fault_of_beginning, fault_of_write, note_flags};
 use crate::handle::handle_of;
 use crate::marks::Marks;
 use crate::nodes::{
     NodeRow, fault_of_attributes, fault_of_forget, fault_of_gift, fault_of_name, note_nodes,
 };
 use crate::numbers::{fault_of_number, note_number};
-use crate::opens::{OpenFiles, fault_of_release, fault_of_use, has_open, note_opens, open_count};
+use crate::opens::{
+    OpenFiles, fault_of_release, fault_of_use, has_open, note_opens, open_count, reserve_opens,
+};
 use crate::pending::{
     Pending, fault_of_interrupt, fault_of_reply, fault_of_reply_to_interrupt, fault_of_taking,
-    note_pending, waits,
+    note_pending, reserve_pending, waits,
 };
-use crate::tally::count;
 use fuse_sessions::{Act, Fault, OpenFile, Taken};
 use fuse_tables::RisingTable;
 use std::alloc::{AllocError, Allocator, Global};
@@ -40,19 +41,19 @@ pub struct Tables<A: Allocator = Global> {
 /// Whether a request that waits names a node.
 fn is_named<A: Allocator + Copy>(pending: &Pending<A>, node: u64) -> bool
     ensures { (s : Session)
-        → ArePending s pending.now.rows.entries pending.now.named.entries pending.now.used.entries
+        → ArePending s pending.now.rows.entries pending.now.named.counts pending.now.used.counts
         → result ≡ words.is_named s node }
 {
-    count(&pending.named, node) > 0
+    pending.named.count(node) > 0
 }
 
 /// Whether a request that waits uses an open file.
 fn is_used<A: Allocator + Copy>(pending: &Pending<A>, file: OpenFile) -> bool
     ensures { (s : Session)
-        → ArePending s pending.now.rows.entries pending.now.named.entries pending.now.used.entries
+        → ArePending s pending.now.rows.entries pending.now.named.counts pending.now.used.counts
         → result ≡ words.is_used s file }
 {
-    count(&pending.used, handle_of(file)) > 0
+    pending.used.count(handle_of(file)) > 0
 }
 
 /// Whether an act shows that the connection has ended.
@@ -77,18 +78,13 @@ impl<A: Allocator + Copy> Tables<A> {
     ///
     /// Out of memory.
     pub fn reserve(&mut self, acts: usize) -> Result<(), AllocError>
-        ensures state { state_of self.new ≡ state_of self.old }
+        ensures kept { (s : Session) → HasSeen s (state_of self.old) → HasSeen s (state_of self.new) }
         ensures room { OnOk result (HasRoom acts self.new) }
     {
-        let twice = acts.checked_mul(2).ok_or(AllocError)?;
         self.numbers.reserve(acts)?;
         self.nodes.reserve(acts)?;
-        self.pending.rows.reserve(acts)?;
-        self.pending.named.reserve(twice)?;
-        self.pending.used.reserve(twice)?;
-        self.opens.counts.reserve(acts)?;
-        self.opens.nodes.reserve(acts)?;
-        Ok(())
+        reserve_pending(&mut self.pending, acts)?;
+        reserve_opens(&mut self.opens, acts)
     }
 
     /// Whether something uses a node: a request that waits names it, or a file of it is open.
@@ -146,18 +142,18 @@ impl<A: Allocator + Copy> Tables<A> {
     }
 
     /// Writes the next act down, whether or not it has a fault.
-    pub fn note(&mut self, act: Act)
+    pub fn note(&mut self, act: &Act)
         requires room { HasRoom 1 self.old }
         requires few { (s : Session) × HasSeen s (state_of self.old) × (2 * length s + 2 < 2 ^ 64) }
-        ensures right { (s : Session) → HasSeen s (state_of self.old) → HasSeen (s ++ act ∷ []) (state_of self.new) }
+        ensures right { (s : Session) → HasSeen s (state_of self.old) → HasSeen (s ++ act.now ∷ []) (state_of self.new) }
         ensures room { (acts : ℕ) → HasRoom (acts + 1) self.old → HasRoom acts self.new }
     {
-        let shows = shows_end(&self.pending, act);
-        self.flags = flags_with(self.flags, act, shows);
-        note_number(&mut self.numbers, act);
-        note_nodes(&mut self.nodes, act);
-        note_pending(&mut self.pending, act);
-        note_opens(&mut self.opens, act);
+        let shows = shows_end(&self.pending, *act);
+        note_flags(&mut self.flags, *act, shows);
+        note_number(&mut self.numbers, *act);
+        note_nodes(&mut self.nodes, *act);
+        note_pending(&mut self.pending, *act);
+        note_opens(&mut self.opens, *act);
     }
 
     /// Sees acts one after another, and writes a verdict on each.
@@ -172,7 +168,7 @@ impl<A: Allocator + Copy> Tables<A> {
     {
         for act in acts {
             verdicts.push_reserved(self.fault(*act));
-            self.note(*act);
+            self.note(act);
         }
     }
 }

@@ -6,5 +6,5 @@ add-requires-clause-few g c = rw c.handle_of.ensures (c.requires.few c.in-Some.f
 
 pub returns-in-Some-clause-counts : goal.returns-in-Some-clause-counts
 returns-in-Some-clause-counts g c = rw c.in-Some.is
-    (one_more c.args.used.now.entries c.add.new.tally.entries c.in-Some.file
+    (one_more c.args.used.now.counts c.add.new.self.counts c.in-Some.file
     (rw c.handle_of.ensures at c.add.ensures.counts))

@@ -5,8 +5,8 @@ use Rattle.fuse_judge.proofs.pending.end.Goals as goal
 
 pub returns-in-Some-clause-listed : goal.returns-in-Some-clause-listed
 returns-in-Some-clause-listed g c = λ xs are. rw c.remove.ensures.entries
-    (ended_some xs c.args.pending.now.rows.entries c.args.unique c.args.pending.now.named.entries
-    c.args.pending.now.used.entries are c.in-Some.row c.take_names.new.named.entries c.take_uses.new.used.entries
+    (ended_some xs c.args.pending.now.rows.entries c.args.unique c.args.pending.now.named.counts
+    c.args.pending.now.used.counts are c.in-Some.row c.take_names.new.named.counts c.take_uses.new.used.counts
     (sym c.remove.ensures.value ∙ c.in-Some.is) c.take_names.ensures.counts c.take_uses.ensures.counts)
 
 pub returns-in-Some-clause-interrupted : goal.returns-in-Some-clause-interrupted
@@ -19,8 +19,8 @@ returns-in-Some-clause-gone g c = rw c.remove.ensures.entries
 
 pub returns-in_default-clause-listed : goal.returns-in_default-clause-listed
 returns-in_default-clause-listed g c = λ xs are. rw c.remove.ensures.entries
-    (ended_none xs c.args.pending.now.rows.entries c.args.unique c.args.pending.now.named.entries
-    c.args.pending.now.used.entries are (sym c.remove.ensures.value ∙ c.in_default.is))
+    (ended_none xs c.args.pending.now.rows.entries c.args.unique c.args.pending.now.named.counts
+    c.args.pending.now.used.counts are (sym c.remove.ensures.value ∙ c.in_default.is))
 
 pub returns-in_default-clause-interrupted : goal.returns-in_default-clause-interrupted
 returns-in_default-clause-interrupted g c = λ s are. rw c.remove.ensures.entries

@@ -7,4 +7,4 @@ pub returns-clause-verdicts : goal.returns-clause-verdicts
 returns-clause-verdicts g c = λ before seen.
     let right : HasSeen before _ = subst (HasSeen before) (sym c.self.view_is) seen in
     verdict_at before c.args.acts.now c.see.new.verdicts.items
-    (c.see.ensures.verdicts before (rw c.reserve-2.ensures.state right))
+    (c.see.ensures.verdicts before (c.reserve-2.ensures.kept before right))

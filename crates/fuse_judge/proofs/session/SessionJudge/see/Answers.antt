@@ -6,10 +6,10 @@ pub returns-clause-judged : goal.returns-clause-judged
 returns-clause-judged g c = rw (← c.self.view_is) (λ before s right.
     let are = c.in_ok-known.ensures s _ c.reply_number.ensures (sym (c.waiting-asked.ensures s right.seen)) in
     record {
-      acts = c.write_transfer.new.acts.items;
       are = are;
       once = λ others later them. acts_once _ s _ others _ later _ them are;
       faults = rw c.deref.ensures.value at c.in_ok-see.ensures.verdicts s right.seen;
+      each = rw c.deref.ensures.value at c.in_ok-see.ensures.len;
       seen = record {
         are = lead-more _ _ before _ s _ _ _ right.are are;
         seen = rw c.deref.ensures.value at c.in_ok-see.ensures.seen s right.seen;
