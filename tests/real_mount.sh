@@ -77,6 +77,16 @@ step "dd if='$work/bytes' of=big bs=65536 status=none; stat -c %s big; md5sum < 
 65536
 $(cat "$work/sum")
 END
+# Its blocks are those of its size: else tar -S takes it for one hole, and writes zeros.
+step 'stat -c "%b %B" big third d; du -k big; tar -S -c big | tar -x -O | md5sum; ls -s d' << END
+128 512
+1 512
+0 512
+64	big
+$(cat "$work/sum")
+total 1
+1 new
+END
 step 'cp big copy; cmp big copy && echo same; rm copy' << 'END'
 same
 END
@@ -125,6 +135,16 @@ END
 step 'dd if=/dev/zero of=big bs=1 seek=65536 count=1 conv=notrunc status=none 2>&1 | sed "s/.*: //"' << 'END'
 File too large
 END
+# Linux sends a LOOKUP of up to 1,024 bytes.
+for length in 256 1024 1025; do
+    step "name=\$(printf %0${length}d 0); cat \$name 2>&1 | sed 's/.*: //'; (: > \$name) 2>&1 | sed 's/.*: //'" << 'END'
+File name too long
+File name too long
+END
+done
+step 'name=$(printf %0255d 0); mkdir $name; ls -d 0* | wc -c; rmdir $name' << 'END'
+256
+END
 step 'dd if=/dev/null of=third status=none 2>&1 | sed "s/.*: //"' << 'END'
 Function not implemented
 END
@@ -135,6 +155,13 @@ END
 step 'ln -s third link 2>&1 | sed "s/.*: //"; df . 2>&1 | sed "s/.*: //"' << 'END'
 Function not implemented
 Function not implemented
+END
+step '[ -x third ] && echo yes; ./third 2>&1 | sed "s/.*: //"; stat -c %h d .; fallocate -l 8192 third 2>&1 | sed "s/.*: //"' << 'END'
+yes
+Permission denied
+1
+1
+Operation not supported
 END
 step 'cat third' << 'END'
 HEllo

@@ -19,12 +19,12 @@ use Rattle.fuse_theorem.proofs.Nodes.ServerSound.{result_sound}
 use Rattle.fuse_device.specs.Transfers.{Transfer, sent, unsent, ended_in}
 use Rattle.fuse_device.specs.declared.device.DeviceEnd.{DeviceEnd}
 use Rattle.fs_serve.specs.LookupCounts.{GivesLookups, RepliesWith, cut_off, lookup_count, refused, reply_accepted}
-use Rattle.fs_serve.specs.Sending.{Delivers, IsSettled, settled as is_settled, unsettled}
+use Rattle.fs_serve.specs.Sending.{Delivers, IsFilledFrame, IsSettled, framed_of, settled as is_settled, unsettled}
 use Rattle.fk_wire.specs.declared.opcode.Opcode.{Opcode}
-use Rattle.fuse_frames.specs.ReplyTies.{IsReplyFrame}
 use Rattle.fuse_frames.specs.RequestTies.{SaysRequest, asked_opcode}
 use Rattle.fuse_spec.specs.Kernel.Messages.{Request}
 use Rattle.fs_serve.proofs.BetweenFrames.{IsBetween}
+use Rattle.fs_serve.proofs.FilledReplies.{filled_frame}
 use Rattle.fs_serve.proofs.ReplyKinds.{GoesFor, frame_for}
 
 -- After what was sent, the counts have risen by what was given, and the server is between frames again.
@@ -130,15 +130,16 @@ module _ (minor : Minor) (counts : ℕ → ℕ) (asked : List ℕ) (request : Re
       omega (arith, counted, less)
 
   module _ (opcode : Opcode) (bytes : List ℕ)
-      (frame : IsReplyFrame opcode bytes (record { unique = copy.unique; wire = copy.wire })) where
+      (frame : IsFilledFrame opcode bytes (framed_of copy)) where
     -- the copy's frame is one of a reply to the request
     replies : RepliesWith asked bytes copy.wire
     replies = record {
       request = request;
       says = asks_it;
-      framed = subst (λ (u : ℕ). IsReplyFrame (asked_opcode request.body) bytes
+      framed = subst (λ (u : ℕ). IsFilledFrame (asked_opcode request.body) bytes
           (record { unique = u; wire = copy.wire })) under
-          (frame_for opcode request.body copy.unique copy.wire bytes goes frame);
+          (filled_frame (asked_opcode request.body) frame.written bytes (framed_of copy)
+          (frame_for opcode request.body copy.unique copy.wire frame.written goes frame.frame) frame.filled);
     }
 
     by_result : (result : WriteResult)

@@ -4,7 +4,9 @@ mod BetweenFrames
 mod Delivered
 mod Forgetting
 mod HeldCounts
+mod LongNames
 mod LookupCounts
 mod NodesLater
 mod PairsOnce
+mod FilledReplies
 mod ReplyKinds

@@ -19,14 +19,14 @@ use Rattle.fuse_theorem.proofs.Nodes.ServerSound.{taking_sound}
 use Rattle.fs_server.specs.Effects.{RefusesFrame, TakingNeedsMemory, as_fault, copy_of, fault_or, past_or_memory, refused_for}
 use Rattle.fuse_spec.specs.Server.Memory.{word_takes_memory}
 use Rattle.fs_server.specs.declared.server.ServerFault.{ServerFault}
-use Rattle.fs_server.specs.declared.server.ServerFault.TheVariants.{Memory}
+use Rattle.fs_server.specs.declared.server.ServerFault.TheVariants.{Memory, Wire}
 use Rattle.fuse_frames.specs.RequestTies.{SaysRequest}
 use Rattle.fuse_device.specs.Transfers.{Transfer, stopped, ended_in}
 use Rattle.fuse_device.specs.declared.device.DeviceEnd.{DeviceEnd}
 use Rattle.fs_serve.specs.LongBatches.{first_pairs, part_of}
 use Rattle.fs_serve.specs.LookupCounts.{Follows, FollowsFrame, FollowsPairs, FrameGivesBack, IsFresh, MayForget, GivesLookups, lookup_count, batch, end, error, forgets, frame, more_pairs, no_pairs, none, nothing, nothing_sent}
 use Rattle.fs_serve.specs.Sending.{Delivers, SendsFault, replied, unreplied}
-use Rattle.fs_serve.specs.Serving.{Serves, ServesFrame, ServesHeld, ServesNext, ServesPairs, TakesRequest, done_at_once, replied_at_once, performed, untaken, uninterrupted, refused, one, out_of_memory}
+use Rattle.fs_serve.specs.Serving.{Serves, ServesFrame, ServesHeld, ServesNext, ServesPairs, TakesRequest, done_at_once, replied_at_once, performed, untaken, uninterrupted, name_too_long, refused, one, out_of_memory, too_long_name}
 use Rattle.fs_serve.specs.Serving as serving
 use Rattle.fs_serve.proofs.BetweenFrames.{IsBetween, fresh_between}
 use Rattle.fs_serve.proofs.Delivered.{Delivered, SendsOne, alone_gone, delivered, some_same}
@@ -322,7 +322,10 @@ module _ (minor : Minor) (old : Server) (is : IsBetween minor old) (bytes : List
   frame_follows log new (untaken can wants not_interrupt log' sends) =
       unchanged (wanted wants) log (error can.request.unique out_of_memory sends.bytes sends.written log sends.sends)
   frame_follows log new (uninterrupted can wants is_interrupt) = unchanged (wanted wants) [] nothing_sent
-  frame_follows log new (refused fault refuses not_memory low log' sends) =
+  frame_follows log new (name_too_long refuses too_long low log' sends) =
+      let not_memory = λ (same : ◌≡◌ {A = ServerFault} Wire Memory). absurd (cc same) in
+      unchanged (faulty Wire refuses not_memory low) log (error _ too_long_name sends.bytes sends.written log sends.sends)
+  frame_follows log new (refused fault refuses not_memory other low log' sends) =
       unchanged (faulty fault refuses not_memory low) log (fault_tells fault log sends)
 
 -- ---- all frames

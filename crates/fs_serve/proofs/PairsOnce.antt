@@ -20,7 +20,7 @@ use Rattle.fuse_device.specs.Transfers.{Transfer}
 use Rattle.fs_serve.specs.LookupCounts.{IsFresh}
 use Rattle.fs_serve.specs.NodePairs.{ComesTo, GivesPairsOnce, HoldsPair, ServesStep, no_step, one_step, step_deliver, step_drop, step_perform, step_take}
 use Rattle.fs_serve.specs.Sending.{Delivers, IsSettled, settled, unsettled}
-use Rattle.fs_serve.specs.Serving.{Serves, ServesFrame, ServesHeld, ServesNext, ServesPairs, TakesRequest, batch, done_at_once, dropped, more_pairs, next, no_pairs, none, nothing, one, performed, refused, replied, replied_at_once, uninterrupted, unreplied, untaken}
+use Rattle.fs_serve.specs.Serving.{Serves, ServesFrame, ServesHeld, ServesNext, ServesPairs, TakesRequest, batch, done_at_once, dropped, more_pairs, next, no_pairs, none, nothing, one, performed, name_too_long, refused, replied, replied_at_once, uninterrupted, unreplied, untaken}
 use Rattle.fs_serve.proofs.BetweenFrames.{fresh_between}
 use Rattle.fs_serve.proofs.Delivered.{some_same}
 use Rattle.fs_serve.proofs.NodesLater.{GenerationsGiven, Later, WasHeld, later_still, same_later, served_later, settled_later, taking_later}
@@ -86,7 +86,8 @@ module _ (start : Server) where
       held_comes taken (one_step old comes taken (step_take frame request taken took)) request.unique log new serves
   frame_comes old comes frame log new (untaken can wants not_interrupt log' sends) = comes
   frame_comes old comes frame log new (uninterrupted can wants is_interrupt) = comes
-  frame_comes old comes frame log new (refused fault refuses not_memory low log' sends) = comes
+  frame_comes old comes frame log new (name_too_long refuses too_long low log' sends) = comes
+  frame_comes old comes frame log new (refused fault refuses not_memory other low log' sends) = comes
 
   pairs_come : (bytes : List ℕ) (old : Server) → ComesTo start old → (pairs : List ℕ) (log : List Transfer)
       (new : Server) → ServesPairs bytes old pairs log new → ComesTo start new

@@ -1,5 +1,5 @@
 -- The reply that performing a request gives goes with the request's opcode.
-use Rattle.std.proofs.Common.{◌≡◌, ◌≢◌, ◌∙◌, ◌-◌, ℕ, negsuc, Bool, true, false, cond, List, [], Option, Some, None, refl, ap, sym}
+use Rattle.std.proofs.Common.{◌≡◌, ◌≢◌, ◌∙◌, ◌-◌, ℕ, negsuc, Bool, true, false, cond, List, [], Option, Some, None, refl, ap, sym, subst}
 use Rattle.std.specs.Prelude.{if◌then◌else◌}
 use Rattle.std.specs.Int.{cast_signed, cast_unsigned, w32}
 use Rattle.std.proofs.lemmas.Bool.{ne_eqb}
@@ -7,7 +7,7 @@ use Rattle.std.proofs.lemmas.Int.{to_z-of_z}
 use Rattle.fuse_spec.specs.declared.Entry.{Entry}
 use Rattle.fuse_spec.specs.declared.Opened.{Opened}
 use Rattle.fuse_spec.specs.declared.Validity.{Validity}
-use Rattle.fuse_spec.specs.Values.Maps.{remove}
+use Rattle.fuse_spec.specs.Values.Maps.{get, remove}
 use Rattle.fuse_spec.specs.Files.Operations.{Operation, Reply, create, errno_of, failed, getattr, link, lookup, mkdir, opening, read, readdir, readdirplus, rename, reply_with, rmdir, unlink, write}
 use Rattle.fuse_spec.specs.Files.Operations as reply
 use Rattle.fuse_spec.specs.Files.FileOperations.{FileOperation, lookup_reply, refusal, reply_by, reply_or, reply_unrefused, tree_after}
@@ -22,8 +22,18 @@ use Rattle.fk_wire.proofs.OneReply.{error_fits}
 use Rattle.fk_wire.specs.Opcodes.{latest_minor}
 use Rattle.fk_wire.specs.Replies.{IsErrorNumber, ReplyContent, attr_reply, bytes_reply, create_reply, empty_reply, entry_reply, init_reply, kind_of_content, open_reply, plus_reply, records_reply, reply_kind, write_reply}
 use Rattle.fk_wire.specs.Entries.{missing}
-use Rattle.fuse_frames.specs.ReplyTies.{IsReplyFrame, reply_content_of}
-use Rattle.fuse_frames.specs.RequestTies.{asked_opcode}
+use Rattle.fuse_frames.specs.ReplyTies.{IsReplyFrame, has_reply, reply_content_of}
+use Rattle.fuse_frames.specs.RequestTies.{asked_opcode, body_in, body_or}
+use Rattle.fuse_spec.specs.World.Worlds.{Sent}
+use Rattle.fuse_spec.specs.declared.Taken.TheVariants.{Held}
+use Rattle.fuse_spec.specs.Server.Server.{Kept, holding}
+use Rattle.fuse_spec.specs.Server.Taking.{interrupting, taking}
+use Rattle.fuse_spec.proofs.Tables.{get_put_here}
+use Rattle.fs_server.specs.Effects.{PerformsHeld, copy_of, first_copy}
+use Rattle.fk_wire.specs.Requests as wire
+use Rattle.fk_wire.specs.Requests.{RequestContent, opcode_of}
+use Rattle.fs_serve.specs.Sending.{RepliesTo}
+use Rattle.fs_serve.specs.Serving.{HoldsOpcode}
 
 -- The request has replies.
 abbrev pub IsRepliedTo : RequestBody → Type 0
@@ -72,6 +82,10 @@ frame_for o body unique (reply.agreed major minor flags) bytes is frame =
 frame_for o body unique reply.done bytes is frame =
     record { written = frame.written; goes = (_, is, refl); says = frame.says }
 
+-- A copy of such a reply is one to a request of that opcode.
+pub replies_to : (body : RequestBody) (copy : Sent) → GoesFor body copy.wire → RepliesTo (asked_opcode body) copy
+replies_to body copy goes o bytes frame = frame_for o body copy.unique copy.wire bytes goes frame
+
 -- ---- what is performed
 
 pub asked_replied : (operation : Operation ℕ Opened) → IsRepliedTo (asks operation)
@@ -97,6 +111,14 @@ release_replied o = (empty_reply, refl)
 
 pub interrupt_replied : (original : ℕ) → IsRepliedTo (interrupt original)
 interrupt_replied original = (empty_reply, refl)
+
+replied_of : (body : RequestBody) → has_reply (asked_opcode body) ≡ true → IsRepliedTo body
+replied_of (init flags) has = init_replied flags
+replied_of (asks operation) has = asked_replied operation
+replied_of (release o) has = release_replied o
+replied_of (interrupt original) has = interrupt_replied original
+replied_of (forget f) has = absurd (cc has)
+replied_of (batch_forget fs) has = absurd (cc has)
 
 module _ (entry : ℕ → Entry) (fh : ℕ) (valid : Validity) (tree : Tree) (t : NodeTable) where
   -- the reply of the tree, as it is sent
@@ -189,3 +211,99 @@ module _ (choice : ℕ → ℕ) where
           (cond (is_still_held less.nodes taken.generations) (performing choice less taken.body) (refusing less 5))).wire
       by_mark true = replied
       by_mark false = by_held (is_still_held less.nodes taken.generations)
+
+-- ---- a request that is taken
+
+-- The opcode of what a frame asks is that of what it spells.
+pub opcode_said : (n : ℕ) (content : RequestContent) (body : RequestBody) → body_in n content ≡ Some body
+    → opcode_of content ≡ asked_opcode body
+opcode_said n (wire.lookup name) body e = ap (λ (b : Option RequestBody). asked_opcode (body_or b)) e
+opcode_said n (wire.forget nlookup) body e = ap (λ (b : Option RequestBody). asked_opcode (body_or b)) e
+opcode_said n wire.getattr body e = ap (λ (b : Option RequestBody). asked_opcode (body_or b)) e
+opcode_said n (wire.mkdir name) body e = ap (λ (b : Option RequestBody). asked_opcode (body_or b)) e
+opcode_said n (wire.unlink name) body e = ap (λ (b : Option RequestBody). asked_opcode (body_or b)) e
+opcode_said n (wire.rmdir name) body e = ap (λ (b : Option RequestBody). asked_opcode (body_or b)) e
+opcode_said n (wire.rename newdir old new) body e = ap (λ (b : Option RequestBody). asked_opcode (body_or b)) e
+opcode_said n (wire.link oldnodeid name) body e = ap (λ (b : Option RequestBody). asked_opcode (body_or b)) e
+opcode_said n wire.opening body e = ap (λ (b : Option RequestBody). asked_opcode (body_or b)) e
+opcode_said n (wire.read fh offset size) body e = ap (λ (b : Option RequestBody). asked_opcode (body_or b)) e
+opcode_said n (wire.write fh offset bytes) body e = ap (λ (b : Option RequestBody). asked_opcode (body_or b)) e
+opcode_said n (wire.release fh) body e = ap (λ (b : Option RequestBody). asked_opcode (body_or b)) e
+opcode_said n (wire.init major minor flags) body e = ap (λ (b : Option RequestBody). asked_opcode (body_or b)) e
+opcode_said n (wire.readdir offset size) body e = ap (λ (b : Option RequestBody). asked_opcode (body_or b)) e
+opcode_said n (wire.readdirplus offset size) body e = ap (λ (b : Option RequestBody). asked_opcode (body_or b)) e
+opcode_said n (wire.create name) body e = ap (λ (b : Option RequestBody). asked_opcode (body_or b)) e
+opcode_said n (wire.interrupt unique) body e = ap (λ (b : Option RequestBody). asked_opcode (body_or b)) e
+opcode_said n (wire.batch_forget forgets) body e = ap (λ (b : Option RequestBody). asked_opcode (body_or b)) e
+
+one_some : {X : Type 0} {x y : X} → Some x ≡ Some y → x ≡ y
+one_some e = cc
+
+module _ (s : Server) (unique : ℕ) where
+  holds_it : (body : RequestBody) → has_reply (asked_opcode body) ≡ true
+      → HoldsOpcode (holding s unique body) unique (asked_opcode body)
+  holds_it body replied held there =
+      let is = one_some (sym there ∙ get_put_here s.held unique _) in
+      (ap (λ (h : HeldRequest). asked_opcode h.body) is, replied)
+
+  -- What is held when it is taken is of its opcode.
+  pub taken_holds : (body : RequestBody) → (taking s unique body).word ≡ Held
+      → HoldsOpcode (taking s unique body).server unique (asked_opcode body)
+  taken_holds (init flags) word = holds_it (init flags) refl
+  taken_holds (asks (lookup d name)) word = holds_it (asks (lookup d name)) refl
+  taken_holds (asks (getattr x)) word = holds_it (asks (getattr x)) refl
+  taken_holds (asks (mkdir d name)) word = holds_it (asks (mkdir d name)) refl
+  taken_holds (asks (create d name)) word = holds_it (asks (create d name)) refl
+  taken_holds (asks (unlink d name)) word = holds_it (asks (unlink d name)) refl
+  taken_holds (asks (rmdir d name)) word = holds_it (asks (rmdir d name)) refl
+  taken_holds (asks (rename d old e new)) word = holds_it (asks (rename d old e new)) refl
+  taken_holds (asks (link x d name)) word = holds_it (asks (link x d name)) refl
+  taken_holds (asks (opening x)) word = holds_it (asks (opening x)) refl
+  taken_holds (asks (readdir d after size)) word = holds_it (asks (readdir d after size)) refl
+  taken_holds (asks (readdirplus d after size)) word = holds_it (asks (readdirplus d after size)) refl
+  taken_holds (asks (read o offset size)) word = holds_it (asks (read o offset size)) refl
+  taken_holds (asks (write o offset bytes)) word = holds_it (asks (write o offset bytes)) refl
+  taken_holds (release o) word = holds_it (release o) refl
+  taken_holds (forget f) word = absurd (cc word)
+  taken_holds (batch_forget fs) word = absurd (cc word)
+  taken_holds (interrupt original) word = by (get s.held original) (get s.kept original) word
+    where
+      by : (h : Option HeldRequest) (k : Option Kept) → (interrupting s unique original h k).word ≡ Held
+          → HoldsOpcode (interrupting s unique original h k).server unique (asked_opcode (interrupt original))
+      by (Some taken) k word = absurd (cc word)
+      by None (Some kept) word = absurd (cc word)
+      by None None word = absurd (cc word)
+
+  -- What is answered at once is an INTERRUPT.
+  pub answered_goes : (number : ℕ) (copy : Sent) (body : RequestBody)
+      → Some copy ≡ copy_of number unique (taking s unique body).reply → GoesFor body copy.wire
+  answered_goes number copy (interrupt original) is = by (get s.held original) (get s.kept original) is
+    where
+      by : (h : Option HeldRequest) (k : Option Kept)
+          → Some copy ≡ copy_of number unique (interrupting s unique original h k).reply
+          → GoesFor (interrupt original) copy.wire
+      by (Some taken) k is = absurd (cc is)
+      by None (Some kept) is = absurd (cc is)
+      by None None is = subst (λ (c : Sent). GoesFor (interrupt original) c.wire) (sym (one_some is))
+          (interrupt_replied original)
+  answered_goes number copy (init flags) is = absurd (cc is)
+  answered_goes number copy (asks operation) is = absurd (cc is)
+  answered_goes number copy (release o) is = absurd (cc is)
+  answered_goes number copy (forget f) is = absurd (cc is)
+  answered_goes number copy (batch_forget fs) is = absurd (cc is)
+
+-- The copy of a performed request's reply goes with it.
+pub performed_replies : (old new : Server) (unique errno : ℕ) (opcode : Opcode) (copy : Sent)
+    → HoldsOpcode old unique opcode → PerformsHeld old unique errno (Some copy) new → RepliesTo opcode copy
+performed_replies old new unique errno opcode copy holds performs =
+    let held = performs.held in
+    let of_opcode = holds held performs.there in
+    let replied = replied_of held.body (ap has_reply of_opcode.0 ∙ of_opcode.1) in
+    let goes = served_goes performs.choice old unique held replied in
+    subst (λ (o : Opcode). RepliesTo o copy) of_opcode.0
+    (replies_to held.body copy (copy_goes old.aborted _ performs.copy_is goes))
+  where
+    copy_goes : (b : Bool) (said : WireReply) → Some copy ≡ first_copy b old.next_copy unique said
+        → GoesFor performs.held.body said → GoesFor performs.held.body copy.wire
+    copy_goes true said is goes = absurd (cc is)
+    copy_goes false said is goes = subst (λ (c : Sent). GoesFor performs.held.body c.wire) (sym (one_some is)) goes

@@ -15,7 +15,7 @@ use Rattle.fs_server.specs.declared.server.ServerFault.{ServerFault}
 use Rattle.fs_serve.specs.Sending.{Delivers, GoesOver, SendsBytes, SendsFault, at_end, settled, unsettled, with_result}
 use Rattle.fs_serve.specs.Sending.{replied as fault_replied, unreplied as fault_unreplied}
 use Rattle.fs_serve.specs.LongBatches.{part_of}
-use Rattle.fs_serve.specs.Serving.{IsToTheEnd, TakesRequest, ServesFrame, ServesHeld, ServesNext, ServesPairs, ServesBatch, Serves, batch, done_at_once, dropped, more_pairs, next, no_pairs, none, one, performed, refused, replied, replied_at_once, uninterrupted, unreplied, untaken}
+use Rattle.fs_serve.specs.Serving.{IsToTheEnd, TakesRequest, ServesFrame, ServesHeld, ServesNext, ServesPairs, ServesBatch, Serves, batch, done_at_once, dropped, more_pairs, name_too_long, next, no_pairs, none, one, performed, refused, replied, replied_at_once, uninterrupted, unreplied, untaken}
 
 reply_none : (number unique : ℕ) (reply : Option WireReply) → None ≡ copy_of number unique reply → reply ≡ None
 reply_none number unique None same = refl
@@ -81,7 +81,9 @@ frame_no_frame old frame log new (performed request taken took held log' new' se
 frame_no_frame old frame log new (untaken can wants not_interrupt log' sends) =
     sends_no_frame sends.bytes log sends.sends
 frame_no_frame old frame log new (uninterrupted can wants is_interrupt) = refl
-frame_no_frame old frame log new (refused fault refuses not_memory low log' sends) =
+frame_no_frame old frame log new (name_too_long refuses too_long low log' sends) =
+    sends_no_frame sends.bytes log sends.sends
+frame_no_frame old frame log new (refused fault refuses not_memory other low log' sends) =
     fault_no_frame old.minor frame fault log sends
 
 pairs_no_frame : (bytes : List ℕ) (old : Server) (pairs : List ℕ) (log : List Transfer) (new : Server)

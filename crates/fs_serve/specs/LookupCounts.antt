@@ -12,12 +12,11 @@ use Rattle.fuse_spec.specs.Claim.Counts.{times_named}
 use Rattle.fuse_spec.specs.World.Worlds.{first_server}
 use Rattle.fk_wire.specs.Replies.{WrittenReply, empty_reply}
 use Rattle.fuse_frames.specs.RequestTies.{SaysRequest, asked_opcode}
-use Rattle.fuse_frames.specs.ReplyTies.{IsReplyFrame}
 use Rattle.fuse_device.specs.Transfers.{Transfer, received, sent, unsent, stopped, ended_in}
 use Rattle.fuse_device.specs.declared.device.DeviceEnd.{DeviceEnd}
 use Rattle.fs_serve.specs.LongBatches.{IsLongBatch, first_pairs, part_of}
 use Rattle.fs_serve.specs.LongInits.{IsReadAs}
-use Rattle.fs_serve.specs.Sending.{SendsBytes}
+use Rattle.fs_serve.specs.Sending.{IsFilledFrame, SendsBytes}
 use Rattle.fs_serve.specs.NodePairs.{GivesPairsOnce}
 use Rattle.fs_serve.specs.Serving.{IsToTheEnd, Serves}
 
@@ -45,11 +44,11 @@ pub data FrameGivesBack (minor : Minor) (counts : ℕ → ℕ) (frame : List ℕ
       → MayForget counts (forgets_of request.body) → forgets_of request.body ≡ [])
       → FrameGivesBack minor counts frame (λ id. 0)
 
--- The bytes are the frame of this reply to the request that a frame spells.
+-- The bytes are the frame of this reply to the request that a frame spells, with the blocks of each file.
 pub record RepliesWith (frame bytes : List ℕ) (wire : WireReply) : Type 0 where
   pub request : Request
   pub says : SaysRequest frame request
-  pub framed : IsReplyFrame (asked_opcode request.body) bytes (record { unique = request.unique; wire = wire })
+  pub framed : IsFilledFrame (asked_opcode request.body) bytes (record { unique = request.unique; wire = wire })
 
 -- How many lookups of each node what is sent after a frame gives: as many as entries of an accepted reply to it name the
 -- node. A refused reply gives none, and an error none. One at which the device came to its end is counted as accepted,

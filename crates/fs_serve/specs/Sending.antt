@@ -7,12 +7,13 @@ use Rattle.fuse_spec.specs.Server.Server.{Server}
 use Rattle.fuse_spec.specs.World.Worlds.{Sent}
 use Rattle.fk_wire.specs.declared.opcode.Opcode.{Opcode}
 use Rattle.fk_wire.specs.Replies.{WrittenReply, empty_reply}
-use Rattle.fuse_frames.specs.ReplyTies.{IsReplyFrame}
+use Rattle.fuse_frames.specs.ReplyTies.{Framed, IsReplyFrame, SaysReply, reply_content_of}
 use Rattle.fs_server.specs.Effects.{Settles, HasNoCopy}
 use Rattle.fs_server.specs.Faults.{IsFaultReply, IsAnswerable}
 use Rattle.fs_server.specs.declared.server.ServerFault.{ServerFault}
 use Rattle.fuse_device.specs.Transfers.{Transfer, sent, unsent, ended_in}
 use Rattle.fuse_device.specs.declared.device.DeviceEnd.{DeviceEnd}
+use Rattle.fs_serve.specs.Blocks.{with_blocks}
 
 -- the end at which a call came to its end, if it did
 abbrev pub end_of : {T : Type 0} → Result T DeviceEnd → Option DeviceEnd
@@ -46,13 +47,27 @@ abbrev pub IsSettled : Server → (number : ℕ) → WriteResult → Server → 
 IsSettled old number result new = Settles old number result new
     ⊎ ((refusal : Refusal) × HasNoCopy old number refusal × (new ≡ old))
 
--- A copy of a reply is sent, in the one frame in which it is written, and the result settles the copy. One at which the
--- device came to its end is left unsettled.
+-- The bytes are the one frame in which this reply to a request of this opcode is written, with the blocks of each file,
+-- and they say it.
+pub record IsFilledFrame (o : Opcode) (bytes : List ℕ) (framed : Framed) : Type 0 where
+  pub written : List ℕ
+  pub frame : IsReplyFrame o written framed
+  pub filled : bytes ≡ with_blocks (reply_content_of framed.wire) written
+  pub says : SaysReply o bytes framed.unique framed.wire
+
+abbrev pub framed_of : Sent → Framed
+framed_of copy = record { unique = copy.unique; wire = copy.wire }
+
+-- A copy is of a reply to a request of this opcode: each frame of it is one of such a reply.
+abbrev pub RepliesTo : Opcode → Sent → Type 0
+RepliesTo opcode copy = (o : Opcode) (bytes : List ℕ) → IsReplyFrame o bytes (framed_of copy)
+    → IsReplyFrame opcode bytes (framed_of copy)
+
+-- A copy of a reply is sent, in the one frame in which it is written, with the blocks of each file, and the result
+-- settles the copy. One at which the device came to its end is left unsettled.
 pub data Delivers (copy : Sent) (old : Server) : List Transfer → Server → Type 0 where
-  settled : (opcode : Opcode) (bytes : List ℕ)
-      → IsReplyFrame opcode bytes (record { unique = copy.unique; wire = copy.wire }) → (result : WriteResult)
+  settled : (opcode : Opcode) (bytes : List ℕ) → IsFilledFrame opcode bytes (framed_of copy) → (result : WriteResult)
       → (new : Server) → IsSettled old copy.number result new
       → Delivers copy old (sent bytes result ∷ []) new
-  unsettled : (opcode : Opcode) (bytes : List ℕ)
-      → IsReplyFrame opcode bytes (record { unique = copy.unique; wire = copy.wire }) → (end : DeviceEnd)
+  unsettled : (opcode : Opcode) (bytes : List ℕ) → IsFilledFrame opcode bytes (framed_of copy) → (end : DeviceEnd)
       → Delivers copy old (unsent bytes end ∷ []) old

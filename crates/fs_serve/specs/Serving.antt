@@ -1,9 +1,10 @@
 -- How a server serves what comes over a device.
 use Rattle.std.specs.Prelude.{◌≡◌, ◌≢◌, ◌⊎◌, ℕ, ◌-◌, ◌^◌, ℤ, negsuc, Bool, true, false, List, [], ◌∷◌, ◌++◌, drop, length, Some, None}
 use Rattle.fuse_spec.specs.Kernel.Messages.{Request}
+use Rattle.fk_wire.specs.Fields.{number_at}
 use Rattle.fk_wire.specs.Requests.{RequestContent, interrupt}
 use Rattle.fuse_spec.specs.Values.Maps.{get, remove}
-use Rattle.fuse_spec.specs.Server.Server.{Server}
+use Rattle.fuse_spec.specs.Server.Server.{HeldRequest, Server}
 use Rattle.fuse_spec.specs.Server.Refusals.{is_server_past_end}
 use Rattle.fuse_spec.specs.Server.Memory.{performing_takes_memory}
 use Rattle.fuse_spec.specs.Server.Taking.{taking}
@@ -11,16 +12,19 @@ use Rattle.fuse_spec.specs.World.Worlds.{Sent}
 use Rattle.fuse_spec.specs.declared.Taken.TheVariants.{Held}
 use Rattle.fuse_spec.specs.declared.Refusal.{Refusal}
 use Rattle.fuse_spec.specs.declared.Refusal.TheVariants.{NoMemory}
-use Rattle.fuse_frames.specs.RequestTies.{SaysRequest}
+use Rattle.fk_wire.specs.declared.opcode.Opcode.{Opcode}
+use Rattle.fuse_frames.specs.ReplyTies.{has_reply}
+use Rattle.fuse_frames.specs.RequestTies.{SaysRequest, asked_opcode}
 use Rattle.fs_server.specs.Effects.{CanTake, PerformsHeld, RefusesFrame, RefusesHeld, TakingNeedsMemory, copy_of, request_fault}
 use Rattle.fs_server.specs.Steps.{CanPerform}
 use Rattle.fs_server.specs.declared.server.ServerFault.{ServerFault}
-use Rattle.fs_server.specs.declared.server.ServerFault.TheVariants.{Memory}
+use Rattle.fs_server.specs.declared.server.ServerFault.TheVariants.{Memory, Wire}
 use Rattle.fuse_device.specs.Transfers.{Transfer, received, stopped, ended_in}
 use Rattle.fuse_device.specs.Listed.{frames_received}
 use Rattle.fuse_device.specs.declared.device.DeviceEnd.{DeviceEnd}
 use Rattle.fs_serve.specs.LongBatches.{IsLongBatch, first_pairs, part_of}
 use Rattle.fs_serve.specs.LongInits.{IsReadAs}
+use Rattle.fs_serve.specs.LongNames.{IsNameTooLong}
 use Rattle.fs_serve.specs.Sending.{Delivers, SendsError, SendsFault}
 
 -- ENOMEM and EIO, as error replies have them
@@ -29,6 +33,10 @@ out_of_memory = negsuc 11
 
 abbrev pub input_output : ℤ
 input_output = negsuc 4
+
+-- ENAMETOOLONG, as error replies have it
+abbrev pub too_long_name : ℤ
+too_long_name = negsuc 35
 
 -- the error of a request that cannot be performed
 abbrev pub error_for : Refusal → ℤ
@@ -45,6 +53,11 @@ pub record TakesRequest (old : Server) (frame : List ℕ) (request : Request) (n
 abbrev pub is_interrupt : RequestContent → Bool
 is_interrupt (interrupt unique) = true
 is_interrupt content = false
+
+-- What is held under this unique, if anything, is a request of this opcode, which has replies.
+abbrev pub HoldsOpcode : Server → (unique : ℕ) → Opcode → Type 0
+HoldsOpcode s unique opcode = (held : HeldRequest) → get s.held unique ≡ Some held
+    → (asked_opcode held.body ≡ opcode) × (has_reply opcode ≡ true)
 
 -- Memory runs out for a held request that can be performed, and takes memory.
 abbrev pub RunsOutOfMemory : Server → (unique : ℕ) → Refusal → Type 0
@@ -81,8 +94,12 @@ pub data ServesFrame (old : Server) (frame : List ℕ) : List Transfer → Serve
       → (log : List Transfer) → SendsError can.request.unique out_of_memory log → ServesFrame old frame log old
   uninterrupted : (can : CanTake old frame) → TakingNeedsMemory old frame → is_interrupt can.says.message.content ≡ true
       → ServesFrame old frame [] old
-  -- A faulty frame, or one for which no number is left, changes nothing.
-  refused : (fault : ServerFault) → RefusesFrame old frame fault → fault ≢ Memory → is_server_past_end old ≡ false
+  -- A frame of which nothing is wrong but that a name is too long changes nothing. The reply is ENAMETOOLONG.
+  name_too_long : RefusesFrame old frame Wire → IsNameTooLong frame → is_server_past_end old ≡ false
+      → (log : List Transfer) → SendsError (number_at 8 8 frame) too_long_name log → ServesFrame old frame log old
+  -- Any other faulty frame, or one for which no number is left, changes nothing.
+  refused : (fault : ServerFault) → RefusesFrame old frame fault → fault ≢ Memory
+      → (fault ≡ Wire → IsNameTooLong frame → ⊥) → is_server_past_end old ≡ false
       → (log : List Transfer) → SendsFault old.minor frame fault log → ServesFrame old frame log old
 
 -- The pairs of a long BATCH_FORGET are served up to some place, the first 64 of those that are left in each frame.

@@ -2,8 +2,10 @@
 #![tactic(auto)]
 
 mod batch;
+mod blocks;
 mod errors;
 mod init;
+mod names;
 mod serving;
 
 pub use batch::is_long_batch;

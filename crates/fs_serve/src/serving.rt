@@ -2,18 +2,22 @@
 
 ghost use Rattle.std.specs.Prelude.{◌≡◌, OnErr, IfOk};
 ghost use Rattle.fs_server.specs.Effects.{CanTake, RefusesFrame, TakingNeedsMemory};
-ghost use Rattle.fs_server.specs.declared.server.ServerFault.TheVariants.{Memory as MemoryFault};
+ghost use Rattle.fs_server.specs.declared.server.ServerFault.TheVariants.{Memory as MemoryFault, Wire as WireFault};
 ghost use Rattle.fs_serve.specs.LookupCounts.{IsServed};
-ghost use Rattle.fs_serve.specs.Sending.{Delivers, GoesOver, SendsError, end_of};
+ghost use Rattle.fs_serve.specs.Sending.{Delivers, GoesOver, RepliesTo, SendsError, end_of};
 ghost use Rattle.fs_serve.specs.LongBatches.{IsLongBatch};
-ghost use Rattle.fs_serve.specs.Serving.{IsToTheEnd, Serves, ServesBatch, ServesFrame, ServesHeld, ServesNext, error_for, is_interrupt};
+ghost use Rattle.fs_serve.specs.Serving.{HoldsOpcode, IsToTheEnd, Serves, ServesBatch, ServesFrame, ServesHeld, ServesNext, error_for, is_interrupt};
 ghost use Rattle.fk_wire.specs.Requests.{request_content};
+ghost use Rattle.fuse_frames.specs.RequestTies.{SaysRequest, asked_opcode};
+ghost use Rattle.fuse_spec.specs.Kernel.Messages.{Request};
 
 use crate::batch::{PAIRS, is_long_batch, pairs_in, put_part};
+use crate::blocks::filled;
 use crate::errors::{send_error, send_fault};
 use crate::init::{init_in, is_long_init};
+use crate::names::unique_of_long_name;
 use arrayvec::ArrayVec;
-use fk_wire::{RequestBody, read_request};
+use fk_wire::{Opcode, RequestBody, read_request};
 use fs_nodes::NodeStore;
 use fs_server::{ServerFault, ServerOf};
 use fuse_device::{Device, DeviceEnd};
@@ -28,6 +32,9 @@ const ROOM: usize = 131_072;
 const ENOMEM: i32 = -12;
 
 const EIO: i32 = -5;
+
+/// ENAMETOOLONG, as error replies have it.
+const ENAMETOOLONG: i32 = -36;
 
 /// Serves what comes over a device, until it ends, and gives its end; `None` after 2^64 - 1 frames. Each frame is
 /// taken, what is held is performed at once, its reply is sent, and the result of that settles the copy.
@@ -126,13 +133,25 @@ fn serve_frame<S: NodeStore, D: Device>(
         Ok(taken) => taken,
         Err(fault) => return refuse(server, device, frame, fault),
     };
+    let opcode = opcode_of(frame);
     if let Some(sent) = &taken.sent {
-        return deliver(server, device, sent);
+        return deliver(server, device, opcode, sent);
     }
     match taken.word {
-        Taken::Held => serve_held(server, device, taken.unique),
+        Taken::Held => serve_held(server, device, opcode, taken.unique),
         _ => Ok(()),
     }
+}
+
+/// The opcode of a request's frame.
+fn opcode_of(frame: &[u8]) -> Opcode
+    requires { (request : Request) × SaysRequest frame.now request }
+    ensures { (request : Request) → SaysRequest frame.now request → asked_opcode request.body ≡ result }
+{
+    let Ok(request) = read_request(frame) else {
+        unreachable!();
+    };
+    request.body.opcode()
 }
 
 /// Replies to a frame that is not taken, which changes nothing.
@@ -150,10 +169,28 @@ fn refuse<S: NodeStore, D: Device>(
 {
     match fault {
         ServerFault::Memory => send_untaken(server, device, frame),
+        ServerFault::Wire => send_wire_fault(server, device, frame),
         _ => {
             server.lemma_in_range();
             send_fault(server, device, frame, fault)
         }
+    }
+}
+
+/// Replies to a frame that is no request of the minor: ENAMETOOLONG where nothing is wrong but that a name is too long.
+fn send_wire_fault<S: NodeStore, D: Device>(
+    server: &ServerOf<S>,
+    device: &mut D,
+    frame: &[u8],
+) -> Result<(), DeviceEnd>
+    requires { RefusesFrame server.now frame.now WireFault }
+    ensures { GoesOver D.logs device.old device.new (end_of result)
+        (λ log. ServesFrame server.now frame.now log server.now) }
+{
+    server.lemma_in_range();
+    match unique_of_long_name(frame) {
+        Some(unique) => send_error(device, unique, ENAMETOOLONG),
+        None => send_fault(server, device, frame, ServerFault::Wire),
     }
 }
 
@@ -181,14 +218,16 @@ fn send_untaken<S: NodeStore, D: Device>(
 fn serve_held<S: NodeStore, D: Device>(
     server: &mut ServerOf<S>,
     device: &mut D,
+    opcode: Opcode,
     unique: u64,
 ) -> Result<(), DeviceEnd>
+    requires { HoldsOpcode server.old unique opcode }
     ensures { GoesOver D.logs device.old device.new (end_of result)
         (λ log. ServesHeld server.old unique log server.new) }
 {
     match server.perform(unique) {
         Ok(done) => match &done.sent {
-            Some(sent) => deliver(server, device, sent),
+            Some(sent) => deliver(server, device, opcode, sent),
             None => Ok(()),
         },
         Err(refusal) => {
@@ -215,16 +254,19 @@ fn send_refusal<D: Device>(device: &mut D, unique: u64, refusal: Refusal) -> Res
     }
 }
 
-/// Sends a copy of a reply, and settles it by the result.
+/// Sends a copy of a reply to a request of an opcode, with the blocks of each file, and settles it by the result.
 fn deliver<S: NodeStore, D: Device>(
     server: &mut ServerOf<S>,
     device: &mut D,
+    opcode: Opcode,
     sent: &Sent<S::Heap>,
 ) -> Result<(), DeviceEnd>
+    requires { RepliesTo opcode sent.now }
     ensures { GoesOver D.logs device.old device.new (end_of result)
         (λ log. Delivers sent.now server.old log server.new) }
 {
-    match device.send(sent.bytes()) {
+    let reply = filled(opcode, sent.bytes());
+    match device.send(reply.as_slice()) {
         Ok(result) => {
             let _settled = server.settle(sent.number(), result);
             Ok(())

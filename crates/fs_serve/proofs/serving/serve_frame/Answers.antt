@@ -1,9 +1,34 @@
-use Rattle.std.proofs.Common.{[], refl, sym, subst}
+use Rattle.std.proofs.Common.{ℕ, [], ◌∙◌, refl, sym, subst}
+use Rattle.fk_wire.specs.declared.opcode.Opcode.{Opcode}
+use Rattle.fuse_frames.specs.RequestTies.{asked_opcode}
 use Rattle.fuse_spec.specs.Server.Server.{Server}
 use Rattle.fs_server.specs.Effects.{CanTake, RefusesFrame, TakingNeedsMemory}
-use Rattle.fs_serve.specs.Serving.{ServesFrame}
+use Rattle.fs_serve.specs.Sending.{RepliesTo}
+use Rattle.fs_serve.specs.Serving.{HoldsOpcode, ServesFrame}
 use Rattle.fs_serve.proofs.Servings.{serves_at_once, serves_silently, serves_performed}
+use Rattle.fs_serve.proofs.ReplyKinds.{answered_goes, replies_to, taken_holds}
 use Rattle.fs_serve.proofs.serving.serve_frame.Goals as goal
+
+pub opcode_of-opcode-requires : goal.opcode_of-opcode-requires
+opcode_of-opcode-requires g c = let t = c.in-Ok.ensures.effect in (t.request, t.says)
+
+pub deliver-requires : goal.deliver-requires
+deliver-requires g c =
+    let t = c.in-Ok.ensures.effect in
+    let copy = c.in-Some.sent in
+    let goes = answered_goes c.args.server.now t.request.unique c.args.server.now.next_copy copy t.request.body
+    (sym c.in-Some.is ∙ t.copy) in
+    subst (λ (o : Opcode). RepliesTo o copy) (c.opcode_of-opcode.ensures t.request t.says)
+    (replies_to t.request.body copy goes)
+
+pub serve_held-requires : goal.serve_held-requires
+serve_held-requires g c =
+    let t = c.in-Ok.ensures.effect in
+    let holds = taken_holds c.args.server.now t.request.unique t.request.body (t.as_word ∙ c.in-Held.is) in
+    let as_new = subst (λ (s : Server). HoldsOpcode s t.request.unique (asked_opcode t.request.body)) (sym t.after) holds in
+    let under = subst (λ (u : ℕ). HoldsOpcode c.take.new.self u (asked_opcode t.request.body)) t.under as_new in
+    subst (λ (o : Opcode). HoldsOpcode c.take.new.self c.in-Ok.taken.unique o)
+    (c.opcode_of-opcode.ensures t.request t.says) under
 
 pub returns-in-Err : goal.returns-in-Err
 returns-in-Err g c =

@@ -4,7 +4,14 @@ use Rattle.fuse_spec.specs.Server.Server.{Server}
 use Rattle.fuse_spec.specs.World.Worlds.{Sent}
 use Rattle.fs_server.specs.Effects.{PerformsHeld}
 use Rattle.fs_serve.specs.Serving.{ServesHeld, replied, unreplied, dropped}
+use Rattle.fs_serve.proofs.ReplyKinds.{performed_replies}
 use Rattle.fs_serve.proofs.serving.serve_held.Goals as goal
+
+pub deliver-requires : goal.deliver-requires
+deliver-requires g c =
+    let performs = subst (λ (s : Option Sent). PerformsHeld c.args.server.now c.args.unique c.in-Ok.done.errno s c.perform.new.self) c.in-Some.is c.in-Ok.ensures.performed in
+    performed_replies c.args.server.now c.perform.new.self c.args.unique c.in-Ok.done.errno c.args.opcode c.in-Some.sent
+    c.requires performs
 
 pub returns-in-Some : goal.returns-in-Some
 returns-in-Some g c =
