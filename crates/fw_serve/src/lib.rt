@@ -5,6 +5,8 @@ mod nodes_line;
 mod serving;
 mod trace_words;
 mod traced;
+mod waiting;
 
 pub use serving::{Mount, serve_device};
 pub use traced::TracedDevice;
+pub use waiting::{WaitingReader, WaitingWriter};
