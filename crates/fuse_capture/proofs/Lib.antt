@@ -1,0 +1,7 @@
+mod Decimals
+mod Digits
+mod FrameLaws
+mod HexLaws
+mod LineLaws
+mod ResultLaws
+mod Splitting

@@ -1,0 +1,42 @@
+//! What a line says, and what is wrong with one that says nothing.
+
+use fuse_sessions::Taken;
+use thiserror::Error;
+
+/// A frame, as a line has it.
+#[derive(Clone, Copy, Debug, PartialEq, Eq)]
+pub struct CapturedFrame<'a> {
+    /// When it went over the device, in nanoseconds, if the line says it.
+    pub time: Option<u64>,
+    /// Its bytes as far as they were kept, as hex digits of either case.
+    pub hex: &'a [u8],
+    /// How many bytes more it had. Each is read as zero.
+    pub more: u64,
+}
+
+/// What a line says.
+#[derive(Clone, Copy, Debug, PartialEq, Eq)]
+pub enum CaptureLine<'a> {
+    /// A request was read.
+    Request(CapturedFrame<'a>),
+    /// A reply or a notification was written, and this is what the device made of it.
+    Written(CapturedFrame<'a>, Taken),
+    /// More than one thread reads from here on.
+    SeveralReaders,
+    /// The device came to its end.
+    Ended,
+}
+
+/// What is wrong with a line of a capture.
+#[derive(Clone, Copy, Debug, Drop, PartialEq, Eq, Error)]
+pub enum CaptureFault {
+    /// The line begins with none of `>`, `<` and `=`.
+    #[error("unknown direction")]
+    UnknownDirection,
+    /// The words after that are not those of any line.
+    #[error("wrong words")]
+    WrongWords,
+    /// The frame is not one or more pairs of hex digits.
+    #[error("bad hex")]
+    BadHex,
+}
