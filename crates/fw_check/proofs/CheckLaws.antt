@@ -1,0 +1,238 @@
+-- A check, line by line.
+use Rattle.std.proofs.Common.{◌≡◌, ◌+◌, ◌⊎◌, ◌++◌, ℕ, Bool, true, false, List, [], ◌∷◌, Option, Some, None, Result, Ok, Err, length, is_err, append_assoc, append-nil, length-append, arith, refl, sym, ap, subst, ◌∙◌, inl, inr}
+use Rattle.std.specs.Prelude.{IfSome, OnOk}
+use Rattle.std.specs.Io.KnownBytes.{Appends}
+use Rattle.fuse_sessions.specs.declared.transfer.Transfer.{Transfer}
+use Rattle.fuse_judge.specs.Transfers.{SessionState}
+use Rattle.fuse_capture.specs.declared.line.CaptureLine.{CaptureLine}
+use Rattle.fuse_capture.specs.Lines.{IsPassedOver, LineSays}
+use Rattle.fuse_capture.specs.Readings.{IsTransferOf}
+use Rattle.fw_check.specs.declared.counts.Counts.{Counts}
+use Rattle.fw_check.specs.declared.stop.Stop.{Stop}
+use Rattle.fw_check.specs.declared.stop.Stop.TheVariants.{BadLine, CannotRead, NoMemory, OutputRefused}
+use Rattle.fw_check.specs.Checks.{Judged, Checks, passed_over, says, no_line, nothing_judged, end_text}
+use Rattle.fw_check.specs.Counting.{counts_text}
+use Rattle.fw_check.specs.Endings.{lines_of}
+use Rattle.fw_check.specs.FaultWords.{fault_lines}
+use Rattle.fw_check.specs.Outputs.{AppendsSome}
+use Rattle.fw_check.specs.Running.{AllChecked, AreCounts, CheckEnds, ChecksMore, IsKept, IsTaken, IsUpTo, LineEnds, NextEnds, PrintsEnd, SaidEnds, StopsIn, judged_after}
+use Rattle.fw_check.proofs.Writes.{Appends-append, Appends-nil, some_first, some_then}
+
+-- ---- results
+
+pub from_no_error : {T E : Type 0} (P : Type 0) (r : Result T E) (test : Bool) → test ≡ is_err r → test ≡ false
+    → OnOk r P → P
+from_no_error P (Ok x) test is no_error h = h
+from_no_error P (Err e) test is no_error h = cc
+
+pub map_some : {T : Type 0} (P Q : T → Type 0) (o : Option T) → ((x : T) → P x → Q x) → IfSome o P → IfSome o Q
+map_some P Q None f h = tt
+map_some P Q (Some x) f h = f x h
+
+at_some : {T : Type 0} (P : T → Type 0) (o : Option T) (x : T) → o ≡ Some x → IfSome o P → P x
+at_some P o x is h = rw is at h
+
+-- ---- one line
+
+pub line_passed_over : (lines : List (List ℕ)) (j : Judged) (line : List ℕ) → Checks lines j → IsPassedOver line
+    → ChecksMore (lines ++ line ∷ []) j j []
+line_passed_over lines j line checks is = record {
+  checks = passed_over lines j checks line is;
+  text = sym (append-nil j.text);
+}
+
+pub line_said : {T : Type 0} (r : Result T Stop) (lines : List (List ℕ)) (j : Judged) (line : List ℕ) (number : ℕ)
+    (l : CaptureLine) (judge : SessionState) (c : Counts) (had has : Option (List ℕ)) → Checks lines j
+    → ((t : Transfer) → IsTransferOf l t → LineSays line t) → number ≡ length lines + 1
+    → SaidEnds j number l judge c r had has → LineEnds lines j line judge c r had has
+line_said (Ok done) lines j line number l judge c had has checks said is (acts, verdicts, so, appends) =
+    let text = j.text ++ fault_lines (length lines + 1) acts verdicts in (
+      judged_after j so.transfer acts verdicts judge.known text,
+      fault_lines number acts verdicts,
+      record {
+        checks = says lines j checks line so.transfer (said so.transfer so.is) acts judge.known so.are verdicts so.each so.faults;
+        text = ap (λ n. j.text ++ fault_lines n acts verdicts) (sym is);
+      },
+      so.kept text,
+      appends,
+    )
+line_said (Err OutputRefused) lines j line number l judge c had has checks said is (acts, verdicts, so, some) =
+    let text = j.text ++ fault_lines (length lines + 1) acts verdicts in (
+      judged_after j so.transfer acts verdicts judge.known text,
+      fault_lines number acts verdicts,
+      record {
+        checks = says lines j checks line so.transfer (said so.transfer so.is) acts judge.known so.are verdicts so.each so.faults;
+        text = ap (λ n. j.text ++ fault_lines n acts verdicts) (sym is);
+      },
+      some,
+    )
+line_said (Err NoMemory) lines j line number l judge c had has checks said is h = h
+line_said (Err CannotRead) lines j line number l judge c had has checks said is h = absurd h
+line_said (Err (BadLine n f)) lines j line number l judge c had has checks said is h = absurd h
+
+-- ---- the next line
+
+-- what was printed, and what is printed of one line more
+printed_more : (had mid has : Option (List ℕ)) (text more next : List ℕ) → next ≡ text ++ more → Appends had mid text
+    → Appends mid has more → Appends had has next
+printed_more had mid has text more next is before after =
+    subst (Appends had has) (sym is) (Appends-append had mid has text more before after)
+
+printed_still : (had mid has : Option (List ℕ)) (text : List ℕ) → Appends had mid text → Appends mid has []
+    → Appends had has text
+printed_still had mid has text before after =
+    printed_more had mid has text [] text (sym (append-nil text)) before after
+
+-- the line that was taken is the next one
+next_is : (rest : List ℕ) (is_more : Bool) (line : List ℕ) (left : Option (List ℕ)) → IsTaken rest is_more line left
+    → (after : List (List ℕ)) × (lines_of rest ≡ line ∷ after)
+next_is rest true line left (later, is, lines) = (lines_of later, lines)
+next_is rest false line left lines = ([], lines)
+
+after_next : (all done : List (List ℕ)) (line : List ℕ) (rest after : List (List ℕ)) → all ≡ done ++ rest
+    → rest ≡ line ∷ after → all ≡ (done ++ line ∷ []) ++ after
+after_next all done line rest after e next =
+    e ∙ ap (λ (l : List (List ℕ)). done ++ l) next ∙ sym (append_assoc done (line ∷ []) after)
+
+module _ (capture : List ℕ) (known left : Option (List ℕ)) (number : ℕ) (judge : SessionState) (c : Counts)
+    (had mid : Option (List ℕ)) (upto : IsUpTo capture known number judge c had mid) where
+  pub next_done : (is_more : Bool) (line : List ℕ) (later : SessionState) (counts : Counts) (has : Option (List ℕ))
+      → IfSome known (λ bytes. IsTaken bytes is_more line left)
+      → LineEnds {T = Unit {0}} upto.done upto.judged line later counts (Ok tt) mid has
+      → NextEnds capture left number later counts (Ok is_more) had has
+  next_done true line later counts has taken (next, more, checks, kept, appends) =
+      let (rest, is, lines) = at_some (λ bytes. IsTaken bytes true line left) known upto.rest upto.is_left taken in
+      let size = length-append upto.done (line ∷ []) in
+      record {
+        done = upto.done ++ line ∷ [];
+        rest = rest;
+        judged = next;
+        is_left = is;
+        lines = after_next (lines_of capture) upto.done line (lines_of upto.rest) (lines_of rest) upto.lines lines;
+        count = omega (arith, size, upto.count);
+        checks = checks.checks;
+        kept = kept;
+        printed = printed_more had mid has upto.judged.text more next.text checks.text upto.printed appends;
+      }
+  next_done false line later counts has taken (next, more, checks, kept, appends) =
+      let last = at_some (λ bytes. IsTaken bytes false line left) known upto.rest upto.is_left taken in
+      record {
+        judged = next;
+        checks = subst (λ (l : List (List ℕ)). Checks l next)
+            (sym (upto.lines ∙ ap (λ (l : List (List ℕ)). upto.done ++ l) last)) checks.checks;
+        kept = kept;
+        printed = printed_more had mid has upto.judged.text more next.text checks.text upto.printed appends;
+      }
+
+  -- the line is not done
+  pub next_stopped : (is_more : Bool) (line : List ℕ) (later : SessionState) (counts : Counts) (has : Option (List ℕ))
+      (s : Stop) → IfSome known (λ bytes. IsTaken bytes is_more line left)
+      → LineEnds {T = Unit {0}} upto.done upto.judged line later counts (Err s) mid has → StopsIn capture s had has
+  next_stopped is_more line later counts has (BadLine n f) taken (number_is, is, still) =
+      let next = next_is upto.rest is_more line left
+      (at_some (λ bytes. IsTaken bytes is_more line left) known upto.rest upto.is_left taken) in
+      record {
+        done = upto.done;
+        rest = lines_of upto.rest;
+        lines = upto.lines;
+        judged = upto.judged;
+        checks = upto.checks;
+        says = (line, next.0, next.1, is, number_is, printed_still had mid has upto.judged.text upto.printed still);
+      }
+  next_stopped is_more line later counts has CannotRead taken h = absurd h
+  next_stopped is_more line later counts has NoMemory taken still = record {
+    done = upto.done;
+    rest = lines_of upto.rest;
+    lines = upto.lines;
+    judged = upto.judged;
+    checks = upto.checks;
+    says = printed_still had mid has upto.judged.text upto.printed still;
+  }
+  next_stopped is_more line later counts has OutputRefused taken (next, more, checks, some) =
+      let following = next_is upto.rest is_more line left
+      (at_some (λ bytes. IsTaken bytes is_more line left) known upto.rest upto.is_left taken) in
+      record {
+        done = upto.done ++ line ∷ [];
+        rest = following.0;
+        lines = after_next (lines_of capture) upto.done line (lines_of upto.rest) following.0 upto.lines following.1;
+        judged = next;
+        checks = checks.checks;
+        says = some_first had has next.text (end_text next) (next.text ++ end_text next) refl
+            (some_then had mid has upto.judged.text more next.text checks.text upto.printed some);
+      }
+
+  -- the next line cannot be read
+  pub next_unread : (s : Stop) → (s ≡ CannotRead) ⊎ (s ≡ NoMemory) → StopsIn capture s had mid
+  next_unread s (inl is) = rw is record {
+    done = upto.done;
+    rest = lines_of upto.rest;
+    lines = upto.lines;
+    judged = upto.judged;
+    checks = upto.checks;
+    says = upto.printed;
+  }
+  next_unread s (inr is) = rw is record {
+    done = upto.done;
+    rest = lines_of upto.rest;
+    lines = upto.lines;
+    judged = upto.judged;
+    checks = upto.checks;
+    says = upto.printed;
+  }
+
+-- before the first line
+pub at_start : (known had : Option (List ℕ)) (judge : SessionState) (c : Counts) → IsKept nothing_judged judge c
+    → IfSome known (λ capture. IsUpTo capture known 1 judge c had had)
+at_start None had judge c kept = tt
+at_start (Some capture) had judge c kept = record {
+  done = [];
+  rest = capture;
+  judged = nothing_judged;
+  is_left = refl;
+  lines = refl;
+  count = omega arith;
+  checks = no_line;
+  kept = kept;
+  printed = Appends-nil had;
+}
+
+-- ---- the end
+
+-- the counts that are kept are those of what was judged
+counts_are : (j : Judged) (c : Counts) → AreCounts j c → counts_text c ≡ end_text j
+counts_are j c are = rw
+    (are.requests, are.replies, are.notifications, are.refused, are.entries, are.forgotten, are.kernel, are.server, are.device) refl
+
+pub all_ends : {T : Type 0} (r : Result T Stop) (capture : List ℕ) (judge : SessionState) (c : Counts)
+    (had mid has : Option (List ℕ)) → AllChecked capture judge c had mid → PrintsEnd c r mid has
+    → CheckEnds capture c r had has
+all_ends (Ok done) capture judge c had mid has all appends =
+    let same = counts_are all.judged c all.kept.counts in
+    record {
+      judged = all.judged;
+      checks = all.checks;
+      counts = all.kept.counts;
+      printed = Appends-append had mid has all.judged.text (end_text all.judged) all.printed
+          (subst (Appends mid has) same appends);
+    }
+all_ends (Err OutputRefused) capture judge c had mid has all some =
+    let same = counts_are all.judged c all.kept.counts in
+    record {
+      done = lines_of capture;
+      rest = [];
+      lines = sym (append-nil (lines_of capture));
+      judged = all.judged;
+      checks = all.checks;
+      says = some_then had mid has all.judged.text (end_text all.judged) (all.judged.text ++ end_text all.judged) refl
+          all.printed (subst (AppendsSome mid has) same some);
+    }
+all_ends (Err NoMemory) capture judge c had mid has all still = record {
+  done = lines_of capture;
+  rest = [];
+  lines = sym (append-nil (lines_of capture));
+  judged = all.judged;
+  checks = all.checks;
+  says = printed_still had mid has all.judged.text all.printed still;
+}
+all_ends (Err CannotRead) capture judge c had mid has all h = absurd h
+all_ends (Err (BadLine n f)) capture judge c had mid has all h = absurd h

@@ -1,0 +1,6 @@
+mod CheckLaws
+mod CutNumbers
+mod FaultLines
+mod LineFeeds
+mod ReportLaws
+mod Writes

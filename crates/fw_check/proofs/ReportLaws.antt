@@ -1,0 +1,140 @@
+-- How a check ends, by its exit status.
+use Rattle.std.proofs.Common.{◌≡◌, ◌+◌, ℕ, List, [], ◌∷◌, Option, append-nil, arith, refl, sym, inl, inr}
+use Rattle.std.specs.Prelude.{Contains}
+use Rattle.fw_check.specs.declared.counts.Counts.{Counts}
+use Rattle.fw_check.specs.declared.stop.Stop.{Stop}
+use Rattle.fw_check.specs.declared.stop.Stop.TheVariants.{BadLine, CannotRead, NoMemory, OutputRefused}
+use Rattle.fw_check.specs.Endings.{PrintsChecked, lines_of}
+use Rattle.fw_check.specs.Running.{AllPrinted, IsReported, StopsIn}
+
+-- all was judged and printed
+pub ends_well : (name capture : List ℕ) (c : Counts) (had has faults said : Option (List ℕ))
+    → AllPrinted capture c had has → c.kernel + c.server + c.device ≡ 0
+    → PrintsChecked name capture had has faults said 0
+ends_well name capture c had has faults said all none = record {
+  done = lines_of capture;
+  rest = [];
+  lines = sym (append-nil (lines_of capture));
+  judged = all.judged;
+  checks = all.checks;
+  ended = λ is. (refl, all.printed);
+  right = λ is. omega (arith, all.counts.kernel, all.counts.server, all.counts.device, none);
+  wrong = λ is. absurd (omega arith);
+  begun = λ is. elim is [ inl one ↦ absurd (omega arith) | inr three ↦ absurd (omega arith) ];
+  bad = λ is. absurd (omega arith);
+  refused = λ is. absurd (omega arith);
+}
+
+pub ends_with_faults : (name capture : List ℕ) (c : Counts) (had has faults said : Option (List ℕ))
+    → AllPrinted capture c had has → (c.kernel + c.server + c.device ≡ 0 → ⊥)
+    → PrintsChecked name capture had has faults said 6
+ends_with_faults name capture c had has faults said all some = record {
+  done = lines_of capture;
+  rest = [];
+  lines = sym (append-nil (lines_of capture));
+  judged = all.judged;
+  checks = all.checks;
+  ended = λ is. (refl, all.printed);
+  right = λ is. absurd (omega arith);
+  wrong = λ is. omega (arith, all.counts.kernel, all.counts.server, all.counts.device, some);
+  begun = λ is. elim is [ inl one ↦ absurd (omega arith) | inr three ↦ absurd (omega arith) ];
+  bad = λ is. absurd (omega arith);
+  refused = λ is. absurd (omega arith);
+}
+
+-- it was stopped
+pub stops : (s : Stop) (name capture : List ℕ) (had has faults said : Option (List ℕ)) (status : ℕ)
+    → StopsIn capture s had has → IsReported s name faults said status
+    → PrintsChecked name capture had has faults said status
+stops CannotRead name capture had has faults said status at (inl (is, some)) = rw is record {
+  done = at.done;
+  rest = at.rest;
+  lines = at.lines;
+  judged = at.judged;
+  checks = at.checks;
+  ended = λ e. elim e [ inl zero ↦ absurd (omega arith) | inr six ↦ absurd (omega arith) ];
+  right = λ e. absurd (omega arith);
+  wrong = λ e. absurd (omega arith);
+  begun = λ e. at.says;
+  bad = λ e. inl some;
+  refused = λ e. absurd (omega arith);
+}
+stops CannotRead name capture had has faults said status at (inr is) = rw is record {
+  done = at.done;
+  rest = at.rest;
+  lines = at.lines;
+  judged = at.judged;
+  checks = at.checks;
+  ended = λ e. elim e [ inl zero ↦ absurd (omega arith) | inr six ↦ absurd (omega arith) ];
+  right = λ e. absurd (omega arith);
+  wrong = λ e. absurd (omega arith);
+  begun = λ e. at.says;
+  bad = λ e. absurd (omega arith);
+  refused = λ e. absurd (omega arith);
+}
+stops (BadLine n f) name capture had has faults said status at (inl (is, some)) =
+    let (line, after, rest, bad, number, printed) = at.says in
+    rw is record {
+      done = at.done;
+      rest = at.rest;
+      lines = at.lines;
+      judged = at.judged;
+      checks = at.checks;
+      ended = λ e. elim e [ inl zero ↦ absurd (omega arith) | inr six ↦ absurd (omega arith) ];
+      right = λ e. absurd (omega arith);
+      wrong = λ e. absurd (omega arith);
+      begun = λ e. printed;
+      bad = λ e. inr (line, after, f, rest, bad, rw number at some);
+      refused = λ e. absurd (omega arith);
+    }
+stops (BadLine n f) name capture had has faults said status at (inr is) =
+    let (line, after, rest, bad, number, printed) = at.says in
+    rw is record {
+      done = at.done;
+      rest = at.rest;
+      lines = at.lines;
+      judged = at.judged;
+      checks = at.checks;
+      ended = λ e. elim e [ inl zero ↦ absurd (omega arith) | inr six ↦ absurd (omega arith) ];
+      right = λ e. absurd (omega arith);
+      wrong = λ e. absurd (omega arith);
+      begun = λ e. printed;
+      bad = λ e. absurd (omega arith);
+      refused = λ e. absurd (omega arith);
+    }
+stops NoMemory name capture had has faults said status at is = rw is record {
+  done = at.done;
+  rest = at.rest;
+  lines = at.lines;
+  judged = at.judged;
+  checks = at.checks;
+  ended = λ e. elim e [ inl zero ↦ absurd (omega arith) | inr six ↦ absurd (omega arith) ];
+  right = λ e. absurd (omega arith);
+  wrong = λ e. absurd (omega arith);
+  begun = λ e. at.says;
+  bad = λ e. absurd (omega arith);
+  refused = λ e. absurd (omega arith);
+}
+stops OutputRefused name capture had has faults said status at is = rw is record {
+  done = at.done;
+  rest = at.rest;
+  lines = at.lines;
+  judged = at.judged;
+  checks = at.checks;
+  ended = λ e. elim e [ inl zero ↦ absurd (omega arith) | inr six ↦ absurd (omega arith) ];
+  right = λ e. absurd (omega arith);
+  wrong = λ e. absurd (omega arith);
+  begun = λ e. elim e [ inl one ↦ absurd (omega arith) | inr three ↦ absurd (omega arith) ];
+  bad = λ e. absurd (omega arith);
+  refused = λ e. at.says;
+}
+
+-- the statuses of a stop
+pub stop_status : (s : Stop) (name : List ℕ) (faults said : Option (List ℕ)) (status : ℕ)
+    → IsReported s name faults said status → Contains (0 ∷ 1 ∷ 3 ∷ 5 ∷ 6 ∷ []) status
+stop_status CannotRead name faults said status (inl (is, some)) = rw is (1, omega arith, refl)
+stop_status CannotRead name faults said status (inr is) = rw is (2, omega arith, refl)
+stop_status (BadLine n f) name faults said status (inl (is, some)) = rw is (1, omega arith, refl)
+stop_status (BadLine n f) name faults said status (inr is) = rw is (2, omega arith, refl)
+stop_status NoMemory name faults said status is = rw is (2, omega arith, refl)
+stop_status OutputRefused name faults said status is = rw is (3, omega arith, refl)

@@ -1,0 +1,16 @@
+use Rattle.fw_check.specs.Running.{AllChecked, CheckEnds}
+use Rattle.fw_check.proofs.CheckLaws.{all_ends, map_some}
+use Rattle.fw_check.proofs.check.check_all.Goals as goal
+
+pub returns-in-Ok : goal.returns-in-Ok
+returns-in-Ok g c kept =
+    let had = g.W.Write.contents c.args.out.now in
+    let mid = g.W.Write.contents c.check_lines.new.out in
+    let has = g.W.Write.contents c.print_end.new.out in
+    let judge = c.check_lines.new.checker.judge in
+    let counts = c.check_lines.new.checker.counts in
+    map_some (λ capture. AllChecked capture judge counts had mid)
+    (λ capture. CheckEnds capture counts c.print_end.result had has)
+    (g.R.Read.remaining c.args.input.now)
+    (λ capture all. all_ends c.print_end.result capture judge counts had mid has all c.print_end.ensures)
+    (c.in-Ok.ensures kept)

@@ -1,0 +1,56 @@
+use Rattle.std.proofs.Common.{arith, refl}
+use Rattle.fw_check.specs.Endings.{PrintsChecked}
+use Rattle.fw_check.specs.Running.{AllPrinted, StopsIn}
+use Rattle.fw_check.proofs.CheckLaws.{map_some}
+use Rattle.fw_check.proofs.ReportLaws.{ends_well, ends_with_faults, stop_status, stops}
+use Rattle.fw_check.proofs.check.run_check.Goals as goal
+
+pub returns-then-has_no_fault : goal.returns-then-has_no_fault
+returns-then-has_no_fault g c =
+    let name = c.args.name.now in
+    let had = g.W.Write.contents c.args.out.now in
+    let has = g.W.Write.contents c.check_all.new.out in
+    let faults = g.F.Write.contents c.args.faults.now in
+    let counts = c.check_all.new.checker.counts in
+    record {
+      statuses = (0, omega arith, refl);
+      prints = map_some (λ capture. AllPrinted capture counts had has)
+          (λ capture. PrintsChecked name capture had has faults faults 0)
+          (g.R.Read.remaining c.args.input.now)
+          (λ capture all. ends_well name capture counts had has faults faults all (c.if-has_no_fault.ensures.0 refl))
+          (c.in-Ok.ensures c.new-checker.ensures);
+    }
+
+pub returns-in-Ok : goal.returns-in-Ok
+returns-in-Ok g c =
+    let name = c.args.name.now in
+    let had = g.W.Write.contents c.args.out.now in
+    let has = g.W.Write.contents c.check_all.new.out in
+    let faults = g.F.Write.contents c.args.faults.now in
+    let counts = c.check_all.new.checker.counts in
+    record {
+      statuses = (4, omega arith, refl);
+      prints = map_some (λ capture. AllPrinted capture counts had has)
+          (λ capture. PrintsChecked name capture had has faults faults 6)
+          (g.R.Read.remaining c.args.input.now)
+          (λ capture all. ends_with_faults name capture counts had has faults faults all
+          (λ none. let yes = c.if-has_no_fault.ensures.1 none in cc))
+          (c.in-Ok.ensures c.new-checker.ensures);
+    }
+
+pub returns : goal.returns
+returns g c =
+    let name = c.args.name.now in
+    let had = g.W.Write.contents c.args.out.now in
+    let has = g.W.Write.contents c.check_all.new.out in
+    let faults = g.F.Write.contents c.args.faults.now in
+    let said = g.F.Write.contents c.report.new.faults in
+    let stop = c.in-Err.stop in
+    record {
+      statuses = stop_status stop name faults said c.report.result c.report.ensures;
+      prints = map_some (λ capture. StopsIn capture stop had has)
+          (λ capture. PrintsChecked name capture had has faults said c.report.result)
+          (g.R.Read.remaining c.args.input.now)
+          (λ capture at. stops stop name capture had has faults said c.report.result at c.report.ensures)
+          (c.in-Err.ensures c.new-checker.ensures);
+    }

@@ -1,0 +1,41 @@
+-- How the check of a capture ends, by its exit status.
+use Rattle.std.specs.Prelude.{◌≡◌, ◌⊎◌, ◌<◌, ◌+◌, ◌==◌, ℕ, List, [], ◌∷◌, ◌++◌, Option, Contains, IfSome, length}
+use Rattle.std.specs.List.{slice_split}
+use Rattle.std.specs.Io.KnownBytes.{Appends}
+use Rattle.fuse_capture.specs.declared.line.CaptureFault.{CaptureFault}
+use Rattle.fuse_capture.specs.Lines.{LineFaultIs}
+use Rattle.fw_check.specs.Checks.{Judged, Checks, end_text, fault_count}
+use Rattle.fw_check.specs.Outputs.{AppendsSome}
+use Rattle.fw_check.specs.Reports.{bad_line, unreadable}
+
+-- the lines of a capture: what stands before, between and after its line feeds
+abbrev pub lines_of : List ℕ → List (List ℕ)
+lines_of capture = slice_split (λ byte. byte == 10) capture
+
+-- What was printed of a capture whose bytes are known: its first lines were judged, and what is said of them printed.
+pub record PrintsChecked (name capture : List ℕ) (out_old out_new faults_old faults_new : Option (List ℕ)) (status : ℕ)
+    : Type 0 where
+  pub done : List (List ℕ)
+  pub rest : List (List ℕ)
+  pub lines : lines_of capture ≡ done ++ rest
+  pub judged : Judged
+  pub checks : Checks done judged
+  -- to the end: 0 where there is no fault, and 6 where there is one
+  pub ended : (status ≡ 0) ⊎ (status ≡ 6)
+      → (rest ≡ []) × Appends out_old out_new (judged.text ++ end_text judged)
+  pub right : status ≡ 0 → fault_count judged ≡ 0
+  pub wrong : status ≡ 6 → 0 < fault_count judged
+  -- up to a line that has a fault or cannot be read, or until memory runs out
+  pub begun : (status ≡ 1) ⊎ (status ≡ 3) → Appends out_old out_new judged.text
+  pub bad : status ≡ 1 → AppendsSome faults_old faults_new (unreadable name)
+      ⊎ ((line : List ℕ) × (after : List (List ℕ)) × (f : CaptureFault) × (rest ≡ line ∷ after) × LineFaultIs line f
+      × AppendsSome faults_old faults_new (bad_line (length done + 1) f))
+  -- until the output refuses
+  pub refused : status ≡ 5 → AppendsSome out_old out_new (judged.text ++ end_text judged)
+
+-- What becomes of an output and of standard error, of which `out` and `faults` say what they hold.
+pub record EndsCheck {W F : Type 0} (out : W → Option (List ℕ)) (faults : F → Option (List ℕ)) (name : List ℕ)
+    (capture : Option (List ℕ)) (old new : W) (old_faults new_faults : F) (status : ℕ) : Type 0 where
+  pub statuses : Contains (0 ∷ 1 ∷ 3 ∷ 5 ∷ 6 ∷ []) status
+  pub prints : IfSome capture
+      (λ bytes. PrintsChecked name bytes (out old) (out new) (faults old_faults) (faults new_faults) status)

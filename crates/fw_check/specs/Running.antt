@@ -1,0 +1,185 @@
+-- How a check goes on, line by line.
+use Rattle.std.specs.Prelude.{◌≡◌, ◌+◌, ◌⊎◌, ◌++◌, ◌∷◌, [], ℕ, List, Bool, true, false, Option, Some, None, Result, Ok, Err, length, sum_by}
+use Rattle.std.specs.Io.KnownBytes.{Appends}
+use Rattle.fuse_sessions.specs.declared.act.Act.{Act}
+use Rattle.fuse_sessions.specs.declared.fault.Fault.{Fault}
+use Rattle.fuse_sessions.specs.declared.fault.Party.TheVariants as party
+use Rattle.fuse_sessions.specs.declared.known.Known.{Known}
+use Rattle.fuse_sessions.specs.declared.transfer.Transfer.{Transfer}
+use Rattle.fuse_sessions.specs.Frames.{AreActs}
+use Rattle.fuse_judge.specs.Transfers.{AreFaults, HasSeenTransfers, SessionState}
+use Rattle.fuse_capture.specs.declared.line.CaptureLine.{CaptureLine}
+use Rattle.fuse_capture.specs.Lines.{LineFaultIs}
+use Rattle.fuse_capture.specs.Readings.{IsTransferOf}
+use Rattle.fw_check.specs.declared.counts.Counts.{Counts}
+use Rattle.fw_check.specs.declared.stop.Stop.{Stop}
+use Rattle.fw_check.specs.declared.stop.Stop.TheVariants as stop
+use Rattle.fw_check.specs.Counting.{counts_text}
+use Rattle.fw_check.specs.Checks.{Judged, Checks, end_text, faults_of, number_of}
+use Rattle.fw_check.specs.Endings.{lines_of}
+use Rattle.fw_check.specs.FaultWords.{fault_line, fault_lines}
+use Rattle.fw_check.specs.Outputs.{AppendsSome}
+use Rattle.fw_check.specs.Reports.{bad_line, unreadable}
+use Rattle.fw_check.specs.Tallies.{entries_of, forgotten_by, is_notification, is_refused, is_reply, is_request}
+
+-- the line of a verdict, where it is a fault
+abbrev pub verdict_line : (number : ℕ) → Act → Option Fault → List ℕ
+verdict_line number a (Some f) = fault_line number a f
+verdict_line number a None = []
+
+-- ---- one transfer more
+
+-- The counts of what was judged.
+pub record AreCounts (j : Judged) (c : Counts) : Type 0 where
+  pub requests : c.requests ≡ number_of is_request j
+  pub replies : c.replies ≡ number_of is_reply j
+  pub notifications : c.notifications ≡ number_of is_notification j
+  pub refused : c.refused ≡ number_of is_refused j
+  pub entries : c.entries ≡ sum_by entries_of j.acts
+  pub forgotten : c.forgotten ≡ sum_by forgotten_by j.acts
+  pub kernel : c.kernel ≡ faults_of party.Kernel j
+  pub server : c.server ≡ faults_of party.Server j
+  pub device : c.device ≡ faults_of party.Device j
+
+-- What a check keeps is right of what was judged.
+pub record IsKept (j : Judged) (judge : SessionState) (c : Counts) : Type 0 where
+  pub seen : HasSeenTransfers j.transfers j.acts judge
+  pub known : j.known ≡ judge.known
+  pub counts : AreCounts j c
+
+-- what was judged, with one transfer more
+abbrev pub judged_after : Judged → Transfer → List Act → List (Option Fault) → Known → (text : List ℕ) → Judged
+judged_after j t acts verdicts known text = record {
+  transfers = j.transfers ++ t ∷ [];
+  known = known;
+  acts = j.acts ++ acts;
+  verdicts = j.verdicts ++ verdicts;
+  text = text;
+}
+
+-- The transfer that a line says was judged: these are its acts and their verdicts.
+pub record IsJudgedSo (j : Judged) (l : CaptureLine) (acts : List Act) (verdicts : List (Option Fault))
+    (judge : SessionState) (c : Counts) : Type 0 where
+  pub transfer : Transfer
+  pub is : IsTransferOf l transfer
+  pub are : AreActs j.known j.acts transfer acts judge.known
+  pub each : length verdicts ≡ length acts
+  pub faults : AreFaults j.acts acts verdicts
+  pub kept : (text : List ℕ) → IsKept (judged_after j transfer acts verdicts judge.known text) judge c
+
+-- What became of a line that says a transfer, and of the output.
+abbrev pub SaidEnds : {T : Type 0} → Judged → (number : ℕ) → CaptureLine → SessionState → Counts → Result T Stop
+    → (had has : Option (List ℕ)) → Type 0
+SaidEnds j number l judge c (Ok done) had has = (acts : List Act) × (verdicts : List (Option Fault))
+    × IsJudgedSo j l acts verdicts judge c × Appends had has (fault_lines number acts verdicts)
+SaidEnds j number l judge c (Err stop.OutputRefused) had has = (acts : List Act) × (verdicts : List (Option Fault))
+    × IsJudgedSo j l acts verdicts judge c × AppendsSome had has (fault_lines number acts verdicts)
+SaidEnds j number l judge c (Err stop.NoMemory) had has = Appends had has []
+SaidEnds j number l judge c (Err other) had has = ⊥
+
+-- ---- one line more
+
+-- These lines were judged, and this was printed behind what was printed before.
+pub record ChecksMore (lines : List (List ℕ)) (before after : Judged) (more : List ℕ) : Type 0 where
+  pub checks : Checks lines after
+  pub text : after.text ≡ before.text ++ more
+
+-- What became of a line after these.
+abbrev pub LineEnds : {T : Type 0} → (lines : List (List ℕ)) → Judged → (line : List ℕ) → SessionState → Counts
+    → Result T Stop → (had has : Option (List ℕ)) → Type 0
+LineEnds lines j line judge c (Ok done) had has = (next : Judged) × (more : List ℕ)
+    × ChecksMore (lines ++ line ∷ []) j next more × IsKept next judge c × Appends had has more
+LineEnds lines j line judge c (Err stop.OutputRefused) had has = (next : Judged) × (more : List ℕ)
+    × ChecksMore (lines ++ line ∷ []) j next more × AppendsSome had has more
+LineEnds lines j line judge c (Err stop.NoMemory) had has = Appends had has []
+LineEnds lines j line judge c (Err (stop.BadLine number f)) had has =
+    (number ≡ length lines + 1) × LineFaultIs line f × Appends had has []
+LineEnds lines j line judge c (Err stop.CannotRead) had has = ⊥
+
+-- ---- a capture
+
+-- The first lines of a capture were judged, and these bytes are left of it.
+pub record IsUpTo (capture : List ℕ) (left : Option (List ℕ)) (number : ℕ) (judge : SessionState) (c : Counts)
+    (had has : Option (List ℕ)) : Type 0 where
+  pub done : List (List ℕ)
+  pub rest : List ℕ
+  pub judged : Judged
+  pub is_left : left ≡ Some rest
+  pub lines : lines_of capture ≡ done ++ lines_of rest
+  pub count : number ≡ length done + 1
+  pub checks : Checks done judged
+  pub kept : IsKept judged judge c
+  pub printed : Appends had has judged.text
+
+-- All lines were judged.
+pub record AllChecked (capture : List ℕ) (judge : SessionState) (c : Counts) (had has : Option (List ℕ)) : Type 0 where
+  pub judged : Judged
+  pub checks : Checks (lines_of capture) judged
+  pub kept : IsKept judged judge c
+  pub printed : Appends had has judged.text
+
+-- What a stop says of the lines that were judged, and of those that are left.
+abbrev pub StopSays : Stop → (number : ℕ) → (rest : List (List ℕ)) → Judged → (had has : Option (List ℕ)) → Type 0
+StopSays (stop.BadLine n f) number rest j had has = (line : List ℕ) × (after : List (List ℕ)) × (rest ≡ line ∷ after)
+    × LineFaultIs line f × (n ≡ number) × Appends had has j.text
+StopSays stop.OutputRefused number rest j had has = AppendsSome had has (j.text ++ end_text j)
+StopSays other number rest j had has = Appends had has j.text
+
+-- A check stopped after some lines.
+pub record StopsIn (capture : List ℕ) (s : Stop) (had has : Option (List ℕ)) : Type 0 where
+  pub done : List (List ℕ)
+  pub rest : List (List ℕ)
+  pub lines : lines_of capture ≡ done ++ rest
+  pub judged : Judged
+  pub checks : Checks done judged
+  pub says : StopSays s (length done + 1) rest judged had has
+
+-- What became of the next line: there are more, or it was the last.
+abbrev pub NextEnds : (capture : List ℕ) → (left : Option (List ℕ)) → (number : ℕ) → SessionState → Counts
+    → Result Bool Stop → (had has : Option (List ℕ)) → Type 0
+NextEnds capture left number judge c (Ok true) had has = IsUpTo capture left (number + 1) judge c had has
+NextEnds capture left number judge c (Ok false) had has = AllChecked capture judge c had has
+NextEnds capture left number judge c (Err s) had has = StopsIn capture s had has
+
+abbrev pub LinesEnd : {T : Type 0} → (capture : List ℕ) → SessionState → Counts → Result T Stop
+    → (had has : Option (List ℕ)) → Type 0
+LinesEnd capture judge c (Ok done) had has = AllChecked capture judge c had has
+LinesEnd capture judge c (Err s) had has = StopsIn capture s had has
+
+-- All was printed.
+pub record AllPrinted (capture : List ℕ) (c : Counts) (had has : Option (List ℕ)) : Type 0 where
+  pub judged : Judged
+  pub checks : Checks (lines_of capture) judged
+  pub counts : AreCounts judged c
+  pub printed : Appends had has (judged.text ++ end_text judged)
+
+abbrev pub CheckEnds : {T : Type 0} → (capture : List ℕ) → Counts → Result T Stop → (had has : Option (List ℕ)) → Type 0
+CheckEnds capture c (Ok done) had has = AllPrinted capture c had has
+CheckEnds capture c (Err s) had has = StopsIn capture s had has
+
+-- What became of the last two lines.
+abbrev pub PrintsEnd : {T : Type 0} → Counts → Result T Stop → (had has : Option (List ℕ)) → Type 0
+PrintsEnd c (Ok done) had has = Appends had has (counts_text c)
+PrintsEnd c (Err stop.OutputRefused) had has = AppendsSome had has (counts_text c)
+PrintsEnd c (Err stop.NoMemory) had has = Appends had has []
+PrintsEnd c (Err other) had has = ⊥
+
+-- ---- reading
+
+-- A line was taken from bytes, and more lines are left, or it was the last.
+abbrev pub IsTaken : (bytes : List ℕ) → (is_more : Bool) → (line : List ℕ) → (left : Option (List ℕ)) → Type 0
+IsTaken bytes true line left =
+    (rest : List ℕ) × (left ≡ Some rest) × (lines_of bytes ≡ line ∷ lines_of rest)
+IsTaken bytes false line left = lines_of bytes ≡ line ∷ []
+
+-- ---- ends
+
+-- What a stop says on standard error, and its exit status. Memory may run out for what is to be said.
+abbrev pub IsSaid : (text : List ℕ) → (old new : Option (List ℕ)) → ℕ → Type 0
+IsSaid text old new status = ((status ≡ 1) × AppendsSome old new text) ⊎ (status ≡ 3)
+
+abbrev pub IsReported : Stop → (name : List ℕ) → (old new : Option (List ℕ)) → ℕ → Type 0
+IsReported stop.CannotRead name old new status = IsSaid (unreadable name) old new status
+IsReported (stop.BadLine number f) name old new status = IsSaid (bad_line number f) old new status
+IsReported stop.NoMemory name old new status = status ≡ 3
+IsReported stop.OutputRefused name old new status = status ≡ 5

@@ -1,0 +1,157 @@
+//! What a check keeps, and how it goes on with one line more.
+
+ghost use Rattle.std.specs.Prelude.{◌≡◌, ◌+◌, ◌++◌, ℕ, List, OnErr, OnOk, length};
+ghost use Rattle.std.specs.Io.KnownBytes.{Appends, Keeps};
+ghost use Rattle.fw_check.specs.Checks.{Checks, Judged, nothing_judged};
+ghost use Rattle.fw_check.specs.FaultWords.{fault_lines};
+ghost use Rattle.fw_check.specs.Outputs.{AppendsSome};
+ghost use Rattle.fw_check.specs.Running.{IsJudgedSo, IsKept, LineEnds, SaidEnds};
+
+use crate::counts::{Counts, NOTHING};
+use crate::fault_line::put_faults;
+use crate::output::{OutputRefused, write_text};
+use crate::stop::Stop;
+use fuse_capture::{CaptureLine, read_line, read_transfer};
+use fuse_judge::SessionJudge;
+use fuse_sessions::{Act, Fault};
+use std::alloc::{AllocError, Allocator, Global};
+use std::io::Write;
+
+/// What a check keeps of the lines before: the judge and the counts. The buffers are kept so that few lines take memory.
+#[derive(Drop)]
+pub(crate) struct Checker<A: Allocator = Global> {
+    pub(crate) judge: SessionJudge<A>,
+    pub(crate) counts: Counts,
+    /// The frame of a line.
+    pub(crate) frame: Vec<u8, A>,
+    /// The acts of its transfer.
+    pub(crate) acts: Vec<Act, A>,
+    /// The verdict on each act.
+    pub(crate) verdicts: Vec<Option<Fault>, A>,
+    /// What is printed of a line.
+    pub(crate) text: Vec<u8, A>,
+}
+
+/// Judges the transfer that a line says, and counts it.
+fn judge_said<A: Allocator + Copy>(
+    judge: &mut SessionJudge<A>,
+    counts: &mut Counts,
+    frame: &mut Vec<u8, A>,
+    acts: &mut Vec<Act, A>,
+    verdicts: &mut Vec<Option<Fault>, A>,
+    said: CaptureLine<'_>,
+) -> Result<(), AllocError>
+    ensures { OnOk result ((j : Judged) → IsKept j judge.old counts.old
+        → IsJudgedSo j said.entry acts.new.items verdicts.new.items judge.new counts.new) }
+{
+    let transfer = read_transfer(said, frame)?;
+    judge.see(transfer, acts, verdicts)?;
+    match counts.after(transfer, acts.as_slice(), verdicts.as_slice()) {
+        Some(more) => {
+            *counts = more;
+            Ok(())
+        }
+        None => Err(AllocError),
+    }
+}
+
+/// Hands on all that was written.
+pub(crate) fn flush<W: Write>(out: &mut W) -> Result<(), OutputRefused>
+    ensures { Keeps (W.contents out.old) (W.contents out.new) }
+{
+    match out.flush() {
+        Ok(()) => Ok(()),
+        Err(_) => Err(OutputRefused),
+    }
+}
+
+/// Writes a text and hands it on, if there is any.
+pub(crate) fn print<W: Write>(out: &mut W, text: &[u8]) -> Result<(), OutputRefused>
+    ensures ok { OnOk result (Appends (W.contents out.old) (W.contents out.new) text.now) }
+    ensures refused { OnErr result (AppendsSome (W.contents out.old) (W.contents out.new) text.now) }
+{
+    if text.is_empty() {
+        return Ok(());
+    }
+    match write_text(out, text) {
+        Ok(()) => flush(out),
+        Err(refused) => Err(refused),
+    }
+}
+
+impl<A: Allocator + Copy> Checker<A> {
+    /// A check that has seen no line.
+    pub(crate) fn new(alloc: A) -> Self
+        ensures { IsKept nothing_judged result.judge result.counts }
+    {
+        Checker {
+            judge: SessionJudge::new(alloc),
+            counts: NOTHING,
+            frame: Vec::new(alloc),
+            acts: Vec::new(alloc),
+            verdicts: Vec::new(alloc),
+            text: Vec::new(alloc),
+        }
+    }
+
+    /// Judges the transfer that a line says, and makes the text of its faults.
+    fn judge_line(&mut self, number: u64, said: CaptureLine<'_>) -> Result<(), AllocError>
+        ensures judged { OnOk result ((j : Judged) → IsKept j self.old.judge self.old.counts
+            → IsJudgedSo j said.entry self.new.acts.items self.new.verdicts.items self.new.judge self.new.counts) }
+        ensures text { OnOk result (self.new.text.items
+            ≡ fault_lines number self.new.acts.items self.new.verdicts.items) }
+    {
+        judge_said(
+            &mut self.judge,
+            &mut self.counts,
+            &mut self.frame,
+            &mut self.acts,
+            &mut self.verdicts,
+            said,
+        )?;
+        self.text.clear();
+        put_faults(
+            &mut self.text,
+            number,
+            self.acts.as_slice(),
+            self.verdicts.as_slice(),
+        )
+    }
+
+    /// Judges the transfer that a line says, and prints its faults.
+    fn check_said<W: Write>(
+        &mut self,
+        number: u64,
+        said: CaptureLine<'_>,
+        out: &mut W,
+    ) -> Result<(), Stop>
+        ensures { (j : Judged) → IsKept j self.old.judge self.old.counts
+            → SaidEnds j number said.entry self.new.judge self.new.counts result (W.contents out.old) (W.contents out.new) }
+    {
+        if self.judge_line(number, said).is_err() {
+            return Err(Stop::NoMemory);
+        }
+        match print(out, self.text.as_slice()) {
+            Ok(()) => Ok(()),
+            Err(_) => Err(Stop::OutputRefused),
+        }
+    }
+
+    /// Judges a line, and prints its faults.
+    pub(crate) fn check_line<W: Write>(
+        &mut self,
+        number: u64,
+        line: &[u8],
+        out: &mut W,
+    ) -> Result<(), Stop>
+        ensures { (lines : List (List ℕ)) (j : Judged) → Checks lines j → IsKept j self.old.judge self.old.counts
+            → number ≡ length lines + 1
+            → LineEnds lines j line.now self.new.judge self.new.counts result (W.contents out.old) (W.contents out.new) }
+    {
+        match read_line(line) {
+            Ok(None) => Ok(()),
+            Ok(Some(said)) => self.check_said(number, said, out),
+            Err(fault) => Err(Stop::BadLine { number, fault }),
+        }
+    }
+}

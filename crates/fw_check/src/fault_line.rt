@@ -1,0 +1,78 @@
+//! The lines of faults.
+
+ghost use Rattle.std.specs.Prelude.{◌≡◌, ◌++◌, OnOk, codes, decimal};
+ghost use Rattle.fuse_sessions.specs.Parties.{party_of};
+ghost use Rattle.fw_check.specs.FaultWords as words;
+ghost use Rattle.fw_check.specs.Running.{verdict_line};
+
+use crate::act_words::put_act;
+use crate::text::{put, put_counted};
+use crate::words::{fault_words, party_word};
+use fuse_sessions::{Act, Fault};
+use std::alloc::{AllocError, Allocator};
+
+/// Whose fault it is, and the rule that is broken.
+fn put_rule<A: Allocator>(text: &mut Vec<u8, A>, fault: Fault) -> Result<(), AllocError>
+    ensures { OnOk result (text.new.items
+        ≡ text.old.items ++ (words.party_word (party_of fault) ++ codes ": " ++ words.fault_words fault)) }
+{
+    put(text, party_word(fault.party()).as_bytes())?;
+    put(text, b": ")?;
+    put(text, fault_words(fault).as_bytes())
+}
+
+/// The number of a line, and a colon.
+pub(crate) fn put_number_of_line<A: Allocator>(
+    text: &mut Vec<u8, A>,
+    number: u64,
+) -> Result<(), AllocError>
+    ensures { OnOk result (text.new.items ≡ text.old.items ++ (codes "line " ++ decimal number ++ codes ": ")) }
+{
+    put_counted(text, b"line", number)?;
+    put(text, b": ")
+}
+
+/// The line of a fault.
+fn put_fault<A: Allocator>(
+    text: &mut Vec<u8, A>,
+    number: u64,
+    act: Act,
+    fault: Fault,
+) -> Result<(), AllocError>
+    ensures { OnOk result (text.new.items ≡ text.old.items ++ words.fault_line number act fault) }
+{
+    put_number_of_line(text, number)?;
+    put_rule(text, fault)?;
+    put_act(text, act)?;
+    put(text, b"\n")
+}
+
+/// The line of a verdict, where it is a fault.
+fn put_verdict<A: Allocator>(
+    text: &mut Vec<u8, A>,
+    number: u64,
+    act: Act,
+    verdict: Option<Fault>,
+) -> Result<(), AllocError>
+    ensures { OnOk result (text.new.items ≡ text.old.items ++ verdict_line number act verdict) }
+{
+    match verdict {
+        Some(fault) => put_fault(text, number, act, fault),
+        None => Ok(()),
+    }
+}
+
+/// The lines of the faults of a transfer's acts.
+pub(crate) fn put_faults<A: Allocator>(
+    text: &mut Vec<u8, A>,
+    number: u64,
+    acts: &[Act],
+    verdicts: &[Option<Fault>],
+) -> Result<(), AllocError>
+    ensures { OnOk result (text.new.items ≡ text.old.items ++ words.fault_lines number acts.now verdicts.now) }
+{
+    for place in 0..acts.len().min(verdicts.len()) {
+        put_verdict(text, number, acts[place], verdicts[place])?;
+    }
+    Ok(())
+}

@@ -1,0 +1,24 @@
+//! The check of a capture: who broke a rule of the FUSE protocol in a recorded session, and in which line.
+//!
+//! Each line of a capture is a transfer (`fuse_capture`), each transfer is judged after those before it (`fuse_judge`),
+//! and each fault is a line as soon as its transfer was read. At the end two lines have counts. `specs/` says what is
+//! printed.
+#![tactic(auto)]
+
+mod act_words;
+mod check;
+mod checker;
+mod counts;
+mod fault_line;
+mod lines;
+mod number_in;
+mod output;
+mod stop;
+mod tallies;
+#[cfg(test)]
+mod tests;
+mod text;
+mod words;
+
+pub use check::run_check;
+pub use words::{fault_words, party_word};
