@@ -1,0 +1,5 @@
+pub mod Errors
+pub mod InitFlags
+pub mod Words
+pub mod Requests
+pub mod Replies
