@@ -1,9 +1,8 @@
 -- The statuses of a run are those of its end, and others.
 use Rattle.std.proofs.Common.{◌≡◌, ◌⊎◌, inl, inr, ℕ, zero, suc, List, [], ◌∷◌, arith, sym}
-use Rattle.std.specs.Prelude.{Contains}
-use Rattle.fw_script.specs.declared.line.LineFault.{LineFault}
-use Rattle.fw_drive.specs.DriveLines.{FirstDriveFaultIs}
-use Rattle.fw_drive.specs.Judging.{JudgingEnds, bad_status}
+use Rattle.std.specs.Prelude.{Contains, Option, codes}
+use Rattle.fw_script.specs.Outputs.{AppendsSome}
+use Rattle.fw_drive.specs.Judging.{JudgingEnds, SaysFirstFault, bad_status, bad_text}
 use Rattle.fw_drive.specs.declared.form.Form.{Form}
 use Rattle.fw_drive.specs.declared.lines.BadScript.{BadScript}
 use Rattle.fw_drive.specs.declared.lines.BadScript.TheVariants as bad
@@ -49,6 +48,12 @@ bad_among bad.NoMemory s is = (1, omega arith, sym is)
 
 -- it is 1 for a line with a fault
 pub bad_at_1 : (form : Form) (script : List ℕ) (b : BadScript) (s : ℕ) → s ≡ bad_status b → JudgingEnds form script b
-    → s ≡ 1 → (number : ℕ) × (fault : LineFault) × FirstDriveFaultIs form script number fault
-bad_at_1 form script (bad.BadLine number fault) s is ends one = (number, fault, ends)
-bad_at_1 form script bad.NoMemory s is ends one = absurd (omega (arith, is, one))
+    → (old new : Option (List ℕ)) → AppendsSome old new (bad_text b) → s ≡ 1 → SaysFirstFault form script old new
+bad_at_1 form script (bad.BadLine number fault) s is ends old new said one = (number, fault, ends, said)
+bad_at_1 form script bad.NoMemory s is ends old new said one = absurd (omega (arith, is, one))
+
+-- and 3 where memory is out
+pub bad_at_3 : (b : BadScript) (s : ℕ) → s ≡ bad_status b → (old new : Option (List ℕ))
+    → AppendsSome old new (bad_text b) → s ≡ 3 → AppendsSome old new (codes "no memory\n")
+bad_at_3 (bad.BadLine number fault) s is old new said three = absurd (omega (arith, is, three))
+bad_at_3 bad.NoMemory s is old new said three = said

@@ -22,5 +22,5 @@ mod watch;
 
 pub use fk_drive::FreeFields;
 pub use form::Form;
-pub use run::{Task, run_drive};
+pub use run::{Task, read_drive_script, run_drive};
 pub use trace::DriveTrace;

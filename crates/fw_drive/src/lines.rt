@@ -1,22 +1,22 @@
 //! The lines of a script, which are judged before the first is run.
 
-ghost use Rattle.std.specs.Prelude.{◌≡◌, IfErr, IfOk, MatchOption, codes};
+ghost use Rattle.std.specs.Prelude.{◌≡◌, IfErr, IfOk, MatchOption};
 ghost use Rattle.fw_script.specs.Outputs.{AppendsSome};
 ghost use Rattle.fw_script.specs.Scripts.{lines_of};
 ghost use Rattle.fw_drive.specs.DriveLines.{FirstDriveFaultIs, IsGoodDriveScript};
-ghost use Rattle.fw_drive.specs.Judging.{JudgingEnds, Say, bad_status};
+ghost use Rattle.fw_drive.specs.Judging.{JudgingEnds, Say, bad_status, bad_text};
 
 use crate::form::Form;
 use crate::line::{DriveLine, read_any};
 use crate::parts::Lines;
-use fw_script::{LineFault, no_memory};
+use fw_script::{LineFault, bad_line, no_memory};
 use std::alloc::Allocator;
 use std::io::Write;
 
 /// Why a script is not run.
 pub(crate) enum BadScript {
     /// A line has a fault: the first that has one, by its number from 1.
-    BadLine { number: u64, fault: LineFault },
+    BadLine { number: usize, fault: LineFault },
     /// Out of memory.
     NoMemory,
 }
@@ -25,20 +25,17 @@ impl BadScript {
     /// Says it on `faults`, and gives the exit status: 1 for a line with a fault, and 3 where memory is out.
     pub(crate) fn say<F: Write>(self, faults: &mut F) -> u8
         ensures status { result ≡ bad_status self }
-        ensures no_memory { result ≡ 3 → AppendsSome (F.contents faults.old) (F.contents faults.new) (codes "no memory\n") }
+        ensures said { AppendsSome (F.contents faults.old) (F.contents faults.new) (bad_text self) }
     {
         match self {
-            BadScript::BadLine { number, fault } => {
-                let _ = writeln!(faults, "line {number}: {fault}");
-                1
-            }
+            BadScript::BadLine { number, fault } => bad_line(number, fault, faults),
             BadScript::NoMemory => no_memory(faults),
         }
     }
 }
 
 /// The number of the first line with a fault, from 1, and the fault.
-fn first_fault(form: Form, script: &[u8]) -> Option<(u64, LineFault)>
+pub(crate) fn first_fault(form: Form, script: &[u8]) -> Option<(usize, LineFault)>
     ensures { MatchOption result (IsGoodDriveScript form script.now)
         (λ found. FirstDriveFaultIs form script.now found.0 found.1) }
 {

@@ -2,23 +2,22 @@
 
 ghost use Rattle.std.specs.Prelude.{◌≡◌, ◌⊎◌, ◌++◌, ◌∷◌, [], ℕ, Contains, IfErr, IfOk, IfSome, OnOk, codes};
 ghost use Rattle.fk_drive.specs.Driving.{Driven, DrivesOver, first_driven};
-ghost use Rattle.fw_script.specs.declared.line.LineFault.{LineFault};
 ghost use Rattle.fw_script.specs.Outputs.{AppendsSome};
 ghost use Rattle.fw_script.specs.Stops.{unreadable};
-ghost use Rattle.fw_drive.specs.DriveLines.{FirstDriveFaultIs, IsGoodDriveScript};
-ghost use Rattle.fw_drive.specs.Judging.{IsUnrun};
+ghost use Rattle.fw_drive.specs.DriveLines.{IsGoodDriveScript};
+ghost use Rattle.fw_drive.specs.Judging.{IsUnrun, SaysFirstFault};
 ghost use Rattle.fw_drive.specs.Runs.{GoesOn};
 
 use crate::driver::Driver;
 use crate::form::Form;
 use crate::line::DriveLine;
-use crate::lines::read_lines;
+use crate::lines::{first_fault, read_lines};
 use crate::notes::Notes;
 use crate::script::{print_end, run_script};
 use crate::stop::Stop;
 use fk_drive::FreeFields;
 use fuse_device::Device;
-use fw_script::{cannot_read, no_memory};
+use fw_script::{bad_line, cannot_read, no_memory};
 use fw_world::{Maps, Tables};
 use std::alloc::Allocator;
 use std::io::{ErrorKind, Read, Write};
@@ -93,6 +92,38 @@ fn read_script<A: Allocator, R: Read, F: Write>(
     }
 }
 
+/// The bytes of a script whose lines are good, to be run by `run_drive`. So a bad script is refused before a server is
+/// looked for.
+///
+/// # Errors
+///
+/// The exit status: 1 after `cannot read` with the script's name, or `line N:` and the fault of the first bad line, on
+/// `faults`; or 3 after `no memory`.
+pub fn read_drive_script<A: Allocator, R: Read, F: Write>(
+    alloc: A,
+    task: Task<'_>,
+    input: &mut R,
+    faults: &mut F,
+) -> Result<Vec<u8, A>, u8>
+    ensures same { IfOk result (λ script. IfSome (R.remaining input.old) (λ bytes. script.items ≡ bytes)) }
+    ensures good { IfOk result (λ script. IsGoodDriveScript task.entry.form script.items) }
+    ensures silent { OnOk result (faults.new ≡ faults.old) }
+    ensures statuses { IfErr result (Contains (1 ∷ 3 ∷ [])) }
+    ensures fault { IfErr result (λ status. status ≡ 1 → IsUnrun task.entry.form task.entry.name.now
+        (R.remaining input.old) (F.contents faults.old) (F.contents faults.new)) }
+    ensures no_memory { IfErr result (λ status. status ≡ 3 → AppendsSome (F.contents faults.old)
+        (F.contents faults.new) (codes "no memory\n")) }
+{
+    let text = match read_script(alloc, task, input, faults) {
+        Ok(text) => text,
+        Err(status) => return Err(status),
+    };
+    match first_fault(task.form, text.as_slice()) {
+        None => Ok(text),
+        Some((number, fault)) => Err(bad_line(number, fault, faults)),
+    }
+}
+
 /// Runs a script whose text is known, and gives the exit status, as `run_drive` does.
 fn run_text<A: Allocator + Copy, D: Device, W: Write, F: Write>(
     alloc: A,
@@ -108,8 +139,7 @@ fn run_text<A: Allocator + Copy, D: Device, W: Write, F: Write>(
         ⊎ ((device.new ≡ device.old) × (out.new ≡ out.old)) }
     ensures unrun { result ≡ 1 → device.new ≡ device.old }
     ensures silent { result ≡ 1 → out.new ≡ out.old }
-    ensures fault { result ≡ 1 → (number : ℕ) × (fault : LineFault)
-        × FirstDriveFaultIs task.entry.form script.now number fault }
+    ensures fault { result ≡ 1 → SaysFirstFault task.entry.form script.now (F.contents faults.old) (F.contents faults.new) }
     ensures no_memory { result ≡ 3 → AppendsSome (F.contents faults.old) (F.contents faults.new) (codes "no memory\n") }
     ensures no_fault { (result ≡ 0) ⊎ (result ≡ 4) ⊎ (result ≡ 5) → faults.new ≡ faults.old }
     ensures drives { (new : Driven) × DrivesOver D.logs device.old device.new (first_driven task.entry.opens_directories) new }

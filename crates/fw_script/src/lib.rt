@@ -28,4 +28,4 @@ pub use output::OutputRefused;
 pub use print::{name_of_refusal, number_of_refusal, word_of_effect, word_of_kind};
 pub use records::write_record;
 pub use script::{Script, run_lists, run_over, run_script};
-pub use stop::{cannot_read, no_memory, socket_failed};
+pub use stop::{bad_line, cannot_read, no_memory, socket_failed};

@@ -117,6 +117,14 @@ pub fn cannot_read<F: Write>(name: &str, faults: &mut F) -> u8
     Stop::CannotRead { name }.report(faults)
 }
 
+/// Says on standard error what is wrong with a line, which its number from 1 names, and gives the exit status, 1.
+pub fn bad_line<F: Write>(number: usize, fault: LineFault, faults: &mut F) -> u8
+    ensures status { result ≡ 1 }
+    ensures said { AppendsSome (F.contents faults.old) (F.contents faults.new) (bad_line number fault ++ codes "\n") }
+{
+    Stop::BadLine { number, fault }.report(faults)
+}
+
 /// Says on standard error that memory runs out, and gives the exit status, 3.
 pub fn no_memory<F: Write>(faults: &mut F) -> u8
     ensures status { result ≡ 3 }

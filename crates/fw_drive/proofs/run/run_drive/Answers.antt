@@ -1,7 +1,7 @@
 use Rattle.std.proofs.Common.{[], ℕ, List, inl, inr, refl, subst}
 use Rattle.fk_drive.specs.Driving.{first_driven, nothing}
-use Rattle.fw_script.specs.declared.line.LineFault.{LineFault}
-use Rattle.fw_drive.specs.DriveLines.{FirstDriveFaultIs, IsGoodDriveScript}
+use Rattle.fw_drive.specs.DriveLines.{IsGoodDriveScript}
+use Rattle.fw_drive.specs.Judging.{SaysFirstFault}
 use Rattle.fw_drive.proofs.KnownScripts.{good_or, of_known}
 use Rattle.fw_drive.proofs.StopStatuses.{unread_among, unread_never}
 use Rattle.fw_drive.proofs.run.run_drive.Goals as goal
@@ -40,6 +40,7 @@ returns-in-Ok-clause-judged g c run =
 pub returns-in-Ok-clause-fault : goal.returns-in-Ok-clause-fault
 returns-in-Ok-clause-fault g c one =
     let HasFault : List ℕ → Type 0 =
-    λ s. (number : ℕ) × (fault : LineFault) × FirstDriveFaultIs c.args.task.form s number fault in
-    inr (of_known HasFault (g.R.Read.remaining c.args.input.now) c.in-Ok.text.items c.in-Ok.ensures.ok
-    (subst HasFault c.as_slice.ensures.value (c.run_text.ensures.fault one)))
+    λ s. SaysFirstFault c.args.task.form s (g.F.Write.contents c.read_script.new.faults)
+    (g.F.Write.contents c.run_text.new.faults) in
+    inr (rw c.in-Ok.ensures.silent at (of_known HasFault (g.R.Read.remaining c.args.input.now) c.in-Ok.text.items
+    c.in-Ok.ensures.ok (subst HasFault c.as_slice.ensures.value (c.run_text.ensures.fault one))))

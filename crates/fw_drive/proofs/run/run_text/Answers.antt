@@ -1,6 +1,6 @@
 use Rattle.std.proofs.Common.{[], inl, inr, refl}
 use Rattle.fk_drive.specs.Driving.{first_driven, nothing}
-use Rattle.fw_drive.proofs.StopStatuses.{among_all, bad_among, bad_at_1, never_0, never_1, unread_among, unread_never}
+use Rattle.fw_drive.proofs.StopStatuses.{among_all, bad_among, bad_at_1, bad_at_3, never_0, never_1, unread_among, unread_never}
 use Rattle.fw_drive.proofs.run.run_text.Goals as goal
 
 pub returns-in-Err-clause-statuses : goal.returns-in-Err-clause-statuses
@@ -16,7 +16,12 @@ returns-in-Err-clause-unsent g c = inr (refl, refl)
 
 pub returns-in-Err-clause-fault : goal.returns-in-Err-clause-fault
 returns-in-Err-clause-fault g c one =
-    bad_at_1 c.args.task.form c.args.script.now c.in-Err.bad c.say.result c.say.ensures.status c.in-Err.ensures.refused one
+    bad_at_1 c.args.task.form c.args.script.now c.in-Err.bad c.say.result c.say.ensures.status c.in-Err.ensures.refused _ _
+    c.say.ensures.said one
+
+pub returns-in-Err-clause-no_memory : goal.returns-in-Err-clause-no_memory
+returns-in-Err-clause-no_memory g c three =
+    bad_at_3 c.in-Err.bad c.say.result c.say.ensures.status _ _ c.say.ensures.said three
 
 pub returns-in-Err-clause-no_fault : goal.returns-in-Err-clause-no_fault
 returns-in-Err-clause-no_fault g c run =
