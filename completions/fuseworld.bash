@@ -1,6 +1,6 @@
 # Completion of fuseworld's command line for bash.
 _fuseworld() {
-    local word=${COMP_WORDS[COMP_CWORD]} commands="run socket draw frame reply decode vectors serve drive kernel server help" flags="" words="" files=no
+    local word=${COMP_WORDS[COMP_CWORD]} commands="run socket draw frame reply decode check vectors serve drive kernel server help" flags="" words="" files=no
     COMPREPLY=()
     if [ "$COMP_CWORD" -le 1 ]; then
         flags="--help --version"
@@ -16,6 +16,7 @@ _fuseworld() {
                 [ "$COMP_CWORD" -gt 2 ] || words="LOOKUP GETATTR MKDIR UNLINK RMDIR RENAME LINK OPEN READ WRITE RELEASE INIT READDIR CREATE INTERRUPT READDIRPLUS"
                 ;;
             decode) flags="--help"; files=yes ;;
+            check) flags="--help"; files=yes ;;
             vectors) flags="--help" ;;
             serve) flags="--found --missing --minor --show --trace --help"; files=yes ;;
             drive) flags="--calls --beside --no-opendir --trace --wait --offer --help"; files=yes ;;

@@ -1,5 +1,5 @@
 # Completion of fuseworld's command line for fish.
-complete -c fuseworld -n 'not __fish_seen_subcommand_from run socket draw decode serve drive' -f
+complete -c fuseworld -n 'not __fish_seen_subcommand_from run socket draw decode check serve drive' -f
 complete -c fuseworld -n __fish_use_subcommand -s h -l help -d 'Print help'
 complete -c fuseworld -n __fish_use_subcommand -s V -l version -d 'Print the version'
 
@@ -22,7 +22,9 @@ complete -c fuseworld -n '__fish_seen_subcommand_from reply' -l help -d 'Print h
 complete -c fuseworld -n '__fish_seen_subcommand_from reply' -a 'LOOKUP GETATTR MKDIR UNLINK RMDIR RENAME LINK OPEN READ WRITE RELEASE INIT READDIR CREATE INTERRUPT READDIRPLUS'
 
 complete -c fuseworld -n __fish_use_subcommand -a decode -d 'Print the frames of a capture in words'
+complete -c fuseworld -n __fish_use_subcommand -a check -d 'Judge a capture'
 complete -c fuseworld -n '__fish_seen_subcommand_from decode' -l help -d 'Print help'
+complete -c fuseworld -n '__fish_seen_subcommand_from check' -l help -d 'Print help'
 
 complete -c fuseworld -n __fish_use_subcommand -a vectors -d 'Print frames of each kind with the codec\'s verdicts'
 complete -c fuseworld -n '__fish_seen_subcommand_from vectors' -l help -d 'Print help'
@@ -53,4 +55,4 @@ complete -c fuseworld -n '__fish_seen_subcommand_from server' -l json -d 'Print 
 complete -c fuseworld -n '__fish_seen_subcommand_from server' -l help -d 'Print help'
 
 complete -c fuseworld -n __fish_use_subcommand -a help -d 'Print the help of the program or of a command'
-complete -c fuseworld -n '__fish_seen_subcommand_from help' -a 'run socket draw frame reply decode vectors serve drive kernel server'
+complete -c fuseworld -n '__fish_seen_subcommand_from help' -a 'run socket draw frame reply decode check vectors serve drive kernel server'

@@ -5,6 +5,7 @@ compares what it prints, its exit status and what it sent with what was worked o
 Takes the program's path, or takes crates/fuseworld/out/fuseworld. Prints a line for each run that differs, and ends with
 status 1 where there is one. Each run has 10 seconds.
 """
+import os
 import re
 import socket
 import struct
@@ -12,6 +13,7 @@ import subprocess
 import sys
 import tempfile
 import threading
+import time
 from pathlib import Path
 
 sys.dont_write_bytecode = True
@@ -34,7 +36,8 @@ def judge(name, got, wanted):
 
 
 def drive(words, script, peer):
-    """The lines that a run prints, its status, and what the peer gives, which has the other end of the connection."""
+    """The lines that a run prints, its status, and what the peer gives, which has the other end of the connection; `None` where
+    nothing was connected."""
     with tempfile.TemporaryDirectory() as folder:
         path, file = f"{folder}/socket", Path(folder) / "script"
         file.write_text("\n".join(script) + "\n")
@@ -45,7 +48,10 @@ def drive(words, script, peer):
         gave = []
 
         def serve():
-            connection, _ = listener.accept()
+            try:
+                connection, _ = listener.accept()
+            except OSError:
+                return
             with connection:
                 connection.settimeout(SECONDS)
                 gave.append(peer(connection))
@@ -53,6 +59,8 @@ def drive(words, script, peer):
         thread = threading.Thread(target=serve)
         thread.start()
         run = subprocess.run([PROGRAM, "drive", *words, file, path], stdin=subprocess.DEVNULL, capture_output=True, text=True, timeout=SECONDS)
+        # Where nothing was connected, the peer still waits for it.
+        listener.shutdown(socket.SHUT_RDWR)
         thread.join()
         listener.close()
         return run.stdout.splitlines() + run.stderr.splitlines(), run.returncode, gave[0] if gave else None
@@ -240,6 +248,52 @@ def run_opendir():
               ([*MOUNTED, "call 1", "read 4 READDIR 80", f"answer 1 {error}", "kernel"], 0))
 
 
+def run_waits():
+    """`--wait` is the time from a request to its reply, whatever comes between, and that for a request to be taken."""
+    def ended(name, script, peer, last):
+        began = time.monotonic()
+        lines, status, _ = drive(SHORT_WAIT, script, peer)
+        judge(name, (lines[-1], status, time.monotonic() - began < SECONDS / 2), (last, 4, True))
+
+    def answering(connection, *answers):
+        """Sends an answer at each of the first requests, and goes on."""
+        frames = received(connection)
+        for answer in answers:
+            next(frames)
+            send(connection, answer)
+        return frames
+
+    def reads_nothing(connection):
+        server = Server()
+        entry = server.entry(server.make(server.files[1], b"f", bytearray())) + struct.pack("<QII", 1, 0, 0)
+        answering(connection, AGREES[0], reply(4, entry))
+        time.sleep(2)
+
+    def talks(connection):
+        next(answering(connection, AGREES[0]))
+        notice = struct.pack("<IiQ", 40, 2, 0) + bytes(24)
+        try:
+            while True:
+                connection.sendall(notice)
+                time.sleep(0.01)
+        except OSError:
+            pass
+
+    def dribbles(connection):
+        next(answering(connection, AGREES[0]))
+        try:
+            for byte in ATTR:
+                connection.sendall(bytes([byte]))
+                time.sleep(0.1)
+        except OSError:
+            pass
+
+    writes = [line for _ in range(100) for line in (f"call write 1 0 {'00' * 4096}", "read p 0")]
+    ended("a server that reads nothing", [*MOUNT, "call create /f", "read p 0", "write", *writes], reads_nothing, "device failed")
+    ended("a server that keeps talking", STAT, talks, "no reply")
+    ended("a reply of a byte a tenth of a second", STAT, dribbles, "device failed")
+
+
 # --- the command line, and a socket of packets
 
 def run_words():
@@ -250,10 +304,10 @@ def run_words():
         (["--calls"], ["mount 0 0"], "line 1: unknown event"), (["--calls"], ["call stat /", "write"], "line 2: unknown event"),
         (["--beside"], ["read p 0"], "line 1: unknown event"), (["--beside"], ["intr 1 soft"], "line 1: unknown event"),
     ]:
-        judge(f"{words} {script}", drive(words, script, lambda connection: list(received(connection))), ([line], 1, []))
+        judge(f"{words} {script}", drive(words, script, lambda connection: list(received(connection))), ([line], 1, None))
     for words, status in [(["--offer", "0x1", "x"], 2), (["--offer", "123456789", "x"], 2), (["--offer", "A", "x"], 2),
                           (["--wait", "0", "x"], 2), (["--wait", "86400001", "x"], 2), ([], 2), (["x", "y", "z"], 2),
-                          (["/nowhere", "/nowhere"], 4), (["/nowhere"], 1)]:
+                          (["/nowhere", "/nowhere"], 1), (["/nowhere"], 1), ([os.devnull, "/nowhere"], 4)]:
         run = subprocess.run([PROGRAM, "drive", *words], stdin=subprocess.DEVNULL, stdout=subprocess.PIPE, stderr=subprocess.PIPE, timeout=SECONDS)
         judge(f"drive {words}", (run.returncode, run.stdout, run.stderr != b""), (status, b"", True))
 
@@ -288,7 +342,7 @@ def run_trace():
     ])
 
 
-for part in (run_bugs, run_fields, run_frames, run_abort, run_closings, run_agreements, run_opendir, run_words, run_packets, run_trace):
+for part in (run_bugs, run_fields, run_frames, run_abort, run_closings, run_agreements, run_opendir, run_waits, run_words, run_packets, run_trace):
     part()
 print(f"{passed} passed, {failed} failed")
 sys.exit(bool(failed))

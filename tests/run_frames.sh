@@ -41,10 +41,10 @@ code=$?
 : > "$work/out"
 : > "$work/want-out"
 judge "decode to a full device" "$code" 5
-expect_lines 0 "requests 0 replies 0 unanswered 0 refused 0 lookups" "" decode
-for fault in "bad hex:> 2A" "bad hex:> 00 00" "bad hex:< 000" "wrong words:>00" "wrong words:<" "unknown direction:00" "unknown direction:"; do
-    printf '> 00\n%s\n' "${fault#*:}" > "$work/capture"
-    expect_lines 1 "" "line 2: ${fault%%:*}" decode "$work/capture"
+expect_lines 0 "requests 0 replies 0 notifications 0 refused 0 unanswered 0 lookups" "" decode
+for fault in "bad hex:> 2g" "bad hex:< 000" "wrong words:> 00 00" "wrong words:<" "wrong words:= open" "unknown direction:>00" "unknown direction:00"; do
+    printf '# a frame of one byte\n\n> 0A\r\n%s\n' "${fault#*:}" > "$work/capture"
+    expect_lines 1 "> len 1: the frame is too short for its header; kernel: malformed request" "line 4: ${fault%%:*}" decode "$work/capture"
 done
 expect_lines 1 "" "cannot read $work/none" decode "$work/none"
 
@@ -70,7 +70,7 @@ code=$?
 judge "version to a full device" "$code" 5
 
 # The command line. Its help goes to standard error.
-for words in "decode --help" "decode a b" "vectors a" "reply --help" "reply" "reply LOOKUP" "frame --words"; do
+for words in "decode --help" "decode a b" "check --help" "check a b" "vectors a" "reply --help" "reply" "reply LOOKUP" "frame --words"; do
     # shellcheck disable=SC2086
     "$program" $words < /dev/null > "$work/out" 2> "$work/err"
     code=$?

@@ -4,6 +4,7 @@ SOCK_SEQPACKET sockets on its standard input and output, and compares the replie
 exit status with what was worked out by hand. Each run has 10 seconds.
 Prints a line for each run that differs, and ends with status 1 where there is one.
 """
+import os
 import socket
 import struct
 import subprocess
@@ -30,13 +31,18 @@ def reply(unique, body=b"", error=0):
 
 
 def attr(ino, size, mode, nlink):
-    """struct fuse_attr: the blocks of 4,096 bytes, and no times, owners and blocks."""
-    return struct.pack("<QQQQQQIIIIIIIIII", ino, size, 0, 0, 0, 0, 0, 0, 0, mode, nlink, 0, 0, 0, 4096, 0)
+    """struct fuse_attr: the size in blocks of 512 bytes, a blksize of 4,096 bytes, and no times and owners."""
+    return struct.pack("<QQQQQQIIIIIIIIII", ino, size, (size + 511) // 512, 0, 0, 0, 0, 0, 0, mode, nlink, 0, 0, 0, 4096, 0)
 
 
 def entry(node, generation, seconds, attributes):
     """struct fuse_entry_out: the entry is valid for whole seconds, and its attributes are not."""
     return struct.pack("<QQQQII", node, generation, seconds, 0, 0, 0) + attributes
+
+
+def record(ino, off, kind, name):
+    """struct fuse_dirent, with its name."""
+    return struct.pack("<QQII", ino, off, len(name), kind) + name + bytes(-len(name) % 8)
 
 
 INIT = request(26, 2, 0, struct.pack("<IIII", 7, 31, 0, 0x42001))
@@ -118,6 +124,39 @@ def on_packets(name, words, turns, said, status):
     judge(name, ended(program), (said, status))
 
 
+def without_blocking():
+    """Serves a pair of sockets that do not block: it waits for a frame, and for room for a reply, and takes no time for it."""
+    ours, theirs = socket.socketpair(socket.AF_UNIX, socket.SOCK_SEQPACKET)
+    ours.settimeout(SECONDS)
+    theirs.setblocking(False)
+    program = subprocess.Popen([PROGRAM, "serve"], stdin=theirs, stdout=theirs, stderr=subprocess.PIPE)
+    theirs.close()
+    ours.send(INIT)
+    judge("not blocking: a reply", ours.recv(1 << 17).hex(), INIT_REPLY.hex())
+    time.sleep(1)
+    with open(f"/proc/{program.pid}/stat") as stat:
+        ticks = sum(int(word) for word in stat.read().rsplit(")", 1)[1].split()[11:13])
+    judge("not blocking: an idle second takes no time of the processor", ticks < os.sysconf("SC_CLK_TCK") // 4, True)
+    # As many as the sockets take: no reply is read yet, so that the program has to wait for room.
+    wanted, got = [], []
+    try:
+        ours.settimeout(0.5)
+        while len(wanted) < 100_000:
+            unique = 4 + 2 * len(wanted)
+            ours.send(request(1, unique, 1, b"none\0"))
+            wanted.append(reply(unique, entry(0, 0, 0, bytes(88))))
+    except OSError as error:
+        judge("not blocking: the sockets are full", type(error), TimeoutError)
+    try:
+        ours.settimeout(SECONDS)
+        got = [ours.recv(1 << 17) for _ in wanted]
+    except OSError as error:
+        got = [error]
+    judge("not blocking: each is replied to", got == wanted, True)
+    ours.close()
+    judge("not blocking", ended(program), ([], 0))
+
+
 TURNS = [
     (INIT, INIT_REPLY),
     (MKDIR, MKDIR_REPLY),
@@ -142,6 +181,71 @@ TRACE = [
 MISSING = reply(6, entry(0, 0, 0, bytes(88)))
 
 
+# A file of 513 bytes, and a directory beside it: each reply with attributes has their blocks.
+BIG = attr(2, 513, 0o100644, 1)
+LINKED = attr(2, 513, 0o100644, 2)
+FOLDER = attr(3, 0, 0o40755, 1)
+NO_ENTRY = entry(2, 1, 1, struct.pack("<QQ", 2, 513) + bytes(72))
+BLOCKS = [
+    (INIT, INIT_REPLY),
+    (request(35, 4, 1, struct.pack("<IIII", 0x8042, 0o100644, 0, 0) + b"big\0"),
+     reply(4, entry(2, 1, 1, attr(2, 0, 0o100644, 1)) + struct.pack("<QII", 1, 0, 0))),
+    (request(16, 6, 2, struct.pack("<QQIIQII", 1, 0, 513, 0, 0, 0, 0) + b"x" * 513), reply(6, struct.pack("<II", 513, 0))),
+    (request(3, 8, 2, bytes(16)), reply(8, struct.pack("<QII", 0, 0, 0) + BIG)),
+    (request(1, 10, 1, b"big\0"), reply(10, entry(2, 1, 1, BIG))),
+    (request(13, 12, 1, struct.pack("<Q", 2) + b"second\0"), reply(12, entry(2, 1, 1, LINKED))),
+    (request(9, 14, 1, struct.pack("<II", 0o755, 0) + b"folder\0"), reply(14, entry(3, 2, 1, FOLDER))),
+    (request(44, 16, 1, struct.pack("<QQIIQII", 0, 0, 4096, 0, 0, 0, 0)), reply(16, b"".join([
+        entry(2, 1, 1, LINKED) + record(2, 1, 8, b"big"),
+        entry(2, 1, 1, LINKED) + record(2, 2, 8, b"second"),
+        entry(3, 2, 1, FOLDER) + record(3, 3, 4, b"folder"),
+    ]))),
+    # Bytes of the file that look like an entry without blocks are read as they are.
+    (request(16, 18, 2, struct.pack("<QQIIQII", 1, 0, 128, 0, 0, 0, 0) + NO_ENTRY), reply(18, struct.pack("<II", 128, 0))),
+    (request(15, 20, 2, struct.pack("<QQIIQII", 1, 0, 128, 0, 0, 0, 0)), reply(20, NO_ENTRY)),
+]
+
+
+def lookup(unique, name):
+    return request(1, unique, 1, name + b"\0")
+
+
+def rename(unique, old, new):
+    return request(12, unique, 1, struct.pack("<Q", 1) + old + b"\0" + new + b"\0")
+
+
+# ENAMETOOLONG (36) where nothing is wrong but that a name has more than 255 bytes, and EIO where more is.
+LONG = b"n" * 256
+LONG_NAMES = [
+    (INIT, INIT_REPLY),
+    (lookup(4, b"n" * 255), reply(4, entry(0, 0, 0, bytes(88)))),
+    (lookup(6, LONG), reply(6, error=36)),
+    (lookup(8, b"n" * 1024), reply(8, error=36)),
+    (lookup(10, b"n" * 4135), reply(10, error=36)),
+    (request(9, 12, 1, bytes(8) + LONG + b"\0"), reply(12, error=36)),
+    (request(35, 14, 1, bytes(16) + LONG + b"\0"), reply(14, error=36)),
+    (request(10, 16, 1, LONG + b"\0"), reply(16, error=36)),
+    (request(11, 18, 1, LONG + b"\0"), reply(18, error=36)),
+    (request(13, 20, 1, bytes(8) + LONG + b"\0"), reply(20, error=36)),
+    (rename(22, LONG, b"b"), reply(22, error=36)),
+    (rename(24, b"a", LONG), reply(24, error=36)),
+    (rename(26, LONG, LONG), reply(26, error=36)),
+    # A frame that is too long, a slash, a NUL and none, a bad name beside a long one, and names that are not too long.
+    (lookup(28, b"n" * 4136), reply(28, error=5)),
+    (lookup(30, LONG + b"/"), reply(30, error=5)),
+    (lookup(32, LONG + b"\0n"), reply(32, error=5)),
+    (request(1, 34, 1, LONG), reply(34, error=5)),
+    (rename(36, LONG, b".."), reply(36, error=5)),
+    (rename(38, b"", LONG), reply(38, error=5)),
+    (rename(40, b"a/b", LONG), reply(40, error=5)),
+    (request(12, 42, 1, bytes(8) + LONG + b"\0"), reply(42, error=5)),
+    (lookup(44, b".."), reply(44, error=5)),
+    # A body that only looks like a name.
+    (request(3, 46, 1, LONG + b"\0"), reply(46, error=5)),
+    (request(25, 48, 1, LONG + b"\0"), reply(48, error=38)),
+]
+
+
 def run():
     turns = [(frame, MISSING if frame is LOOKUP else wanted) for frame, wanted in TURNS]
     frames = [frame for frame, _ in turns]
@@ -149,6 +253,14 @@ def run():
     on_packets("packets", ["--trace", "--show"], turns, [*TRACE, "server"], 0)
     on_packets("packets, silent", [], turns, [], 0)
     on_stream("a stream", ["--trace", "--show"], b"".join(frames), replies, [*TRACE, "server"], 0)
+    on_packets("blocks", [], BLOCKS, [], 0)
+    without_blocking()
+    on_packets("long names", [], LONG_NAMES, [], 0)
+    on_packets("long names of 7.15", ["--minor", "15"], [(lookup(2, LONG), reply(2, error=36))], [], 0)
+    on_packets("a long name, in words", ["--trace"], [(lookup(2, LONG), reply(2, error=36))],
+               ["opcode 1 2 fault 4 Name", "-> ENAMETOOLONG"], 0)
+    # A packet of no bytes is read as the other side's end.
+    on_packets("an empty packet", ["--show"], [*turns[:2], (b"", None)], ["server 2:1:1"], 0)
     # The server holds node 2 once: nothing was forgotten.
     on_packets("a node is left", ["--show"], turns[:2], ["server 2:1:1"], 0)
     on_packets("validities", ["--found", "3000", "--missing", "250"], [

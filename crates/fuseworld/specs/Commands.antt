@@ -29,6 +29,9 @@ reply_app = with_rule (with_rule (new_app (codes "reply")) (needed (codes "OPNAM
 abbrev pub decode_app : App
 decode_app = with_rule (new_app (codes "decode")) (new_rule (codes "FILE"))
 
+abbrev pub check_app : App
+check_app = with_rule (new_app (codes "check")) (new_rule (codes "FILE"))
+
 abbrev pub vectors_app : App
 vectors_app = new_app (codes "vectors")
 
@@ -64,9 +67,9 @@ program_start = on_top (λ s. record s { has_version = true }) (new_app (codes "
 -- the program with its commands
 abbrev pub program_app : Bor (List (Bor Text)) → App
 program_app minors =
-    with_subcommand (with_subcommand (with_subcommand (with_subcommand (with_subcommand (with_subcommand
+    with_subcommand (with_subcommand (with_subcommand (with_subcommand (with_subcommand (with_subcommand (with_subcommand
     (with_subcommand (with_subcommand (with_subcommand (with_subcommand (with_subcommand program_start
-    run_app.top) socket_app.top) draw_app.top) frame_app.top) reply_app.top) decode_app.top) vectors_app.top)
+    run_app.top) socket_app.top) draw_app.top) frame_app.top) reply_app.top) decode_app.top) check_app.top) vectors_app.top)
     (serve_app minors).top) drive_app.top) (side_app (codes "kernel")).top) (side_app (codes "server")).top
 
 -- the words are the minors that are served

@@ -5,6 +5,8 @@ use Rattle.clap.specs.declared.error.kind.ErrorKind.{ErrorKind}
 use Rattle.clap.specs.declared.error.kind.ErrorKind.TheVariants.{DisplayVersion, OutOfMemory}
 use Rattle.fuseworld.specs.Tasks.{AsksFor}
 use Rattle.fuseworld.specs.Values.{IsOffer}
+use Rattle.fuseworld.specs.declared.capture.CaptureTask.{CaptureTask}
+use Rattle.fuseworld.specs.declared.capture.CaptureTask.TheVariants as capture
 use Rattle.fuseworld.specs.declared.command.Task.{Task}
 use Rattle.fuseworld.specs.declared.command.Task.TheVariants as task
 use Rattle.fuseworld.specs.declared.doing.InputTask.{InputTask}
@@ -20,11 +22,17 @@ input_statuses (input.Frame hex words) = 0 ∷ 1 ∷ 3 ∷ 5 ∷ []
 input_statuses (input.Reply name hex) = 0 ∷ 1 ∷ 2 ∷ 3 ∷ 5 ∷ []
 input_statuses input.Vectors = 0 ∷ 3 ∷ 5 ∷ []
 
+-- the exit statuses of a command on a capture
+abbrev pub capture_statuses : CaptureTask → List ℕ
+capture_statuses capture.Decode = 0 ∷ 1 ∷ 3 ∷ 5 ∷ []
+capture_statuses capture.Check = 0 ∷ 1 ∷ 3 ∷ 5 ∷ 6 ∷ []
+
 -- the exit statuses of a command on frames
 abbrev pub frame_statuses : FrameTask → List ℕ
 frame_statuses (frame.Frame hex words) = 0 ∷ 1 ∷ 3 ∷ 5 ∷ []
 frame_statuses (frame.Reply name hex) = 0 ∷ 1 ∷ 2 ∷ 3 ∷ 5 ∷ []
 frame_statuses (frame.Decode file) = 0 ∷ 1 ∷ 3 ∷ 5 ∷ []
+frame_statuses (frame.Check file) = 0 ∷ 1 ∷ 3 ∷ 5 ∷ 6 ∷ []
 frame_statuses frame.Vectors = 0 ∷ 3 ∷ 5 ∷ []
 
 -- a run of the task may end with this exit status

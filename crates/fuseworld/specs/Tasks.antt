@@ -29,6 +29,8 @@ AsksFrame name rows (frame.Reply opcode hex) =
     (name ≡ codes "reply") × (opcode.now ≡ text_of (codes "OPNAME") rows) × (hex.now ≡ text_of (codes "HEX") rows)
 AsksFrame name rows (frame.Decode file) =
     (name ≡ codes "decode") × (option_map (λ text. text.now) file ≡ first_of (codes "FILE") rows)
+AsksFrame name rows (frame.Check file) =
+    (name ≡ codes "check") × (option_map (λ text. text.now) file ≡ first_of (codes "FILE") rows)
 AsksFrame name rows frame.Vectors = name ≡ codes "vectors"
 
 -- the minor that `--minor` names
@@ -71,8 +73,8 @@ AsksSide name rows (side.Server form) = (name ≡ codes "server") × (form ≡ p
 
 -- the name is that of a command on frames
 abbrev pub is_frame_command : Text → Bool
-is_frame_command name = bytes_eq name (codes "vectors") || (bytes_eq name (codes "decode") || (bytes_eq name (codes "frame")
-    || bytes_eq name (codes "reply")))
+is_frame_command name = bytes_eq name (codes "vectors") || (bytes_eq name (codes "decode") || (bytes_eq name (codes "check")
+    || (bytes_eq name (codes "frame") || bytes_eq name (codes "reply"))))
 
 -- the name is that of one side
 abbrev pub is_side : Text → Bool

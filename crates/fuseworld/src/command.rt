@@ -9,7 +9,8 @@ use crate::arguments::{flag, needed};
 use crate::draw::draw_command;
 use crate::drive::{DriveTask, drive_command, drive_task};
 use crate::frame_commands::{
-    FrameTask, decode_command, frame_command, frame_task, reply_command, vectors_command,
+    FrameTask, check_command, decode_command, frame_command, frame_task, reply_command,
+    vectors_command,
 };
 use crate::serve::ServeTask;
 use crate::serve_words::{serve_command, serve_task};
@@ -106,6 +107,7 @@ fn program<'a>(alloc: Global) -> Result<Command<'a>, AllocError>
     let program = with_command(program, frame_command(alloc));
     let program = with_command(program, reply_command(alloc));
     let program = with_command(program, decode_command(alloc));
+    let program = with_command(program, check_command(alloc));
     let program = with_command(program, Ok(vectors_command(alloc)));
     let program = with_command(program, Ok(serve));
     let program = with_command(program, drive_command(alloc));

@@ -1,6 +1,6 @@
 //! The command `drive`: the kernel before a server that somebody else wrote.
 
-ghost use Rattle.std.specs.Prelude.{◌↔◌, ◌∷◌, [], Contains, IsTrue, ◌≡◌, IfOk, codes, false, unwrap_or};
+ghost use Rattle.std.specs.Prelude.{◌↔◌, ◌∷◌, [], Contains, IsTrue, ◌≡◌, IfErr, IfOk, codes, false, unwrap_or};
 ghost use Rattle.clap.specs.Words.{app_of, first_of, found_of, rows_of, with_rule, new_rule};
 ghost use Rattle.clap.specs.declared.builder.command.Command.TheViews.{out-Command as fields_of};
 ghost use Rattle.fuseworld.specs.Arguments.{IsArgument, needed, option};
@@ -9,17 +9,16 @@ ghost use Rattle.fuseworld.specs.Values.{IsOffer, is_set};
 ghost use Rattle.fuseworld.specs.Tasks.{AsksDrive, form_of};
 
 use crate::arguments::{flag, needed, option, optional, time_argument};
+use crate::timed_socket::{Deadline, connect};
 use crate::values::{is_set, number, text, text_or_none};
 use clap::{Arg, ArgMatches, Command};
 use fuse_device::{Device, PacketDevice, StreamDevice};
-use fw_drive::{DriveTrace, Form, FreeFields, Task, run_drive};
+use fw_drive::{DriveTrace, Form, FreeFields, Task, read_drive_script, run_drive};
 use fw_script::{cannot_read, no_memory, socket_failed};
 use std::alloc::{AllocError, Global};
 use std::fs::File;
 use std::io;
 use std::io::{BufWriter, ErrorKind, Write};
-use std::os::unix::net::UnixStream;
-use std::time::Duration;
 
 /// FUSE_DONT_MASK (linux/fuse.h), which is always offered.
 const DONT_MASK: u32 = 0x40;
@@ -176,6 +175,7 @@ fn hex_number(text: &[u8]) -> u32 {
 fn drive_device<D: Device, W: Write + Drop>(
     rt: &HostRuntime,
     task: Task<'_>,
+    script: &[u8],
     device: &mut D,
     out: W,
 ) -> u8
@@ -183,14 +183,10 @@ fn drive_device<D: Device, W: Write + Drop>(
 {
     let alloc = rt.alloc();
     let mut faults = rt.stderr();
-    let mut input = match File::open(rt, task.name) {
-        Ok(input) => input,
-        Err(error) if error.kind() == ErrorKind::OutOfMemory => return no_memory(&mut faults),
-        Err(_) => return cannot_read(task.name, &mut faults),
-    };
     let Ok(mut out) = BufWriter::new(alloc, out) else {
         return no_memory(&mut faults);
     };
+    let mut input = script;
     run_drive(alloc, task, device, &mut input, &mut out, &mut faults)
 }
 
@@ -199,42 +195,58 @@ fn drive_over<D: Device + Drop, W: Write + Drop>(
     rt: &HostRuntime,
     task: Task<'_>,
     is_traced: bool,
+    script: &[u8],
     mut device: D,
     out: W,
 ) -> u8
     ensures { Contains (0 ∷ 1 ∷ 3 ∷ 4 ∷ 5 ∷ []) result }
 {
     if !is_traced {
-        return drive_device(rt, task, &mut device, out);
+        return drive_device(rt, task, script, &mut device, out);
     }
     let mut traced = DriveTrace::new(rt.alloc(), device, rt.stderr());
-    drive_device(rt, task, &mut traced, out)
-}
-
-/// A device over a socket on which a server listens, over which a reply is waited for so long.
-fn connect(
-    rt: &HostRuntime,
-    path: &str,
-    wait_ms: u64,
-) -> io::Result<StreamDevice<UnixStream, UnixStream>> {
-    let reader = UnixStream::connect(rt, path)?;
-    reader.set_read_timeout(Some(Duration::from_millis(wait_ms)))?;
-    let writer = reader.try_clone()?;
-    Ok(StreamDevice::of_replies(reader, writer))
+    drive_device(rt, task, script, &mut traced, out)
 }
 
 /// Drives the server on standard input and output, or on a socket, and gives the exit status.
-fn drive_place(rt: &HostRuntime, asked: DriveTask<'_>, task: Task<'_>) -> u8
+fn drive_place(rt: &HostRuntime, asked: DriveTask<'_>, task: Task<'_>, script: &[u8]) -> u8
     ensures { Contains (0 ∷ 1 ∷ 3 ∷ 4 ∷ 5 ∷ []) result }
 {
     let Some(path) = asked.socket else {
         let device = PacketDevice::giving_up(rt.reader(), io::writer(rt));
-        return drive_over(rt, task, asked.is_traced, device, rt.stderr());
+        return drive_over(rt, task, asked.is_traced, script, device, rt.stderr());
     };
-    match connect(rt, path, asked.wait_ms) {
-        Ok(device) => drive_over(rt, task, asked.is_traced, device, io::writer(rt)),
+    let deadline = Deadline::new(rt, asked.wait_ms);
+    match connect(&deadline, path) {
+        Ok((reader, writer)) => {
+            let device = StreamDevice::of_replies(reader, writer);
+            drive_over(rt, task, asked.is_traced, script, device, io::writer(rt))
+        }
         Err(error) if error.kind() == ErrorKind::OutOfMemory => no_memory(&mut rt.stderr()),
         Err(_) => socket_failed(&mut rt.stderr()),
+    }
+}
+
+/// The bytes of the script, whose lines are good, before anything is connected; or the exit status, once it is said why
+/// it is not run.
+fn script_of(rt: &HostRuntime, task: Task<'_>) -> Result<Vec<u8>, u8>
+    ensures { IfErr result (Contains (1 ∷ 3 ∷ [])) }
+{
+    let mut faults = rt.stderr();
+    match File::open(rt, task.name) {
+        Ok(mut input) => read_drive_script(rt.alloc(), task, &mut input, &mut faults),
+        Err(error) if error.kind() == ErrorKind::OutOfMemory => Err(no_memory(&mut faults)),
+        Err(_) => Err(cannot_read(task.name, &mut faults)),
+    }
+}
+
+/// Drives a server by a script, and gives the exit status.
+fn drive_task_of(rt: &HostRuntime, asked: DriveTask<'_>, task: Task<'_>) -> u8
+    ensures { Contains (0 ∷ 1 ∷ 3 ∷ 4 ∷ 5 ∷ []) result }
+{
+    match script_of(rt, task) {
+        Ok(script) => drive_place(rt, asked, task, script.as_slice()),
+        Err(status) => status,
     }
 }
 
@@ -256,5 +268,5 @@ pub fn run_drive_task(rt: &HostRuntime, asked: DriveTask<'_>) -> u8
             offer: hex_number(asked.offer.as_bytes()) | DONT_MASK,
         },
     };
-    drive_place(rt, asked, task)
+    drive_task_of(rt, asked, task)
 }

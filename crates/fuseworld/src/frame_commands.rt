@@ -1,14 +1,14 @@
-//! The commands on frames: `frame`, `reply`, `decode` and `vectors`.
+//! The commands on frames: `frame`, `reply`, `decode`, `check` and `vectors`.
 
 ghost use Rattle.std.specs.Prelude.{◌≡◌, ◌∷◌, [], Contains, IfOk, IfNone, IfSome, codes, false};
-ghost use Rattle.clap.specs.Words.{found_of, rows_of};
+ghost use Rattle.clap.specs.Words.{found_of, new_rule, rows_of};
 ghost use Rattle.fuseworld.specs.Arguments.{IsArgument, needed};
-ghost use Rattle.fuseworld.specs.Commands.{IsCommand, frame_app, reply_app, decode_app, vectors_app};
+ghost use Rattle.fuseworld.specs.Commands.{IsCommand, frame_app, reply_app, check_app, decode_app, vectors_app};
 ghost use Rattle.fuseworld.specs.Statuses.{frame_statuses, input_statuses};
 ghost use Rattle.fuseworld.specs.Tasks.{AsksFrame, is_frame_command};
 
 use crate::arguments::{flag, needed, optional};
-use crate::decode::run_decode;
+use crate::capture::{CaptureTask, run_capture};
 use crate::doing::{InputTask, do_task};
 use crate::values::{is_set, text, text_or_none};
 use clap::{Arg, ArgMatches, Command};
@@ -25,6 +25,8 @@ pub enum FrameTask<'a> {
     Reply { name: &'a str, hex: &'a str },
     /// The capture in a file, or on standard input.
     Decode { file: Option<&'a str> },
+    /// The same, judged.
+    Check { file: Option<&'a str> },
     /// Frames of each kind with the codec's verdicts.
     Vectors,
 }
@@ -64,18 +66,33 @@ pub fn reply_command<'a>(alloc: Global) -> Result<Command<'a>, AllocError>
         .arg(hex_argument(alloc))
 }
 
+/// The argument that is a capture.
+fn capture_argument<'a>(alloc: Global) -> Arg<'a>
+    ensures { IsArgument (new_rule (codes "FILE")) result }
+{
+    optional(
+        alloc,
+        "FILE",
+        "The capture: `>` and a request, or `<` and a reply, in hex, a line each",
+    )
+}
+
 /// The command `decode`.
 pub fn decode_command<'a>(alloc: Global) -> Result<Command<'a>, AllocError>
     ensures { IfOk result (IsCommand decode_app) }
 {
-    let file = optional(
-        alloc,
-        "FILE",
-        "The capture: `>` and a request, or `<` and a reply, in hex, a line each",
-    );
     Command::new(alloc, "decode")
-        .about("Print the frames of a capture in words, and what a kernel makes of each reply")
-        .arg(file)
+        .about("Print the frames of a capture in words, and the faults in each")
+        .arg(capture_argument(alloc))
+}
+
+/// The command `check`.
+pub fn check_command<'a>(alloc: Global) -> Result<Command<'a>, AllocError>
+    ensures { IfOk result (IsCommand check_app) }
+{
+    Command::new(alloc, "check")
+        .about("Judge a capture: which rule of the protocol is broken, in which line, and by whom")
+        .arg(capture_argument(alloc))
 }
 
 /// The command `vectors`.
@@ -98,6 +115,10 @@ pub fn frame_task<'a>(name: &str, matches: &ArgMatches<'a>) -> Option<FrameTask<
     if name == "decode" {
         let file = text_or_none(matches, "FILE");
         return Some(FrameTask::Decode { file });
+    }
+    if name == "check" {
+        let file = text_or_none(matches, "FILE");
+        return Some(FrameTask::Check { file });
     }
     let hex = text(matches, "HEX");
     if name == "frame" {
@@ -149,7 +170,8 @@ pub fn run_frame_task(rt: &HostRuntime, task: FrameTask<'_>) -> u8
     match task {
         FrameTask::Frame { hex, words } => run_one(rt, InputTask::Frame { hex, words }),
         FrameTask::Reply { name, hex } => run_one(rt, InputTask::Reply { name, hex }),
-        FrameTask::Decode { file } => run_decode(rt, file),
+        FrameTask::Decode { file } => run_capture(rt, CaptureTask::Decode, file),
+        FrameTask::Check { file } => run_capture(rt, CaptureTask::Check, file),
         FrameTask::Vectors => run_vectors(rt),
     }
 }

@@ -2,8 +2,8 @@
 #![tactic(auto)]
 
 mod arguments;
+mod capture;
 mod command;
-mod decode;
 mod doing;
 mod draw;
 mod drive;
@@ -12,6 +12,7 @@ mod serve;
 mod serve_words;
 mod sides;
 mod socket;
+mod timed_socket;
 mod values;
 mod version;
 

@@ -5,10 +5,15 @@ ghost use Rattle.fuse_spec.specs.Values.Numbers.{max_validity};
 
 use fuse_device::{Device, PacketDevice, StreamDevice};
 use fw_script::{no_memory, socket_failed};
-use fw_serve::{Mount, TracedDevice, serve_device};
+use fw_serve::{Mount, TracedDevice, WaitingReader, WaitingWriter, serve_device};
 use std::io::{BufWriter, ErrorKind};
 use std::os::unix::net::{UnixListener, UnixStream};
 use std::{fs, io};
+
+/// The descriptors of standard input and output.
+const STANDARD_INPUT: i32 = 0;
+
+const STANDARD_OUTPUT: i32 = 1;
 
 /// One run of `serve`.
 #[derive(Clone, Copy)]
@@ -49,12 +54,14 @@ fn connect(rt: &HostRuntime, path: &str) -> io::Result<StreamDevice<UnixStream, 
     Ok(StreamDevice::new(reader, writer))
 }
 
-/// Serves what the task names, and gives the exit status.
+/// Serves what the task names, and gives the exit status. Standard input and output may be descriptors that do not block.
 pub fn run_serve(rt: &HostRuntime, task: ServeTask<'_>) -> u8
     ensures { Contains (0 ∷ 3 ∷ 4 ∷ []) result }
 {
     let Some(path) = task.socket else {
-        return serve_over(rt, task, PacketDevice::new(rt.reader(), io::writer(rt)));
+        let reader = WaitingReader::new(rt.reader(), STANDARD_INPUT);
+        let writer = WaitingWriter::new(io::writer(rt), STANDARD_OUTPUT);
+        return serve_over(rt, task, PacketDevice::new(reader, writer));
     };
     match connect(rt, path) {
         Ok(device) => serve_over(rt, task, device),

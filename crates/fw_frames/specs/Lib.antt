@@ -1,4 +1,3 @@
-pub mod Captures
 pub mod Frames
 pub mod HexTexts
 pub mod Stops

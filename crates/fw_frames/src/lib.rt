@@ -1,11 +1,6 @@
 //! Frames in words: what a request or a reply says, read from its hex.
 #![tactic(auto)]
 
-mod capture_line;
-mod capture_reply;
-mod capture_request;
-mod conversation;
-mod decode;
 mod entry_words;
 mod flag_words;
 mod frame;
@@ -17,7 +12,6 @@ mod reply_words;
 mod request_words;
 mod stop;
 
-pub use decode::{decode_capture, judge_capture};
 pub use frame::run_frame;
 pub use hex_text::{HexFault, is_hex, read_hex, write_hex};
 pub use opcode_name::opcode_of_name;

@@ -3,17 +3,12 @@
 ghost use Rattle.std.specs.Prelude.{◌≡◌};
 ghost use Rattle.fw_frames.specs.Stops.{frame_status_of};
 
-use crate::capture_line::CaptureFault;
 use std::io::Write;
 use thiserror::Error;
 
 /// Why a command ends early.
 #[derive(Clone, Copy, Debug, Drop, Error)]
 pub(crate) enum Stop<'a> {
-    #[error("cannot read {name}")]
-    CannotRead { name: &'a str },
-    #[error("line {number}: {fault}")]
-    BadLine { number: u64, fault: CaptureFault },
     #[error("bad hex")]
     BadHex,
     #[error("unknown opcode {name}")]
@@ -38,13 +33,13 @@ impl Stop<'_> {
         self.status()
     }
 
-    /// The exit status: 1 where the input cannot be read, 2 where the command line names no opcode, 3 where memory runs
+    /// The exit status: 1 where the text is no hex, 2 where the command line names no opcode, 3 where memory runs
     /// out, 5 where standard output refuses.
     fn status(self) -> u8
         ensures { result ≡ frame_status_of self.entry }
     {
         match self {
-            Stop::CannotRead { .. } | Stop::BadLine { .. } | Stop::BadHex => 1,
+            Stop::BadHex => 1,
             Stop::UnknownOpcode { .. } => 2,
             Stop::NoMemory => 3,
             Stop::OutputRefused => 5,

@@ -18,9 +18,10 @@ returns c =
     let frame = c.with_command-program-4.ensures _ _ draw c.frame_command.ensures in
     let reply = c.with_command-program-5.ensures _ _ frame c.reply_command.ensures in
     let decode = c.with_command-program-6.ensures _ _ reply c.decode_command.ensures in
-    let vectors = c.with_command-program-7.ensures _ _ decode c.vectors_command.ensures in
-    let served = c.with_command-program-8.ensures _ _ vectors serve.2 in
-    let drive = c.with_command-program-9.ensures _ _ served c.drive_command.ensures in
-    let kernel = c.with_command-program-10.ensures _ _ drive c.kernel_command.ensures in
+    let check = c.with_command-program-7.ensures _ _ decode c.check_command.ensures in
+    let vectors = c.with_command-program-8.ensures _ _ check c.vectors_command.ensures in
+    let served = c.with_command-program-9.ensures _ _ vectors serve.2 in
+    let drive = c.with_command-program-10.ensures _ _ served c.drive_command.ensures in
+    let kernel = c.with_command-program-11.ensures _ _ drive c.kernel_command.ensures in
     IfOk-weaker c.with_command.result _ _ (λ whole is. (serve.0, serve.1, is))
     (c.with_command.ensures _ _ kernel c.server_command.ensures)

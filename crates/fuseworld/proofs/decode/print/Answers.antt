@@ -1,5 +1,0 @@
-use Rattle.std.proofs.Common.{arith, refl}
-use Rattle.fuseworld.proofs.decode.print.Goals as goal
-
-pub returns-in_default : goal.returns-in_default
-returns-in_default g c = rw c.no_memory.ensures.status (2, omega arith, refl)

@@ -1,0 +1,100 @@
+//! A socket over which a reply is waited for so long, and no longer, whatever comes between.
+
+use std::cell::Cell;
+use std::io;
+use std::io::{Read, Write};
+use std::os::unix::net::UnixStream;
+use std::time::{Duration, Instant};
+
+/// EAGAIN, by which a reader says that the time is over.
+const EAGAIN: i32 = 11;
+
+/// Until when a reply is waited for: so long from what was sent last.
+#[derive(Drop)]
+pub struct Deadline<'a> {
+    rt: &'a HostRuntime,
+    wait: Duration,
+    sent: Cell<Option<Instant>>,
+}
+
+impl<'a> Deadline<'a> {
+    /// The first reply is waited for from now on.
+    pub fn new(rt: &'a HostRuntime, wait_ms: u64) -> Self {
+        Deadline {
+            rt,
+            wait: Duration::from_millis(wait_ms),
+            sent: Cell::new(Instant::now(rt).ok()),
+        }
+    }
+
+    /// A reply is waited for from now on.
+    fn begin(&self) {
+        self.sent.set(Instant::now(self.rt).ok());
+    }
+
+    /// How long a reply is waited for still. Without a clock it is the whole time.
+    fn left(&self) -> Duration {
+        let Some(sent) = self.sent.get() else {
+            return self.wait;
+        };
+        match sent.elapsed(self.rt) {
+            Ok(elapsed) => self.wait.saturating_sub(elapsed),
+            Err(_) => self.wait,
+        }
+    }
+}
+
+/// The end of a socket from which replies come.
+#[derive(Drop)]
+pub struct TimedReader<'a> {
+    stream: UnixStream,
+    deadline: &'a Deadline<'a>,
+}
+
+impl Read for TimedReader<'_> {
+    fn read(&mut self, buf: &mut [u8]) -> io::Result<usize> {
+        let left = self.deadline.left();
+        if left.is_zero() {
+            return Err(io::Error::from_raw_os_error(EAGAIN));
+        }
+        self.stream.set_read_timeout(Some(left))?;
+        self.stream.read(buf)
+    }
+}
+
+/// The end of a socket into which requests go. One that takes no bytes for the whole time fails.
+#[derive(Drop)]
+pub struct TimedWriter<'a> {
+    stream: UnixStream,
+    deadline: &'a Deadline<'a>,
+}
+
+impl Write for TimedWriter<'_> {
+    fn write(&mut self, buf: &[u8]) -> io::Result<usize> {
+        let count = self.stream.write(buf)?;
+        self.deadline.begin();
+        Ok(count)
+    }
+
+    fn flush(&mut self) -> io::Result<()> {
+        self.stream.flush()
+    }
+}
+
+/// The two ends of a socket at a path, on which a server listens.
+///
+/// # Errors
+///
+/// Nobody listens there, or the system has none to give.
+pub fn connect<'a>(
+    deadline: &'a Deadline<'a>,
+    path: &str,
+) -> io::Result<(TimedReader<'a>, TimedWriter<'a>)> {
+    let stream = UnixStream::connect(deadline.rt, path)?;
+    stream.set_write_timeout(Some(deadline.wait))?;
+    let reader = TimedReader {
+        stream: stream.try_clone()?,
+        deadline,
+    };
+    Ok((reader, TimedWriter { stream, deadline }))
+}

@@ -1,0 +1,13 @@
+//! The command `decode`: a capture in words, frame after frame, with what the judge of sessions says of each.
+//!
+//! Frames are read by the table of `fuse_protocol` and by what INIT agreed on, and printed by `frame_words`.
+#![tactic(auto)]
+
+mod decode;
+mod frames;
+mod lines;
+mod session;
+mod stop;
+mod totals;
+
+pub use decode::run_decode;

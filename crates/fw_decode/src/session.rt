@@ -1,0 +1,95 @@
+//! A capture, transfer after transfer.
+
+use crate::frames::{write_answered, write_asked};
+use crate::stop::{Stop, taken};
+use crate::totals::Totals;
+use fuse_judge::SessionJudge;
+use fuse_sessions::{Act, Fault, Taken, Transfer};
+use fw_check::{fault_words, party_word};
+use std::alloc::Allocator;
+use std::io;
+use std::io::Write;
+
+/// A capture so far: what the judge has seen of it, and what it comes to.
+#[derive(Drop)]
+pub(crate) struct Decoding<A: Allocator + Copy> {
+    judge: SessionJudge<A>,
+    totals: Totals<A>,
+    acts: Vec<Act, A>,
+    verdicts: Vec<Option<Fault>, A>,
+}
+
+/// Writes what the device made of a frame that it did not take.
+fn write_taken<W: Write>(out: &mut W, taken: Taken) -> io::Result<()> {
+    match taken {
+        Taken::Accepted => Ok(()),
+        Taken::NoEntry => out.write_all(b"; refused ENOENT"),
+        Taken::Invalid => out.write_all(b"; refused EINVAL"),
+        Taken::Failed => out.write_all(b"; refused"),
+    }
+}
+
+/// Writes each fault.
+fn write_verdicts<W: Write>(out: &mut W, verdicts: &[Option<Fault>]) -> io::Result<()> {
+    for verdict in verdicts {
+        if let Some(fault) = *verdict {
+            let party = party_word(fault.party());
+            let words = fault_words(fault);
+            write!(out, "; {party}: {words}")?;
+        }
+    }
+    Ok(())
+}
+
+impl<A: Allocator + Copy> Decoding<A> {
+    /// Of nothing.
+    pub(crate) fn new(alloc: A) -> Self {
+        Decoding {
+            judge: SessionJudge::new(alloc),
+            totals: Totals::new(alloc),
+            acts: Vec::new(alloc),
+            verdicts: Vec::new(alloc),
+        }
+    }
+
+    /// Writes a transfer in words.
+    fn write_transfer<W: Write>(&self, transfer: Transfer<'_>, out: &mut W) -> io::Result<()> {
+        match transfer {
+            Transfer::Request(bytes) => {
+                out.write_all(b"> ")?;
+                write_asked(out, self.judge.agreed(), bytes)
+            }
+            Transfer::Written(bytes, taken) => {
+                out.write_all(b"< ")?;
+                write_answered(out, &self.judge, bytes)?;
+                write_taken(out, taken)
+            }
+            Transfer::SeveralReaders => out.write_all(b"= several readers"),
+            Transfer::Ended => out.write_all(b"= ended"),
+        }
+    }
+
+    /// Writes the line of the next transfer, and notes it.
+    pub(crate) fn decode<W: Write>(
+        &mut self,
+        transfer: Transfer<'_>,
+        is_cut: bool,
+        out: &mut W,
+    ) -> Result<(), Stop<'static>> {
+        taken(self.write_transfer(transfer, out))?;
+        let seen = self.judge.see(transfer, &mut self.acts, &mut self.verdicts);
+        seen.map_err(|_| Stop::NoMemory)?;
+        taken(write_verdicts(out, self.verdicts.as_slice()))?;
+        taken(out.write_all(b"\n"))?;
+        self.totals.count(transfer, is_cut);
+        for act in &self.acts {
+            self.totals.note(*act).map_err(|_| Stop::NoMemory)?;
+        }
+        Ok(())
+    }
+
+    /// Writes the last line.
+    pub(crate) fn write_end<W: Write>(&self, out: &mut W) -> Result<(), Stop<'static>> {
+        taken(self.totals.write_end(out))
+    }
+}
