@@ -115,6 +115,7 @@ test:
 	@log=$$(mktemp); RT_JOBS=$$(nproc) rt ci > "$$log" 2>&1; status=$$?; cat "$$log"; \
 		if [ $$status = 0 ]; then sh tests/run_rows.sh; status=$$?; fi; \
 		if [ $$status = 0 ]; then sh tests/run_frames.sh; status=$$?; fi; \
+		if [ $$status = 0 ]; then sh tests/run_check.sh; status=$$?; fi; \
 		if [ $$status = 0 ]; then sh tests/run_sides.sh; status=$$?; fi; \
 		if [ $$status = 0 ]; then sh tests/run_draw.sh; status=$$?; fi; \
 		if [ $$status = 0 ]; then python3 tests/run_tutorial.py; status=$$?; fi; \

@@ -1,0 +1,119 @@
+#!/bin/sh
+# Runs the command `check` of the built program on each capture of tests/sessions, whose printed lines stand in the file of
+# the same name with .expected, and looks whether tests/session_frames.py still writes both. Then the ways to name a
+# capture, bad lines, and what cannot be read or written.
+# Prints a line for each case that differs, and ends with status 1 where there is one.
+set -u
+cd "$(dirname "$0")/.." || exit 1
+. tests/judge.sh
+
+# judged NAME STATUS FILE: compares what `check` prints of a capture with what stands in the file, and standard error with
+# nothing.
+judged() {
+    "$program" check "$3" < /dev/null > "$work/out" 2> "$work/err"
+    judge "$1" $? "$2"
+}
+
+: > "$work/want-err"
+python3 tests/session_frames.py > "$work/out"
+code=$?
+: > "$work/want-out"
+: > "$work/err"
+judge "the files of tests/sessions" "$code" 0
+
+for capture in tests/sessions/*.capture; do
+    expected=${capture%.capture}.expected
+    cp "$expected" "$work/want-out"
+    status=6
+    tail -n 1 "$expected" | grep -qx "faults: kernel 0 server 0 device 0" && status=0
+    judged "$capture" "$status" "$capture"
+done
+
+# Each rule is broken somewhere.
+cat tests/sessions/*.expected | sed -n 's/^line [0-9]*: \([a-z]*: [^:]*\).*/\1/p' | sort -u | wc -l > "$work/out"
+echo 39 > "$work/want-out"
+: > "$work/err"
+judge "how many rules are broken in tests/sessions" 0 0
+
+# The same capture with CRLF, in upper-case hex and with times says the same.
+capture=tests/sessions/forgets.capture
+cp tests/sessions/forgets.expected "$work/want-out"
+sed 's/$/\r/' "$capture" > "$work/capture"
+judged "lines that end with CRLF" 6 "$work/capture"
+sed '/^[<>]/y/abcdef/ABCDEF/' "$capture" > "$work/capture"
+judged "hex of upper case" 6 "$work/capture"
+sed 's/^\([<>]\) /\1 @1700000000000000000 /' "$capture" > "$work/capture"
+judged "lines with times" 6 "$work/capture"
+# The last line feed may be missing.
+printf %s "$(cat "$capture")" > "$work/capture"
+judged "no line feed at the end" 6 "$work/capture"
+
+# From standard input.
+"$program" check < "$capture" > "$work/out" 2> "$work/err"
+judge "standard input" $? 6
+"$program" check - < "$capture" > "$work/out" 2> "$work/err"
+judge "standard input, by its name" $? 6
+printf 'requests 0 replies 0 notifications 0 refused 0 entries 0 forgotten 0\nfaults: kernel 0 server 0 device 0\n' > "$work/want-out"
+"$program" check < /dev/null > "$work/out" 2> "$work/err"
+judge "nothing" $? 0
+
+# A bad line: what was printed before it stays, and no counts follow.
+head -n 5 tests/sessions/device.capture > "$work/begin"
+head -n 2 tests/sessions/device.expected > "$work/faults"
+while IFS=: read -r fault words; do
+    cp "$work/begin" "$work/capture"
+    echo "$words" >> "$work/capture"
+    cp "$work/faults" "$work/want-out"
+    echo "line 6: $fault" > "$work/want-err"
+    judged "a bad line: $words" 1 "$work/capture"
+done <<END
+unknown direction:00
+unknown direction: > 00
+unknown direction:>00
+unknown direction:x
+bad hex:> 0
+bad hex:> zz
+bad hex:> @x 00
+bad hex:> @01 00
+bad hex:< @18446744073709551616 00
+wrong words:> 00 00
+wrong words:> 00 +01
+wrong words:> 00  +1
+wrong words:> 00 ENOENT
+wrong words:< 00 enoent
+wrong words:< 00 E
+wrong words:< 00 ENOENT EINVAL
+wrong words:< 00 ENOENT +1
+wrong words:< 00 +16777216
+wrong words:=
+wrong words:= ended
+wrong words:= ended ok
+wrong words:= several
+END
+
+# What cannot be read, and what cannot be written.
+: > "$work/want-out"
+echo "cannot read $work/none" > "$work/want-err"
+judged "no such file" 1 "$work/none"
+echo "cannot read $work" > "$work/want-err"
+judged "a folder" 1 "$work"
+: > "$work/want-err"
+for capture in tests/sessions/good-names.capture tests/sessions/forgets.capture; do
+    "$program" check "$capture" > /dev/full 2> "$work/err"
+    code=$?
+    : > "$work/out"
+    judge "$capture to a full device" "$code" 5
+done
+
+# The command line. Its help goes to standard error.
+for words in "check --help" "check a b" "check --unknown"; do
+    # shellcheck disable=SC2086
+    "$program" $words < /dev/null > "$work/out" 2> "$work/err"
+    code=$?
+    cp "$work/err" "$work/want-err"
+    [ -s "$work/err" ] || echo "help" > "$work/want-err"
+    judge "command line: $words" "$code" 2
+done
+
+echo "$passed captures and ways to check one passed, $failed failed"
+[ "$failed" = 0 ]

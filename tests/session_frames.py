@@ -1,0 +1,729 @@
+#!/usr/bin/env python3
+"""Frames of linux/fuse.h, and the captures of tests/sessions, each with the lines that `fuseworld check` has to print.
+
+Each session is written here a transfer at a time, with the faults that the definitions have of it behind it. Without
+arguments the files are compared with what is written here, and the status is 1 where one differs; `--write` writes them.
+"""
+import struct
+import sys
+from pathlib import Path
+
+FOLDER = Path(__file__).resolve().parent / "sessions"
+OPCODES = {
+    "LOOKUP": 1, "FORGET": 2, "GETATTR": 3, "SETATTR": 4, "READLINK": 5, "SYMLINK": 6, "MKNOD": 8, "MKDIR": 9, "UNLINK": 10,
+    "RMDIR": 11, "RENAME": 12, "LINK": 13, "OPEN": 14, "READ": 15, "WRITE": 16, "STATFS": 17, "RELEASE": 18, "FSYNC": 20,
+    "SETXATTR": 21, "GETXATTR": 22, "LISTXATTR": 23, "REMOVEXATTR": 24, "FLUSH": 25, "INIT": 26, "OPENDIR": 27, "READDIR": 28,
+    "RELEASEDIR": 29, "FSYNCDIR": 30, "GETLK": 31, "SETLK": 32, "SETLKW": 33, "ACCESS": 34, "CREATE": 35, "INTERRUPT": 36,
+    "BMAP": 37, "DESTROY": 38, "IOCTL": 39, "POLL": 40, "NOTIFY_REPLY": 41, "BATCH_FORGET": 42, "FALLOCATE": 43,
+    "READDIRPLUS": 44, "RENAME2": 45, "LSEEK": 46, "COPY_FILE_RANGE": 47, "SETUPMAPPING": 48, "REMOVEMAPPING": 49,
+    "SYNCFS": 50, "TMPFILE": 51, "STATX": 52, "COPY_FILE_RANGE_64": 53,
+}
+NAMES = {code: name for name, code in OPCODES.items()}
+DIRECTORY, REGULAR, LINK = 0o040755, 0o100644, 0o120777
+EIO, EAGAIN, ENOENT, ENOSYS = 5, 11, 2, 38
+
+
+# ---- frames
+
+def request(opcode, unique, nodeid, body=b"", length=None, extensions=0):
+    """struct fuse_in_header, and a body. `length` stands in place of the frame's own."""
+    code = OPCODES.get(opcode, opcode)
+    size = 40 + len(body) if length is None else length
+    return struct.pack("<IIQQIIIHH", size, code, unique, nodeid, 1000, 1000, 77, extensions, 0) + body
+
+
+def reply(unique, body=b"", error=0, length=None):
+    """struct fuse_out_header, and a body. `error` is the errno, or 0."""
+    return struct.pack("<IiQ", 16 + len(body) if length is None else length, -error, unique) + body
+
+
+def notification(code, body=b"", length=None):
+    return struct.pack("<IiQ", 16 + len(body) if length is None else length, code, 0) + body
+
+
+def text(*names):
+    return b"".join(name.encode() + b"\0" for name in names)
+
+
+def numbers(form, *values):
+    return struct.pack("<" + form, *values)
+
+
+def attributes(ino, mode, size=0):
+    """struct fuse_attr: 88 bytes."""
+    return numbers("QQQQQQIIIIIIIIII", ino, size, 0, 1, 1, 1, 0, 0, 0, mode, 1, 0, 0, 0, 4096, 0)
+
+
+def attributes_reply(ino, mode, size=0):
+    """struct fuse_attr_out"""
+    return numbers("QII", 1, 0, 0) + attributes(ino, mode, size)
+
+
+def entry(nodeid, ino, mode=REGULAR, generation=0, size=0):
+    """struct fuse_entry_out: 128 bytes."""
+    return numbers("QQQQII", nodeid, generation, 1, 1, 0, 0) + attributes(ino, mode, size)
+
+
+def opened(handle):
+    """struct fuse_open_out"""
+    return numbers("QII", handle, 0, 0)
+
+
+def record(name, ino, offset, kind=8):
+    """struct fuse_dirent, filled up to eight bytes"""
+    data = numbers("QQII", ino, offset, len(name), kind) + name.encode()
+    return data + b"\0" * (-len(data) % 8)
+
+
+def init_request(unique=2, flags=0, flags2=0, major=7, minor=45):
+    """struct fuse_init_in, with eleven words that are not used"""
+    return request("INIT", unique, 0, numbers("IIIII", major, minor, 131072, flags, flags2) + b"\0" * 44)
+
+
+def init_reply(unique=2, flags=0, flags2=0, major=7, minor=45, max_write=8192, max_pages=0):
+    """struct fuse_init_out: 64 bytes."""
+    body = numbers("IIIIHHIIHHI", major, minor, 131072, flags, 12, 9, max_write, 1, max_pages, 0, flags2)
+    return reply(unique, body.ljust(64, b"\0"))
+
+
+def read_body(handle, size=4096, offset=0):
+    """struct fuse_read_in"""
+    return numbers("QQIIQII", handle, offset, size, 0, 0, 0, 0)
+
+
+def write_body(handle, data, size=None):
+    """struct fuse_write_in, and the data"""
+    return numbers("QQIIQII", handle, 0, len(data) if size is None else size, 0, 0, 0, 0) + data
+
+
+def release_body(handle):
+    """struct fuse_release_in"""
+    return numbers("QIIQ", handle, 0, 0, 0)
+
+
+def copy_body(handle, node, other, size):
+    """struct fuse_copy_file_range_in"""
+    return numbers("QQQQQQQ", handle, 0, node, other, 0, size, 0)
+
+
+def getattr_body(handle=None):
+    """struct fuse_getattr_in, with GETATTR_FH where there is a handle"""
+    return numbers("IIQ", 0 if handle is None else 1, 0, handle or 0)
+
+
+def setattr_body(handle=None):
+    """struct fuse_setattr_in, with FATTR_FH where there is a handle"""
+    return numbers("IIQ", 0 if handle is None else 64, 0, handle or 0).ljust(88, b"\0")
+
+
+# ---- sessions
+
+class Session:
+    """The lines of a capture, and what is to be printed of it."""
+
+    def __init__(self, about):
+        self.lines = [f"# {about}"]
+        self.faults = []
+        self.counted = dict.fromkeys(("requests", "replies", "notifications", "refused"), 0)
+
+    def line(self, words, *faults):
+        """A line, and its faults, each as `PARTY: RULE` and what it is about."""
+        self.lines.append(words)
+        self.faults += [f"line {len(self.lines)}: {fault}" for fault in faults]
+
+    def read(self, frame, *faults, more=0):
+        self.counted["requests"] += 1
+        self.line(f"> {frame.hex()}" + (f" +{more}" if more else ""), *faults)
+
+    def write(self, frame, *faults, errno=""):
+        """A reply or a notification, and the errno with which the device refused it."""
+        kind = "replies" if any(frame[8:16]) else "notifications"
+        self.counted[kind] += 1
+        self.counted["refused"] += kind == "replies" and errno != ""
+        self.line(f"< {frame.hex()}" + (f" {errno}" if errno else ""), *faults)
+
+    def ask(self, opcode, unique, nodeid, body=b"", answer=b"", error=0, faults=(), more=0):
+        """A good request and its reply."""
+        self.read(request(opcode, unique, nodeid, body), more=more)
+        self.write(reply(unique, answer, error), *faults)
+
+    def begin(self, **agreed):
+        self.read(init_request())
+        self.write(init_reply(**agreed))
+
+    def end(self, entries=0, forgotten=0):
+        """The two lines of counts."""
+        parties = [fault.split(": ")[1] for fault in self.faults]
+        transfers = " ".join(f"{word} {count}" for word, count in self.counted.items())
+        return "\n".join([
+            *self.faults, f"{transfers} entries {entries} forgotten {forgotten}",
+            "faults: " + " ".join(f"{party} {parties.count(party)}" for party in ("kernel", "server", "device")), "",
+        ])
+
+
+def malformed_requests():
+    s = Session("Requests that are none: their length, opcode, names or size are wrong.")
+    s.begin()
+    bad = "kernel: malformed request"
+    s.read(request("LOOKUP", 4, 1, text("a"), length=43), bad)
+    s.read(request("LOOKUP", 4, 1, text("a"))[:20], bad)
+    s.read(request(99, 4, 1), bad)
+    s.read(request(7, 4, 1), bad)
+    s.read(request("LOOKUP", 4, 1, b"a"), bad)
+    s.read(request("LOOKUP", 4, 1, text("")), bad)
+    s.read(request("LOOKUP", 4, 1, text("a/b")), bad)
+    s.read(request("LOOKUP", 4, 1, text("..")), bad)
+    s.read(request("LOOKUP", 4, 1, text("a" * 1025)), bad)
+    s.read(request("MKDIR", 4, 1, numbers("II", 0o755, 0) + text(".")), bad)
+    s.read(request("RENAME", 4, 1, numbers("Q", 1) + text("a")), bad)
+    s.read(request("GETATTR", 4, 1, getattr_body() + b"\0"), bad)
+    s.read(request("WRITE", 4, 1, write_body(1, b"abc", size=4)), bad)
+    s.read(request("BATCH_FORGET", 4, 0, numbers("IIQQ", 2, 0, 5, 1)), bad)
+    # 1,024 bytes are a name, and none of those before took the number
+    s.ask("LOOKUP", 4, 1, text("a" * 1024), error=ENOENT)
+    return s, s.end()
+
+
+def requests_before_init():
+    s = Session("Requests before INIT is accepted, and two INITs that are not first.")
+    s.read(request("LOOKUP", 2, 1, text("a")), "kernel: request before INIT: LOOKUP")
+    s.read(init_request(4), "kernel: INIT is not first: INIT")
+    s.read(request("STATFS", 6, 1), "kernel: request before INIT: STATFS")
+    s.write(init_reply(4))
+    s.ask("STATFS", 8, 1, answer=b"\0" * 80)
+    s.read(init_request(10), "kernel: INIT is not first: INIT")
+    return s, s.end()
+
+
+def numbers_of_requests():
+    s = Session("Numbers that are odd, used twice or out of order.")
+    s.begin()
+    s.read(request("STATFS", 5, 1), "kernel: odd number: STATFS 5")
+    s.ask("STATFS", 6, 1, answer=b"\0" * 80)
+    s.read(request("GETATTR", 6, 1, getattr_body()), "kernel: number used twice: GETATTR 6")
+    s.read(request("GETATTR", 6, 1, getattr_body()), "kernel: number used twice: GETATTR 6")
+    s.ask("LOOKUP", 12, 1, text("a"), entry(2, 20))
+    s.read(request("STATFS", 10, 1), "kernel: number out of order: STATFS 10")
+    s.read(request("FORGET", 8, 2, numbers("Q", 1)), "kernel: number out of order: FORGET 8")
+    # a FORGET is numbered as it is read: requests that were numbered before may follow
+    s.ask("LOOKUP", 14, 1, text("a"), entry(2, 20))
+    s.read(request("FORGET", 20, 2, numbers("Q", 1)))
+    s.read(request("STATFS", 16, 1))
+    s.read(request("STATFS", 20, 1), "kernel: number used twice: STATFS 20")
+    return s, s.end(entries=2, forgotten=2)
+
+
+def several_readers():
+    s = Session("Where several threads read, numbers need not rise, and none is read twice.")
+    s.begin()
+    s.line("= several readers")
+    s.read(request("STATFS", 8, 1))
+    s.read(request("STATFS", 6, 1))
+    s.read(request("STATFS", 6, 1), "kernel: number used twice: STATFS 6")
+    s.read(request("STATFS", 5, 1), "kernel: odd number: STATFS 5")
+    return s, s.end()
+
+
+def interrupts():
+    s = Session("INTERRUPTs of what does not wait, under another number, and too often.")
+    s.begin()
+    s.read(request("STATFS", 4, 1))
+    s.read(request("INTERRUPT", 5, 0, numbers("Q", 4)))
+    s.read(request("INTERRUPT", 5, 0, numbers("Q", 4)), "kernel: INTERRUPT too often: INTERRUPT 5 of 4")
+    s.write(reply(4, error=4))
+    s.read(request("INTERRUPT", 5, 0, numbers("Q", 4)), "kernel: INTERRUPT of nothing: INTERRUPT 5 of 4")
+    s.read(request("INTERRUPT", 91, 0, numbers("Q", 90)), "kernel: INTERRUPT of nothing: INTERRUPT 91 of 90")
+    s.read(request("STATFS", 6, 1))
+    s.read(request("INTERRUPT", 9, 0, numbers("Q", 6)), "kernel: INTERRUPT under another number: INTERRUPT 9 of 6")
+    s.read(request("STATFS", 10, 1))
+    s.read(request("INTERRUPT", 11, 0, numbers("Q", 10)))
+    s.write(reply(11, error=EAGAIN))
+    s.read(request("INTERRUPT", 11, 0, numbers("Q", 10)))
+    s.write(reply(11))
+    s.read(request("INTERRUPT", 11, 0, numbers("Q", 10)), "kernel: INTERRUPT too often: INTERRUPT 11 of 10")
+    s.write(reply(10, b"\0" * 80))
+    return s, s.end()
+
+
+def nodes_not_counted():
+    s = Session("Nodes that requests name and no entry gave, or that were forgotten.")
+    s.begin()
+    s.read(request("GETATTR", 4, 9, getattr_body()), "kernel: node that is not counted: node 9")
+    s.read(request("RENAME", 6, 1, numbers("Q", 8) + text("a", "b")), "kernel: node that is not counted: node 8")
+    s.read(request("LINK", 8, 7, numbers("Q", 6) + text("a")), "kernel: node that is not counted: node 7",
+           "kernel: node that is not counted: node 6")
+    s.ask("LOOKUP", 10, 1, text("a"), entry(2, 20))
+    s.read(request("FORGET", 12, 2, numbers("Q", 1)))
+    s.read(request("READLINK", 14, 2), "kernel: node that is not counted: node 2")
+    # a refused entry gives nothing
+    s.read(request("LOOKUP", 16, 1, text("b")))
+    s.write(reply(16, entry(3, 30)), "device: right reply refused: unique 16", errno="EINVAL")
+    s.read(request("STATFS", 18, 3), "kernel: node that is not counted: node 3")
+    return s, s.end(entries=1, forgotten=1)
+
+
+def forgets():
+    s = Session("Forgets of the root, of no lookup, of more than is counted, and of a node in use.")
+    s.begin()
+    s.ask("LOOKUP", 4, 1, text("a"), entry(2, 20))
+    s.ask("LOOKUP", 6, 1, text("a"), entry(2, 20))
+    s.read(request("FORGET", 8, 1, numbers("Q", 1)), "kernel: forget of the root: node 1 lookups 1")
+    s.read(request("FORGET", 10, 2, numbers("Q", 0)), "kernel: forget of no lookup: node 2 lookups 0")
+    s.read(request("FORGET", 12, 2, numbers("Q", 3)), "kernel: forget of more than is counted: node 2 lookups 3")
+    s.ask("LOOKUP", 14, 1, text("b"), entry(3, 30))
+    s.ask("LOOKUP", 16, 1, text("c"), entry(4, 40))
+    s.read(request("GETATTR", 18, 3, getattr_body()))
+    s.ask("OPEN", 20, 4, numbers("II", 0, 0), opened(5))
+    pairs = numbers("II", 4, 0) + numbers("QQQQQQQQ", 3, 1, 4, 1, 9, 1, 1, 0)
+    s.read(request("BATCH_FORGET", 22, 0, pairs), "kernel: forget of a node in use: node 3 lookups 1",
+           "kernel: forget of a node in use: node 4 lookups 1", "kernel: forget of more than is counted: node 9 lookups 1",
+           "kernel: forget of the root: node 1 lookups 0")
+    # one of two lookups may be forgotten while the node is in use
+    s.ask("LOOKUP", 24, 1, text("d"), entry(6, 60))
+    s.ask("LOOKUP", 26, 1, text("d"), entry(6, 60))
+    s.read(request("GETATTR", 28, 6, getattr_body()))
+    s.read(request("FORGET", 30, 6, numbers("Q", 1)))
+    return s, s.end(entries=6, forgotten=1 + 0 + 3 + 1 + 1 + 1 + 0 + 1)
+
+
+def open_files():
+    s = Session("File handles that are not open, and releases of them.")
+    s.begin()
+    s.ask("LOOKUP", 4, 1, text("a"), entry(2, 20))
+    s.ask("OPEN", 6, 2, numbers("II", 0, 0), opened(5))
+    shut = "kernel: file handle that is not open: node 2 file handle 7"
+    s.read(request("READ", 8, 2, read_body(7)), shut)
+    s.read(request("GETATTR", 10, 2, getattr_body(7)), shut)
+    s.read(request("SETATTR", 12, 2, setattr_body(7)), shut)
+    s.read(request("FLUSH", 14, 1, release_body(5)), "kernel: file handle that is not open: node 1 file handle 5")
+    s.read(request("READDIR", 16, 2, read_body(5)), "kernel: file handle that is not open: node 2 file handle 5")
+    s.read(request("COPY_FILE_RANGE", 18, 2, copy_body(5, 2, 7, 10)), shut)
+    s.write(reply(18, numbers("II", 10, 0)))
+    s.read(request("RELEASE", 20, 2, release_body(7)), "kernel: RELEASE of what is not open: node 2 file handle 7")
+    s.read(request("RELEASEDIR", 22, 2, release_body(5)), "kernel: RELEASE of what is not open: node 2 file handle 5")
+    # the READ waits, and then the last RELEASE comes
+    s.read(request("READ", 24, 2, read_body(5)))
+    s.read(request("RELEASE", 26, 2, release_body(5)), "kernel: RELEASE beside a use: node 2 file handle 5")
+    s.read(request("RELEASE", 28, 2, release_body(5)), "kernel: RELEASE of what is not open: node 2 file handle 5")
+    # a handle that was given twice is open until its second RELEASE
+    s.ask("OPEN", 30, 2, numbers("II", 0, 0), opened(9))
+    s.ask("OPEN", 32, 2, numbers("II", 0, 0), opened(9))
+    s.read(request("READ", 34, 2, read_body(9)))
+    s.read(request("RELEASE", 36, 2, release_body(9)))
+    s.write(reply(34))
+    s.read(request("RELEASE", 38, 2, release_body(9)))
+    return s, s.end(entries=1)
+
+
+def files_that_are_not_opened():
+    s = Session("After ENOSYS to OPEN the file handle is 0; to OPENDIR likewise.")
+    s.begin()
+    s.ask("LOOKUP", 4, 1, text("a"), entry(2, 20))
+    s.read(request("READ", 6, 2, read_body(0)), "kernel: file handle that is not open: node 2 file handle 0")
+    s.ask("OPEN", 8, 2, numbers("II", 0, 0), error=ENOSYS)
+    s.read(request("READ", 10, 2, read_body(0)))
+    s.read(request("READ", 12, 2, read_body(1)), "kernel: file handle that is not open: node 2 file handle 1")
+    s.read(request("READDIR", 14, 1, read_body(0)), "kernel: file handle that is not open: node 1 file handle 0")
+    s.ask("OPENDIR", 16, 1, numbers("II", 0, 0), error=ENOSYS)
+    s.ask("READDIR", 18, 1, read_body(0))
+    return s, s.end(entries=1)
+
+
+def writes_cut_short():
+    s = Session("WRITEs of more than INIT agreed on, 8,192 bytes; their data is not kept.")
+    s.begin()
+    s.ask("LOOKUP", 4, 1, text("a"), entry(2, 20))
+    s.ask("OPEN", 6, 2, numbers("II", 0, 0), opened(5))
+    for unique, size, faults in ((8, 8192, ()), (10, 8193, ("kernel: WRITE of more than was agreed: bytes 8193",))):
+        s.read(request("WRITE", unique, 2, write_body(5, b"", size=size), length=80 + size), *faults, more=size)
+        s.write(reply(unique, numbers("II", size, 0)))
+    return s, s.end(entries=1)
+
+
+def writes_of_a_page():
+    s = Session("Where INIT agrees on fewer, WRITEs have up to 4,096 bytes.")
+    s.begin(max_write=1)
+    s.ask("LOOKUP", 4, 1, text("a"), entry(2, 20))
+    s.ask("OPEN", 6, 2, numbers("II", 0, 0), opened(5))
+    for unique, size, faults in ((8, 4096, ()), (10, 4097, ("kernel: WRITE of more than was agreed: bytes 4097",))):
+        s.read(request("WRITE", unique, 2, write_body(5, b"", size=size), length=80 + size), *faults, more=size)
+        s.write(reply(unique, error=EIO))
+    return s, s.end(entries=1)
+
+
+def replies():
+    s = Session("Replies that are malformed, to nothing, second ones, and to what takes none.")
+    s.begin()
+    s.read(request("STATFS", 4, 1))
+    s.write(reply(4, b"\0" * 80, length=95), "server: malformed reply", errno="EINVAL")
+    s.write(reply(4, error=-5), "server: malformed reply", errno="EINVAL")
+    s.write(reply(4, error=512), "server: malformed reply", errno="EINVAL")
+    s.write(b"\x04\0\0\0", "server: malformed reply", errno="EINVAL")
+    s.write(reply(4, error=511))
+    s.write(reply(4, error=EIO), "server: second reply: unique 4", errno="ENOENT")
+    s.write(reply(90, error=EIO), "server: reply to nothing: unique 90", errno="ENOENT")
+    s.ask("LOOKUP", 6, 1, text("a"), entry(2, 20))
+    s.read(request("FORGET", 8, 2, numbers("Q", 1)))
+    s.write(reply(8), "server: reply to FORGET: unique 8", errno="ENOENT")
+    s.read(request("BATCH_FORGET", 10, 0, numbers("II", 0, 0)))
+    s.write(reply(10), "server: reply to FORGET: unique 10", errno="ENOENT")
+    return s, s.end(entries=1, forgotten=1)
+
+
+def replies_to_interrupts():
+    s = Session("Replies to INTERRUPTs that were not read, of requests that wait, and of none.")
+    s.begin()
+    s.read(request("STATFS", 4, 1))
+    s.write(reply(5, error=EAGAIN), "server: reply to no INTERRUPT: INTERRUPT of 4")
+    s.write(reply(91, error=EAGAIN), "server: reply to nothing: INTERRUPT of 90", errno="ENOENT")
+    s.read(request("INTERRUPT", 5, 0, numbers("Q", 4)))
+    s.write(reply(5))
+    s.write(reply(4, error=4))
+    # the server may have met the INTERRUPT after its request
+    s.write(reply(5, error=EAGAIN), errno="ENOENT")
+    return s, s.end()
+
+
+def bodies():
+    s = Session("Replies whose bodies are not their requests', and which say more than was asked.")
+    s.begin()
+    other = "server: body that is not its request's"
+    s.read(request("LOOKUP", 4, 1, text("a")))
+    s.write(reply(4, opened(1)), other, errno="EINVAL")
+    s.write(reply(4, entry(2, 20)), "server: second reply: unique 4", errno="ENOENT")
+    s.read(request("STATFS", 6, 1))
+    s.write(reply(6, b"\0" * 80, error=EIO), other, errno="EINVAL")
+    s.ask("CREATE", 8, 1, numbers("IIII", 0, 0o644, 0, 0) + text("b"), entry(3, 30) + opened(5))
+    s.read(request("READ", 10, 3, read_body(5, size=4)))
+    s.write(reply(10, b"abcde"), other, errno="EINVAL")
+    s.ask("READ", 12, 3, read_body(5, size=4), b"abcd")
+    s.read(request("GETXATTR", 14, 3, numbers("II", 0, 0) + text("user.a")))
+    s.write(reply(14, b"abcd"), other, errno="EINVAL")
+    s.read(request("READLINK", 16, 3))
+    s.write(reply(16), other, errno="EINVAL")
+    more = ("server: more than was asked",)
+    s.ask("WRITE", 18, 3, write_body(5, b"abc"), numbers("II", 4, 0), faults=more)
+    s.ask("COPY_FILE_RANGE", 20, 3, copy_body(5, 3, 5, 10), numbers("II", 11, 0), faults=more)
+    s.ask("COPY_FILE_RANGE_64", 22, 3, copy_body(5, 3, 5, 10), numbers("Q", 11), faults=more)
+    s.ask("COPY_FILE_RANGE_64", 24, 3, copy_body(5, 3, 5, 10), numbers("Q", 10))
+    return s, s.end(entries=1)
+
+
+def entries():
+    s = Session("Entries of the root, of no node, and of no kind.")
+    s.begin()
+    s.ask("LOOKUP", 4, 1, text("a"), entry(1, 1, DIRECTORY), faults=("server: entry of the root",))
+    s.ask("LOOKUP", 6, 1, text("a"), entry(0, 0, 0))
+    s.ask("MKDIR", 8, 1, numbers("II", 0o755, 0) + text("a"), entry(0, 0, DIRECTORY), faults=("server: entry of no node",))
+    s.ask("LOOKUP", 10, 1, text("a"), entry(2, 20, 0o644), faults=("server: entry of no kind",))
+    # whether the kernel counted it is not certain: it may name it, and forget it, and nothing is said of its file
+    s.ask("LOOKUP", 12, 1, text("a"), entry(2, 21, 0o644, generation=1), faults=("server: entry of no kind",))
+    s.ask("GETATTR", 14, 2, getattr_body(), attributes_reply(20, REGULAR))
+    s.read(request("FORGET", 16, 2, numbers("Q", 2)))
+    s.read(request("FORGET", 18, 2, numbers("Q", 1)), "kernel: forget of more than is counted: node 2 lookups 1")
+    s.ask("OPENDIR", 20, 1, numbers("II", 0, 0), opened(5))
+    listing = (entry(0, 0, 0) + record(".", 1, 1, 4) + entry(1, 1, DIRECTORY) + record("..", 1, 2, 4)
+               + entry(3, 30) + record("b", 30, 3) + entry(1, 1, DIRECTORY) + record("c", 1, 4, 4)
+               + entry(4, 40, 0) + record("d", 40, 5) + entry(0, 0, 0) + record("e", 50, 6))
+    s.ask("READDIRPLUS", 22, 1, read_body(5), listing, faults=("server: entry of the root", "server: entry of no kind"))
+    # a size of 2^63 and more is no fault, and not certain either
+    s.ask("LOOKUP", 24, 1, text("f"), entry(6, 60, size=2**63))
+    s.ask("LOOKUP", 26, 1, text("f"), entry(6, 61, size=2**63))
+    return s, s.end(entries=6, forgotten=3)
+
+
+def nodes_of_two_files():
+    s = Session("Nodes that are counted, and given for another generation, kind or inode number.")
+    s.begin()
+    s.ask("LOOKUP", 4, 1, text("a"), entry(2, 20, generation=1))
+    s.ask("LOOKUP", 6, 1, text("a"), entry(2, 20, generation=1))
+    s.ask("LOOKUP", 8, 1, text("a"), entry(2, 21, DIRECTORY, generation=2),
+          faults=("server: node of two generations: node 2 generation 2 inode 21",))
+    s.ask("LOOKUP", 10, 1, text("a"), entry(2, 22, LINK, generation=1),
+          faults=("server: node of two kinds: node 2 generation 1 inode 22",))
+    s.ask("LOOKUP", 12, 1, text("a"), entry(2, 23, generation=1),
+          faults=("server: node of two inode numbers: node 2 generation 1 inode 23",))
+    s.ask("GETATTR", 14, 2, getattr_body(), attributes_reply(20, DIRECTORY), faults=("server: node of two kinds: node 2 inode 20",))
+    s.ask("SETATTR", 16, 2, setattr_body(), attributes_reply(24, REGULAR),
+          faults=("server: node of two inode numbers: node 2 inode 24",))
+    s.ask("GETATTR", 18, 2, getattr_body(), attributes_reply(20, REGULAR))
+    # forgotten, it may be of another file
+    s.read(request("FORGET", 20, 2, numbers("Q", 5)))
+    s.ask("LOOKUP", 22, 1, text("b"), entry(2, 30, DIRECTORY, generation=7))
+    # nothing is known of the root's file
+    s.ask("GETATTR", 24, 1, getattr_body(), attributes_reply(1, DIRECTORY))
+    s.ask("GETATTR", 26, 1, getattr_body(), attributes_reply(99, DIRECTORY))
+    return s, s.end(entries=6, forgotten=5)
+
+
+def init_of_another_version():
+    s = Session("INIT's reply is of protocol 8, and has flags that were not offered.")
+    s.read(init_request(flags=1))
+    s.write(init_reply(major=8, flags=1 | 32), "server: INIT of another version", "server: flags that were not offered")
+    s.ask("STATFS", 4, 1, answer=b"\0" * 80)
+    return s, s.end()
+
+
+def flags_that_were_not_offered():
+    s = Session("INIT's reply has a flag of the second word that was not offered.")
+    s.read(init_request(flags=1 << 30, flags2=1))
+    s.write(init_reply(flags=1 << 30, flags2=3), "server: flags that were not offered")
+    return s, s.end()
+
+
+def second_word_of_flags():
+    s = Session("Without INIT_EXT the second word of flags says nothing.")
+    s.read(init_request(flags=1, flags2=0))
+    s.write(init_reply(flags=1, flags2=255))
+    return s, s.end()
+
+
+def notifications():
+    s = Session("Notifications of each code, and malformed ones.")
+    s.begin()
+    bad = "server: malformed notification"
+    s.write(notification(1, numbers("Q", 5)))
+    s.write(notification(2, numbers("Qqq", 2, 0, -1)), errno="ENOENT")
+    s.write(notification(3, numbers("QII", 1, 1, 0) + text("a")), errno="ENOENT")
+    s.write(notification(4, numbers("QQII", 2, 0, 3, 0) + b"abc"), errno="ENOENT")
+    s.write(notification(5, numbers("QQQII", 2, 2, 0, 3, 0)), errno="ENOENT")
+    s.write(notification(6, numbers("QQII", 1, 2, 1, 0) + text("a")), errno="ENOENT")
+    s.write(notification(8))
+    s.write(notification(9, numbers("IIQQ", 1, 0, 0, 2)))
+    s.write(notification(10), bad, errno="EINVAL")
+    s.write(notification(0), bad, errno="EINVAL")
+    s.write(notification(2, numbers("Qq", 2, 0)), bad, errno="EINVAL")
+    s.write(notification(3, numbers("QII", 1, 2, 0) + text("a")), bad, errno="EINVAL")
+    s.write(notification(3, numbers("QII", 1, 3, 0) + text("a/b")), bad, errno="ENOENT")
+    s.write(notification(4, numbers("QQII", 2, 0, 4, 0) + b"abc"), bad, errno="EINVAL")
+    s.write(notification(9, numbers("IIQQ", 2, 0, 0, 2)), bad, errno="EINVAL")
+    return s, s.end()
+
+
+def device():
+    s = Session("What the device accepts and refuses.")
+    s.begin()
+    s.write(reply(90), "device: reply to nothing accepted: unique 90", "server: reply to nothing: unique 90")
+    s.ask("STATFS", 4, 1, answer=b"\0" * 80)
+    s.write(reply(4), "device: reply to nothing accepted: unique 4", "server: second reply: unique 4")
+    s.read(request("STATFS", 6, 1))
+    s.write(reply(6, b"\0" * 8), "server: body that is not its request's", "device: body of another request accepted: unique 6")
+    s.read(request("STATFS", 8, 1))
+    s.write(reply(8, b"\0" * 80), "device: right reply refused: unique 8", errno="EINVAL")
+    # another error of the device says nothing of anyone
+    s.read(request("STATFS", 10, 1))
+    s.write(reply(10, b"\0" * 80), errno="EFAULT")
+    return s, s.end()
+
+
+def after_the_end():
+    s = Session("The device's end: what is read or accepted behind it.")
+    s.begin()
+    s.read(request("STATFS", 4, 1))
+    s.line("= ended ENODEV")
+    s.write(reply(4, b"\0" * 80), errno="ENOENT")
+    s.write(reply(4, b"\0" * 80), "device: reply accepted after the end: unique 4")
+    s.read(request("STATFS", 6, 1), "device: read after the end")
+    s.write(reply(90), "device: reply accepted after the end: unique 90", "server: reply to nothing: unique 90")
+    s.line("= closed")
+    return s, s.end()
+
+
+def after_a_lost_reply():
+    s = Session("ENOENT to a reply that a request waits for shows the end too.")
+    s.begin()
+    s.read(request("STATFS", 4, 1))
+    s.read(request("STATFS", 6, 1))
+    s.write(reply(4, b"\0" * 80), errno="ENOENT")
+    s.write(reply(6, b"\0" * 80), errno="ENOENT")
+    s.read(request("STATFS", 8, 1), "device: read after the end")
+    s.line("= ended ECONNABORTED")
+    return s, s.end()
+
+
+# ---- sessions without a fault
+
+def good_names():
+    s = Session("Good: names. LOOKUP, MKNOD, MKDIR, SYMLINK, READLINK, LINK, RENAME, RENAME2, UNLINK, RMDIR.")
+    s.begin()
+    s.ask("LOOKUP", 4, 1, text("a"), error=ENOENT)
+    s.ask("MKNOD", 6, 1, numbers("IIII", REGULAR, 0, 0o22, 0) + text("a"), entry(2, 20))
+    s.ask("MKDIR", 8, 1, numbers("II", 0o755, 0o22) + text("d"), entry(3, 30, DIRECTORY))
+    s.ask("SYMLINK", 10, 3, text("l", "../a"), entry(4, 40, LINK))
+    s.ask("READLINK", 12, 4, answer=b"../a")
+    s.ask("LINK", 14, 3, numbers("Q", 2) + text("b"), entry(2, 20))
+    s.ask("RENAME", 16, 1, numbers("Q", 3) + text("a", "c"))
+    s.ask("RENAME2", 18, 3, numbers("QII", 1, 1, 0) + text("c", "e"))
+    s.ask("UNLINK", 20, 3, text("b"))
+    s.ask("UNLINK", 22, 3, text("l"))
+    s.ask("RMDIR", 24, 1, text("d"))
+    pairs = numbers("II", 2, 0) + numbers("QQQQ", 4, 1, 3, 1)
+    s.read(request("BATCH_FORGET", 26, 0, pairs))
+    s.ask("UNLINK", 28, 1, text("e"))
+    s.read(request("FORGET", 30, 2, numbers("Q", 2)))
+    return s, s.end(entries=4, forgotten=4)
+
+
+def good_attributes():
+    s = Session("Good: attributes. GETATTR, SETATTR, STATX, ACCESS, STATFS, and those of extended attributes.")
+    s.read(init_request(flags=1 << 29))
+    s.write(init_reply(flags=1 << 29))
+    s.ask("LOOKUP", 4, 1, text("a"), entry(2, 20))
+    s.ask("GETATTR", 6, 2, getattr_body(), attributes_reply(20, REGULAR))
+    s.ask("SETATTR", 8, 2, setattr_body(), attributes_reply(20, 0o100600))
+    s.ask("STATX", 10, 2, numbers("IIQII", 0, 0, 0, 0, 0x7FF), b"\0" * 288)
+    s.ask("ACCESS", 12, 2, numbers("II", 4, 0))
+    s.ask("STATFS", 14, 2, answer=b"\0" * 80)
+    s.ask("SETXATTR", 16, 2, numbers("IIII", 3, 0, 0, 0) + text("user.a/b") + b"abc")
+    s.ask("GETXATTR", 18, 2, numbers("II", 0, 0) + text("user.a/b"), numbers("II", 3, 0))
+    s.ask("GETXATTR", 20, 2, numbers("II", 3, 0) + text("user.a/b"), b"abc")
+    s.ask("LISTXATTR", 22, 2, numbers("II", 0, 0), numbers("II", 9, 0))
+    s.ask("LISTXATTR", 24, 2, numbers("II", 64, 0), text("user.a/b"))
+    s.ask("REMOVEXATTR", 26, 2, text("user.a/b"))
+    return s, s.end(entries=1)
+
+
+def good_files():
+    s = Session("Good: files. CREATE, TMPFILE, OPEN, READ, WRITE, locks, and the others that name a file handle.")
+    s.begin()
+    s.ask("CREATE", 4, 1, numbers("IIII", 2, 0o100644, 0o22, 0) + text("a"), entry(2, 20) + opened(5))
+    s.ask("TMPFILE", 6, 1, numbers("IIII", 2, 0o100600, 0o22, 0) + text("/"), entry(3, 30) + opened(5))
+    s.ask("OPEN", 8, 2, numbers("II", 0, 0), opened(6))
+    s.ask("WRITE", 10, 2, write_body(5, b"abc"), numbers("II", 3, 0))
+    s.ask("READ", 12, 2, read_body(6), b"abc")
+    s.ask("GETATTR", 14, 2, getattr_body(6), attributes_reply(20, REGULAR, 3))
+    s.ask("SETATTR", 16, 2, setattr_body(5), attributes_reply(20, REGULAR, 0))
+    s.ask("LSEEK", 18, 2, numbers("QQII", 5, 0, 3, 0), numbers("Q", 3))
+    s.ask("FALLOCATE", 20, 2, numbers("QQQII", 5, 0, 4096, 0, 0))
+    s.ask("COPY_FILE_RANGE_64", 22, 2, copy_body(5, 3, 5, 3), error=ENOSYS)
+    s.ask("COPY_FILE_RANGE", 24, 2, copy_body(5, 3, 5, 3), numbers("II", 3, 0))
+    s.ask("IOCTL", 26, 2, numbers("QIIQII", 5, 0, 0x5401, 0, 0, 0), numbers("iIII", 0, 0, 0, 0))
+    s.ask("POLL", 28, 2, numbers("QQII", 5, 1, 1, 0), numbers("II", 1, 0))
+    lock = numbers("QQQQIIII", 5, 77, 0, 9, 1, 77, 0, 0)
+    s.ask("GETLK", 30, 2, lock, numbers("QQII", 0, 9, 2, 0))
+    s.ask("SETLK", 32, 2, lock)
+    s.ask("SETLKW", 34, 2, lock)
+    s.ask("BMAP", 36, 2, numbers("QII", 0, 4096, 0), numbers("Q", 8))
+    s.ask("FSYNC", 38, 2, numbers("QII", 5, 0, 0))
+    s.ask("FLUSH", 40, 2, numbers("QIIQ", 5, 0, 0, 77))
+    s.ask("RELEASE", 42, 2, release_body(5))
+    s.ask("READ", 44, 2, read_body(6), error=EIO)
+    s.ask("RELEASE", 46, 2, release_body(6))
+    s.ask("RELEASE", 48, 3, release_body(5))
+    s.read(request("FORGET", 50, 3, numbers("Q", 1)))
+    return s, s.end(entries=2, forgotten=1)
+
+
+def good_directories():
+    s = Session("Good: directories. OPENDIR, READDIR, READDIRPLUS, FSYNCDIR, RELEASEDIR; a record may be cut at the end.")
+    s.begin()
+    s.ask("OPENDIR", 4, 1, numbers("II", 0, 0), opened(5))
+    plus = (entry(0, 0, 0) + record(".", 1, 1, 4) + entry(7, 70, DIRECTORY) + record("..", 1, 2, 4)
+            + entry(2, 20) + record("a", 20, 3) + entry(3, 30, DIRECTORY) + record("d", 30, 4, 4))
+    s.ask("READDIRPLUS", 6, 1, read_body(5), plus)
+    s.ask("READDIR", 8, 1, read_body(5, offset=4), record("a", 20, 3) + record("d", 30, 4, 4)[:20])
+    s.ask("READDIR", 10, 1, read_body(5, offset=4))
+    s.ask("FSYNCDIR", 12, 1, numbers("QII", 5, 0, 0))
+    s.ask("IOCTL", 14, 1, numbers("QIIQII", 5, 16, 0x5401, 0, 0, 0), numbers("iIII", 0, 0, 0, 0))
+    s.ask("RELEASEDIR", 16, 1, release_body(5))
+    s.read(request("BATCH_FORGET", 18, 0, numbers("II", 2, 0) + numbers("QQQQ", 2, 1, 3, 1)))
+    return s, s.end(entries=2, forgotten=2)
+
+
+def good_notifications():
+    s = Session("Good: INTERRUPTs, a RETRIEVE and its NOTIFY_REPLY, whose number is the server's, mappings, SYNCFS, DESTROY.")
+    s.begin()
+    s.ask("LOOKUP", 4, 1, text("a"), entry(2, 20))
+    s.write(notification(4, numbers("QQII", 2, 0, 3, 0) + b"abc"))
+    s.write(notification(5, numbers("QQQII", 4, 2, 0, 3, 0)))
+    s.read(request("NOTIFY_REPLY", 4, 2, numbers("QQIIQQ", 0, 0, 3, 0, 0, 0) + b"abc"))
+    s.read(request("STATFS", 6, 1))
+    s.read(request("INTERRUPT", 7, 0, numbers("Q", 6)))
+    s.write(reply(7, error=EAGAIN))
+    s.read(request("INTERRUPT", 7, 0, numbers("Q", 6)))
+    s.write(reply(6, error=4))
+    s.ask("OPEN", 8, 2, numbers("II", 0, 0), opened(5))
+    s.ask("SETUPMAPPING", 10, 2, numbers("QQQQQ", 5, 0, 4096, 0, 0))
+    s.ask("REMOVEMAPPING", 12, 2, numbers("I", 1) + numbers("QQ", 0, 4096))
+    s.ask("SYNCFS", 14, 1, numbers("Q", 0))
+    s.ask("RELEASE", 16, 2, release_body(5))
+    s.read(request("FORGET", 18, 2, numbers("Q", 1)))
+    s.ask("DESTROY", 20, 0)
+    s.line("= ended ENODEV")
+    return s, s.end(entries=1, forgotten=1)
+
+
+def good_extensions():
+    s = Session("Good: what INIT agreed on. A context of security behind a MKDIR, names of 4,095 bytes, LOOKUP of dots.")
+    s.read(init_request(flags=1 << 30 | 1 << 22 | 16, flags2=1))
+    s.write(init_reply(flags=1 << 30 | 1 << 22 | 16, flags2=1, max_pages=32))
+    context = numbers("II", 24, 1) + text("selinux") + text("context")
+    s.read(request("MKDIR", 4, 1, numbers("II", 0o755, 0) + text("d") + context, extensions=3))
+    s.write(reply(4, entry(2, 20, DIRECTORY)))
+    s.ask("LOOKUP", 6, 2, text("."), entry(2, 20, DIRECTORY))
+    s.ask("LOOKUP", 8, 2, text("b" * 4095), error=36)
+    return s, s.end(entries=2)
+
+
+def good_minors():
+    s = Session("Good: minor 9, and replies to INIT of 24 bytes. MKNOD and CREATE have shorter structs.")
+    s.read(init_request(minor=9))
+    s.write(reply(2, numbers("IIIIHHI", 7, 9, 0, 0, 0, 0, 4096)))
+    s.ask("MKNOD", 4, 1, numbers("II", REGULAR, 0) + text("a"), entry(2, 20))
+    s.ask("CREATE", 6, 1, numbers("II", 2, 0o100644) + text("b"), entry(3, 30) + opened(5))
+    s.read(request("CREATE", 8, 1, numbers("IIII", 2, 0o100644, 0o22, 0) + text("c")), "kernel: malformed request")
+    return s, s.end(entries=2)
+
+
+def lines_of_a_capture():
+    s = Session("How lines may be written: comments, empty lines, CRLF, upper-case hex, +N, times, the server's end.")
+    s.line("")
+    s.begin()
+    s.lines[-1] += "\r"
+    s.line("#> not a line")
+    s.line("\r")
+    s.line("# CRLF behind a comment\r")
+    s.counted["requests"] += 3
+    s.counted["replies"] += 3
+    s.line("> " + request("LOOKUP", 4, 1, text("a")).hex().upper())
+    s.line("< @123 " + reply(4, entry(2, 20)).hex())
+    s.line("> @0 " + request("STATFS", 6, 1).hex() + "\r")
+    s.line("< @18446744073709551615 " + reply(6, length=96).hex() + " +80")
+    s.line("> " + request("STATFS", 8, 1).hex() + " +0")
+    s.line("< @5 " + reply(8, length=96).hex() + " +80 EINVAL", "device: right reply refused: unique 8")
+    s.counted["refused"] += 1
+    s.line("= closed")
+    return s, s.end(entries=1)
+
+
+SESSIONS = [
+    malformed_requests, requests_before_init, numbers_of_requests, several_readers, interrupts, nodes_not_counted, forgets,
+    open_files, files_that_are_not_opened, writes_cut_short, writes_of_a_page, replies, replies_to_interrupts, bodies, entries,
+    nodes_of_two_files, init_of_another_version, flags_that_were_not_offered, second_word_of_flags, notifications, device,
+    after_the_end, after_a_lost_reply, good_names, good_attributes, good_files, good_directories, good_notifications,
+    good_extensions, good_minors, lines_of_a_capture,
+]
+
+
+def files():
+    """The files of tests/sessions, each with its bytes."""
+    for make in SESSIONS:
+        session, expected = make()
+        name = make.__name__.replace("_", "-")
+        yield FOLDER / f"{name}.capture", "".join(f"{line}\n" for line in session.lines).encode()
+        yield FOLDER / f"{name}.expected", expected.encode()
+
+
+def main():
+    wrong = 0
+    for file, content in files():
+        if sys.argv[1:] == ["--write"]:
+            file.write_bytes(content)
+        elif not file.exists() or file.read_bytes() != content:
+            wrong += 1
+            print(f"{file.name} is not what tests/session_frames.py writes")
+    return 1 if wrong else 0
+
+
+if __name__ == "__main__":
+    sys.exit(main())
