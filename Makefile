@@ -6,7 +6,7 @@
 
 SCRIPT ?= tests/rows/stat-of-root.script
 
-.PHONY: run try test build mount vectors lib install uninstall bench drive-tests watch-tests wrong-bodies check rows docs fmt
+.PHONY: run try test build mount watch vectors lib install uninstall bench drive-tests watch-tests wrong-bodies check rows docs fmt
 
 run: build
 	@crates/fuseworld/out/fuseworld run "$(SCRIPT)"
@@ -25,6 +25,12 @@ build:
 mount: build
 	@cc -O2 -Wall -Wextra -o crates/fuseworld/out/mount examples/mount.c
 	@crates/fuseworld/out/mount "$(DIR)" crates/fuseworld/out/fuseworld $(ARGS)
+
+# A mount by a server of your own, which SERVER runs with the word MOUNT in the place of its mount point: what Linux and it
+# say is judged as it goes, until the mount or the server ends. ARGS has further words for examples/watch.
+watch: build
+	@cc -O1 -Wall -Wextra -o crates/fuseworld/out/watch examples/watch/watch.c -pthread
+	@crates/fuseworld/out/watch $(ARGS) "$(DIR)" -- $(SERVER) | crates/fuseworld/out/fuseworld check
 
 # The codec's verdict on frames of each kind, a JSON object a line.
 vectors: build
@@ -116,6 +122,7 @@ test:
 		if [ $$status = 0 ]; then sh tests/run_rows.sh; status=$$?; fi; \
 		if [ $$status = 0 ]; then sh tests/run_frames.sh; status=$$?; fi; \
 		if [ $$status = 0 ]; then sh tests/run_check.sh; status=$$?; fi; \
+		if [ $$status = 0 ]; then sh tests/check_mount.sh; status=$$?; fi; \
 		if [ $$status = 0 ]; then sh tests/run_sides.sh; status=$$?; fi; \
 		if [ $$status = 0 ]; then sh tests/run_draw.sh; status=$$?; fi; \
 		if [ $$status = 0 ]; then python3 tests/run_tutorial.py; status=$$?; fi; \
