@@ -174,9 +174,10 @@ finish
 status=$?
 check "the launcher's status is 0, not $status" [ "$status" = 0 ]
 check "the server holds nodes: $(tail -n 1 "$trace")" [ "$(tail -n 1 "$trace")" = server ]
-check "a reply was refused, or not sent" [ "$(grep -cE "^->.*( refused | not sent)" "$trace")" = 0 ]
+check "a reply was refused, or not sent" [ "$(grep -cE "^< .*; refused|^= ended" "$trace")" = 0 ]
+check "somebody broke a rule: $(grep -m 1 -E "; (kernel|server|device): " "$trace")" [ "$(grep -cE "; (kernel|server|device): " "$trace")" = 0 ]
 for opcode in INIT LOOKUP FORGET GETATTR MKDIR UNLINK RMDIR RENAME LINK OPEN READ WRITE RELEASE READDIRPLUS CREATE; do
-    check "no $opcode came" grep -q "^$opcode " "$trace"
+    check "no $opcode came" grep -q "^> $opcode " "$trace"
 done
-echo "$passed checks on a real mount passed, $failed failed; $(grep -cv '^->\|^server' "$trace") requests came"
+echo "$passed checks on a real mount passed, $failed failed; $(grep -c '^> ' "$trace") requests came"
 [ "$failed" = 0 ]

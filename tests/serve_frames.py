@@ -165,18 +165,19 @@ TURNS = [
     (RMDIR, reply(12)),
     (FORGET, None),
 ]
+# FLUSH is of a file that nobody opened, and FORGET's number is below RMDIR's.
 TRACE = [
-    "INIT 2 node 0 major 7 minor 31 flags ASYNC_READ DO_READDIRPLUS PARALLEL_DIROPS",
-    "-> major 7 minor 31 flags ASYNC_READ DO_READDIRPLUS PARALLEL_DIROPS",
-    "MKDIR 4 node 1 name a",
-    "-> entry node 2 generation 1 valid 1000 ms dir ino 2 size 0 nlink 1",
-    "LOOKUP 6 node 1 name none",
-    "-> entry node 0 valid 0 ms",
-    "opcode 25 8",
-    "-> ENOSYS",
-    "RMDIR 12 node 1 name a",
-    "-> ok",
-    "FORGET 10 node 2 nlookup 1",
+    "> INIT 2 0 56 major 7 minor 31 flags 0x0000000000042001",
+    "< INIT 2 0 80 major 7 minor 31 max_write 4096 flags 0x0000000000042001",
+    "> MKDIR 4 1 50 name a",
+    "< MKDIR 4 0 144 entry node 2 generation 1 valid 1000 ms dir ino 2 size 0 nlink 1",
+    "> LOOKUP 6 1 45 name none",
+    "< LOOKUP 6 0 144 entry node 0 valid 0 ms",
+    "> FLUSH 8 2 64 fh 0; kernel: file handle that is not open",
+    "< FLUSH 8 ENOSYS 16",
+    "> RMDIR 12 1 42 name a",
+    "< RMDIR 12 0 16",
+    "> FORGET 10 2 48 nlookup 1; kernel: number out of order",
 ]
 MISSING = reply(6, entry(0, 0, 0, bytes(88)))
 
@@ -258,7 +259,8 @@ def run():
     on_packets("long names", [], LONG_NAMES, [], 0)
     on_packets("long names of 7.15", ["--minor", "15"], [(lookup(2, LONG), reply(2, error=36))], [], 0)
     on_packets("a long name, in words", ["--trace"], [(lookup(2, LONG), reply(2, error=36))],
-               ["opcode 1 2 fault 4 Name", "-> ENAMETOOLONG"], 0)
+               ["> LOOKUP 2 1 297 name " + "n" * 256 + "; kernel: request before INIT",
+                "< LOOKUP 2 ENAMETOOLONG 16"], 0)
     # A packet of no bytes is read as the other side's end.
     on_packets("an empty packet", ["--show"], [*turns[:2], (b"", None)], ["server 2:1:1"], 0)
     # The server holds node 2 once: nothing was forgotten.
@@ -269,7 +271,7 @@ def run():
         (LOOKUP, reply(6, struct.pack("<QQQQII", 0, 0, 0, 0, 250_000_000, 0) + bytes(88))),
     ], [], 0)
     on_packets("INIT of a later kernel", ["--trace"], [(LONG_INIT, LONG_REPLY)], [
-        "INIT 2 node 0 major 7 minor 45 flags ASYNC_READ DO_READDIRPLUS PARALLEL_DIROPS (its first 56 bytes)",
+        "> INIT 2 0 104 major 7 minor 45 flags 0x0000000073fffffb",
         TRACE[1],
     ], 0)
     # A reply to INIT of 7.15 ends after max_write, and READDIRPLUS (44) is not known.
@@ -282,7 +284,12 @@ def run():
         (MKDIR + b"x", None),
         (b"short", None),
         (request(3, 6, 9, bytes(16)), reply(6, error=5)),
-    ], ["fault 2 Length", "fault 1 Short", "GETATTR 6 node 9", "-> EIO"], 0)
+    ], [
+        "> len 51: the frame has another length than it says; kernel: malformed request",
+        "> len 5: the frame is too short for its header; kernel: malformed request",
+        "> GETATTR 6 9 56; kernel: request before INIT; kernel: node that is not counted",
+        "< GETATTR 6 EIO 16",
+    ], 0)
     on_stream("the end in a frame", [], INIT + MKDIR[:30], [INIT_REPLY], ["device failed"], 4)
     on_stream("the end in a length", ["--show"], INIT + MKDIR[:3], [INIT_REPLY], ["device failed", "server"], 4)
     on_stream("a length of 39", [], struct.pack("<I", 39) + bytes(35), [], ["device failed"], 4)

@@ -40,7 +40,7 @@ fn serve_over<D: Device + Drop>(rt: &HostRuntime, task: ServeTask<'_>, mut devic
     let Ok(out) = BufWriter::new(alloc, rt.stderr()) else {
         return no_memory(&mut faults);
     };
-    let mut traced = TracedDevice::new(device, out, task.mount.minor);
+    let mut traced = TracedDevice::new(alloc, device, out);
     serve_device(alloc, task.mount, &mut traced, &mut faults)
 }
 

@@ -11,3 +11,4 @@ mod stop;
 mod totals;
 
 pub use decode::run_decode;
+pub use session::Decoding;

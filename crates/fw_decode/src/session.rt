@@ -12,7 +12,7 @@ use std::io::Write;
 
 /// A capture so far: what the judge has seen of it, and what it comes to.
 #[derive(Drop)]
-pub(crate) struct Decoding<A: Allocator + Copy> {
+pub struct Decoding<A: Allocator + Copy> {
     judge: SessionJudge<A>,
     totals: Totals<A>,
     acts: Vec<Act, A>,
@@ -43,7 +43,7 @@ fn write_verdicts<W: Write>(out: &mut W, verdicts: &[Option<Fault>]) -> io::Resu
 
 impl<A: Allocator + Copy> Decoding<A> {
     /// Of nothing.
-    pub(crate) fn new(alloc: A) -> Self {
+    pub fn new(alloc: A) -> Self {
         Decoding {
             judge: SessionJudge::new(alloc),
             totals: Totals::new(alloc),
@@ -86,6 +86,13 @@ impl<A: Allocator + Copy> Decoding<A> {
             self.totals.note(*act).map_err(|_| Stop::NoMemory)?;
         }
         Ok(())
+    }
+
+    /// Writes the line of the next transfer, and hands it on. What the output refuses is lost; where memory runs out, what
+    /// is said later is of the transfers before.
+    pub fn print<W: Write>(&mut self, transfer: Transfer<'_>, out: &mut W) {
+        let _ = self.decode(transfer, false, out);
+        let _ = out.flush();
     }
 
     /// Writes the last line.

@@ -3,7 +3,6 @@
 
 mod nodes_line;
 mod serving;
-mod trace_words;
 mod traced;
 mod waiting;
 
