@@ -253,7 +253,7 @@ def run_waits():
     def ended(name, script, peer, last):
         began = time.monotonic()
         lines, status, _ = drive(SHORT_WAIT, script, peer)
-        judge(name, (lines[-1], status, time.monotonic() - began < SECONDS / 2), (last, 4, True))
+        judge(name, (lines[-1] in last, status, time.monotonic() - began < SECONDS / 2), (True, 4, True))
 
     def answering(connection, *answers):
         """Sends an answer at each of the first requests, and goes on."""
@@ -289,9 +289,10 @@ def run_waits():
             pass
 
     writes = [line for _ in range(100) for line in (f"call write 1 0 {'00' * 4096}", "read p 0")]
-    ended("a server that reads nothing", [*MOUNT, "call create /f", "read p 0", "write", *writes], reads_nothing, "device failed")
-    ended("a server that keeps talking", STAT, talks, "no reply")
-    ended("a reply of a byte a tenth of a second", STAT, dribbles, "device failed")
+    ended("a server that reads nothing", [*MOUNT, "call create /f", "read p 0", "write", *writes], reads_nothing, ["device failed"])
+    # The time may be over between two frames or in the middle of one.
+    ended("a server that keeps talking", STAT, talks, ["no reply", "device failed"])
+    ended("a reply of a byte a tenth of a second", STAT, dribbles, ["device failed"])
 
 
 # --- the command line, and a socket of packets
