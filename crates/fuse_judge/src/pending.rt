@@ -26,7 +26,7 @@ use crate::named::{add_names, add_uses, take_names, take_uses};
 use crate::numbers::{was_forget, was_read};
 use crate::rows::write;
 use crate::tally::Tally;
-use fuse_sessions::{Act, Asked, Fault, Taken};
+use fuse_sessions::{Act, Asked, Fault, Fit, Taken};
 use fuse_tables::RisingTable;
 use std::alloc::{AllocError, Allocator, Global};
 
@@ -97,17 +97,17 @@ pub(crate) fn fault_of_taking<A: Allocator + Copy>(
     ended: bool,
     unique: u64,
     taken: Taken,
-    fits: bool,
+    fit: Fit,
 ) -> Option<Fault>
     ensures { (s : Session) → AreWaiting s rows.now.entries → ended ≡ has_ended s
-        → IsFault (BreaksTaking s unique taken fits) result }
+        → IsFault (BreaksTaking s unique taken fit) result }
 {
     let waits = rows.get(unique).is_some();
-    match taken {
-        Taken::Accepted if ended => Some(Fault::AcceptedAfterTheEnd),
-        Taken::Accepted if !waits => Some(Fault::AcceptedReplyToNothing),
-        Taken::Accepted if !fits => Some(Fault::AcceptedWrongBody),
-        Taken::Invalid if fits && waits && !ended => Some(Fault::RefusedReply),
+    match (taken, fit) {
+        (Taken::Accepted, _) if ended => Some(Fault::AcceptedAfterTheEnd),
+        (Taken::Accepted, _) if !waits => Some(Fault::AcceptedReplyToNothing),
+        (Taken::Accepted, Fit::FitsNot) => Some(Fault::AcceptedWrongBody),
+        (Taken::Invalid, Fit::Fits) if waits && !ended => Some(Fault::RefusedReply),
         _ => None,
     }
 }

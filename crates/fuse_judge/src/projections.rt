@@ -9,10 +9,10 @@ ghost use Rattle.fuse_judge.specs.Flags.{is_from};
 use fuse_protocol::Opcode;
 use fuse_sessions::{Act, OpenKind};
 
-pub(crate) fn is_forget(opcode: Opcode) -> bool
+pub(crate) fn is_forget(opcode: Option<Opcode>) -> bool
     ensures { result ≡ words.is_forget opcode }
 {
-    matches!(opcode, Opcode::Forget | Opcode::BatchForget)
+    matches!(opcode, Some(Opcode::Forget | Opcode::BatchForget))
 }
 
 pub(crate) fn is_reading(act: Act) -> bool

@@ -122,8 +122,8 @@ impl<A: Allocator + Copy> Tables<A> {
             Act::Takes {
                 unique,
                 taken,
-                fits,
-            } => fault_of_taking(rows, self.flags.ended, unique, taken, fits),
+                fit,
+            } => fault_of_taking(rows, self.flags.ended, unique, taken, fit),
             Act::Replies { unique, .. } => fault_of_reply(rows, &self.numbers, unique),
             Act::RepliesToInterrupt { original, .. } => {
                 fault_of_reply_to_interrupt(rows, &self.numbers, original)

@@ -28,7 +28,7 @@ const HANDLE: OpenFile = OpenFile {
 /// A request that names a node and uses an open file or not.
 fn asks(unique: u64, opcode: Opcode, nodeid: u64, uses: Option<OpenFile>) -> Act {
     let asked = Asked {
-        opcode,
+        opcode: Some(opcode),
         asked: 0,
         writes: 0,
         nodeid,
@@ -69,7 +69,7 @@ fn one_session(rt: HostRuntime) -> Result<(), Fail> {
         Act::Arrives,
         Act::Begins(Opcode::Init),
         Act::Read {
-            opcode: Opcode::Init,
+            opcode: Some(Opcode::Init),
             unique: 2,
         },
         asks(2, Opcode::Init, 0, None),
@@ -80,7 +80,7 @@ fn one_session(rt: HostRuntime) -> Result<(), Fail> {
     assert!(rt; met, "begins");
     let looks_up = [
         Act::Read {
-            opcode: Opcode::Lookup,
+            opcode: Some(Opcode::Lookup),
             unique: 4,
         },
         asks(4, Opcode::Lookup, 1, None),
@@ -91,7 +91,7 @@ fn one_session(rt: HostRuntime) -> Result<(), Fail> {
         replies(4, Taken::NoEntry),
         replies(6, Taken::NoEntry),
         Act::Read {
-            opcode: Opcode::Getattr,
+            opcode: Some(Opcode::Getattr),
             unique: 4,
         },
     ];

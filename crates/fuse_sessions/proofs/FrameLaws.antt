@@ -18,7 +18,7 @@ use Rattle.fuse_sessions.specs.declared.transfer.Transfer.{Transfer}
 use Rattle.fuse_sessions.specs.declared.transfer.Transfer.TheVariants as transfer
 use Rattle.fuse_sessions.specs.Sessions.{Session}
 use Rattle.fuse_sessions.specs.Waiting.{waits}
-use Rattle.fuse_sessions.specs.Frames.{Reads, IsRequestOf, AreRequestActs, AreNotificationActs, IsReplyTo, IsHead, IsHeaded, IsWritten, AreActs, Lead, number_in, interrupt_acts}
+use Rattle.fuse_sessions.specs.Frames.{Reads, IsRequestOf, AreRequestActs, AreNotificationActs, IsReplyBy, IsReplyTo, IsHead, IsHeaded, IsWritten, AreActs, Lead, number_in, interrupt_acts}
 
 module _ {M : Type 0} (Is : M → Type 0) (Goal : Type 0) where
   -- what is read is one message
@@ -69,13 +69,19 @@ one_reply agreed shape asked bytes m n is as' =
 both_are : (a b x : List Act) → a ≡ x → b ≡ x → a ≡ b
 both_are a b x e f = e ∙ sym f
 
+replies_by_once : (k : Known) (bytes : List ℕ) (t : Taken) (o : Option Opcode) (asked : Asked) (a b : List Act)
+    (l m : Known) → IsReplyBy k bytes t o asked a l → IsReplyBy k bytes t o asked b m → a ≡ b
+replies_by_once k bytes t None asked a b l m is as' = both_are a b _ is.0 as'.0
+replies_by_once k bytes t (Some o) asked a b l m is as' =
+    read_as_one (IsReply k.agreed (row_at o).reply asked.asked bytes) (a ≡ b)
+    (one_reply k.agreed (row_at o).reply asked.asked bytes) _ _ _ _
+    (λ r x y. both_are a b _ x.0 y.0) (λ x y. both_are a b _ x.0 y.0) is as'
+
 replies_once : (k : Known) (bytes : List ℕ) (t : Taken) (o : Option Asked) (a b : List Act) (l m : Known)
     → IsReplyTo k bytes t o a l → IsReplyTo k bytes t o b m → a ≡ b
 replies_once k bytes t None a b l m is as' = both_are a b _ is.0 as'.0
 replies_once k bytes t (Some asked) a b l m is as' =
-    read_as_one (IsReply k.agreed (row_at asked.opcode).reply asked.asked bytes) (a ≡ b)
-    (one_reply k.agreed (row_at asked.opcode).reply asked.asked bytes) _ _ _ _
-    (λ r x y. both_are a b _ x.0 y.0) (λ x y. both_are a b _ x.0 y.0) is as'
+    replies_by_once k bytes t asked.opcode asked a b l m is as'
 
 headed_once : (k : Known) (s : Session) (bytes : List ℕ) (t : Taken) (a b : List Act) (l m : Known)
     → IsHeaded k s bytes t a l → IsHeaded k s bytes t b m → a ≡ b

@@ -1,12 +1,14 @@
 -- What a kernel, a server and a device must not do: for each act the fault that it has after a session. The names of the
 -- faults are those that are printed. Sources: linux/fuse.h, the kernel's fuse.rst and dev.c, libfuse's low-level notes.
-use Rattle.std.specs.Prelude.{◌≡◌, ◌≢◌, ◌≤◌, ◌<◌, ◌⊎◌, ◌↔◌, ℕ, ◌+◌, ◌%◌, max, Bool, true, false, List, [], ◌∷◌, ◌++◌, Option, Some, None, IsTrue, IsFalse, slice_get, take}
+use Rattle.std.specs.Prelude.{◌≡◌, ◌≢◌, ◌≤◌, ◌<◌, ◌⊎◌, ◌↔◌, ℕ, ◌+◌, ◌%◌, max, List, [], ◌∷◌, ◌++◌, Option, Some, None, IsTrue, IsFalse, slice_get, take}
 use Rattle.fuse_protocol.specs.declared.opcode.Opcode.{Opcode}
 use Rattle.fuse_protocol.specs.declared.opcode.Opcode.TheVariants as op
 use Rattle.fuse_sessions.specs.declared.act.Act.{Act}
 use Rattle.fuse_sessions.specs.declared.act.Act.TheVariants as act
 use Rattle.fuse_sessions.specs.declared.act.Asked.{Asked}
 use Rattle.fuse_sessions.specs.declared.act.File.{File}
+use Rattle.fuse_sessions.specs.declared.act.Fit.{Fit}
+use Rattle.fuse_sessions.specs.declared.act.Fit.TheVariants as fit
 use Rattle.fuse_sessions.specs.declared.act.OpenFile.{OpenFile}
 use Rattle.fuse_sessions.specs.declared.act.Taken.{Taken}
 use Rattle.fuse_sessions.specs.declared.act.Taken.TheVariants as taken
@@ -86,14 +88,15 @@ abbrev pub BreaksWrite : Session → ℕ → Fault → Type 0
 BreaksWrite s size fault.WriteTooLarge = or_page (latest agreed_write s) < size
 BreaksWrite s size f = ⊥
 
--- The device accepts a reply exactly where a request waits for it, its body is one to that request, and the connection
--- has not ended. (linux/fs/fuse/dev.c, `fuse_dev_do_write`)
-abbrev pub BreaksTaking : Session → ℕ → Taken → Bool → Fault → Type 0
-BreaksTaking s unique taken.Accepted fits fault.AcceptedAfterTheEnd = IsTrue (has_ended s)
-BreaksTaking s unique taken.Accepted fits fault.AcceptedReplyToNothing = IsFalse (has_ended s) × (waits s unique ≡ None)
-BreaksTaking s unique taken.Accepted false fault.AcceptedWrongBody = IsFalse (has_ended s) × (waits s unique ≢ None)
-BreaksTaking s unique taken.Invalid true fault.RefusedReply = IsFalse (has_ended s) × (waits s unique ≢ None)
-BreaksTaking s unique t fits f = ⊥
+-- The device accepts a reply exactly where a request waits for it, its body fits, and the connection has not ended.
+-- (linux/fs/fuse/dev.c, `fuse_dev_do_write`)
+abbrev pub BreaksTaking : Session → ℕ → Taken → Fit → Fault → Type 0
+BreaksTaking s unique taken.Accepted body fault.AcceptedAfterTheEnd = IsTrue (has_ended s)
+BreaksTaking s unique taken.Accepted body fault.AcceptedReplyToNothing = IsFalse (has_ended s) × (waits s unique ≡ None)
+BreaksTaking s unique taken.Accepted fit.FitsNot fault.AcceptedWrongBody =
+    IsFalse (has_ended s) × (waits s unique ≢ None)
+BreaksTaking s unique taken.Invalid fit.Fits fault.RefusedReply = IsFalse (has_ended s) × (waits s unique ≢ None)
+BreaksTaking s unique t body f = ⊥
 
 -- A reply answers a request that waits.
 abbrev pub BreaksReply : Session → ℕ → Fault → Type 0
@@ -147,7 +150,7 @@ Breaks s (act.Forgets node lookups) f = BreaksForget s node lookups f
 Breaks s (act.Uses file) f = BreaksUse s file f
 Breaks s (act.Releases file) f = BreaksRelease s file f
 Breaks s (act.Writes size) f = BreaksWrite s size f
-Breaks s (act.Takes unique t fits) f = BreaksTaking s unique t fits f
+Breaks s (act.Takes unique t body) f = BreaksTaking s unique t body f
 Breaks s (act.Replies unique t) f = BreaksReply s unique f
 Breaks s (act.RepliesToInterrupt original is_again t) f = BreaksReplyToInterrupt s original f
 Breaks s (act.Gives node file is_certain) f = BreaksGift s node file f

@@ -16,8 +16,10 @@ use Rattle.fuse_replies.specs.Replies.{AnswerContent, ReplyMessage, IsFrame, IsE
 use Rattle.fuse_replies.specs.Replies as answer
 use Rattle.fuse_replies.specs.Notifications.{NotificationContent, IsNotification}
 use Rattle.fuse_sessions.specs.declared.act.Act.{Act}
-use Rattle.fuse_sessions.specs.declared.act.Act.TheVariants.{Faulty, Arrives, Takes, Replies, RepliesToInterrupt, SeveralReaders, Ends}
+use Rattle.fuse_sessions.specs.declared.act.Act.TheVariants.{Faulty, Takes, Replies, RepliesToInterrupt, SeveralReaders, Ends}
 use Rattle.fuse_sessions.specs.declared.act.Asked.{Asked}
+use Rattle.fuse_sessions.specs.declared.act.Fit.{Fit}
+use Rattle.fuse_sessions.specs.declared.act.Fit.TheVariants as fit
 use Rattle.fuse_sessions.specs.declared.act.Taken.{Taken}
 use Rattle.fuse_sessions.specs.declared.act.Taken.TheVariants as taken
 use Rattle.fuse_sessions.specs.declared.fault.Fault.TheVariants as fault
@@ -26,7 +28,9 @@ use Rattle.fuse_sessions.specs.declared.transfer.Transfer.{Transfer}
 use Rattle.fuse_sessions.specs.declared.transfer.Transfer.TheVariants as transfer
 use Rattle.fuse_sessions.specs.Sessions.{Session}
 use Rattle.fuse_sessions.specs.Waiting.{waits}
+use Rattle.fuse_sessions.specs.Fits.{fit_in}
 use Rattle.fuse_sessions.specs.RequestActs.{request_acts}
+use Rattle.fuse_sessions.specs.UnreadRequests.{unread_acts}
 use Rattle.fuse_sessions.specs.ReplyActs.{answer_acts}
 
 -- Read as a message, this is done by what it says; where it is none, this.
@@ -39,10 +43,10 @@ Reads {M} Is Does else_does = ((m : M) × Is m × Does m) ⊎ (((m : M) → Is m
 abbrev pub IsRequestOf : Agreed → List ℕ → Opcode × RequestMessage → Type 0
 IsRequestOf agreed bytes q = IsRequest agreed bytes (row_at q.0) q.1
 
--- A request is one of a row, or it arrives and is malformed.
-abbrev pub AreRequestActs : Agreed → List ℕ → List Act → Type 0
-AreRequestActs agreed bytes acts = Reads (IsRequestOf agreed bytes) (λ q. acts ≡ request_acts q.0 q.1)
-    (acts ≡ Arrives ∷ Faulty fault.MalformedRequest ∷ [])
+-- A request is one of a row, or it is not read further.
+abbrev pub AreRequestActs : Known → List ℕ → List Act → Type 0
+AreRequestActs k bytes acts = Reads (IsRequestOf k.agreed bytes) (λ q. acts ≡ request_acts q.0 q.1)
+    (acts ≡ unread_acts k.offered bytes)
 
 -- What is offered is what the first INIT offers.
 abbrev pub IsFirstInit : Known → List ℕ → Type 0
@@ -70,7 +74,7 @@ AreNotificationActs agreed bytes acts = Reads (IsNotification agreed bytes) (λ 
 abbrev pub eagain : ℕ
 eagain = 2 ^ 32 - 11
 
--- A reply under an odd number is one to the INTERRUPT of the request one below. (fuse.rst)
+-- An INTERRUPT's number is one above that of the request that it interrupts. (fuse.rst)
 abbrev pub interrupt_acts : List ℕ → Taken → List Act
 interrupt_acts bytes t = RepliesToInterrupt (number_in bytes - 1) (error_in bytes == eagain) t ∷ []
 
@@ -86,9 +90,9 @@ init_acts (Some r) (answer.init i) = of_version i ++ of_offered r i
 init_acts offered content = []
 
 -- what a reply says, once the device has accepted it
-abbrev pub said_acts : Known → Asked → Taken → AnswerContent → List Act
-said_acts k a taken.Accepted content = init_acts k.offered content ++ answer_acts a content
-said_acts k a t content = []
+abbrev pub said_acts : Known → Opcode → Asked → Taken → AnswerContent → List Act
+said_acts k o a taken.Accepted content = init_acts k.offered content ++ answer_acts o a content
+said_acts k o a t content = []
 
 -- What the two sides agree on is known from an accepted reply to INIT on.
 abbrev pub IsAgreed : Known → Option InitRequest → InitReply → Known → Type 0
@@ -99,26 +103,43 @@ abbrev pub IsTold : Known → Taken → AnswerContent → Known → Type 0
 IsTold k taken.Accepted (answer.init i) later = IsAgreed k k.offered i later
 IsTold k t content later = later ≡ k
 
--- the device takes a reply, whose body fits its request or not, and it replies
-abbrev pub replied : ℕ → Taken → Bool → List Act
-replied unique t fits = Takes unique t fits ∷ Replies unique t ∷ []
+-- the device takes a reply, or does not, and it replies
+abbrev pub replied : ℕ → Taken → Fit → List Act
+replied unique t body = Takes unique t body ∷ Replies unique t ∷ []
+
+-- A reply to a request of an opcode.
+abbrev pub IsReplyOf : Known → List ℕ → Taken → Opcode → Asked → List Act → Known → Type 0
+IsReplyOf k bytes t o a acts later = Reads (IsReply k.agreed (row_at o).reply a.asked bytes)
+    (λ m. (acts ≡ replied (number_in bytes) t (fit_in (row_at o).reply a.asked bytes) ++ said_acts k o a t m.answer)
+    × IsTold k t m.answer later)
+    ((acts ≡ Faulty fault.BodyOfAnotherRequest
+    ∷ replied (number_in bytes) t (fit_in (row_at o).reply a.asked bytes)) × (later ≡ k))
+
+-- A reply to a request that was judged by an opcode, or by none.
+abbrev pub IsReplyBy : Known → List ℕ → Taken → Option Opcode → Asked → List Act → Known → Type 0
+IsReplyBy k bytes t None a acts later = (acts ≡ replied (number_in bytes) t fit.MayFit) × (later ≡ k)
+IsReplyBy k bytes t (Some o) a acts later = IsReplyOf k bytes t o a acts later
 
 -- A reply, by what waits under its number. Where nothing does, nothing is said of its body.
 abbrev pub IsReplyTo : Known → List ℕ → Taken → Option Asked → List Act → Known → Type 0
-IsReplyTo k bytes t None acts later = (acts ≡ replied (number_in bytes) t true) × (later ≡ k)
-IsReplyTo k bytes t (Some a) acts later = Reads (IsReply k.agreed (row_at a.opcode).reply a.asked bytes)
-    (λ m. (acts ≡ replied (number_in bytes) t true ++ said_acts k a t m.answer) × IsTold k t m.answer later)
-    ((acts ≡ Faulty fault.BodyOfAnotherRequest ∷ replied (number_in bytes) t false) × (later ≡ k))
+IsReplyTo k bytes t None acts later = (acts ≡ replied (number_in bytes) t fit.MayFit) × (later ≡ k)
+IsReplyTo k bytes t (Some a) acts later = IsReplyBy k bytes t a.opcode a acts later
 
 -- The header is whole, and its error is one; a notification has its code there.
 abbrev pub IsHead : List ℕ → Type 0
 IsHead bytes = IsFrame bytes × MatchBool (number_in bytes == 0) (Unit {0}) (IsErrorWord (error_in bytes))
 
+-- A reply under an odd number is one to an INTERRUPT, unless a request waits under that number itself.
+abbrev pub is_to_interrupt : ℕ → Option Asked → Bool
+is_to_interrupt number None = number % 2 == 1
+is_to_interrupt number (Some a) = false
+
 -- what is written under a good header
 abbrev pub IsHeaded : Known → Session → List ℕ → Taken → List Act → Known → Type 0
 IsHeaded k s bytes t acts later = MatchBool (number_in bytes == 0)
     (AreNotificationActs k.agreed bytes acts × (later ≡ k))
-    (MatchBool (number_in bytes % 2 == 1) ((acts ≡ interrupt_acts bytes t) × (later ≡ k))
+    (MatchBool (is_to_interrupt (number_in bytes) (waits s (number_in bytes)))
+    ((acts ≡ interrupt_acts bytes t) × (later ≡ k))
     (IsReplyTo k bytes t (waits s (number_in bytes)) acts later))
 
 abbrev pub IsWritten : Known → Session → List ℕ → Taken → List Act → Known → Type 0
@@ -129,7 +150,7 @@ IsWritten k s bytes t acts later = (IsHead bytes × IsHeaded k s bytes t acts la
 
 -- These are the acts of the next transfer, and what is known after it.
 abbrev pub AreActs : Known → Session → Transfer → List Act → Known → Type 0
-AreActs k s (transfer.Request bytes) acts later = AreRequestActs k.agreed bytes.now acts × IsOffered k bytes.now later
+AreActs k s (transfer.Request bytes) acts later = AreRequestActs k bytes.now acts × IsOffered k bytes.now later
 AreActs k s (transfer.Written bytes t) acts later = IsWritten k s bytes.now t acts later
 AreActs k s transfer.SeveralReaders acts later = (acts ≡ SeveralReaders ∷ []) × (later ≡ k)
 AreActs k s transfer.Ended acts later = (acts ≡ Ends ∷ []) × (later ≡ k)

@@ -1,5 +1,6 @@
 pub mod Counts
 pub mod Faults
+pub mod Fits
 pub mod Frames
 pub mod Numbers
 pub mod OpenFiles
@@ -7,4 +8,5 @@ pub mod Parties
 pub mod ReplyActs
 pub mod RequestActs
 pub mod Sessions
+pub mod UnreadRequests
 pub mod Waiting

@@ -1,5 +1,5 @@
 -- The numbers of a session's requests.
-use Rattle.std.specs.Prelude.{ℕ, ◌<◌, Bool, true, false, ◌&&◌, is_some, nat_eq, nat_lt, not, sum_by, if◌then◌else◌}
+use Rattle.std.specs.Prelude.{ℕ, ◌<◌, Bool, true, false, ◌&&◌, Option, Some, is_some, nat_eq, nat_lt, not, sum_by, if◌then◌else◌}
 use Rattle.std.specs.List.{list_any}
 use Rattle.fuse_protocol.specs.declared.opcode.Opcode.{Opcode}
 use Rattle.fuse_protocol.specs.declared.opcode.Opcode.TheVariants as op
@@ -10,9 +10,9 @@ use Rattle.fuse_sessions.specs.Sessions.{Session, Moment, moments, since}
 use Rattle.fuse_sessions.specs.Waiting.{reaches, waits}
 
 -- Requests that take no reply are numbered as they are read.
-abbrev pub is_forget : Opcode → Bool
-is_forget op.Forget = true
-is_forget op.BatchForget = true
+abbrev pub is_forget : Option Opcode → Bool
+is_forget (Some op.Forget) = true
+is_forget (Some op.BatchForget) = true
 is_forget _ = false
 
 -- the act reads a request under this number
@@ -90,7 +90,7 @@ agains s original = sum_by (agains_of original) (since (asks_under original) s)
 
 -- The device refuses a reply that a request waits for, as to nothing: the connection has ended.
 abbrev pub shows_end : Moment → Bool
-shows_end (before, Takes unique taken.NoEntry fits) = is_some (waits before unique)
+shows_end (before, Takes unique taken.NoEntry fit) = is_some (waits before unique)
 shows_end (before, Ends) = true
 shows_end (before, act) = false
 

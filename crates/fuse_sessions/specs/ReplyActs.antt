@@ -87,14 +87,14 @@ counting op.CopyFileRange said most = if nat_lt most said then Faulty fault.More
 counting op.CopyFileRange64 said most = if nat_lt most said then Faulty fault.MoreThanWasAsked ∷ [] else []
 counting o said most = []
 
--- The acts of what an accepted reply says.
-abbrev pub answer_acts : Asked → AnswerContent → List Act
-answer_acts a (answer.failed errno) = if nat_eq errno enosys then opening_none a.opcode else []
-answer_acts a (answer.entry e) = entry_acts a.opcode e
-answer_acts a (answer.attributes v) = Describes a.nodeid (kind_of v.attributes) v.attributes.ino ∷ []
-answer_acts a (answer.opened o) = opening a.opcode a.nodeid o.handle
-answer_acts a (answer.created e o) = entry_acts a.opcode e ++ opening a.opcode e.nodeid o.handle
-answer_acts a (answer.number n) = counting a.opcode n a.writes
-answer_acts a (answer.entry_records rs) = flat_map record_acts rs
-answer_acts a (answer.init i) = Agrees i.max_write ∷ []
-answer_acts a other = []
+-- The acts of what an accepted reply says to a request of an opcode.
+abbrev pub answer_acts : Opcode → Asked → AnswerContent → List Act
+answer_acts o a (answer.failed errno) = if nat_eq errno enosys then opening_none o else []
+answer_acts o a (answer.entry e) = entry_acts o e
+answer_acts o a (answer.attributes v) = Describes a.nodeid (kind_of v.attributes) v.attributes.ino ∷ []
+answer_acts o a (answer.opened file) = opening o a.nodeid file.handle
+answer_acts o a (answer.created e file) = entry_acts o e ++ opening o e.nodeid file.handle
+answer_acts o a (answer.number n) = counting o n a.writes
+answer_acts o a (answer.entry_records rs) = flat_map record_acts rs
+answer_acts o a (answer.init i) = Agrees i.max_write ∷ []
+answer_acts o a other = []

@@ -56,7 +56,7 @@ bytes_written o m = 0
 -- what others are judged by
 abbrev pub asked_of : Opcode → RequestMessage → Asked
 asked_of o m = record {
-  opcode = o;
+  opcode = Some o;
   asked = m.asked;
   writes = bytes_written o m;
   nodeid = node_named o m.nodeid;
@@ -85,7 +85,7 @@ writing o m = []
 
 -- what a request that takes a reply does
 abbrev pub asking : Opcode → RequestMessage → Asked → List Act
-asking o m asked = Read o m.unique ∷ (naming asked.nodeid ++ naming asked.other ++ using asked.uses ++ using asked.copies_to
+asking o m asked = Read (Some o) m.unique ∷ (naming asked.nodeid ++ naming asked.other ++ using asked.uses ++ using asked.copies_to
     ++ releasing o m.nodeid m.handle ++ writing o m ++ Asks m.unique asked ∷ [])
 
 abbrev pub forgets_in : List (ℕ × ℕ) → List Act
@@ -96,9 +96,9 @@ abbrev pub doing : Opcode → RequestMessage → List Act
 doing op.Interrupt m = Interrupts m.unique (number_of (number_in (places_at op.Interrupt).interrupted m.fixed)) ∷ []
 -- its number is the server's
 doing op.NotifyReply m = []
-doing op.Forget m = Read op.Forget m.unique
+doing op.Forget m = Read (Some op.Forget) m.unique
     ∷ Forgets m.nodeid (number_of (number_in (places_at op.Forget).forgotten m.fixed)) ∷ []
-doing op.BatchForget m = Read op.BatchForget m.unique ∷ forgets_in (pairs_of_row (row_at op.BatchForget).tail m.tail)
+doing op.BatchForget m = Read (Some op.BatchForget) m.unique ∷ forgets_in (pairs_of_row (row_at op.BatchForget).tail m.tail)
 doing o m = asking o m (asked_of o m)
 
 -- The acts of a request that its frame is.

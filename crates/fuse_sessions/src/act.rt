@@ -29,7 +29,8 @@ pub struct File {
 /// A request that takes a reply, as far as others are judged by it.
 #[derive(Clone, Copy, Debug, PartialEq, Eq)]
 pub struct Asked {
-    pub opcode: Opcode,
+    /// `None` where the request is malformed, or of an opcode that came later: its reply's body is not judged.
+    pub opcode: Option<Opcode>,
     /// How many bytes its reply may have; 0 where it asks for none.
     pub asked: u32,
     /// How many bytes it writes or copies, at most; else 0.
@@ -56,6 +57,15 @@ pub enum Taken {
     Failed,
 }
 
+/// Whether the device is to accept the body of a reply that its request waits for.
+#[derive(Clone, Copy, Debug, PartialEq, Eq)]
+pub enum Fit {
+    Fits,
+    FitsNot,
+    /// It is for the device to say: the request is not judged, or how much it takes is not known.
+    MayFit,
+}
+
 /// One act at the device. What goes over it at once is a few of them, one after another: a RENAME is read, asks and
 /// names two nodes; a BATCH_FORGET forgets a node for each of its pairs; a READDIRPLUS's reply gives a node for each of
 /// its records.
@@ -69,9 +79,10 @@ pub enum Act {
     Arrives,
     /// It is INIT, or another.
     Begins(Opcode),
-    /// It has this number; FORGETs and BATCH_FORGETs too, but no INTERRUPT and no NOTIFY_REPLY.
+    /// It has this number; FORGETs and BATCH_FORGETs too, but no INTERRUPT and no NOTIFY_REPLY. `None` is an opcode by
+    /// which it is not judged.
     Read {
-        opcode: Opcode,
+        opcode: Option<Opcode>,
         unique: u64,
     },
     /// It takes a reply.
@@ -96,11 +107,11 @@ pub enum Act {
     Writes(u64),
 
     // Of the server and the device.
-    /// The device takes a reply under a number, or refuses it; the reply is one to its request or not.
+    /// The device takes a reply under a number, or refuses it.
     Takes {
         unique: u64,
         taken: Taken,
-        fits: bool,
+        fit: Fit,
     },
     /// A reply is written under a number.
     Replies {

@@ -10,7 +10,7 @@ pub mod fault;
 pub mod known;
 pub mod transfer;
 
-pub use act::{Act, Asked, File, OpenFile, OpenKind, Taken};
+pub use act::{Act, Asked, File, Fit, OpenFile, OpenKind, Taken};
 pub use fault::{Fault, Party};
 pub use known::Known;
 pub use transfer::Transfer;

@@ -61,19 +61,20 @@ fn write_counting<A: Allocator + Copy>(
     }
 }
 
-/// The acts of what an accepted reply says.
+/// The acts of what an accepted reply says to a request of an opcode.
 ///
 /// # Errors
 ///
 /// Out of memory.
 pub(crate) fn write_answer<A: Allocator + Copy>(
     acts: &mut Vec<Act, A>,
+    opcode: Opcode,
     asked: Asked,
     answer: &Answer<'_>,
 ) -> Result<(), AllocError>
-    ensures { OnOk result (acts.new.items ≡ acts.old.items ++ words.answer_acts asked (answer_content answer.now)) }
+    ensures { OnOk result (acts.new.items
+        ≡ acts.old.items ++ words.answer_acts opcode asked (answer_content answer.now)) }
 {
-    let opcode = asked.opcode;
     match answer {
         Answer::Failed(errno) => if *errno == ENOSYS {
             write_opening_none(acts, opcode)

@@ -88,7 +88,7 @@ pub(crate) fn asked_of(request: &Request<'_>) -> Asked
     let nodeid = request.head.nodeid;
     let other = or_none(request.node);
     Asked {
-        opcode,
+        opcode: Some(opcode),
         asked: request.head.asked,
         writes: bytes_written(request),
         nodeid: node_named(opcode, nodeid),

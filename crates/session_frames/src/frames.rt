@@ -9,27 +9,25 @@ ghost use Rattle.session_frames.specs.Numbers.{IsReplyNumber};
 use crate::init::known_after_request;
 use crate::replies::write_written;
 use crate::requests::write_request;
+use crate::unread::write_unread;
 use crate::writing::write;
 use fk_fields::u64_at;
-use fuse_protocol::{Agreed, read_request};
-use fuse_sessions::{Act, Asked, Fault, Known, Transfer};
+use fuse_protocol::read_request;
+use fuse_sessions::{Act, Asked, Known, Transfer};
 use std::alloc::{AllocError, Allocator};
 
 /// A request that was read.
 fn write_read<A: Allocator + Copy>(
     acts: &mut Vec<Act, A>,
-    agreed: Agreed,
+    known: Known,
     bytes: &[u8],
 ) -> Result<(), AllocError>
     requires { acts.old.items ≡ [] }
-    ensures { OnOk result (words.AreRequestActs agreed bytes.now acts.new.items) }
+    ensures { OnOk result (words.AreRequestActs known bytes.now acts.new.items) }
 {
-    match read_request(agreed, bytes) {
+    match read_request(known.agreed, bytes) {
         Ok(request) => write_request(acts, &request),
-        Err(_) => {
-            write(acts, Act::Arrives)?;
-            write(acts, Act::Faulty(Fault::MalformedRequest))
-        }
+        Err(_) => write_unread(acts, known.offered, bytes),
     }
 }
 
@@ -61,7 +59,7 @@ pub fn write_transfer<A: Allocator + Copy>(
     acts.clear();
     match transfer {
         Transfer::Request(bytes) => {
-            write_read(acts, known.agreed, bytes)?;
+            write_read(acts, known, bytes)?;
             Ok(known_after_request(known, bytes))
         }
         Transfer::Written(bytes, taken) => write_written(acts, known, asked, bytes, taken),

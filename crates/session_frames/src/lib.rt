@@ -7,10 +7,12 @@
 mod answers;
 mod asked;
 mod entries;
+mod fits;
 mod frames;
 mod init;
 mod replies;
 mod requests;
+mod unread;
 mod writing;
 
 pub use frames::{reply_number, write_transfer};

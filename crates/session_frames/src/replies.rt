@@ -1,18 +1,19 @@
 //! The acts of what the server writes.
 
-ghost use Rattle.std.specs.Prelude.{◌≡◌, ◌≤◌, ◌↔◌, [], ◌++◌, Some, IfOk, IsTrue, OnOk, length};
+ghost use Rattle.std.specs.Prelude.{◌≡◌, ◌≤◌, ◌↔◌, [], ◌++◌, IfOk, IsTrue, OnOk, length};
 ghost use Rattle.fuse_replies.specs.Replies.{IsFrame, answer_content};
 ghost use Rattle.fuse_sessions.specs.Frames as words;
 ghost use Rattle.fuse_sessions.specs.Sessions.{Session};
 ghost use Rattle.fuse_sessions.specs.Waiting.{waits};
 
 use crate::answers::write_answer;
+use crate::fits::fit_in;
 use crate::init::{known_after_reply, write_init};
 use crate::writing::write;
 use fk_fields::{u32_at, u64_at};
-use fuse_protocol::{Agreed, MAX_FRAME, RequestHead};
+use fuse_protocol::{Agreed, MAX_FRAME, Opcode, RequestHead, row_of};
 use fuse_replies::{Answer, read_notification, read_reply};
-use fuse_sessions::{Act, Asked, Fault, Known, Taken};
+use fuse_sessions::{Act, Asked, Fault, Fit, Known, Taken};
 use std::alloc::{AllocError, Allocator};
 
 /// -EAGAIN.
@@ -59,15 +60,11 @@ fn write_replied<A: Allocator + Copy>(
     acts: &mut Vec<Act, A>,
     unique: u64,
     taken: Taken,
-    fits: bool,
+    fit: Fit,
 ) -> Result<(), AllocError>
-    ensures { OnOk result (acts.new.items ≡ acts.old.items ++ words.replied unique taken fits) }
+    ensures { OnOk result (acts.new.items ≡ acts.old.items ++ words.replied unique taken fit) }
 {
-    let takes = Act::Takes {
-        unique,
-        taken,
-        fits,
-    };
+    let takes = Act::Takes { unique, taken, fit };
     write(acts, takes)?;
     write(acts, Act::Replies { unique, taken })
 }
@@ -76,50 +73,53 @@ fn write_replied<A: Allocator + Copy>(
 fn write_said<A: Allocator + Copy>(
     acts: &mut Vec<Act, A>,
     known: Known,
+    opcode: Opcode,
     asked: Asked,
     taken: Taken,
     answer: &Answer<'_>,
 ) -> Result<(), AllocError>
     ensures { OnOk result (acts.new.items
-        ≡ acts.old.items ++ words.said_acts known asked taken (answer_content answer.now)) }
+        ≡ acts.old.items ++ words.said_acts known opcode asked taken (answer_content answer.now)) }
 {
     match taken {
         Taken::Accepted => {
             write_init(acts, known.offered, answer)?;
-            write_answer(acts, asked, answer)
+            write_answer(acts, opcode, asked, answer)
         }
         _ => Ok(()),
     }
 }
 
-/// A reply to a request that waits. Returns what is known after it.
+/// A reply to a request of an opcode that waits. Returns what is known after it.
 fn write_answered<A: Allocator + Copy>(
     acts: &mut Vec<Act, A>,
     known: Known,
+    opcode: Opcode,
     asked: Asked,
     bytes: &[u8],
     taken: Taken,
 ) -> Result<Known, AllocError>
     requires empty { acts.old.items ≡ [] }
     requires frame { IsFrame bytes.now }
-    ensures { IfOk result (words.IsReplyTo known bytes.now taken (Some asked) acts.new.items) }
+    ensures { IfOk result (words.IsReplyOf known bytes.now taken opcode asked acts.new.items) }
 {
     let unique = u64_at(bytes, 8);
+    let fit = fit_in(row_of(opcode).reply, asked.asked, bytes);
     let request = RequestHead {
-        opcode: asked.opcode,
+        opcode,
         unique,
         nodeid: asked.nodeid,
         asked: asked.asked,
     };
     match read_reply(known.agreed, &request, bytes) {
         Ok(reply) => {
-            write_replied(acts, unique, taken, true)?;
-            write_said(acts, known, asked, taken, &reply.answer)?;
+            write_replied(acts, unique, taken, fit)?;
+            write_said(acts, known, opcode, asked, taken, &reply.answer)?;
             Ok(known_after_reply(known, taken, &reply.answer))
         }
         Err(_) => {
             write(acts, Act::Faulty(Fault::BodyOfAnotherRequest))?;
-            write_replied(acts, unique, taken, false)?;
+            write_replied(acts, unique, taken, fit)?;
             Ok(known)
         }
     }
@@ -137,13 +137,13 @@ fn write_reply<A: Allocator + Copy>(
     requires frame { IsFrame bytes.now }
     ensures { IfOk result (words.IsReplyTo known bytes.now taken asked acts.new.items) }
 {
-    match asked {
-        Some(asked) => write_answered(acts, known, asked, bytes, taken),
-        None => {
-            write_replied(acts, u64_at(bytes, 8), taken, true)?;
-            Ok(known)
-        }
+    if let Some(asked) = asked
+        && let Some(opcode) = asked.opcode
+    {
+        return write_answered(acts, known, opcode, asked, bytes, taken);
     }
+    write_replied(acts, u64_at(bytes, 8), taken, Fit::MayFit)?;
+    Ok(known)
 }
 
 /// What is written under a good header, by what waits under its number. Returns what is known after it.
@@ -164,7 +164,7 @@ fn write_headed<A: Allocator + Copy>(
         write_notification(acts, known.agreed, bytes)?;
         return Ok(known);
     }
-    if unique % 2 == 1 {
+    if unique % 2 == 1 && asked.is_none() {
         let replies = Act::RepliesToInterrupt {
             original: unique - 1,
             is_again: u32_at(bytes, 4) == AGAIN,

@@ -1,8 +1,9 @@
 //! The acts of a request.
 
-ghost use Rattle.std.specs.Prelude.{◌≡◌, ◌++◌, OnOk};
+ghost use Rattle.std.specs.Prelude.{◌≡◌, [], ◌∷◌, ◌++◌, OnOk, Some};
 ghost use Rattle.fuse_protocol.specs.Requests.{request_message};
 ghost use Rattle.fuse_protocol.specs.Pairs.{pairs_in};
+ghost use Rattle.fuse_sessions.specs.declared.act.Act.TheVariants.{Read};
 ghost use Rattle.fuse_sessions.specs.RequestActs as words;
 
 use crate::asked::{asked_of, bytes_written, or_none};
@@ -69,6 +70,21 @@ fn write_writing<A: Allocator + Copy>(
     }
 }
 
+/// A request of an opcode is read under a number.
+fn write_number<A: Allocator + Copy>(
+    acts: &mut Vec<Act, A>,
+    opcode: Opcode,
+    unique: u64,
+) -> Result<(), AllocError>
+    ensures { OnOk result (acts.new.items ≡ acts.old.items ++ Read (Some opcode) unique ∷ []) }
+{
+    let read = Act::Read {
+        opcode: Some(opcode),
+        unique,
+    };
+    write(acts, read)
+}
+
 /// A request that takes a reply.
 fn write_asking<A: Allocator + Copy>(
     acts: &mut Vec<Act, A>,
@@ -80,7 +96,7 @@ fn write_asking<A: Allocator + Copy>(
     let opcode = request.head.opcode;
     let unique = request.head.unique;
     let asked = asked_of(request);
-    write(acts, Act::Read { opcode, unique })?;
+    write_number(acts, opcode, unique)?;
     write_naming(acts, asked.nodeid)?;
     write_naming(acts, asked.other)?;
     write_using(acts, asked.uses)?;
@@ -121,12 +137,12 @@ fn write_doing<A: Allocator + Copy>(
         }
         Opcode::NotifyReply => Ok(()),
         Opcode::Forget => {
-            write(acts, Act::Read { opcode, unique })?;
+            write_number(acts, opcode, unique)?;
             let lookups = or_none(request.forgotten());
             write(acts, Act::Forgets(request.head.nodeid, lookups))
         }
         Opcode::BatchForget => {
-            write(acts, Act::Read { opcode, unique })?;
+            write_number(acts, opcode, unique)?;
             write_forgets(acts, request.pairs())
         }
         _ => write_asking(acts, request),
