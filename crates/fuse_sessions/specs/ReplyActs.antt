@@ -1,7 +1,6 @@
 -- The acts that an accepted reply is, by what its request asked.
-use Rattle.std.specs.Prelude.{ℕ, ◌^◌, Bool, true, false, ◌&&◌, ◌||◌, List, [], ◌∷◌, ◌++◌, codes, nat_eq, nat_lt, bit_and, if◌then◌else◌}
+use Rattle.std.specs.Prelude.{ℕ, ◌^◌, Bool, true, false, ◌&&◌, ◌||◌, not, List, [], ◌∷◌, ◌++◌, codes, nat_eq, nat_lt, bit_and, if◌then◌else◌}
 use Rattle.std.specs.List.{list_any, flat_map}
-use Rattle.std.specs.Cmp.Lexicographic.{pointwise}
 use Rattle.fuse_protocol.specs.declared.opcode.Opcode.{Opcode}
 use Rattle.fuse_protocol.specs.declared.opcode.Opcode.TheVariants as op
 use Rattle.fuse_replies.specs.declared.entry.Entry.{Entry}
@@ -16,6 +15,7 @@ use Rattle.fuse_sessions.specs.declared.act.Asked.{Asked}
 use Rattle.fuse_sessions.specs.declared.act.File.{File}
 use Rattle.fuse_sessions.specs.declared.act.OpenKind.TheVariants as kind
 use Rattle.fuse_sessions.specs.declared.fault.Fault.TheVariants as fault
+use Rattle.fuse_sessions.specs.RequestActs.{is_name}
 
 -- ENOSYS
 abbrev pub enosys : ℕ
@@ -36,10 +36,14 @@ is_kind k = list_any (nat_eq k) kinds
 abbrev pub file_of : Entry → File
 file_of e = record { generation = e.generation; kind = kind_of e.attributes; ino = e.attributes.ino }
 
--- Linux takes an entry whose file has a kind and a size that fits. Of another it counts the node or not, by the way that
--- the entry came. (linux/fs/fuse/dir.c)
-abbrev pub is_counted : Entry → Bool
-is_counted e = is_kind (kind_of e.attributes) && nat_lt e.attributes.size (2 ^ 63)
+-- The file of an entry is of the kind that its request makes.
+abbrev pub is_made : Asked → Entry → Bool
+is_made a e = nat_eq a.makes 0 || nat_eq a.makes (kind_of e.attributes)
+
+-- Linux takes an entry whose file has a kind, that which was asked for, and a size that fits. Of another it counts the
+-- node or not, by the way that the entry came. (linux/fs/fuse/dir.c)
+abbrev pub is_counted : Asked → Entry → Bool
+is_counted a e = is_kind (kind_of e.attributes) && (is_made a e && nat_lt e.attributes.size (2 ^ 63))
 
 -- a missing name has an entry of node 0 in a LOOKUP and a READDIRPLUS alone
 abbrev pub may_be_missing : Opcode → Bool
@@ -47,25 +51,33 @@ may_be_missing op.Lookup = true
 may_be_missing op.Readdirplus = true
 may_be_missing o = false
 
-abbrev pub of_no_kind : Entry → List Act
-of_no_kind e = if is_kind (kind_of e.attributes) then [] else Faulty fault.EntryOfNoKind ∷ []
+abbrev pub kind_acts : Asked → Entry → List Act
+kind_acts a e = if is_kind (kind_of e.attributes)
+    then (if is_made a e then [] else Faulty fault.EntryOfAnotherKind ∷ []) else Faulty fault.EntryOfNoKind ∷ []
 
 -- an entry gives its node
-abbrev pub gift_acts : Entry → List Act
-gift_acts e = of_no_kind e ++ Gives e.nodeid (file_of e) (is_counted e) ∷ []
+abbrev pub gift_acts : Asked → Entry → List Act
+gift_acts a e = kind_acts a e ++ Gives e.nodeid (file_of e) (is_counted a e) ∷ []
+
+-- The root is no file that a name may have, but where `.` or `..` was asked for; and there it is never counted.
+abbrev pub root_acts : Asked → List Act
+root_acts a = if a.is_dots then [] else Faulty fault.EntryOfTheRoot ∷ []
 
 -- what an entry is, in a reply to a request of an opcode
-abbrev pub entry_acts : Opcode → Entry → List Act
-entry_acts o e = if nat_eq e.nodeid 1 then Faulty fault.EntryOfTheRoot ∷ [] else (
+abbrev pub entry_acts : Opcode → Asked → Entry → List Act
+entry_acts o a e = if nat_eq e.nodeid 1 then root_acts a else (
     if nat_eq e.nodeid 0 then (if may_be_missing o then [] else Faulty fault.EntryOfNoNode ∷ [])
-    else gift_acts e)
-
-abbrev pub is_name : List ℕ → List ℕ → Bool
-is_name a b = pointwise nat_eq a b
+    else gift_acts a e)
 
 -- A record of `.` or `..` counts nothing. (linux/fs/fuse/readdir.c)
-abbrev pub record_acts : EntryRecordContent → List Act
-record_acts r = if is_name r.said.name (codes ".") || is_name r.said.name (codes "..") then [] else entry_acts op.Readdirplus r.entry
+abbrev pub record_acts : Asked → EntryRecordContent → List Act
+record_acts a r = if is_name r.said.name (codes ".") || is_name r.said.name (codes "..") then []
+    else entry_acts op.Readdirplus a r.entry
+
+-- Linux takes the entry of a file that it creates and opens, or leaves the file unopened. (linux/fs/fuse/dir.c,
+-- `fuse_create_open`)
+abbrev pub is_opened : Asked → Entry → Bool
+is_opened a e = is_counted a e && not (nat_eq e.nodeid 0 || nat_eq e.nodeid 1)
 
 -- a file that is open from now on
 abbrev pub opening : Opcode → (node fh : ℕ) → List Act
@@ -90,11 +102,12 @@ counting o said most = []
 -- The acts of what an accepted reply says to a request of an opcode.
 abbrev pub answer_acts : Opcode → Asked → AnswerContent → List Act
 answer_acts o a (answer.failed errno) = if nat_eq errno enosys then opening_none o else []
-answer_acts o a (answer.entry e) = entry_acts o e
+answer_acts o a (answer.entry e) = entry_acts o a e
 answer_acts o a (answer.attributes v) = Describes a.nodeid (kind_of v.attributes) v.attributes.ino ∷ []
 answer_acts o a (answer.opened file) = opening o a.nodeid file.handle
-answer_acts o a (answer.created e file) = entry_acts o e ++ opening o e.nodeid file.handle
+answer_acts o a (answer.created e file) =
+    entry_acts o a e ++ (if is_opened a e then opening o e.nodeid file.handle else [])
 answer_acts o a (answer.number n) = counting o n a.writes
-answer_acts o a (answer.entry_records rs) = flat_map record_acts rs
+answer_acts o a (answer.entry_records rs) = flat_map (record_acts a) rs
 answer_acts o a (answer.init i) = Agrees i.max_write ∷ []
 answer_acts o a other = []

@@ -1,5 +1,7 @@
 -- The acts that a request is.
-use Rattle.std.specs.Prelude.{ℕ, ◌&&◌, List, [], ◌∷◌, ◌++◌, Option, Some, None, map, nat_eq, if◌then◌else◌}
+use Rattle.std.specs.Prelude.{ℕ, ◌-◌, ◌^◌, Bool, false, ◌||◌, List, [], ◌∷◌, ◌++◌, Option, Some, None, map, codes, nat_eq, bit_and, if◌then◌else◌}
+use Rattle.std.specs.List.{list_any}
+use Rattle.std.specs.Cmp.Lexicographic.{pointwise}
 use Rattle.fuse_protocol.specs.declared.opcode.Opcode.{Opcode}
 use Rattle.fuse_protocol.specs.declared.opcode.Opcode.TheVariants as op
 use Rattle.fuse_protocol.specs.declared.request.OpenHandle.{OpenHandle}
@@ -35,10 +37,16 @@ file_of_handle node (handle.Directory fh) = Some (record { kind = kind.Directory
 file_of_handle node (handle.TwoFiles fh other) = Some (record { kind = kind.File; nodeid = node; fh = fh })
 file_of_handle node handle.None = None
 
+-- Of SETUPMAPPING Linux says -1, which is no file handle. (linux/fs/fuse/dax.c)
+abbrev pub file_mapped : ℕ → OpenHandle → Option OpenFile
+file_mapped node (handle.File fh) = if nat_eq fh (2 ^ 64 - 1) then None else file_of_handle node (handle.File fh)
+file_mapped node h = file_of_handle node h
+
 -- the open file that a request uses: none that releases one does
 abbrev pub file_used : Opcode → ℕ → OpenHandle → Option OpenFile
 file_used op.Release node h = None
 file_used op.Releasedir node h = None
+file_used op.Setupmapping node h = file_mapped node h
 file_used o node h = file_of_handle node h
 
 -- the open file to which a range is copied
@@ -53,13 +61,37 @@ bytes_written op.CopyFileRange m = number_of (number_in (places_at op.CopyFileRa
 bytes_written op.CopyFileRange64 m = number_of (number_in (places_at op.CopyFileRange64).size m.fixed)
 bytes_written o m = 0
 
+-- the kind of file that a request makes: mkdir(2), symlink(2), open(2), mknod(2)
+abbrev pub kind_made : Opcode → RequestMessage → ℕ
+kind_made op.Mkdir m = 16384
+kind_made op.Symlink m = 40960
+kind_made op.Create m = 32768
+kind_made op.Tmpfile m = 32768
+kind_made op.Mknod m = bit_and (number_of (number_in (places_at op.Mknod).mode m.fixed)) 61440
+kind_made o m = 0
+
+abbrev pub is_name : List ℕ → List ℕ → Bool
+is_name a b = pointwise nat_eq a b
+
+-- Where EXPORT_SUPPORT was agreed, LOOKUP of `.` asks for a node of which a client has a handle, counted or not, and
+-- `..` for the directory above. (linux/fs/fuse/inode.c, `fuse_get_dentry`, `fuse_get_parent`)
+abbrev pub looks_up : (name : List ℕ) → Opcode → RequestMessage → Bool
+looks_up name op.Lookup m = list_any (is_name name) m.names
+looks_up name o m = false
+
+-- the node that a request names, or 0
+abbrev pub node_asked : Opcode → RequestMessage → ℕ
+node_asked o m = if looks_up (codes ".") o m then 0 else node_named o m.nodeid
+
 -- what others are judged by
 abbrev pub asked_of : Opcode → RequestMessage → Asked
 asked_of o m = record {
   opcode = Some o;
   asked = m.asked;
   writes = bytes_written o m;
-  nodeid = node_named o m.nodeid;
+  makes = kind_made o m;
+  is_dots = looks_up (codes ".") o m || looks_up (codes "..") o m;
+  nodeid = node_asked o m;
   other = or_none m.node;
   uses = file_used o m.nodeid m.handle;
   copies_to = file_copied_to (or_none m.node) m.handle;

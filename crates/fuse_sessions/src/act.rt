@@ -35,7 +35,11 @@ pub struct Asked {
     pub asked: u32,
     /// How many bytes it writes or copies, at most; else 0.
     pub writes: u64,
-    /// The node that it names, or 0.
+    /// The kind of file that it makes, as the type's bits of a mode; 0 where any will do.
+    pub makes: u64,
+    /// Whether it is a LOOKUP of `.` or `..`, which may give the root.
+    pub is_dots: bool,
+    /// The node that it names, or 0; a LOOKUP of `.` names none.
     pub nodeid: u64,
     /// The further node that it names, or 0: RENAME's new directory, LINK's old node, where a range is copied to.
     pub other: u64,

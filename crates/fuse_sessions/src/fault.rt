@@ -45,6 +45,7 @@ pub enum Fault {
     EntryOfTheRoot,
     EntryOfNoNode,
     EntryOfNoKind,
+    EntryOfAnotherKind,
     NodeOfTwoGenerations,
     NodeOfTwoKinds,
     NodeOfTwoInodeNumbers,

@@ -4,7 +4,7 @@ ghost use Rattle.std.specs.Prelude.{◌≡◌, ◌++◌, OnOk};
 ghost use Rattle.fuse_replies.specs.Replies.{answer_content};
 ghost use Rattle.fuse_sessions.specs.ReplyActs as words;
 
-use crate::entries::{kind_of, write_entry, write_records};
+use crate::entries::{is_opened, kind_of, write_entry, write_records};
 use crate::writing::write;
 use fuse_protocol::Opcode;
 use fuse_replies::Answer;
@@ -81,7 +81,7 @@ pub(crate) fn write_answer<A: Allocator + Copy>(
         } else {
             Ok(())
         },
-        Answer::Entry(entry) => write_entry(acts, opcode, entry),
+        Answer::Entry(entry) => write_entry(acts, opcode, asked, entry),
         Answer::Attributes(valid) => {
             let describes = Act::Describes {
                 nodeid: asked.nodeid,
@@ -92,11 +92,15 @@ pub(crate) fn write_answer<A: Allocator + Copy>(
         }
         Answer::Opened(opened) => write_opening(acts, opcode, asked.nodeid, opened.handle),
         Answer::Created(entry, opened) => {
-            write_entry(acts, opcode, entry)?;
-            write_opening(acts, opcode, entry.nodeid, opened.handle)
+            write_entry(acts, opcode, asked, entry)?;
+            if is_opened(asked, entry) {
+                write_opening(acts, opcode, entry.nodeid, opened.handle)
+            } else {
+                Ok(())
+            }
         }
         Answer::Number(number) => write_counting(acts, opcode, *number, asked.writes),
-        Answer::EntryRecords(records) => write_records(acts, *records),
+        Answer::EntryRecords(records) => write_records(acts, asked, *records),
         Answer::Init(init) => write(acts, Act::Agrees(init.max_write)),
         Answer::Done | Answer::Bytes(_) | Answer::Records(_) => Ok(()),
     }

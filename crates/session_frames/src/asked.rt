@@ -4,7 +4,7 @@ ghost use Rattle.std.specs.Prelude.{◌≡◌};
 ghost use Rattle.fuse_protocol.specs.Requests.{request_message};
 ghost use Rattle.fuse_sessions.specs.RequestActs as words;
 
-use fuse_protocol::{Opcode, OpenHandle, Request};
+use fuse_protocol::{Opcode, OpenHandle, Request, RequestNames};
 use fuse_sessions::{Asked, OpenFile, OpenKind};
 
 /// The number, or 0.
@@ -52,6 +52,7 @@ fn file_used(opcode: Opcode, node: u64, handle: OpenHandle) -> Option<OpenFile>
 {
     match opcode {
         Opcode::Release | Opcode::Releasedir => None,
+        Opcode::Setupmapping if handle == OpenHandle::File(u64::MAX) => None,
         _ => file_of_handle(node, handle),
     }
 }
@@ -80,18 +81,45 @@ pub(crate) fn bytes_written(request: &Request<'_>) -> u64
     }
 }
 
+/// The kind of file that a request makes, as the type's bits of a mode, or 0.
+fn kind_made(request: &Request<'_>) -> u64
+    ensures { result ≡ words.kind_made request.now.head.opcode (request_message request.now) }
+{
+    match request.head.opcode {
+        Opcode::Mkdir => 0o040000,
+        Opcode::Symlink => 0o120000,
+        Opcode::Create | Opcode::Tmpfile => 0o100000,
+        Opcode::Mknod => or_none(request.mode()) & 0o170000,
+        _ => 0,
+    }
+}
+
+/// Whether a request is a LOOKUP of a name.
+fn looks_up(request: &Request<'_>, name: &[u8]) -> bool
+    ensures { result ≡ words.looks_up name.now request.now.head.opcode (request_message request.now) }
+{
+    match (request.head.opcode, request.names) {
+        (Opcode::Lookup, RequestNames::One(looked)) => looked == name,
+        (Opcode::Lookup, RequestNames::Two(first, second)) => first == name || second == name,
+        _ => false,
+    }
+}
+
 /// What a request asks.
 pub(crate) fn asked_of(request: &Request<'_>) -> Asked
     ensures { result ≡ words.asked_of request.now.head.opcode (request_message request.now) }
 {
     let opcode = request.head.opcode;
     let nodeid = request.head.nodeid;
+    let is_dot = looks_up(request, b".");
     let other = or_none(request.node);
     Asked {
         opcode: Some(opcode),
         asked: request.head.asked,
         writes: bytes_written(request),
-        nodeid: node_named(opcode, nodeid),
+        makes: kind_made(request),
+        is_dots: is_dot || looks_up(request, b".."),
+        nodeid: if is_dot { 0 } else { node_named(opcode, nodeid) },
         other,
         uses: file_used(opcode, nodeid, request.handle),
         copies_to: file_copied_to(other, request.handle),

@@ -8,7 +8,7 @@ ghost use Rattle.fuse_sessions.specs.ReplyActs as words;
 use crate::writing::write;
 use fuse_protocol::Opcode;
 use fuse_replies::{Attributes, Entry, EntryRecord, EntryRecords};
-use fuse_sessions::{Act, Fault, File};
+use fuse_sessions::{Act, Asked, Fault, File};
 use std::alloc::{AllocError, Allocator};
 
 /// The type's bits of a mode (stat(2)).
@@ -45,11 +45,27 @@ fn file_of(entry: &Entry) -> File
     }
 }
 
-/// Whether Linux counts the node of an entry for certain.
-fn is_counted(entry: &Entry) -> bool
-    ensures { result ≡ words.is_counted entry.now }
+/// Whether the file of an entry is of the kind that its request makes.
+fn is_made(asked: Asked, entry: &Entry) -> bool
+    ensures { result ≡ words.is_made asked entry.now }
 {
-    is_kind(kind_of(&entry.attributes)) && entry.attributes.size < 1 << 63
+    asked.makes == 0 || asked.makes == u64::from(kind_of(&entry.attributes))
+}
+
+/// Whether Linux counts the node of an entry for certain.
+fn is_counted(asked: Asked, entry: &Entry) -> bool
+    ensures { result ≡ words.is_counted asked entry.now }
+{
+    is_kind(kind_of(&entry.attributes))
+        && is_made(asked, entry)
+        && entry.attributes.size < 1 << 63
+}
+
+/// Whether Linux opens the file of an entry that it created.
+pub(crate) fn is_opened(asked: Asked, entry: &Entry) -> bool
+    ensures { result ≡ words.is_opened asked entry.now }
+{
+    is_counted(asked, entry) && entry.nodeid != 0 && entry.nodeid != 1
 }
 
 /// Whether an entry of node 0 may stand in a reply to a request of an opcode.
@@ -59,33 +75,64 @@ fn may_be_missing(opcode: Opcode) -> bool
     matches!(opcode, Opcode::Lookup | Opcode::Readdirplus)
 }
 
-/// An entry of a node that is neither 0 nor the root.
-fn write_gift<A: Allocator + Copy>(acts: &mut Vec<Act, A>, entry: &Entry) -> Result<(), AllocError>
-    ensures { OnOk result (acts.new.items ≡ acts.old.items ++ words.gift_acts entry.now) }
+/// The kind of an entry's file.
+fn write_kind<A: Allocator + Copy>(
+    acts: &mut Vec<Act, A>,
+    asked: Asked,
+    entry: &Entry,
+) -> Result<(), AllocError>
+    ensures { OnOk result (acts.new.items ≡ acts.old.items ++ words.kind_acts asked entry.now) }
 {
     if !is_kind(kind_of(&entry.attributes)) {
-        write(acts, Act::Faulty(Fault::EntryOfNoKind))?;
+        write(acts, Act::Faulty(Fault::EntryOfNoKind))
+    } else if !is_made(asked, entry) {
+        write(acts, Act::Faulty(Fault::EntryOfAnotherKind))
+    } else {
+        Ok(())
     }
+}
+
+/// An entry of a node that is neither 0 nor the root.
+fn write_gift<A: Allocator + Copy>(
+    acts: &mut Vec<Act, A>,
+    asked: Asked,
+    entry: &Entry,
+) -> Result<(), AllocError>
+    ensures { OnOk result (acts.new.items ≡ acts.old.items ++ words.gift_acts asked entry.now) }
+{
+    write_kind(acts, asked, entry)?;
     let gives = Act::Gives {
         nodeid: entry.nodeid,
         file: file_of(entry),
-        is_certain: is_counted(entry),
+        is_certain: is_counted(asked, entry),
     };
     write(acts, gives)
+}
+
+/// An entry of the root.
+fn write_root<A: Allocator + Copy>(acts: &mut Vec<Act, A>, asked: Asked) -> Result<(), AllocError>
+    ensures { OnOk result (acts.new.items ≡ acts.old.items ++ words.root_acts asked) }
+{
+    if asked.is_dots {
+        Ok(())
+    } else {
+        write(acts, Act::Faulty(Fault::EntryOfTheRoot))
+    }
 }
 
 /// An entry in a reply to a request of an opcode.
 pub(crate) fn write_entry<A: Allocator + Copy>(
     acts: &mut Vec<Act, A>,
     opcode: Opcode,
+    asked: Asked,
     entry: &Entry,
 ) -> Result<(), AllocError>
-    ensures { OnOk result (acts.new.items ≡ acts.old.items ++ words.entry_acts opcode entry.now) }
+    ensures { OnOk result (acts.new.items ≡ acts.old.items ++ words.entry_acts opcode asked entry.now) }
 {
     if entry.nodeid == 1 {
-        write(acts, Act::Faulty(Fault::EntryOfTheRoot))
+        write_root(acts, asked)
     } else if entry.nodeid != 0 {
-        write_gift(acts, entry)
+        write_gift(acts, asked, entry)
     } else if may_be_missing(opcode) {
         Ok(())
     } else {
@@ -96,29 +143,32 @@ pub(crate) fn write_entry<A: Allocator + Copy>(
 /// A record of a listing with its entry.
 fn write_record<A: Allocator + Copy>(
     acts: &mut Vec<Act, A>,
+    asked: Asked,
     listed: &EntryRecord<'_>,
 ) -> Result<(), AllocError>
-    ensures { OnOk result (acts.new.items ≡ acts.old.items ++ words.record_acts (entry_record_content listed.now)) }
+    ensures { OnOk result (acts.new.items
+        ≡ acts.old.items ++ words.record_acts asked (entry_record_content listed.now)) }
 {
     let name = listed.record.name;
     if name == b".".as_slice() || name == b"..".as_slice() {
         Ok(())
     } else {
-        write_entry(acts, Opcode::Readdirplus, &listed.entry)
+        write_entry(acts, Opcode::Readdirplus, asked, &listed.entry)
     }
 }
 
 /// The records of a listing.
 pub(crate) fn write_records<A: Allocator + Copy>(
     acts: &mut Vec<Act, A>,
+    asked: Asked,
     records: EntryRecords<'_>,
 ) -> Result<(), AllocError>
     ensures { OnOk result (acts.new.items
-        ≡ acts.old.items ++ flat_map words.record_acts (entry_records_in records.entry)) }
+        ≡ acts.old.items ++ flat_map (words.record_acts asked) (entry_records_in records.entry)) }
 {
     let mut left = records;
     'records: while let Some(record) = left.next() {
-        write_record(acts, &record)?;
+        write_record(acts, asked, &record)?;
     }
     Ok(())
 }

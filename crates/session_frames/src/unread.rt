@@ -26,6 +26,8 @@ const fn unjudged() -> Asked
         opcode: None,
         asked: 0,
         writes: 0,
+        makes: 0,
+        is_dots: false,
         nodeid: 0,
         other: 0,
         uses: None,
