@@ -2,13 +2,14 @@
 
 ghost use Rattle.std.specs.Prelude.{◌≡◌, false, [], ◌∷◌, ◌++◌};
 ghost use Rattle.fuse_sessions.specs.Sessions.{Session};
+ghost use Rattle.fuse_sessions.specs.Numbers as words;
 ghost use Rattle.fuse_sessions.specs.Numbers.{shows_end};
 ghost use Rattle.fuse_sessions.specs.Faults.{BreaksArrival, BreaksBeginning, BreaksWrite};
 ghost use Rattle.fuse_judge.specs.Flags.{AreFlags, LeavesFlags, is_from, highest_with};
 ghost use Rattle.fuse_judge.specs.Verdicts.{IsFault};
 
 use crate::projections::{
-    agreed_write, is_agreement, is_of_several, is_reading, opens_none, request_read,
+    agreed_write, is_agreement, is_of_several, is_of_writers, is_reading, opens_none, request_read,
 };
 use fuse_protocol::Opcode;
 use fuse_sessions::{Act, Fault, OpenKind};
@@ -26,6 +27,7 @@ pub struct Flags {
     /// On WRITEs of at most how many bytes it agreed.
     pub max_write: Option<u32>,
     pub has_several_readers: bool,
+    pub has_several_writers: bool,
     pub ended: bool,
     pub opens_no_files: bool,
     pub opens_no_directories: bool,
@@ -42,6 +44,7 @@ pub(crate) const fn no_flags() -> Flags
         agreed: false,
         max_write: None,
         has_several_readers: false,
+        has_several_writers: false,
         ended: false,
         opens_no_files: false,
         opens_no_directories: false,
@@ -59,11 +62,25 @@ pub(crate) fn is_out_of_order(highest: Option<u64>, unique: u64) -> bool
     }
 }
 
+/// Whether more than one thread uses the device.
+pub(crate) fn has_several_threads(flags: Flags) -> bool
+    ensures { (s : Session) → AreFlags s flags → result ≡ words.has_several_threads s }
+{
+    flags.has_several_readers | flags.has_several_writers
+}
+
+/// Whether the connection had ended before what stands next.
+pub(crate) fn is_surely_over(flags: Flags) -> bool
+    ensures { (s : Session) → AreFlags s flags → result ≡ words.is_surely_over s }
+{
+    flags.ended & !has_several_threads(flags)
+}
+
 /// The fault of a device at which a request is read.
 pub(crate) fn fault_of_arrival(flags: Flags) -> Option<Fault>
     ensures { (s : Session) → AreFlags s flags → IsFault (BreaksArrival s) result }
 {
-    if flags.ended {
+    if is_surely_over(flags) {
         Some(Fault::ReadAfterTheEnd)
     } else {
         None
@@ -114,7 +131,11 @@ fn is_of_flags(act: Act) -> bool
 {
     matches!(
         act,
-        Act::Read { .. } | Act::Agrees(_) | Act::OpensNone(_) | Act::SeveralReaders
+        Act::Read { .. }
+            | Act::Agrees(_)
+            | Act::OpensNone(_)
+            | Act::SeveralReaders
+            | Act::SeveralWriters
     )
 }
 
@@ -127,6 +148,7 @@ fn flags_with(flags: Flags, act: Act, shows: bool) -> Flags
         agreed: flags.agreed | is_agreement(act),
         max_write: agreed_write(act).or(flags.max_write),
         has_several_readers: flags.has_several_readers | is_of_several(act),
+        has_several_writers: flags.has_several_writers | is_of_writers(act),
         ended: flags.ended | shows,
         opens_no_files: flags.opens_no_files | opens_none(OpenKind::File, act),
         opens_no_directories: flags.opens_no_directories | opens_none(OpenKind::Directory, act),

@@ -7,7 +7,7 @@ ghost use Rattle.fuse_sessions.specs.declared.act.Act.TheVariants.{Asks};
 ghost use Rattle.fuse_sessions.specs.declared.act.Asked.{Asked};
 ghost use Rattle.fuse_sessions.specs.declared.act.OpenFile.{OpenFile};
 ghost use Rattle.fuse_sessions.specs.Sessions.{Session};
-ghost use Rattle.fuse_sessions.specs.Numbers.{has_ended};
+ghost use Rattle.fuse_sessions.specs.Numbers.{has_several_threads};
 ghost use Rattle.fuse_sessions.specs.Waiting.{waits};
 ghost use Rattle.fuse_judge.specs.declared.pending.Waiting.{Waiting};
 ghost use Rattle.fuse_sessions.specs.Faults.{BreaksInterrupt, BreaksTaking, BreaksReply, BreaksReplyToInterrupt};
@@ -20,6 +20,7 @@ ghost use Rattle.fuse_judge.specs.Tallies.{count_in};
 ghost use Rattle.fuse_judge.specs.Verdicts.{IsFault};
 
 use crate::change::{Change, change_of};
+use crate::flags::{Flags, is_surely_over};
 use crate::handle::Handle;
 use crate::marks::Marks;
 use crate::named::{add_names, add_uses, take_names, take_uses};
@@ -74,40 +75,48 @@ pub(crate) fn reserve_pending<A: Allocator + Copy>(
 /// The fault of a kernel that interrupts a request.
 pub(crate) fn fault_of_interrupt<A: Allocator + Copy>(
     rows: &RisingTable<Waiting, A>,
+    several: bool,
     unique: u64,
     original: u64,
 ) -> Option<Fault>
-    ensures { (s : Session) → AreWaiting s rows.now.entries → IsFault (BreaksInterrupt s unique original) result }
+    ensures { (s : Session) → AreWaiting s rows.now.entries → several ≡ has_several_threads s
+        → IsFault (BreaksInterrupt s unique original) result }
 {
-    let Some(row) = rows.get(original) else {
-        return Some(Fault::InterruptOfNothing);
-    };
     if original == u64::MAX || unique != original + 1 {
-        Some(Fault::InterruptUnderAnotherNumber)
-    } else if row.agains < row.interrupts {
-        Some(Fault::InterruptTooOften)
-    } else {
-        None
+        return Some(Fault::InterruptUnderAnotherNumber);
+    }
+    if several {
+        return None;
+    }
+    match rows.get(original) {
+        None => Some(Fault::InterruptOfNothing),
+        Some(row) if row.agains < row.interrupts => Some(Fault::InterruptTooOften),
+        Some(_) => None,
     }
 }
 
 /// The fault of a device that takes a reply or refuses it.
 pub(crate) fn fault_of_taking<A: Allocator + Copy>(
     rows: &RisingTable<Waiting, A>,
-    ended: bool,
+    flags: Flags,
     unique: u64,
     taken: Taken,
     fit: Fit,
 ) -> Option<Fault>
-    ensures { (s : Session) → AreWaiting s rows.now.entries → ended ≡ has_ended s
+    ensures { (s : Session) → AreWaiting s rows.now.entries → AreFlags s flags
         → IsFault (BreaksTaking s unique taken fit) result }
 {
+    if flags.ended {
+        return match taken {
+            Taken::Accepted if is_surely_over(flags) => Some(Fault::AcceptedAfterTheEnd),
+            _ => None,
+        };
+    }
     let waits = rows.get(unique).is_some();
     match (taken, fit) {
-        (Taken::Accepted, _) if ended => Some(Fault::AcceptedAfterTheEnd),
         (Taken::Accepted, _) if !waits => Some(Fault::AcceptedReplyToNothing),
         (Taken::Accepted, Fit::FitsNot) => Some(Fault::AcceptedWrongBody),
-        (Taken::Invalid, Fit::Fits) if waits && !ended => Some(Fault::RefusedReply),
+        (Taken::Invalid, Fit::Fits) if waits => Some(Fault::RefusedReply),
         _ => None,
     }
 }

@@ -42,6 +42,12 @@ pub(crate) fn is_of_several(act: Act) -> bool
     matches!(act, Act::SeveralReaders)
 }
 
+pub(crate) fn is_of_writers(act: Act) -> bool
+    ensures { result ≡ words.is_of_writers act }
+{
+    matches!(act, Act::SeveralWriters)
+}
+
 pub(crate) fn opens_none(kind: OpenKind, act: Act) -> bool
     ensures { result ≡ files.opens_none kind act }
 {

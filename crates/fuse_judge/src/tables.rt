@@ -10,7 +10,9 @@ ghost use Rattle.fuse_judge.specs.Pending.{ArePending, AreWaiting};
 ghost use Rattle.fuse_judge.specs.Seen.{HasSeen, HasRoom, state_of};
 ghost use Rattle.fuse_judge.specs.Verdicts.{IsVerdict, AreVerdicts};
 
-use crate::flags::{Flags, fault_of_arrival, fault_of_beginning, fault_of_write, note_flags};
+use crate::flags::{
+    Flags, fault_of_arrival, fault_of_beginning, fault_of_write, has_several_threads, note_flags,
+};
 use crate::handle::handle_of;
 use crate::marks::Marks;
 use crate::nodes::{
@@ -106,7 +108,9 @@ impl<A: Allocator + Copy> Tables<A> {
             Act::Arrives => fault_of_arrival(self.flags),
             Act::Begins(opcode) => fault_of_beginning(self.flags, opcode),
             Act::Read { unique, .. } => fault_of_number(&self.numbers, self.flags, unique),
-            Act::Interrupts { unique, original } => fault_of_interrupt(rows, unique, original),
+            Act::Interrupts { unique, original } => {
+                fault_of_interrupt(rows, has_several_threads(self.flags), unique, original)
+            }
             Act::Names(node) => fault_of_name(&self.nodes, node),
             Act::Forgets(node, lookups) => {
                 fault_of_forget(&self.nodes, node, lookups, self.is_in_use(node))
@@ -123,7 +127,7 @@ impl<A: Allocator + Copy> Tables<A> {
                 unique,
                 taken,
                 fit,
-            } => fault_of_taking(rows, self.flags.ended, unique, taken, fit),
+            } => fault_of_taking(rows, self.flags, unique, taken, fit),
             Act::Replies { unique, .. } => fault_of_reply(rows, &self.numbers, unique),
             Act::RepliesToInterrupt { original, .. } => {
                 fault_of_reply_to_interrupt(rows, &self.numbers, original)
@@ -137,6 +141,7 @@ impl<A: Allocator + Copy> Tables<A> {
             | Act::Opens(_)
             | Act::OpensNone(_)
             | Act::SeveralReaders
+            | Act::SeveralWriters
             | Act::Ends => None,
         }
     }

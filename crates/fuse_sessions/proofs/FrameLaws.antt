@@ -108,6 +108,7 @@ acts_once k s (transfer.Request bytes) a b l m is as' =
     (λ q. both_are a b _) (both_are a b _) is.0 as'.0
 acts_once k s (transfer.Written bytes t) a b l m is as' = written_once k s bytes.now t a b l m is as'
 acts_once k s transfer.SeveralReaders a b l m is as' = both_are a b _ is.0 as'.0
+acts_once k s transfer.SeveralWriters a b l m is as' = both_are a b _ is.0 as'.0
 acts_once k s transfer.Ended a b l m is as' = both_are a b _ is.0 as'.0
 
 -- One more transfer leads on.

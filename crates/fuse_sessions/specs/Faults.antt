@@ -16,7 +16,7 @@ use Rattle.fuse_sessions.specs.declared.fault.Fault.{Fault}
 use Rattle.fuse_sessions.specs.declared.fault.Fault.TheVariants as fault
 use Rattle.fuse_sessions.specs.Sessions.{Session, latest}
 use Rattle.fuse_sessions.specs.Waiting.{waits, is_named, is_used}
-use Rattle.fuse_sessions.specs.Numbers.{was_read, was_forget, is_out_of_order, was_anything_read, has_agreed, has_several_readers, interrupts, agains, has_ended}
+use Rattle.fuse_sessions.specs.Numbers.{was_read, was_forget, is_out_of_order, was_anything_read, has_agreed, has_several_readers, has_several_threads, interrupts, agains, has_ended, is_surely_over}
 use Rattle.fuse_sessions.specs.Counts.{least_count, most_count, known}
 use Rattle.fuse_sessions.specs.OpenFiles.{opened, MayUse, HasOpen}
 
@@ -36,13 +36,14 @@ BreaksNumber s unique fault.NumberOutOfOrder = (unique % 2 ≡ 0) × IsFalse (wa
     × IsFalse (has_several_readers s) × IsTrue (is_out_of_order s unique)
 BreaksNumber s unique f = ⊥
 
--- An INTERRUPT is of a request that waits, has its number with the lowest bit set, and comes once, and once again after
--- each EAGAIN. (fuse.rst)
+-- An INTERRUPT has its request's number with the lowest bit set. Where one thread uses the device it is of a request that
+-- waits, and comes once, and once again after each EAGAIN; another thread may read it late. (fuse.rst)
 abbrev pub BreaksInterrupt : Session → (unique original : ℕ) → Fault → Type 0
-BreaksInterrupt s unique original fault.InterruptOfNothing = waits s original ≡ None
-BreaksInterrupt s unique original fault.InterruptUnderAnotherNumber = (waits s original ≢ None) × (unique ≢ original + 1)
-BreaksInterrupt s unique original fault.InterruptTooOften = (waits s original ≢ None) × (unique ≡ original + 1)
-    × (agains s original < interrupts s original)
+BreaksInterrupt s unique original fault.InterruptUnderAnotherNumber = unique ≢ original + 1
+BreaksInterrupt s unique original fault.InterruptOfNothing = (unique ≡ original + 1)
+    × IsFalse (has_several_threads s) × (waits s original ≡ None)
+BreaksInterrupt s unique original fault.InterruptTooOften = (unique ≡ original + 1)
+    × IsFalse (has_several_threads s) × (waits s original ≢ None) × (agains s original < interrupts s original)
 BreaksInterrupt s unique original f = ⊥
 
 -- A node that a request names is the root, or counted.
@@ -91,7 +92,7 @@ BreaksWrite s size f = ⊥
 -- The device accepts a reply exactly where a request waits for it, its body fits, and the connection has not ended.
 -- (linux/fs/fuse/dev.c, `fuse_dev_do_write`)
 abbrev pub BreaksTaking : Session → ℕ → Taken → Fit → Fault → Type 0
-BreaksTaking s unique taken.Accepted body fault.AcceptedAfterTheEnd = IsTrue (has_ended s)
+BreaksTaking s unique taken.Accepted body fault.AcceptedAfterTheEnd = IsTrue (is_surely_over s)
 BreaksTaking s unique taken.Accepted body fault.AcceptedReplyToNothing = IsFalse (has_ended s) × (waits s unique ≡ None)
 BreaksTaking s unique taken.Accepted fit.FitsNot fault.AcceptedWrongBody =
     IsFalse (has_ended s) × (waits s unique ≢ None)
@@ -135,7 +136,7 @@ BreaksAttributes s node kind ino f = ⊥
 
 -- No request is read once the connection has ended.
 abbrev pub BreaksArrival : Session → Fault → Type 0
-BreaksArrival s fault.ReadAfterTheEnd = IsTrue (has_ended s)
+BreaksArrival s fault.ReadAfterTheEnd = IsTrue (is_surely_over s)
 BreaksArrival s f = ⊥
 
 -- The next act of a session has this fault.

@@ -16,7 +16,7 @@ use Rattle.fuse_replies.specs.Replies.{AnswerContent, ReplyMessage, IsFrame, IsE
 use Rattle.fuse_replies.specs.Replies as answer
 use Rattle.fuse_replies.specs.Notifications.{NotificationContent, IsNotification}
 use Rattle.fuse_sessions.specs.declared.act.Act.{Act}
-use Rattle.fuse_sessions.specs.declared.act.Act.TheVariants.{Faulty, Takes, Replies, RepliesToInterrupt, SeveralReaders, Ends}
+use Rattle.fuse_sessions.specs.declared.act.Act.TheVariants.{Faulty, Takes, Replies, RepliesToInterrupt, SeveralReaders, SeveralWriters, Ends}
 use Rattle.fuse_sessions.specs.declared.act.Asked.{Asked}
 use Rattle.fuse_sessions.specs.declared.act.Fit.{Fit}
 use Rattle.fuse_sessions.specs.declared.act.Fit.TheVariants as fit
@@ -153,6 +153,7 @@ abbrev pub AreActs : Known → Session → Transfer → List Act → Known → T
 AreActs k s (transfer.Request bytes) acts later = AreRequestActs k bytes.now acts × IsOffered k bytes.now later
 AreActs k s (transfer.Written bytes t) acts later = IsWritten k s bytes.now t acts later
 AreActs k s transfer.SeveralReaders acts later = (acts ≡ SeveralReaders ∷ []) × (later ≡ k)
+AreActs k s transfer.SeveralWriters acts later = (acts ≡ SeveralWriters ∷ []) × (later ≡ k)
 AreActs k s transfer.Ended acts later = (acts ≡ Ends ∷ []) × (later ≡ k)
 
 -- The transfers lead from one session, with what was known, to another.

@@ -1,10 +1,10 @@
 -- The numbers of a session's requests.
-use Rattle.std.specs.Prelude.{ℕ, ◌<◌, Bool, true, false, ◌&&◌, Option, Some, is_some, nat_eq, nat_lt, not, sum_by, if◌then◌else◌}
+use Rattle.std.specs.Prelude.{ℕ, ◌<◌, Bool, true, false, ◌&&◌, ◌||◌, Option, Some, is_some, nat_eq, nat_lt, not, sum_by, if◌then◌else◌}
 use Rattle.std.specs.List.{list_any}
 use Rattle.fuse_protocol.specs.declared.opcode.Opcode.{Opcode}
 use Rattle.fuse_protocol.specs.declared.opcode.Opcode.TheVariants as op
 use Rattle.fuse_sessions.specs.declared.act.Act.{Act}
-use Rattle.fuse_sessions.specs.declared.act.Act.TheVariants.{Read, Asks, Interrupts, RepliesToInterrupt, Agrees, SeveralReaders, Ends, Takes}
+use Rattle.fuse_sessions.specs.declared.act.Act.TheVariants.{Read, Asks, Interrupts, RepliesToInterrupt, Agrees, SeveralReaders, SeveralWriters, Ends, Takes}
 use Rattle.fuse_sessions.specs.declared.act.Taken.TheVariants as taken
 use Rattle.fuse_sessions.specs.Sessions.{Session, Moment, moments, since}
 use Rattle.fuse_sessions.specs.Waiting.{reaches, waits}
@@ -65,6 +65,19 @@ is_of_several act = false
 abbrev pub has_several_readers : Session → Bool
 has_several_readers s = list_any is_of_several s
 
+abbrev pub is_of_writers : Act → Bool
+is_of_writers SeveralWriters = true
+is_of_writers act = false
+
+-- another thread than the one that reads writes replies
+abbrev pub has_several_writers : Session → Bool
+has_several_writers s = list_any is_of_writers s
+
+-- More than one thread uses the device. A read stands where it ended, and a write where it began: so what one of them
+-- shows may have happened before what another shows earlier.
+abbrev pub has_several_threads : Session → Bool
+has_several_threads s = has_several_readers s || has_several_writers s
+
 -- INTERRUPTs
 
 abbrev pub asks_under : ℕ → Act → Bool
@@ -97,3 +110,7 @@ shows_end (before, act) = false
 -- The connection has ended: no request is read any more, and no reply is accepted.
 abbrev pub has_ended : Session → Bool
 has_ended s = list_any shows_end (moments s)
+
+-- And it had ended before what stands next: with several threads that may have been earlier.
+abbrev pub is_surely_over : Session → Bool
+is_surely_over s = has_ended s && not (has_several_threads s)

@@ -148,6 +148,8 @@ pub enum Act {
     OpensNone(OpenKind),
     /// More than one thread reads the device.
     SeveralReaders,
+    /// Another thread than the one that reads writes replies.
+    SeveralWriters,
     /// The device comes to its end.
     Ends,
 }

@@ -11,6 +11,8 @@ pub enum Transfer<'a> {
     Written(&'a [u8], Taken),
     /// From here on more than one thread reads.
     SeveralReaders,
+    /// From here on another thread than the one that reads writes replies.
+    SeveralWriters,
     /// The device came to its end.
     Ended,
 }

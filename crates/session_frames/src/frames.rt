@@ -67,6 +67,10 @@ pub fn write_transfer<A: Allocator + Copy>(
             write(acts, Act::SeveralReaders)?;
             Ok(known)
         }
+        Transfer::SeveralWriters => {
+            write(acts, Act::SeveralWriters)?;
+            Ok(known)
+        }
         Transfer::Ended => {
             write(acts, Act::Ends)?;
             Ok(known)

@@ -8,6 +8,7 @@ returns c = λ s are shows. rw (
   c.or.ensures,
   c.agreed_write.ensures,
   c.is_of_several.ensures,
+  c.is_of_writers.ensures,
   c.opens_none.ensures,
   c.opens_none-2.ensures,
   c.higher.ensures,

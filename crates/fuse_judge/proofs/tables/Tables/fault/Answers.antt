@@ -3,7 +3,8 @@ use Rattle.fuse_judge.proofs.tables.Tables.fault.Goals as goal
 
 pub returns-in-Interrupts : goal.returns-in-Interrupts
 returns-in-Interrupts g c = λ s are. rw c.in-Interrupts.is
-    (c.fault_of_interrupt.ensures s (pending_waiting s _ _ _ are.right_pending))
+    (c.fault_of_interrupt.ensures s (pending_waiting s _ _ _ are.right_pending)
+    (c.has_several_threads.ensures s are.right_flags))
 
 pub returns-in-Forgets : goal.returns-in-Forgets
 returns-in-Forgets g c = λ s are. rw c.in-Forgets.is
@@ -20,7 +21,7 @@ returns-in-Releases g c = λ s are. rw c.in-Releases.is
 
 pub returns-in-Takes : goal.returns-in-Takes
 returns-in-Takes g c = λ s are. rw c.in-Takes.is
-    (c.fault_of_taking.ensures s (pending_waiting s _ _ _ are.right_pending) are.right_flags.ended)
+    (c.fault_of_taking.ensures s (pending_waiting s _ _ _ are.right_pending) are.right_flags)
 
 pub returns-in-Replies : goal.returns-in-Replies
 returns-in-Replies g c = λ s are. rw c.in-Replies.is
