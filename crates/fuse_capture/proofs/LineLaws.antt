@@ -4,7 +4,7 @@ use Rattle.std.proofs.lemmas.List.{append_cancel_right}
 use Rattle.std.specs.Prelude.{codes, IfErr, MatchResult}
 use Rattle.fuse_sessions.specs.declared.act.Taken.{Taken}
 use Rattle.fuse_sessions.specs.declared.transfer.Transfer.{Transfer}
-use Rattle.fuse_sessions.specs.declared.transfer.Transfer.TheVariants.{Request, Written, SeveralReaders, Ended}
+use Rattle.fuse_sessions.specs.declared.transfer.Transfer.TheVariants.{Request, Written, SeveralReaders, SeveralWriters, Ended}
 use Rattle.fuse_capture.specs.declared.line.CaptureFault.{CaptureFault}
 use Rattle.fuse_capture.specs.declared.line.CaptureFault.TheVariants.{BadHex, WrongWords, UnknownDirection}
 use Rattle.fuse_capture.specs.declared.line.CapturedFrame.{CapturedFrame}
@@ -42,6 +42,7 @@ request_silent words bad (Request bytes) (rest, e, b) =
     let same : rest ≡ words = cc in bad bytes.now (subst (λ (l : List (List ℕ)). BeginsWithTimedFrame l bytes.now []) same b)
 request_silent words bad (Written bytes t) (rest, result, e, b, r) = differs 62 60 refl e
 request_silent words bad SeveralReaders e = differs 62 61 refl e
+request_silent words bad SeveralWriters e = differs 62 61 refl e
 request_silent words bad Ended (word, e, is) = differs 62 61 refl e
 
 pub request_fault : (words : List (List ℕ)) (f : CaptureFault) → FrameFaultIs words f → IsBad (codes ">" ∷ words) f
@@ -70,6 +71,7 @@ written_silent words bad (Written bytes t) (rest, result, e, b, r) =
     let same : rest ≡ words = cc in
     bad bytes.now result t (subst (λ (l : List (List ℕ)). BeginsWithTimedFrame l bytes.now result) same b) r
 written_silent words bad SeveralReaders e = differs 60 61 refl e
+written_silent words bad SeveralWriters e = differs 60 61 refl e
 written_silent words bad Ended (word, e, is) = differs 60 61 refl e
 
 pub written_fault : (words : List (List ℕ)) (f : CaptureFault) → FrameFaultIs words f → IsBad (codes "<" ∷ words) f

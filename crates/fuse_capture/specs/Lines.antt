@@ -77,6 +77,7 @@ SaysTransfer words (transfer.Request bytes) =
 SaysTransfer words (transfer.Written bytes t) = (rest result : List (List ℕ)) × (words ≡ codes "<" ∷ rest)
     × BeginsWithTimedFrame rest bytes.now result × IsResult result t
 SaysTransfer words transfer.SeveralReaders = words ≡ codes "=" ∷ codes "several" ∷ codes "readers" ∷ []
+SaysTransfer words transfer.SeveralWriters = words ≡ codes "=" ∷ codes "several" ∷ codes "writers" ∷ []
 SaysTransfer words transfer.Ended = (word : List ℕ) × (words ≡ codes "=" ∷ codes "ended" ∷ word ∷ []) × IsErrno word
 
 -- The line says this transfer.

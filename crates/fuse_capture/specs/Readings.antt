@@ -87,6 +87,7 @@ abbrev pub IsTransferOf : CaptureLine → Transfer → Type 0
 IsTransferOf (line.Request f) (transfer.Request bytes) = IsFrameOf f bytes.now
 IsTransferOf (line.Written f t) (transfer.Written bytes taken) = IsFrameOf f bytes.now × (taken ≡ t)
 IsTransferOf line.SeveralReaders transfer.SeveralReaders = Unit {0}
+IsTransferOf line.SeveralWriters transfer.SeveralWriters = Unit {0}
 IsTransferOf line.Ended transfer.Ended = Unit {0}
 IsTransferOf l t = ⊥
 

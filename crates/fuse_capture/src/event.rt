@@ -19,10 +19,17 @@ fn is_closed(rest: Option<&[u8]>) -> bool
 }
 
 /// Whether two words say that several threads read.
-fn is_several(first: &[u8], second: &[u8]) -> bool
+fn is_several_readers(first: &[u8], second: &[u8]) -> bool
     ensures { IsTrue result ↔ ((first.now ≡ codes "several") × (second.now ≡ codes "readers")) }
 {
     first == b"several".as_slice() && second == b"readers".as_slice()
+}
+
+/// Whether two words say that another thread than the one that reads writes replies.
+fn is_several_writers(first: &[u8], second: &[u8]) -> bool
+    ensures { IsTrue result ↔ ((first.now ≡ codes "several") × (second.now ≡ codes "writers")) }
+{
+    first == b"several".as_slice() && second == b"writers".as_slice()
 }
 
 /// Whether two words say that the device came to its end.
@@ -53,7 +60,12 @@ pub(crate) fn read_event(rest: Option<&[u8]>) -> Result<Option<CaptureLine<'_>>,
         return Ok(None);
     }
     match two_words(rest) {
-        Some((first, second)) if is_several(first, second) => Ok(Some(CaptureLine::SeveralReaders)),
+        Some((first, second)) if is_several_readers(first, second) => {
+            Ok(Some(CaptureLine::SeveralReaders))
+        }
+        Some((first, second)) if is_several_writers(first, second) => {
+            Ok(Some(CaptureLine::SeveralWriters))
+        }
         Some((first, second)) if is_ended(first, second) => Ok(Some(CaptureLine::Ended)),
         _ => Err(CaptureFault::WrongWords),
     }

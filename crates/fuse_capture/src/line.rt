@@ -23,6 +23,8 @@ pub enum CaptureLine<'a> {
     Written(CapturedFrame<'a>, Taken),
     /// More than one thread reads from here on.
     SeveralReaders,
+    /// Another thread than the one that reads writes replies, from here on.
+    SeveralWriters,
     /// The device came to its end.
     Ended,
 }

@@ -49,6 +49,7 @@ pub fn read_transfer<'b, A: Allocator>(
             Ok(Transfer::Written(frame.as_slice(), taken))
         }
         CaptureLine::SeveralReaders => Ok(Transfer::SeveralReaders),
+        CaptureLine::SeveralWriters => Ok(Transfer::SeveralWriters),
         CaptureLine::Ended => Ok(Transfer::Ended),
     }
 }

@@ -10,7 +10,7 @@ use Rattle.fuse_sessions.specs.declared.fault.Fault.{Fault}
 use Rattle.fuse_sessions.specs.declared.fault.Fault.TheVariants as fault
 use Rattle.fuse_sessions.specs.declared.act.OpenKind.TheVariants as kind
 use Rattle.fuse_sessions.specs.Sessions.{Session, or_earlier, moments}
-use Rattle.fuse_sessions.specs.Numbers.{is_reading, is_agreement, is_of_several, is_of_writers, shows_end, reads_request_from, has_agreed}
+use Rattle.fuse_sessions.specs.Numbers.{is_reading, is_agreement, is_of_several, is_of_writers, is_resend, shows_end, reads_request_from, has_agreed}
 use Rattle.fuse_sessions.specs.OpenFiles.{opens_none}
 use Rattle.fuse_sessions.specs.Faults.{agreed_write, BreaksBeginning}
 use Rattle.fuse_sessions.proofs.Laws.{any-more, latest-more, moments-more}
@@ -36,6 +36,7 @@ pub flags-more : (s : Session) (a : Act) (f : Flags) (read : Option ℕ) → Are
       max_write = or_earlier (agreed_write a) f.max_write;
       has_several_readers = f.has_several_readers || is_of_several a;
       has_several_writers = f.has_several_writers || is_of_writers a;
+      has_resent = f.has_resent || is_resend a;
       ended = f.ended || shows_end (s, a);
       opens_no_files = f.opens_no_files || opens_none kind.File a;
       opens_no_directories = f.opens_no_directories || opens_none kind.Directory a;
@@ -47,6 +48,7 @@ flags-more s a f read are reads = record {
   max_write = rw (latest-more agreed_write s a, are.max_write) refl;
   several = rw (any-more is_of_several s a, are.several) refl;
   writers = rw (any-more is_of_writers s a, are.writers) refl;
+  resent = rw (any-more is_resend s a, are.resent) refl;
   ended = ap (λ b. b || shows_end (s, a)) are.ended ∙ sym (ap (list_any shows_end) (moments-more [] s a)
       ∙ any-more shows_end (moments s) (s, a));
   no_files = rw (any-more (opens_none kind.File) s a, are.no_files) refl;
@@ -64,6 +66,7 @@ flags-kept s a f leaves not_ended are = record {
   max_write = are.max_write ∙ sym (latest-more agreed_write s a ∙ rw leaves.max_write refl);
   several = are.several ∙ sym (any-more is_of_several s a ∙ rw leaves.several (or_false _));
   writers = are.writers ∙ sym (any-more is_of_writers s a ∙ rw leaves.writers (or_false _));
+  resent = are.resent ∙ sym (any-more is_resend s a ∙ rw leaves.resent (or_false _));
   ended = are.ended ∙ sym (ap (list_any shows_end) (moments-more [] s a)
       ∙ any-more shows_end (moments s) (s, a) ∙ rw (← not_ended) (or_false _));
   no_files = are.no_files ∙ sym (any-more (opens_none kind.File) s a ∙ rw leaves.no_files (or_false _));

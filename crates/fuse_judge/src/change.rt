@@ -34,6 +34,7 @@ pub(crate) fn change_of(act: Act) -> Change
     match act {
         Act::Asks { unique, asked } => Change::Asks { unique, asked },
         Act::Replies { unique, taken } if reaches(taken) => Change::Ends(unique),
+        Act::Resent { original, .. } => Change::Ends(original),
         Act::Interrupts { original, .. } => Change::Interrupts(original),
         Act::RepliesToInterrupt {
             original,

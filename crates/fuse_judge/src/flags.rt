@@ -9,7 +9,8 @@ ghost use Rattle.fuse_judge.specs.Flags.{AreFlags, LeavesFlags, is_from, highest
 ghost use Rattle.fuse_judge.specs.Verdicts.{IsFault};
 
 use crate::projections::{
-    agreed_write, is_agreement, is_of_several, is_of_writers, is_reading, opens_none, request_read,
+    agreed_write, is_agreement, is_of_several, is_of_writers, is_reading, is_resend, opens_none,
+    request_read,
 };
 use fuse_protocol::Opcode;
 use fuse_sessions::{Act, Fault, OpenKind};
@@ -28,6 +29,8 @@ pub struct Flags {
     pub max_write: Option<u32>,
     pub has_several_readers: bool,
     pub has_several_writers: bool,
+    /// Requests that wait were asked for once more.
+    pub has_resent: bool,
     pub ended: bool,
     pub opens_no_files: bool,
     pub opens_no_directories: bool,
@@ -45,6 +48,7 @@ pub(crate) const fn no_flags() -> Flags
         max_write: None,
         has_several_readers: false,
         has_several_writers: false,
+        has_resent: false,
         ended: false,
         opens_no_files: false,
         opens_no_directories: false,
@@ -136,6 +140,7 @@ fn is_of_flags(act: Act) -> bool
             | Act::OpensNone(_)
             | Act::SeveralReaders
             | Act::SeveralWriters
+            | Act::Resends
     )
 }
 
@@ -149,6 +154,7 @@ fn flags_with(flags: Flags, act: Act, shows: bool) -> Flags
         max_write: agreed_write(act).or(flags.max_write),
         has_several_readers: flags.has_several_readers | is_of_several(act),
         has_several_writers: flags.has_several_writers | is_of_writers(act),
+        has_resent: flags.has_resent | is_resend(act),
         ended: flags.ended | shows,
         opens_no_files: flags.opens_no_files | opens_none(OpenKind::File, act),
         opens_no_directories: flags.opens_no_directories | opens_none(OpenKind::Directory, act),

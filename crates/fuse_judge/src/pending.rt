@@ -10,7 +10,7 @@ ghost use Rattle.fuse_sessions.specs.Sessions.{Session};
 ghost use Rattle.fuse_sessions.specs.Numbers.{has_several_threads};
 ghost use Rattle.fuse_sessions.specs.Waiting.{waits};
 ghost use Rattle.fuse_judge.specs.declared.pending.Waiting.{Waiting};
-ghost use Rattle.fuse_sessions.specs.Faults.{BreaksInterrupt, BreaksTaking, BreaksReply, BreaksReplyToInterrupt};
+ghost use Rattle.fuse_sessions.specs.Faults.{BreaksInterrupt, BreaksResent, BreaksTaking, BreaksReply, BreaksReplyToInterrupt};
 ghost use Rattle.fuse_judge.specs.Flags.{AreFlags};
 ghost use Rattle.fuse_judge.specs.Handles.{handle, same_handle};
 ghost use Rattle.fuse_judge.specs.Numbers.{AreNumbers};
@@ -70,6 +70,21 @@ pub(crate) fn reserve_pending<A: Allocator + Copy>(
     pending.rows.reserve(more)?;
     pending.named.reserve(twice)?;
     pending.used.reserve(twice)
+}
+
+/// The fault of a kernel that sends a request once more.
+pub(crate) fn fault_of_resent<A: Allocator + Copy>(
+    rows: &RisingTable<Waiting, A>,
+    unique: u64,
+    original: u64,
+) -> Option<Fault>
+    ensures { (s : Session) → AreWaiting s rows.now.entries → IsFault (BreaksResent s unique original) result }
+{
+    if rows.get(unique).is_some() || rows.get(original).is_some() {
+        None
+    } else {
+        Some(Fault::ResendOfNothing)
+    }
 }
 
 /// The fault of a kernel that interrupts a request.

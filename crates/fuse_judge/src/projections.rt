@@ -48,6 +48,12 @@ pub(crate) fn is_of_writers(act: Act) -> bool
     matches!(act, Act::SeveralWriters)
 }
 
+pub(crate) fn is_resend(act: Act) -> bool
+    ensures { result ≡ words.is_resend act }
+{
+    matches!(act, Act::Resends)
+}
+
 pub(crate) fn opens_none(kind: OpenKind, act: Act) -> bool
     ensures { result ≡ files.opens_none kind act }
 {
@@ -74,6 +80,10 @@ pub(crate) fn read_by(act: Act) -> Option<Reading>
         Act::Read { opcode, unique } => Some(Reading {
             unique,
             is_forget: is_forget(opcode),
+        }),
+        Act::Resent { unique, .. } => Some(Reading {
+            unique,
+            is_forget: false,
         }),
         _ => None,
     }

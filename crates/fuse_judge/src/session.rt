@@ -41,6 +41,7 @@ impl<A: Allocator + Copy> SessionJudge<A> {
             known: Known {
                 offered: None,
                 agreed: BEFORE_INIT,
+                has_resent: false,
             },
         }
     }

@@ -5,6 +5,7 @@ ghost use Rattle.fuse_sessions.specs.Sessions.{Session};
 ghost use Rattle.fuse_sessions.specs.Waiting as words;
 ghost use Rattle.fuse_sessions.specs.Numbers as numbers;
 ghost use Rattle.fuse_sessions.specs.Faults.{IsInUse};
+ghost use Rattle.fuse_judge.specs.Flags.{AreFlags};
 ghost use Rattle.fuse_judge.specs.Opens.{AreOpen};
 ghost use Rattle.fuse_judge.specs.Pending.{ArePending, AreWaiting};
 ghost use Rattle.fuse_judge.specs.Seen.{HasSeen, HasRoom, state_of};
@@ -23,8 +24,8 @@ use crate::opens::{
     OpenFiles, fault_of_release, fault_of_use, has_open, note_opens, open_count, reserve_opens,
 };
 use crate::pending::{
-    Pending, fault_of_interrupt, fault_of_reply, fault_of_reply_to_interrupt, fault_of_taking,
-    note_pending, reserve_pending, waits,
+    Pending, fault_of_interrupt, fault_of_reply, fault_of_reply_to_interrupt, fault_of_resent,
+    fault_of_taking, note_pending, reserve_pending, waits,
 };
 use fuse_sessions::{Act, Fault, OpenFile, Taken};
 use fuse_tables::RisingTable;
@@ -59,15 +60,16 @@ fn is_used<A: Allocator + Copy>(pending: &Pending<A>, file: OpenFile) -> bool
 }
 
 /// Whether an act shows that the connection has ended.
-fn shows_end<A: Allocator + Copy>(pending: &Pending<A>, act: Act) -> bool
-    ensures { (s : Session) → AreWaiting s pending.now.rows.entries → result ≡ numbers.shows_end (s, act) }
+fn shows_end<A: Allocator + Copy>(pending: &Pending<A>, flags: Flags, act: Act) -> bool
+    ensures { (s : Session) → AreWaiting s pending.now.rows.entries → AreFlags s flags
+        → result ≡ numbers.shows_end (s, act) }
 {
     match act {
         Act::Takes {
             unique,
             taken: Taken::NoEntry,
             ..
-        } => waits(&pending.rows, unique),
+        } => waits(&pending.rows, unique) && !flags.has_resent,
         Act::Ends => true,
         _ => false,
     }
@@ -108,6 +110,7 @@ impl<A: Allocator + Copy> Tables<A> {
             Act::Arrives => fault_of_arrival(self.flags),
             Act::Begins(opcode) => fault_of_beginning(self.flags, opcode),
             Act::Read { unique, .. } => fault_of_number(&self.numbers, self.flags, unique),
+            Act::Resent { unique, original } => fault_of_resent(rows, unique, original),
             Act::Interrupts { unique, original } => {
                 fault_of_interrupt(rows, has_several_threads(self.flags), unique, original)
             }
@@ -123,11 +126,9 @@ impl<A: Allocator + Copy> Tables<A> {
                 is_used(&self.pending, file),
             ),
             Act::Writes(size) => fault_of_write(self.flags, size),
-            Act::Takes {
-                unique,
-                taken,
-                fit,
-            } => fault_of_taking(rows, self.flags, unique, taken, fit),
+            Act::Takes { unique, taken, fit } => fault_of_taking(
+                rows, self.flags, unique, taken, fit,
+            ),
             Act::Replies { unique, .. } => fault_of_reply(rows, &self.numbers, unique),
             Act::RepliesToInterrupt { original, .. } => {
                 fault_of_reply_to_interrupt(rows, &self.numbers, original)
@@ -142,6 +143,7 @@ impl<A: Allocator + Copy> Tables<A> {
             | Act::OpensNone(_)
             | Act::SeveralReaders
             | Act::SeveralWriters
+            | Act::Resends
             | Act::Ends => None,
         }
     }
@@ -153,7 +155,7 @@ impl<A: Allocator + Copy> Tables<A> {
         ensures right { (s : Session) → HasSeen s (state_of self.old) → HasSeen (s ++ act.now ∷ []) (state_of self.new) }
         ensures room { (acts : ℕ) → HasRoom (acts + 1) self.old → HasRoom acts self.new }
     {
-        let shows = shows_end(&self.pending, *act);
+        let shows = shows_end(&self.pending, self.flags, *act);
         note_flags(&mut self.flags, *act, shows);
         note_number(&mut self.numbers, *act);
         note_nodes(&mut self.nodes, *act);

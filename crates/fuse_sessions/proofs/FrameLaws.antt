@@ -18,7 +18,7 @@ use Rattle.fuse_sessions.specs.declared.transfer.Transfer.{Transfer}
 use Rattle.fuse_sessions.specs.declared.transfer.Transfer.TheVariants as transfer
 use Rattle.fuse_sessions.specs.Sessions.{Session}
 use Rattle.fuse_sessions.specs.Waiting.{waits}
-use Rattle.fuse_sessions.specs.Frames.{Reads, IsRequestOf, AreRequestActs, AreNotificationActs, IsReplyBy, IsReplyTo, IsHead, IsHeaded, IsWritten, AreActs, Lead, number_in, interrupt_acts}
+use Rattle.fuse_sessions.specs.Frames.{Reads, IsRequestOf, AreRequestActs, IsNotified, IsReplyBy, IsReplyTo, IsHead, IsHeaded, IsWritten, AreActs, Lead, number_in, interrupt_acts}
 
 module _ {M : Type 0} (Is : M → Type 0) (Goal : Type 0) where
   -- what is read is one message
@@ -83,11 +83,15 @@ replies_once k bytes t None a b l m is as' = both_are a b _ is.0 as'.0
 replies_once k bytes t (Some asked) a b l m is as' =
     replies_by_once k bytes t asked.opcode asked a b l m is as'
 
+notified_once : (k : Known) (bytes : List ℕ) (t : Taken) (a b : List Act) (l m : Known) → IsNotified k bytes t a l
+    → IsNotified k bytes t b m → a ≡ b
+notified_once k bytes t a b l m is as' = read_alike (IsNotification k.agreed bytes) (a ≡ b) _ _ _ _
+    (λ x y. both_are a b _ x.0 y.0) (λ x y. both_are a b _ x.0 y.0) is as'
+
 headed_once : (k : Known) (s : Session) (bytes : List ℕ) (t : Taken) (a b : List Act) (l m : Known)
     → IsHeaded k s bytes t a l → IsHeaded k s bytes t b m → a ≡ b
 headed_once k s bytes t a b l m is as' = chosen (a ≡ b) _ _ _ _ _
-    (λ (x : AreNotificationActs k.agreed bytes a × (l ≡ k)) (y : AreNotificationActs k.agreed bytes b × (m ≡ k)).
-    read_alike (IsNotification k.agreed bytes) (a ≡ b) _ _ _ _ (both_are a b []) (both_are a b _) x.0 y.0)
+    (notified_once k bytes t a b l m)
     (chosen (a ≡ b) _ _ _ _ _
     (λ (x : (a ≡ interrupt_acts bytes t) × (l ≡ k)) (y : (b ≡ interrupt_acts bytes t) × (m ≡ k)).
     both_are a b _ x.0 y.0)

@@ -36,6 +36,11 @@ BreaksNumber s unique fault.NumberOutOfOrder = (unique % 2 ≡ 0) × IsFalse (wa
     × IsFalse (has_several_readers s) × IsTrue (is_out_of_order s unique)
 BreaksNumber s unique f = ⊥
 
+-- A request that is read once more waits, under its first number or the one that it has now.
+abbrev pub BreaksResent : Session → (unique original : ℕ) → Fault → Type 0
+BreaksResent s unique original fault.ResendOfNothing = (waits s unique ≡ None) × (waits s original ≡ None)
+BreaksResent s unique original f = ⊥
+
 -- An INTERRUPT has its request's number with the lowest bit set. Where one thread uses the device it is of a request that
 -- waits, and comes once, and once again after each EAGAIN; another thread may read it late. (fuse.rst)
 abbrev pub BreaksInterrupt : Session → (unique original : ℕ) → Fault → Type 0
@@ -145,6 +150,7 @@ Breaks s (act.Faulty that) f = f ≡ that
 Breaks s act.Arrives f = BreaksArrival s f
 Breaks s (act.Begins opcode) f = BreaksBeginning s opcode f
 Breaks s (act.Read opcode unique) f = BreaksNumber s unique f
+Breaks s (act.Resent unique original) f = BreaksResent s unique original f
 Breaks s (act.Interrupts unique original) f = BreaksInterrupt s unique original f
 Breaks s (act.Names node) f = BreaksName s node f
 Breaks s (act.Forgets node lookups) f = BreaksForget s node lookups f

@@ -16,7 +16,7 @@ use Rattle.fuse_replies.specs.Replies.{AnswerContent, ReplyMessage, IsFrame, IsE
 use Rattle.fuse_replies.specs.Replies as answer
 use Rattle.fuse_replies.specs.Notifications.{NotificationContent, IsNotification}
 use Rattle.fuse_sessions.specs.declared.act.Act.{Act}
-use Rattle.fuse_sessions.specs.declared.act.Act.TheVariants.{Faulty, Takes, Replies, RepliesToInterrupt, SeveralReaders, SeveralWriters, Ends}
+use Rattle.fuse_sessions.specs.declared.act.Act.TheVariants.{Faulty, Takes, Replies, Resends, RepliesToInterrupt, SeveralReaders, SeveralWriters, Ends}
 use Rattle.fuse_sessions.specs.declared.act.Asked.{Asked}
 use Rattle.fuse_sessions.specs.declared.act.Fit.{Fit}
 use Rattle.fuse_sessions.specs.declared.act.Fit.TheVariants as fit
@@ -45,7 +45,7 @@ IsRequestOf agreed bytes q = IsRequest agreed bytes (row_at q.0) q.1
 
 -- A request is one of a row, or it is not read further.
 abbrev pub AreRequestActs : Known → List ℕ → List Act → Type 0
-AreRequestActs k bytes acts = Reads (IsRequestOf k.agreed bytes) (λ q. acts ≡ request_acts q.0 q.1)
+AreRequestActs k bytes acts = Reads (IsRequestOf k.agreed bytes) (λ q. acts ≡ request_acts k.has_resent q.0 q.1)
     (acts ≡ unread_acts k.offered bytes)
 
 -- What is offered is what the first INIT offers.
@@ -65,10 +65,19 @@ number_in bytes = number_at 8 8 bytes
 abbrev pub error_in : List ℕ → ℕ
 error_in bytes = number_at 4 4 bytes
 
--- A notification has number 0. None is an act that others are judged by.
-abbrev pub AreNotificationActs : Agreed → List ℕ → List Act → Type 0
-AreNotificationActs agreed bytes acts = Reads (IsNotification agreed bytes) (λ m. acts ≡ [])
-    (acts ≡ Faulty fault.MalformedNotification ∷ [])
+-- FUSE_NOTIFY_RESEND, code 7, which the device accepted
+abbrev pub is_resend : List ℕ → Taken → Bool
+is_resend bytes taken.Accepted = error_in bytes == 7
+is_resend bytes t = false
+
+abbrev pub known_resent : Known → Bool → Known
+known_resent k again = if again then record k { has_resent = true } else k
+
+-- A notification has number 0. One alone is an act that others are judged by.
+abbrev pub IsNotified : Known → List ℕ → Taken → List Act → Known → Type 0
+IsNotified k bytes t acts later = Reads (IsNotification k.agreed bytes)
+    (λ m. (acts ≡ (if is_resend bytes t then Resends ∷ [] else [])) × (later ≡ known_resent k (is_resend bytes t)))
+    ((acts ≡ Faulty fault.MalformedNotification ∷ []) × (later ≡ k))
 
 -- -EAGAIN, -11, in 32 bits
 abbrev pub eagain : ℕ
@@ -137,7 +146,7 @@ is_to_interrupt number (Some a) = false
 -- what is written under a good header
 abbrev pub IsHeaded : Known → Session → List ℕ → Taken → List Act → Known → Type 0
 IsHeaded k s bytes t acts later = MatchBool (number_in bytes == 0)
-    (AreNotificationActs k.agreed bytes acts × (later ≡ k))
+    (IsNotified k bytes t acts later)
     (MatchBool (is_to_interrupt (number_in bytes) (waits s (number_in bytes)))
     ((acts ≡ interrupt_acts bytes t) × (later ≡ k))
     (IsReplyTo k bytes t (waits s (number_in bytes)) acts later))
@@ -164,7 +173,7 @@ Lead k s (t ∷ ts) later all =
 
 -- before anything
 abbrev pub nothing_known : Known
-nothing_known = record { offered = None; agreed = before_init }
+nothing_known = record { offered = None; agreed = before_init; has_resent = false }
 
 -- The session of these transfers has these acts, and this is known after it.
 abbrev pub IsSession : List Transfer → Known → Session → Type 0

@@ -4,7 +4,7 @@ use Rattle.std.specs.List.{list_any}
 use Rattle.fuse_protocol.specs.declared.opcode.Opcode.{Opcode}
 use Rattle.fuse_protocol.specs.declared.opcode.Opcode.TheVariants as op
 use Rattle.fuse_sessions.specs.declared.act.Act.{Act}
-use Rattle.fuse_sessions.specs.declared.act.Act.TheVariants.{Read, Asks, Interrupts, RepliesToInterrupt, Agrees, SeveralReaders, SeveralWriters, Ends, Takes}
+use Rattle.fuse_sessions.specs.declared.act.Act.TheVariants.{Read, Resent, Resends, Asks, Interrupts, RepliesToInterrupt, Agrees, SeveralReaders, SeveralWriters, Ends, Takes}
 use Rattle.fuse_sessions.specs.declared.act.Taken.TheVariants as taken
 use Rattle.fuse_sessions.specs.Sessions.{Session, Moment, moments, since}
 use Rattle.fuse_sessions.specs.Waiting.{reaches, waits}
@@ -18,6 +18,7 @@ is_forget _ = false
 -- the act reads a request under this number
 abbrev pub reads : ℕ → Act → Bool
 reads unique (Read opcode number) = nat_eq number unique
+reads unique (Resent number original) = nat_eq number unique
 reads unique act = false
 
 abbrev pub was_read : Session → ℕ → Bool
@@ -101,9 +102,18 @@ agains s original = sum_by (agains_of original) (since (asks_under original) s)
 
 -- the end
 
--- The device refuses a reply that a request waits for, as to nothing: the connection has ended.
+abbrev pub is_resend : Act → Bool
+is_resend Resends = true
+is_resend act = false
+
+-- The server asked for the requests that wait once more. They have other numbers from then on.
+abbrev pub has_resent : Session → Bool
+has_resent s = list_any is_resend s
+
+-- The device refuses a reply that a request waits for, as to nothing: the connection has ended, unless the request has
+-- another number by now.
 abbrev pub shows_end : Moment → Bool
-shows_end (before, Takes unique taken.NoEntry fit) = is_some (waits before unique)
+shows_end (before, Takes unique taken.NoEntry fit) = is_some (waits before unique) && not (has_resent before)
 shows_end (before, Ends) = true
 shows_end (before, act) = false
 

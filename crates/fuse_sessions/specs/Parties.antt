@@ -11,6 +11,7 @@ party_of fault.InitNotFirst = Kernel
 party_of fault.OddNumber = Kernel
 party_of fault.NumberUsedTwice = Kernel
 party_of fault.NumberOutOfOrder = Kernel
+party_of fault.ResendOfNothing = Kernel
 party_of fault.InterruptOfNothing = Kernel
 party_of fault.InterruptUnderAnotherNumber = Kernel
 party_of fault.InterruptTooOften = Kernel

@@ -1,5 +1,5 @@
 -- The acts that a request is.
-use Rattle.std.specs.Prelude.{ℕ, ◌-◌, ◌^◌, Bool, false, ◌||◌, List, [], ◌∷◌, ◌++◌, Option, Some, None, map, codes, nat_eq, bit_and, if◌then◌else◌}
+use Rattle.std.specs.Prelude.{ℕ, ◌-◌, ◌^◌, Bool, false, ◌&&◌, ◌||◌, List, [], ◌∷◌, ◌++◌, Option, Some, None, map, codes, nat_eq, nat_le, bit_and, if◌then◌else◌}
 use Rattle.std.specs.List.{list_any}
 use Rattle.std.specs.Cmp.Lexicographic.{pointwise}
 use Rattle.fuse_protocol.specs.declared.opcode.Opcode.{Opcode}
@@ -11,7 +11,7 @@ use Rattle.fuse_protocol.specs.Pairs.{pairs_of_row}
 use Rattle.fuse_protocol.specs.Table.{row_at}
 use Rattle.fuse_protocol.specs.Requests.{RequestMessage}
 use Rattle.fuse_sessions.specs.declared.act.Act.{Act}
-use Rattle.fuse_sessions.specs.declared.act.Act.TheVariants.{Arrives, Begins, Read, Asks, Interrupts, Names, Forgets, Uses, Releases, Writes}
+use Rattle.fuse_sessions.specs.declared.act.Act.TheVariants.{Arrives, Begins, Read, Resent, Asks, Interrupts, Names, Forgets, Uses, Releases, Writes}
 use Rattle.fuse_sessions.specs.declared.act.Asked.{Asked}
 use Rattle.fuse_sessions.specs.declared.act.OpenFile.{OpenFile}
 use Rattle.fuse_sessions.specs.declared.act.OpenKind.TheVariants as kind
@@ -123,16 +123,24 @@ asking o m asked = Read (Some o) m.unique ∷ (naming asked.nodeid ++ naming ask
 abbrev pub forgets_in : List (ℕ × ℕ) → List Act
 forgets_in pairs = map (λ p. Forgets p.0 p.1) pairs
 
--- what each does, once it has come
-abbrev pub doing : Opcode → RequestMessage → List Act
-doing op.Interrupt m = Interrupts m.unique (number_of (number_in (places_at op.Interrupt).interrupted m.fixed)) ∷ []
--- its number is the server's
-doing op.NotifyReply m = []
-doing op.Forget m = Read (Some op.Forget) m.unique
-    ∷ Forgets m.nodeid (number_of (number_in (places_at op.Forget).forgotten m.fixed)) ∷ []
-doing op.BatchForget m = Read (Some op.BatchForget) m.unique ∷ forgets_in (pairs_of_row (row_at op.BatchForget).tail m.tail)
-doing o m = asking o m (asked_of o m)
+-- FUSE_UNIQUE_RESEND: the bit of a request's number that is read once more
+abbrev pub resend_bit : ℕ
+resend_bit = 2 ^ 63
 
--- The acts of a request that its frame is.
-abbrev pub request_acts : Opcode → RequestMessage → List Act
-request_acts o m = Arrives ∷ Begins o ∷ doing o m
+-- A request that was read before is judged no more.
+abbrev pub resent : Opcode → RequestMessage → List Act
+resent o m = Resent m.unique (m.unique - resend_bit) ∷ Asks m.unique (asked_of o m) ∷ []
+
+-- what each does, once it has come
+abbrev pub doing : (again : Bool) → Opcode → RequestMessage → List Act
+doing again op.Interrupt m = Interrupts m.unique (number_of (number_in (places_at op.Interrupt).interrupted m.fixed)) ∷ []
+-- its number is the server's
+doing again op.NotifyReply m = []
+doing again op.Forget m = Read (Some op.Forget) m.unique
+    ∷ Forgets m.nodeid (number_of (number_in (places_at op.Forget).forgotten m.fixed)) ∷ []
+doing again op.BatchForget m = Read (Some op.BatchForget) m.unique ∷ forgets_in (pairs_of_row (row_at op.BatchForget).tail m.tail)
+doing again o m = if again then resent o m else asking o m (asked_of o m)
+
+-- The acts of a request that its frame is, where requests were asked for once more, or not.
+abbrev pub request_acts : (has_resent : Bool) → Opcode → RequestMessage → List Act
+request_acts has_resent o m = Arrives ∷ Begins o ∷ doing (has_resent && nat_le resend_bit m.unique) o m

@@ -3,7 +3,7 @@ use Rattle.std.specs.Prelude.{ℕ, Bool, true, false, not, ◌&&◌, ◌||◌, L
 use Rattle.std.specs.List.{list_any}
 use Rattle.std.specs.Map.{lookup}
 use Rattle.fuse_sessions.specs.declared.act.Act.{Act}
-use Rattle.fuse_sessions.specs.declared.act.Act.TheVariants.{Asks, Replies}
+use Rattle.fuse_sessions.specs.declared.act.Act.TheVariants.{Asks, Replies, Resent}
 use Rattle.fuse_sessions.specs.declared.act.Asked.{Asked}
 use Rattle.fuse_sessions.specs.declared.act.OpenFile.{OpenFile}
 use Rattle.fuse_sessions.specs.declared.act.OpenKind.{OpenKind}
@@ -23,9 +23,11 @@ abbrev pub asked_by : Act → List (ℕ × Asked)
 asked_by (Asks unique asked) = (unique, asked) ∷ []
 asked_by act = []
 
--- The act ends what waits under a number: it replies, or another request takes the number.
+-- The act ends what waits under a number: it replies, or another request takes the number, or the request comes again
+-- under another.
 abbrev pub ends : ℕ → Act → Bool
 ends unique (Asks number asked) = nat_eq number unique
+ends unique (Resent number original) = nat_eq original unique
 ends unique (Replies number t) = nat_eq number unique && reaches t
 ends unique act = false
 

@@ -89,6 +89,12 @@ pub enum Act {
         opcode: Option<Opcode>,
         unique: u64,
     },
+    /// After FUSE_NOTIFY_RESEND it is read once more under this number; it was read under the original, or under this
+    /// one already.
+    Resent {
+        unique: u64,
+        original: u64,
+    },
     /// It takes a reply.
     Asks {
         unique: u64,
@@ -136,6 +142,8 @@ pub enum Act {
         file: File,
         is_certain: bool,
     },
+    /// The server asks for the requests that wait once more: FUSE_NOTIFY_RESEND.
+    Resends,
     /// Attributes say a node's kind and inode number.
     Describes {
         nodeid: u64,

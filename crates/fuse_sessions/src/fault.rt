@@ -21,6 +21,7 @@ pub enum Fault {
     OddNumber,
     NumberUsedTwice,
     NumberOutOfOrder,
+    ResendOfNothing,
     InterruptOfNothing,
     InterruptUnderAnotherNumber,
     InterruptTooOften,
@@ -73,6 +74,7 @@ impl Fault {
             | Fault::OddNumber
             | Fault::NumberUsedTwice
             | Fault::NumberOutOfOrder
+            | Fault::ResendOfNothing
             | Fault::InterruptOfNothing
             | Fault::InterruptUnderAnotherNumber
             | Fault::InterruptTooOften

@@ -9,4 +9,6 @@ pub struct Known {
     pub offered: Option<InitRequest>,
     /// What the last INIT agreed on whose reply was accepted; before one, what INIT itself is read by.
     pub agreed: Agreed,
+    /// Whether the device accepted FUSE_NOTIFY_RESEND.
+    pub has_resent: bool,
 }

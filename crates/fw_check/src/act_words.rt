@@ -2,6 +2,7 @@
 
 ghost use Rattle.std.specs.Prelude.{◌≡◌, ◌++◌, OnOk, codes, decimal};
 ghost use Rattle.fuse_protocol.specs.Table.{name_of};
+ghost use Rattle.fuse_sessions.specs.declared.act.Act.TheVariants.{Read};
 ghost use Rattle.fw_check.specs.FaultWords.{act_words, said};
 
 use crate::text::{put, put_counted, put_said};
@@ -17,16 +18,32 @@ fn put_name<A: Allocator>(text: &mut Vec<u8, A>, opcode: Opcode) -> Result<(), A
     put(text, opcode.name().as_bytes())
 }
 
-/// The name of a request and its number.
+/// The name of a request, if it is known, and its number.
 fn put_read<A: Allocator>(
     text: &mut Vec<u8, A>,
-    opcode: Opcode,
+    opcode: Option<Opcode>,
     unique: u64,
 ) -> Result<(), AllocError>
-    ensures { OnOk result (text.new.items ≡ text.old.items ++ (codes ": " ++ name_of opcode ++ codes " " ++ decimal unique)) }
+    ensures { OnOk result (text.new.items ≡ text.old.items ++ act_words (Read opcode unique)) }
 {
+    let Some(opcode) = opcode else {
+        return put_one(text, b"unique", unique);
+    };
     put(text, b": ")?;
     put_counted(text, opcode.name().as_bytes(), unique)
+}
+
+/// A request's number, and the one under which it was read before.
+fn put_resent<A: Allocator>(
+    text: &mut Vec<u8, A>,
+    unique: u64,
+    original: u64,
+) -> Result<(), AllocError>
+    ensures { OnOk result (text.new.items
+        ≡ text.old.items ++ (codes ":" ++ said (codes "unique") unique ++ said (codes "of") original)) }
+{
+    put_one(text, b"unique", unique)?;
+    put_said(text, b"of", original)
 }
 
 /// A word and a number.
@@ -93,6 +110,7 @@ pub(crate) fn put_act<A: Allocator>(text: &mut Vec<u8, A>, act: Act) -> Result<(
     match act {
         Act::Begins(opcode) => put_name(text, opcode),
         Act::Read { opcode, unique } => put_read(text, opcode, unique),
+        Act::Resent { unique, original } => put_resent(text, unique, original),
         Act::Interrupts { unique, original } => put_interrupt(text, unique, original),
         Act::Names(node) => put_one(text, b"node", node),
         Act::Forgets(node, lookups) => put_node_and(text, node, b"lookups", lookups),

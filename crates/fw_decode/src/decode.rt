@@ -13,7 +13,7 @@ use std::io::{BufRead, Write};
 fn is_cut(line: CaptureLine<'_>) -> bool {
     match line {
         CaptureLine::Request(frame) | CaptureLine::Written(frame, _) => frame.more != 0,
-        CaptureLine::SeveralReaders | CaptureLine::Ended => false,
+        CaptureLine::SeveralReaders | CaptureLine::SeveralWriters | CaptureLine::Ended => false,
     }
 }
 

@@ -5,7 +5,7 @@ use frame_words::{
 };
 use fuse_judge::SessionJudge;
 use fuse_protocol::{
-    Agreed, RequestHead, ShapeFault, read_init, read_request, read_request_header,
+    Agreed, Opcode, RequestHead, ShapeFault, read_init, read_request, read_request_header,
 };
 use fuse_replies::{ReplyHeader, read_notification, read_reply, read_reply_header};
 use fuse_sessions::Asked;
@@ -61,20 +61,21 @@ fn write_reply_head<W: Write>(
 fn write_answer<W: Write>(
     out: &mut W,
     agreed: Agreed,
+    opcode: Opcode,
     asked: Asked,
     header: ReplyHeader,
     bytes: &[u8],
 ) -> io::Result<()> {
     let head = RequestHead {
-        opcode: asked.opcode,
+        opcode,
         unique: header.unique,
         nodeid: asked.nodeid,
         asked: asked.asked,
     };
     match read_reply(agreed, &head, bytes) {
-        Ok(reply) => write_reply(out, asked.opcode, &reply, bytes.len()),
+        Ok(reply) => write_reply(out, opcode, &reply, bytes.len()),
         Err(fault) => {
-            write_reply_head(out, asked.opcode.name(), header, bytes.len())?;
+            write_reply_head(out, opcode.name(), header, bytes.len())?;
             write!(out, ": {fault}")
         }
     }
@@ -104,11 +105,12 @@ pub(crate) fn write_answered<A: Allocator + Copy, W: Write>(
     if header.unique == 0 {
         return write_notified(out, agreed, bytes);
     }
-    if header.unique % 2 == 1 {
-        return write_reply_head(out, "INTERRUPT", header, len);
-    }
     match judge.waiting(header.unique) {
-        Some(asked) => write_answer(out, agreed, asked, header, bytes),
+        Some(asked) => match asked.opcode {
+            Some(opcode) => write_answer(out, agreed, opcode, asked, header, bytes),
+            None => write_reply_head(out, "unique", header, len),
+        },
+        None if header.unique % 2 == 1 => write_reply_head(out, "INTERRUPT", header, len),
         None => write_reply_head(out, "unique", header, len),
     }
 }

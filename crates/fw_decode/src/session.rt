@@ -65,6 +65,7 @@ impl<A: Allocator + Copy> Decoding<A> {
                 write_taken(out, taken)
             }
             Transfer::SeveralReaders => out.write_all(b"= several readers"),
+            Transfer::SeveralWriters => out.write_all(b"= several writers"),
             Transfer::Ended => out.write_all(b"= ended"),
         }
     }

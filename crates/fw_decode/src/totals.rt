@@ -60,7 +60,7 @@ impl<A: Allocator + Copy> Totals<A> {
                     self.refused = self.refused.saturating_add(1);
                 }
             }
-            Transfer::SeveralReaders | Transfer::Ended => {}
+            Transfer::SeveralReaders | Transfer::SeveralWriters | Transfer::Ended => {}
         }
     }
 

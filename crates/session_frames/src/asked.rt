@@ -119,7 +119,11 @@ pub(crate) fn asked_of(request: &Request<'_>) -> Asked
         writes: bytes_written(request),
         makes: kind_made(request),
         is_dots: is_dot || looks_up(request, b".."),
-        nodeid: if is_dot { 0 } else { node_named(opcode, nodeid) },
+        nodeid: if is_dot {
+            0
+        } else {
+            node_named(opcode, nodeid)
+        },
         other,
         uses: file_used(opcode, nodeid, request.handle),
         copies_to: file_copied_to(other, request.handle),

@@ -56,9 +56,7 @@ fn is_made(asked: Asked, entry: &Entry) -> bool
 fn is_counted(asked: Asked, entry: &Entry) -> bool
     ensures { result ≡ words.is_counted asked entry.now }
 {
-    is_kind(kind_of(&entry.attributes))
-        && is_made(asked, entry)
-        && entry.attributes.size < 1 << 63
+    is_kind(kind_of(&entry.attributes)) && is_made(asked, entry) && entry.attributes.size < 1 << 63
 }
 
 /// Whether Linux opens the file of an entry that it created.

@@ -26,7 +26,7 @@ fn write_read<A: Allocator + Copy>(
     ensures { OnOk result (words.AreRequestActs known bytes.now acts.new.items) }
 {
     match read_request(known.agreed, bytes) {
-        Ok(request) => write_request(acts, &request),
+        Ok(request) => write_request(acts, known.has_resent, &request),
         Err(_) => write_unread(acts, known.offered, bytes),
     }
 }

@@ -11,13 +11,16 @@ use crate::fits::fit_in;
 use crate::init::{known_after_reply, write_init};
 use crate::writing::write;
 use fk_fields::{u32_at, u64_at};
-use fuse_protocol::{Agreed, MAX_FRAME, Opcode, RequestHead, row_of};
+use fuse_protocol::{MAX_FRAME, Opcode, RequestHead, row_of};
 use fuse_replies::{Answer, read_notification, read_reply};
 use fuse_sessions::{Act, Asked, Fault, Fit, Known, Taken};
 use std::alloc::{AllocError, Allocator};
 
 /// -EAGAIN.
 const AGAIN: u32 = u32::MAX - 10;
+
+/// The code of FUSE_NOTIFY_RESEND.
+const RESEND: u32 = 7;
 
 /// -511, the lowest error.
 const LOWEST: u32 = u32::MAX - 510;
@@ -40,18 +43,41 @@ fn has_head(bytes: &[u8]) -> bool
     u64_at(bytes, 8) == 0 || error == 0 || error >= LOWEST
 }
 
-/// A notification.
+/// Whether a notification asks for requests once more, and the device accepted it.
+fn is_resend(bytes: &[u8], taken: Taken) -> bool
+    requires { IsFrame bytes.now }
+    ensures { result ≡ words.is_resend bytes.now taken }
+{
+    match taken {
+        Taken::Accepted => u32_at(bytes, 4) == RESEND,
+        _ => false,
+    }
+}
+
+/// A notification. Returns what is known after it.
 fn write_notification<A: Allocator + Copy>(
     acts: &mut Vec<Act, A>,
-    agreed: Agreed,
+    known: Known,
     bytes: &[u8],
-) -> Result<(), AllocError>
-    requires { acts.old.items ≡ [] }
-    ensures { OnOk result (words.AreNotificationActs agreed bytes.now acts.new.items) }
+    taken: Taken,
+) -> Result<Known, AllocError>
+    requires empty { acts.old.items ≡ [] }
+    requires frame { IsFrame bytes.now }
+    ensures { IfOk result (words.IsNotified known bytes.now taken acts.new.items) }
 {
-    match read_notification(agreed, bytes) {
-        Ok(_) => Ok(()),
-        Err(_) => write(acts, Act::Faulty(Fault::MalformedNotification)),
+    match read_notification(known.agreed, bytes) {
+        Ok(_) if is_resend(bytes, taken) => {
+            write(acts, Act::Resends)?;
+            Ok(Known {
+                has_resent: true,
+                ..known
+            })
+        }
+        Ok(_) => Ok(known),
+        Err(_) => {
+            write(acts, Act::Faulty(Fault::MalformedNotification))?;
+            Ok(known)
+        }
     }
 }
 
@@ -161,8 +187,7 @@ fn write_headed<A: Allocator + Copy>(
 {
     let unique = u64_at(bytes, 8);
     if unique == 0 {
-        write_notification(acts, known.agreed, bytes)?;
-        return Ok(known);
+        return write_notification(acts, known, bytes, taken);
     }
     if unique % 2 == 1 && asked.is_none() {
         let replies = Act::RepliesToInterrupt {

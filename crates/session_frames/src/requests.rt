@@ -1,16 +1,20 @@
 //! The acts of a request.
 
-ghost use Rattle.std.specs.Prelude.{◌≡◌, [], ◌∷◌, ◌++◌, OnOk, Some};
+ghost use Rattle.std.specs.Prelude.{◌≡◌, ◌≤◌, ◌&&◌, [], ◌∷◌, ◌++◌, OnOk, Some, nat_le};
 ghost use Rattle.fuse_protocol.specs.Requests.{request_message};
 ghost use Rattle.fuse_protocol.specs.Pairs.{pairs_in};
 ghost use Rattle.fuse_sessions.specs.declared.act.Act.TheVariants.{Read};
 ghost use Rattle.fuse_sessions.specs.RequestActs as words;
+ghost use Rattle.fuse_sessions.specs.RequestActs.{resend_bit};
 
 use crate::asked::{asked_of, bytes_written, or_none};
 use crate::writing::write;
 use fuse_protocol::{Opcode, OpenHandle, Pairs, Request};
 use fuse_sessions::{Act, OpenFile, OpenKind};
 use std::alloc::{AllocError, Allocator};
+
+/// FUSE_UNIQUE_RESEND: the bit of a request's number that is read once more.
+const RESEND_BIT: u64 = 1 << 63;
 
 /// A node is named where it is one.
 fn write_naming<A: Allocator + Copy>(acts: &mut Vec<Act, A>, node: u64) -> Result<(), AllocError>
@@ -120,13 +124,34 @@ fn write_forgets<A: Allocator + Copy>(
     Ok(())
 }
 
-/// What a request does, once it has come.
-fn write_doing<A: Allocator + Copy>(
+/// A request that is read once more.
+fn write_resent<A: Allocator + Copy>(
     acts: &mut Vec<Act, A>,
     request: &Request<'_>,
 ) -> Result<(), AllocError>
+    requires { resend_bit ≤ request.now.head.unique }
     ensures { OnOk result (acts.new.items
-        ≡ acts.old.items ++ words.doing request.now.head.opcode (request_message request.now)) }
+        ≡ acts.old.items ++ words.resent request.now.head.opcode (request_message request.now)) }
+{
+    let unique = request.head.unique;
+    let resent = Act::Resent {
+        unique,
+        original: unique - RESEND_BIT,
+    };
+    let asked = asked_of(request);
+    write(acts, resent)?;
+    write(acts, Act::Asks { unique, asked })
+}
+
+/// What a request does, once it has come.
+fn write_doing<A: Allocator + Copy>(
+    acts: &mut Vec<Act, A>,
+    has_resent: bool,
+    request: &Request<'_>,
+) -> Result<(), AllocError>
+    ensures { OnOk result (acts.new.items ≡ acts.old.items
+        ++ words.doing (has_resent && nat_le resend_bit request.now.head.unique) request.now.head.opcode
+        (request_message request.now)) }
 {
     let opcode = request.head.opcode;
     let unique = request.head.unique;
@@ -145,23 +170,25 @@ fn write_doing<A: Allocator + Copy>(
             write_number(acts, opcode, unique)?;
             write_forgets(acts, request.pairs())
         }
+        _ if has_resent && unique >= RESEND_BIT => write_resent(acts, request),
         _ => write_asking(acts, request),
     }
 }
 
-/// The acts of a request.
+/// The acts of a request, where requests were asked for once more, or not.
 ///
 /// # Errors
 ///
 /// Out of memory.
 pub(crate) fn write_request<A: Allocator + Copy>(
     acts: &mut Vec<Act, A>,
+    has_resent: bool,
     request: &Request<'_>,
 ) -> Result<(), AllocError>
     ensures { OnOk result (acts.new.items
-        ≡ acts.old.items ++ words.request_acts request.now.head.opcode (request_message request.now)) }
+        ≡ acts.old.items ++ words.request_acts has_resent request.now.head.opcode (request_message request.now)) }
 {
     write(acts, Act::Arrives)?;
     write(acts, Act::Begins(request.head.opcode))?;
-    write_doing(acts, request)
+    write_doing(acts, has_resent, request)
 }

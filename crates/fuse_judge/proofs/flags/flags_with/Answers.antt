@@ -9,6 +9,7 @@ returns c = λ s are shows. rw (
   c.agreed_write.ensures,
   c.is_of_several.ensures,
   c.is_of_writers.ensures,
+  c.is_resend.ensures,
   c.opens_none.ensures,
   c.opens_none-2.ensures,
   c.higher.ensures,

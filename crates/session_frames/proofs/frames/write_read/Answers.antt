@@ -9,4 +9,4 @@ returns-in-Ok g c =
     let o = c.in-Ok.request.head.opcode in
     let m = request_message c.in-Ok.request in
     on_ok _ _ c.write_request.result
-    (λ e. inl ((o, m), c.in-Ok.ensures.ok, e ∙ ap (λ l. l ++ request_acts o m) c.requires)) c.write_request.ensures
+    (λ e. inl ((o, m), c.in-Ok.ensures.ok, e ∙ ap (λ l. l ++ request_acts c.args.known.has_resent o m) c.requires)) c.write_request.ensures
