@@ -162,25 +162,85 @@ class Session:
 
 
 def malformed_requests():
-    s = Session("Requests that are none: their length, opcode, names or size are wrong.")
+    s = Session("Requests that are none: their length, opcode, names or size are wrong. They wait, and any reply will do.")
     s.begin()
     bad = "kernel: malformed request"
     s.read(request("LOOKUP", 4, 1, text("a"), length=43), bad)
+    # without a whole header there is no number
     s.read(request("LOOKUP", 4, 1, text("a"))[:20], bad)
-    s.read(request(99, 4, 1), bad)
-    s.read(request(7, 4, 1), bad)
-    s.read(request("LOOKUP", 4, 1, b"a"), bad)
-    s.read(request("LOOKUP", 4, 1, text("")), bad)
-    s.read(request("LOOKUP", 4, 1, text("a/b")), bad)
-    s.read(request("LOOKUP", 4, 1, text("..")), bad)
-    s.read(request("LOOKUP", 4, 1, text("a" * 1025)), bad)
-    s.read(request("MKDIR", 4, 1, numbers("II", 0o755, 0) + text(".")), bad)
-    s.read(request("RENAME", 4, 1, numbers("Q", 1) + text("a")), bad)
-    s.read(request("GETATTR", 4, 1, getattr_body() + b"\0"), bad)
-    s.read(request("WRITE", 4, 1, write_body(1, b"abc", size=4)), bad)
-    s.read(request("BATCH_FORGET", 4, 0, numbers("IIQQ", 2, 0, 5, 1)), bad)
-    # 1,024 bytes are a name, and none of those before took the number
-    s.ask("LOOKUP", 4, 1, text("a" * 1024), error=ENOENT)
+    s.read(request(99, 6, 1), bad)
+    s.read(request(7, 8, 1), bad)
+    s.read(request("LOOKUP", 10, 1, b"a"), bad)
+    s.read(request("LOOKUP", 12, 1, text("")), bad)
+    s.read(request("LOOKUP", 14, 1, text("a/b")), bad)
+    s.read(request("LOOKUP", 16, 1, text("..")), bad)
+    s.read(request("LOOKUP", 18, 1, text("a" * 1025)), bad)
+    s.read(request("MKDIR", 20, 1, numbers("II", 0o755, 0) + text(".")), bad)
+    s.read(request("RENAME", 22, 1, numbers("Q", 1) + text("a")), bad)
+    s.read(request("GETATTR", 24, 1, getattr_body() + b"\0"), bad)
+    s.read(request("WRITE", 26, 1, write_body(1, b"abc", size=4)), bad)
+    s.read(request("BATCH_FORGET", 28, 0, numbers("IIQQ", 2, 0, 5, 1)), bad)
+    s.write(reply(4, error=EIO))
+    s.write(reply(6, error=ENOSYS))
+    s.write(reply(8, b"\0" * 100))
+    s.write(reply(10, b"\0" * 8), errno="EINVAL")
+    s.write(reply(6, error=ENOSYS), "server: second reply: unique 6", errno="ENOENT")
+    # a malformed BATCH_FORGET takes no reply, and its number counts as no request's
+    s.write(reply(28), "server: reply to nothing: unique 28", errno="ENOENT")
+    # numbers are judged here too
+    s.read(request(99, 12, 1), bad, "kernel: number used twice: unique 12")
+    # 1,024 bytes are a name
+    s.ask("LOOKUP", 30, 1, text("a" * 1024), error=ENOENT)
+    return s, s.end()
+
+
+def later_opcodes():
+    s = Session("A kernel of a later minor than 45 may send opcodes above 53: they wait, and any reply will do.")
+    s.read(init_request(minor=46))
+    s.write(init_reply(minor=31))
+    s.read(request(54, 4, 9, b"\0" * 24))
+    s.write(reply(4, error=ENOSYS))
+    s.read(request(55, 6, 1))
+    s.write(reply(6, b"\0" * 300))
+    s.read(request(56, 8, 1))
+    s.write(reply(8), errno="EINVAL")
+    s.read(request(54, 10, 1, length=41), "kernel: malformed request")
+    s.read(request(19, 12, 1), "kernel: malformed request")
+    s.read(request("LOOKUP", 14, 1, b"a"), "kernel: malformed request")
+    return s, s.end()
+
+
+def resends():
+    s = Session("After FUSE_NOTIFY_RESEND what waits is read once more, under its number with bit 63.")
+    s.begin()
+    again = 1 << 63
+    s.ask("LOOKUP", 4, 1, text("a"), entry(2, 20))
+    s.ask("OPEN", 6, 2, numbers("II", 0, 0), opened(5))
+    s.read(request("STATFS", 8, 1))
+    s.read(request("RELEASE", 10, 2, release_body(5)))
+    s.write(notification(7))
+    # the request has another number by now: that the device finds none under the old one is no end
+    s.write(reply(8, b"\0" * 80), errno="ENOENT")
+    s.read(request("STATFS", again + 8, 1))
+    s.read(request("RELEASE", again + 10, 2, release_body(5)))
+    s.write(reply(again + 8, b"\0" * 80))
+    s.write(reply(again + 8, b"\0" * 80), f"server: second reply: unique {again + 8}", errno="ENOENT")
+    s.write(notification(7))
+    s.read(request("RELEASE", again + 10, 2, release_body(5)))
+    s.write(reply(again + 10))
+    s.read(request("RELEASE", again + 10, 2, release_body(5)), f"kernel: resend of nothing: unique {again + 10} of 10")
+    s.ask("STATFS", 12, 1, answer=b"\0" * 80)
+    s.read(request("STATFS", 12, 1), "kernel: number used twice: STATFS 12")
+    return s, s.end(entries=1)
+
+
+def resends_unasked():
+    s = Session("Without FUSE_NOTIFY_RESEND a number with bit 63 is one like others.")
+    s.begin()
+    s.write(notification(7), errno="EINVAL")
+    s.read(request("STATFS", (1 << 63) + 8, 1))
+    s.read(request("STATFS", 10, 1), "kernel: number out of order: STATFS 10")
+    s.read(request("GETATTR", (1 << 63) + 10, 9, getattr_body()), "kernel: node that is not counted: node 9")
     return s, s.end()
 
 
@@ -199,6 +259,8 @@ def numbers_of_requests():
     s = Session("Numbers that are odd, used twice or out of order.")
     s.begin()
     s.read(request("STATFS", 5, 1), "kernel: odd number: STATFS 5")
+    # its reply is one to it, and to no INTERRUPT
+    s.write(reply(5, b"\0" * 80))
     s.ask("STATFS", 6, 1, answer=b"\0" * 80)
     s.read(request("GETATTR", 6, 1, getattr_body()), "kernel: number used twice: GETATTR 6")
     s.read(request("GETATTR", 6, 1, getattr_body()), "kernel: number used twice: GETATTR 6")
@@ -221,6 +283,27 @@ def several_readers():
     s.read(request("STATFS", 6, 1))
     s.read(request("STATFS", 6, 1), "kernel: number used twice: STATFS 6")
     s.read(request("STATFS", 5, 1), "kernel: odd number: STATFS 5")
+    # another thread may read an INTERRUPT late, or a request that came before the end
+    s.write(reply(8, error=4))
+    s.read(request("INTERRUPT", 9, 0, numbers("Q", 8)))
+    s.read(request("INTERRUPT", 9, 0, numbers("Q", 8)))
+    s.read(request("INTERRUPT", 13, 0, numbers("Q", 8)), "kernel: INTERRUPT under another number: INTERRUPT 13 of 8")
+    s.line("= ended ENODEV")
+    s.read(request("STATFS", 14, 1))
+    s.write(reply(6, b"\0" * 80))
+    return s, s.end()
+
+
+def several_writers():
+    s = Session("Where another thread writes replies, numbers rise, and an INTERRUPT may be read after the reply.")
+    s.begin()
+    s.line("= several writers")
+    s.ask("STATFS", 8, 1, answer=b"\0" * 80)
+    s.read(request("INTERRUPT", 9, 0, numbers("Q", 8)))
+    s.read(request("STATFS", 6, 1), "kernel: number out of order: STATFS 6")
+    s.line("= ended ENODEV")
+    s.read(request("STATFS", 10, 1))
+    s.write(reply(10, b"\0" * 80))
     return s, s.end()
 
 
@@ -406,7 +489,33 @@ def bodies():
     s.ask("COPY_FILE_RANGE", 20, 3, copy_body(5, 3, 5, 10), numbers("II", 11, 0), faults=more)
     s.ask("COPY_FILE_RANGE_64", 22, 3, copy_body(5, 3, 5, 10), numbers("Q", 11), faults=more)
     s.ask("COPY_FILE_RANGE_64", 24, 3, copy_body(5, 3, 5, 10), numbers("Q", 10))
-    return s, s.end(entries=1)
+    # of what the device takes by its size only the server is accused
+    s.ask("READLINK", 26, 3, b"", b"", faults=(other,))
+    s.ask("OPENDIR", 28, 1, numbers("II", 0, 0), opened(7))
+    s.ask("READDIR", 30, 1, read_body(7), record("a/b", 20, 1), faults=(other,))
+    plus = entry(4, 40) + record("d", 40, 1) + entry(5, 50) + record("e/", 50, 2) + entry(6, 60) + record("f", 60, 3)
+    s.ask("READDIRPLUS", 32, 1, read_body(7), plus, faults=(other,))
+    # which of its entries count is not certain: they may be named and forgotten, and given for another file
+    s.ask("GETATTR", 34, 6, getattr_body(), attributes_reply(61, REGULAR))
+    s.read(request("FORGET", 36, 4, numbers("Q", 1)))
+    s.read(request("FORGET", 38, 4, numbers("Q", 1)), "kernel: forget of more than is counted: node 4 lookups 1")
+    s.read(request("READDIR", 40, 1, read_body(7, size=24)))
+    s.write(reply(40, record("a", 20, 1)), other, "device: body of another request accepted: unique 40")
+    # a caller of IOCTL may have room for a page or for more
+    ioctl = numbers("iIII", 0, 0, 0, 0)
+    s.ask("IOCTL", 42, 3, numbers("QIIQII", 5, 0, 0x5401, 0, 0, 0), ioctl + b"\0" * 4096)
+    s.read(request("IOCTL", 44, 3, numbers("QIIQII", 5, 0, 0x5401, 0, 0, 0)))
+    s.write(reply(44, ioctl + b"\0" * 4097), errno="EINVAL")
+    s.read(request("IOCTL", 46, 3, numbers("QIIQII", 5, 0, 0x5401, 0, 0, 0)))
+    s.write(reply(46, ioctl + b"\0" * 4096), "device: right reply refused: unique 46", errno="EINVAL")
+    return s, s.end(entries=4, forgotten=2)
+
+
+def init_of_another_length():
+    s = Session("INIT's reply has 8, 24 or 64 bytes; the device takes any up to 64.")
+    s.read(init_request())
+    s.write(reply(2, numbers("IIIIHHII", 7, 31, 0, 0, 0, 0, 4096, 1)), "server: body that is not its request's")
+    return s, s.end()
 
 
 def entries():
@@ -430,6 +539,36 @@ def entries():
     s.ask("LOOKUP", 24, 1, text("f"), entry(6, 60, size=2**63))
     s.ask("LOOKUP", 26, 1, text("f"), entry(6, 61, size=2**63))
     return s, s.end(entries=6, forgotten=3)
+
+
+def entries_of_another_kind():
+    s = Session("What is made has another kind than was asked for: whether it counts is not certain, and it is not open.")
+    s.begin()
+    other = ("server: entry of another kind",)
+    s.ask("MKDIR", 4, 1, numbers("II", 0o755, 0) + text("a"), entry(2, 20), faults=other)
+    s.ask("SYMLINK", 6, 1, text("b", "to"), entry(3, 30), faults=other)
+    s.ask("MKNOD", 8, 1, numbers("IIII", 0o010644, 0, 0, 0) + text("c"), entry(4, 40), faults=other)
+    s.ask("CREATE", 10, 1, numbers("IIII", 0, 0o644, 0, 0) + text("d"), entry(5, 50, DIRECTORY) + opened(9), faults=other)
+    s.read(request("FLUSH", 12, 5, numbers("QIIQ", 9, 0, 0, 0)), "kernel: file handle that is not open: node 5 file handle 9")
+    s.write(reply(12))
+    s.read(request("FORGET", 14, 5, numbers("Q", 1)))
+    s.ask("LOOKUP", 16, 1, text("a"), entry(2, 21, DIRECTORY, generation=1))
+    s.ask("MKNOD", 18, 1, numbers("IIII", 0o644, 0, 0, 0) + text("e"), entry(6, 60))
+    s.ask("MKNOD", 20, 1, numbers("IIII", 0o010644, 0, 0, 0) + text("f"), entry(7, 70, 0o010644))
+    s.ask("LINK", 22, 1, numbers("Q", 6) + text("g"), entry(6, 60))
+    return s, s.end(entries=8, forgotten=1)
+
+
+def exported():
+    s = Session("With EXPORT_SUPPORT a LOOKUP of `.` may be of a node that is not counted, and one of `..` may give the root.")
+    s.read(init_request(flags=16))
+    s.write(init_reply(flags=16))
+    s.ask("LOOKUP", 4, 9, text("."), entry(9, 90, DIRECTORY))
+    s.ask("LOOKUP", 6, 9, text(".."), entry(1, 1, DIRECTORY))
+    s.read(request("LOOKUP", 8, 8, text("..")), "kernel: node that is not counted: node 8")
+    s.ask("LOOKUP", 10, 9, text("a"), entry(1, 1, DIRECTORY), faults=("server: entry of the root",))
+    s.read(request("FORGET", 12, 9, numbers("Q", 1)))
+    return s, s.end(entries=1, forgotten=1)
 
 
 def nodes_of_two_files():
@@ -644,11 +783,13 @@ def good_notifications():
     s.write(reply(6, error=4))
     s.ask("OPEN", 8, 2, numbers("II", 0, 0), opened(5))
     s.ask("SETUPMAPPING", 10, 2, numbers("QQQQQ", 5, 0, 4096, 0, 0))
-    s.ask("REMOVEMAPPING", 12, 2, numbers("I", 1) + numbers("QQ", 0, 4096))
-    s.ask("SYNCFS", 14, 1, numbers("Q", 0))
-    s.ask("RELEASE", 16, 2, release_body(5))
-    s.read(request("FORGET", 18, 2, numbers("Q", 1)))
-    s.ask("DESTROY", 20, 0)
+    # Linux says no file handle: -1
+    s.ask("SETUPMAPPING", 12, 2, numbers("QQQQQ", 2**64 - 1, 0, 4096, 0, 0))
+    s.ask("REMOVEMAPPING", 14, 2, numbers("I", 1) + numbers("QQ", 0, 4096))
+    s.ask("SYNCFS", 16, 1, numbers("Q", 0))
+    s.ask("RELEASE", 18, 2, release_body(5))
+    s.read(request("FORGET", 20, 2, numbers("Q", 1)))
+    s.ask("DESTROY", 22, 0)
     s.line("= ended ENODEV")
     return s, s.end(entries=1, forgotten=1)
 
@@ -697,10 +838,11 @@ def lines_of_a_capture():
 
 
 SESSIONS = [
-    malformed_requests, requests_before_init, numbers_of_requests, several_readers, interrupts, nodes_not_counted, forgets,
-    open_files, files_that_are_not_opened, writes_cut_short, writes_of_a_page, replies, replies_to_interrupts, bodies, entries,
-    nodes_of_two_files, init_of_another_version, flags_that_were_not_offered, second_word_of_flags, notifications, device,
-    after_the_end, after_a_lost_reply, good_names, good_attributes, good_files, good_directories, good_notifications,
+    malformed_requests, later_opcodes, requests_before_init, numbers_of_requests, resends, resends_unasked, several_readers,
+    several_writers, interrupts, nodes_not_counted, forgets, open_files, files_that_are_not_opened, writes_cut_short,
+    writes_of_a_page, replies, replies_to_interrupts, bodies, init_of_another_length, entries, entries_of_another_kind,
+    exported, nodes_of_two_files, init_of_another_version, flags_that_were_not_offered, second_word_of_flags, notifications,
+    device, after_the_end, after_a_lost_reply, good_names, good_attributes, good_files, good_directories, good_notifications,
     good_extensions, good_minors, lines_of_a_capture,
 ]
 

@@ -9,3 +9,4 @@ pub mod VerdictLaws
 pub mod SeenSoFar
 pub mod MarkLaws
 pub mod TallyLaws
+pub mod TransferLaws

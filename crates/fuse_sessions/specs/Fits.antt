@@ -37,3 +37,8 @@ fit_of reply.Init asked size = fits_if (nat_le size 64)
 abbrev pub fit_in : ReplyShape → (asked : ℕ) → List ℕ → Fit
 fit_in shape asked bytes =
     if number_at 4 4 bytes == 0 then fit_of shape asked (length bytes - 16) else fits_if (length bytes == 16)
+
+-- The device may refuse what is no reply to the request, also where its size fits.
+abbrev pub fit_of_another : Fit → Fit
+fit_of_another Fits = MayFit
+fit_of_another body = body

@@ -1,6 +1,7 @@
 -- What went over a device, read as acts: by the shapes of its frames, by what INIT agreed on, and by what waits.
 -- Sources: linux/fuse.h, the kernel's fuse.rst and dev.c.
-use Rattle.std.specs.Prelude.{◌≡◌, ℕ, ◌+◌, ◌-◌, ◌%◌, ◌^◌, ◌==◌, ◌⊎◌, Bool, true, false, MatchBool, if◌then◌else◌, bit_and, List, [], ◌∷◌, ◌++◌, Option, Some, None}
+use Rattle.std.specs.Prelude.{◌≡◌, ℕ, ◌+◌, ◌-◌, ◌%◌, ◌^◌, ◌==◌, ◌⊎◌, Bool, true, false, MatchBool, if◌then◌else◌, bit_and, List, [], ◌∷◌, ◌++◌, drop, Option, Some, None}
+use Rattle.std.specs.List.{flat_map}
 use Rattle.fk_fields.specs.Fields.{number_at}
 use Rattle.fuse_protocol.specs.declared.agreed.Agreed.{Agreed}
 use Rattle.fuse_protocol.specs.declared.init.InitRequest.{InitRequest}
@@ -14,6 +15,7 @@ use Rattle.fuse_protocol.specs.Requests.{RequestMessage, IsRequest}
 use Rattle.fuse_protocol.specs.Table.{row_at}
 use Rattle.fuse_replies.specs.Replies.{AnswerContent, ReplyMessage, IsFrame, IsErrorWord, IsReply}
 use Rattle.fuse_replies.specs.Replies as answer
+use Rattle.fuse_replies.specs.Records.{entry_records_from}
 use Rattle.fuse_replies.specs.Notifications.{NotificationContent, IsNotification}
 use Rattle.fuse_sessions.specs.declared.act.Act.{Act}
 use Rattle.fuse_sessions.specs.declared.act.Act.TheVariants.{Faulty, Takes, Replies, Resends, RepliesToInterrupt, SeveralReaders, SeveralWriters, Ends}
@@ -28,10 +30,10 @@ use Rattle.fuse_sessions.specs.declared.transfer.Transfer.{Transfer}
 use Rattle.fuse_sessions.specs.declared.transfer.Transfer.TheVariants as transfer
 use Rattle.fuse_sessions.specs.Sessions.{Session}
 use Rattle.fuse_sessions.specs.Waiting.{waits}
-use Rattle.fuse_sessions.specs.Fits.{fit_in}
+use Rattle.fuse_sessions.specs.Fits.{fit_in, fit_of_another}
 use Rattle.fuse_sessions.specs.RequestActs.{request_acts}
 use Rattle.fuse_sessions.specs.UnreadRequests.{unread_acts}
-use Rattle.fuse_sessions.specs.ReplyActs.{answer_acts}
+use Rattle.fuse_sessions.specs.ReplyActs.{answer_acts, record_acts}
 
 -- Read as a message, this is done by what it says; where it is none, this.
 abbrev pub Reads : {M : Type 0} → (Is Does : M → Type 0) → (else_does : Type 0) → Type 0
@@ -116,13 +118,21 @@ IsTold k t content later = later ≡ k
 abbrev pub replied : ℕ → Taken → Fit → List Act
 replied unique t body = Takes unique t body ∷ Replies unique t ∷ []
 
+-- Of a listing with a bad name Linux counts the entries before it: so whether each counts is not certain.
+-- (linux/fs/fuse/readdir.c)
+abbrev pub listed_acts : Opcode → Asked → Taken → List ℕ → List Act
+listed_acts op.Readdirplus a taken.Accepted bytes = if error_in bytes == 0
+    then flat_map (record_acts false a) (entry_records_from 0 (drop 16 bytes)) else []
+listed_acts o a t bytes = []
+
 -- A reply to a request of an opcode.
 abbrev pub IsReplyOf : Known → List ℕ → Taken → Opcode → Asked → List Act → Known → Type 0
 IsReplyOf k bytes t o a acts later = Reads (IsReply k.agreed (row_at o).reply a.asked bytes)
     (λ m. (acts ≡ replied (number_in bytes) t (fit_in (row_at o).reply a.asked bytes) ++ said_acts k o a t m.answer)
     × IsTold k t m.answer later)
     ((acts ≡ Faulty fault.BodyOfAnotherRequest
-    ∷ replied (number_in bytes) t (fit_in (row_at o).reply a.asked bytes)) × (later ≡ k))
+    ∷ (replied (number_in bytes) t (fit_of_another (fit_in (row_at o).reply a.asked bytes)) ++ listed_acts o a t bytes))
+    × (later ≡ k))
 
 -- A reply to a request that was judged by an opcode, or by none.
 abbrev pub IsReplyBy : Known → List ℕ → Taken → Option Opcode → Asked → List Act → Known → Type 0

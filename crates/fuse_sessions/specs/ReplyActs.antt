@@ -55,24 +55,24 @@ abbrev pub kind_acts : Asked → Entry → List Act
 kind_acts a e = if is_kind (kind_of e.attributes)
     then (if is_made a e then [] else Faulty fault.EntryOfAnotherKind ∷ []) else Faulty fault.EntryOfNoKind ∷ []
 
--- an entry gives its node
-abbrev pub gift_acts : Asked → Entry → List Act
-gift_acts a e = kind_acts a e ++ Gives e.nodeid (file_of e) (is_counted a e) ∷ []
+-- an entry gives its node; whether Linux comes to it is certain, or not
+abbrev pub gift_acts : (certain : Bool) → Asked → Entry → List Act
+gift_acts certain a e = kind_acts a e ++ Gives e.nodeid (file_of e) (certain && is_counted a e) ∷ []
 
 -- The root is no file that a name may have, but where `.` or `..` was asked for; and there it is never counted.
 abbrev pub root_acts : Asked → List Act
 root_acts a = if a.is_dots then [] else Faulty fault.EntryOfTheRoot ∷ []
 
 -- what an entry is, in a reply to a request of an opcode
-abbrev pub entry_acts : Opcode → Asked → Entry → List Act
-entry_acts o a e = if nat_eq e.nodeid 1 then root_acts a else (
+abbrev pub entry_acts : (certain : Bool) → Opcode → Asked → Entry → List Act
+entry_acts certain o a e = if nat_eq e.nodeid 1 then root_acts a else (
     if nat_eq e.nodeid 0 then (if may_be_missing o then [] else Faulty fault.EntryOfNoNode ∷ [])
-    else gift_acts a e)
+    else gift_acts certain a e)
 
 -- A record of `.` or `..` counts nothing. (linux/fs/fuse/readdir.c)
-abbrev pub record_acts : Asked → EntryRecordContent → List Act
-record_acts a r = if is_name r.said.name (codes ".") || is_name r.said.name (codes "..") then []
-    else entry_acts op.Readdirplus a r.entry
+abbrev pub record_acts : (certain : Bool) → Asked → EntryRecordContent → List Act
+record_acts certain a r = if is_name r.said.name (codes ".") || is_name r.said.name (codes "..") then []
+    else entry_acts certain op.Readdirplus a r.entry
 
 -- Linux takes the entry of a file that it creates and opens, or leaves the file unopened. (linux/fs/fuse/dir.c,
 -- `fuse_create_open`)
@@ -102,12 +102,12 @@ counting o said most = []
 -- The acts of what an accepted reply says to a request of an opcode.
 abbrev pub answer_acts : Opcode → Asked → AnswerContent → List Act
 answer_acts o a (answer.failed errno) = if nat_eq errno enosys then opening_none o else []
-answer_acts o a (answer.entry e) = entry_acts o a e
+answer_acts o a (answer.entry e) = entry_acts true o a e
 answer_acts o a (answer.attributes v) = Describes a.nodeid (kind_of v.attributes) v.attributes.ino ∷ []
 answer_acts o a (answer.opened file) = opening o a.nodeid file.handle
 answer_acts o a (answer.created e file) =
-    entry_acts o a e ++ (if is_opened a e then opening o e.nodeid file.handle else [])
+    entry_acts true o a e ++ (if is_opened a e then opening o e.nodeid file.handle else [])
 answer_acts o a (answer.number n) = counting o n a.writes
-answer_acts o a (answer.entry_records rs) = flat_map (record_acts a) rs
+answer_acts o a (answer.entry_records rs) = flat_map (record_acts true a) rs
 answer_acts o a (answer.init i) = Agrees i.max_write ∷ []
 answer_acts o a other = []

@@ -26,8 +26,8 @@ pub(crate) struct Totals<A: Allocator + Copy> {
     notifications: u64,
     refused: u64,
     is_cut: bool,
-    /// The opcodes of the requests that wait, by their numbers.
-    waiting: BTreeMap<u64, Opcode, A>,
+    /// The opcodes of the requests that wait, where they are known, by their numbers.
+    waiting: BTreeMap<u64, Option<Opcode>, A>,
     /// Of each node, the lookups that were given less those that were forgotten, where they differ.
     lookups: BTreeMap<u64, i128, A>,
 }
@@ -87,6 +87,10 @@ impl<A: Allocator + Copy> Totals<A> {
                 let _ended = self.waiting.remove(&unique);
                 Ok(())
             }
+            Act::Resent { original, .. } => {
+                let _renumbered = self.waiting.remove(&original);
+                Ok(())
+            }
             Act::Gives { nodeid, .. } => self.add(nodeid, 1),
             Act::Forgets(nodeid, lookups) => self.add(nodeid, 0 - i128::from(lookups)),
             _ => Ok(()),
@@ -103,7 +107,7 @@ impl<A: Allocator + Copy> Totals<A> {
                 return out.write_all(b" ..");
             }
             left -= 1;
-            let name = opcode.name();
+            let name = opcode.map_or("unique", |opcode| opcode.name());
             write!(out, " {name}:{unique}")?;
         }
         Ok(())

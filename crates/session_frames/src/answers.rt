@@ -81,7 +81,7 @@ pub(crate) fn write_answer<A: Allocator + Copy>(
         } else {
             Ok(())
         },
-        Answer::Entry(entry) => write_entry(acts, opcode, asked, entry),
+        Answer::Entry(entry) => write_entry(acts, true, opcode, asked, entry),
         Answer::Attributes(valid) => {
             let describes = Act::Describes {
                 nodeid: asked.nodeid,
@@ -92,7 +92,7 @@ pub(crate) fn write_answer<A: Allocator + Copy>(
         }
         Answer::Opened(opened) => write_opening(acts, opcode, asked.nodeid, opened.handle),
         Answer::Created(entry, opened) => {
-            write_entry(acts, opcode, asked, entry)?;
+            write_entry(acts, true, opcode, asked, entry)?;
             if is_opened(asked, entry) {
                 write_opening(acts, opcode, entry.nodeid, opened.handle)
             } else {
@@ -100,7 +100,7 @@ pub(crate) fn write_answer<A: Allocator + Copy>(
             }
         }
         Answer::Number(number) => write_counting(acts, opcode, *number, asked.writes),
-        Answer::EntryRecords(records) => write_records(acts, asked, *records),
+        Answer::EntryRecords(records) => write_records(acts, true, asked, *records),
         Answer::Init(init) => write(acts, Act::Agrees(init.max_write)),
         Answer::Done | Answer::Bytes(_) | Answer::Records(_) => Ok(()),
     }

@@ -93,16 +93,17 @@ fn write_kind<A: Allocator + Copy>(
 /// An entry of a node that is neither 0 nor the root.
 fn write_gift<A: Allocator + Copy>(
     acts: &mut Vec<Act, A>,
+    certain: bool,
     asked: Asked,
     entry: &Entry,
 ) -> Result<(), AllocError>
-    ensures { OnOk result (acts.new.items ≡ acts.old.items ++ words.gift_acts asked entry.now) }
+    ensures { OnOk result (acts.new.items ≡ acts.old.items ++ words.gift_acts certain asked entry.now) }
 {
     write_kind(acts, asked, entry)?;
     let gives = Act::Gives {
         nodeid: entry.nodeid,
         file: file_of(entry),
-        is_certain: is_counted(asked, entry),
+        is_certain: certain && is_counted(asked, entry),
     };
     write(acts, gives)
 }
@@ -118,19 +119,20 @@ fn write_root<A: Allocator + Copy>(acts: &mut Vec<Act, A>, asked: Asked) -> Resu
     }
 }
 
-/// An entry in a reply to a request of an opcode.
+/// An entry in a reply to a request of an opcode. Whether Linux comes to it is certain, or not.
 pub(crate) fn write_entry<A: Allocator + Copy>(
     acts: &mut Vec<Act, A>,
+    certain: bool,
     opcode: Opcode,
     asked: Asked,
     entry: &Entry,
 ) -> Result<(), AllocError>
-    ensures { OnOk result (acts.new.items ≡ acts.old.items ++ words.entry_acts opcode asked entry.now) }
+    ensures { OnOk result (acts.new.items ≡ acts.old.items ++ words.entry_acts certain opcode asked entry.now) }
 {
     if entry.nodeid == 1 {
         write_root(acts, asked)
     } else if entry.nodeid != 0 {
-        write_gift(acts, asked, entry)
+        write_gift(acts, certain, asked, entry)
     } else if may_be_missing(opcode) {
         Ok(())
     } else {
@@ -141,32 +143,34 @@ pub(crate) fn write_entry<A: Allocator + Copy>(
 /// A record of a listing with its entry.
 fn write_record<A: Allocator + Copy>(
     acts: &mut Vec<Act, A>,
+    certain: bool,
     asked: Asked,
     listed: &EntryRecord<'_>,
 ) -> Result<(), AllocError>
     ensures { OnOk result (acts.new.items
-        ≡ acts.old.items ++ words.record_acts asked (entry_record_content listed.now)) }
+        ≡ acts.old.items ++ words.record_acts certain asked (entry_record_content listed.now)) }
 {
     let name = listed.record.name;
     if name == b".".as_slice() || name == b"..".as_slice() {
         Ok(())
     } else {
-        write_entry(acts, Opcode::Readdirplus, asked, &listed.entry)
+        write_entry(acts, certain, Opcode::Readdirplus, asked, &listed.entry)
     }
 }
 
 /// The records of a listing.
 pub(crate) fn write_records<A: Allocator + Copy>(
     acts: &mut Vec<Act, A>,
+    certain: bool,
     asked: Asked,
     records: EntryRecords<'_>,
 ) -> Result<(), AllocError>
     ensures { OnOk result (acts.new.items
-        ≡ acts.old.items ++ flat_map (words.record_acts asked) (entry_records_in records.entry)) }
+        ≡ acts.old.items ++ flat_map (words.record_acts certain asked) (entry_records_in records.entry)) }
 {
     let mut left = records;
     'records: while let Some(record) = left.next() {
-        write_record(acts, asked, &record)?;
+        write_record(acts, certain, asked, &record)?;
     }
     Ok(())
 }

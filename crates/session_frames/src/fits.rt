@@ -56,3 +56,13 @@ pub(crate) fn fit_in(shape: Reply, asked: u32, bytes: &[u8]) -> Fit
         fits_if(bytes.len() == 16)
     }
 }
+
+/// Whether the device is to accept what is no reply to its request.
+pub(crate) fn fit_of_another(fit: Fit) -> Fit
+    ensures { result ≡ words.fit_of_another fit }
+{
+    match fit {
+        Fit::Fits => Fit::MayFit,
+        other => other,
+    }
+}

@@ -7,12 +7,13 @@ ghost use Rattle.fuse_sessions.specs.Sessions.{Session};
 ghost use Rattle.fuse_sessions.specs.Waiting.{waits};
 
 use crate::answers::write_answer;
-use crate::fits::fit_in;
+use crate::entries::write_records;
+use crate::fits::{fit_in, fit_of_another};
 use crate::init::{known_after_reply, write_init};
 use crate::writing::write;
 use fk_fields::{u32_at, u64_at};
 use fuse_protocol::{MAX_FRAME, Opcode, RequestHead, row_of};
-use fuse_replies::{Answer, read_notification, read_reply};
+use fuse_replies::{Answer, EntryRecords, read_notification, read_reply};
 use fuse_sessions::{Act, Asked, Fault, Fit, Known, Taken};
 use std::alloc::{AllocError, Allocator};
 
@@ -116,6 +117,25 @@ fn write_said<A: Allocator + Copy>(
     }
 }
 
+/// The entries of a listing with a bad name.
+fn write_listed<A: Allocator + Copy>(
+    acts: &mut Vec<Act, A>,
+    opcode: Opcode,
+    asked: Asked,
+    bytes: &[u8],
+    taken: Taken,
+) -> Result<(), AllocError>
+    requires { IsFrame bytes.now }
+    ensures { OnOk result (acts.new.items ≡ acts.old.items ++ words.listed_acts opcode asked taken bytes.now) }
+{
+    match (opcode, taken) {
+        (Opcode::Readdirplus, Taken::Accepted) if u32_at(bytes, 4) == 0 => {
+            write_records(acts, false, asked, EntryRecords::over(&bytes[16..]))
+        }
+        _ => Ok(()),
+    }
+}
+
 /// A reply to a request of an opcode that waits. Returns what is known after it.
 fn write_answered<A: Allocator + Copy>(
     acts: &mut Vec<Act, A>,
@@ -145,7 +165,8 @@ fn write_answered<A: Allocator + Copy>(
         }
         Err(_) => {
             write(acts, Act::Faulty(Fault::BodyOfAnotherRequest))?;
-            write_replied(acts, unique, taken, fit)?;
+            write_replied(acts, unique, taken, fit_of_another(fit))?;
+            write_listed(acts, opcode, asked, bytes, taken)?;
             Ok(known)
         }
     }

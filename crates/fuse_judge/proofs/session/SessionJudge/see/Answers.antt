@@ -1,5 +1,6 @@
 use Rattle.std.proofs.Common.{sym}
-use Rattle.fuse_sessions.proofs.FrameLaws.{acts_once, lead-more}
+use Rattle.fuse_sessions.proofs.FrameLaws.{lead-more}
+use Rattle.fuse_judge.proofs.TransferLaws.{judged_once}
 use Rattle.fuse_judge.proofs.session.SessionJudge.see.Goals as goal
 
 pub returns-clause-judged : goal.returns-clause-judged
@@ -7,7 +8,7 @@ returns-clause-judged g c = rw (← c.self.view_is) (λ before s right.
     let are = c.in_ok-known.ensures s _ c.reply_number.ensures (sym (c.waiting-asked.ensures s right.seen)) in
     record {
       are = are;
-      once = λ others later them. acts_once _ s _ others _ later _ them are;
+      once = λ others later them. judged_once before s _ _ _ others _ later right are them;
       faults = rw c.deref.ensures.value at c.in_ok-see.ensures.verdicts s right.seen;
       each = rw c.deref.ensures.value at c.in_ok-see.ensures.len;
       seen = record {

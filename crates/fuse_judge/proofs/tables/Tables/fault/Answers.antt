@@ -1,6 +1,10 @@
 use Rattle.fuse_judge.proofs.PendingLaws.{pending_waiting}
 use Rattle.fuse_judge.proofs.tables.Tables.fault.Goals as goal
 
+pub returns-in-Resent : goal.returns-in-Resent
+returns-in-Resent g c = λ s are. rw c.in-Resent.is
+    (c.fault_of_resent.ensures s (pending_waiting s _ _ _ are.right_pending))
+
 pub returns-in-Interrupts : goal.returns-in-Interrupts
 returns-in-Interrupts g c = λ s are. rw c.in-Interrupts.is
     (c.fault_of_interrupt.ensures s (pending_waiting s _ _ _ are.right_pending)
