@@ -409,7 +409,11 @@ def files_that_are_not_opened():
     s.read(request("READDIR", 14, 1, read_body(0)), "kernel: file handle that is not open: node 1 file handle 0")
     s.ask("OPENDIR", 16, 1, numbers("II", 0, 0), error=ENOSYS)
     s.ask("READDIR", 18, 1, read_body(0))
-    return s, s.end(entries=1)
+    # what CREATE opened is used, and not released
+    s.ask("CREATE", 20, 1, numbers("IIII", 0, 0o644, 0, 0) + text("b"), entry(3, 30) + opened(5))
+    s.ask("READ", 22, 3, read_body(5))
+    s.read(request("FORGET", 24, 3, numbers("Q", 1)))
+    return s, s.end(entries=2, forgotten=1)
 
 
 def writes_cut_short():
@@ -538,7 +542,11 @@ def entries():
     # a size of 2^63 and more is no fault, and not certain either
     s.ask("LOOKUP", 24, 1, text("f"), entry(6, 60, size=2**63))
     s.ask("LOOKUP", 26, 1, text("f"), entry(6, 61, size=2**63))
-    return s, s.end(entries=6, forgotten=3)
+    # of what file a node is, the first entry says that counts for certain
+    s.ask("LOOKUP", 28, 1, text("f"), entry(6, 62))
+    s.ask("LOOKUP", 30, 1, text("f"), entry(6, 62))
+    s.ask("LOOKUP", 32, 1, text("f"), entry(6, 63), faults=("server: node of two inode numbers: node 6 generation 0 inode 63",))
+    return s, s.end(entries=9, forgotten=3)
 
 
 def entries_of_another_kind():

@@ -1,5 +1,5 @@
 -- The counts of nodes, with one more act.
-use Rattle.std.proofs.Common.{◌≡◌, ◌≢◌, ◌≤◌, ◌<◌, ℕ, ◌+◌, ◌-◌, ◌*◌, Bool, true, false, [], ◌∷◌, ◌++◌, length, Option, Some, None, refl, sym, ◌∙◌, ap, subst, arith, nat_eq, inl, inr, List}
+use Rattle.std.proofs.Common.{◌≡◌, ◌≢◌, ◌≤◌, ◌<◌, ℕ, ◌+◌, ◌-◌, ◌*◌, Bool, true, false, cond, [], ◌∷◌, ◌++◌, length, Option, Some, None, refl, sym, ◌∙◌, ap, subst, arith, rules, nat_eq, inl, inr, List}
 use Rattle.std.specs.Prelude.{sum_by}
 use Rattle.std.proofs.lemmas.Bool.{cases_eq}
 use Rattle.fuse_spec.specs.Values.Maps.{Map, get, put, remove}
@@ -10,7 +10,7 @@ use Rattle.fuse_sessions.specs.Sessions.{Session, moments, latest, or_earlier, l
 use Rattle.fuse_sessions.specs.Counts.{gives_least, gives_most, forgets_of, least_count, most_count, first_file, known}
 use Rattle.fuse_sessions.proofs.Laws.{left-more, latest-more, moments-more}
 use Rattle.fuse_judge.specs.declared.nodes.NodeRow.{NodeRow}
-use Rattle.fuse_judge.specs.Nodes.{LeavesNode, IsCounted, IsNode, AreNodes}
+use Rattle.fuse_judge.specs.Nodes.{LeavesNode, file_given, IsCounted, IsNode, AreNodes}
 use Rattle.fuse_judge.specs.Tallies.{one_if}
 use Rattle.fuse_judge.proofs.Keys.{same, differ, all_after_put, all_after_remove}
 use Rattle.fuse_judge.proofs.PendingLaws.{sum_small, one_small}
@@ -41,13 +41,19 @@ other_node s a q o no_least no_most no_less no_file = by o
       within = is.within;
       least = least ∙ is.least;
       most = most ∙ is.most;
-      file = rw (known-more s a q, no_file) is.file;
+      file = λ some. rw (known-more s a q, no_file) (is.file some);
     }
 
 pub left_alone : (s : Session) (a : Act) (nodes : Map NodeRow) → ((q : ℕ) → LeavesNode q a) → AreNodes s nodes
     → AreNodes (s ++ a ∷ []) nodes
 left_alone s a nodes is are q =
     other_node s a q (get nodes q) (is q).least (is q).most (is q).forgets ((is q).file s) (are q)
+
+equal : (a b : ℕ) → nat_eq a b ≡ true → a ≡ b
+equal a b e = grind (arith, rules, e)
+
+positive : (a : ℕ) → nat_eq a 0 ≡ false → 0 < a
+positive a e = grind (arith, rules, e)
 
 -- A node is given.
 module _ (s : Session) (nodes : Map NodeRow) (n : ℕ) (file : File) (c : Bool) (are : AreNodes s nodes) where
@@ -58,6 +64,10 @@ module _ (s : Session) (nodes : Map NodeRow) (n : ℕ) (file : File) (c : Bool) 
   none_given : (q : ℕ) (b : Bool) → n ≢ q → gives_least q (Gives n file b) ≡ 0
   none_given q true ne = ap one_if (differ n q ne)
   none_given q false ne = refl
+
+  no_file_given : (q : ℕ) (b : Bool) → n ≢ q → first_file q (s, Gives n file b) ≡ None
+  no_file_given q true ne = rw (differ n q ne) refl
+  no_file_given q false ne = refl
 
   least_given : least_count (s ++ Gives n file c ∷ []) n ≡ least_count s n + one_if c
   least_given =
@@ -74,7 +84,24 @@ module _ (s : Session) (nodes : Map NodeRow) (n : ℕ) (file : File) (c : Bool) 
 
   others_given : (q : ℕ) → n ≢ q → IsNode (s ++ Gives n file c ∷ []) q (get nodes q)
   others_given q ne = other_node s (Gives n file c) q (get nodes q) (none_given q c ne) (ap one_if (differ n q ne)) refl
-      (rw (differ n q ne) refl) (are q)
+      (no_file_given q c ne) (are q)
+
+  file_first : (b : Bool) → least_count s n ≡ 0 → 0 < one_if b → known (s ++ Gives n file b ∷ []) n ≡ Some file
+  file_first true none some = rw (known-more s (Gives n file true) n, same n, none) refl
+  file_first false none some = absurd (omega (arith, some))
+
+  file_more : (b : Bool) (row : NodeRow) (h : Bool) → nat_eq row.least 0 ≡ h → least_count s n ≡ row.least
+      → (0 < row.least → known s n ≡ Some row.file) → 0 < row.least + one_if b
+      → known (s ++ Gives n file b ∷ []) n ≡ Some (cond h file row.file)
+  file_more true row true e least was some =
+      let none : least_count s n ≡ 0 = least ∙ equal row.least 0 e in
+      rw (known-more s (Gives n file true) n, same n, none) refl
+  file_more false row true e least was some =
+      let none : row.least ≡ 0 = equal row.least 0 e in absurd (omega (arith, none, some))
+  file_more true row false e least was some =
+      let not_none : nat_eq (least_count s n) 0 ≡ false = ap (λ k. nat_eq k 0) least ∙ e in
+      rw (known-more s (Gives n file true) n, same n, not_none) (was (positive row.least e))
+  file_more false row false e least was some = rw (known-more s (Gives n file false) n) (was (positive row.least e))
 
   pub gave_first : get nodes n ≡ None
       → AreNodes (s ++ Gives n file c ∷ []) (put nodes n (record { least = one_if c; most = 1; file = file }))
@@ -87,28 +114,30 @@ module _ (s : Session) (nodes : Map NodeRow) (n : ℕ) (file : File) (c : Bool) 
         within = small;
         least = omega (arith, least_given, is.0);
         most = omega (arith, most_given, is.1);
-        file = rw (known-more s (Gives n file c) n, same n, is.1) refl;
+        file = file_first c is.0;
       })
       others_given
 
   pub gave_more : (row : NodeRow) → get nodes n ≡ Some row → AreNodes (s ++ Gives n file c ∷ [])
-      (put nodes n (record { least = row.least + one_if c; most = row.most + 1; file = row.file }))
+      (put nodes n (record { least = row.least + one_if c; most = row.most + 1; file = file_given row file }))
   gave_more row there =
       let is : IsCounted s n row = subst (IsNode s n) there (are n) in
       let small : one_if c ≤ 1 = one_small c in
-      let some : most_count s n ≢ 0 = omega (arith, is.some, is.most) in
       all_after_put (IsNode (s ++ Gives n file c ∷ [])) nodes n _
       (record {
         some = omega arith;
         within = omega (arith, is.within, small);
         least = least_given ∙ ap (λ k. k + one_if c) is.least;
         most = most_given ∙ ap (λ k. k + 1) is.most;
-        file = rw (known-more s (Gives n file c) n, same n, differ (most_count s n) 0 some) is.file;
+        file = file_more c row (nat_eq row.least 0) refl is.least is.file;
       })
       others_given
 
 -- A node is forgotten.
 module _ (s : Session) (nodes : Map NodeRow) (n lookups : ℕ) (are : AreNodes s nodes) where
+  more_before : (a : ℕ) → 0 < a - lookups → 0 < a
+  more_before a some = omega (arith, some)
+
   least_left : least_count (s ++ Forgets n lookups ∷ []) n ≡ least_count s n - lookups
   least_left =
       let more : least_count (s ++ Forgets n lookups ∷ []) n ≡ least_count s n + 0 - forgets_of n (Forgets n lookups)
@@ -145,7 +174,7 @@ module _ (s : Session) (nodes : Map NodeRow) (n lookups : ℕ) (are : AreNodes s
         within = omega (arith, is.within);
         least = least_left ∙ ap (λ k. k - lookups) is.least;
         most = most_left ∙ ap (λ k. k - lookups) is.most;
-        file = rw (known-more s (Forgets n lookups) n) is.file;
+        file = λ left_some. rw (known-more s (Forgets n lookups) n) (is.file (more_before row.least left_some));
       })
       others_left
 

@@ -1,8 +1,9 @@
 -- The nodes that are counted.
-use Rattle.std.specs.Prelude.{◌≡◌, ◌<◌, ◌≤◌, ℕ, Option, Some, None}
+use Rattle.std.specs.Prelude.{◌≡◌, ◌<◌, ◌≤◌, ℕ, Option, Some, None, nat_eq, if◌then◌else◌}
 use Rattle.fuse_spec.specs.Values.Maps.{Map, get}
 use Rattle.fuse_sessions.specs.declared.act.Act.{Act}
 use Rattle.fuse_sessions.specs.declared.act.Act.TheVariants as act
+use Rattle.fuse_sessions.specs.declared.act.File.{File}
 use Rattle.fuse_sessions.specs.Sessions.{Session}
 use Rattle.fuse_sessions.specs.Counts.{gives_least, gives_most, forgets_of, least_count, most_count, first_file, known}
 use Rattle.fuse_judge.specs.declared.node_change.NodeChange.{NodeChange}
@@ -22,13 +23,17 @@ IsNodeChange a change.Nothing = (node : ℕ) → LeavesNode node a
 IsNodeChange a (change.Gives node file is_certain) = a ≡ act.Gives node file is_certain
 IsNodeChange a (change.Forgets node lookups) = a ≡ act.Forgets node lookups
 
+-- the file of a row, once an entry gives one
+abbrev pub file_given : NodeRow → File → File
+file_given row file = if nat_eq row.least 0 then file else row.file
+
 -- A row of a node that may be counted.
 pub record IsCounted (s : Session) (node : ℕ) (row : NodeRow) : Type 0 where
   pub some : 0 < row.most
   pub within : row.least ≤ row.most
   pub least : least_count s node ≡ row.least
   pub most : most_count s node ≡ row.most
-  pub file : known s node ≡ Some row.file
+  pub file : 0 < row.least → known s node ≡ Some row.file
 
 -- This is true of the node: no row stands for one that is not counted.
 abbrev pub IsNode : Session → ℕ → Option NodeRow → Type 0

@@ -7,6 +7,7 @@ ghost use Rattle.fuse_sessions.specs.Sessions.{Session};
 ghost use Rattle.fuse_sessions.specs.Counts.{most_count};
 ghost use Rattle.fuse_sessions.specs.Faults.{BreaksName, BreaksForget, BreaksGift, BreaksAttributes, IsInUse};
 ghost use Rattle.fuse_judge.specs.declared.nodes.NodeRow.{NodeRow};
+ghost use Rattle.fuse_judge.specs.Nodes as words;
 ghost use Rattle.fuse_judge.specs.Nodes.{AreNodes};
 ghost use Rattle.fuse_judge.specs.Tallies.{one_if};
 ghost use Rattle.fuse_judge.specs.Verdicts.{IsFault};
@@ -151,7 +152,14 @@ fn certainly(is_certain: bool) -> u64
     if is_certain { 1 } else { 0 }
 }
 
-/// An entry gives a node. A node that may be counted stays of the file that it is of.
+/// The file of a row, once an entry gives one.
+fn file_given(row: NodeRow, file: File) -> File
+    ensures { result ≡ words.file_given row file }
+{
+    if row.least == 0 { file } else { row.file }
+}
+
+/// An entry gives a node. A node that is counted for certain stays of the file that it is of.
 fn give<A: Allocator + Copy>(
     nodes: &mut RisingTable<NodeRow, A>,
     node: u64,
@@ -176,7 +184,7 @@ fn give<A: Allocator + Copy>(
     let more = NodeRow {
         least: row.least + certainly(is_certain),
         most: row.most + 1,
-        ..*row
+        file: file_given(*row, file),
     };
     write(nodes, node, more);
 }

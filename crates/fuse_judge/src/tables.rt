@@ -97,7 +97,7 @@ impl<A: Allocator + Copy> Tables<A> {
     {
         let named = is_named(&self.pending, node);
         let opened = has_open(&self.opens, node);
-        named | opened
+        named | (opened & !self.flags.opens_no_files)
     }
 
     /// The fault of the next act, if it has one.

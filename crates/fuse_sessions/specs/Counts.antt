@@ -28,12 +28,12 @@ least_count s node = left (gives_least node) (forgets_of node) s
 abbrev pub most_count : Session → ℕ → ℕ
 most_count s node = left (gives_most node) (forgets_of node) s
 
--- the file that a node has from a moment on: an entry gives it, and it was not counted before
+-- the file that a node has from a moment on: an entry that counts for certain gives it, and none did before
 abbrev pub first_file : ℕ → Moment → Option File
-first_file node (before, Gives other file is_certain) =
-    if nat_eq other node && nat_eq (most_count before node) 0 then Some file else None
+first_file node (before, Gives other file true) =
+    if nat_eq other node && nat_eq (least_count before node) 0 then Some file else None
 first_file node (before, act) = None
 
--- The file that a node is of: that of the entry by which it was last counted first.
+-- The file that a node is of, while it is counted for certain: that of the entry by which it last was first.
 abbrev pub known : Session → ℕ → Option File
 known s node = latest (first_file node) (moments s)

@@ -10,6 +10,7 @@ use Rattle.fuse_sessions.specs.declared.act.File.{File}
 use Rattle.fuse_sessions.specs.declared.act.Fit.{Fit}
 use Rattle.fuse_sessions.specs.declared.act.Fit.TheVariants as fit
 use Rattle.fuse_sessions.specs.declared.act.OpenFile.{OpenFile}
+use Rattle.fuse_sessions.specs.declared.act.OpenKind.TheVariants as kind
 use Rattle.fuse_sessions.specs.declared.act.Taken.{Taken}
 use Rattle.fuse_sessions.specs.declared.act.Taken.TheVariants as taken
 use Rattle.fuse_sessions.specs.declared.fault.Fault.{Fault}
@@ -18,7 +19,7 @@ use Rattle.fuse_sessions.specs.Sessions.{Session, latest}
 use Rattle.fuse_sessions.specs.Waiting.{waits, is_named, is_used}
 use Rattle.fuse_sessions.specs.Numbers.{was_read, was_forget, is_out_of_order, was_anything_read, has_agreed, has_several_readers, has_several_threads, interrupts, agains, has_ended, is_surely_over}
 use Rattle.fuse_sessions.specs.Counts.{least_count, most_count, known}
-use Rattle.fuse_sessions.specs.OpenFiles.{opened, MayUse, HasOpen}
+use Rattle.fuse_sessions.specs.OpenFiles.{opened, has_none, MayUse, HasOpen}
 
 -- The first request is INIT, there is no other, and none comes before INIT is accepted.
 abbrev pub BreaksBeginning : Session → Opcode → Fault → Type 0
@@ -56,9 +57,10 @@ abbrev pub BreaksName : Session → ℕ → Fault → Type 0
 BreaksName s node fault.NodeNotCounted = (node ≢ 1) × (most_count s node ≡ 0)
 BreaksName s node f = ⊥
 
--- Something uses a node: a request that waits names it, or it is open.
+-- Something uses a node: a request that waits names it, or it is open. Where the server opens no files, what CREATE opened
+-- is never released. (linux/fs/fuse/file.c, `fuse_file_alloc`)
 abbrev pub IsInUse : Session → ℕ → Type 0
-IsInUse s node = IsTrue (is_named s node) ⊎ HasOpen s node
+IsInUse s node = IsTrue (is_named s node) ⊎ (IsFalse (has_none s kind.File) × HasOpen s node)
 
 -- The root is never forgotten; a forget is of some lookups, of no more than are counted, and of the last ones only where
 -- nothing uses the node. (libfuse, low-level: forget)

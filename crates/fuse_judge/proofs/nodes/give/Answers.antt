@@ -9,6 +9,6 @@ returns-in_default-clause-kept g c = λ s are. rw (c.write.ensures.entries, c.ce
     (sym c.get.ensures ∙ ap option_copied c.in_default.is))
 
 pub returns-clause-kept : goal.returns-clause-kept
-returns-clause-kept g c = λ s are. rw (c.write-2.ensures.entries, c.certainly-2.ensures.value)
+returns-clause-kept g c = λ s are. rw (c.write-2.ensures.entries, c.certainly-2.ensures.value, c.file_given.ensures)
     (gave_more s c.args.nodes.now.entries c.args.node c.args.file c.args.is_certain are c.in-Some.row.now
     (sym c.get.ensures ∙ ap option_copied c.in-Some.is))
