@@ -24,6 +24,8 @@ complete -c fuseworld -n '__fish_seen_subcommand_from reply' -a 'LOOKUP GETATTR 
 complete -c fuseworld -n __fish_use_subcommand -a decode -d 'Print the frames of a capture in words'
 complete -c fuseworld -n __fish_use_subcommand -a check -d 'Judge a capture'
 complete -c fuseworld -n '__fish_seen_subcommand_from decode' -l help -d 'Print help'
+complete -c fuseworld -n '__fish_seen_subcommand_from check' -l server -d 'Print the faults of the server alone'
+complete -c fuseworld -n '__fish_seen_subcommand_from check' -l kernel -d 'Print the faults of the kernel alone'
 complete -c fuseworld -n '__fish_seen_subcommand_from check' -l help -d 'Print help'
 
 complete -c fuseworld -n __fish_use_subcommand -a vectors -d 'Print frames of each kind with the codec\'s verdicts'

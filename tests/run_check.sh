@@ -7,11 +7,20 @@ set -u
 cd "$(dirname "$0")/.." || exit 1
 . tests/judge.sh
 
-# judged NAME STATUS FILE: compares what `check` prints of a capture with what stands in the file, and standard error with
-# nothing.
+# judged NAME STATUS FILE OPTION..: compares what `check` prints of a capture with want-out, and standard error with want-err.
 judged() {
-    "$program" check "$3" < /dev/null > "$work/out" 2> "$work/err"
-    judge "$1" $? "$2"
+    name=$1
+    status=$2
+    shift 2
+    "$program" check "$@" < /dev/null > "$work/out" 2> "$work/err"
+    judge "$name" $? "$status"
+}
+
+# party_alone FILE PARTY OTHER: what is wanted of one party alone, by the lines that are wanted of all. A fault of another
+# party is neither printed nor counted.
+party_alone() {
+    grep "^line [0-9]*: $2: " "$1"
+    sed -n "/^requests /p; /^faults: /s/\\($3\\|device\\) [0-9]*/\\1 0/gp" "$1"
 }
 
 : > "$work/want-err"
@@ -28,6 +37,35 @@ for capture in tests/sessions/*.capture; do
     tail -n 1 "$expected" | grep -qx "faults: kernel 0 server 0 device 0" && status=0
     judged "$capture" "$status" "$capture"
 done
+
+# One party alone.
+for expected in tests/sessions/*.expected; do
+    capture=${expected%.expected}.capture
+    for pair in "server kernel" "kernel server"; do
+        party=${pair% *}
+        party_alone "$expected" "$party" "${pair#* }" > "$work/want-out"
+        status=0
+        grep -q "^line " "$work/want-out" && status=6
+        judged "$capture with --$party" "$status" "$capture" "--$party"
+    done
+done
+cat > "$work/want-out" <<END
+line 4: server: reply to nothing: unique 90
+line 7: server: second reply: unique 4
+line 9: server: body that is not its request's
+requests 5 replies 7 notifications 0 refused 2 entries 0 forgotten 0
+faults: kernel 0 server 3 device 0
+END
+judged "the server where all parties have faults" 6 --server tests/sessions/device.capture
+cat > "$work/want-out" <<END
+requests 5 replies 7 notifications 0 refused 2 entries 0 forgotten 0
+faults: kernel 0 server 0 device 0
+END
+judged "the kernel where the others have faults" 0 --kernel tests/sessions/device.capture
+: > "$work/want-out"
+echo "error: --server and --kernel exclude each other" > "$work/want-err"
+judged "two parties alone" 2 --server --kernel tests/sessions/device.capture
+: > "$work/want-err"
 
 # Each rule is broken somewhere.
 cat tests/sessions/*.expected | sed -n 's/^line [0-9]*: \([a-z]*: [^:]*\).*/\1/p' | sort -u | wc -l > "$work/out"

@@ -32,8 +32,8 @@ at_end status = among (1 ∷ 3 ∷ 5 ∷ []) scripts status
 -- 3 is one of a command on a capture
 pub is_out_of_memory : (task : CaptureTask) (status : ℕ) → status ≡ 3 → Contains (capture_statuses task) status
 is_out_of_memory capture.Decode status is = (2, omega arith, sym is)
-is_out_of_memory capture.Check status is = (2, omega arith, sym is)
+is_out_of_memory (capture.Check o) status is = (2, omega arith, sym is)
 
 pub is_unreadable : (task : CaptureTask) (status : ℕ) → status ≡ 1 → Contains (capture_statuses task) status
 is_unreadable capture.Decode status is = (1, omega arith, sym is)
-is_unreadable capture.Check status is = (1, omega arith, sym is)
+is_unreadable (capture.Check o) status is = (1, omega arith, sym is)

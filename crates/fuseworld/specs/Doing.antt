@@ -1,10 +1,13 @@
 -- What doing a task comes to, once its input and its output are open.
 use Rattle.std.specs.Prelude.{ℕ, List, Option}
+use Rattle.fw_check.specs.Endings.{EndsCheck}
 use Rattle.fw_draw.specs.Endings.{EndsDrawing}
 use Rattle.fw_frames.specs.Endings.{EndsFrame, EndsReply}
 use Rattle.fw_script.specs.Endings.{EndsScript}
 use Rattle.fw_script.specs.Scripts.{IsRunOf}
 use Rattle.fw_vectors.specs.Vectors.{EndsVectors}
+use Rattle.fuseworld.specs.declared.capture.CaptureTask.{CaptureTask}
+use Rattle.fuseworld.specs.declared.capture.CaptureTask.TheVariants as capture
 use Rattle.fuseworld.specs.declared.doing.InputTask.{InputTask}
 use Rattle.fuseworld.specs.declared.doing.InputTask.TheVariants as task
 
@@ -18,3 +21,10 @@ Does A out faults (task.Picture name) = EndsDrawing out faults name.now
 Does A out faults (task.Frame hex words) = λ input old new before after. EndsFrame out words hex.now old new
 Does A out faults (task.Reply name hex) = λ input old new before after. EndsReply out name.now hex.now old new
 Does A out faults task.Vectors = λ input old new before after. EndsVectors out old new
+
+-- The same of a task on a capture. Nothing is said of what `decode` prints.
+abbrev pub DoesCapture : {W F : Type 0} → (out : W → Option (List ℕ)) → (faults : F → Option (List ℕ)) → CaptureTask
+    → (name : List ℕ) → (input : Option (List ℕ)) → (old_out new_out : W) → (old_faults new_faults : F) → (status : ℕ)
+    → Type 0
+DoesCapture out faults capture.Decode = λ name input old new before after status. Unit {0}
+DoesCapture out faults (capture.Check o) = EndsCheck out faults o

@@ -1,12 +1,14 @@
 -- The exit statuses of the program.
-use Rattle.std.specs.Prelude.{◌≡◌, ◌⊎◌, ℕ, List, [], ◌∷◌, Contains}
+use Rattle.std.specs.Prelude.{◌≡◌, ◌⊎◌, ℕ, List, [], ◌∷◌, Option, Some, None, Contains}
 use Rattle.clap.specs.Words.{App, IsAmong, Text, fault_of, subcommand_of}
 use Rattle.clap.specs.declared.error.kind.ErrorKind.{ErrorKind}
 use Rattle.clap.specs.declared.error.kind.ErrorKind.TheVariants.{DisplayVersion, OutOfMemory}
-use Rattle.fuseworld.specs.Tasks.{AsksFor}
+use Rattle.fw_check.specs.declared.options.CheckOptions.{CheckOptions}
+use Rattle.fuseworld.specs.Tasks.{AsksFor, options_of}
 use Rattle.fuseworld.specs.Values.{IsOffer}
 use Rattle.fuseworld.specs.declared.capture.CaptureTask.{CaptureTask}
 use Rattle.fuseworld.specs.declared.capture.CaptureTask.TheVariants as capture
+use Rattle.fuseworld.specs.declared.check_words.CheckTask.{CheckTask}
 use Rattle.fuseworld.specs.declared.command.Task.{Task}
 use Rattle.fuseworld.specs.declared.command.Task.TheVariants as task
 use Rattle.fuseworld.specs.declared.doing.InputTask.{InputTask}
@@ -25,14 +27,22 @@ input_statuses input.Vectors = 0 ∷ 3 ∷ 5 ∷ []
 -- the exit statuses of a command on a capture
 abbrev pub capture_statuses : CaptureTask → List ℕ
 capture_statuses capture.Decode = 0 ∷ 1 ∷ 3 ∷ 5 ∷ []
-capture_statuses capture.Check = 0 ∷ 1 ∷ 3 ∷ 5 ∷ 6 ∷ []
+capture_statuses (capture.Check o) = 0 ∷ 1 ∷ 3 ∷ 5 ∷ 6 ∷ []
+
+-- the exit statuses of a check: 2 where two parties alone are asked for
+abbrev pub statuses_with : Option CheckOptions → List ℕ
+statuses_with None = 2 ∷ []
+statuses_with (Some o) = capture_statuses (capture.Check o)
+
+abbrev pub check_statuses : CheckTask → List ℕ
+check_statuses t = statuses_with (options_of t)
 
 -- the exit statuses of a command on frames
 abbrev pub frame_statuses : FrameTask → List ℕ
 frame_statuses (frame.Frame hex words) = 0 ∷ 1 ∷ 3 ∷ 5 ∷ []
 frame_statuses (frame.Reply name hex) = 0 ∷ 1 ∷ 2 ∷ 3 ∷ 5 ∷ []
 frame_statuses (frame.Decode file) = 0 ∷ 1 ∷ 3 ∷ 5 ∷ []
-frame_statuses (frame.Check file) = 0 ∷ 1 ∷ 3 ∷ 5 ∷ 6 ∷ []
+frame_statuses (frame.Check t) = check_statuses t
 frame_statuses frame.Vectors = 0 ∷ 3 ∷ 5 ∷ []
 
 -- a run of the task may end with this exit status

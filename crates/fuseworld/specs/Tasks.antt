@@ -6,12 +6,15 @@ use Rattle.clap.specs.Words.{App, HasKind, Row, Text, fault_of, first_of, subcom
 use Rattle.clap.specs.declared.error.Error.{Error}
 use Rattle.fuse_spec.specs.declared.Minor.{Minor}
 use Rattle.fuse_spec.specs.declared.Minor.TheVariants.{M15, M31}
+use Rattle.fuse_sessions.specs.declared.fault.Party.TheVariants as party
+use Rattle.fw_check.specs.declared.options.CheckOptions.{CheckOptions}
 use Rattle.fw_drive.specs.declared.Form.{Form}
 use Rattle.fw_drive.specs.declared.Form.TheVariants.{Events, Calls, CallsBeside}
 use Rattle.fw_sides.specs.declared.Form.{Form as Print}
 use Rattle.fw_sides.specs.declared.Form.TheVariants.{Words, Json}
 use Rattle.fuseworld.specs.Commands.{longest}
 use Rattle.fuseworld.specs.Values.{text_of, is_set, number_of}
+use Rattle.fuseworld.specs.declared.check_words.CheckTask.{CheckTask}
 use Rattle.fuseworld.specs.declared.command.Task.{Task}
 use Rattle.fuseworld.specs.declared.command.Task.TheVariants as task
 use Rattle.fuseworld.specs.declared.drive.DriveTask.{DriveTask}
@@ -21,6 +24,22 @@ use Rattle.fuseworld.specs.declared.serve.ServeTask.{ServeTask}
 use Rattle.fuseworld.specs.declared.sides.SideTask.{SideTask}
 use Rattle.fuseworld.specs.declared.sides.SideTask.TheVariants as side
 
+-- the judge of a capture
+pub record AsksCheck (rows : List Row) (t : CheckTask) : Type 0 where
+  pub file : option_map (λ text. text.now) t.file ≡ first_of (codes "FILE") rows
+  pub server : t.server ≡ is_set (codes "server") rows
+  pub kernel : t.kernel ≡ is_set (codes "kernel") rows
+
+-- what is asked of it: one party alone or all, and not two alone
+abbrev pub asked_parties : (server kernel : Bool) → Option CheckOptions
+asked_parties true true = None
+asked_parties true false = Some (record { only = Some party.Server })
+asked_parties false true = Some (record { only = Some party.Kernel })
+asked_parties false false = Some (record { only = None })
+
+abbrev pub options_of : CheckTask → Option CheckOptions
+options_of t = asked_parties t.server t.kernel
+
 -- a command on frames
 abbrev pub AsksFrame : Text → List Row → FrameTask → Type 0
 AsksFrame name rows (frame.Frame hex words) =
@@ -29,8 +48,7 @@ AsksFrame name rows (frame.Reply opcode hex) =
     (name ≡ codes "reply") × (opcode.now ≡ text_of (codes "OPNAME") rows) × (hex.now ≡ text_of (codes "HEX") rows)
 AsksFrame name rows (frame.Decode file) =
     (name ≡ codes "decode") × (option_map (λ text. text.now) file ≡ first_of (codes "FILE") rows)
-AsksFrame name rows (frame.Check file) =
-    (name ≡ codes "check") × (option_map (λ text. text.now) file ≡ first_of (codes "FILE") rows)
+AsksFrame name rows (frame.Check t) = (name ≡ codes "check") × AsksCheck rows t
 AsksFrame name rows frame.Vectors = name ≡ codes "vectors"
 
 -- the minor that `--minor` names

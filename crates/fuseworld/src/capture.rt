@@ -1,14 +1,20 @@
 //! The commands on captures: `decode` and `check`.
 
-ghost use Rattle.std.specs.Prelude.{◌∷◌, [], Contains};
+ghost use Rattle.std.specs.Prelude.{Contains, codes};
+ghost use Rattle.clap.specs.Words.{new_rule};
+ghost use Rattle.fuseworld.specs.Arguments.{IsArgument};
+ghost use Rattle.fuseworld.specs.Doing.{DoesCapture};
 ghost use Rattle.fuseworld.specs.Statuses.{capture_statuses};
 
-use fw_check::run_check;
+use crate::arguments::optional;
+use clap::Arg;
+use fw_check::{CheckOptions, run_check};
 use fw_decode::run_decode;
 use fw_script::{cannot_read, no_memory};
+use std::alloc::{Allocator, Global};
 use std::fs::File;
 use std::io;
-use std::io::{BufRead, BufReader, BufWriter, ErrorKind};
+use std::io::{BufRead, BufReader, BufWriter, ErrorKind, Write};
 
 /// What is done with a capture.
 #[derive(Clone, Copy)]
@@ -16,7 +22,37 @@ pub enum CaptureTask {
     /// Its frames are printed in words.
     Decode,
     /// It is judged.
-    Check,
+    Check(CheckOptions),
+}
+
+/// The argument that is a capture.
+pub fn capture_argument<'a>(alloc: Global) -> Arg<'a>
+    ensures { IsArgument (new_rule (codes "FILE")) result }
+{
+    optional(
+        alloc,
+        "FILE",
+        "The capture: `>` and a request, or `<` and a reply, in hex, a line each",
+    )
+}
+
+/// Does a task on a capture, and gives the exit status: what `run_decode` and `run_check` give.
+fn do_capture<A: Allocator + Copy, R: BufRead, W: Write, F: Write>(
+    alloc: A,
+    task: CaptureTask,
+    name: &str,
+    input: &mut R,
+    out: &mut W,
+    faults: &mut F,
+) -> u8
+    ensures statuses { Contains (capture_statuses task) result }
+    ensures does { DoesCapture W.contents F.contents task name.now (R.remaining input.old) out.old out.new faults.old
+        faults.new result }
+{
+    match task {
+        CaptureTask::Decode => run_decode(alloc, name, input, out, faults),
+        CaptureTask::Check(options) => run_check(alloc, options, name, input, out, faults),
+    }
 }
 
 /// Says why a capture is not read, and gives the exit status.
@@ -38,10 +74,7 @@ fn read_lines<R: BufRead>(rt: &HostRuntime, task: CaptureTask, name: &str, input
     let Ok(mut out) = BufWriter::new(alloc, io::writer(rt)) else {
         return no_memory(&mut faults);
     };
-    match task {
-        CaptureTask::Decode => run_decode(alloc, name, input, &mut out, &mut faults),
-        CaptureTask::Check => run_check(alloc, name, input, &mut out, &mut faults),
-    }
+    do_capture(alloc, task, name, input, &mut out, &mut faults)
 }
 
 /// Opens the file of a capture.

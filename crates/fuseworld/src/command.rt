@@ -6,11 +6,11 @@ ghost use Rattle.fuseworld.specs.Commands.{AreMinors, IsCommand, IsProgram, prog
 ghost use Rattle.fuseworld.specs.Tasks.{AsksAt, AsksFor, ReadsTask};
 
 use crate::arguments::{flag, needed};
+use crate::check_words::check_command;
 use crate::draw::draw_command;
 use crate::drive::{DriveTask, drive_command, drive_task};
 use crate::frame_commands::{
-    FrameTask, check_command, decode_command, frame_command, frame_task, reply_command,
-    vectors_command,
+    FrameTask, decode_command, frame_command, frame_task, reply_command, vectors_command,
 };
 use crate::serve::ServeTask;
 use crate::serve_words::{serve_command, serve_task};

@@ -1,14 +1,15 @@
 //! The commands on frames: `frame`, `reply`, `decode`, `check` and `vectors`.
 
 ghost use Rattle.std.specs.Prelude.{◌≡◌, ◌∷◌, [], Contains, IfOk, IfNone, IfSome, codes, false};
-ghost use Rattle.clap.specs.Words.{found_of, new_rule, rows_of};
+ghost use Rattle.clap.specs.Words.{found_of, rows_of};
 ghost use Rattle.fuseworld.specs.Arguments.{IsArgument, needed};
-ghost use Rattle.fuseworld.specs.Commands.{IsCommand, frame_app, reply_app, check_app, decode_app, vectors_app};
+ghost use Rattle.fuseworld.specs.Commands.{IsCommand, frame_app, reply_app, decode_app, vectors_app};
 ghost use Rattle.fuseworld.specs.Statuses.{frame_statuses, input_statuses};
 ghost use Rattle.fuseworld.specs.Tasks.{AsksFrame, is_frame_command};
 
-use crate::arguments::{flag, needed, optional};
-use crate::capture::{CaptureTask, run_capture};
+use crate::arguments::{flag, needed};
+use crate::capture::{CaptureTask, capture_argument, run_capture};
+use crate::check_words::{CheckTask, check_task, run_check_task};
 use crate::doing::{InputTask, do_task};
 use crate::values::{is_set, text, text_or_none};
 use clap::{Arg, ArgMatches, Command};
@@ -26,7 +27,7 @@ pub enum FrameTask<'a> {
     /// The capture in a file, or on standard input.
     Decode { file: Option<&'a str> },
     /// The same, judged.
-    Check { file: Option<&'a str> },
+    Check(CheckTask<'a>),
     /// Frames of each kind with the codec's verdicts.
     Vectors,
 }
@@ -66,32 +67,12 @@ pub fn reply_command<'a>(alloc: Global) -> Result<Command<'a>, AllocError>
         .arg(hex_argument(alloc))
 }
 
-/// The argument that is a capture.
-fn capture_argument<'a>(alloc: Global) -> Arg<'a>
-    ensures { IsArgument (new_rule (codes "FILE")) result }
-{
-    optional(
-        alloc,
-        "FILE",
-        "The capture: `>` and a request, or `<` and a reply, in hex, a line each",
-    )
-}
-
 /// The command `decode`.
 pub fn decode_command<'a>(alloc: Global) -> Result<Command<'a>, AllocError>
     ensures { IfOk result (IsCommand decode_app) }
 {
     Command::new(alloc, "decode")
         .about("Print the frames of a capture in words, and the faults in each")
-        .arg(capture_argument(alloc))
-}
-
-/// The command `check`.
-pub fn check_command<'a>(alloc: Global) -> Result<Command<'a>, AllocError>
-    ensures { IfOk result (IsCommand check_app) }
-{
-    Command::new(alloc, "check")
-        .about("Judge a capture: which rule of the protocol is broken, in which line, and by whom")
         .arg(capture_argument(alloc))
 }
 
@@ -117,8 +98,7 @@ pub fn frame_task<'a>(name: &str, matches: &ArgMatches<'a>) -> Option<FrameTask<
         return Some(FrameTask::Decode { file });
     }
     if name == "check" {
-        let file = text_or_none(matches, "FILE");
-        return Some(FrameTask::Check { file });
+        return Some(FrameTask::Check(check_task(matches)));
     }
     let hex = text(matches, "HEX");
     if name == "frame" {
@@ -171,7 +151,7 @@ pub fn run_frame_task(rt: &HostRuntime, task: FrameTask<'_>) -> u8
         FrameTask::Frame { hex, words } => run_one(rt, InputTask::Frame { hex, words }),
         FrameTask::Reply { name, hex } => run_one(rt, InputTask::Reply { name, hex }),
         FrameTask::Decode { file } => run_capture(rt, CaptureTask::Decode, file),
-        FrameTask::Check { file } => run_capture(rt, CaptureTask::Check, file),
+        FrameTask::Check(task) => run_check_task(rt, task),
         FrameTask::Vectors => run_vectors(rt),
     }
 }

@@ -3,6 +3,7 @@
 
 mod arguments;
 mod capture;
+mod check_words;
 mod command;
 mod doing;
 mod draw;

@@ -2,12 +2,15 @@
 use Rattle.std.proofs.Common.{◌≡◌, ◌+◌, ◌⊎◌, ◌++◌, ℕ, Bool, true, false, List, [], ◌∷◌, Option, Some, None, Result, Ok, Err, length, is_err, append_assoc, append-nil, length-append, arith, refl, sym, ap, subst, ◌∙◌, inl, inr}
 use Rattle.std.specs.Prelude.{IfSome, OnOk}
 use Rattle.std.specs.Io.KnownBytes.{Appends}
+use Rattle.fuse_sessions.specs.declared.act.Act.{Act}
+use Rattle.fuse_sessions.specs.declared.fault.Fault.{Fault}
 use Rattle.fuse_sessions.specs.declared.transfer.Transfer.{Transfer}
 use Rattle.fuse_judge.specs.Transfers.{SessionState}
 use Rattle.fuse_capture.specs.declared.line.CaptureLine.{CaptureLine}
 use Rattle.fuse_capture.specs.Lines.{IsPassedOver, LineSays}
 use Rattle.fuse_capture.specs.Readings.{IsTransferOf}
 use Rattle.fw_check.specs.declared.counts.Counts.{Counts}
+use Rattle.fw_check.specs.declared.options.CheckOptions.{CheckOptions}
 use Rattle.fw_check.specs.declared.stop.Stop.{Stop}
 use Rattle.fw_check.specs.declared.stop.Stop.TheVariants.{BadLine, CannotRead, NoMemory, OutputRefused}
 use Rattle.fw_check.specs.Checks.{Judged, Checks, passed_over, says, no_line, nothing_judged, end_text}
@@ -15,7 +18,7 @@ use Rattle.fw_check.specs.Counting.{counts_text}
 use Rattle.fw_check.specs.Endings.{lines_of}
 use Rattle.fw_check.specs.FaultWords.{fault_lines}
 use Rattle.fw_check.specs.Outputs.{AppendsSome}
-use Rattle.fw_check.specs.Running.{AllChecked, AreCounts, CheckEnds, ChecksMore, IsKept, IsTaken, IsUpTo, LineEnds, NextEnds, PrintsEnd, SaidEnds, StopsIn, judged_after}
+use Rattle.fw_check.specs.Running.{AllChecked, AreCounts, CheckEnds, ChecksMore, IsJudgedSo, IsKept, IsTaken, IsUpTo, LineEnds, NextEnds, PrintsEnd, SaidEnds, StopsIn, judged_after}
 use Rattle.fw_check.proofs.Writes.{Appends-append, Appends-nil, some_first, some_then}
 
 -- ---- results
@@ -34,41 +37,53 @@ at_some P o x is h = rw is at h
 
 -- ---- one line
 
-pub line_passed_over : (lines : List (List ℕ)) (j : Judged) (line : List ℕ) → Checks lines j → IsPassedOver line
-    → ChecksMore (lines ++ line ∷ []) j j []
-line_passed_over lines j line checks is = record {
+pub line_passed_over : (o : CheckOptions) (lines : List (List ℕ)) (j : Judged) (line : List ℕ) → Checks o lines j → IsPassedOver line
+    → ChecksMore o (lines ++ line ∷ []) j j []
+line_passed_over o lines j line checks is = record {
   checks = passed_over lines j checks line is;
   text = sym (append-nil j.text);
 }
 
-pub line_said : {T : Type 0} (r : Result T Stop) (lines : List (List ℕ)) (j : Judged) (line : List ℕ) (number : ℕ)
-    (l : CaptureLine) (judge : SessionState) (c : Counts) (had has : Option (List ℕ)) → Checks lines j
+-- the lines with the one that says the transfer
+said_checks : (o : CheckOptions) (lines : List (List ℕ)) (j : Judged) (line : List ℕ) (l : CaptureLine) (acts : List Act)
+    (verdicts : List (Option Fault)) (judge : SessionState) (c : Counts) → Checks o lines j
+    → (so : IsJudgedSo o j l acts verdicts judge c) → LineSays line so.transfer
+    → Checks o (lines ++ line ∷ []) (judged_after j so.transfer acts verdicts judge.known
+    (j.text ++ fault_lines (length lines + 1) acts verdicts))
+said_checks o lines j line l acts verdicts judge c checks so is =
+    subst (λ (vs : List (Option Fault)). Checks o (lines ++ line ∷ []) (judged_after j so.transfer acts vs judge.known
+    (j.text ++ fault_lines (length lines + 1) acts vs)))
+    (sym so.asked)
+    (says lines j checks line so.transfer is acts judge.known so.are so.all so.each so.faults)
+
+pub line_said : {T : Type 0} (o : CheckOptions) (r : Result T Stop) (lines : List (List ℕ)) (j : Judged) (line : List ℕ) (number : ℕ)
+    (l : CaptureLine) (judge : SessionState) (c : Counts) (had has : Option (List ℕ)) → Checks o lines j
     → ((t : Transfer) → IsTransferOf l t → LineSays line t) → number ≡ length lines + 1
-    → SaidEnds j number l judge c r had has → LineEnds lines j line judge c r had has
-line_said (Ok done) lines j line number l judge c had has checks said is (acts, verdicts, so, appends) =
+    → SaidEnds o j number l judge c r had has → LineEnds o lines j line judge c r had has
+line_said o (Ok done) lines j line number l judge c had has checks said is (acts, verdicts, so, appends) =
     let text = j.text ++ fault_lines (length lines + 1) acts verdicts in (
       judged_after j so.transfer acts verdicts judge.known text,
       fault_lines number acts verdicts,
       record {
-        checks = says lines j checks line so.transfer (said so.transfer so.is) acts judge.known so.are verdicts so.each so.faults;
+        checks = said_checks o lines j line l acts verdicts judge c checks so (said so.transfer so.is);
         text = ap (λ n. j.text ++ fault_lines n acts verdicts) (sym is);
       },
       so.kept text,
       appends,
     )
-line_said (Err OutputRefused) lines j line number l judge c had has checks said is (acts, verdicts, so, some) =
+line_said o (Err OutputRefused) lines j line number l judge c had has checks said is (acts, verdicts, so, some) =
     let text = j.text ++ fault_lines (length lines + 1) acts verdicts in (
       judged_after j so.transfer acts verdicts judge.known text,
       fault_lines number acts verdicts,
       record {
-        checks = says lines j checks line so.transfer (said so.transfer so.is) acts judge.known so.are verdicts so.each so.faults;
+        checks = said_checks o lines j line l acts verdicts judge c checks so (said so.transfer so.is);
         text = ap (λ n. j.text ++ fault_lines n acts verdicts) (sym is);
       },
       some,
     )
-line_said (Err NoMemory) lines j line number l judge c had has checks said is h = h
-line_said (Err CannotRead) lines j line number l judge c had has checks said is h = absurd h
-line_said (Err (BadLine n f)) lines j line number l judge c had has checks said is h = absurd h
+line_said o (Err NoMemory) lines j line number l judge c had has checks said is h = h
+line_said o (Err CannotRead) lines j line number l judge c had has checks said is h = absurd h
+line_said o (Err (BadLine n f)) lines j line number l judge c had has checks said is h = absurd h
 
 -- ---- the next line
 
@@ -94,12 +109,12 @@ after_next : (all done : List (List ℕ)) (line : List ℕ) (rest after : List (
 after_next all done line rest after e next =
     e ∙ ap (λ (l : List (List ℕ)). done ++ l) next ∙ sym (append_assoc done (line ∷ []) after)
 
-module _ (capture : List ℕ) (known left : Option (List ℕ)) (number : ℕ) (judge : SessionState) (c : Counts)
-    (had mid : Option (List ℕ)) (upto : IsUpTo capture known number judge c had mid) where
+module _ (o : CheckOptions) (capture : List ℕ) (known left : Option (List ℕ)) (number : ℕ) (judge : SessionState) (c : Counts)
+    (had mid : Option (List ℕ)) (upto : IsUpTo o capture known number judge c had mid) where
   pub next_done : (is_more : Bool) (line : List ℕ) (later : SessionState) (counts : Counts) (has : Option (List ℕ))
       → IfSome known (λ bytes. IsTaken bytes is_more line left)
-      → LineEnds {T = Unit {0}} upto.done upto.judged line later counts (Ok tt) mid has
-      → NextEnds capture left number later counts (Ok is_more) had has
+      → LineEnds {T = Unit {0}} o upto.done upto.judged line later counts (Ok tt) mid has
+      → NextEnds o capture left number later counts (Ok is_more) had has
   next_done true line later counts has taken (next, more, checks, kept, appends) =
       let (rest, is, lines) = at_some (λ bytes. IsTaken bytes true line left) known upto.rest upto.is_left taken in
       let size = length-append upto.done (line ∷ []) in
@@ -118,7 +133,7 @@ module _ (capture : List ℕ) (known left : Option (List ℕ)) (number : ℕ) (j
       let last = at_some (λ bytes. IsTaken bytes false line left) known upto.rest upto.is_left taken in
       record {
         judged = next;
-        checks = subst (λ (l : List (List ℕ)). Checks l next)
+        checks = subst (λ (l : List (List ℕ)). Checks o l next)
             (sym (upto.lines ∙ ap (λ (l : List (List ℕ)). upto.done ++ l) last)) checks.checks;
         kept = kept;
         printed = printed_more had mid has upto.judged.text more next.text checks.text upto.printed appends;
@@ -127,7 +142,7 @@ module _ (capture : List ℕ) (known left : Option (List ℕ)) (number : ℕ) (j
   -- the line is not done
   pub next_stopped : (is_more : Bool) (line : List ℕ) (later : SessionState) (counts : Counts) (has : Option (List ℕ))
       (s : Stop) → IfSome known (λ bytes. IsTaken bytes is_more line left)
-      → LineEnds {T = Unit {0}} upto.done upto.judged line later counts (Err s) mid has → StopsIn capture s had has
+      → LineEnds {T = Unit {0}} o upto.done upto.judged line later counts (Err s) mid has → StopsIn o capture s had has
   next_stopped is_more line later counts has (BadLine n f) taken (number_is, is, still) =
       let next = next_is upto.rest is_more line left
       (at_some (λ bytes. IsTaken bytes is_more line left) known upto.rest upto.is_left taken) in
@@ -162,7 +177,7 @@ module _ (capture : List ℕ) (known left : Option (List ℕ)) (number : ℕ) (j
       }
 
   -- the next line cannot be read
-  pub next_unread : (s : Stop) → (s ≡ CannotRead) ⊎ (s ≡ NoMemory) → StopsIn capture s had mid
+  pub next_unread : (s : Stop) → (s ≡ CannotRead) ⊎ (s ≡ NoMemory) → StopsIn o capture s had mid
   next_unread s (inl is) = rw is record {
     done = upto.done;
     rest = lines_of upto.rest;
@@ -181,10 +196,10 @@ module _ (capture : List ℕ) (known left : Option (List ℕ)) (number : ℕ) (j
   }
 
 -- before the first line
-pub at_start : (known had : Option (List ℕ)) (judge : SessionState) (c : Counts) → IsKept nothing_judged judge c
-    → IfSome known (λ capture. IsUpTo capture known 1 judge c had had)
-at_start None had judge c kept = tt
-at_start (Some capture) had judge c kept = record {
+pub at_start : (o : CheckOptions) (known had : Option (List ℕ)) (judge : SessionState) (c : Counts) → IsKept nothing_judged judge c
+    → IfSome known (λ capture. IsUpTo o capture known 1 judge c had had)
+at_start o None had judge c kept = tt
+at_start o (Some capture) had judge c kept = record {
   done = [];
   rest = capture;
   judged = nothing_judged;
@@ -203,10 +218,10 @@ counts_are : (j : Judged) (c : Counts) → AreCounts j c → counts_text c ≡ e
 counts_are j c are = rw
     (are.requests, are.replies, are.notifications, are.refused, are.entries, are.forgotten, are.kernel, are.server, are.device) refl
 
-pub all_ends : {T : Type 0} (r : Result T Stop) (capture : List ℕ) (judge : SessionState) (c : Counts)
-    (had mid has : Option (List ℕ)) → AllChecked capture judge c had mid → PrintsEnd c r mid has
-    → CheckEnds capture c r had has
-all_ends (Ok done) capture judge c had mid has all appends =
+pub all_ends : {T : Type 0} (o : CheckOptions) (r : Result T Stop) (capture : List ℕ) (judge : SessionState) (c : Counts)
+    (had mid has : Option (List ℕ)) → AllChecked o capture judge c had mid → PrintsEnd c r mid has
+    → CheckEnds o capture c r had has
+all_ends o (Ok done) capture judge c had mid has all appends =
     let same = counts_are all.judged c all.kept.counts in
     record {
       judged = all.judged;
@@ -215,7 +230,7 @@ all_ends (Ok done) capture judge c had mid has all appends =
       printed = Appends-append had mid has all.judged.text (end_text all.judged) all.printed
           (subst (Appends mid has) same appends);
     }
-all_ends (Err OutputRefused) capture judge c had mid has all some =
+all_ends o (Err OutputRefused) capture judge c had mid has all some =
     let same = counts_are all.judged c all.kept.counts in
     record {
       done = lines_of capture;
@@ -226,7 +241,7 @@ all_ends (Err OutputRefused) capture judge c had mid has all some =
       says = some_then had mid has all.judged.text (end_text all.judged) (all.judged.text ++ end_text all.judged) refl
           all.printed (subst (AppendsSome mid has) same some);
     }
-all_ends (Err NoMemory) capture judge c had mid has all still = record {
+all_ends o (Err NoMemory) capture judge c had mid has all still = record {
   done = lines_of capture;
   rest = [];
   lines = sym (append-nil (lines_of capture));
@@ -234,5 +249,5 @@ all_ends (Err NoMemory) capture judge c had mid has all still = record {
   checks = all.checks;
   says = printed_still had mid has all.judged.text all.printed still;
 }
-all_ends (Err CannotRead) capture judge c had mid has all h = absurd h
-all_ends (Err (BadLine n f)) capture judge c had mid has all h = absurd h
+all_ends o (Err CannotRead) capture judge c had mid has all h = absurd h
+all_ends o (Err (BadLine n f)) capture judge c had mid has all h = absurd h

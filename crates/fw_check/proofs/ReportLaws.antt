@@ -2,16 +2,17 @@
 use Rattle.std.proofs.Common.{◌≡◌, ◌+◌, ℕ, List, [], ◌∷◌, Option, append-nil, arith, refl, sym, inl, inr}
 use Rattle.std.specs.Prelude.{Contains}
 use Rattle.fw_check.specs.declared.counts.Counts.{Counts}
+use Rattle.fw_check.specs.declared.options.CheckOptions.{CheckOptions}
 use Rattle.fw_check.specs.declared.stop.Stop.{Stop}
 use Rattle.fw_check.specs.declared.stop.Stop.TheVariants.{BadLine, CannotRead, NoMemory, OutputRefused}
 use Rattle.fw_check.specs.Endings.{PrintsChecked, lines_of}
 use Rattle.fw_check.specs.Running.{AllPrinted, IsReported, StopsIn}
 
 -- all was judged and printed
-pub ends_well : (name capture : List ℕ) (c : Counts) (had has faults said : Option (List ℕ))
-    → AllPrinted capture c had has → c.kernel + c.server + c.device ≡ 0
-    → PrintsChecked name capture had has faults said 0
-ends_well name capture c had has faults said all none = record {
+pub ends_well : (o : CheckOptions) (name capture : List ℕ) (c : Counts) (had has faults said : Option (List ℕ))
+    → AllPrinted o capture c had has → c.kernel + c.server + c.device ≡ 0
+    → PrintsChecked o name capture had has faults said 0
+ends_well o name capture c had has faults said all none = record {
   done = lines_of capture;
   rest = [];
   lines = sym (append-nil (lines_of capture));
@@ -25,10 +26,10 @@ ends_well name capture c had has faults said all none = record {
   refused = λ is. absurd (omega arith);
 }
 
-pub ends_with_faults : (name capture : List ℕ) (c : Counts) (had has faults said : Option (List ℕ))
-    → AllPrinted capture c had has → (c.kernel + c.server + c.device ≡ 0 → ⊥)
-    → PrintsChecked name capture had has faults said 6
-ends_with_faults name capture c had has faults said all some = record {
+pub ends_with_faults : (o : CheckOptions) (name capture : List ℕ) (c : Counts) (had has faults said : Option (List ℕ))
+    → AllPrinted o capture c had has → (c.kernel + c.server + c.device ≡ 0 → ⊥)
+    → PrintsChecked o name capture had has faults said 6
+ends_with_faults o name capture c had has faults said all some = record {
   done = lines_of capture;
   rest = [];
   lines = sym (append-nil (lines_of capture));
@@ -43,10 +44,10 @@ ends_with_faults name capture c had has faults said all some = record {
 }
 
 -- it was stopped
-pub stops : (s : Stop) (name capture : List ℕ) (had has faults said : Option (List ℕ)) (status : ℕ)
-    → StopsIn capture s had has → IsReported s name faults said status
-    → PrintsChecked name capture had has faults said status
-stops CannotRead name capture had has faults said status at (inl (is, some)) = rw is record {
+pub stops : (o : CheckOptions) (s : Stop) (name capture : List ℕ) (had has faults said : Option (List ℕ)) (status : ℕ)
+    → StopsIn o capture s had has → IsReported s name faults said status
+    → PrintsChecked o name capture had has faults said status
+stops o CannotRead name capture had has faults said status at (inl (is, some)) = rw is record {
   done = at.done;
   rest = at.rest;
   lines = at.lines;
@@ -59,7 +60,7 @@ stops CannotRead name capture had has faults said status at (inl (is, some)) = r
   bad = λ e. inl some;
   refused = λ e. absurd (omega arith);
 }
-stops CannotRead name capture had has faults said status at (inr is) = rw is record {
+stops o CannotRead name capture had has faults said status at (inr is) = rw is record {
   done = at.done;
   rest = at.rest;
   lines = at.lines;
@@ -72,7 +73,7 @@ stops CannotRead name capture had has faults said status at (inr is) = rw is rec
   bad = λ e. absurd (omega arith);
   refused = λ e. absurd (omega arith);
 }
-stops (BadLine n f) name capture had has faults said status at (inl (is, some)) =
+stops o (BadLine n f) name capture had has faults said status at (inl (is, some)) =
     let (line, after, rest, bad, number, printed) = at.says in
     rw is record {
       done = at.done;
@@ -87,7 +88,7 @@ stops (BadLine n f) name capture had has faults said status at (inl (is, some)) 
       bad = λ e. inr (line, after, f, rest, bad, rw number at some);
       refused = λ e. absurd (omega arith);
     }
-stops (BadLine n f) name capture had has faults said status at (inr is) =
+stops o (BadLine n f) name capture had has faults said status at (inr is) =
     let (line, after, rest, bad, number, printed) = at.says in
     rw is record {
       done = at.done;
@@ -102,7 +103,7 @@ stops (BadLine n f) name capture had has faults said status at (inr is) =
       bad = λ e. absurd (omega arith);
       refused = λ e. absurd (omega arith);
     }
-stops NoMemory name capture had has faults said status at is = rw is record {
+stops o NoMemory name capture had has faults said status at is = rw is record {
   done = at.done;
   rest = at.rest;
   lines = at.lines;
@@ -115,7 +116,7 @@ stops NoMemory name capture had has faults said status at is = rw is record {
   bad = λ e. absurd (omega arith);
   refused = λ e. absurd (omega arith);
 }
-stops OutputRefused name capture had has faults said status at is = rw is record {
+stops o OutputRefused name capture had has faults said status at is = rw is record {
   done = at.done;
   rest = at.rest;
   lines = at.lines;

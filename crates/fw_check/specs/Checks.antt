@@ -1,4 +1,4 @@
--- What is printed of a capture: the faults of the session that its lines say, and counts.
+-- What is printed of a capture: the faults of the session that its lines say which are asked for, and counts.
 use Rattle.std.specs.Prelude.{◌≡◌, ◌+◌, ℕ, Bool, List, [], ◌∷◌, ◌++◌, Option, length, sum_by}
 use Rattle.fuse_sessions.specs.declared.act.Act.{Act}
 use Rattle.fuse_sessions.specs.declared.fault.Fault.{Fault}
@@ -10,11 +10,13 @@ use Rattle.fuse_sessions.specs.Sessions.{Session}
 use Rattle.fuse_sessions.specs.Frames.{AreActs, nothing_known}
 use Rattle.fuse_judge.specs.Transfers.{AreFaults}
 use Rattle.fuse_capture.specs.Lines.{LineSays, IsPassedOver}
+use Rattle.fw_check.specs.declared.options.CheckOptions.{CheckOptions}
+use Rattle.fw_check.specs.Asked.{asked_verdicts}
 use Rattle.fw_check.specs.FaultWords.{fault_lines}
 use Rattle.fw_check.specs.Tallies.{entries_of, faults_text, forgotten_by, is_notification, is_of, is_refused, is_reply, is_request, lookups_text, one_if, transfers_text}
 
--- What was judged: the transfers that were said, what is known after them, their acts, the verdict on each act, and the
--- lines of the faults.
+-- What was judged: the transfers that were said, what is known after them, their acts, the verdict on each act without a
+-- fault that is not asked for, and the lines of the faults.
 pub record Judged : Type 0 where
   pub transfers : List Transfer
   pub known : Known
@@ -31,20 +33,20 @@ nothing_judged = record {
   text = [];
 }
 
--- Each line is judged after those before it.
-pub data Checks : (lines : List (List ℕ)) → Judged → Type 0 where
-  no_line : Checks [] nothing_judged
-  passed_over : (lines : List (List ℕ)) (j : Judged) → Checks lines j → (line : List ℕ) → IsPassedOver line
-      → Checks (lines ++ line ∷ []) j
-  says : (lines : List (List ℕ)) (j : Judged) → Checks lines j → (line : List ℕ) (t : Transfer) → LineSays line t
+-- Each line is judged after those before it. What is asked for changes the verdicts that are kept, and no act.
+pub data Checks (o : CheckOptions) : (lines : List (List ℕ)) → Judged → Type 0 where
+  no_line : Checks o [] nothing_judged
+  passed_over : (lines : List (List ℕ)) (j : Judged) → Checks o lines j → (line : List ℕ) → IsPassedOver line
+      → Checks o (lines ++ line ∷ []) j
+  says : (lines : List (List ℕ)) (j : Judged) → Checks o lines j → (line : List ℕ) (t : Transfer) → LineSays line t
       → (acts : List Act) (known : Known) → AreActs j.known j.acts t acts known → (verdicts : List (Option Fault))
       → length verdicts ≡ length acts → AreFaults j.acts acts verdicts
-      → Checks (lines ++ line ∷ []) (record {
+      → Checks o (lines ++ line ∷ []) (record {
         transfers = j.transfers ++ t ∷ [];
         known = known;
         acts = j.acts ++ acts;
-        verdicts = j.verdicts ++ verdicts;
-        text = j.text ++ fault_lines (length lines + 1) acts verdicts;
+        verdicts = j.verdicts ++ asked_verdicts o.only verdicts;
+        text = j.text ++ fault_lines (length lines + 1) acts (asked_verdicts o.only verdicts);
       })
 
 -- ---- counts
@@ -53,11 +55,11 @@ pub data Checks : (lines : List (List ℕ)) → Judged → Type 0 where
 abbrev pub number_of : (Transfer → Bool) → Judged → ℕ
 number_of test j = sum_by (λ t. one_if (test t)) j.transfers
 
--- how many faults are a party's
+-- how many faults are a party's, of those that are asked for
 abbrev pub faults_of : Party → Judged → ℕ
 faults_of p j = sum_by (λ v. one_if (is_of p v)) j.verdicts
 
--- how many faults there are
+-- how many faults there are, of those that are asked for
 abbrev pub fault_count : Judged → ℕ
 fault_count j = faults_of party.Kernel j + faults_of party.Server j + faults_of party.Device j
 

@@ -4,6 +4,7 @@ use Rattle.std.specs.List.{slice_split}
 use Rattle.std.specs.Io.KnownBytes.{Appends}
 use Rattle.fuse_capture.specs.declared.line.CaptureFault.{CaptureFault}
 use Rattle.fuse_capture.specs.Lines.{LineFaultIs}
+use Rattle.fw_check.specs.declared.options.CheckOptions.{CheckOptions}
 use Rattle.fw_check.specs.Checks.{Judged, Checks, end_text, fault_count}
 use Rattle.fw_check.specs.Outputs.{AppendsSome}
 use Rattle.fw_check.specs.Reports.{bad_line, unreadable}
@@ -13,14 +14,14 @@ abbrev pub lines_of : List ℕ → List (List ℕ)
 lines_of capture = slice_split (λ byte. byte == 10) capture
 
 -- What was printed of a capture whose bytes are known: its first lines were judged, and what is said of them printed.
-pub record PrintsChecked (name capture : List ℕ) (out_old out_new faults_old faults_new : Option (List ℕ)) (status : ℕ)
+pub record PrintsChecked (o : CheckOptions) (name capture : List ℕ) (out_old out_new faults_old faults_new : Option (List ℕ)) (status : ℕ)
     : Type 0 where
   pub done : List (List ℕ)
   pub rest : List (List ℕ)
   pub lines : lines_of capture ≡ done ++ rest
   pub judged : Judged
-  pub checks : Checks done judged
-  -- to the end: 0 where there is no fault, and 6 where there is one
+  pub checks : Checks o done judged
+  -- to the end: 0 where there is no fault that is asked for, and 6 where there is one
   pub ended : (status ≡ 0) ⊎ (status ≡ 6)
       → (rest ≡ []) × Appends out_old out_new (judged.text ++ end_text judged)
   pub right : status ≡ 0 → fault_count judged ≡ 0
@@ -34,8 +35,8 @@ pub record PrintsChecked (name capture : List ℕ) (out_old out_new faults_old f
   pub refused : status ≡ 5 → AppendsSome out_old out_new (judged.text ++ end_text judged)
 
 -- What becomes of an output and of standard error, of which `out` and `faults` say what they hold.
-pub record EndsCheck {W F : Type 0} (out : W → Option (List ℕ)) (faults : F → Option (List ℕ)) (name : List ℕ)
-    (capture : Option (List ℕ)) (old new : W) (old_faults new_faults : F) (status : ℕ) : Type 0 where
+pub record EndsCheck {W F : Type 0} (out : W → Option (List ℕ)) (faults : F → Option (List ℕ)) (o : CheckOptions)
+    (name : List ℕ) (capture : Option (List ℕ)) (old new : W) (old_faults new_faults : F) (status : ℕ) : Type 0 where
   pub statuses : Contains (0 ∷ 1 ∷ 3 ∷ 5 ∷ 6 ∷ []) status
   pub prints : IfSome capture
-      (λ bytes. PrintsChecked name bytes (out old) (out new) (faults old_faults) (faults new_faults) status)
+      (λ bytes. PrintsChecked o name bytes (out old) (out new) (faults old_faults) (faults new_faults) status)

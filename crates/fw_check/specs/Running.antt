@@ -12,8 +12,10 @@ use Rattle.fuse_capture.specs.declared.line.CaptureLine.{CaptureLine}
 use Rattle.fuse_capture.specs.Lines.{LineFaultIs}
 use Rattle.fuse_capture.specs.Readings.{IsTransferOf}
 use Rattle.fw_check.specs.declared.counts.Counts.{Counts}
+use Rattle.fw_check.specs.declared.options.CheckOptions.{CheckOptions}
 use Rattle.fw_check.specs.declared.stop.Stop.{Stop}
 use Rattle.fw_check.specs.declared.stop.Stop.TheVariants as stop
+use Rattle.fw_check.specs.Asked.{asked_verdicts}
 use Rattle.fw_check.specs.Counting.{counts_text}
 use Rattle.fw_check.specs.Checks.{Judged, Checks, end_text, faults_of, number_of}
 use Rattle.fw_check.specs.Endings.{lines_of}
@@ -57,64 +59,68 @@ judged_after j t acts verdicts known text = record {
   text = text;
 }
 
--- The transfer that a line says was judged: these are its acts and their verdicts.
-pub record IsJudgedSo (j : Judged) (l : CaptureLine) (acts : List Act) (verdicts : List (Option Fault))
-    (judge : SessionState) (c : Counts) : Type 0 where
+-- The transfer that a line says was judged: these are its acts, and these their verdicts without the faults that are not
+-- asked for.
+pub record IsJudgedSo (o : CheckOptions) (j : Judged) (l : CaptureLine) (acts : List Act)
+    (verdicts : List (Option Fault)) (judge : SessionState) (c : Counts) : Type 0 where
   pub transfer : Transfer
+  pub all : List (Option Fault)
   pub is : IsTransferOf l transfer
   pub are : AreActs j.known j.acts transfer acts judge.known
-  pub each : length verdicts ≡ length acts
-  pub faults : AreFaults j.acts acts verdicts
+  pub each : length all ≡ length acts
+  pub faults : AreFaults j.acts acts all
+  pub asked : verdicts ≡ asked_verdicts o.only all
   pub kept : (text : List ℕ) → IsKept (judged_after j transfer acts verdicts judge.known text) judge c
 
 -- What became of a line that says a transfer, and of the output.
-abbrev pub SaidEnds : {T : Type 0} → Judged → (number : ℕ) → CaptureLine → SessionState → Counts → Result T Stop
+abbrev pub SaidEnds : {T : Type 0} → CheckOptions → Judged → (number : ℕ) → CaptureLine → SessionState → Counts → Result T Stop
     → (had has : Option (List ℕ)) → Type 0
-SaidEnds j number l judge c (Ok done) had has = (acts : List Act) × (verdicts : List (Option Fault))
-    × IsJudgedSo j l acts verdicts judge c × Appends had has (fault_lines number acts verdicts)
-SaidEnds j number l judge c (Err stop.OutputRefused) had has = (acts : List Act) × (verdicts : List (Option Fault))
-    × IsJudgedSo j l acts verdicts judge c × AppendsSome had has (fault_lines number acts verdicts)
-SaidEnds j number l judge c (Err stop.NoMemory) had has = Appends had has []
-SaidEnds j number l judge c (Err other) had has = ⊥
+SaidEnds o j number l judge c (Ok done) had has = (acts : List Act) × (verdicts : List (Option Fault))
+    × IsJudgedSo o j l acts verdicts judge c × Appends had has (fault_lines number acts verdicts)
+SaidEnds o j number l judge c (Err stop.OutputRefused) had has = (acts : List Act) × (verdicts : List (Option Fault))
+    × IsJudgedSo o j l acts verdicts judge c × AppendsSome had has (fault_lines number acts verdicts)
+SaidEnds o j number l judge c (Err stop.NoMemory) had has = Appends had has []
+SaidEnds o j number l judge c (Err other) had has = ⊥
 
 -- ---- one line more
 
 -- These lines were judged, and this was printed behind what was printed before.
-pub record ChecksMore (lines : List (List ℕ)) (before after : Judged) (more : List ℕ) : Type 0 where
-  pub checks : Checks lines after
+pub record ChecksMore (o : CheckOptions) (lines : List (List ℕ)) (before after : Judged) (more : List ℕ) : Type 0 where
+  pub checks : Checks o lines after
   pub text : after.text ≡ before.text ++ more
 
 -- What became of a line after these.
-abbrev pub LineEnds : {T : Type 0} → (lines : List (List ℕ)) → Judged → (line : List ℕ) → SessionState → Counts
+abbrev pub LineEnds : {T : Type 0} → CheckOptions → (lines : List (List ℕ)) → Judged → (line : List ℕ) → SessionState → Counts
     → Result T Stop → (had has : Option (List ℕ)) → Type 0
-LineEnds lines j line judge c (Ok done) had has = (next : Judged) × (more : List ℕ)
-    × ChecksMore (lines ++ line ∷ []) j next more × IsKept next judge c × Appends had has more
-LineEnds lines j line judge c (Err stop.OutputRefused) had has = (next : Judged) × (more : List ℕ)
-    × ChecksMore (lines ++ line ∷ []) j next more × AppendsSome had has more
-LineEnds lines j line judge c (Err stop.NoMemory) had has = Appends had has []
-LineEnds lines j line judge c (Err (stop.BadLine number f)) had has =
+LineEnds o lines j line judge c (Ok done) had has = (next : Judged) × (more : List ℕ)
+    × ChecksMore o (lines ++ line ∷ []) j next more × IsKept next judge c × Appends had has more
+LineEnds o lines j line judge c (Err stop.OutputRefused) had has = (next : Judged) × (more : List ℕ)
+    × ChecksMore o (lines ++ line ∷ []) j next more × AppendsSome had has more
+LineEnds o lines j line judge c (Err stop.NoMemory) had has = Appends had has []
+LineEnds o lines j line judge c (Err (stop.BadLine number f)) had has =
     (number ≡ length lines + 1) × LineFaultIs line f × Appends had has []
-LineEnds lines j line judge c (Err stop.CannotRead) had has = ⊥
+LineEnds o lines j line judge c (Err stop.CannotRead) had has = ⊥
 
 -- ---- a capture
 
 -- The first lines of a capture were judged, and these bytes are left of it.
-pub record IsUpTo (capture : List ℕ) (left : Option (List ℕ)) (number : ℕ) (judge : SessionState) (c : Counts)
-    (had has : Option (List ℕ)) : Type 0 where
+pub record IsUpTo (o : CheckOptions) (capture : List ℕ) (left : Option (List ℕ)) (number : ℕ) (judge : SessionState)
+    (c : Counts) (had has : Option (List ℕ)) : Type 0 where
   pub done : List (List ℕ)
   pub rest : List ℕ
   pub judged : Judged
   pub is_left : left ≡ Some rest
   pub lines : lines_of capture ≡ done ++ lines_of rest
   pub count : number ≡ length done + 1
-  pub checks : Checks done judged
+  pub checks : Checks o done judged
   pub kept : IsKept judged judge c
   pub printed : Appends had has judged.text
 
 -- All lines were judged.
-pub record AllChecked (capture : List ℕ) (judge : SessionState) (c : Counts) (had has : Option (List ℕ)) : Type 0 where
+pub record AllChecked (o : CheckOptions) (capture : List ℕ) (judge : SessionState) (c : Counts)
+    (had has : Option (List ℕ)) : Type 0 where
   pub judged : Judged
-  pub checks : Checks (lines_of capture) judged
+  pub checks : Checks o (lines_of capture) judged
   pub kept : IsKept judged judge c
   pub printed : Appends had has judged.text
 
@@ -126,36 +132,37 @@ StopSays stop.OutputRefused number rest j had has = AppendsSome had has (j.text 
 StopSays other number rest j had has = Appends had has j.text
 
 -- A check stopped after some lines.
-pub record StopsIn (capture : List ℕ) (s : Stop) (had has : Option (List ℕ)) : Type 0 where
+pub record StopsIn (o : CheckOptions) (capture : List ℕ) (s : Stop) (had has : Option (List ℕ)) : Type 0 where
   pub done : List (List ℕ)
   pub rest : List (List ℕ)
   pub lines : lines_of capture ≡ done ++ rest
   pub judged : Judged
-  pub checks : Checks done judged
+  pub checks : Checks o done judged
   pub says : StopSays s (length done + 1) rest judged had has
 
 -- What became of the next line: there are more, or it was the last.
-abbrev pub NextEnds : (capture : List ℕ) → (left : Option (List ℕ)) → (number : ℕ) → SessionState → Counts
+abbrev pub NextEnds : CheckOptions → (capture : List ℕ) → (left : Option (List ℕ)) → (number : ℕ) → SessionState → Counts
     → Result Bool Stop → (had has : Option (List ℕ)) → Type 0
-NextEnds capture left number judge c (Ok true) had has = IsUpTo capture left (number + 1) judge c had has
-NextEnds capture left number judge c (Ok false) had has = AllChecked capture judge c had has
-NextEnds capture left number judge c (Err s) had has = StopsIn capture s had has
+NextEnds o capture left number judge c (Ok true) had has = IsUpTo o capture left (number + 1) judge c had has
+NextEnds o capture left number judge c (Ok false) had has = AllChecked o capture judge c had has
+NextEnds o capture left number judge c (Err s) had has = StopsIn o capture s had has
 
-abbrev pub LinesEnd : {T : Type 0} → (capture : List ℕ) → SessionState → Counts → Result T Stop
+abbrev pub LinesEnd : {T : Type 0} → CheckOptions → (capture : List ℕ) → SessionState → Counts → Result T Stop
     → (had has : Option (List ℕ)) → Type 0
-LinesEnd capture judge c (Ok done) had has = AllChecked capture judge c had has
-LinesEnd capture judge c (Err s) had has = StopsIn capture s had has
+LinesEnd o capture judge c (Ok done) had has = AllChecked o capture judge c had has
+LinesEnd o capture judge c (Err s) had has = StopsIn o capture s had has
 
 -- All was printed.
-pub record AllPrinted (capture : List ℕ) (c : Counts) (had has : Option (List ℕ)) : Type 0 where
+pub record AllPrinted (o : CheckOptions) (capture : List ℕ) (c : Counts) (had has : Option (List ℕ)) : Type 0 where
   pub judged : Judged
-  pub checks : Checks (lines_of capture) judged
+  pub checks : Checks o (lines_of capture) judged
   pub counts : AreCounts judged c
   pub printed : Appends had has (judged.text ++ end_text judged)
 
-abbrev pub CheckEnds : {T : Type 0} → (capture : List ℕ) → Counts → Result T Stop → (had has : Option (List ℕ)) → Type 0
-CheckEnds capture c (Ok done) had has = AllPrinted capture c had has
-CheckEnds capture c (Err s) had has = StopsIn capture s had has
+abbrev pub CheckEnds : {T : Type 0} → CheckOptions → (capture : List ℕ) → Counts → Result T Stop
+    → (had has : Option (List ℕ)) → Type 0
+CheckEnds o capture c (Ok done) had has = AllPrinted o capture c had has
+CheckEnds o capture c (Err s) had has = StopsIn o capture s had has
 
 -- What became of the last two lines.
 abbrev pub PrintsEnd : {T : Type 0} → Counts → Result T Stop → (had has : Option (List ℕ)) → Type 0

@@ -8,6 +8,7 @@ ghost use Rattle.fw_check.specs.Running.{CheckEnds, IsKept, IsUpTo, LinesEnd, Ne
 use crate::checker::{Checker, print};
 use crate::counts::Counts;
 use crate::lines::next_line;
+use crate::options::CheckOptions;
 use crate::stop::Stop;
 use std::alloc::Allocator;
 use std::io::{BufRead, Write};
@@ -17,6 +18,7 @@ const FAULTS: u8 = 6;
 
 /// Reads the next line and judges it. Says whether more lines come.
 fn check_next<A: Allocator + Copy, R: BufRead, W: Write>(
+    options: CheckOptions,
     checker: &mut Checker<A>,
     input: &mut R,
     line: &mut Vec<u8, A>,
@@ -24,12 +26,12 @@ fn check_next<A: Allocator + Copy, R: BufRead, W: Write>(
     out: &mut W,
 ) -> Result<bool, Stop>
     ensures { (capture : List ℕ) (had : Option (List ℕ))
-        → IsUpTo capture (R.remaining input.old) number checker.old.judge checker.old.counts had (W.contents out.old)
-        → NextEnds capture (R.remaining input.new) number checker.new.judge checker.new.counts result had
+        → IsUpTo options capture (R.remaining input.old) number checker.old.judge checker.old.counts had (W.contents out.old)
+        → NextEnds options capture (R.remaining input.new) number checker.new.judge checker.new.counts result had
         (W.contents out.new) }
 {
     match next_line(input, line) {
-        Ok(is_more) => match checker.check_line(number, line.as_slice(), out) {
+        Ok(is_more) => match checker.check_line(options, number, line.as_slice(), out) {
             Ok(()) => Ok(is_more),
             Err(stop) => Err(stop),
         },
@@ -40,17 +42,18 @@ fn check_next<A: Allocator + Copy, R: BufRead, W: Write>(
 /// Judges each line.
 fn check_lines<A: Allocator + Copy, R: BufRead, W: Write>(
     alloc: A,
+    options: CheckOptions,
     checker: &mut Checker<A>,
     input: &mut R,
     out: &mut W,
 ) -> Result<(), Stop>
     ensures { IsKept nothing_judged checker.old.judge checker.old.counts → IfSome (R.remaining input.old)
-        (λ capture. LinesEnd capture checker.new.judge checker.new.counts result (W.contents out.old)
+        (λ capture. LinesEnd options capture checker.new.judge checker.new.counts result (W.contents out.old)
         (W.contents out.new)) }
 {
     let mut line = Vec::new(alloc);
     for number in 1..u64::MAX {
-        match check_next(checker, input, &mut line, number, out) {
+        match check_next(options, checker, input, &mut line, number, out) {
             Ok(true) => {}
             Ok(false) => return Ok(()),
             Err(stop) => return Err(stop),
@@ -80,37 +83,39 @@ fn print_end<A: Allocator, W: Write>(
 /// Judges each line, and prints the counts.
 fn check_all<A: Allocator + Copy, R: BufRead, W: Write>(
     alloc: A,
+    options: CheckOptions,
     checker: &mut Checker<A>,
     input: &mut R,
     out: &mut W,
 ) -> Result<(), Stop>
     ensures { IsKept nothing_judged checker.old.judge checker.old.counts → IfSome (R.remaining input.old)
-        (λ capture. CheckEnds capture checker.new.counts result (W.contents out.old) (W.contents out.new)) }
+        (λ capture. CheckEnds options capture checker.new.counts result (W.contents out.old) (W.contents out.new)) }
 {
-    match check_lines(alloc, checker, input, out) {
+    match check_lines(alloc, options, checker, input, out) {
         Ok(()) => print_end(checker.counts, &mut checker.text, out),
         Err(stop) => Err(stop),
     }
 }
 
-/// Judges the session that a capture says, and prints a line for each fault as soon as its line was read, and two lines of
-/// counts at the end. The memory grows with what is unanswered, counted and open.
+/// Judges the session that a capture says, and prints a line for each fault that is asked for as soon as its line was read,
+/// and two lines of counts at the end. The memory grows with what is unanswered, counted and open.
 ///
-/// Gives the exit status: 0 where nobody broke a rule, and 6 where somebody did; 1 after `cannot read` with the capture's
+/// Gives the exit status: 0 where there is no fault that is asked for, and 6 where there is one; 1 after `cannot read` with the capture's
 /// name, or after `line N:` and the fault of the first bad line, on `faults`; 3 after `no memory`; or 5 where `out`
 /// refuses. What was printed before is of the lines before.
 pub fn run_check<A: Allocator + Copy, R: BufRead, W: Write, F: Write>(
     alloc: A,
+    options: CheckOptions,
     name: &str,
     input: &mut R,
     out: &mut W,
     faults: &mut F,
 ) -> u8
-    ensures { EndsCheck W.contents F.contents name.now (R.remaining input.old) out.old out.new faults.old faults.new
+    ensures { EndsCheck W.contents F.contents options name.now (R.remaining input.old) out.old out.new faults.old faults.new
         result }
 {
     let mut checker = Checker::new(alloc);
-    match check_all(alloc, &mut checker, input, out) {
+    match check_all(alloc, options, &mut checker, input, out) {
         Ok(()) => if checker.counts.has_no_fault() {
             0
         } else {

@@ -7,8 +7,10 @@ ghost use Rattle.fw_check.specs.FaultWords.{fault_lines};
 ghost use Rattle.fw_check.specs.Outputs.{AppendsSome};
 ghost use Rattle.fw_check.specs.Running.{IsJudgedSo, IsKept, LineEnds, SaidEnds};
 
+use crate::asked::keep_asked;
 use crate::counts::{Counts, NOTHING};
 use crate::fault_line::put_faults;
+use crate::options::CheckOptions;
 use crate::output::{OutputRefused, write_text};
 use crate::stop::Stop;
 use fuse_capture::{CaptureLine, read_line, read_transfer};
@@ -32,8 +34,9 @@ pub(crate) struct Checker<A: Allocator = Global> {
     pub(crate) text: Vec<u8, A>,
 }
 
-/// Judges the transfer that a line says, and counts it.
+/// Judges the transfer that a line says, leaves out the faults that are not asked for, and counts it.
 fn judge_said<A: Allocator + Copy>(
+    options: CheckOptions,
     judge: &mut SessionJudge<A>,
     counts: &mut Counts,
     frame: &mut Vec<u8, A>,
@@ -42,10 +45,11 @@ fn judge_said<A: Allocator + Copy>(
     said: CaptureLine<'_>,
 ) -> Result<(), AllocError>
     ensures { OnOk result ((j : Judged) → IsKept j judge.old counts.old
-        → IsJudgedSo j said.entry acts.new.items verdicts.new.items judge.new counts.new) }
+        → IsJudgedSo options j said.entry acts.new.items verdicts.new.items judge.new counts.new) }
 {
     let transfer = read_transfer(said, frame)?;
     judge.see(transfer, acts, verdicts)?;
+    keep_asked(options.only, verdicts);
     match counts.after(transfer, acts.as_slice(), verdicts.as_slice()) {
         Some(more) => {
             *counts = more;
@@ -95,13 +99,19 @@ impl<A: Allocator + Copy> Checker<A> {
     }
 
     /// Judges the transfer that a line says, and makes the text of its faults.
-    fn judge_line(&mut self, number: u64, said: CaptureLine<'_>) -> Result<(), AllocError>
+    fn judge_line(
+        &mut self,
+        options: CheckOptions,
+        number: u64,
+        said: CaptureLine<'_>,
+    ) -> Result<(), AllocError>
         ensures judged { OnOk result ((j : Judged) → IsKept j self.old.judge self.old.counts
-            → IsJudgedSo j said.entry self.new.acts.items self.new.verdicts.items self.new.judge self.new.counts) }
+            → IsJudgedSo options j said.entry self.new.acts.items self.new.verdicts.items self.new.judge self.new.counts) }
         ensures text { OnOk result (self.new.text.items
             ≡ fault_lines number self.new.acts.items self.new.verdicts.items) }
     {
         judge_said(
+            options,
             &mut self.judge,
             &mut self.counts,
             &mut self.frame,
@@ -121,14 +131,15 @@ impl<A: Allocator + Copy> Checker<A> {
     /// Judges the transfer that a line says, and prints its faults.
     fn check_said<W: Write>(
         &mut self,
+        options: CheckOptions,
         number: u64,
         said: CaptureLine<'_>,
         out: &mut W,
     ) -> Result<(), Stop>
         ensures { (j : Judged) → IsKept j self.old.judge self.old.counts
-            → SaidEnds j number said.entry self.new.judge self.new.counts result (W.contents out.old) (W.contents out.new) }
+            → SaidEnds options j number said.entry self.new.judge self.new.counts result (W.contents out.old) (W.contents out.new) }
     {
-        if self.judge_line(number, said).is_err() {
+        if self.judge_line(options, number, said).is_err() {
             return Err(Stop::NoMemory);
         }
         match print(out, self.text.as_slice()) {
@@ -140,17 +151,18 @@ impl<A: Allocator + Copy> Checker<A> {
     /// Judges a line, and prints its faults.
     pub(crate) fn check_line<W: Write>(
         &mut self,
+        options: CheckOptions,
         number: u64,
         line: &[u8],
         out: &mut W,
     ) -> Result<(), Stop>
-        ensures { (lines : List (List ℕ)) (j : Judged) → Checks lines j → IsKept j self.old.judge self.old.counts
+        ensures { (lines : List (List ℕ)) (j : Judged) → Checks options lines j → IsKept j self.old.judge self.old.counts
             → number ≡ length lines + 1
-            → LineEnds lines j line.now self.new.judge self.new.counts result (W.contents out.old) (W.contents out.new) }
+            → LineEnds options lines j line.now self.new.judge self.new.counts result (W.contents out.old) (W.contents out.new) }
     {
         match read_line(line) {
             Ok(None) => Ok(()),
-            Ok(Some(said)) => self.check_said(number, said, out),
+            Ok(Some(said)) => self.check_said(options, number, said, out),
             Err(fault) => Err(Stop::BadLine { number, fault }),
         }
     }

@@ -6,12 +6,14 @@
 #![tactic(auto)]
 
 mod act_words;
+mod asked;
 mod check;
 mod checker;
 mod counts;
 mod fault_line;
 mod lines;
 mod number_in;
+mod options;
 mod output;
 mod stop;
 mod tallies;
@@ -21,4 +23,5 @@ mod text;
 mod words;
 
 pub use check::run_check;
+pub use options::CheckOptions;
 pub use words::{fault_words, party_word};

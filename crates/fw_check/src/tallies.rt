@@ -71,7 +71,7 @@ fn forgotten_by(act: Act) -> u64
 }
 
 /// Whether a verdict is a fault of a party.
-fn is_of(party: Party, verdict: Option<Fault>) -> bool
+pub(crate) fn is_of(party: Party, verdict: Option<Fault>) -> bool
     ensures { result ≡ words.is_of party verdict }
 {
     match verdict {

@@ -1,6 +1,6 @@
 //! What is printed of small captures, and what is said where memory runs out.
 
-use crate::run_check;
+use crate::{CheckOptions, run_check};
 use fail_at::FailAt;
 use std::alloc::{AllocError, Allocator, Global};
 use std::test::Fail;
@@ -48,6 +48,9 @@ const FORGET: &str =
 /// FORGET 6 of three.
 const FORGET_THREE: &str =
     "> 300000000200000006000000000000000700000000000000000000000000000000000000000000000300000000000000";
+
+/// Everybody's faults.
+const EVERYONE: CheckOptions = CheckOptions { only: None };
 
 /// A capture, and what is printed of it.
 #[derive(Clone, Copy)]
@@ -184,7 +187,7 @@ fn is_right(alloc: Global, row: Row) -> Result<bool, AllocError> {
     let mut input = capture.as_slice();
     let mut out = Vec::new(alloc);
     let mut faults = Vec::new(alloc);
-    let status = run_check(alloc, "-", &mut input, &mut out, &mut faults);
+    let status = run_check(alloc, EVERYONE, "-", &mut input, &mut out, &mut faults);
     Ok(
         status == row.status
             && out.as_slice() == row.output.as_bytes()
@@ -219,7 +222,7 @@ fn is_checked<A: Allocator + Copy>(
     let mut input = capture;
     let mut out = Vec::new(outer);
     let mut faults = Vec::new(outer);
-    let status = run_check(alloc, "-", &mut input, &mut out, &mut faults);
+    let status = run_check(alloc, EVERYONE, "-", &mut input, &mut out, &mut faults);
     let wanted = row.output.as_bytes();
     if heap.left() == 0 {
         return status == 3

@@ -9,8 +9,8 @@ returns-in-Ok g c kept =
     let has = g.W.Write.contents c.print_end.new.out in
     let judge = c.check_lines.new.checker.judge in
     let counts = c.check_lines.new.checker.counts in
-    map_some (λ capture. AllChecked capture judge counts had mid)
-    (λ capture. CheckEnds capture counts c.print_end.result had has)
+    map_some (λ capture. AllChecked c.args.options capture judge counts had mid)
+    (λ capture. CheckEnds c.args.options capture counts c.print_end.result had has)
     (g.R.Read.remaining c.args.input.now)
-    (λ capture all. all_ends c.print_end.result capture judge counts had mid has all c.print_end.ensures)
+    (λ capture all. all_ends c.args.options c.print_end.result capture judge counts had mid has all c.print_end.ensures)
     (c.in-Ok.ensures kept)

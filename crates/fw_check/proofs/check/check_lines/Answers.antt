@@ -6,7 +6,7 @@ use Rattle.fw_check.proofs.check.check_lines.Goals as goal
 
 pub loop-number-init : goal.loop-number-init
 loop-number-init g c kept =
-    at_start (g.R.Read.remaining c.args.input.now) (g.W.Write.contents c.args.out.now) c.args.checker.now.judge
+    at_start c.args.options (g.R.Read.remaining c.args.input.now) (g.W.Write.contents c.args.out.now) c.args.checker.now.judge
     c.args.checker.now.counts kept
 
 pub returns : goal.returns
@@ -16,8 +16,8 @@ returns g c kept =
     let had = g.W.Write.contents c.args.out.now in
     let has = g.W.Write.contents c.loop-number.out in
     map_some
-    (λ capture. IsUpTo capture left c.loop-number.number c.loop-number.checker.judge c.loop-number.checker.counts had has)
-    (λ capture. StopsIn capture NoMemory had has) known
-    (λ capture upto. next_unread capture left left c.loop-number.number c.loop-number.checker.judge
+    (λ capture. IsUpTo c.args.options capture left c.loop-number.number c.loop-number.checker.judge c.loop-number.checker.counts had has)
+    (λ capture. StopsIn c.args.options capture NoMemory had has) known
+    (λ capture upto. next_unread c.args.options capture left left c.loop-number.number c.loop-number.checker.judge
     c.loop-number.checker.counts had has upto NoMemory (inr refl))
     (c.loop-number.invariant kept)

@@ -6,5 +6,5 @@ use Rattle.fw_check.proofs.check.check_lines.Given as goal
 abbrev pub invariant-loop-number : goal.invariant-loop-number
 invariant-loop-number g l = IsKept nothing_judged l.initial.checker.judge l.initial.checker.counts
     → IfSome (g.R.Read.remaining l.initial.input)
-    (λ capture. IsUpTo capture (g.R.Read.remaining l.input) l.number l.checker.judge l.checker.counts
+    (λ capture. IsUpTo l.options capture (g.R.Read.remaining l.input) l.number l.checker.judge l.checker.counts
     (g.W.Write.contents l.initial.out) (g.W.Write.contents l.out))

@@ -14,10 +14,10 @@ returns-then-has_no_fault g c =
     let counts = c.check_all.new.checker.counts in
     record {
       statuses = (0, omega arith, refl);
-      prints = map_some (λ capture. AllPrinted capture counts had has)
-          (λ capture. PrintsChecked name capture had has faults faults 0)
+      prints = map_some (λ capture. AllPrinted c.args.options capture counts had has)
+          (λ capture. PrintsChecked c.args.options name capture had has faults faults 0)
           (g.R.Read.remaining c.args.input.now)
-          (λ capture all. ends_well name capture counts had has faults faults all (c.if-has_no_fault.ensures.0 refl))
+          (λ capture all. ends_well c.args.options name capture counts had has faults faults all (c.if-has_no_fault.ensures.0 refl))
           (c.in-Ok.ensures c.new-checker.ensures);
     }
 
@@ -30,10 +30,10 @@ returns-in-Ok g c =
     let counts = c.check_all.new.checker.counts in
     record {
       statuses = (4, omega arith, refl);
-      prints = map_some (λ capture. AllPrinted capture counts had has)
-          (λ capture. PrintsChecked name capture had has faults faults 6)
+      prints = map_some (λ capture. AllPrinted c.args.options capture counts had has)
+          (λ capture. PrintsChecked c.args.options name capture had has faults faults 6)
           (g.R.Read.remaining c.args.input.now)
-          (λ capture all. ends_with_faults name capture counts had has faults faults all
+          (λ capture all. ends_with_faults c.args.options name capture counts had has faults faults all
           (λ none. let yes = c.if-has_no_fault.ensures.1 none in cc))
           (c.in-Ok.ensures c.new-checker.ensures);
     }
@@ -48,9 +48,9 @@ returns g c =
     let stop = c.in-Err.stop in
     record {
       statuses = stop_status stop name faults said c.report.result c.report.ensures;
-      prints = map_some (λ capture. StopsIn capture stop had has)
-          (λ capture. PrintsChecked name capture had has faults said c.report.result)
+      prints = map_some (λ capture. StopsIn c.args.options capture stop had has)
+          (λ capture. PrintsChecked c.args.options name capture had has faults said c.report.result)
           (g.R.Read.remaining c.args.input.now)
-          (λ capture at. stops stop name capture had has faults said c.report.result at c.report.ensures)
+          (λ capture at. stops c.args.options stop name capture had has faults said c.report.result at c.report.ensures)
           (c.in-Err.ensures c.new-checker.ensures);
     }

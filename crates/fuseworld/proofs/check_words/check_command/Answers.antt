@@ -1,0 +1,18 @@
+use Rattle.std.proofs.Common.{rules, codes}
+use Rattle.std.proofs.lemmas.Result.{IfOk-weaker}
+use Rattle.clap.specs.Words.{new_rule, new_app}
+use Rattle.fuseworld.specs.Arguments.{IsArgument, flag}
+use Rattle.fuseworld.specs.Commands.{IsCommand}
+use Rattle.fuseworld.proofs.Adding.{adds_argument, with_about}
+use Rattle.fuseworld.proofs.check_words.check_command.Goals as goal
+
+pub returns : goal.returns
+returns c =
+    let server_is : IsArgument (flag (codes "server")) c.flag-server.result = search rules in
+    let kernel_is : IsArgument (flag (codes "kernel")) c.flag-kernel.result = search rules in
+    let file_is : IsArgument (new_rule (codes "FILE")) c.capture_argument.result = search rules in
+    let new_is : IsCommand (new_app (codes "check")) c.new.result = search rules in
+    let about_is = with_about _ _ c.about.result _ c.about.ensures new_is in
+    let server = adds_argument _ _ _ _ _ about_is server_is c.in_ok-arg.ensures in
+    let kernel = adds_argument _ _ _ _ _ server kernel_is c.in_ok-arg-2.ensures in
+    IfOk-weaker c.arg-3.result _ _ (λ command adds. adds_argument _ _ _ command _ kernel file_is adds) c.arg-3.ensures
