@@ -10,3 +10,4 @@ pub mod SeenSoFar
 pub mod MarkLaws
 pub mod TallyLaws
 pub mod TransferLaws
+mod WaitingCounts

@@ -23,7 +23,7 @@ const LIMIT: u64 = 1 << 62;
 /// A judge of one session.
 #[derive(Drop)]
 pub struct Judge<A: Allocator = Global> {
-    tables: Tables<A>,
+    pub(crate) tables: Tables<A>,
     /// How many acts were seen.
     acts: u64,
 }

@@ -25,6 +25,7 @@ mod tally_list;
 mod tally_rows;
 #[cfg(test)]
 mod tests;
+mod unanswered;
 
 pub use judge::Judge;
 pub use session::SessionJudge;

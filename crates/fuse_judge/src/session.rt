@@ -16,7 +16,7 @@ use std::marker::Model;
 /// A judge of one session, which reads its frames.
 #[derive(Drop)]
 pub struct SessionJudge<A: Allocator = Global> {
-    judge: Judge<A>,
+    pub(crate) judge: Judge<A>,
     known: Known,
 }
 
