@@ -151,12 +151,13 @@ class Session:
         self.read(init_request())
         self.write(init_reply(**agreed))
 
-    def end(self, entries=0, forgotten=0):
-        """The two lines of counts."""
+    def end(self, entries=0, forgotten=0, unanswered=0):
+        """The two lines of counts. A request is unanswered where it takes a reply, no reply under its number was written and
+        not refused with ENOENT, and no later request took its number."""
         parties = [fault.split(": ")[1] for fault in self.faults]
         transfers = " ".join(f"{word} {count}" for word, count in self.counted.items())
         return "\n".join([
-            *self.faults, f"{transfers} entries {entries} forgotten {forgotten}",
+            *self.faults, f"{transfers} unanswered {unanswered} entries {entries} forgotten {forgotten}",
             "faults: " + " ".join(f"{party} {parties.count(party)}" for party in ("kernel", "server", "device")), "",
         ])
 
@@ -191,7 +192,7 @@ def malformed_requests():
     s.read(request(99, 12, 1), bad, "kernel: number used twice: unique 12")
     # 1,024 bytes are a name
     s.ask("LOOKUP", 30, 1, text("a" * 1024), error=ENOENT)
-    return s, s.end()
+    return s, s.end(unanswered=8)
 
 
 def later_opcodes():
@@ -207,7 +208,7 @@ def later_opcodes():
     s.read(request(54, 10, 1, length=41), "kernel: malformed request")
     s.read(request(19, 12, 1), "kernel: malformed request")
     s.read(request("LOOKUP", 14, 1, b"a"), "kernel: malformed request")
-    return s, s.end()
+    return s, s.end(unanswered=3)
 
 
 def resends():
@@ -231,7 +232,7 @@ def resends():
     s.read(request("RELEASE", again + 10, 2, release_body(5)), f"kernel: resend of nothing: unique {again + 10} of 10")
     s.ask("STATFS", 12, 1, answer=b"\0" * 80)
     s.read(request("STATFS", 12, 1), "kernel: number used twice: STATFS 12")
-    return s, s.end(entries=1)
+    return s, s.end(entries=1, unanswered=2)
 
 
 def resends_unasked():
@@ -241,7 +242,7 @@ def resends_unasked():
     s.read(request("STATFS", (1 << 63) + 8, 1))
     s.read(request("STATFS", 10, 1), "kernel: number out of order: STATFS 10")
     s.read(request("GETATTR", (1 << 63) + 10, 9, getattr_body()), "kernel: node that is not counted: node 9")
-    return s, s.end()
+    return s, s.end(unanswered=3)
 
 
 def requests_before_init():
@@ -252,7 +253,7 @@ def requests_before_init():
     s.write(init_reply(4))
     s.ask("STATFS", 8, 1, answer=b"\0" * 80)
     s.read(init_request(10), "kernel: INIT is not first: INIT")
-    return s, s.end()
+    return s, s.end(unanswered=3)
 
 
 def numbers_of_requests():
@@ -272,7 +273,7 @@ def numbers_of_requests():
     s.read(request("FORGET", 20, 2, numbers("Q", 1)))
     s.read(request("STATFS", 16, 1))
     s.read(request("STATFS", 20, 1), "kernel: number used twice: STATFS 20")
-    return s, s.end(entries=2, forgotten=2)
+    return s, s.end(entries=2, forgotten=2, unanswered=4)
 
 
 def several_readers():
@@ -291,7 +292,7 @@ def several_readers():
     s.line("= ended ENODEV")
     s.read(request("STATFS", 14, 1))
     s.write(reply(6, b"\0" * 80))
-    return s, s.end()
+    return s, s.end(unanswered=2)
 
 
 def several_writers():
@@ -304,7 +305,7 @@ def several_writers():
     s.line("= ended ENODEV")
     s.read(request("STATFS", 10, 1))
     s.write(reply(10, b"\0" * 80))
-    return s, s.end()
+    return s, s.end(unanswered=1)
 
 
 def interrupts():
@@ -325,7 +326,7 @@ def interrupts():
     s.write(reply(11))
     s.read(request("INTERRUPT", 11, 0, numbers("Q", 10)), "kernel: INTERRUPT too often: INTERRUPT 11 of 10")
     s.write(reply(10, b"\0" * 80))
-    return s, s.end()
+    return s, s.end(unanswered=1)
 
 
 def nodes_not_counted():
@@ -342,7 +343,7 @@ def nodes_not_counted():
     s.read(request("LOOKUP", 16, 1, text("b")))
     s.write(reply(16, entry(3, 30)), "device: right reply refused: unique 16", errno="EINVAL")
     s.read(request("STATFS", 18, 3), "kernel: node that is not counted: node 3")
-    return s, s.end(entries=1, forgotten=1)
+    return s, s.end(entries=1, forgotten=1, unanswered=5)
 
 
 def forgets():
@@ -366,7 +367,7 @@ def forgets():
     s.ask("LOOKUP", 26, 1, text("d"), entry(6, 60))
     s.read(request("GETATTR", 28, 6, getattr_body()))
     s.read(request("FORGET", 30, 6, numbers("Q", 1)))
-    return s, s.end(entries=6, forgotten=1 + 0 + 3 + 1 + 1 + 1 + 0 + 1)
+    return s, s.end(entries=6, forgotten=1 + 0 + 3 + 1 + 1 + 1 + 0 + 1, unanswered=2)
 
 
 def open_files():
@@ -395,7 +396,7 @@ def open_files():
     s.read(request("RELEASE", 36, 2, release_body(9)))
     s.write(reply(34))
     s.read(request("RELEASE", 38, 2, release_body(9)))
-    return s, s.end(entries=1)
+    return s, s.end(entries=1, unanswered=12)
 
 
 def files_that_are_not_opened():
@@ -413,7 +414,7 @@ def files_that_are_not_opened():
     s.ask("CREATE", 20, 1, numbers("IIII", 0, 0o644, 0, 0) + text("b"), entry(3, 30) + opened(5))
     s.ask("READ", 22, 3, read_body(5))
     s.read(request("FORGET", 24, 3, numbers("Q", 1)))
-    return s, s.end(entries=2, forgotten=1)
+    return s, s.end(entries=2, forgotten=1, unanswered=4)
 
 
 def writes_cut_short():
@@ -576,7 +577,7 @@ def exported():
     s.read(request("LOOKUP", 8, 8, text("..")), "kernel: node that is not counted: node 8")
     s.ask("LOOKUP", 10, 9, text("a"), entry(1, 1, DIRECTORY), faults=("server: entry of the root",))
     s.read(request("FORGET", 12, 9, numbers("Q", 1)))
-    return s, s.end(entries=1, forgotten=1)
+    return s, s.end(entries=1, forgotten=1, unanswered=1)
 
 
 def nodes_of_two_files():
@@ -673,7 +674,7 @@ def after_the_end():
     s.read(request("STATFS", 6, 1), "device: read after the end")
     s.write(reply(90), "device: reply accepted after the end: unique 90", "server: reply to nothing: unique 90")
     s.line("= closed")
-    return s, s.end()
+    return s, s.end(unanswered=1)
 
 
 def after_a_lost_reply():
@@ -685,7 +686,7 @@ def after_a_lost_reply():
     s.write(reply(6, b"\0" * 80), errno="ENOENT")
     s.read(request("STATFS", 8, 1), "device: read after the end")
     s.line("= ended ECONNABORTED")
-    return s, s.end()
+    return s, s.end(unanswered=3)
 
 
 # ---- sessions without a fault

@@ -7,6 +7,8 @@ use Rattle.clap.specs.declared.error.Error.{Error}
 use Rattle.fuse_spec.specs.declared.Minor.{Minor}
 use Rattle.fuse_spec.specs.declared.Minor.TheVariants.{M15, M31}
 use Rattle.fuse_sessions.specs.declared.fault.Party.TheVariants as party
+use Rattle.fw_check.specs.declared.options.CheckForm.{CheckForm}
+use Rattle.fw_check.specs.declared.options.CheckForm.TheVariants as check_form
 use Rattle.fw_check.specs.declared.options.CheckOptions.{CheckOptions}
 use Rattle.fw_drive.specs.declared.Form.{Form}
 use Rattle.fw_drive.specs.declared.Form.TheVariants.{Events, Calls, CallsBeside}
@@ -29,16 +31,17 @@ pub record AsksCheck (rows : List Row) (t : CheckTask) : Type 0 where
   pub file : option_map (λ text. text.now) t.file ≡ first_of (codes "FILE") rows
   pub server : t.server ≡ is_set (codes "server") rows
   pub kernel : t.kernel ≡ is_set (codes "kernel") rows
+  pub json : t.json ≡ is_set (codes "json") rows
 
 -- what is asked of it: one party alone or all, and not two alone
-abbrev pub asked_parties : (server kernel : Bool) → Option CheckOptions
-asked_parties true true = None
-asked_parties true false = Some (record { only = Some party.Server })
-asked_parties false true = Some (record { only = Some party.Kernel })
-asked_parties false false = Some (record { only = None })
+abbrev pub options_in : (server kernel : Bool) → CheckForm → Option CheckOptions
+options_in true true form = None
+options_in true false form = Some (record { only = Some party.Server; form = form })
+options_in false true form = Some (record { only = Some party.Kernel; form = form })
+options_in false false form = Some (record { only = None; form = form })
 
 abbrev pub options_of : CheckTask → Option CheckOptions
-options_of t = asked_parties t.server t.kernel
+options_of t = options_in t.server t.kernel (if t.json then check_form.Json else check_form.Words)
 
 -- a command on frames
 abbrev pub AsksFrame : Text → List Row → FrameTask → Type 0

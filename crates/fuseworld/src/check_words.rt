@@ -11,7 +11,7 @@ use crate::capture::{CaptureTask, capture_argument, run_capture};
 use crate::values::{is_set, text_or_none};
 use clap::{ArgMatches, Command};
 use fuse_sessions::Party;
-use fw_check::CheckOptions;
+use fw_check::{CheckForm, CheckOptions};
 use std::alloc::{AllocError, Global};
 
 /// One run of `check`.
@@ -23,6 +23,8 @@ pub struct CheckTask<'a> {
     pub server: bool,
     /// The kernel alone is judged.
     pub kernel: bool,
+    /// A JSON object a line is printed.
+    pub json: bool,
 }
 
 /// The command `check`.
@@ -31,10 +33,12 @@ pub fn check_command<'a>(alloc: Global) -> Result<Command<'a>, AllocError>
 {
     let server = flag(alloc, "server", "Print and count the server's faults alone");
     let kernel = flag(alloc, "kernel", "Print and count the kernel's faults alone");
+    let json = flag(alloc, "json", "Print one JSON object for each line");
     Command::new(alloc, "check")
         .about("Judge a capture: which rule of the protocol is broken, in which line, and by whom")
         .arg(server)?
         .arg(kernel)?
+        .arg(json)?
         .arg(capture_argument(alloc))
 }
 
@@ -46,6 +50,7 @@ pub fn check_task<'a>(matches: &ArgMatches<'a>) -> CheckTask<'a>
         file: text_or_none(matches, "FILE"),
         server: is_set(matches, "server"),
         kernel: is_set(matches, "kernel"),
+        json: is_set(matches, "json"),
     }
 }
 
@@ -59,7 +64,12 @@ fn options_of(task: CheckTask<'_>) -> Option<CheckOptions>
         (false, true) => Some(Party::Kernel),
         (false, false) => None,
     };
-    Some(CheckOptions { only })
+    let form = if task.json {
+        CheckForm::Json
+    } else {
+        CheckForm::Words
+    };
+    Some(CheckOptions { only, form })
 }
 
 /// Judges a capture, and gives the exit status.

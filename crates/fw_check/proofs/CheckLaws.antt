@@ -10,15 +10,16 @@ use Rattle.fuse_capture.specs.declared.line.CaptureLine.{CaptureLine}
 use Rattle.fuse_capture.specs.Lines.{IsPassedOver, LineSays}
 use Rattle.fuse_capture.specs.Readings.{IsTransferOf}
 use Rattle.fw_check.specs.declared.counts.Counts.{Counts}
+use Rattle.fw_check.specs.declared.options.CheckForm.{CheckForm}
+use Rattle.fw_check.specs.declared.options.CheckForm.TheVariants.{Json, Words}
 use Rattle.fw_check.specs.declared.options.CheckOptions.{CheckOptions}
 use Rattle.fw_check.specs.declared.stop.Stop.{Stop}
 use Rattle.fw_check.specs.declared.stop.Stop.TheVariants.{BadLine, CannotRead, NoMemory, OutputRefused}
-use Rattle.fw_check.specs.Checks.{Judged, Checks, passed_over, says, no_line, nothing_judged, end_text}
-use Rattle.fw_check.specs.Counting.{counts_text}
+use Rattle.fw_check.specs.Checks.{Judged, Checks, passed_over, says, no_line, nothing_judged, counts_of, end_text, start_in}
 use Rattle.fw_check.specs.Endings.{lines_of}
-use Rattle.fw_check.specs.FaultWords.{fault_lines}
+use Rattle.fw_check.specs.Forms.{counts_text, fault_lines, head_text}
 use Rattle.fw_check.specs.Outputs.{AppendsSome}
-use Rattle.fw_check.specs.Running.{AllChecked, AreCounts, CheckEnds, ChecksMore, IsJudgedSo, IsKept, IsTaken, IsUpTo, LineEnds, NextEnds, PrintsEnd, SaidEnds, StopsIn, judged_after}
+use Rattle.fw_check.specs.Running.{AllChecked, AreCounts, CheckEnds, ChecksMore, IsJudgedSo, IsKept, IsTaken, IsUnanswered, IsUpTo, LineEnds, NextEnds, PrintsEnd, SaidEnds, StopsIn, judged_after}
 use Rattle.fw_check.proofs.Writes.{Appends-append, Appends-nil, some_first, some_then}
 
 -- ---- results
@@ -49,10 +50,10 @@ said_checks : (o : CheckOptions) (lines : List (List ℕ)) (j : Judged) (line : 
     (verdicts : List (Option Fault)) (judge : SessionState) (c : Counts) → Checks o lines j
     → (so : IsJudgedSo o j l acts verdicts judge c) → LineSays line so.transfer
     → Checks o (lines ++ line ∷ []) (judged_after j so.transfer acts verdicts judge.known
-    (j.text ++ fault_lines (length lines + 1) acts verdicts))
+    (j.text ++ fault_lines o.form (length lines + 1) acts verdicts))
 said_checks o lines j line l acts verdicts judge c checks so is =
     subst (λ (vs : List (Option Fault)). Checks o (lines ++ line ∷ []) (judged_after j so.transfer acts vs judge.known
-    (j.text ++ fault_lines (length lines + 1) acts vs)))
+    (j.text ++ fault_lines o.form (length lines + 1) acts vs)))
     (sym so.asked)
     (says lines j checks line so.transfer is acts judge.known so.are so.all so.each so.faults)
 
@@ -61,23 +62,23 @@ pub line_said : {T : Type 0} (o : CheckOptions) (r : Result T Stop) (lines : Lis
     → ((t : Transfer) → IsTransferOf l t → LineSays line t) → number ≡ length lines + 1
     → SaidEnds o j number l judge c r had has → LineEnds o lines j line judge c r had has
 line_said o (Ok done) lines j line number l judge c had has checks said is (acts, verdicts, so, appends) =
-    let text = j.text ++ fault_lines (length lines + 1) acts verdicts in (
+    let text = j.text ++ fault_lines o.form (length lines + 1) acts verdicts in (
       judged_after j so.transfer acts verdicts judge.known text,
-      fault_lines number acts verdicts,
+      fault_lines o.form number acts verdicts,
       record {
         checks = said_checks o lines j line l acts verdicts judge c checks so (said so.transfer so.is);
-        text = ap (λ n. j.text ++ fault_lines n acts verdicts) (sym is);
+        text = ap (λ n. j.text ++ fault_lines o.form n acts verdicts) (sym is);
       },
       so.kept text,
       appends,
     )
 line_said o (Err OutputRefused) lines j line number l judge c had has checks said is (acts, verdicts, so, some) =
-    let text = j.text ++ fault_lines (length lines + 1) acts verdicts in (
+    let text = j.text ++ fault_lines o.form (length lines + 1) acts verdicts in (
       judged_after j so.transfer acts verdicts judge.known text,
-      fault_lines number acts verdicts,
+      fault_lines o.form number acts verdicts,
       record {
         checks = said_checks o lines j line l acts verdicts judge c checks so (said so.transfer so.is);
-        text = ap (λ n. j.text ++ fault_lines n acts verdicts) (sym is);
+        text = ap (λ n. j.text ++ fault_lines o.form n acts verdicts) (sym is);
       },
       some,
     )
@@ -172,7 +173,7 @@ module _ (o : CheckOptions) (capture : List ℕ) (known left : Option (List ℕ)
         lines = after_next (lines_of capture) upto.done line (lines_of upto.rest) following.0 upto.lines following.1;
         judged = next;
         checks = checks.checks;
-        says = some_first had has next.text (end_text next) (next.text ++ end_text next) refl
+        says = some_first had has next.text (end_text o.form next) (next.text ++ end_text o.form next) refl
             (some_then had mid has upto.judged.text more next.text checks.text upto.printed some);
       }
 
@@ -195,53 +196,96 @@ module _ (o : CheckOptions) (capture : List ℕ) (known left : Option (List ℕ)
     says = upto.printed;
   }
 
+-- what is kept says nothing of what was printed
+kept_printed : (text : List ℕ) (judge : SessionState) (c : Counts) → IsKept nothing_judged judge c
+    → IsKept (record nothing_judged { text = text }) judge c
+kept_printed text judge c kept = record {
+  seen = kept.seen;
+  known = kept.known;
+  counts = record {
+    requests = kept.counts.requests;
+    replies = kept.counts.replies;
+    notifications = kept.counts.notifications;
+    refused = kept.counts.refused;
+    entries = kept.counts.entries;
+    forgotten = kept.counts.forgotten;
+    kernel = kept.counts.kernel;
+    server = kept.counts.server;
+    device = kept.counts.device;
+  };
+}
+
 -- before the first line
-pub at_start : (o : CheckOptions) (known had : Option (List ℕ)) (judge : SessionState) (c : Counts) → IsKept nothing_judged judge c
-    → IfSome known (λ capture. IsUpTo o capture known 1 judge c had had)
-at_start o None had judge c kept = tt
-at_start o (Some capture) had judge c kept = record {
+pub at_start : (o : CheckOptions) (known had has : Option (List ℕ)) (judge : SessionState) (c : Counts)
+    → Appends had has (head_text o.form) → IsKept nothing_judged judge c
+    → IfSome known (λ capture. IsUpTo o capture known 1 judge c had has)
+at_start o None had has judge c begun kept = tt
+at_start o (Some capture) had has judge c begun kept = record {
   done = [];
   rest = capture;
-  judged = nothing_judged;
+  judged = start_in o.form;
   is_left = refl;
   lines = refl;
   count = omega arith;
   checks = no_line;
-  kept = kept;
-  printed = Appends-nil had;
+  kept = kept_printed (head_text o.form) judge c kept;
+  printed = begun;
+}
+
+-- the output refuses what stands before the first line
+pub not_begun : (o : CheckOptions) (known had has : Option (List ℕ)) → AppendsSome had has (head_text o.form)
+    → IfSome known (λ capture. StopsIn o capture OutputRefused had has)
+not_begun o None had has some = tt
+not_begun o (Some capture) had has some = record {
+  done = [];
+  rest = lines_of capture;
+  lines = refl;
+  judged = start_in o.form;
+  checks = no_line;
+  says = some_first had has (head_text o.form) (end_text o.form (start_in o.form))
+      (head_text o.form ++ end_text o.form (start_in o.form)) refl some;
 }
 
 -- ---- the end
 
 -- the counts that are kept are those of what was judged
-counts_are : (j : Judged) (c : Counts) → AreCounts j c → counts_text c ≡ end_text j
-counts_are j c are = rw
+counts_are : (form : CheckForm) (n : ℕ) (j : Judged) (c : Counts) → AreCounts j c
+    → counts_text form n c ≡ counts_text form n (counts_of j)
+counts_are Words n j c are = rw
+    (are.requests, are.replies, are.notifications, are.refused, are.entries, are.forgotten, are.kernel, are.server, are.device) refl
+counts_are Json n j c are = rw
     (are.requests, are.replies, are.notifications, are.refused, are.entries, are.forgotten, are.kernel, are.server, are.device) refl
 
-pub all_ends : {T : Type 0} (o : CheckOptions) (r : Result T Stop) (capture : List ℕ) (judge : SessionState) (c : Counts)
-    (had mid has : Option (List ℕ)) → AllChecked o capture judge c had mid → PrintsEnd c r mid has
-    → CheckEnds o capture c r had has
-all_ends o (Ok done) capture judge c had mid has all appends =
-    let same = counts_are all.judged c all.kept.counts in
+-- with how many requests wait
+ends_are : (form : CheckForm) (n : ℕ) (j : Judged) (judge : SessionState) (c : Counts) → IsKept j judge c
+    → IsUnanswered judge n → counts_text form n c ≡ end_text form j
+ends_are form n j judge c kept waits =
+    counts_are form n j c kept.counts ∙ ap (λ k. counts_text form k (counts_of j)) (waits j.transfers j.acts kept.seen)
+
+pub all_ends : {T : Type 0} (o : CheckOptions) (n : ℕ) (r : Result T Stop) (capture : List ℕ) (judge : SessionState)
+    (c : Counts) (had mid has : Option (List ℕ)) → IsUnanswered judge n → AllChecked o capture judge c had mid
+    → PrintsEnd o.form n c r mid has → CheckEnds o capture c r had has
+all_ends o n (Ok done) capture judge c had mid has waits all appends =
+    let same = ends_are o.form n all.judged judge c all.kept waits in
     record {
       judged = all.judged;
       checks = all.checks;
       counts = all.kept.counts;
-      printed = Appends-append had mid has all.judged.text (end_text all.judged) all.printed
+      printed = Appends-append had mid has all.judged.text (end_text o.form all.judged) all.printed
           (subst (Appends mid has) same appends);
     }
-all_ends o (Err OutputRefused) capture judge c had mid has all some =
-    let same = counts_are all.judged c all.kept.counts in
+all_ends o n (Err OutputRefused) capture judge c had mid has waits all some =
+    let same = ends_are o.form n all.judged judge c all.kept waits in
     record {
       done = lines_of capture;
       rest = [];
       lines = sym (append-nil (lines_of capture));
       judged = all.judged;
       checks = all.checks;
-      says = some_then had mid has all.judged.text (end_text all.judged) (all.judged.text ++ end_text all.judged) refl
-          all.printed (subst (AppendsSome mid has) same some);
+      says = some_then had mid has all.judged.text (end_text o.form all.judged)
+          (all.judged.text ++ end_text o.form all.judged) refl all.printed (subst (AppendsSome mid has) same some);
     }
-all_ends o (Err NoMemory) capture judge c had mid has all still = record {
+all_ends o n (Err NoMemory) capture judge c had mid has waits all still = record {
   done = lines_of capture;
   rest = [];
   lines = sym (append-nil (lines_of capture));
@@ -249,5 +293,5 @@ all_ends o (Err NoMemory) capture judge c had mid has all still = record {
   checks = all.checks;
   says = printed_still had mid has all.judged.text all.printed still;
 }
-all_ends o (Err CannotRead) capture judge c had mid has all h = absurd h
-all_ends o (Err (BadLine n f)) capture judge c had mid has all h = absurd h
+all_ends o n (Err CannotRead) capture judge c had mid has waits all h = absurd h
+all_ends o n (Err (BadLine k f)) capture judge c had mid has waits all h = absurd h

@@ -8,15 +8,18 @@ use Rattle.fuse_sessions.specs.declared.known.Known.{Known}
 use Rattle.fuse_sessions.specs.declared.transfer.Transfer.{Transfer}
 use Rattle.fuse_sessions.specs.Sessions.{Session}
 use Rattle.fuse_sessions.specs.Frames.{AreActs, nothing_known}
+use Rattle.fuse_sessions.specs.Waiting.{waiting}
 use Rattle.fuse_judge.specs.Transfers.{AreFaults}
 use Rattle.fuse_capture.specs.Lines.{LineSays, IsPassedOver}
+use Rattle.fw_check.specs.declared.counts.Counts.{Counts}
+use Rattle.fw_check.specs.declared.options.CheckForm.{CheckForm}
 use Rattle.fw_check.specs.declared.options.CheckOptions.{CheckOptions}
 use Rattle.fw_check.specs.Asked.{asked_verdicts}
-use Rattle.fw_check.specs.FaultWords.{fault_lines}
-use Rattle.fw_check.specs.Tallies.{entries_of, faults_text, forgotten_by, is_notification, is_of, is_refused, is_reply, is_request, lookups_text, one_if, transfers_text}
+use Rattle.fw_check.specs.Forms.{counts_text, fault_lines, head_text}
+use Rattle.fw_check.specs.Tallies.{entries_of, forgotten_by, is_notification, is_of, is_refused, is_reply, is_request, one_if}
 
 -- What was judged: the transfers that were said, what is known after them, their acts, the verdict on each act without a
--- fault that is not asked for, and the lines of the faults.
+-- fault that is not asked for, and what is printed of them.
 pub record Judged : Type 0 where
   pub transfers : List Transfer
   pub known : Known
@@ -33,9 +36,13 @@ nothing_judged = record {
   text = [];
 }
 
+-- nothing yet, in this form
+abbrev pub start_in : CheckForm → Judged
+start_in form = record nothing_judged { text = head_text form }
+
 -- Each line is judged after those before it. What is asked for changes the verdicts that are kept, and no act.
 pub data Checks (o : CheckOptions) : (lines : List (List ℕ)) → Judged → Type 0 where
-  no_line : Checks o [] nothing_judged
+  no_line : Checks o [] (start_in o.form)
   passed_over : (lines : List (List ℕ)) (j : Judged) → Checks o lines j → (line : List ℕ) → IsPassedOver line
       → Checks o (lines ++ line ∷ []) j
   says : (lines : List (List ℕ)) (j : Judged) → Checks o lines j → (line : List ℕ) (t : Transfer) → LineSays line t
@@ -46,7 +53,7 @@ pub data Checks (o : CheckOptions) : (lines : List (List ℕ)) → Judged → Ty
         known = known;
         acts = j.acts ++ acts;
         verdicts = j.verdicts ++ asked_verdicts o.only verdicts;
-        text = j.text ++ fault_lines (length lines + 1) acts (asked_verdicts o.only verdicts);
+        text = j.text ++ fault_lines o.form (length lines + 1) acts (asked_verdicts o.only verdicts);
       })
 
 -- ---- counts
@@ -63,9 +70,19 @@ faults_of p j = sum_by (λ v. one_if (is_of p v)) j.verdicts
 abbrev pub fault_count : Judged → ℕ
 fault_count j = faults_of party.Kernel j + faults_of party.Server j + faults_of party.Device j
 
--- the last two lines
-abbrev pub end_text : Judged → List ℕ
-end_text j =
-    transfers_text (number_of is_request j) (number_of is_reply j) (number_of is_notification j) (number_of is_refused j)
-    ++ lookups_text (sum_by entries_of j.acts) (sum_by forgotten_by j.acts)
-    ++ faults_text (faults_of party.Kernel j) (faults_of party.Server j) (faults_of party.Device j)
+abbrev pub counts_of : Judged → Counts
+counts_of j = record {
+  requests = number_of is_request j;
+  replies = number_of is_reply j;
+  notifications = number_of is_notification j;
+  refused = number_of is_refused j;
+  entries = sum_by entries_of j.acts;
+  forgotten = sum_by forgotten_by j.acts;
+  kernel = faults_of party.Kernel j;
+  server = faults_of party.Server j;
+  device = faults_of party.Device j;
+}
+
+-- the counts at the end, also of the requests that wait
+abbrev pub end_text : CheckForm → Judged → List ℕ
+end_text form j = counts_text form (length (waiting j.acts)) (counts_of j)

@@ -1,5 +1,5 @@
 -- The line of a fault.
-use Rattle.std.specs.Prelude.{ℕ, List, [], ◌∷◌, ◌++◌, Option, Some, None, codes, decimal}
+use Rattle.std.specs.Prelude.{ℕ, List, [], ◌++◌, codes, decimal}
 use Rattle.fuse_protocol.specs.Table.{name_of}
 use Rattle.fuse_sessions.specs.declared.act.Act.{Act}
 use Rattle.fuse_sessions.specs.declared.act.Act.TheVariants as act
@@ -86,9 +86,3 @@ act_words a = []
 abbrev pub fault_line : (number : ℕ) → Act → Fault → List ℕ
 fault_line number a f = codes "line " ++ decimal number ++ codes ": " ++ party_word (party_of f) ++ codes ": "
     ++ fault_words f ++ act_words a ++ codes "\n"
-
--- the lines of the faults of a transfer's acts, in their order
-abbrev pub fault_lines : (number : ℕ) → List Act → List (Option Fault) → List ℕ
-fault_lines number (a ∷ acts) (Some f ∷ verdicts) = fault_line number a f ++ fault_lines number acts verdicts
-fault_lines number (a ∷ acts) (None ∷ verdicts) = fault_lines number acts verdicts
-fault_lines number acts verdicts = []

@@ -3,6 +3,8 @@ pub mod Checks
 pub mod Counting
 pub mod Endings
 pub mod FaultWords
+pub mod Forms
+pub mod Json
 pub mod Outputs
 pub mod Reports
 pub mod Running

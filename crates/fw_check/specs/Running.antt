@@ -7,27 +7,29 @@ use Rattle.fuse_sessions.specs.declared.fault.Party.TheVariants as party
 use Rattle.fuse_sessions.specs.declared.known.Known.{Known}
 use Rattle.fuse_sessions.specs.declared.transfer.Transfer.{Transfer}
 use Rattle.fuse_sessions.specs.Frames.{AreActs}
+use Rattle.fuse_sessions.specs.Sessions.{Session}
+use Rattle.fuse_sessions.specs.Waiting.{waiting}
 use Rattle.fuse_judge.specs.Transfers.{AreFaults, HasSeenTransfers, SessionState}
 use Rattle.fuse_capture.specs.declared.line.CaptureLine.{CaptureLine}
 use Rattle.fuse_capture.specs.Lines.{LineFaultIs}
 use Rattle.fuse_capture.specs.Readings.{IsTransferOf}
 use Rattle.fw_check.specs.declared.counts.Counts.{Counts}
+use Rattle.fw_check.specs.declared.options.CheckForm.{CheckForm}
 use Rattle.fw_check.specs.declared.options.CheckOptions.{CheckOptions}
 use Rattle.fw_check.specs.declared.stop.Stop.{Stop}
 use Rattle.fw_check.specs.declared.stop.Stop.TheVariants as stop
 use Rattle.fw_check.specs.Asked.{asked_verdicts}
-use Rattle.fw_check.specs.Counting.{counts_text}
 use Rattle.fw_check.specs.Checks.{Judged, Checks, end_text, faults_of, number_of}
 use Rattle.fw_check.specs.Endings.{lines_of}
-use Rattle.fw_check.specs.FaultWords.{fault_line, fault_lines}
+use Rattle.fw_check.specs.Forms.{counts_text, fault_lines, fault_text}
 use Rattle.fw_check.specs.Outputs.{AppendsSome}
 use Rattle.fw_check.specs.Reports.{bad_line, unreadable}
 use Rattle.fw_check.specs.Tallies.{entries_of, forgotten_by, is_notification, is_refused, is_reply, is_request}
 
--- the line of a verdict, where it is a fault
-abbrev pub verdict_line : (number : ℕ) → Act → Option Fault → List ℕ
-verdict_line number a (Some f) = fault_line number a f
-verdict_line number a None = []
+-- what is printed of a verdict, where it is a fault
+abbrev pub verdict_text : CheckForm → (number : ℕ) → Act → Option Fault → List ℕ
+verdict_text form number a (Some f) = fault_text form number a f
+verdict_text form number a None = []
 
 -- ---- one transfer more
 
@@ -76,9 +78,9 @@ pub record IsJudgedSo (o : CheckOptions) (j : Judged) (l : CaptureLine) (acts : 
 abbrev pub SaidEnds : {T : Type 0} → CheckOptions → Judged → (number : ℕ) → CaptureLine → SessionState → Counts → Result T Stop
     → (had has : Option (List ℕ)) → Type 0
 SaidEnds o j number l judge c (Ok done) had has = (acts : List Act) × (verdicts : List (Option Fault))
-    × IsJudgedSo o j l acts verdicts judge c × Appends had has (fault_lines number acts verdicts)
+    × IsJudgedSo o j l acts verdicts judge c × Appends had has (fault_lines o.form number acts verdicts)
 SaidEnds o j number l judge c (Err stop.OutputRefused) had has = (acts : List Act) × (verdicts : List (Option Fault))
-    × IsJudgedSo o j l acts verdicts judge c × AppendsSome had has (fault_lines number acts verdicts)
+    × IsJudgedSo o j l acts verdicts judge c × AppendsSome had has (fault_lines o.form number acts verdicts)
 SaidEnds o j number l judge c (Err stop.NoMemory) had has = Appends had has []
 SaidEnds o j number l judge c (Err other) had has = ⊥
 
@@ -125,11 +127,11 @@ pub record AllChecked (o : CheckOptions) (capture : List ℕ) (judge : SessionSt
   pub printed : Appends had has judged.text
 
 -- What a stop says of the lines that were judged, and of those that are left.
-abbrev pub StopSays : Stop → (number : ℕ) → (rest : List (List ℕ)) → Judged → (had has : Option (List ℕ)) → Type 0
-StopSays (stop.BadLine n f) number rest j had has = (line : List ℕ) × (after : List (List ℕ)) × (rest ≡ line ∷ after)
+abbrev pub StopSays : CheckForm → Stop → (number : ℕ) → (rest : List (List ℕ)) → Judged → (had has : Option (List ℕ)) → Type 0
+StopSays form (stop.BadLine n f) number rest j had has = (line : List ℕ) × (after : List (List ℕ)) × (rest ≡ line ∷ after)
     × LineFaultIs line f × (n ≡ number) × Appends had has j.text
-StopSays stop.OutputRefused number rest j had has = AppendsSome had has (j.text ++ end_text j)
-StopSays other number rest j had has = Appends had has j.text
+StopSays form stop.OutputRefused number rest j had has = AppendsSome had has (j.text ++ end_text form j)
+StopSays form other number rest j had has = Appends had has j.text
 
 -- A check stopped after some lines.
 pub record StopsIn (o : CheckOptions) (capture : List ℕ) (s : Stop) (had has : Option (List ℕ)) : Type 0 where
@@ -138,7 +140,7 @@ pub record StopsIn (o : CheckOptions) (capture : List ℕ) (s : Stop) (had has :
   pub lines : lines_of capture ≡ done ++ rest
   pub judged : Judged
   pub checks : Checks o done judged
-  pub says : StopSays s (length done + 1) rest judged had has
+  pub says : StopSays o.form s (length done + 1) rest judged had has
 
 -- What became of the next line: there are more, or it was the last.
 abbrev pub NextEnds : CheckOptions → (capture : List ℕ) → (left : Option (List ℕ)) → (number : ℕ) → SessionState → Counts
@@ -157,19 +159,25 @@ pub record AllPrinted (o : CheckOptions) (capture : List ℕ) (c : Counts) (had 
   pub judged : Judged
   pub checks : Checks o (lines_of capture) judged
   pub counts : AreCounts judged c
-  pub printed : Appends had has (judged.text ++ end_text judged)
+  pub printed : Appends had has (judged.text ++ end_text o.form judged)
 
 abbrev pub CheckEnds : {T : Type 0} → CheckOptions → (capture : List ℕ) → Counts → Result T Stop
     → (had has : Option (List ℕ)) → Type 0
 CheckEnds o capture c (Ok done) had has = AllPrinted o capture c had has
 CheckEnds o capture c (Err s) had has = StopsIn o capture s had has
 
--- What became of the last two lines.
-abbrev pub PrintsEnd : {T : Type 0} → Counts → Result T Stop → (had has : Option (List ℕ)) → Type 0
-PrintsEnd c (Ok done) had has = Appends had has (counts_text c)
-PrintsEnd c (Err stop.OutputRefused) had has = AppendsSome had has (counts_text c)
-PrintsEnd c (Err stop.NoMemory) had has = Appends had has []
-PrintsEnd c (Err other) had has = ⊥
+-- What became of the counts.
+abbrev pub PrintsEnd : {T : Type 0} → CheckForm → (unanswered : ℕ) → Counts → Result T Stop
+    → (had has : Option (List ℕ)) → Type 0
+PrintsEnd form unanswered c (Ok done) had has = Appends had has (counts_text form unanswered c)
+PrintsEnd form unanswered c (Err stop.OutputRefused) had has = AppendsSome had has (counts_text form unanswered c)
+PrintsEnd form unanswered c (Err stop.NoMemory) had has = Appends had has []
+PrintsEnd form unanswered c (Err other) had has = ⊥
+
+-- So many requests wait in the session that the judge has seen.
+abbrev pub IsUnanswered : SessionState → ℕ → Type 0
+IsUnanswered judge n = (transfers : List Transfer) (s : Session) → HasSeenTransfers transfers s judge
+    → n ≡ length (waiting s)
 
 -- ---- reading
 

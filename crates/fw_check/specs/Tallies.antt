@@ -80,6 +80,11 @@ abbrev pub lookups_text : (entries forgotten : ℕ) → List ℕ
 lookups_text entries forgotten =
     counted (codes " entries") entries ++ counted (codes " forgotten") forgotten ++ codes "\n"
 
+-- behind the counts of transfers
+abbrev pub later_text : (unanswered entries forgotten : ℕ) → List ℕ
+later_text unanswered entries forgotten =
+    counted (codes " unanswered") unanswered ++ lookups_text entries forgotten
+
 abbrev pub parties_text : (kernel server device : ℕ) → List ℕ
 parties_text kernel server device =
     counted (codes "faults: kernel") kernel ++ counted (codes " server") server ++ counted (codes " device") device

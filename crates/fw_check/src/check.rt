@@ -1,14 +1,17 @@
 //! The check of a capture.
 
 ghost use Rattle.std.specs.Prelude.{ℕ, List, Option, IfSome};
+ghost use Rattle.std.specs.Io.KnownBytes.{Appends};
 ghost use Rattle.fw_check.specs.Checks.{nothing_judged};
 ghost use Rattle.fw_check.specs.Endings.{EndsCheck};
+ghost use Rattle.fw_check.specs.Forms as words;
 ghost use Rattle.fw_check.specs.Running.{CheckEnds, IsKept, IsUpTo, LinesEnd, NextEnds, PrintsEnd};
 
 use crate::checker::{Checker, print};
 use crate::counts::Counts;
+use crate::form::{head_text, put_counts};
 use crate::lines::next_line;
-use crate::options::CheckOptions;
+use crate::options::{CheckForm, CheckOptions};
 use crate::stop::Stop;
 use std::alloc::Allocator;
 use std::io::{BufRead, Write};
@@ -39,7 +42,7 @@ fn check_next<A: Allocator + Copy, R: BufRead, W: Write>(
     }
 }
 
-/// Judges each line.
+/// Judges each line, once what stands before them was printed.
 fn check_lines<A: Allocator + Copy, R: BufRead, W: Write>(
     alloc: A,
     options: CheckOptions,
@@ -47,9 +50,9 @@ fn check_lines<A: Allocator + Copy, R: BufRead, W: Write>(
     input: &mut R,
     out: &mut W,
 ) -> Result<(), Stop>
-    ensures { IsKept nothing_judged checker.old.judge checker.old.counts → IfSome (R.remaining input.old)
-        (λ capture. LinesEnd options capture checker.new.judge checker.new.counts result (W.contents out.old)
-        (W.contents out.new)) }
+    ensures { (had : Option (List ℕ)) → Appends had (W.contents out.old) (words.head_text options.form)
+        → IsKept nothing_judged checker.old.judge checker.old.counts → IfSome (R.remaining input.old)
+        (λ capture. LinesEnd options capture checker.new.judge checker.new.counts result had (W.contents out.new)) }
 {
     let mut line = Vec::new(alloc);
     for number in 1..u64::MAX {
@@ -62,16 +65,18 @@ fn check_lines<A: Allocator + Copy, R: BufRead, W: Write>(
     Err(Stop::NoMemory)
 }
 
-/// Prints the last two lines. The room is for the text.
+/// Prints the counts. The room is for the text.
 fn print_end<A: Allocator, W: Write>(
+    form: CheckForm,
+    unanswered: u64,
     counts: Counts,
     room: &mut Vec<u8, A>,
     out: &mut W,
 ) -> Result<(), Stop>
-    ensures { PrintsEnd counts result (W.contents out.old) (W.contents out.new) }
+    ensures { PrintsEnd form unanswered counts result (W.contents out.old) (W.contents out.new) }
 {
     room.clear();
-    if counts.put(room).is_err() {
+    if put_counts(room, form, unanswered, counts).is_err() {
         return Err(Stop::NoMemory);
     }
     match print(out, room.as_slice()) {
@@ -80,7 +85,34 @@ fn print_end<A: Allocator, W: Write>(
     }
 }
 
-/// Judges each line, and prints the counts.
+/// Judges each line and prints the counts, once what stands before them was printed.
+fn check_rest<A: Allocator + Copy, R: BufRead, W: Write>(
+    alloc: A,
+    options: CheckOptions,
+    checker: &mut Checker<A>,
+    input: &mut R,
+    out: &mut W,
+) -> Result<(), Stop>
+    ensures { (had : Option (List ℕ)) → Appends had (W.contents out.old) (words.head_text options.form)
+        → IsKept nothing_judged checker.old.judge checker.old.counts → IfSome (R.remaining input.old)
+        (λ capture. CheckEnds options capture checker.new.counts result had (W.contents out.new)) }
+{
+    match check_lines(alloc, options, checker, input, out) {
+        Ok(()) => {
+            let unanswered = checker.judge.unanswered();
+            print_end(
+                options.form,
+                unanswered,
+                checker.counts,
+                &mut checker.text,
+                out,
+            )
+        }
+        Err(stop) => Err(stop),
+    }
+}
+
+/// Prints what stands before all else, judges each line, and prints the counts.
 fn check_all<A: Allocator + Copy, R: BufRead, W: Write>(
     alloc: A,
     options: CheckOptions,
@@ -91,14 +123,14 @@ fn check_all<A: Allocator + Copy, R: BufRead, W: Write>(
     ensures { IsKept nothing_judged checker.old.judge checker.old.counts → IfSome (R.remaining input.old)
         (λ capture. CheckEnds options capture checker.new.counts result (W.contents out.old) (W.contents out.new)) }
 {
-    match check_lines(alloc, options, checker, input, out) {
-        Ok(()) => print_end(checker.counts, &mut checker.text, out),
-        Err(stop) => Err(stop),
+    match print(out, head_text(options.form)) {
+        Ok(()) => check_rest(alloc, options, checker, input, out),
+        Err(_) => Err(Stop::OutputRefused),
     }
 }
 
-/// Judges the session that a capture says, and prints a line for each fault that is asked for as soon as its line was read,
-/// and two lines of counts at the end. The memory grows with what is unanswered, counted and open.
+/// Judges the session that a capture says, and prints each fault that is asked for as soon as its line was read, and counts
+/// at the end, in the form that is asked for. The memory grows with what is unanswered, counted and open.
 ///
 /// Gives the exit status: 0 where there is no fault that is asked for, and 6 where there is one; 1 after `cannot read` with the capture's
 /// name, or after `line N:` and the fault of the first bad line, on `faults`; 3 after `no memory`; or 5 where `out`

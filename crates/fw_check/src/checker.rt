@@ -3,13 +3,13 @@
 ghost use Rattle.std.specs.Prelude.{◌≡◌, ◌+◌, ◌++◌, ℕ, List, OnErr, OnOk, length};
 ghost use Rattle.std.specs.Io.KnownBytes.{Appends, Keeps};
 ghost use Rattle.fw_check.specs.Checks.{Checks, Judged, nothing_judged};
-ghost use Rattle.fw_check.specs.FaultWords.{fault_lines};
+ghost use Rattle.fw_check.specs.Forms.{fault_lines};
 ghost use Rattle.fw_check.specs.Outputs.{AppendsSome};
 ghost use Rattle.fw_check.specs.Running.{IsJudgedSo, IsKept, LineEnds, SaidEnds};
 
 use crate::asked::keep_asked;
 use crate::counts::{Counts, NOTHING};
-use crate::fault_line::put_faults;
+use crate::form::put_faults;
 use crate::options::CheckOptions;
 use crate::output::{OutputRefused, write_text};
 use crate::stop::Stop;
@@ -98,7 +98,7 @@ impl<A: Allocator + Copy> Checker<A> {
         }
     }
 
-    /// Judges the transfer that a line says, and makes the text of its faults.
+    /// Judges the transfer that a line says, and makes the text of its faults, in the form that is asked for.
     fn judge_line(
         &mut self,
         options: CheckOptions,
@@ -108,7 +108,7 @@ impl<A: Allocator + Copy> Checker<A> {
         ensures judged { OnOk result ((j : Judged) → IsKept j self.old.judge self.old.counts
             → IsJudgedSo options j said.entry self.new.acts.items self.new.verdicts.items self.new.judge self.new.counts) }
         ensures text { OnOk result (self.new.text.items
-            ≡ fault_lines number self.new.acts.items self.new.verdicts.items) }
+            ≡ fault_lines options.form number self.new.acts.items self.new.verdicts.items) }
     {
         judge_said(
             options,
@@ -122,6 +122,7 @@ impl<A: Allocator + Copy> Checker<A> {
         self.text.clear();
         put_faults(
             &mut self.text,
+            options.form,
             number,
             self.acts.as_slice(),
             self.verdicts.as_slice(),

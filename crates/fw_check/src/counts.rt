@@ -3,7 +3,7 @@
 ghost use Rattle.std.specs.Prelude.{◌≡◌, ◌+◌, ◌++◌, ◌↔◌, ◌⊎◌, IfSome, IsTrue, OnOk, sum_by};
 ghost use Rattle.fuse_sessions.specs.declared.fault.Party.TheVariants as party;
 ghost use Rattle.fw_check.specs.Tallies as words;
-ghost use Rattle.fw_check.specs.Counting.{CountsMore, counts_text};
+ghost use Rattle.fw_check.specs.Counting.{CountsMore, counts_lines};
 
 use crate::tallies::{
     count_after, entries_after, faults_after, forgotten_after, is_notification, is_refused,
@@ -90,6 +90,19 @@ impl Counts {
         put(text, b"\n")
     }
 
+    /// The counts of requests that wait and of lookups.
+    fn put_later<A: Allocator>(
+        self,
+        text: &mut Vec<u8, A>,
+        unanswered: u64,
+    ) -> Result<(), AllocError>
+        ensures { OnOk result (text.new.items
+            ≡ text.old.items ++ words.later_text unanswered self.entries self.forgotten) }
+    {
+        put_counted(text, b" unanswered", unanswered)?;
+        self.put_lookups(text)
+    }
+
     /// The counts of faults, without the line feed.
     fn put_parties<A: Allocator>(self, text: &mut Vec<u8, A>) -> Result<(), AllocError>
         ensures { OnOk result (text.new.items ≡ text.old.items ++ words.parties_text self.kernel self.server self.device) }
@@ -107,12 +120,16 @@ impl Counts {
         put(text, b"\n")
     }
 
-    /// The last two lines.
-    pub(crate) fn put<A: Allocator>(self, text: &mut Vec<u8, A>) -> Result<(), AllocError>
-        ensures { OnOk result (text.new.items ≡ text.old.items ++ counts_text self) }
+    /// The last two lines, with how many requests wait.
+    pub(crate) fn put<A: Allocator>(
+        self,
+        text: &mut Vec<u8, A>,
+        unanswered: u64,
+    ) -> Result<(), AllocError>
+        ensures { OnOk result (text.new.items ≡ text.old.items ++ counts_lines unanswered self) }
     {
         self.put_transfers(text)?;
-        self.put_lookups(text)?;
+        self.put_later(text, unanswered)?;
         self.put_faults(text)
     }
 }

@@ -1,9 +1,8 @@
-//! The lines of faults.
+//! The line of a fault.
 
 ghost use Rattle.std.specs.Prelude.{◌≡◌, ◌++◌, OnOk, codes, decimal};
 ghost use Rattle.fuse_sessions.specs.Parties.{party_of};
 ghost use Rattle.fw_check.specs.FaultWords as words;
-ghost use Rattle.fw_check.specs.Running.{verdict_line};
 
 use crate::act_words::put_act;
 use crate::text::{put, put_counted};
@@ -33,7 +32,7 @@ pub(crate) fn put_number_of_line<A: Allocator>(
 }
 
 /// The line of a fault.
-fn put_fault<A: Allocator>(
+pub(crate) fn put_fault_line<A: Allocator>(
     text: &mut Vec<u8, A>,
     number: u64,
     act: Act,
@@ -45,34 +44,4 @@ fn put_fault<A: Allocator>(
     put_rule(text, fault)?;
     put_act(text, act)?;
     put(text, b"\n")
-}
-
-/// The line of a verdict, where it is a fault.
-fn put_verdict<A: Allocator>(
-    text: &mut Vec<u8, A>,
-    number: u64,
-    act: Act,
-    verdict: Option<Fault>,
-) -> Result<(), AllocError>
-    ensures { OnOk result (text.new.items ≡ text.old.items ++ verdict_line number act verdict) }
-{
-    match verdict {
-        Some(fault) => put_fault(text, number, act, fault),
-        None => Ok(()),
-    }
-}
-
-/// The lines of the faults of a transfer's acts.
-pub(crate) fn put_faults<A: Allocator>(
-    text: &mut Vec<u8, A>,
-    number: u64,
-    acts: &[Act],
-    verdicts: &[Option<Fault>],
-) -> Result<(), AllocError>
-    ensures { OnOk result (text.new.items ≡ text.old.items ++ words.fault_lines number acts.now verdicts.now) }
-{
-    for place in 0..acts.len().min(verdicts.len()) {
-        put_verdict(text, number, acts[place], verdicts[place])?;
-    }
-    Ok(())
 }

@@ -1,8 +1,8 @@
 //! The check of a capture: who broke a rule of the FUSE protocol in a recorded session, and in which line.
 //!
 //! Each line of a capture is a transfer (`fuse_capture`), each transfer is judged after those before it (`fuse_judge`),
-//! and each fault is a line as soon as its transfer was read. At the end two lines have counts. `specs/` says what is
-//! printed.
+//! and each fault that is asked for is printed as soon as its transfer was read. Counts stand at the end. All is in words
+//! or as JSON. `specs/` says what is printed.
 #![tactic(auto)]
 
 mod act_words;
@@ -11,6 +11,8 @@ mod check;
 mod checker;
 mod counts;
 mod fault_line;
+mod form;
+mod json;
 mod lines;
 mod number_in;
 mod options;
@@ -23,5 +25,5 @@ mod text;
 mod words;
 
 pub use check::run_check;
-pub use options::CheckOptions;
+pub use options::{CheckForm, CheckOptions};
 pub use words::{fault_words, party_word};

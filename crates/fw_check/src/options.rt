@@ -2,9 +2,19 @@
 
 use fuse_sessions::Party;
 
+/// How a check prints.
+#[derive(Clone, Copy, Debug, PartialEq, Eq)]
+pub enum CheckForm {
+    /// A line in words for each fault, and two lines of counts.
+    Words,
+    /// A JSON object a line: one that names the form's version, one for each fault, and one with the counts.
+    Json,
+}
+
 /// What a check is asked for.
 #[derive(Clone, Copy, Debug, PartialEq, Eq)]
 pub struct CheckOptions {
     /// The party whose faults alone are printed and counted; `None` for all parties.
     pub only: Option<Party>,
+    pub form: CheckForm,
 }

@@ -35,7 +35,15 @@ pub(crate) fn put_counted<A: Allocator>(
     put_number(text, number)
 }
 
-/// The same of a larger number.
+/// Puts a larger number last.
+pub(crate) fn put_wide<A: Allocator>(text: &mut Vec<u8, A>, number: u128) -> Result<(), AllocError>
+    ensures { OnOk result (text.new.items ≡ text.old.items ++ decimal number) }
+{
+    let mut buffer = Buffer::new();
+    put(text, buffer.format(number).as_bytes())
+}
+
+/// Puts a word, a space and a larger number last.
 pub(crate) fn put_counted_wide<A: Allocator>(
     text: &mut Vec<u8, A>,
     word: &[u8],
@@ -45,8 +53,7 @@ pub(crate) fn put_counted_wide<A: Allocator>(
 {
     put(text, word)?;
     put(text, b" ")?;
-    let mut buffer = Buffer::new();
-    put(text, buffer.format(number).as_bytes())
+    put_wide(text, number)
 }
 
 /// Puts a space, a word, a space and a number last.

@@ -1,16 +1,18 @@
-use Rattle.fw_check.specs.Running.{AllChecked, CheckEnds}
-use Rattle.fw_check.proofs.CheckLaws.{all_ends, map_some}
+use Rattle.std.proofs.Common.{subst}
+use Rattle.std.specs.Io.KnownBytes.{Appends}
+use Rattle.fw_check.specs.Outputs.{AppendsSome}
+use Rattle.fw_check.proofs.CheckLaws.{not_begun}
 use Rattle.fw_check.proofs.check.check_all.Goals as goal
 
 pub returns-in-Ok : goal.returns-in-Ok
 returns-in-Ok g c kept =
     let had = g.W.Write.contents c.args.out.now in
-    let mid = g.W.Write.contents c.check_lines.new.out in
-    let has = g.W.Write.contents c.print_end.new.out in
-    let judge = c.check_lines.new.checker.judge in
-    let counts = c.check_lines.new.checker.counts in
-    map_some (λ capture. AllChecked c.args.options capture judge counts had mid)
-    (λ capture. CheckEnds c.args.options capture counts c.print_end.result had has)
-    (g.R.Read.remaining c.args.input.now)
-    (λ capture all. all_ends c.args.options c.print_end.result capture judge counts had mid has all c.print_end.ensures)
-    (c.in-Ok.ensures kept)
+    c.check_rest.ensures had (subst (Appends had (g.W.Write.contents c.print.new.out)) c.head_text.ensures c.in-Ok.ensures.ok)
+    kept
+
+pub returns-in-Err : goal.returns-in-Err
+returns-in-Err g c kept =
+    let had = g.W.Write.contents c.args.out.now in
+    let has = g.W.Write.contents c.print.new.out in
+    not_begun c.args.options (g.R.Read.remaining c.args.input.now) had has
+    (subst (AppendsSome had has) c.head_text.ensures c.in-Err.ensures.refused)

@@ -5,19 +5,19 @@ use Rattle.fw_check.proofs.CheckLaws.{at_start, map_some, next_unread}
 use Rattle.fw_check.proofs.check.check_lines.Goals as goal
 
 pub loop-number-init : goal.loop-number-init
-loop-number-init g c kept =
-    at_start c.args.options (g.R.Read.remaining c.args.input.now) (g.W.Write.contents c.args.out.now) c.args.checker.now.judge
-    c.args.checker.now.counts kept
+loop-number-init g c had begun kept =
+    at_start c.args.options (g.R.Read.remaining c.args.input.now) had (g.W.Write.contents c.args.out.now)
+    c.args.checker.now.judge c.args.checker.now.counts begun kept
 
 pub returns : goal.returns
-returns g c kept =
+returns g c had begun kept =
     let known = g.R.Read.remaining c.args.input.now in
     let left = g.R.Read.remaining c.loop-number.input in
-    let had = g.W.Write.contents c.args.out.now in
     let has = g.W.Write.contents c.loop-number.out in
     map_some
-    (λ capture. IsUpTo c.args.options capture left c.loop-number.number c.loop-number.checker.judge c.loop-number.checker.counts had has)
+    (λ capture. IsUpTo c.args.options capture left c.loop-number.number c.loop-number.checker.judge
+    c.loop-number.checker.counts had has)
     (λ capture. StopsIn c.args.options capture NoMemory had has) known
     (λ capture upto. next_unread c.args.options capture left left c.loop-number.number c.loop-number.checker.judge
     c.loop-number.checker.counts had has upto NoMemory (inr refl))
-    (c.loop-number.invariant kept)
+    (c.loop-number.invariant had begun kept)

@@ -1,7 +1,0 @@
-use Rattle.std.proofs.Common.{◌≡◌, ◌++◌, take}
-use Rattle.fw_check.specs.FaultWords.{fault_lines}
-use Rattle.fw_check.proofs.fault_line.put_faults.Given as goal
-
-abbrev pub invariant-loop-place : goal.invariant-loop-place
-invariant-loop-place g l =
-    l.text.items ≡ l.initial.text.items ++ fault_lines l.number (take l.place l.acts) (take l.place l.verdicts)

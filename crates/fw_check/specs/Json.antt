@@ -1,0 +1,79 @@
+-- The objects of `--json`, one a line.
+use Rattle.std.specs.Prelude.{ℕ, List, [], ◌++◌, codes, decimal}
+use Rattle.fuse_protocol.specs.Table.{name_of}
+use Rattle.fuse_sessions.specs.declared.act.Act.{Act}
+use Rattle.fuse_sessions.specs.declared.act.Act.TheVariants as act
+use Rattle.fuse_sessions.specs.declared.act.OpenFile.{OpenFile}
+use Rattle.fuse_sessions.specs.declared.fault.Fault.{Fault}
+use Rattle.fuse_sessions.specs.Parties.{party_of}
+use Rattle.fw_check.specs.declared.counts.Counts.{Counts}
+use Rattle.fw_check.specs.FaultWords.{fault_words, party_word}
+
+-- a key behind another
+abbrev pub key_text : List ℕ → List ℕ
+key_text key = codes ",\"" ++ key ++ codes "\":"
+
+abbrev pub number_field : (key : List ℕ) → ℕ → List ℕ
+number_field key number = key_text key ++ decimal number
+
+-- the text has no byte that JSON escapes
+abbrev pub text_field : (key text : List ℕ) → List ℕ
+text_field key text = key_text key ++ codes "\"" ++ text ++ codes "\""
+
+-- ---- faults
+
+abbrev pub node_fields : (node : ℕ) → (key : List ℕ) → ℕ → List ℕ
+node_fields node key number = number_field (codes "nodeid") node ++ number_field key number
+
+abbrev pub file_fields : OpenFile → List ℕ
+file_fields file = node_fields file.nodeid (codes "fh") file.fh
+
+-- what an act is about
+abbrev pub act_fields : Act → List ℕ
+act_fields (act.Begins opcode) = text_field (codes "opcode") (name_of opcode)
+act_fields (act.Read opcode unique) =
+    text_field (codes "opcode") (name_of opcode) ++ number_field (codes "unique") unique
+act_fields (act.Interrupts unique original) =
+    number_field (codes "unique") unique ++ number_field (codes "original") original
+act_fields (act.Names node) = number_field (codes "nodeid") node
+act_fields (act.Forgets node lookups) = node_fields node (codes "lookups") lookups
+act_fields (act.Uses file) = file_fields file
+act_fields (act.Releases file) = file_fields file
+act_fields (act.Writes size) = number_field (codes "bytes") size
+act_fields (act.Takes unique t fits) = number_field (codes "unique") unique
+act_fields (act.Replies unique t) = number_field (codes "unique") unique
+act_fields (act.RepliesToInterrupt original is_again t) = number_field (codes "original") original
+act_fields (act.Gives node file is_certain) =
+    node_fields node (codes "generation") file.generation ++ number_field (codes "ino") file.ino
+act_fields (act.Describes node kind ino) = node_fields node (codes "ino") ino
+act_fields a = []
+
+abbrev pub rule_fields : Fault → List ℕ
+rule_fields f = text_field (codes "party") (party_word (party_of f)) ++ text_field (codes "rule") (fault_words f)
+
+abbrev pub fault_object : (number : ℕ) → Act → Fault → List ℕ
+fault_object number a f = codes "{\"event\":\"fault\"" ++ number_field (codes "line") number ++ rule_fields f ++ act_fields a
+    ++ codes "}\n"
+
+-- ---- the first and the last object
+
+abbrev pub head_object : List ℕ
+head_object = codes "{\"event\":\"check\",\"schema\":1}\n"
+
+abbrev pub transfers_fields : Counts → List ℕ
+transfers_fields c = number_field (codes "requests") c.requests ++ number_field (codes "replies") c.replies
+    ++ number_field (codes "notifications") c.notifications ++ number_field (codes "refused") c.refused
+
+abbrev pub lookups_fields : (unanswered : ℕ) → Counts → List ℕ
+lookups_fields unanswered c = number_field (codes "unanswered") unanswered ++ number_field (codes "entries") c.entries
+    ++ number_field (codes "forgotten") c.forgotten
+
+abbrev pub parties_fields : Counts → List ℕ
+parties_fields c = number_field (codes "kernel") c.kernel ++ number_field (codes "server") c.server
+    ++ number_field (codes "device") c.device
+
+abbrev pub counts_fields : (unanswered : ℕ) → Counts → List ℕ
+counts_fields unanswered c = transfers_fields c ++ lookups_fields unanswered c ++ parties_fields c
+
+abbrev pub counts_object : (unanswered : ℕ) → Counts → List ℕ
+counts_object unanswered c = codes "{\"event\":\"counts\"" ++ counts_fields unanswered c ++ codes "}\n"

@@ -1,0 +1,85 @@
+//! What is printed in each form.
+
+ghost use Rattle.std.specs.Prelude.{◌≡◌, ◌++◌, OnOk};
+ghost use Rattle.fw_check.specs.Forms as words;
+ghost use Rattle.fw_check.specs.Running.{verdict_text};
+
+use crate::counts::Counts;
+use crate::fault_line::put_fault_line;
+use crate::json::{put_counts_object, put_fault_object};
+use crate::options::CheckForm;
+use fuse_sessions::{Act, Fault};
+use std::alloc::{AllocError, Allocator};
+
+/// What is printed before all else.
+pub(crate) fn head_text(form: CheckForm) -> &'static [u8]
+    ensures { result.now ≡ words.head_text form }
+{
+    match form {
+        CheckForm::Words => b"",
+        CheckForm::Json => b"{\"event\":\"check\",\"schema\":1}\n",
+    }
+}
+
+/// What is printed of a fault.
+fn put_fault<A: Allocator>(
+    text: &mut Vec<u8, A>,
+    form: CheckForm,
+    number: u64,
+    act: Act,
+    fault: Fault,
+) -> Result<(), AllocError>
+    ensures { OnOk result (text.new.items ≡ text.old.items ++ words.fault_text form number act fault) }
+{
+    match form {
+        CheckForm::Words => put_fault_line(text, number, act, fault),
+        CheckForm::Json => put_fault_object(text, number, act, fault),
+    }
+}
+
+/// What is printed of a verdict, where it is a fault.
+fn put_verdict<A: Allocator>(
+    text: &mut Vec<u8, A>,
+    form: CheckForm,
+    number: u64,
+    act: Act,
+    verdict: Option<Fault>,
+) -> Result<(), AllocError>
+    ensures { OnOk result (text.new.items ≡ text.old.items ++ verdict_text form number act verdict) }
+{
+    match verdict {
+        Some(fault) => put_fault(text, form, number, act, fault),
+        None => Ok(()),
+    }
+}
+
+/// What is printed of the faults of a transfer's acts.
+pub(crate) fn put_faults<A: Allocator>(
+    text: &mut Vec<u8, A>,
+    form: CheckForm,
+    number: u64,
+    acts: &[Act],
+    verdicts: &[Option<Fault>],
+) -> Result<(), AllocError>
+    ensures { OnOk result (text.new.items ≡ text.old.items ++ words.fault_lines form number acts.now verdicts.now) }
+{
+    for place in 0..acts.len().min(verdicts.len()) {
+        put_verdict(text, form, number, acts[place], verdicts[place])?;
+    }
+    Ok(())
+}
+
+/// What is printed of the counts.
+pub(crate) fn put_counts<A: Allocator>(
+    text: &mut Vec<u8, A>,
+    form: CheckForm,
+    unanswered: u64,
+    counts: Counts,
+) -> Result<(), AllocError>
+    ensures { OnOk result (text.new.items ≡ text.old.items ++ words.counts_text form unanswered counts) }
+{
+    match form {
+        CheckForm::Words => counts.put(text, unanswered),
+        CheckForm::Json => put_counts_object(text, unanswered, counts),
+    }
+}

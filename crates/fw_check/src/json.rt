@@ -1,0 +1,219 @@
+//! The objects of `--json`.
+
+ghost use Rattle.std.specs.Prelude.{◌≡◌, ◌++◌, OnOk, codes};
+ghost use Rattle.fuse_protocol.specs.Table.{name_of};
+ghost use Rattle.fw_check.specs.Json as words;
+
+use crate::counts::Counts;
+use crate::text::{put, put_number, put_wide};
+use crate::words::{fault_words, party_word};
+use fuse_protocol::Opcode;
+use fuse_sessions::{Act, Fault};
+use std::alloc::{AllocError, Allocator};
+
+/// A key behind another.
+fn put_key<A: Allocator>(text: &mut Vec<u8, A>, key: &[u8]) -> Result<(), AllocError>
+    ensures { OnOk result (text.new.items ≡ text.old.items ++ words.key_text key.now) }
+{
+    put(text, b",\"")?;
+    put(text, key)?;
+    put(text, b"\":")
+}
+
+/// A key and a number.
+fn put_field<A: Allocator>(text: &mut Vec<u8, A>, key: &[u8], number: u64) -> Result<(), AllocError>
+    ensures { OnOk result (text.new.items ≡ text.old.items ++ words.number_field key.now number) }
+{
+    put_key(text, key)?;
+    put_number(text, number)
+}
+
+/// A key and a larger number.
+fn put_wide_field<A: Allocator>(
+    text: &mut Vec<u8, A>,
+    key: &[u8],
+    number: u128,
+) -> Result<(), AllocError>
+    ensures { OnOk result (text.new.items ≡ text.old.items ++ words.number_field key.now number) }
+{
+    put_key(text, key)?;
+    put_wide(text, number)
+}
+
+/// A text between quotes.
+fn put_quoted<A: Allocator>(text: &mut Vec<u8, A>, value: &[u8]) -> Result<(), AllocError>
+    ensures { OnOk result (text.new.items ≡ text.old.items ++ (codes "\"" ++ value.now ++ codes "\"")) }
+{
+    put(text, b"\"")?;
+    put(text, value)?;
+    put(text, b"\"")
+}
+
+/// A key and a text, which has no byte that JSON escapes.
+fn put_text_field<A: Allocator>(
+    text: &mut Vec<u8, A>,
+    key: &[u8],
+    value: &str,
+) -> Result<(), AllocError>
+    ensures { OnOk result (text.new.items ≡ text.old.items ++ words.text_field key.now value.now) }
+{
+    put_key(text, key)?;
+    put_quoted(text, value.as_bytes())
+}
+
+/// A node, and a key and a number.
+fn put_node<A: Allocator>(
+    text: &mut Vec<u8, A>,
+    node: u64,
+    key: &[u8],
+    number: u64,
+) -> Result<(), AllocError>
+    ensures { OnOk result (text.new.items ≡ text.old.items ++ words.node_fields node key.now number) }
+{
+    put_field(text, b"nodeid", node)?;
+    put_field(text, key, number)
+}
+
+/// A request: its opcode and its number.
+fn put_read<A: Allocator>(
+    text: &mut Vec<u8, A>,
+    opcode: Opcode,
+    unique: u64,
+) -> Result<(), AllocError>
+    ensures { OnOk result (text.new.items ≡ text.old.items
+        ++ (words.text_field (codes "opcode") (name_of opcode) ++ words.number_field (codes "unique") unique)) }
+{
+    put_text_field(text, b"opcode", opcode.name())?;
+    put_field(text, b"unique", unique)
+}
+
+/// An INTERRUPT's number, and that of the request which it interrupts.
+fn put_interrupt<A: Allocator>(
+    text: &mut Vec<u8, A>,
+    unique: u64,
+    original: u64,
+) -> Result<(), AllocError>
+    ensures { OnOk result (text.new.items ≡ text.old.items
+        ++ (words.number_field (codes "unique") unique ++ words.number_field (codes "original") original)) }
+{
+    put_field(text, b"unique", unique)?;
+    put_field(text, b"original", original)
+}
+
+/// A node that is given, its generation and its inode number.
+fn put_gift<A: Allocator>(
+    text: &mut Vec<u8, A>,
+    node: u64,
+    generation: u64,
+    ino: u64,
+) -> Result<(), AllocError>
+    ensures { OnOk result (text.new.items ≡ text.old.items
+        ++ (words.node_fields node (codes "generation") generation ++ words.number_field (codes "ino") ino)) }
+{
+    put_node(text, node, b"generation", generation)?;
+    put_field(text, b"ino", ino)
+}
+
+/// What an act is about.
+fn put_act<A: Allocator>(text: &mut Vec<u8, A>, act: Act) -> Result<(), AllocError>
+    ensures { OnOk result (text.new.items ≡ text.old.items ++ words.act_fields act) }
+{
+    match act {
+        Act::Begins(opcode) => put_text_field(text, b"opcode", opcode.name()),
+        Act::Read { opcode, unique } => put_read(text, opcode, unique),
+        Act::Interrupts { unique, original } => put_interrupt(text, unique, original),
+        Act::Names(node) => put_field(text, b"nodeid", node),
+        Act::Forgets(node, lookups) => put_node(text, node, b"lookups", lookups),
+        Act::Uses(file) | Act::Releases(file) => put_node(text, file.nodeid, b"fh", file.fh),
+        Act::Writes(size) => put_field(text, b"bytes", size),
+        Act::Takes { unique, .. } | Act::Replies { unique, .. } => {
+            put_field(text, b"unique", unique)
+        }
+        Act::RepliesToInterrupt { original, .. } => put_field(text, b"original", original),
+        Act::Gives { nodeid, file, .. } => put_gift(text, nodeid, file.generation, file.ino),
+        Act::Describes { nodeid, ino, .. } => put_node(text, nodeid, b"ino", ino),
+        _ => Ok(()),
+    }
+}
+
+/// Whose fault it is, and the rule that is broken.
+fn put_rule<A: Allocator>(text: &mut Vec<u8, A>, fault: Fault) -> Result<(), AllocError>
+    ensures { OnOk result (text.new.items ≡ text.old.items ++ words.rule_fields fault) }
+{
+    put_text_field(text, b"party", party_word(fault.party()))?;
+    put_text_field(text, b"rule", fault_words(fault))
+}
+
+/// The object of a fault.
+pub(crate) fn put_fault_object<A: Allocator>(
+    text: &mut Vec<u8, A>,
+    number: u64,
+    act: Act,
+    fault: Fault,
+) -> Result<(), AllocError>
+    ensures { OnOk result (text.new.items ≡ text.old.items ++ words.fault_object number act fault) }
+{
+    put(text, b"{\"event\":\"fault\"")?;
+    put_field(text, b"line", number)?;
+    put_rule(text, fault)?;
+    put_act(text, act)?;
+    put(text, b"}\n")
+}
+
+/// The counts of transfers.
+fn put_transfers<A: Allocator>(text: &mut Vec<u8, A>, counts: Counts) -> Result<(), AllocError>
+    ensures { OnOk result (text.new.items ≡ text.old.items ++ words.transfers_fields counts) }
+{
+    put_field(text, b"requests", counts.requests)?;
+    put_field(text, b"replies", counts.replies)?;
+    put_field(text, b"notifications", counts.notifications)?;
+    put_field(text, b"refused", counts.refused)
+}
+
+/// The counts of requests that wait and of lookups.
+fn put_lookups<A: Allocator>(
+    text: &mut Vec<u8, A>,
+    unanswered: u64,
+    counts: Counts,
+) -> Result<(), AllocError>
+    ensures { OnOk result (text.new.items ≡ text.old.items ++ words.lookups_fields unanswered counts) }
+{
+    put_field(text, b"unanswered", unanswered)?;
+    put_field(text, b"entries", counts.entries)?;
+    put_wide_field(text, b"forgotten", counts.forgotten)
+}
+
+/// The counts of faults.
+fn put_parties<A: Allocator>(text: &mut Vec<u8, A>, counts: Counts) -> Result<(), AllocError>
+    ensures { OnOk result (text.new.items ≡ text.old.items ++ words.parties_fields counts) }
+{
+    put_field(text, b"kernel", counts.kernel)?;
+    put_field(text, b"server", counts.server)?;
+    put_field(text, b"device", counts.device)
+}
+
+/// The counts.
+fn put_counts<A: Allocator>(
+    text: &mut Vec<u8, A>,
+    unanswered: u64,
+    counts: Counts,
+) -> Result<(), AllocError>
+    ensures { OnOk result (text.new.items ≡ text.old.items ++ words.counts_fields unanswered counts) }
+{
+    put_transfers(text, counts)?;
+    put_lookups(text, unanswered, counts)?;
+    put_parties(text, counts)
+}
+
+/// The object of the counts.
+pub(crate) fn put_counts_object<A: Allocator>(
+    text: &mut Vec<u8, A>,
+    unanswered: u64,
+    counts: Counts,
+) -> Result<(), AllocError>
+    ensures { OnOk result (text.new.items ≡ text.old.items ++ words.counts_object unanswered counts) }
+{
+    put(text, b"{\"event\":\"counts\"")?;
+    put_counts(text, unanswered, counts)?;
+    put(text, b"}\n")
+}

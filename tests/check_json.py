@@ -1,0 +1,52 @@
+#!/usr/bin/env python3
+"""What `fuseworld check --json` has to print, by the lines in words that `fuseworld check` has to print.
+
+`tests/check_json.py FILE` reads these lines. The keys are those of docs/CHECK.md.
+"""
+import json
+import re
+import sys
+
+# What a fault is about, in words, and the keys of its values.
+ABOUT = [
+    (r"INTERRUPT (\d+) of (\d+)", ("unique", "original")),
+    (r"INTERRUPT of (\d+)", ("original",)),
+    (r"unique (\d+)", ("unique",)),
+    (r"bytes (\d+)", ("bytes",)),
+    (r"node (\d+)", ("nodeid",)),
+    (r"node (\d+) lookups (\d+)", ("nodeid", "lookups")),
+    (r"node (\d+) file handle (\d+)", ("nodeid", "fh")),
+    (r"node (\d+) generation (\d+) inode (\d+)", ("nodeid", "generation", "ino")),
+    (r"node (\d+) inode (\d+)", ("nodeid", "ino")),
+    (r"([A-Z_0-9]+) (\d+)", ("opcode", "unique")),
+    (r"([A-Z_0-9]+)", ("opcode",)),
+]
+
+
+def number(word):
+    return int(word) if word.isdigit() else word
+
+
+def about(words):
+    for form, keys in ABOUT:
+        found = re.fullmatch(form, words)
+        if found:
+            return dict(zip(keys, map(number, found.groups())))
+    raise ValueError(words)
+
+
+def fault(line):
+    _, place, party, rule, *rest = re.fullmatch(r"(line (\d+)): (\w+): ([^:]*)(?:: (.*))?", line).groups()
+    named = about(rest[0]) if rest[0] else {}
+    return {"event": "fault", "line": int(place), "party": party, "rule": rule} | named
+
+
+def main():
+    *faults, counts, parties = open(sys.argv[1], encoding="utf-8").read().splitlines()
+    words = (counts + parties.removeprefix("faults:")).split()
+    pairs = {key: int(value) for key, value in zip(words[::2], words[1::2])}
+    for it in ({"event": "check", "schema": 1}, *map(fault, faults), {"event": "counts"} | pairs):
+        print(json.dumps(it, separators=(",", ":")))
+
+
+main()
