@@ -20,7 +20,7 @@ use Rattle.fw_check.specs.Endings.{lines_of}
 use Rattle.fw_check.specs.Forms.{counts_text, fault_lines, head_text}
 use Rattle.fw_check.specs.Outputs.{AppendsSome}
 use Rattle.fw_check.specs.Running.{AllChecked, AreCounts, CheckEnds, ChecksMore, IsJudgedSo, IsKept, IsTaken, IsUnanswered, IsUpTo, LineEnds, NextEnds, PrintsEnd, SaidEnds, StopsIn, judged_after}
-use Rattle.fw_check.proofs.Writes.{Appends-append, Appends-nil, some_first, some_then}
+use Rattle.fw_check.proofs.Writes.{Appends-append, some_first, some_then}
 
 -- ---- results
 
