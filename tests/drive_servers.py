@@ -17,13 +17,9 @@ import tempfile
 import time
 from pathlib import Path
 
-TOP = Path(__file__).resolve().parent.parent
-DRIVE = TOP / "examples/drive"
+from real_servers import DRIVE, HELLO, SERVERS, TOP, build, put_cipher, put_folder, put_layers, quiet
+
 PROGRAM = Path(sys.argv[1] if len(sys.argv) > 1 else TOP / "crates/fuseworld/out/fuseworld").resolve()
-LIBFUSE = Path("/usr/share/doc/libfuse3-dev/examples")
-GO_FUSE = Path("/usr/share/gocode/src/github.com/hanwen/go-fuse")
-GO_LOOPBACK = Path("/usr/share/doc/golang-github-hanwen-go-fuse-dev/examples/loopback/main.go")
-HELLO = b"Hello World!\n"
 WAIT = 2000  # milliseconds, for a reply
 IDLE = 0.5  # seconds without a line, after which a pipe is opened
 SECONDS = 30  # the longest run
@@ -38,25 +34,6 @@ OLDER = "7.28 taken as 7.31"
 OVER_GO_FUSE = ["loopback", "gocryptfs"]
 
 
-def quiet(words, **more):
-    """Runs a command that has to end well."""
-    subprocess.run(words, check=True, stdin=subprocess.DEVNULL, stdout=subprocess.DEVNULL, stderr=subprocess.DEVNULL, **more)
-
-
-class Server:
-    """A server: its package, what has to be there for it, its command words, its scripts, and how its folder is prepared:
-    empty for scripts of calls, and with the file `hello` and the pipe `slow` for scripts of events."""
-
-    def __init__(self, name, package, needs, words, scripts, empty=lambda folder: None, filled=None, has_addresses=False):
-        self.name, self.package, self.needs, self.words, self.scripts = name, package, needs, words, scripts
-        self.empty, self.filled = empty, filled or empty
-        # Whether its node ids are addresses.
-        self.has_addresses = has_addresses
-
-    def is_there(self):
-        return all(shutil.which(need) or Path(need).exists() for need in self.needs)
-
-
 def with_files(empty, place):
     """The same with the file and the pipe, of which `pipe` is another link."""
     def filled(folder):
@@ -67,93 +44,38 @@ def with_files(empty, place):
     return filled
 
 
-def put_folder(folder):
-    (folder / "files").mkdir()
-
-
-def put_layers(folder):
-    for name in ("lower", "upper", "work", "mount"):
-        (folder / name).mkdir()
-
-
-def put_image(folder):
-    (folder / "image").mkdir()
-    (folder / "image/hello").write_bytes(HELLO)
-    quiet(["mksquashfs", folder / "image", folder / "image.sqfs", "-all-root", "-no-progress"])
-
-
-def put_cipher(folder):
-    (folder / "cipher").mkdir()
-    (folder / "password").write_text("secret\n")
-    quiet(["gocryptfs", "-init", "-q", "-scryptn", "10", "-passfile", folder / "password", folder / "cipher"])
-
-
 def put_cipher_files(folder):
     """gocryptfs makes two files, and the second is replaced by a pipe."""
     put_cipher(folder)
     script = folder / "make.script"
     script.write_text("call create /hello\ncall write 1 0 48656c6c6f20576f726c64210a\ncall close 1\n")
-    launch(GOCRYPTFS, folder, script, "--calls")
+    launch(SERVERS["gocryptfs"], folder, script, "--calls")
     before = set((folder / "cipher").iterdir())
     script.write_text("call create /slow\ncall close 1\n")
-    launch(GOCRYPTFS, folder, script, "--calls")
+    launch(SERVERS["gocryptfs"], folder, script, "--calls")
     [made] = set((folder / "cipher").iterdir()) - before
     made.unlink()
     os.mkfifo(folder / "pipe")
     os.link(folder / "pipe", made)
 
 
-def libfuse(name):
-    return ["pkg-config", "cc", f"{LIBFUSE}/{name}.c"]
-
-
 READS = ["read-only", *CALLS, *RACES]
 WRITES = [*CHANGES, *RACES, *SLOW]
-OVERLAY = "lowerdir=FOLDER/lower,upperdir=FOLDER/upper,workdir=FOLDER/work"
-GOCRYPTFS = Server("gocryptfs", "gocryptfs", ["gocryptfs"],
-                   ["gocryptfs", "-fg", "-q", "-passfile", "FOLDER/password", "FOLDER/cipher", "MOUNT"], WRITES,
-                   put_cipher, put_cipher_files)
-PLAIN = (put_folder, with_files(put_folder, "files"))
-SERVERS = [
-    Server("hello_ll_uds", "libfuse3-dev", libfuse("hello_ll_uds"), None, READS),
-    Server("hello_ll", "libfuse3-dev", libfuse("hello_ll"), ["BUILT/hello_ll", "-f", "MOUNT"], READS),
-    Server("hello", "libfuse3-dev", libfuse("hello"), ["BUILT/hello", "-f", "MOUNT"], READS),
-    Server("squashfuse_ll", "squashfuse, squashfs-tools", ["squashfuse_ll", "mksquashfs"],
-           ["squashfuse_ll", "-f", "FOLDER/image.sqfs", "MOUNT"], READS, put_image),
-    Server("passthrough", "libfuse3-dev", libfuse("passthrough"),
-           ["BUILT/passthrough", "-f", "-o", "modules=subdir,subdir=FOLDER/files", "MOUNT"], WRITES, *PLAIN),
-    Server("passthrough_fh", "libfuse3-dev", libfuse("passthrough_fh"),
-           ["BUILT/passthrough_fh", "-f", "-o", "modules=subdir,subdir=FOLDER/files", "MOUNT"], WRITES, *PLAIN),
-    Server("passthrough_ll", "libfuse3-dev", libfuse("passthrough_ll"),
-           ["BUILT/passthrough_ll", "-f", "-o", "source=FOLDER/files", "MOUNT"], WRITES, *PLAIN, has_addresses=True),
-    Server("loopback", "golang-github-hanwen-go-fuse-dev, golang-go", ["go", str(GO_LOOPBACK)],
-           ["BUILT/loopback", "MOUNT", "FOLDER/files"], WRITES, *PLAIN),
-    Server("fuse-overlayfs", "fuse-overlayfs", ["fuse-overlayfs", "cc"],
-           ["env", "LD_PRELOAD=BUILT/shim.so", "fuse-overlayfs", "-f", "-o", OVERLAY, "FOLDER/mount"], WRITES, put_layers,
-           with_files(put_layers, "lower"), has_addresses=True),
-    GOCRYPTFS,
-]
-
-
-def build(names):
-    """The launcher, the shim, and the examples of libfuse and go-fuse that are among the names."""
-    quiet(["cc", "-O2", "-o", BUILT / "launcher", DRIVE / "launcher.c"])
-    quiet(["cc", "-O2", "-shared", "-fPIC", "-o", BUILT / "shim.so", DRIVE / "shim.c"])
-    (BUILT / "fuse_kernel.h").write_text("#include <linux/fuse.h>\n")
-    for name in names:
-        if not (LIBFUSE / f"{name}.c").exists():
-            continue
-        # hello_ll_uds listens at a path of its own in /tmp.
-        source = (LIBFUSE / f"{name}.c").read_text().replace("/tmp/libfuse-hello-ll.sock", f"{BUILT}/uds.sock")
-        (BUILT / f"{name}.c").write_text(source)
-        flags = subprocess.run(["pkg-config", "fuse3", "--cflags", "--libs"], check=True, capture_output=True, text=True).stdout
-        quiet(["cc", "-w", f"-I{BUILT}", f"-I{LIBFUSE}", "-o", BUILT / name, BUILT / f"{name}.c", *flags.split(), "-lpthread"])
-    if "loopback" in names:
-        source = BUILT / "go/src/github.com/hanwen/go-fuse"
-        source.mkdir(parents=True)
-        (source / "v2").symlink_to(GO_FUSE)
-        quiet(["go", "build", "-o", BUILT / "loopback", GO_LOOPBACK],
-              env={**os.environ, "GO111MODULE": "off", "GOFLAGS": "", "GOPATH": f"{BUILT}/go:/usr/share/gocode", "GOCACHE": f"{BUILT}/cache"})
+IN_FILES = with_files(put_folder, "files")
+# The scripts of each server, and how its folder is prepared for scripts of events: with the file `hello` and the pipe
+# `slow`. For scripts of calls it is empty.
+DRIVEN = {
+    "hello_ll_uds": (READS, None),
+    "hello_ll": (READS, None),
+    "hello": (READS, None),
+    "squashfuse_ll": (READS, None),
+    "passthrough": (WRITES, IN_FILES),
+    "passthrough_fh": (WRITES, IN_FILES),
+    "passthrough_ll": (WRITES, IN_FILES),
+    "loopback": (WRITES, IN_FILES),
+    "fuse-overlayfs": (WRITES, with_files(put_layers, "lower")),
+    "gocryptfs": (WRITES, put_cipher_files),
+}
 
 
 def opened(pipe):
@@ -186,9 +108,9 @@ def output_of(words, slow=None):
 
 def launch(server, folder, script, form, slow=None):
     """What a script prints on a server over the launcher."""
-    words = [word.replace("FOLDER", str(folder)).replace("BUILT", str(BUILT)) for word in server.words]
     still = ["setarch", "-R"] if server.has_addresses else []
-    return output_of([BUILT / "launcher", "-t", str(WAIT), PROGRAM, "drive", *form.split(), script, "--", *still, *words], slow)
+    return output_of([BUILT / "launcher", "-t", str(WAIT), PROGRAM, "drive", *form.split(), script, "--", *still,
+                      *server.command(BUILT, folder)], slow)
 
 
 def connect(script, form):
@@ -211,7 +133,8 @@ def run(server, script, node=None):
     is_of_calls = script not in RACES + SLOW
     with tempfile.TemporaryDirectory() as name:
         folder = Path(name)
-        (server.empty if is_of_calls else server.filled)(folder)
+        filled = DRIVEN[server.name][1]
+        (server.prepare if is_of_calls or filled is None else filled)(folder)
         file = DRIVE / f"{script}.script"
         if node:
             file = folder / "other.script"
@@ -273,16 +196,18 @@ def run_told(server, script):
 
 def main():
     resource.setrlimit(resource.RLIMIT_CORE, (0, 0))
-    there = [server for server in SERVERS if server.is_there() and shutil.which("cc")]
+    servers = [SERVERS[name] for name in DRIVEN]
+    there = [server for server in servers if server.is_there() and shutil.which("cc")]
     if there:
-        build([server.name for server in there])
+        quiet(["cc", "-O2", "-o", BUILT / "launcher", DRIVE / "launcher.c"])
+        build(BUILT, [server.name for server in there])
     expected = sections()
     passed = failed = 0
-    for server in SERVERS:
+    for server in servers:
         if server not in there:
             print(f"skipped: {server.name} ({server.package})")
             continue
-        for script in server.scripts:
+        for script in DRIVEN[server.name][0]:
             for _turn in range(TURNS):
                 got, is_older = run_told(server, script)
                 is_right = got in expected.get((script, server.name), []) and is_older == (server.name in OVER_GO_FUSE)
@@ -293,7 +218,7 @@ def main():
                 continue
             failed += 1
             print(f"not ok: {script} on {server.name}\n{got}")
-    skipped = len(SERVERS) - len(there)
+    skipped = len(servers) - len(there)
     print(f"{passed} passed, {failed} failed, {skipped} skipped")
     return 1 if failed else 0
 
