@@ -173,4 +173,5 @@ def main():
         Server(lines, *ends).run()
 
 
-main()
+if __name__ == "__main__":
+    main()
