@@ -6,7 +6,7 @@
 
 SCRIPT ?= tests/rows/stat-of-root.script
 
-.PHONY: run try test build mount watch vectors lib install uninstall bench drive-tests watch-tests wrong-bodies check rows docs fmt
+.PHONY: run try test build mount watch vectors lib install uninstall bench drive-tests watch-tests watch-times wrong-bodies check rows docs fmt
 
 run: build
 	@crates/fuseworld/out/fuseworld run "$(SCRIPT)"
@@ -90,9 +90,16 @@ bench: build
 drive-tests: build
 	@python3 tests/drive_servers.py
 
-# A small server on a watched mount: examples/watch writes down each frame, and leaves no mount.
-watch-tests:
+# A small server on a watched mount, whose frames examples/watch writes down; one with each of 26 bugs; then servers of
+# others whose packages are there, under load. ARGS has further words for tests/watch_servers.py.
+watch-tests: build
 	@sh tests/watch.sh
+	@python3 tests/watch_bugs.py
+	@python3 tests/watch_servers.py $(ARGS)
+
+# What the watcher and the judge cost.
+watch-times: build
+	@python3 tests/watch_times.py
 
 # Whether each wrong body of tests/wrong_bodies is refused; CRATES names the crates whose bodies are tried, or none for all.
 wrong-bodies:

@@ -235,6 +235,39 @@ cmp -s "$work/wanted" "$work/capture"
 check "a trace of two threads" 0 $?
 check "a trace of two threads: what it lacks" 3 "$(grep -c "the first is 4\|1 writes whose end\|1 frames were cut" "$work/err")"
 
+# A capture by hand, with each kind of line, as pcap and back: what is skipped is not there.
+cat > "$work/capture" << END
+# times, a cut frame, a refused one, and an end
+= several readers
+> @1700000000000000001 $(printf %080d 0) +12
+
+> $(printf %080d 1)
+< @1700000000000000002 10000000feffffff0200000000000000 ENOENT
+< 10000000feffffff0200000000000000 +4 E600
+= ended ENODEV
+END
+grep '^[<>=]' "$work/capture" > "$work/wanted"
+python3 "$tools/from_capture.py" "$work/capture" > "$work/pcap" && python3 "$tools/from_capture.py" --back "$work/pcap" > "$work/back"
+check "pcap of each kind of line" 0 $?
+cmp -s "$work/wanted" "$work/back"
+check "pcap of each kind of line, and back" 0 $?
+# The first request is the second packet: its time, the bytes that are kept and those on the wire, and its head.
+check "pcap: a packet's heads" "00f15365 01000000 2c000000 38000000 00010000" \
+    "$(python3 -c 'import sys; print(open(sys.argv[1], "rb").read()[59:79].hex(" ", 4))' "$work/pcap")"
+if command -v tcpdump > /dev/null; then
+    tcpdump -nr "$work/pcap" 2> "$work/err" > "$work/out"
+    check "tcpdump: packets" 6 "$(grep -c "^[0-9]" "$work/out")"
+    check "tcpdump: link type" 1 "$(grep -c "147" "$work/err")"
+else
+    echo "skipped: there is no tcpdump"
+fi
+for words in "> " "> zz" "x 00" "> 00 ENOENT more" "> @x 00"; do
+    echo "$words" > "$work/capture"
+    python3 "$tools/from_capture.py" "$work/capture" > "$work/pcap" 2> "$work/err"
+    check "pcap of a bad line $words" 1 $?
+    check "pcap of a bad line $words: what is said" 1 "$(grep -c '^from_capture.py: line 1: ' "$work/err")"
+done
+
 if command -v strace > /dev/null && strace -o /dev/null true 2> /dev/null; then
     rm -f "$work/log"
     # shellcheck disable=SC2016

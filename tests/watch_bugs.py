@@ -43,8 +43,11 @@ WANTED = {
     "another-version": "INIT of another version",
     "flag-that-was-not-offered": "flags that were not offered",
 }
-# What else `check` may say, of the same line. The last section of docs/CHECK.md has why.
-BESIDE = {"record-with-a-slash": "device: body of another request accepted"}
+# What else `check` may say, of that line or a later one. The last section of docs/CHECK.md has why.
+BESIDE = {
+    "record-with-a-slash": "device: body of another request accepted",
+    "entry-of-no-kind": "server: node of two kinds",
+}
 
 
 def rules_of_the_server():
@@ -86,7 +89,7 @@ def try_bug(program, built, folder, word):
         return "the wrong frame did not come"
     wanted = f"line {line}: server: {WANTED[word]}"
     faults = [re.match(r"line \d+: \w+: [^:]*", text)[0] for text in said.stdout.splitlines() if text.startswith("line ")]
-    other = [fault for fault in faults if fault not in (wanted, f"line {line}: {BESIDE.get(word)}")]
+    other = [fault for fault in faults if fault != wanted and fault.split(": ", 1)[1] != BESIDE.get(word)]
     if said.returncode != 6 or wanted not in faults or other:
         return f"wanted {wanted}\n{said.stdout}{said.stderr}"
     return None

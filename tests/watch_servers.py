@@ -3,9 +3,10 @@
 
     watch_servers.py [--program FILE] [--only WORD] [--frames N] [--keep FOLDER]
 
-A server has three sessions. `all` has every load of watch_loads.py until the server has N frames in all (100,000), and
+A server has sessions of three kinds. `all` has every load of watch_loads.py until the server has N frames in all (100,000), and
 ends by umount. In `signals` callers are killed and signalled, requests wait in the kernel while the server is busy, and
-`umount -l` comes while the mount is in use. `abort` ends by an abort of the connection in mid-load.
+`umount -l` comes while the mount is in use. `abort` ends by an abort of the connection in mid-load. One more, `strace`, is
+of a server whose threads all read the device.
 
 A fault that `check` finds is a failure, but where KNOWN says which server has it, and why. A server whose Debian package
 is not there is skipped. With --keep the captures that have a fault are kept in FOLDER. Prints a line a session, and ends
@@ -36,17 +37,18 @@ PERMISSIONS = "default_permissions"
 class Sessions:
     """A server, more words for it, options of its mount, and its loads."""
 
-    def __init__(self, server, words=(), options=PERMISSIONS, loads=WRITES, name=None):
+    def __init__(self, server, words=(), options=PERMISSIONS, loads=WRITES, name=None, is_straced=False):
         self.name, self.server, self.words, self.options, self.loads = name or server.name, server, list(words), options, loads
+        self.is_straced = is_straced
 
 
-def passthrough_ll(name, *words, options=PERMISSIONS):
-    return Sessions(SERVERS["passthrough_ll"], words, options, name=f"passthrough_ll, {name}")
+def passthrough_ll(name, *words, **more):
+    return Sessions(SERVERS["passthrough_ll"], words, name=f"passthrough_ll, {name}", **more)
 
 
 WATCHED = [
     passthrough_ll("one thread", "-s"),
-    passthrough_ll("many threads", options=""),
+    passthrough_ll("many threads", options="", is_straced=True),
     passthrough_ll("no caches", "-o", "cache=never"),
     passthrough_ll("all caches", "-o", "cache=always,writeback,xattr,flock"),
     Sessions(SERVERS["passthrough"]),
@@ -84,7 +86,7 @@ class Run:
         self.words, self.built, self.sessions, self.folder = words, built, sessions, folder
         self.outside = folder / "outside"
         put_tree(self.outside)
-        self.frames = self.failed = 0
+        self.frames = self.passed = self.failed = 0
 
     def start(self, name, *more):
         folder = self.folder / name
@@ -133,6 +135,19 @@ class Run:
             watched.unmount()
             self.judge("all", watched)
 
+    def strace(self):
+        if not shutil.which("strace") or subprocess.run(["strace", "-o", "/dev/null", "true"], check=False).returncode != 0:
+            print("skipped: strace (strace, or the right to trace)")
+            return
+        folder = self.folder / "strace"
+        folder.mkdir()
+        self.sessions.server.prepare(folder)
+        with Straced(self.built, folder) as watched:
+            for name in ("churn", "stress-ng of names", "signals"):
+                self.load(watched, LOADS[name])
+            watched.unmount()
+            self.judge("strace", watched)
+
     def signals(self):
         """A lazy unmount while processes work in the mount, which go on in it until they end."""
         with self.start("signals", "-k") as watched:
@@ -166,6 +181,7 @@ class Run:
         faults = Counter(re.sub(r"^line \d+: (\w+: [^:]*).*", r"\1", line) for line in said.stdout.splitlines() if line.startswith("line "))
         other = {fault: many for fault, many in faults.items() if fault not in known}
         is_right = is_ended and said.returncode in (0, 6) and not other and watched.watcher.returncode == 0
+        self.passed += is_right
         self.failed += not is_right
         text = ", ".join(f"{many} times {fault}" for fault, many in sorted(faults.items())) or "no fault"
         print(f"{'ok' if is_right else 'not ok'}: {self.sessions.name}: {name}: {count:,} frames, {text}", flush=True)
@@ -178,6 +194,26 @@ class Run:
             file = "-".join(re.findall(r"\w+", f"{self.sessions.name} {name}"))
             shutil.copy(watched.capture, self.words.keep / f"{file}.capture")
             (self.words.keep / f"{file}.verdict").write_text(said.stdout)
+
+
+class Straced(Watched):
+    """A bare mount of passthrough_ll's threads, which strace looks at: several readers."""
+
+    def __init__(self, built, folder):
+        self.mount, self.capture, self.said, self.trace = (folder / name for name in ("mnt", "capture", "said", "trace"))
+        self.mount.mkdir()
+        self.has_capture = False
+        server = SERVERS["passthrough_ll"].command(built, folder)
+        with open(self.said, "wb") as said:
+            self.watcher = subprocess.Popen(
+                ["strace", "-f", "-y", "-xx", "-s", "1200000", "-e", "trace=read,readv,write,writev", "-o", self.trace,
+                 *server[:-1], self.mount], stdin=subprocess.DEVNULL, stdout=said, stderr=said)
+
+    def await_end(self, seconds=60):
+        is_ended = super().await_end(seconds)
+        with open(self.capture, "w") as capture:
+            subprocess.run(["python3", TOP / "examples/watch/from_strace.py", "-s", "0", self.trace], stdout=capture, check=True)
+        return is_ended
 
 
 def words_of():
@@ -209,10 +245,10 @@ def main():
                 continue
             with tempfile.TemporaryDirectory() as folder:
                 run = Run(words, built, sessions, Path(folder))
-                for session in (run.all, run.signals, run.abort):
+                for session in (run.all, run.signals, run.abort, *([run.strace] if sessions.is_straced else [])):
                     run.try_(session)
                 failed += run.failed
-                passed += 3 - run.failed
+                passed += run.passed
                 frames += run.frames
     print(f"{passed} sessions passed, {failed} failed, {skipped} servers skipped; {frames:,} frames")
     return 1 if failed else 0

@@ -53,10 +53,11 @@ def processor_time(pid):
 
 
 class Watched:
-    """A mount in FOLDER/mnt, by a server of these words, whose capture goes to FOLDER/capture. What the watcher and the server
-    say goes to FOLDER/said."""
+    """A mount in FOLDER/mnt, by a server of these words, whose capture goes to FOLDER/capture: a pipe where another reads it.
+    What the watcher and the server say goes to FOLDER/said."""
 
-    def __init__(self, built, folder, words, options="", more=("-s", "0")):
+    def __init__(self, built, folder, words, options="", more=("-s", "0"), has_capture=True):
+        self.has_capture = has_capture
         self.mount, self.capture, self.said = folder / "mnt", folder / "capture", folder / "said"
         self.mount.mkdir()
         with open(self.said, "wb") as said:
@@ -72,9 +73,9 @@ class Watched:
         return self
 
     def has_begun(self):
-        """The reply to INIT is there."""
-        if not is_mounted(self.mount) or not self.capture.exists():
-            return False
+        """It is mounted, and if the capture can be read, the reply to INIT is there."""
+        if not is_mounted(self.mount) or not self.has_capture:
+            return is_mounted(self.mount)
         with open(self.capture) as capture:
             return any(line.startswith("<") for _, line in zip(range(4), capture))
 
