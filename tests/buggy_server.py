@@ -10,13 +10,11 @@ import re
 import struct
 import sys
 
-from watch_server import (CONTENT, FILE, FORGET, GETATTR, INIT, LOOKUP, MKDIR, NO_REPLY, READ, READDIR, ROOT, WRITE, Server, attributes,
-                          entry, framed)
+from watch_server import FORGET, GETATTR, INIT, LOOKUP, MKDIR, NO_REPLY, READ, READDIR, ROOT, WRITE, Server, entry, framed
 
 RMDIR, STATFS, READDIRPLUS = 11, 17, 44
 INVAL_INODE, INVAL_ENTRY, UNKNOWN_CODE = 2, 3, 99
 DO_READDIRPLUS, UNUSED_FLAG = 1 << 13, 1 << 2
-KIND = 96  # where the mode stands in an entry; in a reply to GETATTR 76
 OTHER_MODE = struct.pack("<I", 0o40755)
 
 

@@ -47,6 +47,11 @@ def put_mount(folder):
     (folder / "mount").mkdir()
 
 
+def put_two_folders(folder):
+    put_mount(folder)
+    (folder / "other").mkdir()
+
+
 def put_layers(folder):
     for name in ("lower", "upper", "work", "mount"):
         (folder / name).mkdir()
@@ -58,6 +63,16 @@ def put_image(folder):
         (folder / "image").mkdir()
         (folder / "image/hello").write_bytes(HELLO)
     quiet(["mksquashfs", folder / "image", folder / "image.sqfs", "-all-root", "-no-progress"])
+
+
+def put_disk(make):
+    """A file system of 300 MB, made by these words."""
+    def put(folder):
+        (folder / "mount").mkdir()
+        with open(folder / "disk", "wb") as disk:
+            disk.truncate(300 << 20)
+        quiet([*make, folder / "disk"])
+    return put
 
 
 def put_cipher(folder):
@@ -72,6 +87,8 @@ def example(name, words=(), prepare=lambda folder: None, has_addresses=False):
     return Server(name, "libfuse3-dev", needs, [f"BUILT/{name}", "-f", *words, "MOUNT"], prepare, has_addresses)
 
 
+# Examples of libfuse that send notifications.
+NOTIFYING = ["notify_inval_entry", "notify_inval_inode", "notify_store_retrieve", "invalidate_path"]
 OVERLAY = "lowerdir=FOLDER/lower,upperdir=FOLDER/upper,workdir=FOLDER/work"
 SUBFOLDER = ["-o", "modules=subdir,subdir=FOLDER/files"]
 SHIM = ["env", "LD_PRELOAD=BUILT/shim.so"]
@@ -92,6 +109,13 @@ SERVERS = {server.name: server for server in [
     Server("gocryptfs", "gocryptfs", ["gocryptfs"],
            ["gocryptfs", "-fg", "-q", "-passfile", "FOLDER/password", "FOLDER/cipher", "MOUNT"], put_cipher),
     Server("bindfs", "bindfs", ["bindfs", "cc"], [*SHIM, "bindfs", "-f", "FOLDER/files", "FOLDER/mount"], put_mount),
+    Server("unionfs", "unionfs-fuse", ["unionfs", "cc"], [*SHIM, "unionfs", "-f", "-o", "cow", "FOLDER/files=RW", "FOLDER/mount"], put_mount),
+    Server("mergerfs", "mergerfs", ["mergerfs", "cc"], [*SHIM, "mergerfs", "-f", "FOLDER/files:FOLDER/other", "FOLDER/mount"], put_two_folders),
+    Server("fuse2fs", "fuse2fs, e2fsprogs", ["fuse2fs", "mkfs.ext4", "cc"], [*SHIM, "fuse2fs", "-f", "FOLDER/disk", "FOLDER/mount"],
+           put_disk(["mkfs.ext4", "-q"])),
+    Server("ntfs-3g", "ntfs-3g", ["ntfs-3g", "mkntfs", "cc"], [*SHIM, "ntfs-3g", "-o", "no_detach", "FOLDER/disk", "FOLDER/mount"],
+           put_disk(["mkntfs", "-F", "-Q"])),
+    *(example(name, ["--update-interval=1"]) for name in NOTIFYING),
     Server("sshfs", "sshfs, openssh-sftp-server", ["sshfs", str(SFTP_SERVER)],
            ["sshfs", "-f", "-o", "ssh_command=BUILT/sftp", "host:FOLDER/files", "MOUNT"], put_folder),
 ]}

@@ -3,7 +3,7 @@
 
 `churn`: processes rename onto names, remove, link and make them, while others look them up and read them. `signals`: such
 processes, and readers and writers of long files, get SIGKILL, SIGUSR1 or SIGALRM at random times, and others take their
-places. `stats`: a name that is not there, and each name that is, again and again.
+places; where nothing can be made they only look. `stats`: a name that is not there, and each name that is, again and again.
 """
 import os
 import random
@@ -11,7 +11,7 @@ import signal
 import sys
 import time
 
-NAMES = [f"name{number}" for number in range(12)]
+NAMES = ["hello", *(f"name{number}" for number in range(12))]
 # Their handler is there for the EINTR of the call.
 CAUGHT = (signal.SIGUSR1, signal.SIGALRM)
 
@@ -126,8 +126,8 @@ def main():
     if name == "stats":
         return stats(base)
     folder = f"{base}/{name}"
-    os.makedirs(folder, exist_ok=True)
-    (churn if name == "churn" else signals)(folder, float(sys.argv[3]))
+    is_made = quietly(os.mkdir, folder) is None and os.path.isdir(folder)
+    (churn if name == "churn" else signals)(folder if is_made else base, float(sys.argv[3]))
 
 
 main()

@@ -23,8 +23,8 @@ import time
 from collections import Counter
 from pathlib import Path
 
-from real_servers import SERVERS, Server, build, put_folder
-from watch_loads import CHURN, GIT, KILL, LOADS, READS, WRITES
+from real_servers import NOTIFYING, SERVERS, Server, build, put_folder
+from watch_loads import CHURN, GIT, KILL, LOADS, READ, READS, STATS, WRITES
 from watched import TOP, Watched, reason_to_skip
 
 TESTS = TOP / "tests"
@@ -46,6 +46,11 @@ def passthrough_ll(name, *words, **more):
     return Sessions(SERVERS["passthrough_ll"], words, name=f"passthrough_ll, {name}", **more)
 
 
+def agreeing(name, *words, **more):
+    command = ["python3", f"{TESTS}/agreeing_server.py", "FOLDER/files", "MOUNT", *words]
+    return Sessions(Server(name, "python3", ["python3"], command, put_folder), **more)
+
+
 WATCHED = [
     passthrough_ll("one thread", "-s"),
     passthrough_ll("many threads", options="", is_straced=True),
@@ -54,20 +59,32 @@ WATCHED = [
     Sessions(SERVERS["passthrough"]),
     Sessions(SERVERS["passthrough_fh"]),
     Sessions(SERVERS["hello_ll"], loads=READS),
+    *(Sessions(SERVERS[name], loads=READS) for name in NOTIFYING),
     Sessions(SERVERS["loopback"], options=f"{SPLICED},{PERMISSIONS}"),
     Sessions(SERVERS["gocryptfs"], options=SPLICED),
     Sessions(SERVERS["fuse-overlayfs"]),
     Sessions(SERVERS["squashfuse_ll"], loads=READS),
     Sessions(SERVERS["bindfs"]),
+    Sessions(SERVERS["unionfs"]),
+    Sessions(SERVERS["mergerfs"]),
+    Sessions(SERVERS["fuse2fs"]),
+    Sessions(SERVERS["ntfs-3g"]),
     Sessions(SERVERS["sshfs"]),
     Sessions(Server("serve", "none", [], ["PROGRAM", "serve", "STDIO"]), options="max_read=4096"),
+    agreeing("agrees to all", options=""),
+    agreeing("agrees to all, no opens", "no-open"),
+    agreeing("agrees to 7.12", "old"),
 ]
-# What `check` says of a server, and is so: party and rule, by the server's name.
+# What `check` says of a server, by the server's name: party and rule.
 TWO_FILES = {"server: node of two kinds", "server: node of two inode numbers"}
 KNOWN = {
     # A LOOKUP beside a RENAME finds the new file below, and the old node in the tree of names.
     "passthrough": TWO_FILES,
     "passthrough_fh": TWO_FILES,
+    # It agrees to 7.18, and does not know BATCH_FORGET.
+    "ntfs-3g": {"server: reply to FORGET"},
+    # The judge is wrong: after ENOSYS to OPEN Linux sends no RELEASE of a file that CREATE opened.
+    "agrees to all, no opens": {"kernel: forget of a node in use"},
 }
 
 
@@ -151,7 +168,7 @@ class Run:
     def signals(self):
         """A lazy unmount while processes work in the mount, which go on in it until they end."""
         with self.start("signals", "-k") as watched:
-            processes = list(self.begin(watched, [KILL, *LOADS["readers"]] if self.sessions.loads is READS else [KILL, CHURN]))
+            processes = list(self.begin(watched, [KILL, STATS, CHURN]))
             time.sleep(SECONDS / 2)
             watched.unmount("-l")
             for process in processes:
@@ -160,8 +177,7 @@ class Run:
 
     def abort(self):
         with self.start("abort") as watched:
-            load = LOADS["readers"] if self.sessions.loads is READS else [CHURN, GIT]
-            processes = list(self.begin(watched, load))
+            processes = list(self.begin(watched, [CHURN, READ if self.sessions.loads is READS else GIT]))
             time.sleep(SECONDS / 2)
             is_aborted = watched.abort()
             for process in processes:

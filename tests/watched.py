@@ -86,12 +86,17 @@ class Watched:
 
     def abort(self):
         """Gives whether it can be done."""
-        if not any(CONNECTIONS.iterdir() if CONNECTIONS.exists() else ()):
+        file = CONNECTIONS / self.connection() / "abort"
+        is_here = file.exists()
+        if not is_here:
             subprocess.run(["mount", "-t", "fusectl", "fusectl", CONNECTIONS], stderr=subprocess.DEVNULL, check=False)
         try:
-            (CONNECTIONS / self.connection() / "abort").write_text("1")
+            file.write_text("1")
         except OSError:
             return False
+        finally:
+            if not is_here:
+                subprocess.run(["umount", CONNECTIONS], stderr=subprocess.DEVNULL, check=False)
         return True
 
     def unmount(self, *words):
