@@ -30,6 +30,7 @@ from watched import TOP, Watched, reason_to_skip
 TESTS = TOP / "tests"
 SECONDS = 3  # of a load that has no end of its own
 LONGEST = 120  # seconds for a load
+SHOWN = 20  # of the faults of a session
 SPLICED = "max_read=53248"
 PERMISSIONS = "default_permissions"
 
@@ -86,6 +87,8 @@ KNOWN = {
     # The judge is wrong: after ENOSYS to OPEN Linux sends no RELEASE of a file that CREATE opened.
     "agrees to all, no opens": {"kernel: forget of a node in use"},
 }
+# The judge is wrong: with several readers the read of an INTERRUPT may end before its request's.
+OF_SEVERAL_READERS = {"kernel: INTERRUPT of nothing", "server: reply to no INTERRUPT"}
 
 
 def put_tree(outside):
@@ -193,7 +196,7 @@ class Run:
         with open(watched.capture) as capture:
             count = sum(line[0] in "<>" for line in capture)
         self.frames += count
-        known = KNOWN.get(self.sessions.server.name, set())
+        known = KNOWN.get(self.sessions.server.name, set()) | (OF_SEVERAL_READERS if name == "strace" else set())
         faults = Counter(re.sub(r"^line \d+: (\w+: [^:]*).*", r"\1", line) for line in said.stdout.splitlines() if line.startswith("line "))
         other = {fault: many for fault, many in faults.items() if fault not in known}
         is_right = is_ended and said.returncode in (0, 6) and not other and watched.watcher.returncode == 0
@@ -202,7 +205,8 @@ class Run:
         text = ", ".join(f"{many} times {fault}" for fault, many in sorted(faults.items())) or "no fault"
         print(f"{'ok' if is_right else 'not ok'}: {self.sessions.name}: {name}: {count:,} frames, {text}", flush=True)
         if other:
-            print("\n".join(line for line in said.stdout.splitlines() if any(fault in line for fault in other)), flush=True)
+            lines = [line for line in said.stdout.splitlines() if any(fault in line for fault in other)]
+            print("\n".join(lines[:SHOWN]), flush=True)
         if not is_right and not other:
             print(f"  the watcher's status is {watched.watcher.returncode}, the judge's {said.returncode}: "
                   f"{watched.said.read_text(errors='replace')[-500:]} {said.stderr[-500:]}", flush=True)
