@@ -22,13 +22,20 @@ git commit -qm fewer; git checkout -q second; git status --short; git gc -q; git
 git clone -q . ../clone; cd ..; rm -rf git clone"""
 READ = """for i in $(seq 25); do find . -type f | xargs cat > /dev/null; ls -lR . > /dev/null; tar -cf - . | cat > /dev/null
 find . -links +1; stat -f .; stat none; cat hello; ls hello/below; find . -xattr; getfattr -d -m . hello; du -s .; done"""
+# Of files that were there before the mount, which fuse-overlayfs copies when they change.
+CHANGE = """find there -type f | head -n 300 > OUTSIDE/names
+while read -r name; do
+    stat $name; echo more >> $name; stat $name; chmod 600 $name; ln $name linked; mv linked $name.link; cat $name.link
+done < OUTSIDE/names; ls -lR there; du -s there; mv there/tree moved-tree
+find moved-tree -type f | xargs touch; ls -lR moved-tree; rm -r moved-tree"""
 STATS = "python3 TESTS/watch_load.py stats ."
 KILL = "python3 TESTS/watch_load.py signals . SECONDS"
 CHURN = "python3 TESTS/watch_load.py churn . SECONDS"
 
 
-def stress(*names, bound="4m"):
-    sizes = {"hdd": f"--hdd-bytes {bound}", "seek": "--seek-size 4m", "aio": "", "copy-file": "--copy-file-bytes 4m",
+def stress(*names):
+    """Stressors of stress-ng, one process each, with small files."""
+    sizes = {"hdd": "--hdd-bytes 4m", "seek": "--seek-size 4m", "copy-file": "--copy-file-bytes 4m",
              "fallocate": "--fallocate-bytes 4m", "iomix": "--iomix-bytes 4m", "sync-file": "--sync-file-bytes 4m",
              "readahead": "--readahead-bytes 4m", "dirdeep": "--dirdeep-inodes 2000"}
     words = " ".join(f"--{name} 1 {sizes.get(name, '')}" for name in names)
@@ -37,6 +44,7 @@ def stress(*names, bound="4m"):
 
 LOADS = {
     "shells": [SHELL.replace("ME", "one"), SHELL.replace("ME", "two")],
+    "changes": [CHANGE],
     "tar": [TAR],
     "git": [GIT],
     "stress-ng of names": [stress("dir", "link", "rename", "symlink")],

@@ -116,6 +116,9 @@ class Run:
             shutil.copytree(self.outside / "tree", folder / "image")
             (folder / "image/hello").write_text("Hello World!\n")
         server.prepare(folder)
+        for place in ("files", "lower"):
+            if (folder / place).exists():
+                shutil.copytree(self.outside / "tree", folder / place / "there/tree")
         command = server.command(self.built, folder)
         place = command.index("MOUNT") if "MOUNT" in command else len(command) - 1
         command[place:place] = self.sessions.words
