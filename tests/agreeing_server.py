@@ -327,7 +327,7 @@ class Agreeing:
         """A notification, whose kind is its turn's."""
         node, parent, name = self.names[0]
         turn = self.count // 40 % 8
-        is_file = node in self.nodes and stat.S_ISREG(os.fstat(self.nodes[node].file).st_mode)
+        files = [one for one, _, _ in self.names if one in self.nodes and stat.S_ISREG(os.fstat(self.nodes[one].file).st_mode)]
         named = struct.pack("<QII", parent, len(name), turn == 2) + name + b"\0"
         if turn == 0:
             self.write(0, struct.pack("<QqQ", node, 0, 0), INVAL_INODE)
@@ -335,10 +335,10 @@ class Agreeing:
             self.write(0, named, INVAL_ENTRY)
         elif turn == 3:
             self.write(0, struct.pack("<QQII", parent, node, len(name), 0) + name + b"\0", DELETE)
-        elif turn == 4 and is_file:
-            self.write(0, struct.pack("<QQII", node, 0, 4, 0) + b"1234", STORE)
-        elif turn == 5 and is_file:
-            self.write(0, struct.pack("<QQQII", self.count, node, 0, 4096, 0), RETRIEVE)
+        elif turn == 4 and files:
+            self.write(0, struct.pack("<QQII", files[0], 0, 4, 0) + b"1234", STORE)
+        elif turn == 5 and files:
+            self.write(0, struct.pack("<QQQII", self.count, files[-1], 0, 4096, 0), RETRIEVE)
         elif turn == 6:
             self.write(0, b"", INC_EPOCH)
         elif turn == 7:

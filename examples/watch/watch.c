@@ -39,7 +39,8 @@ enum {
 	SOCKET_BUFFER = 16 << 20, ROOM = 8 << 20,
 	/* What a server splices comes in pieces of 16 pipe buffers. What is shorter is the device's to refuse. */
 	SHORTEST_PIECE = 32768,
-	/* For so many milliseconds a reply waits for the notifications before it, which may wait in the kernel for it. */
+	/* Replies wait for a notification before them, which may wait in the kernel for one of them, until so many milliseconds
+	 * after it came. */
 	NOTIFICATION_WAIT = 20 };
 
 /* A line of the capture. Those behind it wait for its result. */
@@ -58,6 +59,7 @@ static pthread_mutex_t lines_lock = PTHREAD_MUTEX_INITIALIZER;
 static struct line *lines, **lines_end = &lines;
 static int notes[2];                   /* a pipe of notifications, each an iovec, for the second thread */
 static atomic_int notes_waiting, is_not_whole;
+static int64_t last_note;              /* when the last notification came, in milliseconds */
 static uint64_t reads[4096];           /* numbers of READs. One that another took the place of has its reply uncut */
 
 static int fail(const char *what)
@@ -149,10 +151,17 @@ static void *write_notes(void *unused)
 	return unused;
 }
 
-/* Waits until all notifications are written, for so many milliseconds at most. */
-static void await_notes(int milliseconds)
+static int64_t now(void)
 {
-	for (int step = 0; notes_waiting > 0 && step < 10 * milliseconds; step++)
+	struct timespec time;
+	clock_gettime(CLOCK_MONOTONIC, &time);
+	return time.tv_sec * 1000LL + time.tv_nsec / 1000000;
+}
+
+/* Waits until all notifications are written, or until that time. */
+static void await_notes(int64_t end)
+{
+	while (notes_waiting > 0 && now() < end)
 		usleep(100);
 }
 
@@ -189,11 +198,12 @@ static void pass_reply(void)
 	if (unique == 0) {
 		struct iovec note = {memcpy(need(malloc(length)), reply, length), length};
 		notes_waiting++;
+		last_note = now();
 		if (write(notes[1], &note, sizeof note) < 0)
 			is_not_whole = fail("notification");
 		return;
 	}
-	await_notes(NOTIFICATION_WAIT);
+	await_notes(last_note + NOTIFICATION_WAIT);
 	write_frame(reply, length, reads[unique / 2 % 4096] == unique ? OUT_HEADER : length);
 }
 
@@ -353,7 +363,7 @@ static int watch(char **words)
 	}
 	fcntl(notes[1], F_SETPIPE_SZ, 1 << 20);
 	const char *how = forward(&end);
-	await_notes(1000);
+	await_notes(now() + 1000);
 	detach();
 	close(notes[1]);
 	pthread_join(notifier, NULL);
