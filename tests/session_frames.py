@@ -284,7 +284,10 @@ def several_readers():
     s.read(request("STATFS", 6, 1))
     s.read(request("STATFS", 6, 1), "kernel: number used twice: STATFS 6")
     s.read(request("STATFS", 5, 1), "kernel: odd number: STATFS 5")
-    # another thread may read an INTERRUPT late, or a request that came before the end
+    # another thread may read an INTERRUPT before its request, or late, and a request that came before the end
+    s.read(request("INTERRUPT", 11, 0, numbers("Q", 10)))
+    s.write(reply(11, error=EAGAIN))
+    s.ask("STATFS", 10, 1, answer=b"\0" * 80)
     s.write(reply(8, error=4))
     s.read(request("INTERRUPT", 9, 0, numbers("Q", 8)))
     s.read(request("INTERRUPT", 9, 0, numbers("Q", 8)))

@@ -160,11 +160,15 @@ pub(crate) fn fault_of_reply<A: Allocator + Copy>(
 pub(crate) fn fault_of_reply_to_interrupt<A: Allocator + Copy>(
     rows: &RisingTable<Waiting, A>,
     numbers: &Marks<A>,
+    several: bool,
     original: u64,
 ) -> Option<Fault>
     ensures { (s : Session) → AreWaiting s rows.now.entries → AreNumbers s numbers.now.entries
-        → IsFault (BreaksReplyToInterrupt s original) result }
+        → several ≡ has_several_threads s → IsFault (BreaksReplyToInterrupt s original) result }
 {
+    if several {
+        return None;
+    }
     if !was_read(numbers, original) {
         return Some(Fault::ReplyToNothing);
     }

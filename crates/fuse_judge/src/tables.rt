@@ -131,7 +131,8 @@ impl<A: Allocator + Copy> Tables<A> {
             ),
             Act::Replies { unique, .. } => fault_of_reply(rows, &self.numbers, unique),
             Act::RepliesToInterrupt { original, .. } => {
-                fault_of_reply_to_interrupt(rows, &self.numbers, original)
+                let several = has_several_threads(self.flags);
+                fault_of_reply_to_interrupt(rows, &self.numbers, several, original)
             }
             Act::Gives { nodeid, file, .. } => fault_of_gift(&self.nodes, nodeid, file),
             Act::Describes { nodeid, kind, ino } => {

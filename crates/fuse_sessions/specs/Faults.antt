@@ -115,11 +115,12 @@ BreaksReply s unique fault.ReplyToNothing = (waits s unique ≡ None) × IsFalse
 BreaksReply s unique f = ⊥
 
 -- A reply to an INTERRUPT is of a request that was read, and of an INTERRUPT while that request waits. Once the request
--- is answered it is no fault, since the server may have met them the other way round.
+-- is answered it is no fault, since the server may have met them the other way round. Where several threads use the
+-- device the INTERRUPT may stand before its request.
 abbrev pub BreaksReplyToInterrupt : Session → ℕ → Fault → Type 0
-BreaksReplyToInterrupt s original fault.ReplyToNothing = IsFalse (was_read s original)
-BreaksReplyToInterrupt s original fault.ReplyToNoInterrupt = IsTrue (was_read s original) × (waits s original ≢ None)
-    × (interrupts s original ≡ 0)
+BreaksReplyToInterrupt s original fault.ReplyToNothing = IsFalse (has_several_threads s) × IsFalse (was_read s original)
+BreaksReplyToInterrupt s original fault.ReplyToNoInterrupt = IsFalse (has_several_threads s)
+    × IsTrue (was_read s original) × (waits s original ≢ None) × (interrupts s original ≡ 0)
 BreaksReplyToInterrupt s original f = ⊥
 
 -- A node that is counted stays of one file. (linux/fuse.h: nodeid and generation are unique)

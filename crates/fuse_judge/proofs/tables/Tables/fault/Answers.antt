@@ -33,4 +33,5 @@ returns-in-Replies g c = λ s are. rw c.in-Replies.is
 
 pub returns-in-RepliesToInterrupt : goal.returns-in-RepliesToInterrupt
 returns-in-RepliesToInterrupt g c = λ s are. rw c.in-RepliesToInterrupt.is
-    (c.fault_of_reply_to_interrupt.ensures s (pending_waiting s _ _ _ are.right_pending) are.right_numbers)
+    (c.fault_of_reply_to_interrupt.ensures s (pending_waiting s _ _ _ are.right_pending) are.right_numbers
+    (c.has_several_threads-several.ensures s are.right_flags))
