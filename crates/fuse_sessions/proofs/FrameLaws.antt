@@ -1,5 +1,5 @@
 -- A transfer's acts are settled by what was before it, and a session goes on by one more transfer.
-use Rattle.std.proofs.Common.{◌≡◌, ℕ, Bool, true, false, ◌⊎◌, inl, inr, List, [], ◌∷◌, ◌++◌, Option, Some, None, refl, sym, ◌∙◌, ap, subst}
+use Rattle.std.proofs.Common.{◌≡◌, ℕ, Bool, true, false, inl, inr, List, [], ◌∷◌, ◌++◌, Option, Some, None, refl, sym, ◌∙◌, ap, subst}
 use Rattle.std.specs.Prelude.{MatchBool}
 use Rattle.fuse_protocol.specs.declared.agreed.Agreed.{Agreed}
 use Rattle.fuse_protocol.specs.declared.opcode.Opcode.{Opcode}
@@ -18,7 +18,7 @@ use Rattle.fuse_sessions.specs.declared.transfer.Transfer.{Transfer}
 use Rattle.fuse_sessions.specs.declared.transfer.Transfer.TheVariants as transfer
 use Rattle.fuse_sessions.specs.Sessions.{Session}
 use Rattle.fuse_sessions.specs.Waiting.{waits}
-use Rattle.fuse_sessions.specs.Frames.{Reads, IsRequestOf, AreRequestActs, IsNotified, IsReplyBy, IsReplyTo, IsHead, IsHeaded, IsWritten, AreActs, Lead, number_in, interrupt_acts}
+use Rattle.fuse_sessions.specs.Frames.{Reads, IsRequestOf, IsNotified, IsReplyBy, IsReplyTo, IsHeaded, IsWritten, AreActs, Lead, number_in, interrupt_acts}
 
 module _ {M : Type 0} (Is : M → Type 0) (Goal : Type 0) where
   -- what is read is one message

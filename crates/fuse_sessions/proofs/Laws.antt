@@ -1,5 +1,5 @@
 -- What one more act does to each word of the definitions.
-use Rattle.std.proofs.Common.{◌≡◌, ◌≤◌, ℕ, ◌+◌, ◌-◌, max, Bool, true, false, not, ◌||◌, ◌&&◌, ◌⊎◌, inl, inr, List, [], ◌∷◌, ◌++◌, Option, Some, None, refl, sym, ◌∙◌, ap, append_assoc, arith, cond}
+use Rattle.std.proofs.Common.{◌≡◌, ◌≤◌, ℕ, ◌+◌, ◌-◌, max, Bool, true, false, not, ◌||◌, ◌⊎◌, inl, inr, List, [], ◌∷◌, ◌++◌, Option, Some, None, refl, sym, ◌∙◌, ap, append_assoc, arith, cond}
 use Rattle.std.specs.Prelude.{sum_by, filter}
 use Rattle.std.specs.List.{list_any}
 use Rattle.std.proofs.lemmas.Grind.{common_steps}
@@ -7,7 +7,7 @@ use Rattle.std.proofs.lemmas.List.{append-nil}
 use Rattle.std.proofs.lemmas.List.Elements.{filter-append}
 use Rattle.fuse_sessions.specs.declared.act.Act.{Act}
 use Rattle.fuse_sessions.specs.declared.act.Asked.{Asked}
-use Rattle.fuse_sessions.specs.Sessions.{Session, moments_after, moments, or_earlier, latest, since, left}
+use Rattle.fuse_sessions.specs.Sessions.{Session, moments_after, or_earlier, latest, since, left}
 use Rattle.fuse_sessions.specs.Waiting.{asked_by, ends, waiting}
 
 module _ {X : Type 0} where

@@ -1,5 +1,5 @@
 -- How often a session's nodes are counted, and what is known of them.
-use Rattle.std.specs.Prelude.{ℕ, ◌&&◌, Bool, true, false, Option, Some, None, if◌then◌else◌, nat_eq}
+use Rattle.std.specs.Prelude.{ℕ, ◌&&◌, true, Option, Some, None, if◌then◌else◌, nat_eq}
 use Rattle.fuse_sessions.specs.declared.act.File.{File}
 use Rattle.fuse_sessions.specs.declared.act.Act.{Act}
 use Rattle.fuse_sessions.specs.declared.act.Act.TheVariants.{Forgets, Gives}

@@ -1,11 +1,10 @@
 -- What a kernel, a server and a device must not do: for each act the fault that it has after a session. The names of the
 -- faults are those that are printed. Sources: linux/fuse.h, the kernel's fuse.rst and dev.c, libfuse's low-level notes.
-use Rattle.std.specs.Prelude.{◌≡◌, ◌≢◌, ◌≤◌, ◌<◌, ◌⊎◌, ◌↔◌, ℕ, ◌+◌, ◌%◌, max, List, [], ◌∷◌, ◌++◌, Option, Some, None, IsTrue, IsFalse, slice_get, take}
+use Rattle.std.specs.Prelude.{◌≡◌, ◌≢◌, ◌<◌, ◌⊎◌, ℕ, ◌+◌, ◌%◌, max, List, ◌++◌, Option, Some, None, IsTrue, IsFalse, slice_get, take}
 use Rattle.fuse_protocol.specs.declared.opcode.Opcode.{Opcode}
 use Rattle.fuse_protocol.specs.declared.opcode.Opcode.TheVariants as op
 use Rattle.fuse_sessions.specs.declared.act.Act.{Act}
 use Rattle.fuse_sessions.specs.declared.act.Act.TheVariants as act
-use Rattle.fuse_sessions.specs.declared.act.Asked.{Asked}
 use Rattle.fuse_sessions.specs.declared.act.File.{File}
 use Rattle.fuse_sessions.specs.declared.act.Fit.{Fit}
 use Rattle.fuse_sessions.specs.declared.act.Fit.TheVariants as fit

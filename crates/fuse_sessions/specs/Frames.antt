@@ -1,6 +1,6 @@
 -- What went over a device, read as acts: by the shapes of its frames, by what INIT agreed on, and by what waits.
 -- Sources: linux/fuse.h, the kernel's fuse.rst and dev.c.
-use Rattle.std.specs.Prelude.{◌≡◌, ℕ, ◌+◌, ◌-◌, ◌%◌, ◌^◌, ◌==◌, ◌⊎◌, Bool, true, false, MatchBool, if◌then◌else◌, bit_and, List, [], ◌∷◌, ◌++◌, drop, Option, Some, None}
+use Rattle.std.specs.Prelude.{◌≡◌, ℕ, ◌-◌, ◌%◌, ◌^◌, ◌==◌, ◌⊎◌, Bool, true, false, MatchBool, if◌then◌else◌, bit_and, List, [], ◌∷◌, ◌++◌, drop, Option, Some, None}
 use Rattle.std.specs.List.{flat_map}
 use Rattle.fk_fields.specs.Fields.{number_at}
 use Rattle.fuse_protocol.specs.declared.agreed.Agreed.{Agreed}
@@ -16,7 +16,7 @@ use Rattle.fuse_protocol.specs.Table.{row_at}
 use Rattle.fuse_replies.specs.Replies.{AnswerContent, ReplyMessage, IsFrame, IsErrorWord, IsReply}
 use Rattle.fuse_replies.specs.Replies as answer
 use Rattle.fuse_replies.specs.Records.{entry_records_from}
-use Rattle.fuse_replies.specs.Notifications.{NotificationContent, IsNotification}
+use Rattle.fuse_replies.specs.Notifications.{IsNotification}
 use Rattle.fuse_sessions.specs.declared.act.Act.{Act}
 use Rattle.fuse_sessions.specs.declared.act.Act.TheVariants.{Faulty, Takes, Replies, Resends, RepliesToInterrupt, SeveralReaders, SeveralWriters, Ends}
 use Rattle.fuse_sessions.specs.declared.act.Asked.{Asked}

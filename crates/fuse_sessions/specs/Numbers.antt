@@ -1,5 +1,5 @@
 -- The numbers of a session's requests.
-use Rattle.std.specs.Prelude.{ℕ, ◌<◌, Bool, true, false, ◌&&◌, ◌||◌, Option, Some, is_some, nat_eq, nat_lt, not, sum_by, if◌then◌else◌}
+use Rattle.std.specs.Prelude.{ℕ, Bool, true, false, ◌&&◌, ◌||◌, Option, Some, is_some, nat_eq, nat_lt, not, sum_by, if◌then◌else◌}
 use Rattle.std.specs.List.{list_any}
 use Rattle.fuse_protocol.specs.declared.opcode.Opcode.{Opcode}
 use Rattle.fuse_protocol.specs.declared.opcode.Opcode.TheVariants as op

@@ -5,7 +5,6 @@ use Rattle.fuse_protocol.specs.declared.opcode.Opcode.{Opcode}
 use Rattle.fuse_protocol.specs.declared.opcode.Opcode.TheVariants as op
 use Rattle.fuse_replies.specs.declared.entry.Entry.{Entry}
 use Rattle.fuse_replies.specs.declared.entry.Attributes.{Attributes}
-use Rattle.fuse_replies.specs.declared.entry.Opened.{Opened}
 use Rattle.fuse_replies.specs.Record.{EntryRecordContent}
 use Rattle.fuse_replies.specs.Replies.{AnswerContent}
 use Rattle.fuse_replies.specs.Replies as answer

@@ -1,6 +1,6 @@
 -- The acts of a request that is not read by a row: a malformed one, or one of an opcode that came later. What it asks is
 -- not known, so its reply is not judged.
-use Rattle.std.specs.Prelude.{ℕ, Bool, true, false, ◌&&◌, ◌||◌, ◌==◌, nat_le, nat_lt, not, if◌then◌else◌, List, [], ◌∷◌, ◌++◌, Option, Some, None, length}
+use Rattle.std.specs.Prelude.{ℕ, Bool, false, ◌&&◌, ◌||◌, ◌==◌, nat_le, nat_lt, not, if◌then◌else◌, List, [], ◌∷◌, ◌++◌, Option, Some, None, length}
 use Rattle.fk_fields.specs.Fields.{number_at}
 use Rattle.fuse_protocol.specs.declared.init.InitRequest.{InitRequest}
 use Rattle.fuse_sessions.specs.declared.act.Act.{Act}
