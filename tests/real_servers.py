@@ -52,6 +52,12 @@ def put_two_folders(folder):
     (folder / "other").mkdir()
 
 
+def put_volume(folder):
+    """A volume of glusterfs that is a folder here."""
+    put_mount(folder)
+    (folder / "volume").write_text(f"volume posix\ntype storage/posix\noption directory {folder}/files\nend-volume\n")
+
+
 def put_layers(folder):
     for name in ("lower", "upper", "work", "mount"):
         (folder / name).mkdir()
@@ -115,6 +121,8 @@ SERVERS = {server.name: server for server in [
            put_disk(["mkfs.ext4", "-q"])),
     Server("ntfs-3g", "ntfs-3g", ["ntfs-3g", "mkntfs", "cc"], [*SHIM, "ntfs-3g", "-o", "no_detach", "FOLDER/disk", "FOLDER/mount"],
            put_disk(["mkntfs", "-F", "-Q"])),
+    Server("glusterfs", "glusterfs-client", ["glusterfs", "cc"], [*SHIM, "glusterfs", "-N", "-f", "FOLDER/volume", "-l", "FOLDER/log", "FOLDER/mount"],
+           put_volume),
     *(example(name, ["--update-interval=1"]) for name in NOTIFYING),
     Server("sshfs", "sshfs, openssh-sftp-server", ["sshfs", str(SFTP_SERVER)],
            ["sshfs", "-f", "-o", "ssh_command=BUILT/sftp", "host:FOLDER/files", "MOUNT"], put_folder),

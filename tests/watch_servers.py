@@ -69,6 +69,7 @@ WATCHED = [
     Sessions(SERVERS["unionfs"]),
     Sessions(SERVERS["mergerfs"]),
     Sessions(SERVERS["fuse2fs"]),
+    Sessions(SERVERS["glusterfs"]),
     Sessions(SERVERS["ntfs-3g"]),
     Sessions(SERVERS["sshfs"]),
     Sessions(Server("serve", "none", [], ["PROGRAM", "serve", "STDIO"]), options="max_read=4096"),
