@@ -161,7 +161,7 @@ class Run:
 
     def strace(self):
         if not shutil.which("strace") or subprocess.run(["strace", "-o", "/dev/null", "true"], check=False).returncode != 0:
-            print("skipped: strace (strace, or the right to trace)")
+            print("skipped: strace, or the right to trace")
             return
         folder = self.folder / "strace"
         folder.mkdir()
@@ -259,6 +259,9 @@ def main():
         if reason := reason_to_skip(built):
             print(f"skipped: {reason}")
             return 0
+        for tool in ("stress-ng", "git", "tar", "strace"):
+            if not shutil.which(tool):
+                print(f"skipped: loads by {tool}")
         watched = [sessions for sessions in WATCHED if words.only in sessions.name]
         there = [sessions for sessions in watched if sessions.server.is_there()]
         build(built, {sessions.server.name for sessions in there})
