@@ -90,7 +90,7 @@ bench: build
 drive-tests: build
 	@python3 tests/drive_servers.py
 
-# A small server on a watched mount, whose frames examples/watch writes down; one with each of 26 bugs; then servers of
+# A small server on a watched mount, whose frames examples/watch writes down; one with each of 27 bugs; then servers of
 # others whose packages are there, under load. ARGS has further words for tests/watch_servers.py.
 watch-tests: build
 	@sh tests/watch.sh

@@ -141,6 +141,7 @@ BUGS = {
     "entry-of-the-root": instead(lookup, lambda reply: put(reply, 16, struct.pack("<Q", ROOT))),
     "entry-of-no-node": instead(of(MKDIR), lambda reply: put(reply, 16, bytes(8))),
     "entry-of-no-kind": instead(lookup, lambda reply: put(reply, 16 + 40 + 60, struct.pack("<I", 0o644))),
+    "entry-of-another-kind": instead(of(MKDIR), lambda reply: put(reply, 16 + 40 + 60, struct.pack("<I", 0o100644))),
     "second-generation": instead(second_lookup, lambda reply: put(reply, 24, struct.pack("<Q", 7))),
     "second-kind": instead(second_lookup, lambda reply: put(reply, 16 + 40 + 60, OTHER_MODE)),
     "second-inode": instead(second_lookup, lambda reply: put(reply, 16 + 40, struct.pack("<Q", 77))),

@@ -382,6 +382,11 @@ def entry_of_no_kind(s, line, turn):
     return plan("server: entry of no kind", looked_up(s, STRANGE, 5, 0o644 + 0o10000 * pick([0, 3, 5, 15], turn)), 1)
 
 
+def entry_of_another_kind(s, line, turn):
+    asked = Line(">", request("MKDIR", s.free(), 1, numbers("II", 0o755, 0) + text("planted")))
+    return plan("server: entry of another kind", [asked, Line("<", reply(s.free(), entry(STRANGE, 5, pick([REGULAR, LINK], turn))))], 1)
+
+
 # A lookup more of a node that is counted: it is given back at once, so nothing follows.
 def given_again(s, turn, rule, change):
     node = pick([node for node in s.counted() if node in s.files], turn)
@@ -484,7 +489,7 @@ FAULTS = [
     forget_of_the_root, forget_of_no_lookup, forget_of_more, forget_of_a_node_in_use, handle_not_open,
     release_of_what_is_not_open, release_beside_a_use, write_too_large, malformed_reply, reply_to_nothing,
     dropped_request, second_reply, doubled_reply, reply_to_forget, reply_to_no_interrupt, body_of_another,
-    more_than_was_asked, entry_of_the_root, entry_of_no_node, entry_of_no_kind, two_generations, two_kinds,
+    more_than_was_asked, entry_of_the_root, entry_of_no_node, entry_of_no_kind, entry_of_another_kind, two_generations, two_kinds,
     two_inode_numbers, malformed_notification, read_after_the_end, accepted_after_the_end, accepted_reply_to_nothing,
     accepted_wrong_body, refused_reply,
 ]

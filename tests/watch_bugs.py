@@ -35,6 +35,7 @@ WANTED = {
     "entry-of-the-root": "entry of the root",
     "entry-of-no-node": "entry of no node",
     "entry-of-no-kind": "entry of no kind",
+    "entry-of-another-kind": "entry of another kind",
     "second-generation": "node of two generations",
     "second-kind": "node of two kinds",
     "second-inode": "node of two inode numbers",
@@ -42,11 +43,6 @@ WANTED = {
     "record-of-another-kind": "node of two kinds",
     "another-version": "INIT of another version",
     "flag-that-was-not-offered": "flags that were not offered",
-}
-# What else `check` may say, of that line or a later one. The last section of docs/CHECK.md has why.
-BESIDE = {
-    "record-with-a-slash": "device: body of another request accepted",
-    "entry-of-no-kind": "server: node of two kinds",
 }
 
 
@@ -89,7 +85,7 @@ def try_bug(program, built, folder, word):
         return "the wrong frame did not come"
     wanted = f"line {line}: server: {WANTED[word]}"
     faults = [re.match(r"line \d+: \w+: [^:]*", text)[0] for text in said.stdout.splitlines() if text.startswith("line ")]
-    other = [fault for fault in faults if fault != wanted and fault.split(": ", 1)[1] != BESIDE.get(word)]
+    other = [fault for fault in faults if fault != wanted]
     if said.returncode != 6 or wanted not in faults or other:
         return f"wanted {wanted}\n{said.stdout}{said.stderr}"
     return None

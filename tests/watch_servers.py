@@ -85,11 +85,7 @@ KNOWN = {
     "passthrough_fh": TWO_FILES,
     # It agrees to 7.18, and does not know BATCH_FORGET.
     "ntfs-3g": {"server: reply to FORGET"},
-    # The judge is wrong: after ENOSYS to OPEN Linux sends no RELEASE of a file that CREATE opened.
-    "agrees to all, no opens": {"kernel: forget of a node in use"},
 }
-# The judge is wrong: with several readers the read of an INTERRUPT may end before its request's.
-OF_SEVERAL_READERS = {"kernel: INTERRUPT of nothing", "server: reply to no INTERRUPT"}
 
 
 def put_tree(outside):
@@ -200,7 +196,7 @@ class Run:
         with open(watched.capture) as capture:
             count = sum(line[0] in "<>" for line in capture)
         self.frames += count
-        known = KNOWN.get(self.sessions.server.name, set()) | (OF_SEVERAL_READERS if name == "strace" else set())
+        known = KNOWN.get(self.sessions.server.name, set())
         faults = Counter(re.sub(r"^line \d+: (\w+: [^:]*).*", r"\1", line) for line in said.stdout.splitlines() if line.startswith("line "))
         other = {fault: many for fault, many in faults.items() if fault not in known}
         is_right = is_ended and said.returncode in (0, 6) and not other and watched.watcher.returncode == 0
