@@ -235,10 +235,21 @@ cmp -s "$work/wanted" "$work/capture"
 check "a trace of two threads" 0 $?
 check "a trace of two threads: what it lacks" 3 "$(grep -c "the first is 4\|1 writes whose end\|1 frames were cut" "$work/err")"
 
+# One thread reads, and another writes its reply.
+cat > "$work/trace" << END
+10 read(3</dev/fuse>, "$head1", 8192) = 16
+11 write(3</dev/fuse>, "$reply", 16) = 16
+10 read(3</dev/fuse>, 0x7f0000000000, 8192) = -1 ENODEV (No such device)
+END
+printf '%s\n' "= several writers" "> 10000000010000000200000000000000" "< 10000000feffffff0200000000000000" "= ended ENODEV" > "$work/wanted"
+python3 "$tools/from_strace.py" "$work/trace" 2> "$work/err" | cmp -s "$work/wanted" -
+check "a trace of a reader and a writer" 0 $?
+
 # A capture by hand, with each kind of line, as pcap and back: what is skipped is not there.
 cat > "$work/capture" << END
 # times, a cut frame, a refused one, and an end
 = several readers
+= several writers
 > @1700000000000000001 $(printf %080d 0) +12
 
 > $(printf %080d 1)

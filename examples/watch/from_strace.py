@@ -6,7 +6,8 @@
 
 A read stands where it ended and a write where it began: what a request shows had happened before its read ended, and what
 a reply causes happens after its write began. The other way round a good server is accused. Where more than one thread
-read, the first line is `= several readers`: their reads may have ended in another order than the device's.
+read, the first line is `= several readers`: their reads may have ended in another order than the device's. Where another
+thread than the one that reads writes replies, it is `= several writers`.
 
 Standard error says what the trace does not show: a reply that was spliced, a write whose end was not seen, frames cut by
 a smaller -s of strace (they have `+N` here), and an end. Status 1 where TRACE is no such trace, or of two sessions.
@@ -170,14 +171,18 @@ def main():
     parser.add_argument("-s", type=int, metavar="BYTES", help="cut data of WRITE and READ to so many bytes")
     parser.add_argument("trace")
     words = parser.parse_args()
+    readers, writers = set(), set()
     with open(words.trace) as trace:
-        readers = {call.thread for call, is_ended in calls(trace)
-                   if is_ended and call and not call.is_write and call.result and call.result > 0}
+        for call, is_ended in calls(trace):
+            if is_ended and call and call.result and call.result > 0:
+                (writers if call.is_write else readers).add(call.thread)
     if not readers:
         sys.exit("from_strace.py: no read of /dev/fuse is there; was it strace -f -y -xx?")
     capture = Capture(sys.stdout, words.s)
     if len(readers) > 1:
         print("= several readers")
+    elif writers - readers:
+        print("= several writers")
     with open(words.trace) as trace:
         for call, is_ended in calls(trace):
             capture.take(call, is_ended)
