@@ -1,5 +1,5 @@
 -- The objects of `--json`, one a line.
-use Rattle.std.specs.Prelude.{ℕ, List, [], ◌++◌, codes, decimal}
+use Rattle.std.specs.Prelude.{ℕ, List, [], ◌++◌, Some, None, codes, decimal}
 use Rattle.fuse_protocol.specs.Table.{name_of}
 use Rattle.fuse_sessions.specs.declared.act.Act.{Act}
 use Rattle.fuse_sessions.specs.declared.act.Act.TheVariants as act
@@ -31,8 +31,11 @@ file_fields file = node_fields file.nodeid (codes "fh") file.fh
 -- what an act is about
 abbrev pub act_fields : Act → List ℕ
 act_fields (act.Begins opcode) = text_field (codes "opcode") (name_of opcode)
-act_fields (act.Read opcode unique) =
+act_fields (act.Read None unique) = number_field (codes "unique") unique
+act_fields (act.Read (Some opcode) unique) =
     text_field (codes "opcode") (name_of opcode) ++ number_field (codes "unique") unique
+act_fields (act.Resent unique original) =
+    number_field (codes "unique") unique ++ number_field (codes "original") original
 act_fields (act.Interrupts unique original) =
     number_field (codes "unique") unique ++ number_field (codes "original") original
 act_fields (act.Names node) = number_field (codes "nodeid") node
@@ -40,7 +43,7 @@ act_fields (act.Forgets node lookups) = node_fields node (codes "lookups") looku
 act_fields (act.Uses file) = file_fields file
 act_fields (act.Releases file) = file_fields file
 act_fields (act.Writes size) = number_field (codes "bytes") size
-act_fields (act.Takes unique t fits) = number_field (codes "unique") unique
+act_fields (act.Takes unique t body) = number_field (codes "unique") unique
 act_fields (act.Replies unique t) = number_field (codes "unique") unique
 act_fields (act.RepliesToInterrupt original is_again t) = number_field (codes "original") original
 act_fields (act.Gives node file is_certain) =

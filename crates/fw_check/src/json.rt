@@ -2,6 +2,7 @@
 
 ghost use Rattle.std.specs.Prelude.{◌≡◌, ◌++◌, OnOk, codes};
 ghost use Rattle.fuse_protocol.specs.Table.{name_of};
+ghost use Rattle.fuse_sessions.specs.declared.act.Act.TheVariants.{Read};
 ghost use Rattle.fw_check.specs.Json as words;
 
 use crate::counts::Counts;
@@ -74,21 +75,23 @@ fn put_node<A: Allocator>(
     put_field(text, key, number)
 }
 
-/// A request: its opcode and its number.
+/// A request: its opcode, if it is known, and its number.
 fn put_read<A: Allocator>(
     text: &mut Vec<u8, A>,
-    opcode: Opcode,
+    opcode: Option<Opcode>,
     unique: u64,
 ) -> Result<(), AllocError>
-    ensures { OnOk result (text.new.items ≡ text.old.items
-        ++ (words.text_field (codes "opcode") (name_of opcode) ++ words.number_field (codes "unique") unique)) }
+    ensures { OnOk result (text.new.items ≡ text.old.items ++ words.act_fields (Read opcode unique)) }
 {
+    let Some(opcode) = opcode else {
+        return put_field(text, b"unique", unique);
+    };
     put_text_field(text, b"opcode", opcode.name())?;
     put_field(text, b"unique", unique)
 }
 
-/// An INTERRUPT's number, and that of the request which it interrupts.
-fn put_interrupt<A: Allocator>(
+/// A number, and that of the request which it is about.
+fn put_original<A: Allocator>(
     text: &mut Vec<u8, A>,
     unique: u64,
     original: u64,
@@ -121,7 +124,9 @@ fn put_act<A: Allocator>(text: &mut Vec<u8, A>, act: Act) -> Result<(), AllocErr
     match act {
         Act::Begins(opcode) => put_text_field(text, b"opcode", opcode.name()),
         Act::Read { opcode, unique } => put_read(text, opcode, unique),
-        Act::Interrupts { unique, original } => put_interrupt(text, unique, original),
+        Act::Interrupts { unique, original } | Act::Resent { unique, original } => {
+            put_original(text, unique, original)
+        }
         Act::Names(node) => put_field(text, b"nodeid", node),
         Act::Forgets(node, lookups) => put_node(text, node, b"lookups", lookups),
         Act::Uses(file) | Act::Releases(file) => put_node(text, file.nodeid, b"fh", file.fh),
