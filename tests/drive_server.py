@@ -1,14 +1,17 @@
 """A FUSE server in memory over a connected stream socket, with one bug or none; tests/run_drive.py drives it.
 
-A LOOKUP of the name `slow` is answered once another request has come, or EINTR once its INTERRUPT has.
+A LOOKUP of the name `slow` is answered once another request has come, or EINTR once its INTERRUPT has. RENAME refuses as
+rename(2) of Linux does.
 """
 import errno
 import struct
 
-LOOKUP, FORGET, GETATTR, MKDIR, UNLINK, OPEN, READ, WRITE, RELEASE = 1, 2, 3, 9, 10, 14, 15, 16, 18
+LOOKUP, FORGET, GETATTR, MKDIR, UNLINK, RENAME, OPEN, READ, WRITE, RELEASE = 1, 2, 3, 9, 10, 12, 14, 15, 16, 18
 INIT, OPENDIR, READDIR, RELEASEDIR, CREATE, INTERRUPT, BATCH_FORGET = 26, 27, 28, 29, 35, 36, 42
 BUGS = ["count lost", "node reused", "two generations", "reply twice", "reply after EINTR", "wrong length", "another file",
         "root given", "reply to nothing"]
+# Those of a server that opens what CREATE finds.
+OPENING_BUGS = ["a file is a directory", "a directory is opened", "any directory is above"]
 
 
 def reply(unique, body=b"", error=0):
@@ -24,8 +27,8 @@ def agreement(minor=31, flags=0x42001):
 class Server:
     """Files by inode number, a dictionary of names or bytes; inode numbers and lookup counts by node id."""
 
-    def __init__(self, bug=None, opens=True):
-        self.bug, self.opens = bug, opens
+    def __init__(self, bug=None, opens=True, opens_existing=False):
+        self.bug, self.opens, self.opens_existing = bug, opens, opens_existing
         self.files, self.nodes, self.counts = {1: {}}, {1: 1}, {1: 1}
         self.unlinked = None
         self.held = None
@@ -57,6 +60,29 @@ class Server:
         self.files[ino], directory[name] = file, ino
         return ino
 
+    def create(self, directory, name):
+        """The inode number of the file that CREATE opens: a new one, or one that is there, as open(2) with O_CREAT."""
+        if not self.opens_existing or name not in directory:
+            return self.make(directory, name, bytearray())
+        ino = directory[name]
+        if self.bug == "a file is a directory" or (isinstance(self.files[ino], dict) and self.bug != "a directory is opened"):
+            raise IsADirectoryError(errno.EISDIR, name)
+        return ino
+
+    def is_within(self, ino, top):
+        """Whether a directory is another one, or below that."""
+        below = self.files[top]
+        return ino == top or (isinstance(below, dict) and any(self.is_within(ino, inner) for inner in below.values()))
+
+    def rename(self, directory, old, new_directory, new):
+        """A file is moved onto what is no directory, or onto nothing. A directory is not moved."""
+        moved, there = self.files[directory][old], self.files[new_directory].get(new)
+        if there is not None and isinstance(self.files[there], dict):
+            above = self.is_within(directory, there) or self.bug == "any directory is above"
+            raise OSError(errno.ENOTEMPTY if above else errno.EISDIR, "")
+        del self.files[directory][old]
+        self.files[new_directory][new] = moved
+
     def forget(self, node, count):
         self.counts[node] -= count
         if self.counts[node] == 0:
@@ -72,6 +98,10 @@ class Server:
         file = self.files[ino]
         if opcode in (LOOKUP, MKDIR, CREATE, UNLINK):
             return self.perform_on_name(opcode, file, body)
+        if opcode == RENAME:
+            old, new = (name + b"\0" for name in body[8:].split(b"\0")[:2])
+            self.rename(ino, old, self.nodes[struct.unpack_from("<Q", body)[0]], new)
+            return b""
         if opcode == GETATTR:
             other = self.bug == "another file" and node == max(self.nodes) and node > 2
             return bytes(16) + self.attr(2 if other else ino) + bytes(8 if self.bug == "wrong length" else 0)
@@ -100,7 +130,7 @@ class Server:
         if opcode == UNLINK:
             self.unlinked = directory.pop(body)
             return b""
-        made = self.make(directory, body[16:], bytearray())
+        made = self.create(directory, body[16:])
         return self.entry(made, self.bug != "count lost") + struct.pack("<QII", made, 0, 0)
 
     def records(self, names, after):

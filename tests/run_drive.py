@@ -17,7 +17,8 @@ import time
 from pathlib import Path
 
 sys.dont_write_bytecode = True
-from drive_server import (BUGS, CREATE, FORGET, INIT, OPEN, OPENDIR, READDIR, RELEASEDIR, Server, agreement, received, reply, send)
+from drive_server import (BUGS, CREATE, FORGET, INIT, OPEN, OPENDIR, OPENING_BUGS, READDIR, RELEASEDIR, Server, agreement, received,
+                          reply, send)
 
 TOP = Path(__file__).resolve().parent.parent
 PROGRAM = Path(sys.argv[1] if len(sys.argv) > 1 else TOP / "crates/fuseworld/out/fuseworld").resolve()
@@ -122,6 +123,20 @@ FOUND = {
     "reply to nothing": (CALLS, "reply to nothing"),
 }
 
+# What Linux answers otherwise than the world beside: CREATE opens a file that is there, and finds that a directory is one; a
+# directory above what is moved onto it is not empty. A call of a file that was opened so has another number there than here.
+OTHERWISE = ["call mkdir /d", "call create /d/f", "call write 2 0 6869", "call close 2", "call create /d/f", "call read 5 0 10",
+             "call write 5 2 21", "call close 5", "call read 5 0 10", "call create /d", "call rename /d/f /d", "call mkdir /e",
+             "call rename /d/f /e", "call open /d/f", "call read 14 0 10", "call close 14", "call create /d/g", "call write 17 0 00",
+             "call close 17", "call stat /d/g", "call mkdir /d/d", "call create /d/d/f", "call close 22", "call rename /d/d/f /d"]
+ANSWERED_OTHERWISE = ["answer 5 0", "answer 6 0 6869", "answer 9 9", "answer 10 21", "answer 11 39", "answer 13 21", "answer 15 0 686921",
+                      "answer 24 39", "answers 24 differ 0"]
+FOUND_OTHERWISE = {
+    "a file is a directory": "differs: answer 5 21, here 5 17",
+    "a directory is opened": "differs: answer 10 0, here 10 17",
+    "any directory is above": "differs: answer 13 39, here 13 21",
+}
+
 
 def form_of(script):
     return ["--beside"] if script is CALLS else []
@@ -141,6 +156,16 @@ def run_bugs():
         judge(f"{bug}: {line}", (line in lines, status), (True, 0))
         first = next((line for line in lines if FAULTS.match(line)), None)
         judge(f"{bug}: nothing else is said before", first in (line, "differs: answer 3 116, here 3 0 2"), True)
+
+
+def run_otherwise():
+    lines, status, _ = on_server(["--beside"], OTHERWISE, opens_existing=True)
+    judge("right answers that are other than here", ([line for line in ANSWERED_OTHERWISE if line not in lines], status), ([], 0))
+    judge("CREATE that refuses what is there", on_server(["--beside"], OTHERWISE)[0][-1], "answers 24 differ 0")
+    for bug in OPENING_BUGS:
+        lines, status, _ = on_server(["--beside"], OTHERWISE, bug=bug, opens_existing=True)
+        first = next((line for line in lines if FAULTS.match(line)), None)
+        judge(bug, (first, status), (FOUND_OTHERWISE[bug], 0))
 
 
 # --- what is sent in fields that are free
@@ -343,7 +368,7 @@ def run_trace():
     ])
 
 
-for part in (run_bugs, run_fields, run_frames, run_abort, run_closings, run_agreements, run_opendir, run_waits, run_words, run_packets, run_trace):
+for part in (run_bugs, run_otherwise, run_fields, run_frames, run_abort, run_closings, run_agreements, run_opendir, run_waits, run_words, run_packets, run_trace):
     part()
 print(f"{passed} passed, {failed} failed")
 sys.exit(bool(failed))

@@ -1,19 +1,30 @@
 //! The same calls in a world of this project's own.
 
 use crate::alike::are_alike;
+use crate::asked::{Asked, is_made_otherwise, is_refused_as_above};
 use crate::printing::taken;
+use crate::stop::Stop;
 use fw_script::{OutputRefused, write_record};
-use fw_world::{Answer, Event, Minor, Outcome, Pick, Record, Refusal, Tables, Taken, WorldOf};
+use fw_world::{
+    Answer, Call, Event, Minor, Outcome, Pick, Record, Refusal, Tables, Taken, WorldOf,
+};
+use std::collections::BTreeMap;
 use std::io::Write;
 
 /// How long a name is valid in that world: names are looked up each time.
 const VALID_MS: u64 = 0;
+
+/// The number of no call.
+const NO_CALL: u64 = 0;
 
 /// A world of this project's own, beside a kernel that drives another server.
 #[derive(Drop)]
 pub(crate) struct Beside<T: Tables> {
     alloc: T::Heap,
     world: WorldOf<T>,
+    asked: Asked<T::Heap>,
+    /// The number here of each call that may have opened a file, by its number there.
+    numbers: BTreeMap<u64, u64, T::Heap>,
     answers: u64,
     differences: u64,
 }
@@ -29,6 +40,8 @@ impl<T: Tables> Beside<T> {
         Ok(Beside {
             alloc,
             world,
+            asked: Asked::Other,
+            numbers: BTreeMap::new(alloc),
             answers: 0,
             differences: 0,
         })
@@ -82,15 +95,85 @@ impl<T: Tables> Beside<T> {
         Ok(())
     }
 
+    /// The number here of the call that opened a file. One that opened none has none.
+    fn number_here(&self, open_call: u64) -> u64 {
+        match self.numbers.get(&open_call) {
+            Some(number) => *number,
+            None => NO_CALL,
+        }
+    }
+
+    /// A call, by the numbers here.
+    fn call_here<'a>(&self, call: &Call<'a>) -> Call<'a> {
+        match *call {
+            Call::Read {
+                open_call,
+                offset,
+                size,
+            } => Call::Read {
+                open_call: self.number_here(open_call),
+                offset,
+                size,
+            },
+            Call::Write {
+                open_call,
+                offset,
+                bytes,
+            } => Call::Write {
+                open_call: self.number_here(open_call),
+                offset,
+                bytes,
+            },
+            Call::Close { open_call } => Call::Close {
+                open_call: self.number_here(open_call),
+            },
+            call => call,
+        }
+    }
+
+    /// Notes the number here of a call that may open a file.
+    fn note_number(&mut self, number: u64, here: u64) -> Result<(), Refusal> {
+        match self.numbers.insert(number, here) {
+            Ok(_) => Ok(()),
+            Err(_) => Err(Refusal::NoMemory),
+        }
+    }
+
+    /// A call is made here, and carried to its answer. Gives its number here, where it is accepted.
+    fn carry(&mut self, call: &Call<'_>) -> Result<Option<u64>, Refusal> {
+        match self.world.step(&Event::Call(*call)) {
+            Ok(Outcome::Begun { call }) => {
+                self.serve_all()?;
+                Ok(Some(call))
+            }
+            Err(Refusal::NoMemory) => Err(Refusal::NoMemory),
+            _ => Ok(None),
+        }
+    }
+
+    /// The call that has this number there is made here.
+    fn begin(&mut self, call: &Call<'_>, number: u64) -> Result<(), Refusal> {
+        let Ok(asked) = Asked::by(self.alloc, call) else {
+            return Err(Refusal::NoMemory);
+        };
+        self.asked = asked;
+        let call_here = self.call_here(call);
+        match (call, self.carry(&call_here)?) {
+            (Call::Open { .. } | Call::Create { .. }, Some(here)) => self.note_number(number, here),
+            _ => Ok(()),
+        }
+    }
+
     /// The same event happens in this world, if it is a mount, a call, an abort, or time that passes.
     ///
     /// # Errors
     ///
     /// Out of memory.
-    pub(crate) fn follow(&mut self, event: &Event<'_>) -> Result<(), Refusal> {
-        match event {
-            Event::Mount { .. } => self.mount(),
-            Event::Call(_) | Event::Tick(_) | Event::Abort => match self.world.step(event) {
+    pub(crate) fn follow(&mut self, event: &Event<'_>, outcome: Outcome) -> Result<(), Refusal> {
+        match (event, outcome) {
+            (Event::Mount { .. }, _) => self.mount(),
+            (Event::Call(call), Outcome::Begun { call: number }) => self.begin(call, number),
+            (Event::Tick(_) | Event::Abort, _) => match self.world.step(event) {
                 Err(Refusal::NoMemory) => Err(Refusal::NoMemory),
                 _ => self.serve_all(),
             },
@@ -98,24 +181,81 @@ impl<T: Tables> Beside<T> {
         }
     }
 
+    /// Whether an answer to a new file whose name is there is that of an OPEN, as Linux opens what is there. The file is
+    /// then open here under the number of that call.
+    fn is_opened(
+        &mut self,
+        number: u64,
+        path: &[u8],
+        answer: &Answer<T::Heap>,
+    ) -> Result<bool, Refusal> {
+        let Some(here) = self.carry(&Call::Open { path })? else {
+            return Ok(false);
+        };
+        let Some((_call, opened)) = self.world.collect() else {
+            return Ok(false);
+        };
+        if are_alike(answer, &opened) {
+            self.note_number(number, here)?;
+            return Ok(true);
+        }
+        // What is open here alone is closed, and nobody asks for that answer.
+        self.carry(&Call::Close { open_call: here })?;
+        let _closed = self.world.collect();
+        Ok(false)
+    }
+
+    /// Whether an answer is right beside the one here: the same, or another that Linux gives (docs/DIFFERENCES.md).
+    fn is_right(
+        &mut self,
+        number: u64,
+        answer: &Answer<T::Heap>,
+        here: &Answer<T::Heap>,
+    ) -> Result<bool, Refusal> {
+        match std::mem::replace(&mut self.asked, Asked::Other) {
+            Asked::MoveAbove if is_refused_as_above(answer, here) => Ok(true),
+            Asked::Create(path) if is_made_otherwise(answer, here) => self.is_opened(
+                number,
+                path.as_slice(),
+                answer,
+            ),
+            _ => Ok(are_alike(answer, here)),
+        }
+    }
+
     /// Prints that an answer differs from the one here, if it does.
     ///
     /// # Errors
     ///
-    /// The output refused.
+    /// The output refused, or out of memory.
     pub(crate) fn compare<W: Write>(
         &mut self,
         call: u64,
         answer: Answer<T::Heap>,
         out: &mut W,
-    ) -> Result<(), OutputRefused> {
+    ) -> Result<(), Stop> {
         let Some((_call, here)) = self.world.collect() else {
             return Ok(());
         };
         self.answers = self.answers.saturating_add(1);
-        if are_alike(&answer, &here) {
-            return Ok(());
+        match self.is_right(call, &answer, &here) {
+            Ok(true) => Ok(()),
+            Ok(false) => {
+                self.print_differing(call, answer, here, out)?;
+                Ok(())
+            }
+            Err(_) => Err(Stop::NoMemory),
         }
+    }
+
+    /// Prints that an answer differs from the one here, and counts it.
+    fn print_differing<W: Write>(
+        &mut self,
+        call: u64,
+        answer: Answer<T::Heap>,
+        here: Answer<T::Heap>,
+        out: &mut W,
+    ) -> Result<(), OutputRefused> {
         self.differences = self.differences.saturating_add(1);
         let mut text = Vec::new(self.alloc);
         write_record(&mut text, &Record::Answered { call, answer })?;

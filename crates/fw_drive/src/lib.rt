@@ -3,6 +3,7 @@
 
 mod acting;
 mod alike;
+mod asked;
 mod beside;
 mod carrying;
 mod driver;

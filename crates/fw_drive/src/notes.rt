@@ -88,7 +88,7 @@ impl<T: Tables> Notes<T> {
         self.watch_outcome(outcome)?;
         print_outcome::<T::Heap, W>(out, outcome)?;
         match &mut self.beside {
-            Some(beside) => beside.follow(event).map_err(stop_beside),
+            Some(beside) => beside.follow(event, outcome).map_err(stop_beside),
             None => Ok(()),
         }
     }
@@ -103,10 +103,7 @@ impl<T: Tables> Notes<T> {
         let record = Record::Answered { call, answer };
         write_record(out, &record)?;
         match (&mut self.beside, record) {
-            (Some(beside), Record::Answered { call, answer }) => {
-                beside.compare(call, answer, out)?;
-                Ok(())
-            }
+            (Some(beside), Record::Answered { call, answer }) => beside.compare(call, answer, out),
             _ => Ok(()),
         }
     }
