@@ -10,6 +10,8 @@ LOOKUP, FORGET, GETATTR, MKDIR, UNLINK, RENAME, OPEN, READ, WRITE, RELEASE = 1, 
 INIT, OPENDIR, READDIR, RELEASEDIR, CREATE, INTERRUPT, BATCH_FORGET = 26, 27, 28, 29, 35, 36, 42
 BUGS = ["count lost", "node reused", "two generations", "reply twice", "reply after EINTR", "wrong length", "another file",
         "root given", "reply to nothing"]
+# Those at OPENDIR and RELEASEDIR: the reply comes twice, has 8 bytes too many, or its error is out of range and it comes then.
+OPENDIR_BUGS = [f"{name} {what}" for name in ("OPENDIR", "RELEASEDIR") for what in ("twice", "length", "error")]
 # Those of a server that opens what CREATE finds.
 OPENING_BUGS = ["a file is a directory", "a directory is opened", "any directory is above"]
 
@@ -168,6 +170,11 @@ class Server:
             self.held = (opcode, unique, node, body)
             return said
         said.append(self.answer(opcode, unique, node, body))
+        if opcode in (OPENDIR, RELEASEDIR) and self.bug in OPENDIR_BUGS:
+            name, what = self.bug.split()
+            if name == ("OPENDIR" if opcode == OPENDIR else "RELEASEDIR"):
+                return {"twice": said * 2, "length": [reply(unique, said[-1][16:] + bytes(8))],
+                        "error": [struct.pack("<IiQ", 16, 5, unique), *said]}[what]
         if opcode == GETATTR and self.bug == "reply twice":
             said.append(said[-1])
         if opcode == GETATTR and self.bug == "reply to nothing":

@@ -17,7 +17,7 @@ import time
 from pathlib import Path
 
 sys.dont_write_bytecode = True
-from drive_server import (BUGS, CREATE, FORGET, INIT, OPEN, OPENDIR, OPENING_BUGS, READDIR, RELEASEDIR, Server, agreement, received,
+from drive_server import (BUGS, CREATE, FORGET, INIT, OPEN, OPENDIR, OPENDIR_BUGS, OPENING_BUGS, READDIR, RELEASEDIR, Server, agreement, received,
                           reply, send)
 
 TOP = Path(__file__).resolve().parent.parent
@@ -268,9 +268,45 @@ def run_opendir():
     begun = [*MOUNTED, "call 1", "read 4 GETATTR 56", "call 2"]
     judge("a reply that comes before OPENDIR's waits", on_frames([], script, AGREES, [], [ATTR, opened], [reply(6)]),
           ([*begun, "read 6 READDIR 80", *ANSWERED[:2], "written 6 0", "answer 2 0", "kernel"], 0))
-    for said, error in [(reply(own, error=13), 13), (reply(own), 5), (reply(own, bytes(8)), 5)]:
+    wrong = ["body is not its request's"]
+    for said, error, lines in [(reply(own, error=13), 13, []), (reply(own, error=5), 5, []), (reply(own), 5, wrong), (reply(own, bytes(8)), 5, wrong)]:
         judge(f"OPENDIR is {error}", on_frames([], ["mount 0 0", "read p 0", "write", "call list / 0", "read p 0"], AGREES, [said]),
-              ([*MOUNTED, "call 1", "read 4 READDIR 80", f"answer 1 {error}", "kernel"], 0))
+              ([*MOUNTED, "call 1", *lines, "read 4 READDIR 80", f"answer 1 {error}", "kernel"], 0))
+
+
+def run_opendir_bugs():
+    """What a server does wrong at OPENDIR and RELEASEDIR is said."""
+    script = ["call mkdir /d", "call list / 0", "call list / 0", "call stat /"]
+    good = ["answer 1 0", "answer 2 0 d:1:dir", "answer 3 0 d:1:dir", "answer 4 0 dir 1 0 1"]
+    faults = {"twice": "second reply", "length": "body is not its request's", "error": "no reply's head"}
+    for bug in OPENDIR_BUGS:
+        name, what = bug.split()
+        lines, status, _ = on_server(["--calls"], script, bug=bug)
+        answers = [line.replace(" 0 d:1:dir", " 5") for line in good] if bug == "OPENDIR length" else good
+        judge(bug, ([line for line in lines if line.startswith("answer")], status), (answers, 0))
+        judge(f"{bug}: what is said", [line for line in lines if FAULTS.match(line)], [faults[what]] * 2)
+    own = 1 << 62
+    listing = [*MOUNT, "call list / 0", "read p 0", "write"]
+    begun = [*MOUNTED, "call 1"]
+    judge("an error of -512 to OPENDIR, and no other reply",
+          on_frames(SHORT_WAIT, listing, AGREES, [struct.pack("<IiQ", 16, -512, own)]), ([*begun, "no reply's head", "no reply"], 4))
+    judge("an error of 5 to OPENDIR, said once", on_frames([], [*listing, "write"], AGREES,
+          [struct.pack("<IiQ", 16, 5, own), reply(own, struct.pack("<QII", 7, 0, 0))], [reply(4)]),
+          ([*begun, "no reply's head", "read 4 READDIR 80", "written 0 22", "written 4 0", "answer 1 0", "kernel"], 0))
+
+
+def run_many():
+    """While the reply to OPENDIR is awaited 10,000 frames are kept for the kernel, and 10,000 that are for nobody."""
+    script = [*MOUNT, "call list / 0", "read p 0", "write"]
+    begun = [*MOUNTED, "call 1"]
+    opened = reply(1 << 62, struct.pack("<QII", 7, 0, 0))
+    for count, last in [(9999, ["read 4 READDIR 80", "written 6 2", "reply to nothing", "kernel"]), (10000, ["device failed: 10000 frames wait"])]:
+        judge(f"{count} frames wait", on_frames([], script, AGREES, [reply(6) * count + opened]), ([*begun, *last], 0 if count < 10000 else 4))
+    notice = struct.pack("<IiQ", 40, 2, 0) + bytes(24)
+    told = ["notification 2 40"] * 10000
+    for count, last in [(10000, ["read 4 READDIR 80", "written 4 0", "answer 1 0", "kernel"]), (10001, ["device failed: 10000 frames wait"])]:
+        judge(f"{count} notifications", on_frames([], script, AGREES, [notice * count + opened], [reply(4)]),
+              ([*begun, *told, *last], 0 if count == 10000 else 4))
 
 
 def run_waits():
@@ -368,7 +404,7 @@ def run_trace():
     ])
 
 
-for part in (run_bugs, run_otherwise, run_fields, run_frames, run_abort, run_closings, run_agreements, run_opendir, run_waits, run_words, run_packets, run_trace):
+for part in (run_bugs, run_otherwise, run_fields, run_frames, run_abort, run_closings, run_agreements, run_opendir, run_opendir_bugs, run_many, run_waits, run_words, run_packets, run_trace):
     part()
 print(f"{passed} passed, {failed} failed")
 sys.exit(bool(failed))

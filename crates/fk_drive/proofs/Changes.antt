@@ -17,7 +17,7 @@ use Rattle.fk_drive_frames.specs.Asides.{IsOtherFrame}
 use Rattle.fk_drive_frames.specs.OwnRequests.{GivesHandle, IsReleasedir}
 use Rattle.fk_drive.specs.Driven.{KeepsWaiting, directories_in, driven}
 use Rattle.fk_drive_frames.specs.declared.filling.FreeFields.{FreeFields}
-use Rattle.fk_drive.specs.Driving.{Driven, SendsFrame, DriveStep, ReleasesBehind, Turn, is_given, opened, opening, releases, sets_aside, waits}
+use Rattle.fk_drive.specs.Driving.{Driven, SendsFrame, DriveStep, ReleasesBehind, Turn, is_given, opened, opening, releases, waits}
 use Rattle.fk_drive.specs.Steps.{IsKept, SendStep}
 use Rattle.fk_drive.specs.declared.connection.Connection.{Connection}
 use Rattle.fk_drive.specs.declared.connection.Directory.{Directory}
@@ -43,14 +43,6 @@ abbrev pub Keeping : List ℕ → Driven → Driven → Type 0
 Keeping frame old new = (step : DriveStep old (received frame ∷ []) new) × IsKept frame step
 
 module _ {A : Type 0} (kernel : Kernel) (old new : Connection A) where
-  pub noted : new ≡ record old { other_frames = new.other_frames } → (turn : Turn) → driven kernel new turn ≡ driven kernel old turn
-  noted same turn = ap (λ (c : Connection A). driven kernel c turn) same
-
-  pub other_frame_step : new ≡ record old { other_frames = new.other_frames } → (turn : Turn) (frame : List ℕ) → IsOtherFrame old.next frame
-      → Keeping frame (driven kernel old turn) (driven kernel new turn)
-  other_frame_step same turn frame is =
-      subst (λ (s : Driven). Keeping frame (driven kernel old turn) s) (sym (noted same turn)) (sets_aside frame is, refl)
-
   pub step_waits : (frame : Vec ℕ A) → new.waiting.items ≡ old.waiting.items ++ frame ∷ []
       → new ≡ record old { waiting = new.waiting } → (turn : Turn) → (IsOtherFrame old.next frame.items → ⊥)
       → Keeping frame.items (driven kernel old turn) (driven kernel new turn)

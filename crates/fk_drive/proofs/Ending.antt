@@ -1,5 +1,5 @@
 -- How calls end, one after another.
-use Rattle.std.proofs.Common.{List, ◌++◌, Some, None}
+use Rattle.std.proofs.Common.{List, [], ◌++◌, Some, None, inl, inr, refl, sym, subst}
 use Rattle.std.specs.Prelude.{Result, Ok, Err}
 use Rattle.fuse_device.specs.Transfers.{Transfer}
 use Rattle.fk_drive.specs.Driving.{Driven}
@@ -7,6 +7,8 @@ use Rattle.fk_drive.specs.Exchanges.{Ends, EndsAs}
 use Rattle.fk_drive.specs.Openings.{AwaitsUntil}
 use Rattle.fk_drive.specs.Receiving.{ReceivesUntil}
 use Rattle.fk_drive.specs.Sending.{SendsUntil}
+use Rattle.fk_drive.specs.Rooms.{IsNoRoom}
+use Rattle.fk_drive.specs.declared.connection.Connection.{Connection}
 use Rattle.fk_drive.specs.declared.end.DriveEnd.{DriveEnd}
 use Rattle.fk_drive.specs.declared.end.DriveEnd.TheVariants as at
 use Rattle.fk_drive.specs.declared.opening.Awaited.{Awaited}
@@ -18,6 +20,7 @@ pub receives_on : {T : Type 0} (r : Result T DriveEnd) (new : Driven) (h k : Lis
 receives_on (Ok _) new h k none ends = ends_on None h k none ends
 receives_on (Err (at.Device end)) new h k none ends = ends_on (Some end) h k none ends
 receives_on (Err at.Memory) new h k none ends = (ends_on None h k none ends.0, ends.1)
+receives_on (Err at.TooMany) new h k none ends = ends
 receives_on (Err (at.Refused refusal)) new h k none ends = ends
 
 pub awaits_on : (awaited : Awaited) (h k : List Transfer) → Ends None h → AwaitsUntil awaited k
@@ -26,6 +29,7 @@ awaits_on (Said said) h k none ends = ends_on None h k none ends
 awaits_on NotYet h k none ends = ends_on None h k none ends
 awaits_on (Ended (at.Device end)) h k none ends = ends_on (Some end) h k none ends
 awaits_on (Ended at.Memory) h k none ends = ends_on None h k none ends
+awaits_on (Ended at.TooMany) h k none ends = ends_on None h k none ends
 awaits_on (Ended (at.Refused refusal)) h k none ends = ends
 
 pub sends_on : {T : Type 0} (r : Result T DriveEnd) (new : Driven) (h k : List Transfer) → Ends None h
@@ -33,10 +37,17 @@ pub sends_on : {T : Type 0} (r : Result T DriveEnd) (new : Driven) (h k : List T
 sends_on (Ok _) new h k none ends = (ends_on None h k none ends.0, ends.1)
 sends_on (Err (at.Device end)) new h k none ends = ends_on (Some end) h k none ends
 sends_on (Err at.Memory) new h k none ends = (ends_on None h k none ends.0, ends.1)
+sends_on (Err at.TooMany) new h k none ends = (ends_on None h k none ends.0, ends.1)
 sends_on (Err (at.Refused refusal)) new h k none ends = (ends_on None h k none ends.0, ends.1)
 
 -- the device ended as OPENDIR was sent
 pub awaits_as : (end : DriveEnd) (log : List Transfer) → EndsAs {T = Unit {0}} (Err end) log → AwaitsUntil (Ended end) log
 awaits_as (at.Device end) log ends = ends
 awaits_as at.Memory log ends = absurd ends
+awaits_as at.TooMany log ends = absurd ends
 awaits_as (at.Refused refusal) log ends = absurd ends
+
+-- there was no room for a frame, and none was received
+pub no_room_ends : {A : Type 0} (connection : Connection A) (end : DriveEnd) → IsNoRoom connection end → AwaitsUntil (Ended end) []
+no_room_ends connection end (inl memory) = subst (λ (e : DriveEnd). AwaitsUntil (Ended e) []) (sym memory) refl
+no_room_ends connection end (inr (many, wait)) = subst (λ (e : DriveEnd). AwaitsUntil (Ended e) []) (sym many) refl

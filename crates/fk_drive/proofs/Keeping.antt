@@ -32,6 +32,7 @@ module _ (free_fields : FreeFields) where
   awaits_stopped at.Memory log is a awaits =
       subst (λ (l : List Transfer). AwaitsUntil (Ended at.Memory) l × Runs (SendStep free_fields) a l a) (sym is)
       (refl, nothing)
+  awaits_stopped at.TooMany log is a awaits = absurd is
   awaits_stopped (at.Refused refusal) log is a awaits = absurd is
 
 -- while none waits
@@ -50,4 +51,5 @@ receives_stopped (at.Device end) log is a none =
 receives_stopped at.Memory log is a none =
     subst (λ (l : List Transfer). ReceivesUntil {T = Unit {0}} (Err at.Memory) a l × Runs ReceiveStep a l a) (sym is)
     ((refl, none), nothing)
+receives_stopped at.TooMany log is a none = absurd is
 receives_stopped (at.Refused refusal) log is a none = absurd is

@@ -35,6 +35,7 @@ pub sent_until : {T : Type 0} (r : Result T DriveEnd) (new : Driven) → new.tur
 sent_until (Ok _) new is log ends = (ends, is)
 sent_until (Err (at.Device end)) new is log ends = ends
 sent_until (Err at.Memory) new is log ends = absurd ends
+sent_until (Err at.TooMany) new is log ends = absurd ends
 sent_until (Err (at.Refused refusal)) new is log ends = absurd ends
 
 -- the reply to OPENDIR did not come
@@ -42,6 +43,7 @@ pub unsaid_until : (end : DriveEnd) (new : Driven) → IsAwaiting new.turn → (
     → AwaitsUntil (AwaitEnded end) log → SendsUntil {T = Unit {0}} (Err end) new log
 unsaid_until (at.Device end) new is log ends = ends
 unsaid_until at.Memory new is log ends = (ends, is)
+unsaid_until at.TooMany new is log ends = (ends, is)
 unsaid_until (at.Refused refusal) new is log ends = absurd ends
 
 module _ {D : Type 0} (logs : D → D → List Transfer → Type 0)

@@ -25,6 +25,7 @@ ends_behind : {T : Type 0} (r : Result T DriveEnd) (h k : List Transfer) → End
 ends_behind (Ok _) h k none ends = ends_on None h k none ends
 ends_behind (Err (at.Device end)) h k none ends = ends_on (Some end) h k none ends
 ends_behind (Err at.Memory) h k none ends = ends
+ends_behind (Err at.TooMany) h k none ends = ends
 ends_behind (Err (at.Refused refusal)) h k none ends = ends
 
 -- the first frame that waits is written, and the kernel's directories are released behind it

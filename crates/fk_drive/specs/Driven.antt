@@ -2,7 +2,6 @@
 use Rattle.std.specs.Prelude.{◌≡◌, ℕ, List, map}
 use Rattle.fuse_spec.specs.declared.Opened.{Opened}
 use Rattle.fuse_spec.specs.Kernel.Kernel.{Kernel}
-use Rattle.fk_drive_frames.specs.declared.aside.OtherFrame.{OtherFrame}
 use Rattle.fk_drive.specs.Driving.{Driven, Turn}
 use Rattle.fk_drive.specs.declared.connection.Connection.{Connection}
 
@@ -12,10 +11,6 @@ waiting_in connection = map (λ frame. frame.items) connection.waiting.items
 
 abbrev pub directories_in : {A : Type 0} → Connection A → List (ℕ × Opened)
 directories_in connection = map (λ d. (d.unique, d.opened)) connection.directories.items
-
--- the frames that were set aside and not taken yet
-abbrev pub other_frames_in : {A : Type 0} → Connection A → List OtherFrame
-other_frames_in connection = connection.other_frames.items
 
 -- the state at a turn
 abbrev pub driven : {A : Type 0} → Kernel → Connection A → Turn → Driven

@@ -27,4 +27,5 @@ WentOver logs old new IsEnd IsSuch = (log : List Transfer) × logs old new log �
 abbrev pub StopsAt : DriveEnd → List Transfer → Type 0
 StopsAt (at.Device end) log = log ≡ stopped end ∷ []
 StopsAt at.Memory log = log ≡ []
+StopsAt at.TooMany log = ⊥
 StopsAt (at.Refused refusal) log = ⊥

@@ -3,6 +3,7 @@ pub mod Exchanges
 pub mod Driving
 pub mod Driven
 pub mod Rooms
+pub mod Notings
 pub mod Steps
 pub mod Openings
 pub mod Sending

@@ -11,4 +11,5 @@ abbrev pub ReceivesUntil : {T : Type 0} → Result T DriveEnd → Driven → Lis
 ReceivesUntil (Ok _) new log = Ends None log
 ReceivesUntil (Err (at.Device end)) new log = Ends (Some end) log
 ReceivesUntil (Err at.Memory) new log = Ends None log × (new.waiting ≡ [])
+ReceivesUntil (Err at.TooMany) new log = ⊥
 ReceivesUntil (Err (at.Refused refusal)) new log = ⊥

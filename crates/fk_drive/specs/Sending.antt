@@ -49,12 +49,13 @@ abbrev pub IsAnswerRefused : Kernel → Turn → DriveEnd → Type 0
 IsAnswerRefused kernel (unopened request error) end = IsAnswerRefusedAs kernel request.unique error end
 IsAnswerRefused kernel turn end = ⊥
 
--- The request is sent, or the device came to its end; memory ran out while the reply to OPENDIR is awaited; or the kernel
--- refused the error.
+-- The request is sent, or the device came to its end; memory ran out, or too many frames wait, while the reply to OPENDIR
+-- is awaited; or the kernel refused the error.
 abbrev pub SendsUntil : {T : Type 0} → Result T DriveEnd → Driven → List Transfer → Type 0
 SendsUntil (Ok _) new log = Ends None log × (new.turn ≡ idle)
 SendsUntil (Err (at.Device end)) new log = Ends (Some end) log
 SendsUntil (Err at.Memory) new log = Ends None log × IsAwaiting new.turn
+SendsUntil (Err at.TooMany) new log = Ends None log × IsAwaiting new.turn
 SendsUntil (Err (at.Refused refusal)) new log = Ends None log × IsAnswerRefused new.kernel new.turn (at.Refused refusal)
 
 -- Where the kernel refused to be read there is none either.

@@ -1,8 +1,8 @@
 //! What is kept of a kernel's connection to a server.
 
-ghost use Rattle.std.specs.Prelude.{◌≡◌, []};
+ghost use Rattle.std.specs.Prelude.{◌≡◌};
 
-use fk_drive_frames::{FIRST_OPENDIR_UNIQUE, OtherFrame};
+use fk_drive_frames::FIRST_OPENDIR_UNIQUE;
 use fuse_spec::Opened;
 use std::alloc::Allocator;
 
@@ -21,12 +21,11 @@ pub struct Connection<A: Allocator + Copy> {
     pub(crate) next: u64,
     pub(crate) asks: bool,
     pub(crate) directories: Vec<Directory, A>,
-    pub(crate) other_frames: Vec<OtherFrame, A>,
 }
 
 impl<A: Allocator + Copy> Connection<A> {
     ghost use Rattle.fk_drive.specs.Driving.{first_driven};
-    ghost use Rattle.fk_drive.specs.Driven.{Keeps, driven, other_frames_in};
+    ghost use Rattle.fk_drive.specs.Driven.{driven};
     ghost use Rattle.fk_drive.specs.Driving.{idle};
     ghost use Rattle.fuse_spec.specs.World.Worlds.{first_kernel};
 
@@ -40,17 +39,6 @@ impl<A: Allocator + Copy> Connection<A> {
             next: FIRST_OPENDIR_UNIQUE,
             asks,
             directories: Vec::new(alloc),
-            other_frames: Vec::new(alloc),
         }
-    }
-
-    /// The frames that were set aside since this was last asked, the oldest first. They are gone then.
-    pub fn take_other_frames(&mut self) -> Vec<OtherFrame, A>
-        ensures keeps { Keeps self.old self.new }
-        ensures given { result.items ≡ other_frames_in self.old }
-        ensures gone { other_frames_in self.new ≡ [] }
-    {
-        let empty = Vec::new(self.alloc);
-        std::mem::replace(&mut self.other_frames, empty)
     }
 }

@@ -22,6 +22,17 @@ pub(crate) fn send_bytes<D: Device>(device: &mut D, bytes: &[u8]) -> Result<(), 
     }
 }
 
+/// A frame in no more memory than it needs, where there is some for it.
+fn fitted<A: Allocator + Copy>(alloc: A, frame: Vec<u8, A>) -> Vec<u8, A>
+    ensures { result.items ≡ frame.items }
+{
+    let mut fitted = Vec::new(alloc);
+    match fitted.extend_from_slice(frame.as_slice()) {
+        Ok(()) => fitted,
+        Err(_) => frame,
+    }
+}
+
 /// Receives a frame. Its memory is there before it is received.
 ///
 /// # Errors
@@ -40,7 +51,7 @@ pub(crate) fn receive_frame<A: Allocator + Copy, D: Device>(
     match device.receive(&mut frame) {
         Ok(count) => {
             frame.truncate(count);
-            Ok(frame)
+            Ok(fitted(alloc, frame))
         }
         Err(end) => Err(DriveEnd::Device(end)),
     }

@@ -4,6 +4,7 @@
 mod connection;
 mod end;
 mod exchange;
+mod noted;
 mod opening;
 mod receiving;
 mod sending;
@@ -12,5 +13,6 @@ mod writing;
 pub use connection::{Connection, Directory};
 pub use end::{DriveEnd, NotSent};
 pub use fk_drive_frames::{FreeFields, OtherFrame};
+pub use noted::{Noted, Notes};
 pub use sending::send_next;
 pub use writing::{Written, write_next};

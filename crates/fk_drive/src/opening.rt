@@ -1,24 +1,30 @@
 //! A directory is opened before it is listed.
 
-ghost use Rattle.std.specs.Prelude.{◌≡◌, ◌↔◌, ◌<◌, ◌^◌, ◌++◌, ◌∷◌, [], ℕ, List, IfNone, IfSome, IsTrue, OnSome, true};
+ghost use Rattle.std.specs.Prelude.{◌≡◌, ◌↔◌, ◌≤◌, ◌<◌, ◌^◌, ◌++◌, ◌∷◌, [], ℕ, Bool, List, IfNone, IfSome, IsTrue, OnSome, false, length, true, vec_len};
 ghost use Rattle.fuse_spec.specs.Kernel.Kernel.{Kernel as KernelState};
 ghost use Rattle.fuse_spec.specs.Kernel.Messages.{Request};
 ghost use Rattle.fuse_device.specs.Transfers.{received};
+ghost use Rattle.fk_wire.specs.Replies.{ReplyMessage, SpellsReply};
 ghost use Rattle.fk_wire.specs.Requests.{RequestMessage, Spells};
+ghost use Rattle.fk_wire.specs.declared.opcode.Opcode.TheVariants as op;
 ghost use Rattle.fk_drive_frames.specs.Filling.{IsListing};
-ghost use Rattle.fk_drive_frames.specs.OwnRequests.{ListsNode, SaysOfOpendir};
+ghost use Rattle.fuse_frames.specs.DecodedReplies.{head_unique};
+ghost use Rattle.fk_drive_frames.specs.OwnRequests.{GivesNothing, ListsNode, SaysOfOpendir};
 ghost use Rattle.fk_drive_frames.specs.declared.filling.FreeFields.{FreeFields};
 ghost use Rattle.fk_drive.specs.Driven.{driven};
 ghost use Rattle.fk_drive.specs.Driving.{Runs, opening, picked};
 ghost use Rattle.fk_drive.specs.Exchanges.{WentOver};
 ghost use Rattle.fk_drive.specs.Openings.{AwaitsUntil, HasErrorNumber, StopsAsking, StopsAskingWhere, turn_of, turn_where};
-ghost use Rattle.fk_drive.specs.Rooms.{HasRoomForFrame};
+ghost use Rattle.fk_drive.specs.Rooms.{HasRoomForFrame, most_waiting};
 ghost use Rattle.fk_drive.specs.Steps.{SendStep};
 
 use crate::connection::{Connection, Directory};
 use crate::end::DriveEnd;
 use crate::exchange::{receive_frame, send_bytes};
-use fk_drive_frames::{OPENDIR_UNIQUES_END, OpendirSaid, node_listed, opendir, said_in};
+use crate::noted::{Noted, Notes};
+use fk_drive_frames::{
+    OPENDIR_UNIQUES_END, OpendirSaid, is_opendir_reply, is_under, node_listed, opendir, said_in,
+};
 use fuse_device::Device;
 use fuse_spec::Opened;
 use std::alloc::Allocator;
@@ -84,6 +90,7 @@ impl<A: Allocator + Copy> Connection<A> {
             → SendStep free_fields (driven kernel self.old (opening request own listing.node)) (received frame ∷ [])
             (driven kernel self.new (turn_of request said)) }
         ensures asks { StopsAsking said self.new.asks }
+        ensures waits { self.new.waiting ≡ self.old.waiting }
     {
         match said {
             OpendirSaid::Handle(fh) => {
@@ -99,11 +106,35 @@ impl<A: Allocator + Copy> Connection<A> {
     }
 }
 
+/// Notes the reply to the OPENDIR under a number.
+fn note_reply<N: Notes>(notes: &mut N, own: u64, frame: &[u8])
+    ensures { (is_whole : Bool) × N.notes notes.old notes.new (Noted.OpendirReply own is_whole ∷ [])
+        × (is_whole ≡ true → (reply : ReplyMessage) × SpellsReply op.Open frame.now reply)
+        × (is_whole ≡ false → GivesNothing frame.now) }
+{
+    notes.note(Noted::OpendirReply {
+        unique: own,
+        is_whole: is_opendir_reply(frame),
+    });
+}
+
+/// Notes what is no reply, and has the number of the OPENDIR whose reply is awaited.
+fn note_no_reply<N: Notes>(notes: &mut N, own: u64, frame: &[u8])
+    ensures under { 16 ≤ length frame.now → head_unique frame.now ≡ own
+        → N.notes notes.old notes.new (Noted.NoOpendirReply own ∷ []) }
+    ensures none { (16 ≤ length frame.now → head_unique frame.now ≡ own → ⊥) → notes.new ≡ notes.old }
+{
+    if is_under(own, frame) {
+        notes.note(Noted::NoOpendirReply { unique: own });
+    }
+}
+
 /// Receives a frame while the reply to an OPENDIR is awaited: what that says, if it is that. Any other waits for the
 /// kernel, or is set aside.
-fn receive_said<A: Allocator + Copy, D: Device>(
+fn receive_said<A: Allocator + Copy, D: Device, N: Notes>(
     connection: &mut Connection<A>,
     device: &mut D,
+    notes: &mut N,
     own: u64,
     listing: Listing,
 ) -> Awaited
@@ -113,8 +144,9 @@ fn receive_said<A: Allocator + Copy, D: Device>(
         (driven kernel connection.new (turn_where request own listing.node result))) }
     ensures number { HasErrorNumber result }
     ensures asks { StopsAskingWhere result connection.new.asks }
+    ensures few { vec_len connection.old.waiting ≤ most_waiting → vec_len connection.new.waiting ≤ most_waiting }
 {
-    if let Err(end) = connection.make_room() {
+    if let Err(end) = connection.make_room_awaiting() {
         return Awaited::Ended(end);
     }
     let frame = match receive_frame(connection.alloc, device) {
@@ -123,20 +155,23 @@ fn receive_said<A: Allocator + Copy, D: Device>(
     };
     match said_in(own, frame.as_slice()) {
         Some(said) => {
+            note_reply(notes, own, frame.as_slice());
             connection.take_said(listing, said);
             Awaited::Said(said)
         }
         None => {
-            connection.keep(frame);
+            note_no_reply(notes, own, frame.as_slice());
+            connection.keep(frame, notes);
             Awaited::NotYet
         }
     }
 }
 
 /// Receives frames until the reply to an OPENDIR.
-fn await_opendir<A: Allocator + Copy, D: Device>(
+fn await_opendir<A: Allocator + Copy, D: Device, N: Notes>(
     connection: &mut Connection<A>,
     device: &mut D,
+    notes: &mut N,
     own: u64,
     listing: Listing,
 ) -> Awaited
@@ -148,7 +183,7 @@ fn await_opendir<A: Allocator + Copy, D: Device>(
     ensures asks { StopsAskingWhere result connection.new.asks }
 {
     for _frame in 0..u64::MAX {
-        match receive_said(connection, device, own, listing) {
+        match receive_said(connection, device, notes, own, listing) {
             Awaited::NotYet => {}
             Awaited::Said(said) => return Awaited::Said(said),
             Awaited::Ended(end) => return Awaited::Ended(end),
@@ -158,9 +193,10 @@ fn await_opendir<A: Allocator + Copy, D: Device>(
 }
 
 /// Opens the directory that a request lists.
-pub(crate) fn open_directory<A: Allocator + Copy, D: Device>(
+pub(crate) fn open_directory<A: Allocator + Copy, D: Device, N: Notes>(
     connection: &mut Connection<A>,
     device: &mut D,
+    notes: &mut N,
     listing: Listing,
 ) -> Awaited
     requires asks { connection.old.asks ≡ true }
@@ -176,7 +212,7 @@ pub(crate) fn open_directory<A: Allocator + Copy, D: Device>(
     let own = connection.next;
     connection.next += 2;
     match send_bytes(device, &opendir(own, listing.node)) {
-        Ok(()) => await_opendir(connection, device, own, listing),
+        Ok(()) => await_opendir(connection, device, notes, own, listing),
         Err(end) => Awaited::Ended(end),
     }
 }

@@ -1,44 +1,56 @@
 //! Frames are received, and wait for the kernel or are set aside.
 
-ghost use Rattle.std.specs.Prelude.{◌≡◌, ◌++◌, ◌∷◌, [], IfErr, OnOk};
+ghost use Rattle.std.specs.Prelude.{◌≡◌, ◌≤◌, ◌<◌, ◌+◌, ◌++◌, ◌∷◌, [], IfErr, OnOk, vec_len};
 ghost use Rattle.fuse_spec.specs.Kernel.Kernel.{Kernel as KernelState};
 ghost use Rattle.fuse_device.specs.Transfers.{received};
 ghost use Rattle.fk_drive.specs.Driven.{Keeps, driven, waiting_in};
 ghost use Rattle.fk_drive.specs.Driving.{DriveStep, Runs, Turn};
 ghost use Rattle.fk_drive.specs.Exchanges.{WentOver};
 ghost use Rattle.fk_drive.specs.Receiving.{ReceivesUntil};
-ghost use Rattle.fk_drive.specs.Rooms.{HasRoomForFrame};
+ghost use Rattle.fk_drive.specs.Notings.{AreNoted};
+ghost use Rattle.fk_drive.specs.Rooms.{HasRoomForFrame, IsNoRoom, most_waiting};
 ghost use Rattle.fk_drive.specs.Steps.{IsKept, ReceiveStep};
 ghost use Rattle.fk_drive.specs.declared.end.DriveEnd.TheVariants.{Memory};
 
 use crate::connection::Connection;
 use crate::end::DriveEnd;
 use crate::exchange::receive_frame;
-use fk_drive_frames::{OtherFrame, other_frame_in};
+use crate::noted::{Noted, Notes};
+use fk_drive_frames::other_frame_in;
 use fuse_device::Device;
 use std::alloc::Allocator;
 
+/// How many frames wait for the kernel at most, while the reply to OPENDIR is awaited.
+const MOST_WAITING: usize = 10_000;
+
 impl<A: Allocator + Copy> Connection<A> {
-    /// Makes room for one frame: for one that waits, for one that is set aside, and for an open directory.
+    /// Makes room for one frame that waits, and for an open directory.
     pub(crate) fn make_room(&mut self) -> Result<(), DriveEnd>
         ensures same { Keeps self.old self.new }
+        ensures long { vec_len self.new.waiting ≡ vec_len self.old.waiting }
         ensures room { OnOk result (HasRoomForFrame self.new) }
         ensures memory { IfErr result (λ end. end ≡ Memory) }
     {
         let waiting = self.waiting.reserve(1);
-        let other_frames = self.other_frames.reserve(1);
         let directories = self.directories.reserve(1);
-        match (waiting, other_frames, directories) {
-            (Ok(()), Ok(()), Ok(())) => Ok(()),
+        match (waiting, directories) {
+            (Ok(()), Ok(())) => Ok(()),
             _ => Err(DriveEnd::Memory),
         }
     }
 
-    /// Notes a frame that was set aside.
-    fn note_other_frame(&mut self, other_frame: OtherFrame)
-        ensures { self.new ≡ record self.old { other_frames = self.new.other_frames } }
+    /// Makes room for one frame while the reply to OPENDIR is awaited, if not as many wait as are kept.
+    pub(crate) fn make_room_awaiting(&mut self) -> Result<(), DriveEnd>
+        ensures same { Keeps self.old self.new }
+        ensures long { vec_len self.new.waiting ≡ vec_len self.old.waiting }
+        ensures room { OnOk result (HasRoomForFrame self.new) }
+        ensures few { OnOk result (vec_len self.new.waiting < most_waiting) }
+        ensures no_room { IfErr result (IsNoRoom self.old) }
     {
-        let _noted = self.other_frames.push(other_frame);
+        if self.waiting.len() >= MOST_WAITING {
+            return Err(DriveEnd::TooMany);
+        }
+        self.make_room()
     }
 
     /// Has a frame wait for the kernel.
@@ -50,15 +62,17 @@ impl<A: Allocator + Copy> Connection<A> {
         let _waits = self.waiting.push(frame);
     }
 
-    /// A frame waits for the kernel, or is set aside.
-    pub(crate) fn keep(&mut self, frame: Vec<u8, A>)
+    /// A frame waits for the kernel, or is set aside, and that is noted.
+    pub(crate) fn keep<N: Notes>(&mut self, frame: Vec<u8, A>, notes: &mut N)
         requires { HasRoomForFrame self.old }
-        ensures { (kernel : KernelState) (turn : Turn)
+        ensures keeps { (kernel : KernelState) (turn : Turn)
             → (step : DriveStep (driven kernel self.old turn) (received frame.items ∷ []) (driven kernel self.new turn))
             × IsKept frame.items step }
+        ensures noted { AreNoted N.notes notes.old notes.new self.old.next frame.items }
+        ensures long { vec_len self.new.waiting ≤ vec_len self.old.waiting + 1 }
     {
         match other_frame_in(self.next, frame.as_slice()) {
-            Some(other_frame) => self.note_other_frame(other_frame),
+            Some(other_frame) => notes.note(Noted::SetAside(other_frame)),
             None => self.have_wait(frame),
         }
     }
@@ -69,9 +83,10 @@ impl<A: Allocator + Copy> Connection<A> {
 /// # Errors
 ///
 /// The device came to its end, or memory runs out: nothing is then received.
-pub(crate) fn receive_next<A: Allocator + Copy, D: Device>(
+pub(crate) fn receive_next<A: Allocator + Copy, D: Device, N: Notes>(
     connection: &mut Connection<A>,
     device: &mut D,
+    notes: &mut N,
 ) -> Result<(), DriveEnd>
     requires { waiting_in connection.old ≡ [] }
     ensures { (kernel : KernelState) (turn : Turn) → WentOver D.logs device.old device.new
@@ -80,6 +95,6 @@ pub(crate) fn receive_next<A: Allocator + Copy, D: Device>(
 {
     connection.make_room()?;
     let frame = receive_frame(connection.alloc, device)?;
-    connection.keep(frame);
+    connection.keep(frame, notes);
     Ok(())
 }

@@ -20,6 +20,7 @@ ghost use Rattle.fk_kernel.specs.Picks.{IsPicked};
 use crate::connection::Connection;
 use crate::end::{DriveEnd, NotSent};
 use crate::exchange::send_bytes;
+use crate::noted::Notes;
 use crate::opening::{Awaited, Listing, node_opened, open_directory};
 use fk_drive_frames::{FreeFields, OpendirSaid, fill, fill_handle};
 use fk_kernel::{KernelOf, Pick};
@@ -61,10 +62,16 @@ fn send_listing<D: Device>(device: &mut D, frame: &[u8], fh: u64) -> Result<(), 
 
 /// Sends a request that lists a node, under its number, once its directory is open. Where that fails the kernel takes
 /// the error as its reply.
-fn send_opened<Q: QueueTable<Purpose> + Drop, C: CountTable<Heap = Q::Heap> + Drop, D: Device>(
+fn send_opened<
+    Q: QueueTable<Purpose> + Drop,
+    C: CountTable<Heap = Q::Heap> + Drop,
+    D: Device,
+    N: Notes,
+>(
     kernel: &mut KernelOf<Q, C>,
     connection: &mut Connection<Q::Heap>,
     device: &mut D,
+    notes: &mut N,
     frame: &[u8],
     free_fields: FreeFields,
     listing: Listing,
@@ -80,7 +87,7 @@ fn send_opened<Q: QueueTable<Purpose> + Drop, C: CountTable<Heap = Q::Heap> + Dr
         (driven kernel.new connection.new turn)) }
 {
     written_is_spelled();
-    let said = match open_directory(connection, device, listing) {
+    let said = match open_directory(connection, device, notes, listing) {
         Awaited::Said(said) => said,
         Awaited::NotYet => return Err(DriveEnd::Memory),
         Awaited::Ended(end) => return Err(end),
@@ -112,10 +119,16 @@ fn answer<Q: QueueTable<Purpose> + Drop, C: CountTable<Heap = Q::Heap> + Drop>(
 }
 
 /// Sends a request that was read, under its number.
-fn send_read<Q: QueueTable<Purpose> + Drop, C: CountTable<Heap = Q::Heap> + Drop, D: Device>(
+fn send_read<
+    Q: QueueTable<Purpose> + Drop,
+    C: CountTable<Heap = Q::Heap> + Drop,
+    D: Device,
+    N: Notes,
+>(
     kernel: &mut KernelOf<Q, C>,
     connection: &mut Connection<Q::Heap>,
     device: &mut D,
+    notes: &mut N,
     frame: &[u8],
     free_fields: FreeFields,
     unique: u64,
@@ -133,6 +146,7 @@ fn send_read<Q: QueueTable<Purpose> + Drop, C: CountTable<Heap = Q::Heap> + Drop
             kernel,
             connection,
             device,
+            notes,
             frame,
             free_fields,
             Listing { unique, node },
@@ -141,15 +155,22 @@ fn send_read<Q: QueueTable<Purpose> + Drop, C: CountTable<Heap = Q::Heap> + Drop
     }
 }
 
-/// Reads a request from the kernel, and sends it in a frame that spells it.
+/// Reads a request from the kernel, and sends it in a frame that spells it. What is not for the kernel is noted as it
+/// comes.
 ///
 /// # Errors
 ///
 /// The kernel refused to be read, and then nothing changed; or the run came to its end.
-pub fn send_next<Q: QueueTable<Purpose> + Drop, C: CountTable<Heap = Q::Heap> + Drop, D: Device>(
+pub fn send_next<
+    Q: QueueTable<Purpose> + Drop,
+    C: CountTable<Heap = Q::Heap> + Drop,
+    D: Device,
+    N: Notes,
+>(
     kernel: &mut KernelOf<Q, C>,
     connection: &mut Connection<Q::Heap>,
     device: &mut D,
+    notes: &mut N,
     pick: Pick,
     free_fields: FreeFields,
 ) -> Result<RequestFrame<Q::Heap>, NotSent>
@@ -170,6 +191,7 @@ pub fn send_next<Q: QueueTable<Purpose> + Drop, C: CountTable<Heap = Q::Heap> + 
         kernel,
         connection,
         device,
+        notes,
         frame.bytes(),
         free_fields,
         unique,

@@ -19,6 +19,7 @@ ghost use Rattle.fk_drive.specs.declared.connection.Directory.{Directory};
 use crate::connection::{Connection, Directory};
 use crate::end::DriveEnd;
 use crate::exchange::send_bytes;
+use crate::noted::Notes;
 use crate::receiving::receive_next;
 use fk_drive_frames::{OPENDIR_UNIQUES_END, is_older_agreement, raised_of, releasedir};
 use fk_kernel::KernelOf;
@@ -59,9 +60,10 @@ fn hand_on<Q: QueueTable<Purpose> + Drop, C: CountTable<Heap = Q::Heap> + Drop>(
 }
 
 /// Receives frames until one waits for the kernel.
-fn receive_one<A: Allocator + Copy, D: Device>(
+fn receive_one<A: Allocator + Copy, D: Device, N: Notes>(
     connection: &mut Connection<A>,
     device: &mut D,
+    notes: &mut N,
 ) -> Result<(), DriveEnd>
     ensures receives { (kernel : KernelState) (turn : Turn) → WentOver D.logs device.old device.new
         (ReceivesUntil result (driven kernel connection.new turn))
@@ -72,7 +74,7 @@ fn receive_one<A: Allocator + Copy, D: Device>(
         if connection.waiting.len() != 0 {
             return Ok(());
         }
-        receive_next(connection, device)?;
+        receive_next(connection, device, notes)?;
     }
     if connection.waiting.len() != 0 {
         Ok(())
@@ -176,15 +178,22 @@ fn release_behind<A: Allocator + Copy, D: Device>(
 }
 
 /// Writes the next frame to the kernel, which waits already or is received now, and sends RELEASEDIR where it is the
-/// reply to what listed an open directory. `Err` of the inner result is the kernel's refusal: the frame still waits.
+/// reply to what listed an open directory. `Err` of the inner result is the kernel's refusal: the frame still waits. What
+/// is not for the kernel is noted as it comes.
 ///
 /// # Errors
 ///
 /// The run came to its end before there was one.
-pub fn write_next<Q: QueueTable<Purpose> + Drop, C: CountTable<Heap = Q::Heap> + Drop, D: Device>(
+pub fn write_next<
+    Q: QueueTable<Purpose> + Drop,
+    C: CountTable<Heap = Q::Heap> + Drop,
+    D: Device,
+    N: Notes,
+>(
     kernel: &mut KernelOf<Q, C>,
     connection: &mut Connection<Q::Heap>,
     device: &mut D,
+    notes: &mut N,
 ) -> Result<Result<Written<Q::Heap>, Refusal>, DriveEnd>
     ensures writes { (turn : Turn) → (log : List Transfer) × D.logs device.old device.new log
         × WritesNext result (driven kernel.old connection.old turn) log (driven kernel.new connection.new turn) }
@@ -192,7 +201,7 @@ pub fn write_next<Q: QueueTable<Purpose> + Drop, C: CountTable<Heap = Q::Heap> +
         (driven kernel.new connection.new turn) }
     ensures refused { IfOk result (λ written. IfErr written (IsFirstRefused kernel.new connection.new)) }
 {
-    receive_one(connection, device)?;
+    receive_one(connection, device, notes)?;
     match write_first(kernel, connection) {
         Ok(mut written) => {
             written.end = release_behind(connection, device, &written.frame).err();

@@ -1,7 +1,8 @@
 //! Frames of a server that are not for the kernel.
 
-ghost use Rattle.std.specs.Prelude.{◌↔◌, IfSome, IfNone, IsSome, IsTrue};
-ghost use Rattle.fk_drive_frames.specs.Asides.{IsOtherFrame, IsNotification, IsOpendirReply};
+ghost use Rattle.std.specs.Prelude.{◌↔◌, IfSome, IfNone, IsTrue};
+ghost use Rattle.fk_wire.specs.ReplyFaults.{IsReplyHead};
+ghost use Rattle.fk_drive_frames.specs.Asides.{IsOtherFrame, IsNotification, IsOpendirReply, SaysOtherFrame};
 
 use crate::own_requests::FIRST_OPENDIR_UNIQUE;
 use fk_fields::{u32_at, u64_at};
@@ -29,8 +30,8 @@ fn is_notification(frame: &[u8]) -> bool
 
 /// The head of a frame that is a reply to a request that is not the kernel's.
 fn opendir_head_in(next: u64, frame: &[u8]) -> Option<ReplyHead>
-    ensures some { IsSome result → IsOpendirReply next frame.now }
-    ensures none { IsOpendirReply next frame.now → IsSome result }
+    ensures some { IfSome result (λ head. IsOpendirReply next frame.now × IsReplyHead frame.now head) }
+    ensures none { IfNone result (IsOpendirReply next frame.now → ⊥) }
 {
     let Ok(head) = ReplyHead::read(frame) else {
         return None;
@@ -45,6 +46,7 @@ fn opendir_head_in(next: u64, frame: &[u8]) -> Option<ReplyHead>
 /// Says what a frame is, if it is not for the kernel.
 pub fn other_frame_in(next: u64, frame: &[u8]) -> Option<OtherFrame>
     ensures some { IfSome result (λ other_frame. IsOtherFrame next frame.now) }
+    ensures says { IfSome result (SaysOtherFrame next frame.now) }
     ensures none { IfNone result (IsOtherFrame next frame.now → ⊥) }
 {
     let len = frame.len();

@@ -11,5 +11,7 @@ mod own_requests;
 pub use agreement::{is_older_agreement, raised_of};
 pub use aside::{OtherFrame, other_frame_in};
 pub use filling::{FreeFields, fill, fill_handle};
-pub use opendir_reply::{OpendirSaid, node_listed, said_in};
+pub use opendir_reply::{
+    OpendirSaid, has_opendir_unique, is_opendir_reply, is_under, node_listed, said_in,
+};
 pub use own_requests::{FIRST_OPENDIR_UNIQUE, OPENDIR_UNIQUES_END, opendir, releasedir};

@@ -1,12 +1,17 @@
 //! Which requests list a directory, and what a reply to OPENDIR says.
 
-ghost use Rattle.std.specs.Prelude.{◌≡◌, IfSome, IfNone};
+ghost use Rattle.std.specs.Prelude.{◌≡◌, ◌≤◌, ◌↔◌, IfSome, IfNone, IsTrue, false, length};
+ghost use Rattle.fk_wire.specs.Replies.{ReplyMessage, SpellsReply};
 ghost use Rattle.fk_wire.specs.Requests.{RequestMessage, Spells};
 ghost use Rattle.fuse_frames.specs.DecodedReplies.{HasReplyHead, head_unique};
 ghost use Rattle.fk_drive_frames.specs.Filling.{IsListing};
-ghost use Rattle.fk_drive_frames.specs.OwnRequests.{IsErrorSaid, SaysOfOpendir};
+ghost use Rattle.fk_drive_frames.specs.OwnRequests.{GivesNothing, IsErrorSaid, SaysOfOpendir, first_opendir_unique};
 
-use fk_wire::{Opcode, ReplyBody, ReplyHead, RequestBody, read_reply_body, read_request};
+use crate::own_requests::FIRST_OPENDIR_UNIQUE;
+use fk_fields::u64_at;
+use fk_wire::{
+    Opcode, ReplyBody, ReplyHead, RequestBody, read_reply, read_reply_body, read_request,
+};
 
 /// ENOSYS and EIO, as error replies have them.
 const ENOSYS: i32 = -38;
@@ -58,4 +63,29 @@ pub fn said_in(unique: u64, frame: &[u8]) -> Option<OpendirSaid>
         Ok(_) => Some(OpendirSaid::Failed(head.error)),
         Err(_) => Some(OpendirSaid::Failed(EIO)),
     }
+}
+
+/// Whether a frame is a reply to OPENDIR.
+pub fn is_opendir_reply(frame: &[u8]) -> bool
+    ensures reply { IsTrue result → (reply : ReplyMessage) × SpellsReply Opcode.Open frame.now reply }
+    ensures none { result ≡ false → GivesNothing frame.now }
+{
+    match read_reply(Opcode::Open, frame) {
+        Ok(_) => true,
+        Err(_) => false,
+    }
+}
+
+/// Whether a frame names a request that is not the kernel's, OPENDIR or RELEASEDIR, whatever else it is.
+pub fn has_opendir_unique(frame: &[u8]) -> bool
+    ensures { IsTrue result ↔ ((16 ≤ length frame.now) × (first_opendir_unique ≤ head_unique frame.now)) }
+{
+    frame.len() >= 16 && u64_at(frame, 8) >= FIRST_OPENDIR_UNIQUE
+}
+
+/// Whether a frame names a request under a number, whatever else it is.
+pub fn is_under(unique: u64, frame: &[u8]) -> bool
+    ensures { IsTrue result ↔ ((16 ≤ length frame.now) × (head_unique frame.now ≡ unique)) }
+{
+    frame.len() >= 16 && u64_at(frame, 8) == unique
 }

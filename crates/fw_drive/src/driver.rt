@@ -8,7 +8,7 @@ ghost use Rattle.fw_drive.specs.Runs.{GoesOn, Keeps};
 
 use crate::acting::act;
 use fk_drive::{
-    Connection, DriveEnd, FreeFields, NotSent, OtherFrame, Written, send_next, write_next,
+    Connection, DriveEnd, FreeFields, NotSent, Notes as FrameNotes, Written, send_next, write_next,
 };
 use fk_kernel::{Answer, KernelOf, Pick};
 use fuse_device::Device;
@@ -96,14 +96,16 @@ impl<T: Tables> Driver<T> {
         self.kernel.collect()
     }
 
-    /// Reads a request from the kernel, and sends it. `Err` of the inner result is why the kernel refuses.
+    /// Reads a request from the kernel, and sends it. What is not for the kernel is noted as it comes. `Err` of the inner
+    /// result is why the kernel refuses.
     ///
     /// # Errors
     ///
     /// The run came to its end.
-    pub(crate) fn send<D: Device>(
+    pub(crate) fn send<D: Device, N: FrameNotes>(
         &mut self,
         device: &mut D,
+        notes: &mut N,
         pick: Pick,
     ) -> Result<Result<RequestFrame<T::Heap>, Refusal>, DriveEnd>
         ensures { GoesOn D.logs device.old device.new self.old self.new result }
@@ -113,6 +115,7 @@ impl<T: Tables> Driver<T> {
             &mut self.kernel,
             &mut self.connection,
             device,
+            notes,
             pick,
             free_fields,
         ) {
@@ -122,26 +125,20 @@ impl<T: Tables> Driver<T> {
         }
     }
 
-    /// Writes the next frame of the server to the kernel. `Err` of the inner result is why the kernel refuses: the frame
-    /// then waits.
+    /// Writes the next frame of the server to the kernel. What is not for the kernel is noted as it comes. `Err` of the
+    /// inner result is why the kernel refuses: the frame then waits.
     ///
     /// # Errors
     ///
     /// The run came to its end before there was one.
-    pub(crate) fn receive<D: Device>(
+    pub(crate) fn receive<D: Device, N: FrameNotes>(
         &mut self,
         device: &mut D,
+        notes: &mut N,
     ) -> Result<Result<Written<T::Heap>, Refusal>, DriveEnd>
         ensures { GoesOn D.logs device.old device.new self.old self.new result }
     {
-        write_next(&mut self.kernel, &mut self.connection, device)
-    }
-
-    /// The frames that were not for the kernel, since this was last asked.
-    pub(crate) fn take_other_frames(&mut self) -> Vec<OtherFrame, T::Heap>
-        ensures { Keeps self.old self.new }
-    {
-        self.connection.take_other_frames()
+        write_next(&mut self.kernel, &mut self.connection, device, notes)
     }
 
     /// Whether a call waits for its answer.

@@ -91,9 +91,8 @@ pub(crate) fn send<T: Tables, D: Device, W: Write>(
     if out.flush().is_err() {
         return Err(Stop::OutputRefused);
     }
-    let sent = driver.send(device, pick);
-    let other_frames = driver.take_other_frames();
-    if let Err(stop) = notes.note_other_frames(other_frames.as_slice(), out) {
+    let sent = driver.send(device, notes, pick);
+    if let Err(stop) = notes.print_noted(out) {
         return Err(stop);
     }
     match sent {
@@ -138,9 +137,8 @@ pub(crate) fn receive<T: Tables, D: Device, W: Write>(
     if out.flush().is_err() {
         return Err(Stop::OutputRefused);
     }
-    let received = driver.receive(device);
-    let other_frames = driver.take_other_frames();
-    if let Err(stop) = notes.note_other_frames(other_frames.as_slice(), out) {
+    let received = driver.receive(device, notes);
+    if let Err(stop) = notes.print_noted(out) {
         return Err(stop);
     }
     match received {

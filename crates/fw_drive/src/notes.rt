@@ -3,16 +3,19 @@
 use crate::beside::Beside;
 use crate::form::Form;
 use crate::printing::{
-    print_fault, print_other_frames, print_outcome, print_raised, print_sent, print_written,
+    print_fault, print_notification, print_outcome, print_raised, print_sent, print_written,
 };
 use crate::stop::{Stop, stop_at};
 use crate::watch::Watch;
-use fk_drive::{OtherFrame, Written};
+use fk_drive::{Noted, Notes as FrameNotes, OtherFrame, Written};
 use fuse_frames::RequestFrame;
 use fuse_spec::WriteResult;
 use fw_script::write_record;
 use fw_world::{Answer, Event, Outcome, Record, Refusal, Tables};
 use std::io::Write;
+
+/// How many frames are noted at most before they are printed.
+const MOST_NOTED: usize = 10_000;
 
 /// The stop where a world beside refuses, which is only where memory is out.
 fn stop_beside(_refusal: Refusal) -> Stop {
@@ -25,6 +28,10 @@ pub(crate) struct Notes<T: Tables> {
     pub(crate) form: Form,
     watch: Watch<T::Heap>,
     beside: Option<Beside<T>>,
+    /// What was noted of frames since it was last printed, in order.
+    noted: Vec<Noted, T::Heap>,
+    /// Why not all of that is there, if so.
+    ended: Result<(), Stop>,
 }
 
 impl<T: Tables> Notes<T> {
@@ -42,6 +49,8 @@ impl<T: Tables> Notes<T> {
             form,
             watch: Watch::new(alloc),
             beside,
+            noted: Vec::new(alloc),
+            ended: Ok(()),
         })
     }
 
@@ -51,8 +60,11 @@ impl<T: Tables> Notes<T> {
             form: _,
             watch,
             beside,
+            noted,
+            ended: _,
         } = self;
         drop(watch);
+        drop(noted);
         if let Some(beside) = beside {
             beside.end();
         }
@@ -148,14 +160,29 @@ impl<T: Tables> Notes<T> {
         }
     }
 
-    /// Prints the frames that were not for the kernel.
-    pub(crate) fn note_other_frames<W: Write>(
-        &self,
-        other_frames: &[OtherFrame],
-        out: &mut W,
-    ) -> Result<(), Stop> {
-        print_other_frames(out, other_frames)?;
+    /// Prints a notification, or what the server did wrong at OPENDIR or RELEASEDIR.
+    fn print_noted_frame<W: Write>(&mut self, noted: Noted, out: &mut W) -> Result<(), Stop> {
+        if let Noted::SetAside(OtherFrame::Notification { code, len }) = noted {
+            print_notification(out, code, len)?;
+        }
+        let Ok(fault) = self.watch.judge_noted(noted) else {
+            return Err(Stop::NoMemory);
+        };
+        if let Some(fault) = fault {
+            print_fault(out, fault)?;
+        }
         Ok(())
+    }
+
+    /// Prints what was noted of frames, which is gone then.
+    pub(crate) fn print_noted<W: Write>(&mut self, out: &mut W) -> Result<(), Stop> {
+        for place in 0..self.noted.len() {
+            if let Some(noted) = self.noted.get(place).copied() {
+                self.print_noted_frame(noted, out)?;
+            }
+        }
+        self.noted.clear();
+        self.ended
     }
 
     /// Prints how the answers of the world beside compare.
@@ -164,5 +191,18 @@ impl<T: Tables> Notes<T> {
             beside.print_count(out)?;
         }
         Ok(())
+    }
+}
+
+impl<T: Tables> FrameNotes for Notes<T> {
+    // What is printed is tested alone.
+    ghost notes = { λ old new noted. Unit {0} };
+
+    fn note(&mut self, noted: Noted) {
+        if self.noted.len() >= MOST_NOTED {
+            self.ended = Err(Stop::TooMany);
+        } else if self.noted.push(noted).is_err() {
+            self.ended = Err(Stop::NoMemory);
+        }
     }
 }

@@ -1,7 +1,7 @@
 //! What is printed of a driven run.
 
 use crate::fault::Fault;
-use fk_drive::{OtherFrame, Written};
+use fk_drive::Written;
 use fk_wire::ReplyHead;
 use fuse_frames::RequestFrame;
 use fw_script::{OutputRefused, write_record};
@@ -77,17 +77,13 @@ pub(crate) fn print_fault<W: Write>(out: &mut W, fault: Fault) -> Result<(), Out
     taken(writeln!(out, "{fault}"))
 }
 
-/// Prints the notifications among the frames that were not for the kernel.
-pub(crate) fn print_other_frames<W: Write>(
+/// Prints a notification.
+pub(crate) fn print_notification<W: Write>(
     out: &mut W,
-    other_frames: &[OtherFrame],
+    code: u32,
+    len: usize,
 ) -> Result<(), OutputRefused> {
-    for other_frame in other_frames {
-        if let OtherFrame::Notification { code, len } = *other_frame {
-            taken(writeln!(out, "notification {code} {len}"))?;
-        }
-    }
-    Ok(())
+    taken(writeln!(out, "notification {code} {len}"))
 }
 
 /// Prints the nodes that the kernel counts, each as `id:generation:count`.

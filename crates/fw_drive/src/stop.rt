@@ -20,6 +20,8 @@ pub(crate) enum Stop {
     NoReply,
     /// The device failed: it took no frame, or what came was none.
     DeviceFailed,
+    /// More frames came than are kept.
+    TooMany,
     /// Out of memory.
     NoMemory,
     /// The kernel refused the error reply for a directory that could not be opened.
@@ -46,6 +48,7 @@ pub(crate) fn stop_at(end: DriveEnd) -> Stop {
         DriveEnd::Device(DeviceEnd::TimedOut) => Stop::NoReply,
         DriveEnd::Device(DeviceEnd::Failed) => Stop::DeviceFailed,
         DriveEnd::Memory => Stop::NoMemory,
+        DriveEnd::TooMany => Stop::TooMany,
         DriveEnd::Refused(refusal) => Stop::Refused(refusal),
     }
 }
@@ -57,6 +60,7 @@ impl Stop {
             Stop::ServerEnded => taken(out.write_all(b"server ended\n"))?,
             Stop::NoReply => taken(out.write_all(b"no reply\n"))?,
             Stop::DeviceFailed => taken(out.write_all(b"device failed\n"))?,
+            Stop::TooMany => taken(out.write_all(b"device failed: 10000 frames wait\n"))?,
             Stop::Refused(refusal) => print_refusal::<A, W>(out, refusal)?,
             Stop::NoMemory | Stop::OutputRefused => {}
         }

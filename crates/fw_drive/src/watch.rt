@@ -1,7 +1,8 @@
 //! What a server is known by: the requests that it was sent, and the files of its nodes.
 
 use crate::fault::Fault;
-use fk_drive::Written;
+use fk_drive::{Noted, OtherFrame, Written};
+use fk_drive_frames::has_opendir_unique;
 use fk_wire::{Attr, Entry, Opcode, ReplyBody, ReplyHead, RequestBody, read_reply, read_request};
 use fuse_spec::WriteResult;
 use std::alloc::{AllocError, Allocator};
@@ -9,6 +10,9 @@ use std::collections::BTreeMap;
 
 /// The type bits of a mode.
 const TYPE: u32 = 0o170_000;
+
+/// The bytes of a reply's head.
+const HEAD: usize = 16;
 
 /// A table of numbers, with look-ups by the number. It is ordered, since the server picks the nodeids.
 type Table<V, A> = BTreeMap<u64, V, A>;
@@ -36,6 +40,10 @@ pub(crate) struct Watch<A: Allocator + Copy> {
     sent: Table<SentRequest, A>,
     owed: Table<(), A>,
     nodes: Table<NodeFile, A>,
+    /// The numbers of OPENDIR and RELEASEDIR that are answered.
+    opendirs: Table<(), A>,
+    /// How many frames wait for the kernel that were no reply to OPENDIR by their head.
+    waiting_faults: u64,
 }
 
 impl<A: Allocator + Copy> Watch<A> {
@@ -44,6 +52,8 @@ impl<A: Allocator + Copy> Watch<A> {
             sent: BTreeMap::new(alloc),
             owed: BTreeMap::new(alloc),
             nodes: BTreeMap::new(alloc),
+            opendirs: BTreeMap::new(alloc),
+            waiting_faults: 0,
         }
     }
 
@@ -181,11 +191,46 @@ impl<A: Allocator + Copy> Watch<A> {
         Some(*request)
     }
 
+    /// What is wrong with a reply to OPENDIR or RELEASEDIR, if its body is right or not.
+    fn judge_opendir(&mut self, unique: u64, is_whole: bool) -> Result<Option<Fault>, AllocError> {
+        match self.opendirs.insert(unique, ()) {
+            Ok(Some(())) => Ok(Some(Fault::Second)),
+            Ok(None) if is_whole => Ok(None),
+            Ok(None) => Ok(Some(Fault::Body)),
+            Err(_) => Err(AllocError),
+        }
+    }
+
+    /// What is wrong with a frame that is noted as it comes. The first reply to OPENDIR is awaited, so that what is set
+    /// aside is the first to RELEASEDIR, which has no body, or the second to either.
+    pub(crate) fn judge_noted(&mut self, noted: Noted) -> Result<Option<Fault>, AllocError> {
+        match noted {
+            Noted::SetAside(OtherFrame::Notification { .. }) => Ok(None),
+            Noted::SetAside(OtherFrame::OpendirReply { unique, len, .. }) => {
+                self.judge_opendir(unique, len == HEAD)
+            }
+            Noted::OpendirReply { unique, is_whole } => self.judge_opendir(unique, is_whole),
+            Noted::NoOpendirReply { .. } => {
+                self.waiting_faults = self.waiting_faults.saturating_add(1);
+                Ok(Some(Fault::NoReply))
+            }
+        }
+    }
+
+    /// What is wrong with a frame that is no reply by its head. Of one to OPENDIR that was said as it came.
+    fn judge_headless(&mut self, frame: &[u8]) -> Option<Fault> {
+        if self.waiting_faults > 0 && has_opendir_unique(frame) {
+            self.waiting_faults -= 1;
+            return None;
+        }
+        Some(Fault::NoReply)
+    }
+
     /// What is wrong with a frame that was written to the kernel.
     pub(crate) fn judge(&mut self, written: &Written<A>) -> Result<Option<Fault>, AllocError> {
         let frame = written.frame.as_slice();
         let Ok(head) = ReplyHead::read(frame) else {
-            return Ok(Some(Fault::NoReply));
+            return Ok(self.judge_headless(frame));
         };
         if written.result == WriteResult::NoEntry {
             return Ok(self.judge_unawaited(head.unique));

@@ -4,11 +4,10 @@ use Rattle.fuse_frames.specs.DecodedReplies.{HasReplyHead, head_unique}
 use Rattle.fk_drive_frames.specs.OwnRequests.{SaysOfOpendir}
 use Rattle.fk_drive.specs.Driven.{driven}
 use Rattle.fk_drive.specs.Driving.{Driven, Runs, nothing, opening}
-use Rattle.fk_drive.specs.Openings.{AwaitsUntil, turn_of}
+use Rattle.fk_drive.specs.Openings.{turn_of}
 use Rattle.fk_drive.specs.Steps.{SendStep}
-use Rattle.fk_drive.specs.declared.end.DriveEnd.{DriveEnd}
-use Rattle.fk_drive.specs.declared.opening.Awaited.TheVariants.{Ended}
 use Rattle.fk_drive.proofs.Drivings.{one_run}
+use Rattle.fk_drive.proofs.Ending.{no_room_ends}
 use Rattle.fk_drive.proofs.Keeping.{awaits_stopped, kept_sends}
 use Rattle.fk_drive.proofs.opening.receive_said.Goals as goal
 
@@ -17,21 +16,21 @@ returns-in-Err-clause-sends g c free_fields kernel request under =
     let turn = opening request c.args.own c.args.listing.node in (
       [],
       g.met.D.Device.stays c.args.device.now,
-      subst (λ (end : DriveEnd). AwaitsUntil (Ended end) []) (sym c.in-Err.ensures.memory) refl,
+      no_room_ends c.args.connection.now c.in-Err.end c.in-Err.ensures.no_room,
       subst (λ (s : Driven). Runs (SendStep free_fields) (driven kernel c.args.connection.now turn) [] s)
-          (sym (c.make_room.ensures.same kernel turn)) nothing,
+          (sym (c.make_room_awaiting.ensures.same kernel turn)) nothing,
     )
 
 pub returns-in-Err-receive_frame-clause-sends : goal.returns-in-Err-receive_frame-clause-sends
 returns-in-Err-receive_frame-clause-sends g c free_fields kernel request under =
     let turn = opening request c.args.own c.args.listing.node in
-    let room = driven kernel c.make_room.new.self turn in
+    let room = driven kernel c.make_room_awaiting.new.self turn in
     let (log, over, is) = c.in-Err-receive_frame.ensures.end in
     let (ends, runs) = awaits_stopped free_fields c.in-Err-receive_frame.end log is room tt in (
       log,
       over,
       ends,
-      subst (λ (s : Driven). Runs (SendStep free_fields) s log room) (c.make_room.ensures.same kernel turn) runs,
+      subst (λ (s : Driven). Runs (SendStep free_fields) s log room) (c.make_room_awaiting.ensures.same kernel turn) runs,
     )
 
 pub returns-in-Some-clause-sends : goal.returns-in-Some-clause-sends
@@ -45,7 +44,7 @@ returns-in-Some-clause-sends g c free_fields kernel request under =
       c.in-Ok.ensures.frame,
       refl,
       one_run (SendStep free_fields) (driven kernel c.args.connection.now turn) after (received frame ∷ [])
-          (subst (λ (s : Driven). SendStep free_fields s (received frame ∷ []) after) (c.make_room.ensures.same kernel turn)
+          (subst (λ (s : Driven). SendStep free_fields s (received frame ∷ []) after) (c.make_room_awaiting.ensures.same kernel turn)
           (c.take_said.ensures.said free_fields kernel request c.args.own frame under says)),
     )
 
@@ -60,7 +59,7 @@ returns-in-None-clause-sends g c free_fields kernel request under =
       c.in-Ok.ensures.frame,
       refl,
       one_run (SendStep free_fields) (driven kernel c.args.connection.now turn) after (received frame ∷ [])
-          (subst (λ (s : Driven). SendStep free_fields s (received frame ∷ []) after) (c.make_room.ensures.same kernel turn)
-          (kept_sends free_fields (driven kernel c.make_room.new.self turn) (received frame ∷ []) after frame another
-          (c.keep.ensures kernel turn))),
+          (subst (λ (s : Driven). SendStep free_fields s (received frame ∷ []) after) (c.make_room_awaiting.ensures.same kernel turn)
+          (kept_sends free_fields (driven kernel c.make_room_awaiting.new.self turn) (received frame ∷ []) after frame another
+          (c.keep.ensures.keeps kernel turn))),
     )

@@ -52,5 +52,5 @@ returns g c kernel turn =
       refl,
       one_run ReceiveStep first after (received frame ∷ [])
           (subst (λ (s : Driven). ReceiveStep s (received frame ∷ []) after) same
-          (kept_receives room (received frame ∷ []) after frame none (c.keep.ensures kernel turn))),
+          (kept_receives room (received frame ∷ []) after frame none (c.keep.ensures.keeps kernel turn))),
     )

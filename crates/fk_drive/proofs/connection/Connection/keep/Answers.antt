@@ -1,15 +1,34 @@
-use Rattle.std.proofs.Common.{List, ℕ, subst}
-use Rattle.fk_drive_frames.specs.Asides.{IsOtherFrame}
-use Rattle.fk_drive.proofs.Changes.{other_frame_step, step_waits}
+use Rattle.std.proofs.Common.{List, ℕ, refl, subst}
+use Rattle.fk_drive_frames.specs.Asides.{IsOtherFrame, SaysOtherFrame}
+use Rattle.fk_drive.specs.Driving.{sets_aside}
+use Rattle.fk_drive.proofs.Changes.{step_waits}
 use Rattle.fk_drive.proofs.connection.Connection.keep.Goals as goal
 
-pub returns-in-Some : goal.returns-in-Some
-returns-in-Some g c kernel turn =
-    other_frame_step kernel c.args.self.now c.note_other_frame.new.self c.note_other_frame.ensures turn c.args.frame.items
-    (subst (λ (l : List ℕ). IsOtherFrame c.args.self.now.next l) c.as_slice.ensures.value c.in-Some.ensures.some)
+pub returns-in-Some-clause-keeps : goal.returns-in-Some-clause-keeps
+returns-in-Some-clause-keeps g c kernel turn = (
+  sets_aside c.args.frame.items
+      (subst (λ (l : List ℕ). IsOtherFrame c.args.self.now.next l) c.as_slice.ensures.value c.in-Some.ensures.some),
+  refl,
+)
 
-pub returns-in-None : goal.returns-in-None
-returns-in-None g c kernel turn =
+pub returns-in-Some-clause-noted : goal.returns-in-Some-clause-noted
+returns-in-Some-clause-noted g c =
+    let is = subst (λ (l : List ℕ). IsOtherFrame c.args.self.now.next l) c.as_slice.ensures.value c.in-Some.ensures.some in
+    let says = subst (λ (l : List ℕ). SaysOtherFrame c.args.self.now.next l c.in-Some.other_frame) c.as_slice.ensures.value
+    c.in-Some.ensures.says in record {
+      aside = λ other. (c.in-Some.other_frame, says, c.note.ensures);
+      waits = λ none. absurd (none is);
+    }
+
+pub returns-in-None-clause-keeps : goal.returns-in-None-clause-keeps
+returns-in-None-clause-keeps g c kernel turn =
     step_waits kernel c.args.self.now c.have_wait.new.self c.args.frame c.have_wait.ensures.waits
     c.have_wait.ensures.same turn
     (subst (λ (l : List ℕ). IsOtherFrame c.args.self.now.next l → ⊥) c.as_slice.ensures.value c.in-None.ensures.none)
+
+pub returns-in-None-clause-noted : goal.returns-in-None-clause-noted
+returns-in-None-clause-noted g c =
+    let none = subst (λ (l : List ℕ). IsOtherFrame c.args.self.now.next l → ⊥) c.as_slice.ensures.value c.in-None.ensures.none in record {
+      aside = λ other. absurd (none other);
+      waits = λ no. refl;
+    }

@@ -1,0 +1,28 @@
+//! What is noted of a server's frames beside what the kernel makes of them.
+
+ghost use Rattle.std.specs.Prelude.{◌∷◌, [], List};
+
+use fk_drive_frames::OtherFrame;
+
+/// What is noted of a frame as it comes.
+#[derive(Clone, Copy, Debug, PartialEq, Eq)]
+pub enum Noted {
+    /// It is set aside, since it is not for the kernel.
+    SetAside(OtherFrame),
+    /// It is the reply to the OPENDIR under this number, which was awaited, and has the body of one or not.
+    OpendirReply { unique: u64, is_whole: bool },
+    /// It has the number of the OPENDIR whose reply is awaited, and is no reply by its head. It waits for the kernel.
+    NoOpendirReply { unique: u64 },
+}
+
+/// Who notes them.
+pub trait Notes {
+    ghost use Rattle.fk_drive.specs.declared.noted.Noted.{Noted};
+
+    // From the one state to the other these were noted, in turn, and nothing else.
+    ghost notes: { (old new : Self) → List Noted → Type 0 };
+
+    /// Notes a frame.
+    fn note(&mut self, noted: Noted)
+        ensures { notes self.old self.new (noted ∷ []) };
+}
