@@ -9,12 +9,20 @@ use std::time::{Duration, Instant};
 /// EAGAIN, by which a reader says that the time is over.
 const EAGAIN: i32 = 11;
 
+/// The bytes of a frame's length, which are read before the rest of it.
+const LEN_BYTES: usize = 4;
+
+/// For how many milliseconds the rest of a frame is waited for, if the time is over once its length is read.
+const REST_MS: u64 = 1;
+
 /// Until when a reply is waited for: so long from what was sent last.
 #[derive(Drop)]
 pub struct Deadline<'a> {
     rt: &'a HostRuntime,
     wait: Duration,
     sent: Cell<Option<Instant>>,
+    /// Whether the rest of a frame was waited for since then.
+    is_over: Cell<bool>,
 }
 
 impl<'a> Deadline<'a> {
@@ -24,12 +32,14 @@ impl<'a> Deadline<'a> {
             rt,
             wait: Duration::from_millis(wait_ms),
             sent: Cell::new(Instant::now(rt).ok()),
+            is_over: Cell::new(false),
         }
     }
 
     /// A reply is waited for from now on.
     fn begin(&self) {
         self.sent.set(Instant::now(self.rt).ok());
+        self.is_over.set(false);
     }
 
     /// How long a reply is waited for still. Without a clock it is the whole time.
@@ -42,6 +52,17 @@ impl<'a> Deadline<'a> {
             Err(_) => self.wait,
         }
     }
+
+    /// How long a read of so many bytes waits. One read of the rest of a frame waits for `REST_MS` once the time is over, so
+    /// that a frame that has come is read whole.
+    fn left_for(&self, count: usize) -> Duration {
+        let left = self.left();
+        if !left.is_zero() || count <= LEN_BYTES || self.is_over.get() {
+            return left;
+        }
+        self.is_over.set(true);
+        Duration::from_millis(REST_MS)
+    }
 }
 
 /// The end of a socket from which replies come.
@@ -53,7 +74,7 @@ pub struct TimedReader<'a> {
 
 impl Read for TimedReader<'_> {
     fn read(&mut self, buf: &mut [u8]) -> io::Result<usize> {
-        let left = self.deadline.left();
+        let left = self.deadline.left_for(buf.len());
         if left.is_zero() {
             return Err(io::Error::from_raw_os_error(EAGAIN));
         }
