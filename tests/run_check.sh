@@ -157,7 +157,7 @@ END
 
 # What cannot be read, and what cannot be written.
 : > "$work/want-out"
-echo "cannot read $work/none" > "$work/want-err"
+echo "cannot read $work/none: No such file or directory (os error 2)" > "$work/want-err"
 judged "no such file" 1 "$work/none"
 echo "cannot read $work" > "$work/want-err"
 judged "a folder" 1 "$work"

@@ -372,6 +372,14 @@ def run_words():
                           (["/nowhere", "/nowhere"], 1), (["/nowhere"], 1), ([os.devnull, "/nowhere"], 4)]:
         run = subprocess.run([PROGRAM, "drive", *words], stdin=subprocess.DEVNULL, stdout=subprocess.PIPE, stderr=subprocess.PIPE, timeout=SECONDS)
         judge(f"drive {words}", (run.returncode, run.stdout, run.stderr != b""), (status, b"", True))
+    for words, line in [(["drive", "/nowhere"], "cannot read /nowhere: No such file or directory (os error 2)"),
+                        (["drive", os.devnull, "/nowhere"], "socket failed: No such file or directory (os error 2)"),
+                        (["drive", os.devnull, os.devnull], "socket failed: Connection refused (os error 111)"),
+                        (["serve", "/nowhere/socket"], "socket failed: No such file or directory (os error 2)"),
+                        (["check", "/nowhere"], "cannot read /nowhere: No such file or directory (os error 2)"),
+                        (["decode", "/nowhere"], "cannot read /nowhere: No such file or directory (os error 2)")]:
+        run = subprocess.run([PROGRAM, *words], stdin=subprocess.DEVNULL, capture_output=True, text=True, timeout=SECONDS)
+        judge(f"{words}", (run.stdout, run.stderr), ("", line + "\n"))
 
 
 def run_packets():

@@ -46,7 +46,7 @@ for fault in "bad hex:> 2g" "bad hex:< 000" "wrong words:> 00 00" "wrong words:<
     printf '# a frame of one byte\n\n> 0A\r\n%s\n' "${fault#*:}" > "$work/capture"
     expect_lines 1 "> len 1: the frame is too short for its header; kernel: malformed request" "line 4: ${fault%%:*}" decode "$work/capture"
 done
-expect_lines 1 "" "cannot read $work/none" decode "$work/none"
+expect_lines 1 "" "cannot read $work/none: No such file or directory (os error 2)" decode "$work/none"
 
 # The vectors.
 "$program" vectors > "$work/vectors" 2> "$work/err"

@@ -7,10 +7,11 @@ ghost use Rattle.fuseworld.specs.Doing.{DoesCapture};
 ghost use Rattle.fuseworld.specs.Statuses.{capture_statuses};
 
 use crate::arguments::optional;
+use crate::reason::cannot_open;
 use clap::Arg;
 use fw_check::{CheckOptions, run_check};
 use fw_decode::run_decode;
-use fw_script::{cannot_read, no_memory};
+use fw_script::no_memory;
 use std::alloc::{Allocator, Global};
 use std::fs::File;
 use std::io;
@@ -62,7 +63,7 @@ fn not_read(rt: &HostRuntime, task: CaptureTask, name: &str, error: &io::Error) 
     if error.kind() == ErrorKind::OutOfMemory {
         return no_memory(&mut rt.stderr());
     }
-    cannot_read(name, &mut rt.stderr())
+    cannot_open(rt, name, error)
 }
 
 /// Reads a capture line by line, and gives the exit status.

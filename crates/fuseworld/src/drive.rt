@@ -9,12 +9,13 @@ ghost use Rattle.fuseworld.specs.Values.{IsOffer, is_set};
 ghost use Rattle.fuseworld.specs.Tasks.{AsksDrive, form_of};
 
 use crate::arguments::{flag, needed, option, optional, time_argument};
+use crate::reason::{cannot_open, no_socket};
 use crate::timed_socket::{Deadline, connect};
 use crate::values::{is_set, number, text, text_or_none};
 use clap::{Arg, ArgMatches, Command};
 use fuse_device::{Device, PacketDevice, StreamDevice};
 use fw_drive::{DriveTrace, Form, FreeFields, Task, read_drive_script, run_drive};
-use fw_script::{cannot_read, no_memory, socket_failed};
+use fw_script::no_memory;
 use std::alloc::{AllocError, Global};
 use std::fs::File;
 use std::io;
@@ -223,7 +224,7 @@ fn drive_place(rt: &HostRuntime, asked: DriveTask<'_>, task: Task<'_>, script: &
             drive_over(rt, task, asked.is_traced, script, device, io::writer(rt))
         }
         Err(error) if error.kind() == ErrorKind::OutOfMemory => no_memory(&mut rt.stderr()),
-        Err(_) => socket_failed(&mut rt.stderr()),
+        Err(error) => no_socket(rt, &error),
     }
 }
 
@@ -236,7 +237,7 @@ fn script_of(rt: &HostRuntime, task: Task<'_>) -> Result<Vec<u8>, u8>
     match File::open(rt, task.name) {
         Ok(mut input) => read_drive_script(rt.alloc(), task, &mut input, &mut faults),
         Err(error) if error.kind() == ErrorKind::OutOfMemory => Err(no_memory(&mut faults)),
-        Err(_) => Err(cannot_read(task.name, &mut faults)),
+        Err(error) => Err(cannot_open(rt, task.name, &error)),
     }
 }
 

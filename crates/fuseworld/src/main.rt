@@ -9,6 +9,7 @@ mod doing;
 mod draw;
 mod drive;
 mod frame_commands;
+mod reason;
 mod serve;
 mod serve_words;
 mod sides;

@@ -3,8 +3,9 @@
 ghost use Rattle.std.specs.Prelude.{◌≤◌, ◌∷◌, [], Contains};
 ghost use Rattle.fuse_spec.specs.Values.Numbers.{max_validity};
 
+use crate::reason::no_socket;
 use fuse_device::{Device, PacketDevice, StreamDevice};
-use fw_script::{no_memory, socket_failed};
+use fw_script::no_memory;
 use fw_serve::{Mount, TracedDevice, WaitingReader, WaitingWriter, serve_device};
 use std::io::{BufWriter, ErrorKind};
 use std::os::unix::net::{UnixListener, UnixStream};
@@ -66,6 +67,6 @@ pub fn run_serve(rt: &HostRuntime, task: ServeTask<'_>) -> u8
     match connect(rt, path) {
         Ok(device) => serve_over(rt, task, device),
         Err(error) if error.kind() == ErrorKind::OutOfMemory => no_memory(&mut rt.stderr()),
-        Err(_) => socket_failed(&mut rt.stderr()),
+        Err(error) => no_socket(rt, &error),
     }
 }

@@ -5,4 +5,4 @@ pub returns-then-eq : goal.returns-then-eq
 returns-then-eq c = is_out_of_memory c.args.task c.no_memory.result c.no_memory.ensures.status
 
 pub returns : goal.returns
-returns c = is_unreadable c.args.task c.cannot_read.result c.cannot_read.ensures.status
+returns c = is_unreadable c.args.task c.cannot_open.result c.cannot_open.ensures
