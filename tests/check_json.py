@@ -12,6 +12,7 @@ ABOUT = [
     (r"INTERRUPT (\d+) of (\d+)", ("unique", "original")),
     (r"INTERRUPT of (\d+)", ("original",)),
     (r"unique (\d+)", ("unique",)),
+    (r"unique (\d+) of (\d+)", ("unique", "original")),
     (r"bytes (\d+)", ("bytes",)),
     (r"node (\d+)", ("nodeid",)),
     (r"node (\d+) lookups (\d+)", ("nodeid", "lookups")),

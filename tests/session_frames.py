@@ -825,7 +825,7 @@ def good_minors():
     s.ask("MKNOD", 4, 1, numbers("II", REGULAR, 0) + text("a"), entry(2, 20))
     s.ask("CREATE", 6, 1, numbers("II", 2, 0o100644) + text("b"), entry(3, 30) + opened(5))
     s.read(request("CREATE", 8, 1, numbers("IIII", 2, 0o100644, 0o22, 0) + text("c")), "kernel: malformed request")
-    return s, s.end(entries=2)
+    return s, s.end(entries=2, unanswered=1)
 
 
 def lines_of_a_capture():
