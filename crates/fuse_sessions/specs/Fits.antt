@@ -29,7 +29,7 @@ fit_of (reply.Records place) asked size = fits_if (nat_le size asked)
 fit_of (reply.EntryRecords place) asked size = fits_if (nat_le size asked)
 fit_of (reply.Sized place) asked size = fits_if (if asked == 0 then size == 8 else nat_le size asked)
 fit_of reply.Target asked size = may_unless (nat_lt size 4096)
--- struct fuse_ioctl_out, and a page or more
+-- `struct fuse_ioctl_out`, and a page or more
 fit_of reply.Ioctl asked size = if nat_lt size 16 then FitsNot else may_unless (nat_le size 4112)
 fit_of reply.Init asked size = fits_if (nat_le size 64)
 
