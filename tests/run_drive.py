@@ -296,17 +296,17 @@ def run_opendir_bugs():
 
 
 def run_many():
-    """While the reply to OPENDIR is awaited 10,000 frames are kept for the kernel, and 10,000 that are for nobody."""
+    """While the reply to OPENDIR is awaited 10,000 frames are kept for the kernel, and 10,000 that are not, that reply among them."""
     script = [*MOUNT, "call list / 0", "read p 0", "write"]
     begun = [*MOUNTED, "call 1"]
     opened = reply(1 << 62, struct.pack("<QII", 7, 0, 0))
     for count, last in [(9999, ["read 4 READDIR 80", "written 6 2", "reply to nothing", "kernel"]), (10000, ["device failed: 10000 frames wait"])]:
         judge(f"{count} frames wait", on_frames([], script, AGREES, [reply(6) * count + opened]), ([*begun, *last], 0 if count < 10000 else 4))
     notice = struct.pack("<IiQ", 40, 2, 0) + bytes(24)
-    told = ["notification 2 40"] * 10000
-    for count, last in [(10000, ["read 4 READDIR 80", "written 4 0", "answer 1 0", "kernel"]), (10001, ["device failed: 10000 frames wait"])]:
+    for count, last in [(9999, ["read 4 READDIR 80", "written 4 0", "answer 1 0", "kernel"]), (10000, ["device failed: 10000 frames wait"])]:
+        told = ["notification 2 40"] * count
         judge(f"{count} notifications", on_frames([], script, AGREES, [notice * count + opened], [reply(4)]),
-              ([*begun, *told, *last], 0 if count == 10000 else 4))
+              ([*begun, *told, *last], 0 if count < 10000 else 4))
 
 
 def run_waits():
