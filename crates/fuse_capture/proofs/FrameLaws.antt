@@ -4,8 +4,8 @@ use Rattle.std.specs.Prelude.{MatchOption, IfSome, decimal}
 use Rattle.fuse_capture.specs.declared.line.CaptureFault.{CaptureFault}
 use Rattle.fuse_capture.specs.declared.line.CaptureFault.TheVariants.{BadHex, WrongWords, UnknownDirection}
 use Rattle.fuse_capture.specs.declared.line.CapturedFrame.{CapturedFrame}
-use Rattle.fuse_capture.specs.Lines.{IsHexWord, IsMoreWord, BeginsWithFrame, BeginsWithTimedFrame, whole, cut, longest_frame}
-use Rattle.fuse_capture.specs.Readings.{AreBytes, HasNoMark, HasNoMore, IsPairs, KeptFaultIs, FrameFaultIs, IsTimeOf, ReadsFrame, ReadsKept, SaysOfHex, BeginsWithNoHex, BeginsWithNoTimedHex}
+use Rattle.fuse_capture.specs.Lines.{IsHexWord, IsMoreWord, BeginsWithFrame, BeginsWithTimedFrame, HasBadHex, whole, cut, longest_frame}
+use Rattle.fuse_capture.specs.Readings.{AreBytes, HasNoMark, HasNoMore, IsPairs, KeptFaultIs, FrameFaultIs, IsTimeOf, ReadsFrame, ReadsKept, SaysOfHex, BeginsWithBadHex}
 use Rattle.fuse_capture.proofs.Decimals.{decimal_once}
 use Rattle.fuse_capture.proofs.HexLaws.{hex_spells, pairs_spell, no_marked_hex}
 
@@ -46,10 +46,16 @@ pub no_hex_kept : (words : List (List ℕ)) (hex : List ℕ) (later : List (List
 no_hex_kept words hex later e bad = record {
   none = λ bytes rest b more.
       let is = first_is_hex words bytes rest hex later e b in bad (hex_spells hex is.0 is.1).1;
-  says = λ word rest e' bytes is.
-      let same : word ≡ hex = cc in
-      bad (hex_spells hex bytes (subst (λ h. IsHexWord h bytes) same is)).1;
+  says = (hex, later, e, λ bytes is. bad (hex_spells hex bytes is).1);
 }
+
+-- pairs of digits are no bad hex
+begins_well : (words : List (List ℕ)) (hex : List ℕ) (later : List (List ℕ)) → words ≡ hex ∷ later → IsPairs hex
+    → BeginsWithBadHex words → ⊥
+begins_well words hex later e pairs (word, rest, e', bad) =
+    let same : hex ≡ word = cc in
+    let found = pairs_spell hex pairs in
+    bad found.0 (subst (λ h. IsHexWord h found.0) same found.1)
 
 kept_begins : (hex : List ℕ) (later : List (List ℕ)) (o : Option ℕ) (left : List (List ℕ)) → IsPairs hex
     → IsTakenFrom 43 later o left → length hex / 2 + unwrap_or o 0 ≤ longest_frame
@@ -84,6 +90,7 @@ pub kept_reads : (words : List (List ℕ)) (hex : List ℕ) (later : List (List 
 kept_reads words hex later o left more e pairs from is short = record {
   begins = λ bytes are. rw e (kept_begins hex later o left pairs from (rw is at short) bytes (rw is at are));
   only = λ bytes rest b no_more. kept_only hex later o left from words bytes rest e b no_more;
+  good = begins_well words hex later e pairs;
 }
 
 too_long : (hex : List ℕ) (later : List (List ℕ)) (o : Option ℕ) (left : List (List ℕ)) → IsTakenFrom 43 later o left
@@ -112,12 +119,12 @@ too_long hex later (Some n) left from small long words bytes rest e b more = eli
 
 pub kept_too_long : (words : List (List ℕ)) (hex : List ℕ) (later : List (List ℕ)) (o : Option ℕ)
     (left : List (List ℕ)) (more : ℕ) → words ≡ hex ∷ later → IsTakenFrom 43 later o left → IfSome o (λ n. n < 2 ^ 64)
-    → more ≡ unwrap_or o 0 → (length hex / 2 + more ≤ longest_frame → ⊥) → KeptFaultIs words WrongWords
-kept_too_long words hex later o left more e from small is long = record {
+    → more ≡ unwrap_or o 0 → IsPairs hex → (length hex / 2 + more ≤ longest_frame → ⊥) → KeptFaultIs words WrongWords
+kept_too_long words hex later o left more e from small is pairs long = record {
   none = λ bytes rest b no_more.
       too_long hex later o left from small (rw is at (let past : longest_frame < length hex / 2 + more = grind arith in past))
       words bytes rest e b no_more;
-  says = tt;
+  says = begins_well words hex later e pairs;
 }
 
 -- ---- with a time before it
@@ -151,6 +158,33 @@ time_of : (words : List (List ℕ)) (o : Option ℕ) (later : List (List ℕ)) �
 time_of words None later from small = λ word rest time e is. from.0 word rest e time is.0 is.1
 time_of words (Some n) later from small = (64 ∷ decimal n, later, from, (small, refl))
 
+-- ---- where the hex should be
+
+bad_behind_time : (words : List (List ℕ)) (o : Option ℕ) (later : List (List ℕ)) → IsTakenFrom 64 words o later
+    → IfSome o (λ n. n < 2 ^ 64) → BeginsWithBadHex later → HasBadHex words
+bad_behind_time words None later from small (word, rest, e, bad) =
+    let whole : words ≡ word ∷ rest = cc in
+    (word, (rest, inl (whole, λ time timed. from.0 word rest whole time timed.0 timed.1)), bad)
+bad_behind_time words (Some n) later from small (word, rest, e, bad) =
+    let whole : words ≡ (64 ∷ decimal n) ∷ word ∷ rest = cc in
+    (word, (rest, inr (n, 64 ∷ decimal n, (small, refl), whole)), bad)
+
+bad_is_behind_time : (words : List (List ℕ)) (o : Option ℕ) (later : List (List ℕ)) → IsTakenFrom 64 words o later
+    → IfSome o (λ n. n < 2 ^ 64) → HasBadHex words → BeginsWithBadHex later
+bad_is_behind_time words None later from small (word, (rest, inl (e, untimed)), bad) =
+    let there : later ≡ word ∷ rest = cc in (word, rest, there, bad)
+bad_is_behind_time words None later from small (word, (rest, inr (time, at, timed, e)), bad) =
+    absurd (from.0 at (word ∷ rest) e time timed.0 timed.1)
+bad_is_behind_time words (Some n) later from small (word, (rest, inl (e, untimed)), bad) =
+    let same : word ≡ 64 ∷ decimal n = cc in absurd (untimed n (small, same))
+bad_is_behind_time words (Some n) later from small (word, (rest, inr (time, at, timed, e)), bad) =
+    let there : later ≡ word ∷ rest = cc in (word, rest, there, bad)
+
+says_as : (f : CaptureFault) (P Q : Type 0) → (P → Q) → (Q → P) → SaysOfHex f P → SaysOfHex f Q
+says_as BadHex P Q to from h = to h
+says_as WrongWords P Q to from h = λ q. h (from q)
+says_as UnknownDirection P Q to from h = h
+
 pub frame_reads : (words : List (List ℕ)) (o : Option ℕ) (later : List (List ℕ)) (f : CapturedFrame)
     (left : List (List ℕ)) → f.time ≡ o → IsTakenFrom 64 words o later → IfSome o (λ n. n < 2 ^ 64)
     → ReadsKept later f.hex.now f.more left → ReadsFrame words f left
@@ -158,27 +192,13 @@ frame_reads words o later f left is from small reads = record {
   time = rw is (time_of words o later from small);
   begins = λ bytes is. before_time words o later from small bytes left (reads.begins bytes is);
   only = λ bytes rest b more. reads.only bytes rest (after_time words o later from bytes rest b) more;
+  good = λ bad. reads.good (bad_is_behind_time words o later from small bad);
 }
 
-no_timed_hex : (words : List (List ℕ)) (o : Option ℕ) (later : List (List ℕ)) → IsTakenFrom 64 words o later
-    → BeginsWithNoHex later → BeginsWithNoTimedHex words
-no_timed_hex words None later from bad word rest (inl e) bytes is = bad word rest (from.1 ∙ e) bytes is
-no_timed_hex words None later from bad word rest (inr (time, at, timed, e)) bytes is =
-    from.0 at (word ∷ rest) e time timed.0 timed.1
-no_timed_hex words (Some n) later from bad word rest (inl e) bytes is =
-    let same : word ≡ 64 ∷ decimal n = cc in
-    no_marked_hex 64 (decimal n) bytes refl (subst (λ h. IsHexWord h bytes) same is)
-no_timed_hex words (Some n) later from bad word rest (inr (time, at, timed, e)) bytes is =
-    let same : later ≡ word ∷ rest = cc in bad word rest same bytes is
-
-says_of_words : (f : CaptureFault) (P Q : Type 0) → (P → Q) → SaysOfHex f P → SaysOfHex f Q
-says_of_words BadHex P Q map h = map h
-says_of_words WrongWords P Q map h = tt
-says_of_words UnknownDirection P Q map h = h
-
 pub frame_fault : (words : List (List ℕ)) (o : Option ℕ) (later : List (List ℕ)) (f : CaptureFault)
-    → IsTakenFrom 64 words o later → KeptFaultIs later f → FrameFaultIs words f
-frame_fault words o later f from fault = record {
+    → IsTakenFrom 64 words o later → IfSome o (λ n. n < 2 ^ 64) → KeptFaultIs later f → FrameFaultIs words f
+frame_fault words o later f from small fault = record {
   none = λ bytes rest b more. fault.none bytes rest (after_time words o later from bytes rest b) more;
-  says = says_of_words f (BeginsWithNoHex later) (BeginsWithNoTimedHex words) (no_timed_hex words o later from) fault.says;
+  says = says_as f (BeginsWithBadHex later) (HasBadHex words) (bad_behind_time words o later from small)
+      (bad_is_behind_time words o later from small) fault.says;
 }

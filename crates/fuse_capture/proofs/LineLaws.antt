@@ -8,8 +8,9 @@ use Rattle.fuse_sessions.specs.declared.transfer.Transfer.TheVariants.{Request, 
 use Rattle.fuse_capture.specs.declared.line.CaptureFault.{CaptureFault}
 use Rattle.fuse_capture.specs.declared.line.CaptureFault.TheVariants.{BadHex, WrongWords, UnknownDirection}
 use Rattle.fuse_capture.specs.declared.line.CapturedFrame.{CapturedFrame}
-use Rattle.fuse_capture.specs.Lines.{BeginsWithTimedFrame, HasNoDirection, HasNoHex, HasNoTransfer, IsFaultOf, IsOfFrame, IsResult, IsTextOf, LineFaultIs, SaysTransfer, words_of}
-use Rattle.fuse_capture.specs.Readings.{BeginsWithNoTimedHex, FrameFaultIs, HasNoMore, IsBad, ReadsFrame, SaysOfHex}
+use Rattle.fuse_capture.specs.declared.line.CaptureLine.TheVariants as line
+use Rattle.fuse_capture.specs.Lines.{BeginsWithTimedFrame, HasBadHex, HasNoDirection, HasNoTransfer, IsFaultOf, IsOfFrame, IsResult, IsTextOf, LineFaultIs, SaysTransfer, words_of}
+use Rattle.fuse_capture.specs.Readings.{AreRead, FrameFaultIs, HasNoMore, IsBad, IsTimeOf, IsTransferOf, ReadsFrame, SaysOfHex}
 use Rattle.fuse_capture.proofs.ResultLaws.{differs, result_is_no_more}
 
 -- ---- what the fault of a frame says of its line
@@ -17,16 +18,10 @@ use Rattle.fuse_capture.proofs.ResultLaws.{differs, result_is_no_more}
 is_directed : (first : List ℕ) (words : List (List ℕ)) → IsOfFrame first → HasNoDirection (first ∷ words) → ⊥
 is_directed first words is none = none.0 is
 
-no_hex_in : (first : List ℕ) (words : List (List ℕ)) → BeginsWithNoTimedHex words → HasNoHex (first ∷ words)
-no_hex_in first words bad f word later rest e is (inl there) bytes hex =
-    let same : words ≡ word ∷ rest = cc in bad word rest (inl same) bytes hex
-no_hex_in first words bad f word later rest e is (inr (time, at, timed, there)) bytes hex =
-    let same : words ≡ at ∷ word ∷ rest = cc in bad word rest (inr (time, at, timed, same)) bytes hex
-
 fault_says : (first : List ℕ) (words : List (List ℕ)) (f : CaptureFault) → IsOfFrame first
-    → SaysOfHex f (BeginsWithNoTimedHex words) → IsFaultOf (first ∷ words) f
-fault_says first words BadHex is says = (is_directed first words is, no_hex_in first words says)
-fault_says first words WrongWords is says = is_directed first words is
+    → SaysOfHex f (HasBadHex words) → IsFaultOf (first ∷ words) f
+fault_says first words BadHex is says = (is, says)
+fault_says first words WrongWords is says = (is_directed first words is, λ bad. says bad.1)
 fault_says first words UnknownDirection is says = absurd says
 
 -- ---- requests
@@ -58,7 +53,23 @@ pub request_left : (words : List (List ℕ)) (f : CapturedFrame) (left : List (L
 request_left words f left reads some = record {
   silent = request_silent words (λ bytes b. some (sym (reads.only bytes [] b no_more_none)));
   open_still = λ e. differs 62 61 refl e;
-  says = is_directed (codes ">") words (inl refl);
+  says = fault_says (codes ">") words WrongWords (inl refl) reads.good;
+}
+
+request_says : (words : List (List ℕ)) (f : CapturedFrame) → ReadsFrame words f [] → (t : Transfer)
+    → IsTransferOf (line.Request f) t → SaysTransfer (codes ">" ∷ words) t
+request_says words f reads (Request bytes) is = (words, refl, reads.begins bytes.now is)
+request_says words f reads (Written bytes t) is = absurd is
+request_says words f reads SeveralReaders is = absurd is
+request_says words f reads SeveralWriters is = absurd is
+request_says words f reads Ended is = absurd is
+
+-- the frame is all
+pub request_reads : (words : List (List ℕ)) (f : CapturedFrame) → ReadsFrame words f []
+    → AreRead (codes ">" ∷ words) (line.Request f)
+request_reads words f reads = record {
+  says = request_says words f reads;
+  time = λ first rest e. let same : words ≡ rest = cc in subst (λ (l : List (List ℕ)). IsTimeOf l f.time) same reads.time;
 }
 
 -- ---- what is written
@@ -89,7 +100,24 @@ written_left words f left reads none = record {
       let same = reads.only bytes rest b (result_is_no_more rest t r) in
       none t (subst (λ (l : List (List ℕ)). IsResult l t) same r));
   open_still = λ e. differs 60 61 refl e;
-  says = is_directed (codes "<") words (inr refl);
+  says = fault_says (codes "<") words WrongWords (inr refl) reads.good;
+}
+
+written_says : (words : List (List ℕ)) (f : CapturedFrame) (left : List (List ℕ)) (t : Taken) → ReadsFrame words f left
+    → IsResult left t → (x : Transfer) → IsTransferOf (line.Written f t) x → SaysTransfer (codes "<" ∷ words) x
+written_says words f left t reads result (Request bytes) is = absurd is
+written_says words f left t reads result (Written bytes taken) is =
+    (words, left, refl, reads.begins bytes.now is.0, subst (IsResult left) (sym is.1) result)
+written_says words f left t reads result SeveralReaders is = absurd is
+written_says words f left t reads result SeveralWriters is = absurd is
+written_says words f left t reads result Ended is = absurd is
+
+-- what is left is a result
+pub written_reads : (words : List (List ℕ)) (f : CapturedFrame) (left : List (List ℕ)) (t : Taken)
+    → ReadsFrame words f left → IsResult left t → AreRead (codes "<" ∷ words) (line.Written f t)
+written_reads words f left t reads result = record {
+  says = written_says words f left t reads result;
+  time = λ first rest e. let same : words ≡ rest = cc in subst (λ (l : List (List ℕ)). IsTimeOf l f.time) same reads.time;
 }
 
 -- ---- lines and their texts

@@ -102,17 +102,26 @@ abbrev pub HasNoDirection : List (List ℕ) → Type 0
 HasNoDirection [] = Unit {0}
 HasNoDirection (word ∷ rest) = ¬ (IsOfFrame word) × (word ≢ codes "=")
 
--- where the hex of a frame should be is none
-abbrev pub HasNoHex : List (List ℕ) → Type 0
-HasNoHex words = (first word : List ℕ) (later rest : List (List ℕ)) → words ≡ first ∷ later → IsOfFrame first
-    → (later ≡ word ∷ rest) ⊎ ((time : ℕ) × (at : List ℕ) × IsTimeWord at time × (later ≡ at ∷ word ∷ rest))
-    → (bytes : List ℕ) → IsHexWord word bytes → ⊥
+-- This word stands where the hex of a frame should: first of the words behind the direction, or behind a time.
+abbrev pub StandsForHex : (word : List ℕ) → List (List ℕ) → Type 0
+StandsForHex word words = (rest : List (List ℕ))
+    × (((words ≡ word ∷ rest) × ((time : ℕ) → ¬ (IsTimeWord word time)))
+    ⊎ ((time : ℕ) × (at : List ℕ) × IsTimeWord at time × (words ≡ at ∷ word ∷ rest)))
 
--- What is wrong with a line that says nothing, the first fault in order.
+-- a word stands there that is no hex
+abbrev pub HasBadHex : List (List ℕ) → Type 0
+HasBadHex words = (word : List ℕ) × StandsForHex word words × ((bytes : List ℕ) → ¬ (IsHexWord word bytes))
+
+-- the line of a frame has such a word
+abbrev pub IsOfBadHex : List (List ℕ) → Type 0
+IsOfBadHex [] = ⊥
+IsOfBadHex (first ∷ words) = IsOfFrame first × HasBadHex words
+
+-- What is wrong with a line that says nothing, the first fault in order. It is one alone.
 abbrev pub IsFaultOf : List (List ℕ) → CaptureFault → Type 0
 IsFaultOf words fault.UnknownDirection = HasNoDirection words
-IsFaultOf words fault.BadHex = ¬ (HasNoDirection words) × HasNoHex words
-IsFaultOf words fault.WrongWords = ¬ (HasNoDirection words)
+IsFaultOf words fault.BadHex = IsOfBadHex words
+IsFaultOf words fault.WrongWords = ¬ (HasNoDirection words) × ¬ (IsOfBadHex words)
 
 abbrev pub LineFaultIs : (line : List ℕ) → CaptureFault → Type 0
 LineFaultIs line f = ¬ (IsPassedOver line) × ((t : Transfer) → ¬ (LineSays line t))

@@ -9,7 +9,7 @@ use Rattle.fuse_capture.specs.declared.line.CaptureFault.TheVariants as fault
 use Rattle.fuse_capture.specs.declared.line.CapturedFrame.{CapturedFrame}
 use Rattle.fuse_capture.specs.declared.line.CaptureLine.{CaptureLine}
 use Rattle.fuse_capture.specs.declared.line.CaptureLine.TheVariants as line
-use Rattle.fuse_capture.specs.Lines.{words_of, IsHexWord, IsMoreWord, IsTimeWord, BeginsWithFrame, BeginsWithTimedFrame, SaysTransfer, IsFaultOf}
+use Rattle.fuse_capture.specs.Lines.{words_of, IsHexWord, IsMoreWord, IsTimeWord, BeginsWithFrame, BeginsWithTimedFrame, HasBadHex, SaysTransfer, IsFaultOf}
 
 -- the words that are left, none where no space came before them
 abbrev pub words_left : Option (List ℕ) → List (List ℕ)
@@ -38,10 +38,16 @@ IsFrameOf f bytes = AreBytes f.hex.now f.more bytes
 abbrev pub HasNoMore : List (List ℕ) → Type 0
 HasNoMore words = (word : List ℕ) (later : List (List ℕ)) (count : ℕ) → words ≡ word ∷ later → ¬ (IsMoreWord word count)
 
+-- the first word is no hex
+abbrev pub BeginsWithBadHex : List (List ℕ) → Type 0
+BeginsWithBadHex words = (word : List ℕ) × (rest : List (List ℕ)) × (words ≡ word ∷ rest)
+    × ((bytes : List ℕ) → ¬ (IsHexWord word bytes))
+
 -- The words begin with a frame of this hex and so many bytes more, these words are left, and they are the only ones.
 pub record ReadsKept (words : List (List ℕ)) (hex : List ℕ) (more : ℕ) (left : List (List ℕ)) : Type 0 where
   pub begins : (bytes : List ℕ) → AreBytes hex more bytes → BeginsWithFrame words bytes left
   pub only : (bytes : List ℕ) (rest : List (List ℕ)) → BeginsWithFrame words bytes rest → HasNoMore rest → rest ≡ left
+  pub good : ¬ (BeginsWithBadHex words)
 
 -- The words begin with this time, or with none.
 abbrev pub IsTimeOf : List (List ℕ) → Option ℕ → Type 0
@@ -53,32 +59,22 @@ pub record ReadsFrame (words : List (List ℕ)) (f : CapturedFrame) (left : List
   pub begins : (bytes : List ℕ) → IsFrameOf f bytes → BeginsWithTimedFrame words bytes left
   pub only : (bytes : List ℕ) (rest : List (List ℕ)) → BeginsWithTimedFrame words bytes rest → HasNoMore rest
       → rest ≡ left
+  pub good : ¬ (HasBadHex words)
 
--- no hex stands where it should
-abbrev pub BeginsWithNoHex : List (List ℕ) → Type 0
-BeginsWithNoHex words = (word : List ℕ) (rest : List (List ℕ)) → words ≡ word ∷ rest → (bytes : List ℕ) → IsHexWord word bytes
-    → ⊥
-
--- the same, with a time before it or with none
-abbrev pub BeginsWithNoTimedHex : List (List ℕ) → Type 0
-BeginsWithNoTimedHex words = (word : List ℕ) (rest : List (List ℕ))
-    → (words ≡ word ∷ rest) ⊎ ((time : ℕ) × (at : List ℕ) × IsTimeWord at time × (words ≡ at ∷ word ∷ rest))
-    → (bytes : List ℕ) → IsHexWord word bytes → ⊥
-
--- what a fault says of the words of a frame
-abbrev pub SaysOfHex : CaptureFault → Type 0 → Type 0
-SaysOfHex fault.BadHex none = none
-SaysOfHex fault.WrongWords none = Unit {0}
-SaysOfHex fault.UnknownDirection none = ⊥
+-- A fault of the words of a frame is that of the hex exactly where the word there is none.
+abbrev pub SaysOfHex : CaptureFault → (is_bad : Type 0) → Type 0
+SaysOfHex fault.BadHex is_bad = is_bad
+SaysOfHex fault.WrongWords is_bad = ¬ is_bad
+SaysOfHex fault.UnknownDirection is_bad = ⊥
 
 -- The words begin with no frame.
 pub record KeptFaultIs (words : List (List ℕ)) (f : CaptureFault) : Type 0 where
   pub none : (bytes : List ℕ) (rest : List (List ℕ)) → BeginsWithFrame words bytes rest → HasNoMore rest → ⊥
-  pub says : SaysOfHex f (BeginsWithNoHex words)
+  pub says : SaysOfHex f (BeginsWithBadHex words)
 
 pub record FrameFaultIs (words : List (List ℕ)) (f : CaptureFault) : Type 0 where
   pub none : (bytes : List ℕ) (rest : List (List ℕ)) → BeginsWithTimedFrame words bytes rest → HasNoMore rest → ⊥
-  pub says : SaysOfHex f (BeginsWithNoTimedHex words)
+  pub says : SaysOfHex f (HasBadHex words)
 
 -- ---- lines
 

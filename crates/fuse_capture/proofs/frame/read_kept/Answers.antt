@@ -14,7 +14,7 @@ returns-then-not-is_short c =
     kept_too_long _ c.in-Some.hex.now (words_left (option_copied c.in-Some.later)) c.take_marked-more.result.0
     (words_left (option_copied c.take_marked-more.result.1)) c.unwrap_or-more.result c.in-Some.ensures
     c.take_marked-more.ensures.taken c.take_marked-more.ensures.small c.unwrap_or-more.ensures
-    (λ short. let is = c.if-not-is_short.ensures.1 short in cc)
+    (c.if-not-is_hex_word.ensures.0 refl) (λ short. let is = c.if-not-is_short.ensures.1 short in cc)
 
 pub returns : goal.returns
 returns c =
