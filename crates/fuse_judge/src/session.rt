@@ -7,7 +7,7 @@ ghost use Rattle.fuse_sessions.specs.Waiting.{waits};
 ghost use Rattle.fuse_judge.specs.Transfers.{HasSeenTransfers, IsJudged};
 
 use crate::judge::Judge;
-use fuse_protocol::{Agreed, BEFORE_INIT};
+use fuse_protocol::{Agreed, BEFORE_INIT, Unjudged};
 use fuse_sessions::{Act, Asked, Fault, Known, Transfer};
 use session_frames::{reply_number, write_transfer};
 use std::alloc::{AllocError, Allocator, Global};
@@ -42,6 +42,7 @@ impl<A: Allocator + Copy> SessionJudge<A> {
                 offered: None,
                 agreed: BEFORE_INIT,
                 has_resent: false,
+                unjudged: None,
             },
         }
     }
@@ -51,6 +52,13 @@ impl<A: Allocator + Copy> SessionJudge<A> {
         ensures { result ≡ self.now.known.agreed }
     {
         self.known.agreed
+    }
+
+    /// Why nothing is judged any more, if so: INIT agreed on frames that cannot be read.
+    pub fn unjudged(&self) -> Option<Unjudged>
+        ensures { result ≡ self.now.known.unjudged }
+    {
+        self.known.unjudged
     }
 
     /// The request that waits under a number: it was read, and no reply has ended it.

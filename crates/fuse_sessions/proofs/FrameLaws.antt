@@ -1,7 +1,8 @@
 -- A transfer's acts are settled by what was before it, and a session goes on by one more transfer.
 use Rattle.std.proofs.Common.{◌≡◌, ℕ, Bool, true, false, inl, inr, List, [], ◌∷◌, ◌++◌, Option, Some, None, refl, sym, ◌∙◌, ap, subst}
-use Rattle.std.specs.Prelude.{MatchBool}
+use Rattle.std.specs.Prelude.{MatchBool, MatchOption}
 use Rattle.fuse_protocol.specs.declared.agreed.Agreed.{Agreed}
+use Rattle.fuse_protocol.specs.declared.agreed.Unjudged.{Unjudged}
 use Rattle.fuse_protocol.specs.declared.opcode.Opcode.{Opcode}
 use Rattle.fuse_protocol.specs.declared.row.ReplyShape.{ReplyShape}
 use Rattle.fuse_protocol.specs.Requests.{RequestMessage, IsRequest}
@@ -18,7 +19,7 @@ use Rattle.fuse_sessions.specs.declared.transfer.Transfer.{Transfer}
 use Rattle.fuse_sessions.specs.declared.transfer.Transfer.TheVariants as transfer
 use Rattle.fuse_sessions.specs.Sessions.{Session}
 use Rattle.fuse_sessions.specs.Waiting.{waits}
-use Rattle.fuse_sessions.specs.Frames.{Reads, IsRequestOf, IsNotified, IsReplyBy, IsReplyTo, IsHeaded, IsWritten, AreActs, Lead, number_in, interrupt_acts}
+use Rattle.fuse_sessions.specs.Frames.{Reads, IsRequestOf, IsNotified, IsReplyBy, IsReplyTo, IsHeaded, IsWritten, AreActs, AreReadActs, Lead, number_in, interrupt_acts}
 
 module _ {M : Type 0} (Is : M → Type 0) (Goal : Type 0) where
   -- what is read is one message
@@ -104,16 +105,28 @@ written_once k s bytes t a b l m (inl x) (inr y) = absurd (y.0 x.0)
 written_once k s bytes t a b l m (inr x) (inl y) = absurd (x.0 y.0)
 written_once k s bytes t a b l m (inr x) (inr y) = both_are a b _ x.1 y.1
 
+read_acts_once : (k : Known) (s : Session) (t : Transfer) (a b : List Act) (l m : Known) → AreReadActs k s t a l
+    → AreReadActs k s t b m → a ≡ b
+read_acts_once k s (transfer.Request bytes) a b l m is as' =
+    read_as_one (IsRequestOf k.agreed bytes.now) (a ≡ b) (one_request_of k.agreed bytes.now) _ _ _ _
+    (λ q. both_are a b _) (both_are a b _) is.0 as'.0
+read_acts_once k s (transfer.Written bytes t) a b l m is as' = written_once k s bytes.now t a b l m is as'
+read_acts_once k s transfer.SeveralReaders a b l m is as' = both_are a b _ is.0 as'.0
+read_acts_once k s transfer.SeveralWriters a b l m is as' = both_are a b _ is.0 as'.0
+read_acts_once k s transfer.Ended a b l m is as' = both_are a b _ is.0 as'.0
+
+-- one of two, by why nothing is judged
+by_unjudged : (o : Option Unjudged) (Goal P Q : Type 0) (R S : Unjudged → Type 0) → (P → Q → Goal)
+    → ((why : Unjudged) → R why → S why → Goal) → MatchOption o P R → MatchOption o Q S → Goal
+by_unjudged None Goal P Q R S judged unjudged p q = judged p q
+by_unjudged (Some why) Goal P Q R S judged unjudged p q = unjudged why p q
+
 -- A transfer has one list of acts.
 pub acts_once : (k : Known) (s : Session) (t : Transfer) (a b : List Act) (l m : Known) → AreActs k s t a l
     → AreActs k s t b m → a ≡ b
-acts_once k s (transfer.Request bytes) a b l m is as' =
-    read_as_one (IsRequestOf k.agreed bytes.now) (a ≡ b) (one_request_of k.agreed bytes.now) _ _ _ _
-    (λ q. both_are a b _) (both_are a b _) is.0 as'.0
-acts_once k s (transfer.Written bytes t) a b l m is as' = written_once k s bytes.now t a b l m is as'
-acts_once k s transfer.SeveralReaders a b l m is as' = both_are a b _ is.0 as'.0
-acts_once k s transfer.SeveralWriters a b l m is as' = both_are a b _ is.0 as'.0
-acts_once k s transfer.Ended a b l m is as' = both_are a b _ is.0 as'.0
+acts_once k s t a b l m = by_unjudged k.unjudged (a ≡ b) (AreReadActs k s t a l) (AreReadActs k s t b m)
+    (λ why. (a ≡ []) × (l ≡ k)) (λ why. (b ≡ []) × (m ≡ k))
+    (read_acts_once k s t a b l m) (λ why x y. both_are a b [] x.0 y.0)
 
 -- One more transfer leads on.
 pub lead-more : (k : Known) (s : Session) (ts : List Transfer) (now : Known) (all : Session) (t : Transfer)

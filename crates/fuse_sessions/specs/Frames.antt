@@ -1,14 +1,15 @@
 -- What went over a device, read as acts: by the shapes of its frames, by what INIT agreed on, and by what waits.
 -- Sources: linux/fuse.h, the kernel's fuse.rst and dev.c.
-use Rattle.std.specs.Prelude.{◌≡◌, ℕ, ◌-◌, ◌%◌, ◌^◌, ◌==◌, ◌⊎◌, Bool, true, false, MatchBool, if◌then◌else◌, bit_and, List, [], ◌∷◌, ◌++◌, drop, Option, Some, None}
+use Rattle.std.specs.Prelude.{◌≡◌, ℕ, ◌-◌, ◌%◌, ◌^◌, ◌==◌, ◌⊎◌, Bool, true, false, MatchBool, MatchOption, if◌then◌else◌, bit_and, List, [], ◌∷◌, ◌++◌, drop, Option, Some, None}
 use Rattle.std.specs.List.{flat_map}
 use Rattle.fk_fields.specs.Fields.{number_at}
 use Rattle.fuse_protocol.specs.declared.agreed.Agreed.{Agreed}
+use Rattle.fuse_protocol.specs.declared.agreed.Unjudged.{Unjudged}
 use Rattle.fuse_protocol.specs.declared.init.InitRequest.{InitRequest}
 use Rattle.fuse_protocol.specs.declared.init.InitReply.{InitReply}
 use Rattle.fuse_protocol.specs.declared.opcode.Opcode.{Opcode}
 use Rattle.fuse_protocol.specs.declared.opcode.Opcode.TheVariants as op
-use Rattle.fuse_protocol.specs.Agreement.{before_init, IsAgreement}
+use Rattle.fuse_protocol.specs.Agreement.{before_init, IsAgreement, UnjudgedIs}
 use Rattle.fuse_protocol.specs.Init.{init_request_at}
 use Rattle.fuse_protocol.specs.Inits.{IsInit}
 use Rattle.fuse_protocol.specs.Requests.{RequestMessage, IsRequest}
@@ -105,10 +106,11 @@ abbrev pub said_acts : Known → Opcode → Asked → Taken → AnswerContent �
 said_acts k o a taken.Accepted content = init_acts k.offered content ++ answer_acts o a content
 said_acts k o a t content = []
 
--- What the two sides agree on is known from an accepted reply to INIT on.
+-- What the two sides agree on is known from an accepted reply to INIT on, or why their frames cannot be read.
 abbrev pub IsAgreed : Known → Option InitRequest → InitReply → Known → Type 0
 IsAgreed k None i later = later ≡ k
-IsAgreed k (Some r) i later = Reads (IsAgreement r i) (λ agreed. later ≡ record k { agreed = agreed }) (later ≡ k)
+IsAgreed k (Some r) i later = ((agreed : Agreed) × IsAgreement r i agreed × (later ≡ record k { agreed = agreed }))
+    ⊎ ((why : Unjudged) × UnjudgedIs r i why × (later ≡ record k { unjudged = Some why }))
 
 abbrev pub IsTold : Known → Taken → AnswerContent → Known → Type 0
 IsTold k taken.Accepted (answer.init i) later = IsAgreed k k.offered i later
@@ -167,13 +169,19 @@ IsWritten k s bytes t acts later = (IsHead bytes × IsHeaded k s bytes t acts la
 
 -- ---- transfers
 
--- These are the acts of the next transfer, and what is known after it.
+-- These are the acts of a transfer whose frames can be read, and what is known after it.
+abbrev pub AreReadActs : Known → Session → Transfer → List Act → Known → Type 0
+AreReadActs k s (transfer.Request bytes) acts later = AreRequestActs k bytes.now acts × IsOffered k bytes.now later
+AreReadActs k s (transfer.Written bytes t) acts later = IsWritten k s bytes.now t acts later
+AreReadActs k s transfer.SeveralReaders acts later = (acts ≡ SeveralReaders ∷ []) × (later ≡ k)
+AreReadActs k s transfer.SeveralWriters acts later = (acts ≡ SeveralWriters ∷ []) × (later ≡ k)
+AreReadActs k s transfer.Ended acts later = (acts ≡ Ends ∷ []) × (later ≡ k)
+
+-- These are the acts of the next transfer, and what is known after it. Once INIT agreed on frames that cannot be read
+-- there are none.
 abbrev pub AreActs : Known → Session → Transfer → List Act → Known → Type 0
-AreActs k s (transfer.Request bytes) acts later = AreRequestActs k bytes.now acts × IsOffered k bytes.now later
-AreActs k s (transfer.Written bytes t) acts later = IsWritten k s bytes.now t acts later
-AreActs k s transfer.SeveralReaders acts later = (acts ≡ SeveralReaders ∷ []) × (later ≡ k)
-AreActs k s transfer.SeveralWriters acts later = (acts ≡ SeveralWriters ∷ []) × (later ≡ k)
-AreActs k s transfer.Ended acts later = (acts ≡ Ends ∷ []) × (later ≡ k)
+AreActs k s t acts later =
+    MatchOption k.unjudged (AreReadActs k s t acts later) (λ why. (acts ≡ []) × (later ≡ k))
 
 -- The transfers lead from one session, with what was known, to another.
 abbrev pub Lead : Known → Session → List Transfer → Known → Session → Type 0
@@ -183,7 +191,7 @@ Lead k s (t ∷ ts) later all =
 
 -- before anything
 abbrev pub nothing_known : Known
-nothing_known = record { offered = None; agreed = before_init; has_resent = false }
+nothing_known = record { offered = None; agreed = before_init; has_resent = false; unjudged = None }
 
 -- The session of these transfers has these acts, and this is known after it.
 abbrev pub IsSession : List Transfer → Known → Session → Type 0

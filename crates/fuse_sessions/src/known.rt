@@ -1,6 +1,6 @@
 //! What INIT makes known of a session.
 
-use fuse_protocol::{Agreed, InitRequest};
+use fuse_protocol::{Agreed, InitRequest, Unjudged};
 
 /// What frames are read by, besides what waits.
 #[derive(Clone, Copy, Debug, PartialEq, Eq)]
@@ -11,4 +11,6 @@ pub struct Known {
     pub agreed: Agreed,
     /// Whether the device accepted FUSE_NOTIFY_RESEND.
     pub has_resent: bool,
+    /// Why nothing is judged any more, if so: INIT agreed on frames that cannot be read.
+    pub unjudged: Option<Unjudged>,
 }

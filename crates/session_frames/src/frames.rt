@@ -41,22 +41,17 @@ pub fn reply_number(transfer: Transfer<'_>) -> u64
     }
 }
 
-/// The acts of a transfer, by what waits under its number, in place of what the vector had. Returns what is known after
-/// it.
-///
-/// # Errors
-///
-/// Out of memory.
-pub fn write_transfer<A: Allocator + Copy>(
+/// The acts of a transfer whose frames can be read, by what waits under its number. Returns what is known after it.
+fn write_read_transfer<A: Allocator + Copy>(
     acts: &mut Vec<Act, A>,
     known: Known,
     asked: Option<Asked>,
     transfer: Transfer<'_>,
 ) -> Result<Known, AllocError>
+    requires { acts.old.items ≡ [] }
     ensures { IfOk result (λ later. (s : Session) (n : ℕ) → IsReplyNumber transfer.entry n → waits s n ≡ asked
-        → words.AreActs known s transfer.entry acts.new.items later) }
+        → words.AreReadActs known s transfer.entry acts.new.items later) }
 {
-    acts.clear();
     match transfer {
         Transfer::Request(bytes) => {
             write_read(acts, known, bytes)?;
@@ -76,4 +71,26 @@ pub fn write_transfer<A: Allocator + Copy>(
             Ok(known)
         }
     }
+}
+
+/// The acts of a transfer, by what waits under its number, in place of what the vector had: none once INIT agreed on frames
+/// that cannot be read. Returns what is known after it.
+///
+/// # Errors
+///
+/// Out of memory.
+pub fn write_transfer<A: Allocator + Copy>(
+    acts: &mut Vec<Act, A>,
+    known: Known,
+    asked: Option<Asked>,
+    transfer: Transfer<'_>,
+) -> Result<Known, AllocError>
+    ensures { IfOk result (λ later. (s : Session) (n : ℕ) → IsReplyNumber transfer.entry n → waits s n ≡ asked
+        → words.AreActs known s transfer.entry acts.new.items later) }
+{
+    acts.clear();
+    if known.unjudged.is_some() {
+        return Ok(known);
+    }
+    write_read_transfer(acts, known, asked, transfer)
 }

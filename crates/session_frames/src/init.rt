@@ -26,7 +26,7 @@ pub(crate) fn known_after_request(known: Known, bytes: &[u8]) -> Known
     }
 }
 
-/// What is known once INIT was answered.
+/// What is known once INIT was answered: what was agreed, or why the frames cannot be read.
 fn known_by_init(known: Known, reply: &InitReply) -> Known
     ensures { words.IsAgreed known known.offered reply.now result }
 {
@@ -35,7 +35,10 @@ fn known_by_init(known: Known, reply: &InitReply) -> Known
     };
     match Agreed::of_init(&request, reply) {
         Ok(agreed) => Known { agreed, ..known },
-        Err(_) => known,
+        Err(why) => Known {
+            unjudged: Some(why),
+            ..known
+        },
     }
 }
 
