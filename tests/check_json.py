@@ -37,6 +37,9 @@ def about(words):
 
 
 def fault(line):
+    place, unjudged, why = line.removeprefix("line ").partition(": not judged from here on: ")
+    if unjudged:
+        return {"event": "unjudged", "line": int(place), "why": why}
     _, place, party, rule, *rest = re.fullmatch(r"(line (\d+)): (\w+): ([^:]*)(?:: (.*))?", line).groups()
     named = about(rest[0]) if rest[0] else {}
     return {"event": "fault", "line": int(place), "party": party, "rule": rule} | named

@@ -17,8 +17,8 @@ import tempfile
 from collections import Counter
 from pathlib import Path
 
-from session_frames import (DIRECTORY, EAGAIN, EIO, LINK, NAMES, REGULAR, entry, getattr_body, notification, numbers,
-                            read_body, release_body, reply, request, text, write_body)
+from fuse_frames import (DIRECTORY, EAGAIN, EIO, LINK, NAMES, REGULAR, entry, getattr_body, notification, numbers,
+                         read_body, release_body, reply, request, text, write_body)
 
 TOP = Path(__file__).resolve().parent.parent
 # how many lines of the session come behind a fault, from how many first ones places are taken, and how many places

@@ -48,6 +48,23 @@ for fault in "bad hex:> 2g" "bad hex:< 000" "wrong words:> 00 00" "wrong words:<
 done
 expect_lines 1 "" "cannot read $work/none: No such file or directory (os error 2)" decode "$work/none"
 
+# Frames of 7.8 are not read.
+cat > "$work/want-out" <<END
+> INIT 2 0 104 major 7 minor 45 flags 0x0000000000000000
+< INIT 2 0 80 major 7 minor 8 max_write 8192 flags 0x0000000000000000; not judged from here on: the sides agreed below 7.9, where entries and attributes are shorter
+> LOOKUP 4 len 42
+< unique 4 0 136
+< unique 4 0 136; refused ENOENT
+> FORGET 6 len 48
+> GETATTR 8 len 40
+= several readers
+= ended
+requests 4 replies 3 notifications 0 refused 1 unanswered 0 lookups
+END
+: > "$work/want-err"
+"$program" decode tests/sessions/frames-of-an-old-minor.capture > "$work/out" 2> "$work/err"
+judge "decode frames of an old minor" $? 0
+
 # The vectors.
 "$program" vectors > "$work/vectors" 2> "$work/err"
 code=$?

@@ -1,165 +1,18 @@
 #!/usr/bin/env python3
-"""Frames of linux/fuse.h, and the captures of tests/sessions, each with the lines that `fuseworld check` has to print.
+"""The captures of tests/sessions, each with the lines that `fuseworld check` has to print.
 
 Each session is written here a transfer at a time, with the faults that the definitions have of it behind it. Without
 arguments the files are compared with what is written here, and the status is 1 where one differs; `--write` writes them.
 """
-import struct
 import sys
 from pathlib import Path
 
+from fuse_frames import (DIRECTORY, EAGAIN, EIO, ENOENT, ENOSYS, LINK, REGULAR, attributes, attributes_reply, copy_body, entry,
+                         getattr_body, init_reply, init_request, notification, numbers, opened, read_body, record,
+                         release_body, reply, request, setattr_body, text, write_body)
+from judged_session import Session
+
 FOLDER = Path(__file__).resolve().parent / "sessions"
-OPCODES = {
-    "LOOKUP": 1, "FORGET": 2, "GETATTR": 3, "SETATTR": 4, "READLINK": 5, "SYMLINK": 6, "MKNOD": 8, "MKDIR": 9, "UNLINK": 10,
-    "RMDIR": 11, "RENAME": 12, "LINK": 13, "OPEN": 14, "READ": 15, "WRITE": 16, "STATFS": 17, "RELEASE": 18, "FSYNC": 20,
-    "SETXATTR": 21, "GETXATTR": 22, "LISTXATTR": 23, "REMOVEXATTR": 24, "FLUSH": 25, "INIT": 26, "OPENDIR": 27, "READDIR": 28,
-    "RELEASEDIR": 29, "FSYNCDIR": 30, "GETLK": 31, "SETLK": 32, "SETLKW": 33, "ACCESS": 34, "CREATE": 35, "INTERRUPT": 36,
-    "BMAP": 37, "DESTROY": 38, "IOCTL": 39, "POLL": 40, "NOTIFY_REPLY": 41, "BATCH_FORGET": 42, "FALLOCATE": 43,
-    "READDIRPLUS": 44, "RENAME2": 45, "LSEEK": 46, "COPY_FILE_RANGE": 47, "SETUPMAPPING": 48, "REMOVEMAPPING": 49,
-    "SYNCFS": 50, "TMPFILE": 51, "STATX": 52, "COPY_FILE_RANGE_64": 53,
-}
-NAMES = {code: name for name, code in OPCODES.items()}
-DIRECTORY, REGULAR, LINK = 0o040755, 0o100644, 0o120777
-EIO, EAGAIN, ENOENT, ENOSYS = 5, 11, 2, 38
-
-
-# ---- frames
-
-def request(opcode, unique, nodeid, body=b"", length=None, extensions=0):
-    """struct fuse_in_header, and a body. `length` stands in place of the frame's own."""
-    code = OPCODES.get(opcode, opcode)
-    size = 40 + len(body) if length is None else length
-    return struct.pack("<IIQQIIIHH", size, code, unique, nodeid, 1000, 1000, 77, extensions, 0) + body
-
-
-def reply(unique, body=b"", error=0, length=None):
-    """struct fuse_out_header, and a body. `error` is the errno, or 0."""
-    return struct.pack("<IiQ", 16 + len(body) if length is None else length, -error, unique) + body
-
-
-def notification(code, body=b"", length=None):
-    return struct.pack("<IiQ", 16 + len(body) if length is None else length, code, 0) + body
-
-
-def text(*names):
-    return b"".join(name.encode() + b"\0" for name in names)
-
-
-def numbers(form, *values):
-    return struct.pack("<" + form, *values)
-
-
-def attributes(ino, mode, size=0):
-    """struct fuse_attr: 88 bytes."""
-    return numbers("QQQQQQIIIIIIIIII", ino, size, 0, 1, 1, 1, 0, 0, 0, mode, 1, 0, 0, 0, 4096, 0)
-
-
-def attributes_reply(ino, mode, size=0):
-    """struct fuse_attr_out"""
-    return numbers("QII", 1, 0, 0) + attributes(ino, mode, size)
-
-
-def entry(nodeid, ino, mode=REGULAR, generation=0, size=0):
-    """struct fuse_entry_out: 128 bytes."""
-    return numbers("QQQQII", nodeid, generation, 1, 1, 0, 0) + attributes(ino, mode, size)
-
-
-def opened(handle):
-    """struct fuse_open_out"""
-    return numbers("QII", handle, 0, 0)
-
-
-def record(name, ino, offset, kind=8):
-    """struct fuse_dirent, filled up to eight bytes"""
-    data = numbers("QQII", ino, offset, len(name), kind) + name.encode()
-    return data + b"\0" * (-len(data) % 8)
-
-
-def init_request(unique=2, flags=0, flags2=0, major=7, minor=45):
-    """struct fuse_init_in, with eleven words that are not used"""
-    return request("INIT", unique, 0, numbers("IIIII", major, minor, 131072, flags, flags2) + b"\0" * 44)
-
-
-def init_reply(unique=2, flags=0, flags2=0, major=7, minor=45, max_write=8192, max_pages=0):
-    """struct fuse_init_out: 64 bytes."""
-    body = numbers("IIIIHHIIHHI", major, minor, 131072, flags, 12, 9, max_write, 1, max_pages, 0, flags2)
-    return reply(unique, body.ljust(64, b"\0"))
-
-
-def read_body(handle, size=4096, offset=0):
-    """struct fuse_read_in"""
-    return numbers("QQIIQII", handle, offset, size, 0, 0, 0, 0)
-
-
-def write_body(handle, data, size=None):
-    """struct fuse_write_in, and the data"""
-    return numbers("QQIIQII", handle, 0, len(data) if size is None else size, 0, 0, 0, 0) + data
-
-
-def release_body(handle):
-    """struct fuse_release_in"""
-    return numbers("QIIQ", handle, 0, 0, 0)
-
-
-def copy_body(handle, node, other, size):
-    """struct fuse_copy_file_range_in"""
-    return numbers("QQQQQQQ", handle, 0, node, other, 0, size, 0)
-
-
-def getattr_body(handle=None):
-    """struct fuse_getattr_in, with GETATTR_FH where there is a handle"""
-    return numbers("IIQ", 0 if handle is None else 1, 0, handle or 0)
-
-
-def setattr_body(handle=None):
-    """struct fuse_setattr_in, with FATTR_FH where there is a handle"""
-    return numbers("IIQ", 0 if handle is None else 64, 0, handle or 0).ljust(88, b"\0")
-
-
-# ---- sessions
-
-class Session:
-    """The lines of a capture, and what is to be printed of it."""
-
-    def __init__(self, about):
-        self.lines = [f"# {about}"]
-        self.faults = []
-        self.counted = dict.fromkeys(("requests", "replies", "notifications", "refused"), 0)
-
-    def line(self, words, *faults):
-        """A line, and its faults, each as `PARTY: RULE` and what it is about."""
-        self.lines.append(words)
-        self.faults += [f"line {len(self.lines)}: {fault}" for fault in faults]
-
-    def read(self, frame, *faults, more=0):
-        self.counted["requests"] += 1
-        self.line(f"> {frame.hex()}" + (f" +{more}" if more else ""), *faults)
-
-    def write(self, frame, *faults, errno=""):
-        """A reply or a notification, and the errno with which the device refused it."""
-        kind = "replies" if any(frame[8:16]) else "notifications"
-        self.counted[kind] += 1
-        self.counted["refused"] += kind == "replies" and errno != ""
-        self.line(f"< {frame.hex()}" + (f" {errno}" if errno else ""), *faults)
-
-    def ask(self, opcode, unique, nodeid, body=b"", answer=b"", error=0, faults=(), more=0):
-        """A good request and its reply."""
-        self.read(request(opcode, unique, nodeid, body), more=more)
-        self.write(reply(unique, answer, error), *faults)
-
-    def begin(self, **agreed):
-        self.read(init_request())
-        self.write(init_reply(**agreed))
-
-    def end(self, entries=0, forgotten=0, unanswered=0):
-        """The two lines of counts. A request is unanswered where it takes a reply, no reply under its number was written and
-        not refused with ENOENT, and no later request took its number."""
-        parties = [fault.split(": ")[1] for fault in self.faults]
-        transfers = " ".join(f"{word} {count}" for word, count in self.counted.items())
-        return "\n".join([
-            *self.faults, f"{transfers} unanswered {unanswered} entries {entries} forgotten {forgotten}",
-            "faults: " + " ".join(f"{party} {parties.count(party)}" for party in ("kernel", "server", "device")), "",
-        ])
 
 
 def malformed_requests():
@@ -610,8 +463,44 @@ def nodes_of_two_files():
 def init_of_another_version():
     s = Session("INIT's reply is of protocol 8, and has flags that were not offered.")
     s.read(init_request(flags=1))
-    s.write(init_reply(major=8, flags=1 | 32), "server: INIT of another version", "server: flags that were not offered")
+    s.write(init_reply(major=8, flags=1 | 32), "server: INIT of another version", "server: flags that were not offered",
+            "not judged from here on: a side speaks another major version than 7")
     s.ask("STATFS", 4, 1, answer=b"\0" * 80)
+    return s, s.end()
+
+
+def frames_of_an_old_minor():
+    s = Session("INIT agrees on 7.8, where entries have 120 bytes: what comes then is not judged.")
+    s.read(init_request())
+    s.write(init_reply(minor=8),
+            "not judged from here on: the sides agreed below 7.9, where entries and attributes are shorter")
+    s.ask("LOOKUP", 4, 1, text("a"), entry(2, 20)[:120])
+    s.write(reply(4, entry(2, 20)[:120]), errno="ENOENT")
+    s.read(request("FORGET", 6, 3, numbers("Q", 5)))
+    s.read(request("GETATTR", 8, 9))
+    s.line("= several readers")
+    s.line("= ended ENODEV")
+    return s, s.end()
+
+
+def frames_of_a_later_minor():
+    s = Session("Both sides speak 7.46, whose structs are not known. Faults before INIT's reply are named.")
+    s.read(request("LOOKUP", 4, 1, text("a")), "kernel: request before INIT: LOOKUP")
+    s.read(init_request(unique=6, minor=46), "kernel: INIT is not first: INIT")
+    s.write(init_reply(unique=6, minor=46),
+            "not judged from here on: the sides agreed above 7.45, whose structs are not known")
+    s.write(reply(4, b"\0" * 200))
+    s.read(request("LOOKUP", 8, 77, text("a")))
+    return s, s.end(unanswered=1)
+
+
+def security_contexts_without_a_length():
+    s = Session("A kernel of 7.36 sends security contexts behind names; from 7.38 on the header says how long they are.")
+    s.read(init_request(minor=36, flags=1 << 30, flags2=1))
+    s.write(init_reply(minor=36, flags=1 << 30, flags2=1),
+            "not judged from here on: security contexts follow names, and no frame says how long they are")
+    s.read(request("MKDIR", 4, 1, numbers("II", 0o755, 0) + text("a") + b"\0" * 8))
+    s.write(reply(4, entry(2, 20, DIRECTORY)))
     return s, s.end()
 
 
@@ -853,8 +742,8 @@ SESSIONS = [
     malformed_requests, later_opcodes, requests_before_init, numbers_of_requests, resends, resends_unasked, several_readers,
     several_writers, interrupts, nodes_not_counted, forgets, open_files, files_that_are_not_opened, writes_cut_short,
     writes_of_a_page, replies, replies_to_interrupts, bodies, init_of_another_length, entries, entries_of_another_kind,
-    exported, nodes_of_two_files, init_of_another_version, flags_that_were_not_offered, second_word_of_flags, notifications,
-    device, after_the_end, after_a_lost_reply, good_names, good_attributes, good_files, good_directories, good_notifications,
+    exported, nodes_of_two_files, init_of_another_version, frames_of_an_old_minor, frames_of_a_later_minor,
+    security_contexts_without_a_length, flags_that_were_not_offered, second_word_of_flags, notifications, device, after_the_end, after_a_lost_reply, good_names, good_attributes, good_files, good_directories, good_notifications,
     good_extensions, good_minors, lines_of_a_capture,
 ]
 

@@ -17,7 +17,7 @@ use Rattle.fw_check.specs.declared.stop.Stop.{Stop}
 use Rattle.fw_check.specs.declared.stop.Stop.TheVariants.{BadLine, CannotRead, NoMemory, OutputRefused}
 use Rattle.fw_check.specs.Checks.{Judged, Checks, passed_over, says, no_line, nothing_judged, counts_of, end_text, start_in}
 use Rattle.fw_check.specs.Endings.{lines_of}
-use Rattle.fw_check.specs.Forms.{counts_text, fault_lines, head_text}
+use Rattle.fw_check.specs.Forms.{counts_text, head_text, transfer_lines}
 use Rattle.fw_check.specs.Outputs.{AppendsSome}
 use Rattle.fw_check.specs.Running.{AllChecked, AreCounts, CheckEnds, ChecksMore, IsJudgedSo, IsKept, IsTaken, IsUnanswered, IsUpTo, LineEnds, NextEnds, PrintsEnd, SaidEnds, StopsIn, judged_after}
 use Rattle.fw_check.proofs.Writes.{Appends-append, some_first, some_then}
@@ -50,10 +50,10 @@ said_checks : (o : CheckOptions) (lines : List (List ℕ)) (j : Judged) (line : 
     (verdicts : List (Option Fault)) (judge : SessionState) (c : Counts) → Checks o lines j
     → (so : IsJudgedSo o j l acts verdicts judge c) → LineSays line so.transfer
     → Checks o (lines ++ line ∷ []) (judged_after j so.transfer acts verdicts judge.known
-    (j.text ++ fault_lines o.form (length lines + 1) acts verdicts))
+    (j.text ++ transfer_lines o.form (length lines + 1) j.known judge.known acts verdicts))
 said_checks o lines j line l acts verdicts judge c checks so is =
     subst (λ (vs : List (Option Fault)). Checks o (lines ++ line ∷ []) (judged_after j so.transfer acts vs judge.known
-    (j.text ++ fault_lines o.form (length lines + 1) acts vs)))
+    (j.text ++ transfer_lines o.form (length lines + 1) j.known judge.known acts vs)))
     (sym so.asked)
     (says lines j checks line so.transfer is acts judge.known so.are so.all so.each so.faults)
 
@@ -62,23 +62,23 @@ pub line_said : {T : Type 0} (o : CheckOptions) (r : Result T Stop) (lines : Lis
     → ((t : Transfer) → IsTransferOf l t → LineSays line t) → number ≡ length lines + 1
     → SaidEnds o j number l judge c r had has → LineEnds o lines j line judge c r had has
 line_said o (Ok done) lines j line number l judge c had has checks said is (acts, verdicts, so, appends) =
-    let text = j.text ++ fault_lines o.form (length lines + 1) acts verdicts in (
+    let text = j.text ++ transfer_lines o.form (length lines + 1) j.known judge.known acts verdicts in (
       judged_after j so.transfer acts verdicts judge.known text,
-      fault_lines o.form number acts verdicts,
+      transfer_lines o.form number j.known judge.known acts verdicts,
       record {
         checks = said_checks o lines j line l acts verdicts judge c checks so (said so.transfer so.is);
-        text = ap (λ n. j.text ++ fault_lines o.form n acts verdicts) (sym is);
+        text = ap (λ n. j.text ++ transfer_lines o.form n j.known judge.known acts verdicts) (sym is);
       },
       so.kept text,
       appends,
     )
 line_said o (Err OutputRefused) lines j line number l judge c had has checks said is (acts, verdicts, so, some) =
-    let text = j.text ++ fault_lines o.form (length lines + 1) acts verdicts in (
+    let text = j.text ++ transfer_lines o.form (length lines + 1) j.known judge.known acts verdicts in (
       judged_after j so.transfer acts verdicts judge.known text,
-      fault_lines o.form number acts verdicts,
+      transfer_lines o.form number j.known judge.known acts verdicts,
       record {
         checks = said_checks o lines j line l acts verdicts judge c checks so (said so.transfer so.is);
-        text = ap (λ n. j.text ++ fault_lines o.form n acts verdicts) (sym is);
+        text = ap (λ n. j.text ++ transfer_lines o.form n j.known judge.known acts verdicts) (sym is);
       },
       some,
     )

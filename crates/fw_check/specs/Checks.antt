@@ -15,7 +15,7 @@ use Rattle.fw_check.specs.declared.counts.Counts.{Counts}
 use Rattle.fw_check.specs.declared.options.CheckForm.{CheckForm}
 use Rattle.fw_check.specs.declared.options.CheckOptions.{CheckOptions}
 use Rattle.fw_check.specs.Asked.{asked_verdicts}
-use Rattle.fw_check.specs.Forms.{counts_text, fault_lines, head_text}
+use Rattle.fw_check.specs.Forms.{counts_text, head_text, transfer_lines}
 use Rattle.fw_check.specs.Tallies.{entries_of, forgotten_by, is_notification, is_of, is_refused, is_reply, is_request, one_if}
 
 -- What was judged: the transfers that were said, what is known after them, their acts, the verdict on each act without a
@@ -53,7 +53,7 @@ pub data Checks (o : CheckOptions) : (lines : List (List ℕ)) → Judged → Ty
         known = known;
         acts = j.acts ++ acts;
         verdicts = j.verdicts ++ asked_verdicts o.only verdicts;
-        text = j.text ++ fault_lines o.form (length lines + 1) acts (asked_verdicts o.only verdicts);
+        text = j.text ++ transfer_lines o.form (length lines + 1) j.known known acts (asked_verdicts o.only verdicts);
       })
 
 -- ---- counts

@@ -1,13 +1,16 @@
 -- What is printed in each form.
 use Rattle.std.specs.Prelude.{ℕ, List, [], ◌∷◌, ◌++◌, Option, Some, None}
+use Rattle.fuse_protocol.specs.declared.agreed.Unjudged.{Unjudged}
 use Rattle.fuse_sessions.specs.declared.act.Act.{Act}
 use Rattle.fuse_sessions.specs.declared.fault.Fault.{Fault}
+use Rattle.fuse_sessions.specs.declared.known.Known.{Known}
 use Rattle.fw_check.specs.declared.counts.Counts.{Counts}
 use Rattle.fw_check.specs.declared.options.CheckForm.{CheckForm}
 use Rattle.fw_check.specs.declared.options.CheckForm.TheVariants as forms
 use Rattle.fw_check.specs.Counting.{counts_lines}
 use Rattle.fw_check.specs.FaultWords.{fault_line}
 use Rattle.fw_check.specs.Json.{counts_object, fault_object, head_object}
+use Rattle.fw_check.specs.Unjudged.{unjudged_line, unjudged_object}
 
 -- before all else
 abbrev pub head_text : CheckForm → List ℕ
@@ -25,6 +28,21 @@ fault_lines form number (a ∷ acts) (Some f ∷ verdicts) =
     fault_text form number a f ++ fault_lines form number acts verdicts
 fault_lines form number (a ∷ acts) (None ∷ verdicts) = fault_lines form number acts verdicts
 fault_lines form number acts verdicts = []
+
+-- why nothing is judged any more
+abbrev pub unjudged_text : CheckForm → (number : ℕ) → Unjudged → List ℕ
+unjudged_text forms.Words number why = unjudged_line number why
+unjudged_text forms.Json number why = unjudged_object number why
+
+-- once, where it is known from this transfer on
+abbrev pub leaving_text : CheckForm → (number : ℕ) → (before after : Option Unjudged) → List ℕ
+leaving_text form number None (Some why) = unjudged_text form number why
+leaving_text form number before after = []
+
+-- what is printed of a transfer: the faults of its acts, and whether the session is not judged any more
+abbrev pub transfer_lines : CheckForm → (number : ℕ) → (before after : Known) → List Act → List (Option Fault) → List ℕ
+transfer_lines form number before after acts verdicts =
+    fault_lines form number acts verdicts ++ leaving_text form number before.unjudged after.unjudged
 
 -- the counts, with how many requests wait
 abbrev pub counts_text : CheckForm → (unanswered : ℕ) → Counts → List ℕ

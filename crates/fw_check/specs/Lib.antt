@@ -9,3 +9,4 @@ pub mod Outputs
 pub mod Reports
 pub mod Running
 pub mod Tallies
+pub mod Unjudged

@@ -21,7 +21,7 @@ use Rattle.fw_check.specs.declared.stop.Stop.TheVariants as stop
 use Rattle.fw_check.specs.Asked.{asked_verdicts}
 use Rattle.fw_check.specs.Checks.{Judged, Checks, end_text, faults_of, number_of}
 use Rattle.fw_check.specs.Endings.{lines_of}
-use Rattle.fw_check.specs.Forms.{counts_text, fault_lines, fault_text}
+use Rattle.fw_check.specs.Forms.{counts_text, fault_text, transfer_lines}
 use Rattle.fw_check.specs.Outputs.{AppendsSome}
 use Rattle.fw_check.specs.Reports.{bad_line, unreadable}
 use Rattle.fw_check.specs.Tallies.{entries_of, forgotten_by, is_notification, is_refused, is_reply, is_request}
@@ -78,9 +78,9 @@ pub record IsJudgedSo (o : CheckOptions) (j : Judged) (l : CaptureLine) (acts : 
 abbrev pub SaidEnds : {T : Type 0} → CheckOptions → Judged → (number : ℕ) → CaptureLine → SessionState → Counts → Result T Stop
     → (had has : Option (List ℕ)) → Type 0
 SaidEnds o j number l judge c (Ok done) had has = (acts : List Act) × (verdicts : List (Option Fault))
-    × IsJudgedSo o j l acts verdicts judge c × Appends had has (fault_lines o.form number acts verdicts)
+    × IsJudgedSo o j l acts verdicts judge c × Appends had has (transfer_lines o.form number j.known judge.known acts verdicts)
 SaidEnds o j number l judge c (Err stop.OutputRefused) had has = (acts : List Act) × (verdicts : List (Option Fault))
-    × IsJudgedSo o j l acts verdicts judge c × AppendsSome had has (fault_lines o.form number acts verdicts)
+    × IsJudgedSo o j l acts verdicts judge c × AppendsSome had has (transfer_lines o.form number j.known judge.known acts verdicts)
 SaidEnds o j number l judge c (Err stop.NoMemory) had has = Appends had has []
 SaidEnds o j number l judge c (Err other) had has = ⊥
 

@@ -3,13 +3,13 @@
 ghost use Rattle.std.specs.Prelude.{◌≡◌, ◌+◌, ◌++◌, ℕ, List, OnErr, OnOk, length};
 ghost use Rattle.std.specs.Io.KnownBytes.{Appends, Keeps};
 ghost use Rattle.fw_check.specs.Checks.{Checks, Judged, nothing_judged};
-ghost use Rattle.fw_check.specs.Forms.{fault_lines};
+ghost use Rattle.fw_check.specs.Forms.{transfer_lines};
 ghost use Rattle.fw_check.specs.Outputs.{AppendsSome};
 ghost use Rattle.fw_check.specs.Running.{IsJudgedSo, IsKept, LineEnds, SaidEnds};
 
 use crate::asked::keep_asked;
 use crate::counts::{Counts, NOTHING};
-use crate::form::put_faults;
+use crate::form::{put_faults, put_leaving};
 use crate::options::CheckOptions;
 use crate::output::{OutputRefused, write_text};
 use crate::stop::Stop;
@@ -98,7 +98,8 @@ impl<A: Allocator + Copy> Checker<A> {
         }
     }
 
-    /// Judges the transfer that a line says, and makes the text of its faults, in the form that is asked for.
+    /// Judges the transfer that a line says, and makes the text of its faults, in the form that is asked for, and of why the
+    /// session is not judged any more.
     fn judge_line(
         &mut self,
         options: CheckOptions,
@@ -107,9 +108,10 @@ impl<A: Allocator + Copy> Checker<A> {
     ) -> Result<(), AllocError>
         ensures judged { OnOk result ((j : Judged) → IsKept j self.old.judge self.old.counts
             → IsJudgedSo options j said.entry self.new.acts.items self.new.verdicts.items self.new.judge self.new.counts) }
-        ensures text { OnOk result (self.new.text.items
-            ≡ fault_lines options.form number self.new.acts.items self.new.verdicts.items) }
+        ensures text { OnOk result (self.new.text.items ≡ transfer_lines options.form number self.old.judge.known
+            self.new.judge.known self.new.acts.items self.new.verdicts.items) }
     {
+        let before = self.judge.unjudged();
         judge_said(
             options,
             &mut self.judge,
@@ -126,7 +128,9 @@ impl<A: Allocator + Copy> Checker<A> {
             number,
             self.acts.as_slice(),
             self.verdicts.as_slice(),
-        )
+        )?;
+        let after = self.judge.unjudged();
+        put_leaving(&mut self.text, options.form, number, before, after)
     }
 
     /// Judges the transfer that a line says, and prints its faults.

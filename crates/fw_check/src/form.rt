@@ -6,8 +6,10 @@ ghost use Rattle.fw_check.specs.Running.{verdict_text};
 
 use crate::counts::Counts;
 use crate::fault_line::put_fault_line;
-use crate::json::{put_counts_object, put_fault_object};
+use crate::json::{put_counts_object, put_fault_object, put_unjudged_object};
 use crate::options::CheckForm;
+use crate::unjudged::put_unjudged_line;
+use fuse_protocol::Unjudged;
 use fuse_sessions::{Act, Fault};
 use std::alloc::{AllocError, Allocator};
 
@@ -67,6 +69,37 @@ pub(crate) fn put_faults<A: Allocator>(
         put_verdict(text, form, number, acts[place], verdicts[place])?;
     }
     Ok(())
+}
+
+/// What is printed of why nothing is judged any more.
+fn put_unjudged<A: Allocator>(
+    text: &mut Vec<u8, A>,
+    form: CheckForm,
+    number: u64,
+    why: Unjudged,
+) -> Result<(), AllocError>
+    ensures { OnOk result (text.new.items ≡ text.old.items ++ words.unjudged_text form number why) }
+{
+    match form {
+        CheckForm::Words => put_unjudged_line(text, number, why),
+        CheckForm::Json => put_unjudged_object(text, number, why),
+    }
+}
+
+/// The same, where it is known from a transfer on.
+pub(crate) fn put_leaving<A: Allocator>(
+    text: &mut Vec<u8, A>,
+    form: CheckForm,
+    number: u64,
+    before: Option<Unjudged>,
+    after: Option<Unjudged>,
+) -> Result<(), AllocError>
+    ensures { OnOk result (text.new.items ≡ text.old.items ++ words.leaving_text form number before after) }
+{
+    match (before, after) {
+        (None, Some(why)) => put_unjudged(text, form, number, why),
+        _ => Ok(()),
+    }
 }
 
 /// What is printed of the counts.

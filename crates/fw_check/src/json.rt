@@ -4,11 +4,13 @@ ghost use Rattle.std.specs.Prelude.{◌≡◌, ◌++◌, OnOk, codes};
 ghost use Rattle.fuse_protocol.specs.Table.{name_of};
 ghost use Rattle.fuse_sessions.specs.declared.act.Act.TheVariants.{Read};
 ghost use Rattle.fw_check.specs.Json as words;
+ghost use Rattle.fw_check.specs.Unjudged.{unjudged_fields, unjudged_object};
 
 use crate::counts::Counts;
 use crate::text::{put, put_number, put_wide};
+use crate::unjudged::unjudged_words;
 use crate::words::{fault_words, party_word};
-use fuse_protocol::Opcode;
+use fuse_protocol::{Opcode, Unjudged};
 use fuse_sessions::{Act, Fault};
 use std::alloc::{AllocError, Allocator};
 
@@ -162,6 +164,31 @@ pub(crate) fn put_fault_object<A: Allocator>(
     put_field(text, b"line", number)?;
     put_rule(text, fault)?;
     put_act(text, act)?;
+    put(text, b"}\n")
+}
+
+/// From which line on a session is not judged any more, and why.
+fn put_unjudged_fields<A: Allocator>(
+    text: &mut Vec<u8, A>,
+    number: u64,
+    why: Unjudged,
+) -> Result<(), AllocError>
+    ensures { OnOk result (text.new.items ≡ text.old.items ++ unjudged_fields number why) }
+{
+    put_field(text, b"line", number)?;
+    put_text_field(text, b"why", unjudged_words(why))
+}
+
+/// The object of that.
+pub(crate) fn put_unjudged_object<A: Allocator>(
+    text: &mut Vec<u8, A>,
+    number: u64,
+    why: Unjudged,
+) -> Result<(), AllocError>
+    ensures { OnOk result (text.new.items ≡ text.old.items ++ unjudged_object number why) }
+{
+    put(text, b"{\"event\":\"unjudged\"")?;
+    put_unjudged_fields(text, number, why)?;
     put(text, b"}\n")
 }
 

@@ -22,8 +22,10 @@ mod tallies;
 #[cfg(test)]
 mod tests;
 mod text;
+mod unjudged;
 mod words;
 
 pub use check::run_check;
 pub use options::{CheckForm, CheckOptions};
+pub use unjudged::unjudged_words;
 pub use words::{fault_words, party_word};

@@ -21,6 +21,10 @@ const ANSWER: &str =
 const CUT_ANSWER: &str =
     "< 50000000000000000200000000000000070000001f0000000000000000000000000000000010000001000000 +36";
 
+/// INIT is answered with 7.8.
+const OLD_ANSWER: &str =
+    "< 5000000000000000020000000000000007000000080000000000000000000000000000000100000010000000000000000000000000000000000000000000000000000000000000000000000000000000";
+
 /// LOOKUP 4 of the name `a` in the root.
 const LOOKUP: &str =
     "> 2a0000000100000004000000000000000100000000000000000000000000000000000000000000006100";
@@ -66,7 +70,7 @@ struct Row {
     faults: &'static str,
 }
 
-static ROWS: [Row; 12] = [
+static ROWS: [Row; 13] = [
     // A session with no fault: comments and the server's end are no transfers.
     Row {
         lines: &[
@@ -133,6 +137,14 @@ static ROWS: [Row; 12] = [
         feed: "\n",
         status: 6,
         output: "line 4: device: read after the end\nrequests 2 replies 1 notifications 0 refused 0 unanswered 1 entries 0 forgotten 0\nfaults: kernel 0 server 0 device 1\n",
+        faults: "",
+    },
+    // Frames of 7.8 are not judged: this one comes twice, and gives a node.
+    Row {
+        lines: &[INIT, OLD_ANSWER, LOOKUP, ENTRY, UNASKED_ENTRY],
+        feed: "\n",
+        status: 0,
+        output: "line 2: not judged from here on: the sides agreed below 7.9, where entries and attributes are shorter\nrequests 2 replies 3 notifications 0 refused 1 unanswered 0 entries 0 forgotten 0\nfaults: kernel 0 server 0 device 0\n",
         faults: "",
     },
     // A frame by itself, and a header that is cut.

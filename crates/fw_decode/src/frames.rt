@@ -13,17 +13,23 @@ use std::alloc::Allocator;
 use std::io;
 use std::io::Write;
 
-/// Writes a request that breaks the shape of its row: its head, if it has one, and why.
-fn write_bad_request<W: Write>(out: &mut W, bytes: &[u8], fault: ShapeFault) -> io::Result<()> {
+/// Writes the head of a request that is not read further, if it has one, and its length.
+pub(crate) fn write_unread<W: Write>(out: &mut W, bytes: &[u8]) -> io::Result<()> {
     let len = bytes.len();
     match read_request_header(bytes) {
         Ok(head) => {
             let name = head.opcode.name();
             let unique = head.unique;
-            write!(out, "{name} {unique} len {len}: {fault}")
+            write!(out, "{name} {unique} len {len}")
         }
-        Err(_) => write!(out, "len {len}: {fault}"),
+        Err(_) => write!(out, "len {len}"),
     }
+}
+
+/// Writes a request that breaks the shape of its row: its head, if it has one, and why.
+fn write_bad_request<W: Write>(out: &mut W, bytes: &[u8], fault: ShapeFault) -> io::Result<()> {
+    write_unread(out, bytes)?;
+    write!(out, ": {fault}")
 }
 
 /// Writes a request.

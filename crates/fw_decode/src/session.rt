@@ -1,11 +1,12 @@
 //! A capture, transfer after transfer.
 
-use crate::frames::{write_answered, write_asked};
+use crate::frames::{write_answered, write_asked, write_unread};
 use crate::stop::{Stop, taken};
 use crate::totals::Totals;
 use fuse_judge::SessionJudge;
+use fuse_protocol::Unjudged;
 use fuse_sessions::{Act, Fault, Taken, Transfer};
-use fw_check::{fault_words, party_word};
+use fw_check::{fault_words, party_word, unjudged_words};
 use std::alloc::Allocator;
 use std::io;
 use std::io::Write;
@@ -41,6 +42,21 @@ fn write_verdicts<W: Write>(out: &mut W, verdicts: &[Option<Fault>]) -> io::Resu
     Ok(())
 }
 
+/// Writes why nothing is judged any more, where that is known from a transfer on.
+fn write_leaving<W: Write>(
+    out: &mut W,
+    before: Option<Unjudged>,
+    after: Option<Unjudged>,
+) -> io::Result<()> {
+    match (before, after) {
+        (None, Some(why)) => {
+            let words = unjudged_words(why);
+            write!(out, "; not judged from here on: {words}")
+        }
+        _ => Ok(()),
+    }
+}
+
 impl<A: Allocator + Copy> Decoding<A> {
     /// Of nothing.
     pub fn new(alloc: A) -> Self {
@@ -52,12 +68,20 @@ impl<A: Allocator + Copy> Decoding<A> {
         }
     }
 
+    /// Writes a request: its head alone, where INIT agreed on frames that cannot be read.
+    fn write_request<W: Write>(&self, bytes: &[u8], out: &mut W) -> io::Result<()> {
+        match self.judge.unjudged() {
+            Some(_) => write_unread(out, bytes),
+            None => write_asked(out, self.judge.agreed(), bytes),
+        }
+    }
+
     /// Writes a transfer in words.
     fn write_transfer<W: Write>(&self, transfer: Transfer<'_>, out: &mut W) -> io::Result<()> {
         match transfer {
             Transfer::Request(bytes) => {
                 out.write_all(b"> ")?;
-                write_asked(out, self.judge.agreed(), bytes)
+                self.write_request(bytes, out)
             }
             Transfer::Written(bytes, taken) => {
                 out.write_all(b"< ")?;
@@ -78,9 +102,11 @@ impl<A: Allocator + Copy> Decoding<A> {
         out: &mut W,
     ) -> Result<(), Stop<'static>> {
         taken(self.write_transfer(transfer, out))?;
+        let before = self.judge.unjudged();
         let seen = self.judge.see(transfer, &mut self.acts, &mut self.verdicts);
         seen.map_err(|_| Stop::NoMemory)?;
         taken(write_verdicts(out, self.verdicts.as_slice()))?;
+        taken(write_leaving(out, before, self.judge.unjudged()))?;
         taken(out.write_all(b"\n"))?;
         self.totals.count(transfer, is_cut);
         for act in &self.acts {

@@ -1,0 +1,46 @@
+"""A capture that is written a transfer at a time, and what `fuseworld check` has to print of it."""
+from fuse_frames import init_reply, init_request, reply, request
+
+
+class Session:
+    """The lines of a capture, and what is to be printed of it."""
+
+    def __init__(self, about):
+        self.lines = [f"# {about}"]
+        self.faults = []
+        self.counted = dict.fromkeys(("requests", "replies", "notifications", "refused"), 0)
+
+    def line(self, words, *faults):
+        """A line, and its faults, each as `PARTY: RULE` and what it is about."""
+        self.lines.append(words)
+        self.faults += [f"line {len(self.lines)}: {fault}" for fault in faults]
+
+    def read(self, frame, *faults, more=0):
+        self.counted["requests"] += 1
+        self.line(f"> {frame.hex()}" + (f" +{more}" if more else ""), *faults)
+
+    def write(self, frame, *faults, errno=""):
+        """A reply or a notification, and the errno with which the device refused it."""
+        kind = "replies" if any(frame[8:16]) else "notifications"
+        self.counted[kind] += 1
+        self.counted["refused"] += kind == "replies" and errno != ""
+        self.line(f"< {frame.hex()}" + (f" {errno}" if errno else ""), *faults)
+
+    def ask(self, opcode, unique, nodeid, body=b"", answer=b"", error=0, faults=(), more=0):
+        """A good request and its reply."""
+        self.read(request(opcode, unique, nodeid, body), more=more)
+        self.write(reply(unique, answer, error), *faults)
+
+    def begin(self, **agreed):
+        self.read(init_request())
+        self.write(init_reply(**agreed))
+
+    def end(self, entries=0, forgotten=0, unanswered=0):
+        """The two lines of counts. A request is unanswered where it takes a reply, no reply under its number was written and
+        not refused with ENOENT, and no later request took its number."""
+        parties = [fault.split(": ")[1] for fault in self.faults]
+        transfers = " ".join(f"{word} {count}" for word, count in self.counted.items())
+        return "\n".join([
+            *self.faults, f"{transfers} unanswered {unanswered} entries {entries} forgotten {forgotten}",
+            "faults: " + " ".join(f"{party} {parties.count(party)}" for party in ("kernel", "server", "device")), "",
+        ])
