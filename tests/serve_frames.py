@@ -46,8 +46,15 @@ def record(ino, off, kind, name):
 
 
 INIT = request(26, 2, 0, struct.pack("<IIII", 7, 31, 0, 0x42001))
+OFFERED = "ASYNC_READ DO_READDIRPLUS PARALLEL_DIROPS"
 # Kernels of 7.36 and later: 104 bytes, and flags that 7.31 does not know.
 LONG_INIT = request(26, 2, 0, struct.pack("<IIII", 7, 45, 131072, 0x73FFFFFB) + bytes(48))
+# The bits of 0x73fffffb in linux/fuse.h: 0 to 30 without 2 (FILE_OPS), 26 (MAP_ALIGNMENT) and 27 (SUBMOUNTS).
+LONG_OFFERED = (
+    "ASYNC_READ POSIX_LOCKS ATOMIC_O_TRUNC EXPORT_SUPPORT BIG_WRITES DONT_MASK SPLICE_WRITE SPLICE_MOVE SPLICE_READ "
+    "FLOCK_LOCKS HAS_IOCTL_DIR AUTO_INVAL_DATA DO_READDIRPLUS READDIRPLUS_AUTO ASYNC_DIO WRITEBACK_CACHE "
+    "NO_OPEN_SUPPORT PARALLEL_DIROPS HANDLE_KILLPRIV POSIX_ACL ABORT_ERROR MAX_PAGES CACHE_SYMLINKS "
+    "NO_OPENDIR_SUPPORT EXPLICIT_INVAL_DATA HANDLE_KILLPRIV_V2 SETXATTR_EXT INIT_EXT")
 # max_write is 4,096, and time_gran 1 nanosecond.
 INIT_REPLY = reply(2, struct.pack("<IIIIHHII", 7, 31, 0, 0x42001, 0, 0, 4096, 1) + bytes(36))
 LONG_REPLY = reply(2, struct.pack("<IIIIHHII", 7, 31, 0, 0x42001, 0, 0, 4096, 1) + bytes(36))
@@ -167,8 +174,8 @@ TURNS = [
 ]
 # FLUSH is of a file that nobody opened, and FORGET's number is below RMDIR's.
 TRACE = [
-    "> INIT 2 0 56 major 7 minor 31 flags 0x0000000000042001",
-    "< INIT 2 0 80 major 7 minor 31 max_write 4096 flags 0x0000000000042001",
+    "> INIT 2 0 56 major 7 minor 31 flags 0x0000000000042001 " + OFFERED,
+    "< INIT 2 0 80 major 7 minor 31 max_write 4096 flags 0x0000000000042001 " + OFFERED,
     "> MKDIR 4 1 50 name a",
     "< MKDIR 4 0 144 entry node 2 generation 1 valid 1000 ms dir ino 2 size 0 nlink 1",
     "> LOOKUP 6 1 45 name none",
@@ -271,7 +278,7 @@ def run():
         (LOOKUP, reply(6, struct.pack("<QQQQII", 0, 0, 0, 0, 250_000_000, 0) + bytes(88))),
     ], [], 0)
     on_packets("INIT of a later kernel", ["--trace"], [(LONG_INIT, LONG_REPLY)], [
-        "> INIT 2 0 104 major 7 minor 45 flags 0x0000000073fffffb",
+        "> INIT 2 0 104 major 7 minor 45 flags 0x0000000073fffffb " + LONG_OFFERED,
         TRACE[1],
     ], 0)
     # A reply to INIT of 7.15 ends after max_write, and READDIRPLUS (44) is not known.

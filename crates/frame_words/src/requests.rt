@@ -178,7 +178,7 @@ pub fn write_request<W: Write>(out: &mut W, request: &Request<'_>, len: usize) -
     write_parts(out, request)
 }
 
-/// Writes what INIT offers, each word after a space: ` major MAJOR minor MINOR flags`, and the name of each flag.
+/// Writes what INIT offers, each word after a space: ` major MAJOR minor MINOR`, and the flags in hex and by name.
 ///
 /// # Errors
 ///
