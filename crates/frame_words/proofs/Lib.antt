@@ -1,2 +1,3 @@
+pub mod NoHeader
 pub mod Ranges
 pub mod Writes

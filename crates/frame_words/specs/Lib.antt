@@ -3,3 +3,4 @@ pub mod InitFlags
 pub mod Words
 pub mod Requests
 pub mod Replies
+pub mod Frames

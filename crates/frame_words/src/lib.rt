@@ -4,6 +4,7 @@
 #![tactic(auto)]
 
 mod errors;
+mod frames;
 mod init_flags;
 mod notifications;
 mod replies;
@@ -11,6 +12,7 @@ mod requests;
 mod words;
 
 pub use errors::write_error;
+pub use frames::{write_reply_frame, write_reply_head, write_request_frame};
 pub use notifications::write_notification;
 pub use replies::write_reply;
 pub use requests::{write_init_request, write_request};
