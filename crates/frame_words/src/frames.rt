@@ -17,7 +17,7 @@ use std::io;
 use std::io::Write;
 
 /// Why a frame is no request.
-fn words_of_shape_fault(fault: ShapeFault) -> &'static str
+pub fn words_of_shape_fault(fault: ShapeFault) -> &'static str
     ensures { result.now ≡ shape_fault_words fault }
 {
     match fault {
@@ -31,7 +31,7 @@ fn words_of_shape_fault(fault: ShapeFault) -> &'static str
 }
 
 /// Why a frame is no reply.
-fn words_of_reply_fault(fault: ReplyFault) -> &'static str
+pub fn words_of_reply_fault(fault: ReplyFault) -> &'static str
     ensures { result.now ≡ reply_fault_words fault }
 {
     match fault {
