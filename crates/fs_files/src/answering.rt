@@ -126,8 +126,9 @@ impl<S: NodeStore> Files<S> {
         }
     }
 
-    /// A RELEASE.
-    fn release(&mut self, opened: Opened) -> Outcome<S::Heap>
+    /// A RELEASE of a node that is held: one use of the file handle is taken back, where it is one of the node's file.
+    /// No memory is taken.
+    pub fn release(&mut self, opened: Opened) -> Outcome<S::Heap>
         ensures says { (v : ValidityValue) → outcome_reply v.found_ms result
             ≡ body_reply (server_of self.old v) (release opened) }
         ensures repliable { IsRepliable self.new.tree result }

@@ -1,6 +1,7 @@
 -- Nameless files that nothing holds have gone, step by step.
-use Rattle.std.proofs.Common.{◌≡◌, ◌≢◌, ℕ, List, [], ◌∷◌, Option, None, refl, sym, ap, subst, ◌∙◌}
+use Rattle.std.proofs.Common.{◌≡◌, ◌≢◌, ℕ, Bool, true, false, cond, List, [], ◌∷◌, Option, None, refl, sym, ap, subst, ◌∙◌}
 use Rattle.std.specs.Prelude.{option_map, option_to_list}
+use Rattle.std.proofs.lemmas.Option.{none-some}
 use Rattle.fuse_spec.specs.declared.Minor.{Minor}
 use Rattle.fuse_spec.specs.Server.Copies.{handles_back, row_back, rows_back}
 use Rattle.fuse_spec.specs.Values.Maps.{get}
@@ -63,6 +64,19 @@ module _ (old mid : FilesState) (named : AreNamed old.tree old.nodes old.handles
   but_handle_back but fh is nodes handles =
       but_same but (option_map (λ (h : FileHandle). h.file) (get old.handles.handles fh)) mid old.tree old.nodes
       (handle_back old.handles fh) is tree nodes handles (named_handle_back old.tree old.nodes old.handles named fh)
+
+  -- a RELEASE takes one use of a file handle back, or none
+  pub but_released : (but : Option ℕ) (fh : ℕ) (b : Bool)
+      → but ≡ option_map (λ (h : FileHandle). h.file) (get old.handles.handles fh) → mid.nodes ≡ old.nodes
+      → mid.handles ≡ cond b (handle_back old.handles fh) old.handles → AreNamedBut but mid.tree mid.nodes mid.handles
+  but_released but fh true is nodes handles = but_handle_back but fh is nodes handles
+  but_released but fh false is nodes handles =
+      but_same but but mid old.tree old.nodes old.handles refl tree nodes handles (record {
+        rows = named.rows;
+        opens = named.opens;
+        coming = named.coming;
+        named = λ file other. named.named file (λ e. none-some file e);
+      })
 
 -- what a request leaves is given nodes and file handles
 pub but_numbered : {A : Type 0} (but : Option ℕ) (start one two : FilesState) (v : Validity) (m : Minor)

@@ -16,3 +16,5 @@ pub mod Performable
 pub mod Judged
 pub mod DiscardsUnheld
 pub mod Entries
+pub mod PutUndone
+pub mod Released

@@ -5,3 +5,4 @@ pub mod Taking
 pub mod Effects
 pub mod Interrupts
 pub mod Faults
+pub mod Releasing

@@ -78,7 +78,7 @@ impl<S: NodeStore> ServerOf<S> {
 
     /// What is wrong with a request, out of memory and out of numbers aside.
     #[inline(always)]
-    fn request_fault(&self, request: &Request<'_>) -> Option<ServerFault>
+    pub(crate) fn request_fault(&self, request: &Request<'_>) -> Option<ServerFault>
         ensures fault { result ≡ request_fault self.now request.now.unique
             (body_in request.now.nodeid (request_content request.now.body)) }
         ensures faultless { IfNone result (IsFaultless self.now request.now.unique request.now.nodeid

@@ -8,6 +8,7 @@ mod holding;
 mod interrupting;
 mod judging;
 mod performing;
+mod releasing;
 mod replies;
 mod server;
 mod settling;
