@@ -16,6 +16,7 @@ use Rattle.fuse_theorem.proofs.Calls.Finding.{same_is}
 use Rattle.fuse_theorem.proofs.Lookups.WireCounts.{back_counts}
 use Rattle.fuse_theorem.proofs.Nodes.NodesSound.{left_none}
 use Rattle.fuse_theorem.proofs.Nodes.ServerSound.{result_sound}
+use Rattle.fs_server.specs.Effects.{Settles}
 use Rattle.fuse_device.specs.Transfers.{Transfer, sent, unsent, ended_in}
 use Rattle.fuse_device.specs.declared.device.DeviceEnd.{DeviceEnd}
 use Rattle.fs_serve.specs.LookupCounts.{GivesLookups, RepliesWith, cut_off, lookup_count, refused, reply_accepted}
@@ -184,3 +185,16 @@ module _ (minor : Minor) (counts : ℕ → ℕ) (asked : List ℕ) (request : Re
   delivered log new (is_settled opcode bytes frame result after settles) =
       by_settled opcode bytes frame result after settles
   delivered log new (unsettled opcode bytes frame end) = by_end opcode bytes frame end
+
+  -- one that names nothing is settled before it is sent
+  pub delivered_bare : ((id : ℕ) → times_named id copy.wire ≡ 0) → (new : Server) → Settles s copy.number Accepted new
+      → (log : List Transfer) → GivesLookups asked log (λ id. 0) → Delivered minor counts asked log new
+  delivered_bare bare new settles log tells =
+      let is : settles.copy ≡ known = some_same settles.copy known (sym settles.there ∙ there) in
+      subst (Delivered minor counts asked log)
+      (sym (settles.after ∙ ap (λ (c : Copy). settled s copy.number c Accepted) is)) (record {
+        more = λ id. 0;
+        tells = tells;
+        balance = λ id. let counted = sends.counted id in let none = bare id in omega (arith, counted, none);
+        between = λ ended. between Accepted;
+      })

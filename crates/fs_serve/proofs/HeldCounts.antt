@@ -1,6 +1,7 @@
 -- What performing a held request makes of the lookup counts.
 use Rattle.std.proofs.Common.{◌≡◌, ℕ, ◌+◌, Bool, false, cond, List, [], Option, Some, None, nat_eq, refl, ap, sym, subst, ◌∙◌, arith}
 use Rattle.fuse_spec.specs.declared.Minor.{Minor}
+use Rattle.fuse_spec.specs.declared.WriteResult.TheVariants.{Accepted}
 use Rattle.fuse_spec.specs.Values.Maps.{Map, get, put, remove}
 use Rattle.fuse_spec.specs.Server.Server.{Copy, HeldRequest, Kept, Server}
 use Rattle.fuse_spec.specs.Server.Copies.{kept_after}
@@ -14,14 +15,14 @@ use Rattle.fuse_theorem.proofs.Lookups.PerformedCounts.{Counts, performed_counts
 use Rattle.fuse_theorem.proofs.Nodes.ServerSound.{served_sound}
 use Rattle.fuse_theorem.proofs.Replies.CopiesSound.{served_copies}
 use Rattle.fuse_theorem.proofs.Requests.PerformedRest.{SameRest, performed_rest}
-use Rattle.fs_server.specs.Effects.{PerformsHeld, first_copy}
+use Rattle.fs_server.specs.Effects.{PerformsHeld, Settles, first_copy}
 use Rattle.fuse_device.specs.Transfers.{Transfer}
-use Rattle.fs_serve.specs.LookupCounts.{lookup_count, error}
+use Rattle.fs_serve.specs.LookupCounts.{GivesLookups, error, lookup_count}
 use Rattle.fs_serve.specs.Serving.{ServesHeld, replied, unreplied, dropped, error_for}
 use Rattle.fuse_frames.specs.RequestTies.{SaysRequest}
 use Rattle.fuse_spec.specs.Kernel.Messages.{Request, RequestBody}
 use Rattle.fs_serve.proofs.ReplyKinds.{GoesFor, IsRepliedTo, served_goes}
-use Rattle.fs_serve.proofs.Delivered.{Delivered, SendsOne, alone_gone, delivered, some_same}
+use Rattle.fs_serve.proofs.Delivered.{Delivered, SendsOne, alone_gone, delivered, delivered_bare, some_same}
 
 -- The server that holds this request alone, which has replies, and whose counts are these.
 pub record HoldsOne (minor : Minor) (counts : ℕ → ℕ) (request : Request) (s : Server) : Type 0 where
@@ -118,17 +119,32 @@ module _ (minor : Minor) (counts : ℕ → ℕ) (asked : List ℕ) (request : Re
     copy_is : o ≡ Some first_sent
     copy_is = performs.copy_is ∙ ap (λ (b : Bool). first_copy b s.next_copy unique all.wire) holds.live
 
+  -- the server that performed it sends its one copy
+  module _ (errno : ℕ) (copy : Sent) (did : Server) (performs : PerformsHeld s unique errno (Some copy) did) where
+    is_first : copy ≡ first_sent errno (Some copy) did performs
+    is_first = some_same copy (first_sent errno (Some copy) did performs) (copy_is errno (Some copy) did performs)
+
+    sends_it : SendsOne minor counts copy did
+    sends_it = subst (SendsOne minor counts copy) (sym performs.server_is)
+        (subst (λ (c : Sent). SendsOne minor counts c (all errno (Some copy) did performs).server) (sym is_first)
+        (sends errno (Some copy) did performs))
+
+    goes_for_it : GoesFor request.body copy.wire
+    goes_for_it = subst (λ (c : Sent). GoesFor request.body c.wire) (sym is_first) (goes errno (Some copy) did performs)
+
+    -- The counts follow what is sent for a RELEASE.
+    pub release_follows : ((id : ℕ) → times_named id copy.wire ≡ 0) → (new : Server)
+        → Settles did copy.number Accepted new → (log : List Transfer) → GivesLookups asked log (λ id. 0)
+        → Delivered minor counts asked log new
+    release_follows bare new settles log tells = delivered_bare minor counts asked request asks_it copy did sends_it
+        (ap (λ (c : Sent). c.unique) is_first) goes_for_it bare new settles log tells
+
   -- The counts follow what is sent for it.
   pub held_follows : (log : List Transfer) (new : Server) → ServesHeld s unique log new
       → Delivered minor counts asked log new
   held_follows log new (replied errno copy did performs log' new' delivers) =
-      let is = some_same copy (first_sent errno (Some copy) did performs) (copy_is errno (Some copy) did performs) in
-      delivered minor counts asked request asks_it copy did
-      (subst (SendsOne minor counts copy) (sym performs.server_is)
-      (subst (λ (c : Sent). SendsOne minor counts c (all errno (Some copy) did performs).server) (sym is)
-      (sends errno (Some copy) did performs)))
-      (ap (λ (c : Sent). c.unique) is)
-      (subst (λ (c : Sent). GoesFor request.body c.wire) (sym is) (goes errno (Some copy) did performs))
+      delivered minor counts asked request asks_it copy did (sends_it errno copy did performs)
+      (ap (λ (c : Sent). c.unique) (is_first errno copy did performs)) (goes_for_it errno copy did performs)
       log new delivers
   held_follows log new (unreplied errno new' performs) =
       let no : ◌≡◌ {A = Option Sent} None (Some (first_sent errno None new performs)) = copy_is errno None new performs in

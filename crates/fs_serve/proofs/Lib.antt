@@ -10,3 +10,4 @@ mod NodesLater
 mod PairsOnce
 mod FilledReplies
 mod ReplyKinds
+mod Releases

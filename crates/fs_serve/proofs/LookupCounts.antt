@@ -1,37 +1,44 @@
 -- The lookup counts of a server that was just mounted follow what goes over its device.
-use Rattle.std.proofs.Common.{◌≡◌, ℕ, ◌≤◌, true, false, true≢false, List, [], ◌∷◌, ◌++◌, Option, Some, None, refl, ap, sym, subst, ◌∙◌, arith}
+use Rattle.std.proofs.Common.{◌≡◌, ℕ, zero, suc, ◌≤◌, Bool, true, false, true≢false, List, [], ◌∷◌, ◌++◌, Option, Some, None, refl, ap, sym, subst, ◌∙◌, arith}
 use Rattle.std.proofs.lemmas.List.Elements.{All-nil}
 use Rattle.fuse_spec.specs.declared.Entry.{Entry}
 use Rattle.fuse_spec.specs.declared.Minor.{Minor}
+use Rattle.fuse_spec.specs.declared.Minor.TheVariants.{M15, M31}
+use Rattle.fuse_spec.specs.declared.Opened.{Opened}
 use Rattle.fuse_spec.specs.declared.Taken.{Taken}
 use Rattle.fuse_spec.specs.declared.Taken.TheVariants.{Held, Forgot, Again}
+use Rattle.fuse_spec.specs.declared.WriteResult.TheVariants.{Accepted}
 use Rattle.fuse_spec.specs.Values.Maps.{Map, get, put, remove}
-use Rattle.fuse_spec.specs.Files.Operations.{failed}
+use Rattle.fuse_spec.specs.Files.Operations.{done, failed}
 use Rattle.fuse_spec.specs.Kernel.Messages.{Forget, Request, RequestBody, init, asks, release, forget, batch_forget, interrupt, WireReply}
 use Rattle.fuse_spec.specs.Server.Refusals.{is_server_past_end}
 use Rattle.fuse_spec.specs.Server.Server.{Server, HeldRequest, Kept, Copy, RequestFault, unknown_opcode, unknown_node, too_many_forgets, repeated_unique, fault_of, forgets_of, forgetting, forgotten, holding, knows, nodes_of_body, sending}
 use Rattle.fuse_spec.specs.Server.Copies.{kept_after}
+use Rattle.fuse_spec.specs.Claim.Counts.{times_named}
 use Rattle.fuse_spec.specs.Server.Taking.{TakeResult, interrupting, taking}
 use Rattle.fuse_spec.specs.World.Worlds.{Sent}
 use Rattle.fuse_theorem.specs.ServerTables.{ServerSound}
 use Rattle.fuse_theorem.proofs.Lookups.RowCounts.{all_taken_count}
 use Rattle.fuse_theorem.proofs.Nodes.ServerSound.{taking_sound}
-use Rattle.fs_server.specs.Effects.{RefusesFrame, TakingNeedsMemory, as_fault, copy_of, fault_or, past_or_memory, refused_for}
+use Rattle.fs_server.specs.Effects.{PerformsHeld, RefusesFrame, Settles, TakingNeedsMemory, as_fault, copy_of, fault_or, first_copy, past_or_memory, refused_for}
+use Rattle.fs_server.specs.Releasing.{SettlesAnyhow, bare_reply, release_copy}
 use Rattle.fuse_spec.specs.Server.Memory.{word_takes_memory}
 use Rattle.fs_server.specs.declared.server.ServerFault.{ServerFault}
 use Rattle.fs_server.specs.declared.server.ServerFault.TheVariants.{Memory, Wire}
+use Rattle.fk_wire.specs.Replies.{WrittenReply, empty_reply}
+use Rattle.fuse_frames.specs.ReplyTies.{error_of}
 use Rattle.fuse_frames.specs.RequestTies.{SaysRequest}
 use Rattle.fuse_device.specs.Transfers.{Transfer, stopped, ended_in}
 use Rattle.fuse_device.specs.declared.device.DeviceEnd.{DeviceEnd}
 use Rattle.fs_serve.specs.LongBatches.{first_pairs, part_of}
 use Rattle.fs_serve.specs.LookupCounts.{Follows, FollowsFrame, FollowsPairs, FrameGivesBack, IsFresh, MayForget, GivesLookups, lookup_count, batch, end, error, forgets, frame, more_pairs, no_pairs, none, nothing, nothing_sent}
-use Rattle.fs_serve.specs.Sending.{Delivers, SendsFault, replied, unreplied}
-use Rattle.fs_serve.specs.Serving.{Serves, ServesFrame, ServesHeld, ServesNext, ServesPairs, TakesRequest, done_at_once, replied_at_once, performed, untaken, uninterrupted, name_too_long, refused, one, out_of_memory, too_long_name}
+use Rattle.fs_serve.specs.Sending.{Delivers, RepliesToRelease, SendsFault, replied, unreplied}
+use Rattle.fs_serve.specs.Serving.{Serves, ServesFrame, ServesHeld, ServesNext, ServesPairs, TakesRequest, done_at_once, replied_at_once, performed, released, unreleased, untaken, uninterrupted, name_too_long, refused, one, input_output, out_of_memory, too_long_name}
 use Rattle.fs_serve.specs.Serving as serving
 use Rattle.fs_serve.proofs.BetweenFrames.{IsBetween, fresh_between}
 use Rattle.fs_serve.proofs.Delivered.{Delivered, SendsOne, alone_gone, delivered, some_same}
 use Rattle.fs_serve.proofs.Forgetting.{faultless, may_forget, within_still}
-use Rattle.fs_serve.proofs.HeldCounts.{HoldsOne, held_follows}
+use Rattle.fs_serve.proofs.HeldCounts.{HoldsOne, held_follows, release_follows}
 use Rattle.fuse_spec.proofs.Tables.{get_put_here}
 use Rattle.fs_serve.proofs.ReplyKinds.{GoesFor, IsRepliedTo, asked_replied, init_replied, interrupt_replied, release_replied}
 use Rattle.fs_serve.proofs.Servings.{ended_append}
@@ -56,6 +63,33 @@ forgot_is_not_held is = let no : ◌≡◌ {A = Taken} Forgot Held = is in cc
 
 again_is_not_held : Again ≡ Held → ⊥
 again_is_not_held is = let no : ◌≡◌ {A = Taken} Again Held = is in cc
+
+-- ---- a RELEASE
+
+known_release : (o : Opened) (minor : Minor) → knows minor (release o) ≡ true
+known_release o M15 = refl
+known_release o M31 = refl
+
+abbrev bare_copy : (number unique errno : ℕ) → Sent
+bare_copy number unique errno = record { number = number; unique = unique; wire = bare_reply errno }
+
+bare_names : (errno id : ℕ) → times_named id (bare_reply errno) ≡ 0
+bare_names zero id = refl
+bare_names (suc n) id = refl
+
+-- its reply has no body
+bare_tells : (asked : List ℕ) (number unique errno : ℕ) (log : List Transfer)
+    → RepliesToRelease (Some (bare_copy number unique errno)) log → GivesLookups asked log (λ id. 0)
+bare_tells asked number unique zero log (bytes, framed, sends) =
+    let written = (let f = framed.frame in f.written) in
+    error unique (error_of done) bytes
+    (subst (WrittenReply (record { unique = unique; error = error_of done; content = empty_reply })) (sym framed.filled)
+    written) log sends
+bare_tells asked number unique (suc n) log (bytes, framed, sends) =
+    let written = (let f = framed.frame in f.written) in
+    error unique (error_of (failed (suc n))) bytes
+    (subst (WrittenReply (record { unique = unique; error = error_of (failed (suc n)); content = empty_reply }))
+    (sym framed.filled) written) log sends
 
 module _ (minor : Minor) (old : Server) (is : IsBetween minor old) (bytes : List ℕ) where
   abbrev counts : ℕ → ℕ
@@ -226,6 +260,17 @@ module _ (minor : Minor) (old : Server) (is : IsBetween minor old) (bytes : List
       counted = λ id. refl;
     })
 
+    -- a RELEASE is done at once
+    releases_it : (o : Opened) → request.body ≡ release o → (errno : ℕ) (did : Server)
+        → PerformsHeld taken unique errno (Some (bare_copy old.next_copy unique errno)) did → (new : Server)
+        → Settles did old.next_copy Accepted new → (log : List Transfer)
+        → RepliesToRelease (Some (bare_copy old.next_copy unique errno)) log → Follow minor counts bytes log new
+    releases_it o same errno did performs new settles log replies = of_delivered (ap forgets_of same) log new
+        (release_follows minor counts bytes request takes.says taken
+        (holds (release o) same (release_replied o) (after_body (release o) same)) errno
+        (bare_copy old.next_copy unique errno) did performs (bare_names errno) new settles log
+        (bare_tells bytes old.next_copy unique errno log replies))
+
     performs : (taking old unique request.body).word ≡ Held → (log : List Transfer) (new : Server)
         → ServesHeld taken unique log new → Follow minor counts bytes log new
     performs held log new serves = by request.body refl
@@ -317,9 +362,27 @@ module _ (minor : Minor) (old : Server) (is : IsBetween minor old) (bytes : List
       at_once request new takes silent not_held
   frame_follows log new (replied_at_once request taken takes copy sent log' new' delivers) =
       answered request taken takes copy sent log new delivers
-  frame_follows log new (performed request taken takes held log' new' serves) =
+  frame_follows log new (released unique opened says errno new' releases log' replies) =
+      let request : Request = record { unique = unique; body = release opened } in
+      let taken : Server = (taking old unique (release opened)).server in
+      let took : TakesRequest old bytes request taken = record {
+        says = says;
+        faultless = releases.faultless;
+        after = refl;
+      } in
+      let live : release_copy old unique errno ≡ Some (bare_copy old.next_copy unique errno) =
+      ap (λ (a : Bool). first_copy a old.next_copy unique (bare_reply errno)) is.live in
+      releases_it request taken took opened refl errno releases.did
+      (subst (λ (o : Option Sent). PerformsHeld taken unique errno o releases.did) live releases.performs) new
+      (subst (λ (o : Option Sent). SettlesAnyhow releases.did o new) live releases.settles Accepted) log
+      (subst (λ (o : Option Sent). RepliesToRelease o log) live replies)
+  frame_follows log new (unreleased unique opened says refuses log' sends) =
+      unchanged (forgets (record { unique = unique; body = release opened }) says (known_release opened minor)
+      (record { known = All-nil (λ (f : Forget). 1 ≤ counts f.0); counted = λ id. omega arith })) log
+      (error unique input_output sends.bytes sends.written log sends.sends)
+  frame_follows log new (performed request taken takes held other log' new' serves) =
       performs request taken takes held log new serves
-  frame_follows log new (untaken can wants not_interrupt log' sends) =
+  frame_follows log new (untaken can wants other not_interrupt log' sends) =
       unchanged (wanted wants) log (error can.request.unique out_of_memory sends.bytes sends.written log sends.sends)
   frame_follows log new (uninterrupted can wants is_interrupt) = unchanged (wanted wants) [] nothing_sent
   frame_follows log new (name_too_long refuses too_long low log' sends) =

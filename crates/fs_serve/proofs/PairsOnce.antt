@@ -1,13 +1,15 @@
 -- No pair of nodeid and generation is given twice, whatever goes over the device.
-use Rattle.std.proofs.Common.{◌≡◌, ℕ, ◌≤◌, ◌<◌, Bool, true, false, cond, inl, inr, List, Option, Some, None, All, get_or, ap, sym, subst, ◌∙◌, arith}
+use Rattle.std.proofs.Common.{◌≡◌, ℕ, ◌≤◌, ◌<◌, Bool, true, false, cond, inl, inr, List, Option, Some, None, All, get_or, [], ◌∷◌, refl, ap, sym, subst, ◌∙◌, arith}
 use Rattle.fuse_spec.specs.declared.Entry.{Entry}
 use Rattle.fuse_spec.specs.declared.WriteResult.{WriteResult}
+use Rattle.fuse_spec.specs.declared.WriteResult.TheVariants.{Accepted}
 use Rattle.fuse_spec.specs.Values.Maps.{get, remove}
 use Rattle.fuse_spec.specs.Files.Operations.{files_in_reply}
-use Rattle.fuse_spec.specs.Kernel.Messages.{WireReply}
+use Rattle.fuse_spec.specs.Kernel.Messages.{Request, WireReply, release}
 use Rattle.fuse_spec.specs.Server.Nodes.{HeldNode, NodeTable, root_row, row_of}
 use Rattle.fuse_spec.specs.Server.Performs.{served}
 use Rattle.fuse_spec.specs.Server.Server.{Server}
+use Rattle.fuse_spec.specs.Server.Taking.{taking}
 use Rattle.fuse_spec.specs.World.Worlds.{Sent}
 use Rattle.fuse_theorem.specs.Lookups.{EntriesHeld, IsHeldAs}
 use Rattle.fuse_theorem.specs.ServerTables.{ServerSound}
@@ -15,12 +17,15 @@ use Rattle.fuse_theorem.proofs.Calls.Finding.{other_is}
 use Rattle.fuse_theorem.proofs.Lookups.PerformedCounts.{performed_counts}
 use Rattle.fuse_theorem.proofs.Nodes.NodesSound.{left_none}
 use Rattle.fuse_theorem.proofs.Nodes.ServerSound.{result_sound, served_sound, taking_sound}
+use Rattle.fk_wire.specs.declared.opcode.Opcode.TheVariants.{Release}
 use Rattle.fs_server.specs.Effects.{PerformsHeld, first_copy}
+use Rattle.fs_server.specs.Releasing.{SettlesAnyhow, release_copy}
+use Rattle.fuse_device.specs.Transfers as transfers
 use Rattle.fuse_device.specs.Transfers.{Transfer}
 use Rattle.fs_serve.specs.LookupCounts.{IsFresh}
 use Rattle.fs_serve.specs.NodePairs.{ComesTo, GivesPairsOnce, HoldsPair, ServesStep, no_step, one_step, step_deliver, step_drop, step_perform, step_take}
-use Rattle.fs_serve.specs.Sending.{Delivers, IsSettled, settled, unsettled}
-use Rattle.fs_serve.specs.Serving.{Serves, ServesFrame, ServesHeld, ServesNext, ServesPairs, TakesRequest, batch, done_at_once, dropped, more_pairs, next, no_pairs, none, nothing, one, performed, name_too_long, refused, replied, replied_at_once, uninterrupted, unreplied, untaken}
+use Rattle.fs_serve.specs.Sending.{Delivers, IsSettled, RepliesToRelease, settled, unsettled}
+use Rattle.fs_serve.specs.Serving.{Serves, ServesFrame, ServesHeld, ServesNext, ServesPairs, TakesRequest, batch, done_at_once, dropped, more_pairs, next, no_pairs, none, nothing, one, performed, name_too_long, refused, released, replied, replied_at_once, uninterrupted, unreleased, unreplied, untaken}
 use Rattle.fs_serve.proofs.BetweenFrames.{fresh_between}
 use Rattle.fs_serve.proofs.Delivered.{some_same}
 use Rattle.fs_serve.proofs.NodesLater.{GenerationsGiven, Later, WasHeld, later_still, same_later, served_later, settled_later, taking_later}
@@ -75,6 +80,16 @@ module _ (start : Server) where
   held_comes old comes unique log new (dropped refusal refuses log' sends) =
       one_step old comes new (step_drop unique)
 
+  release_comes : (taken : Server) → ComesTo start taken → (unique errno : ℕ) (copy : Option Sent) (did : Server)
+      → PerformsHeld taken unique errno copy did → (new : Server) → SettlesAnyhow did copy new → (log : List Transfer)
+      → RepliesToRelease copy log → ComesTo start new
+  release_comes taken comes unique errno None did performs_it new same log replies = subst (ComesTo start) (sym same)
+      (one_step taken comes did (step_perform unique errno None did performs_it))
+  release_comes taken comes unique errno (Some copy) did performs_it new settles log (bytes, framed, sends) =
+      one_step did (one_step taken comes did (step_perform unique errno (Some copy) did performs_it)) new
+      (step_deliver copy (transfers.sent bytes Accepted ∷ []) new
+      (settled Release bytes framed Accepted new (inl (settles Accepted))))
+
   frame_comes : (old : Server) → ComesTo start old → (frame : List ℕ) (log : List Transfer) (new : Server)
       → ServesFrame old frame log new → ComesTo start new
   frame_comes old comes frame log new (done_at_once request new' took silent not_held) =
@@ -82,9 +97,20 @@ module _ (start : Server) where
   frame_comes old comes frame log new (replied_at_once request taken took copy sent log' new' delivers_it) =
       one_step taken (one_step old comes taken (step_take frame request taken took)) new
       (step_deliver copy log new delivers_it)
-  frame_comes old comes frame log new (performed request taken took held log' new' serves) =
+  frame_comes old comes frame log new (released unique opened says errno new' releases log' replies) =
+      let request : Request = record { unique = unique; body = release opened } in
+      let taken : Server = (taking old unique (release opened)).server in
+      let took : TakesRequest old frame request taken = record {
+        says = says;
+        faultless = releases.faultless;
+        after = refl;
+      } in
+      release_comes taken (one_step old comes taken (step_take frame request taken took)) unique errno
+      (release_copy old unique errno) releases.did releases.performs new releases.settles log replies
+  frame_comes old comes frame log new (unreleased unique opened says refuses log' sends) = comes
+  frame_comes old comes frame log new (performed request taken took held other log' new' serves) =
       held_comes taken (one_step old comes taken (step_take frame request taken took)) request.unique log new serves
-  frame_comes old comes frame log new (untaken can wants not_interrupt log' sends) = comes
+  frame_comes old comes frame log new (untaken can wants other not_interrupt log' sends) = comes
   frame_comes old comes frame log new (uninterrupted can wants is_interrupt) = comes
   frame_comes old comes frame log new (name_too_long refuses too_long low log' sends) = comes
   frame_comes old comes frame log new (refused fault refuses not_memory other low log' sends) = comes

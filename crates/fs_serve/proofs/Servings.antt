@@ -1,5 +1,5 @@
 -- How frames that are served follow one another, and what a taken frame results in.
-use Rattle.std.proofs.Common.{◌≡◌, ℕ, List, [], ◌∷◌, ◌++◌, ◌+◌, ◌-◌, drop, length, min, take, Option, Some, None, refl, ap, append_assoc, sym, subst, take-append-drop, length-append, arith, ◌∙◌}
+use Rattle.std.proofs.Common.{◌≡◌, ◌≢◌, ℕ, List, [], ◌∷◌, ◌++◌, ◌+◌, ◌-◌, drop, length, min, take, Option, Some, None, refl, ap, append_assoc, sym, subst, take-append-drop, length-append, arith, ◌∙◌}
 use Rattle.std.proofs.lemmas.List.{take_rest}
 use Rattle.fuse_spec.specs.Kernel.Messages.{WireReply}
 use Rattle.fuse_spec.specs.Server.Server.{Server}
@@ -7,15 +7,18 @@ use Rattle.fuse_spec.specs.World.Worlds.{Sent}
 use Rattle.fuse_spec.specs.declared.Taken.TheVariants.{Held}
 use Rattle.fs_server.specs.declared.server.Taken.{Taken}
 use Rattle.fs_server.specs.Effects.{TakesFrame, copy_of}
+use Rattle.fs_server.specs.Releasing.{release_copy}
+use Rattle.fk_wire.specs.declared.opcode.Opcode.TheVariants.{Release}
+use Rattle.fuse_frames.specs.RequestTies.{asked_opcode}
 use Rattle.fuse_device.specs.Transfers.{Transfer, received, sent, unsent, stopped, ended_in}
 use Rattle.fuse_device.specs.declared.device.DeviceEnd.{DeviceEnd}
 use Rattle.fuse_device.specs.Listed.{frames_received, frames_received-append}
 use Rattle.fuse_spec.specs.declared.Minor.{Minor}
 use Rattle.fs_server.specs.declared.server.ServerFault.{ServerFault}
-use Rattle.fs_serve.specs.Sending.{Delivers, GoesOver, SendsBytes, SendsFault, at_end, settled, unsettled, with_result}
+use Rattle.fs_serve.specs.Sending.{Delivers, GoesOver, RepliesToRelease, SendsBytes, SendsFault, at_end, settled, unsettled, with_result}
 use Rattle.fs_serve.specs.Sending.{replied as fault_replied, unreplied as fault_unreplied}
 use Rattle.fs_serve.specs.LongBatches.{part_of}
-use Rattle.fs_serve.specs.Serving.{IsToTheEnd, TakesRequest, ServesFrame, ServesHeld, ServesNext, ServesPairs, ServesBatch, Serves, batch, done_at_once, dropped, more_pairs, name_too_long, next, no_pairs, none, one, performed, refused, replied, replied_at_once, uninterrupted, unreplied, untaken}
+use Rattle.fs_serve.specs.Serving.{IsToTheEnd, TakesRequest, ServesFrame, ServesHeld, ServesNext, ServesPairs, ServesBatch, Serves, batch, done_at_once, dropped, more_pairs, name_too_long, next, no_pairs, none, one, performed, refused, released, replied, replied_at_once, uninterrupted, unreleased, unreplied, untaken}
 
 reply_none : (number unique : ℕ) (reply : Option WireReply) → None ≡ copy_of number unique reply → reply ≡ None
 reply_none number unique None same = refl
@@ -35,9 +38,9 @@ module _ {A : Type 0} (old taken : Server) (frame : List ℕ) (word : Taken A) (
   serves_silently is apart = done_at_once t.request taken takes (reply_none _ _ _ (sym is ∙ t.copy))
       (λ held. apart (sym t.as_word ∙ held))
 
-  pub serves_performed : word.word ≡ Held → (log : List Transfer) (new : Server) → ServesHeld taken word.unique log new
-      → ServesFrame old frame log new
-  serves_performed held log new serves = performed t.request taken takes (t.as_word ∙ held) log new
+  pub serves_performed : word.word ≡ Held → asked_opcode t.request.body ≢ Release → (log : List Transfer) (new : Server)
+      → ServesHeld taken word.unique log new → ServesFrame old frame log new
+  serves_performed held other log new serves = performed t.request taken takes (t.as_word ∙ held) other log new
       (subst (λ (u : ℕ). ServesHeld taken u log new) (sym t.under) serves)
 
 pub ended_append : (h k : List Transfer) → ended_in h ≡ None → ended_in (h ++ k) ≡ ended_in k
@@ -65,6 +68,10 @@ held_no_frame old unique log new (replied errno copy did performs log' new' deli
 held_no_frame old unique log new (unreplied errno new' performs) = refl
 held_no_frame old unique log new (dropped refusal refuses log' sends) = sends_no_frame sends.bytes log sends.sends
 
+release_no_frame : (copy : Option Sent) (log : List Transfer) → RepliesToRelease copy log → frames_received log ≡ []
+release_no_frame None log is = ap frames_received is
+release_no_frame (Some copy) log (bytes, framed, sends) = sends_no_frame bytes log sends
+
 fault_no_frame : (minor : Minor) (frame : List ℕ) (fault : ServerFault) (log : List Transfer)
     → SendsFault minor frame fault log → frames_received log ≡ []
 fault_no_frame minor frame fault log (fault_replied bytes reply log' sends) = sends_no_frame bytes log sends
@@ -76,9 +83,13 @@ frame_no_frame : (old : Server) (frame : List ℕ) (log : List Transfer) (new : 
 frame_no_frame old frame log new (done_at_once request new' took silent not_held) = refl
 frame_no_frame old frame log new (replied_at_once request taken took copy is log' new' delivers) =
     delivers_no_frame copy taken log new delivers
-frame_no_frame old frame log new (performed request taken took held log' new' serves) =
+frame_no_frame old frame log new (released unique opened says errno new' releases log' replies) =
+    release_no_frame (release_copy old unique errno) log replies
+frame_no_frame old frame log new (unreleased unique opened says refuses log' sends) =
+    sends_no_frame sends.bytes log sends.sends
+frame_no_frame old frame log new (performed request taken took held other log' new' serves) =
     held_no_frame taken request.unique log new serves
-frame_no_frame old frame log new (untaken can wants not_interrupt log' sends) =
+frame_no_frame old frame log new (untaken can wants other not_interrupt log' sends) =
     sends_no_frame sends.bytes log sends.sends
 frame_no_frame old frame log new (uninterrupted can wants is_interrupt) = refl
 frame_no_frame old frame log new (name_too_long refuses too_long low log' sends) =

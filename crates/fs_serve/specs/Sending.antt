@@ -6,6 +6,7 @@ use Rattle.fuse_spec.specs.declared.WriteResult.{WriteResult}
 use Rattle.fuse_spec.specs.Server.Server.{Server}
 use Rattle.fuse_spec.specs.World.Worlds.{Sent}
 use Rattle.fk_wire.specs.declared.opcode.Opcode.{Opcode}
+use Rattle.fk_wire.specs.declared.opcode.Opcode.TheVariants.{Release}
 use Rattle.fk_wire.specs.Replies.{WrittenReply, empty_reply}
 use Rattle.fuse_frames.specs.ReplyTies.{Framed, IsReplyFrame, SaysReply, reply_content_of}
 use Rattle.fs_server.specs.Effects.{Settles, HasNoCopy}
@@ -71,3 +72,8 @@ pub data Delivers (copy : Sent) (old : Server) : List Transfer → Server → Ty
       → Delivers copy old (sent bytes result ∷ []) new
   unsettled : (opcode : Opcode) (bytes : List ℕ) → IsFilledFrame opcode bytes (framed_of copy) → (end : DeviceEnd)
       → Delivers copy old (unsent bytes end ∷ []) old
+
+-- The copy of the reply to a RELEASE is sent in its one frame, if there is one.
+abbrev pub RepliesToRelease : Option Sent → List Transfer → Type 0
+RepliesToRelease None log = log ≡ []
+RepliesToRelease (Some copy) log = (bytes : List ℕ) × IsFilledFrame Release bytes (framed_of copy) × SendsBytes bytes log

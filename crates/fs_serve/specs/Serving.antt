@@ -1,6 +1,6 @@
 -- How a server serves what comes over a device.
 use Rattle.std.specs.Prelude.{◌≡◌, ◌≢◌, ◌⊎◌, ℕ, ◌-◌, ◌^◌, ℤ, negsuc, Bool, true, false, List, [], ◌∷◌, ◌++◌, drop, length, Some, None}
-use Rattle.fuse_spec.specs.Kernel.Messages.{Request}
+use Rattle.fuse_spec.specs.Kernel.Messages.{Request, release}
 use Rattle.fk_wire.specs.Fields.{number_at}
 use Rattle.fk_wire.specs.Requests.{RequestContent, interrupt}
 use Rattle.fuse_spec.specs.Values.Maps.{get, remove}
@@ -9,13 +9,16 @@ use Rattle.fuse_spec.specs.Server.Refusals.{is_server_past_end}
 use Rattle.fuse_spec.specs.Server.Memory.{performing_takes_memory}
 use Rattle.fuse_spec.specs.Server.Taking.{taking}
 use Rattle.fuse_spec.specs.World.Worlds.{Sent}
+use Rattle.fuse_spec.specs.declared.Opened.{Opened}
 use Rattle.fuse_spec.specs.declared.Taken.TheVariants.{Held}
 use Rattle.fuse_spec.specs.declared.Refusal.{Refusal}
-use Rattle.fuse_spec.specs.declared.Refusal.TheVariants.{NoMemory}
+use Rattle.fuse_spec.specs.declared.Refusal.TheVariants.{Exhausted, NoMemory}
 use Rattle.fk_wire.specs.declared.opcode.Opcode.{Opcode}
+use Rattle.fk_wire.specs.declared.opcode.Opcode.TheVariants.{Release}
 use Rattle.fuse_frames.specs.ReplyTies.{has_reply}
 use Rattle.fuse_frames.specs.RequestTies.{SaysRequest, asked_opcode}
 use Rattle.fs_server.specs.Effects.{CanTake, PerformsHeld, RefusesFrame, RefusesHeld, TakingNeedsMemory, copy_of, request_fault}
+use Rattle.fs_server.specs.Releasing.{Releases, release_copy}
 use Rattle.fs_server.specs.Steps.{CanPerform}
 use Rattle.fs_server.specs.declared.server.ServerFault.{ServerFault}
 use Rattle.fs_server.specs.declared.server.ServerFault.TheVariants.{Memory, Wire}
@@ -25,7 +28,7 @@ use Rattle.fuse_device.specs.declared.device.DeviceEnd.{DeviceEnd}
 use Rattle.fs_serve.specs.LongBatches.{IsLongBatch, first_pairs, part_of}
 use Rattle.fs_serve.specs.LongInits.{IsReadAs}
 use Rattle.fs_serve.specs.LongNames.{IsNameTooLong}
-use Rattle.fs_serve.specs.Sending.{Delivers, SendsError, SendsFault}
+use Rattle.fs_serve.specs.Sending.{Delivers, RepliesToRelease, SendsError, SendsFault}
 
 -- ENOMEM and EIO, as error replies have them
 abbrev pub out_of_memory : ℤ
@@ -84,14 +87,23 @@ pub data ServesFrame (old : Server) (frame : List ℕ) : List Transfer → Serve
   replied_at_once : (request : Request) (taken : Server) → TakesRequest old frame request taken → (copy : Sent)
       → Some copy ≡ copy_of old.next_copy request.unique (taking old request.unique request.body).reply
       → (log : List Transfer) (new : Server) → Delivers copy taken log new → ServesFrame old frame log new
+  -- A RELEASE is done at once, and its reply sent. The server is the same whatever comes of that, also where the device
+  -- comes to its end at it. Where no copy number is left nothing changes, and the reply is an error.
+  released : (unique : ℕ) (opened : Opened) → SaysRequest frame (record { unique = unique; body = release opened })
+      → (errno : ℕ) (new : Server) → Releases old unique opened errno new → (log : List Transfer)
+      → RepliesToRelease (release_copy old unique errno) log → ServesFrame old frame log new
+  unreleased : (unique : ℕ) (opened : Opened) → SaysRequest frame (record { unique = unique; body = release opened })
+      → RefusesHeld (taking old unique (release opened)).server unique Exhausted → (log : List Transfer)
+      → SendsError unique input_output log → ServesFrame old frame log old
   -- Any other request is held, and performed.
   performed : (request : Request) (taken : Server) → TakesRequest old frame request taken
-      → (taking old request.unique request.body).word ≡ Held → (log : List Transfer) (new : Server)
-      → ServesHeld taken request.unique log new → ServesFrame old frame log new
-  -- Out of memory to take one that takes memory: nothing changes. The reply is an error, and to an INTERRUPT there
-  -- is none.
-  untaken : (can : CanTake old frame) → TakingNeedsMemory old frame → is_interrupt can.says.message.content ≡ false
-      → (log : List Transfer) → SendsError can.request.unique out_of_memory log → ServesFrame old frame log old
+      → (taking old request.unique request.body).word ≡ Held → asked_opcode request.body ≢ Release
+      → (log : List Transfer) (new : Server) → ServesHeld taken request.unique log new → ServesFrame old frame log new
+  -- Out of memory to take one that takes memory, and is no RELEASE: nothing changes. The reply is an error, and to an
+  -- INTERRUPT there is none.
+  untaken : (can : CanTake old frame) → TakingNeedsMemory old frame → asked_opcode can.request.body ≢ Release
+      → is_interrupt can.says.message.content ≡ false → (log : List Transfer)
+      → SendsError can.request.unique out_of_memory log → ServesFrame old frame log old
   uninterrupted : (can : CanTake old frame) → TakingNeedsMemory old frame → is_interrupt can.says.message.content ≡ true
       → ServesFrame old frame [] old
   -- A frame of which nothing is wrong but that a name is too long changes nothing. The reply is ENAMETOOLONG.

@@ -6,6 +6,7 @@ mod blocks;
 mod errors;
 mod init;
 mod names;
+mod releasing;
 mod serving;
 
 pub use batch::is_long_batch;

@@ -1,12 +1,13 @@
 //! Frames are received and served, one after another.
 
-ghost use Rattle.std.specs.Prelude.{◌≡◌, OnErr, IfOk};
+ghost use Rattle.std.specs.Prelude.{◌≡◌, ◌≢◌, OnErr, IfOk};
 ghost use Rattle.fs_server.specs.Effects.{CanTake, RefusesFrame, TakingNeedsMemory};
 ghost use Rattle.fs_server.specs.declared.server.ServerFault.TheVariants.{Memory as MemoryFault, Wire as WireFault};
 ghost use Rattle.fs_serve.specs.LookupCounts.{IsServed};
 ghost use Rattle.fs_serve.specs.Sending.{Delivers, GoesOver, RepliesTo, SendsError, end_of};
 ghost use Rattle.fs_serve.specs.LongBatches.{IsLongBatch};
 ghost use Rattle.fs_serve.specs.Serving.{HoldsOpcode, IsToTheEnd, Serves, ServesBatch, ServesFrame, ServesHeld, ServesNext, error_for, is_interrupt};
+ghost use Rattle.fk_wire.specs.declared.opcode.Opcode.TheVariants.{Release};
 ghost use Rattle.fk_wire.specs.Requests.{request_content};
 ghost use Rattle.fuse_frames.specs.RequestTies.{SaysRequest, asked_opcode};
 ghost use Rattle.fuse_spec.specs.Kernel.Messages.{Request};
@@ -16,6 +17,7 @@ use crate::blocks::filled;
 use crate::errors::{send_error, send_fault};
 use crate::init::{init_in, is_long_init};
 use crate::names::unique_of_long_name;
+use crate::releasing::{release_in, serve_release};
 use arrayvec::ArrayVec;
 use fk_wire::{Opcode, RequestBody, read_request};
 use fs_nodes::NodeStore;
@@ -31,7 +33,7 @@ const ROOM: usize = 131_072;
 /// ENOMEM and EIO, as error replies have them.
 const ENOMEM: i32 = -12;
 
-const EIO: i32 = -5;
+pub(crate) const EIO: i32 = -5;
 
 /// ENAMETOOLONG, as error replies have it.
 const ENAMETOOLONG: i32 = -36;
@@ -129,6 +131,22 @@ fn serve_frame<S: NodeStore, D: Device>(
     ensures { GoesOver D.logs device.old device.new (end_of result)
         (λ log. ServesFrame server.old frame.now log server.new) }
 {
+    match release_in(frame) {
+        Some((unique, opened)) => serve_release(server, device, frame, unique, opened),
+        None => serve_other(server, device, frame),
+    }
+}
+
+/// Serves one frame that is no RELEASE.
+fn serve_other<S: NodeStore, D: Device>(
+    server: &mut ServerOf<S>,
+    device: &mut D,
+    frame: &[u8],
+) -> Result<(), DeviceEnd>
+    requires { (request : Request) → SaysRequest frame.now request → asked_opcode request.body ≢ Release }
+    ensures { GoesOver D.logs device.old device.new (end_of result)
+        (λ log. ServesFrame server.old frame.now log server.new) }
+{
     let taken = match server.take(frame) {
         Ok(taken) => taken,
         Err(fault) => return refuse(server, device, frame, fault),
@@ -155,7 +173,7 @@ fn opcode_of(frame: &[u8]) -> Opcode
 }
 
 /// Replies to a frame that is not taken, which changes nothing.
-fn refuse<S: NodeStore, D: Device>(
+pub(crate) fn refuse<S: NodeStore, D: Device>(
     server: &ServerOf<S>,
     device: &mut D,
     frame: &[u8],
@@ -164,6 +182,8 @@ fn refuse<S: NodeStore, D: Device>(
     requires refused { RefusesFrame server.now frame.now fault }
     requires can { fault ≡ MemoryFault → CanTake server.now frame.now }
     requires wants { fault ≡ MemoryFault → TakingNeedsMemory server.now frame.now }
+    requires other { fault ≡ MemoryFault → (request : Request) → SaysRequest frame.now request
+        → asked_opcode request.body ≢ Release }
     ensures { GoesOver D.logs device.old device.new (end_of result)
         (λ log. ServesFrame server.now frame.now log server.now) }
 {
@@ -202,6 +222,7 @@ fn send_untaken<S: NodeStore, D: Device>(
 ) -> Result<(), DeviceEnd>
     requires can { CanTake server.now frame.now }
     requires wants { TakingNeedsMemory server.now frame.now }
+    requires other { (request : Request) → SaysRequest frame.now request → asked_opcode request.body ≢ Release }
     ensures { GoesOver D.logs device.old device.new (end_of result)
         (λ log. ServesFrame server.now frame.now log server.now) }
 {

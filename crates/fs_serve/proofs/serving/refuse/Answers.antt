@@ -10,6 +10,9 @@ send_untaken-requires-clause-can g c = c.requires.can c.in-Memory.is
 pub send_untaken-requires-clause-wants : goal.send_untaken-requires-clause-wants
 send_untaken-requires-clause-wants g c = c.requires.wants c.in-Memory.is
 
+pub send_untaken-requires-clause-other : goal.send_untaken-requires-clause-other
+send_untaken-requires-clause-other g c = c.requires.other c.in-Memory.is
+
 pub send_wire_fault-requires : goal.send_wire_fault-requires
 send_wire_fault-requires g c =
     subst (λ (f : ServerFault). RefusesFrame c.args.server.now c.args.frame.now f) c.in-Wire.is c.requires.refused

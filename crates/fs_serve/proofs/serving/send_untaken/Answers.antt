@@ -18,4 +18,4 @@ returns g c =
     let same = c.in-Ok.ensures.only can.says.message can.says.spells in
     let not = sym (ap (λ (m : RequestMessage). is_interrupt m.content) same) ∙ sym c.is_interrupt.ensures ∙ c.if-is_interrupt.false in
     let under = ap (λ (m : RequestMessage). m.unique) same ∙ can.says.unique in
-    (log, logs, untaken can c.requires.wants not log (subst (λ (u : ℕ). SendsError u out_of_memory log) under sends), ends)
+    (log, logs, untaken can c.requires.wants (c.requires.other can.request can.says) not log (subst (λ (u : ℕ). SendsError u out_of_memory log) under sends), ends)

@@ -7,7 +7,7 @@ use Rattle.fs_serve.specs.Sending.{RepliesTo}
 use Rattle.fs_serve.specs.Serving.{HoldsOpcode, ServesFrame}
 use Rattle.fs_serve.proofs.Servings.{serves_at_once, serves_silently, serves_performed}
 use Rattle.fs_serve.proofs.ReplyKinds.{answered_goes, replies_to, taken_holds}
-use Rattle.fs_serve.proofs.serving.serve_frame.Goals as goal
+use Rattle.fs_serve.proofs.serving.serve_other.Goals as goal
 
 pub opcode_of-opcode-requires : goal.opcode_of-opcode-requires
 opcode_of-opcode-requires g c = let t = c.in-Ok.ensures.effect in (t.request, t.says)
@@ -47,6 +47,9 @@ pub refuse-requires-clause-wants : goal.refuse-requires-clause-wants
 refuse-requires-clause-wants g c memory =
     subst (λ (s : Server). TakingNeedsMemory s c.args.frame.now) (sym c.in-Err.ensures.refused) (c.in-Err.ensures.memory memory)
 
+pub refuse-requires-clause-other : goal.refuse-requires-clause-other
+refuse-requires-clause-other g c memory request says = c.requires request says
+
 pub returns-in-Some : goal.returns-in-Some
 returns-in-Some g c =
     let (log, logs, delivers, ends) = c.deliver.ensures in (
@@ -63,7 +66,7 @@ returns-in-Held g c =
       log,
       logs,
       serves_performed c.args.server.now c.take.new.self c.args.frame.now c.in-Ok.taken c.in-Ok.ensures.effect
-          c.in-Held.is log c.serve_held.new.server serves,
+          c.in-Held.is (let t = c.in-Ok.ensures.effect in c.requires t.request t.says) log c.serve_held.new.server serves,
       ends,
     )
 
