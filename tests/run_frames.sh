@@ -77,6 +77,15 @@ code=$?
 : > "$work/out"
 : > "$work/want-out"
 judge "vectors to a full device" "$code" 5
+# A file has one block at most: what would be behind it is refused, and no signal ends the program.
+for place in begin end; do
+    : > "$work/limited"
+    [ $place = end ] && printf x > "$work/limited"
+    (ulimit -f 1; "$program" vectors >> "$work/limited" 2> "$work/err")
+    code=$?
+    : > "$work/out"
+    judge "vectors beyond the limit on the size of files, from its $place" "$code" 5
+done
 
 # The version.
 expect_lines 0 "fuseworld $(sed -n 's/.*VERSION: &str = "\(.*\)";/\1/p' crates/fuseworld/src/version.rt)" "" --version

@@ -7,6 +7,7 @@ ghost use Rattle.fuseworld.specs.Doing.{DoesCapture};
 ghost use Rattle.fuseworld.specs.Statuses.{capture_statuses};
 
 use crate::arguments::optional;
+use crate::output::standard_output;
 use crate::reason::cannot_open;
 use clap::Arg;
 use fw_check::{CheckOptions, run_check};
@@ -72,7 +73,7 @@ fn read_lines<R: BufRead>(rt: &HostRuntime, task: CaptureTask, name: &str, input
 {
     let alloc = rt.alloc();
     let mut faults = rt.stderr();
-    let Ok(mut out) = BufWriter::new(alloc, io::writer(rt)) else {
+    let Ok(mut out) = BufWriter::new(alloc, standard_output(rt)) else {
         return no_memory(&mut faults);
     };
     do_capture(alloc, task, name, input, &mut out, &mut faults)

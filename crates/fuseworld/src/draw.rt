@@ -5,11 +5,11 @@ ghost use Rattle.fuseworld.specs.Commands.{IsCommand, draw_app};
 
 use crate::arguments::needed;
 use crate::doing::{InputTask, do_task};
+use crate::output::standard_output;
 use clap::Command;
 use fw_script::{cannot_read, no_memory};
 use std::alloc::{AllocError, Global};
 use std::fs::File;
-use std::io;
 use std::io::{BufWriter, ErrorKind};
 
 /// The command `draw`.
@@ -32,7 +32,7 @@ pub fn run_draw(rt: &HostRuntime, path: &str) -> u8
 {
     let alloc = rt.alloc();
     let mut faults = rt.stderr();
-    let Ok(mut out) = BufWriter::new(alloc, io::writer(rt)) else {
+    let Ok(mut out) = BufWriter::new(alloc, standard_output(rt)) else {
         return no_memory(&mut faults);
     };
     let task = InputTask::Picture { name: path };

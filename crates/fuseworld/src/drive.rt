@@ -9,6 +9,7 @@ ghost use Rattle.fuseworld.specs.Values.{IsOffer, is_set};
 ghost use Rattle.fuseworld.specs.Tasks.{AsksDrive, form_of};
 
 use crate::arguments::{flag, needed, option, optional, time_argument};
+use crate::output::standard_output;
 use crate::reason::{cannot_open, no_socket};
 use crate::timed_socket::{Deadline, connect};
 use crate::values::{is_set, number, text, text_or_none};
@@ -221,7 +222,14 @@ fn drive_place(rt: &HostRuntime, asked: DriveTask<'_>, task: Task<'_>, script: &
     match connect(&deadline, path) {
         Ok((reader, writer)) => {
             let device = StreamDevice::of_replies(reader, writer);
-            drive_over(rt, task, asked.is_traced, script, device, io::writer(rt))
+            drive_over(
+                rt,
+                task,
+                asked.is_traced,
+                script,
+                device,
+                standard_output(rt),
+            )
         }
         Err(error) if error.kind() == ErrorKind::OutOfMemory => no_memory(&mut rt.stderr()),
         Err(error) => no_socket(rt, &error),

@@ -11,10 +11,10 @@ use crate::arguments::{flag, needed};
 use crate::capture::{CaptureTask, capture_argument, run_capture};
 use crate::check_words::{CheckTask, check_task, run_check_task};
 use crate::doing::{InputTask, do_task};
+use crate::output::standard_output;
 use crate::values::{is_set, text, text_or_none};
 use clap::{Arg, ArgMatches, Command};
 use std::alloc::{AllocError, Global};
-use std::io;
 use std::io::{BufWriter, Write};
 
 /// One run of a command on frames.
@@ -117,7 +117,7 @@ fn run_vectors(rt: &HostRuntime) -> u8
     ensures { Contains (0 ∷ 3 ∷ 5 ∷ []) result }
 {
     let mut faults = rt.stderr();
-    let Ok(mut out) = BufWriter::new(rt.alloc(), io::writer(rt)) else {
+    let Ok(mut out) = BufWriter::new(rt.alloc(), standard_output(rt)) else {
         let _ = writeln!(faults, "no memory");
         return 3;
     };
@@ -138,7 +138,7 @@ fn run_one(rt: &HostRuntime, task: InputTask<'_>) -> u8
         rt.alloc(),
         task,
         &mut rt.reader(),
-        &mut io::writer(rt),
+        &mut standard_output(rt),
         &mut rt.stderr(),
     )
 }

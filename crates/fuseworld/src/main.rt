@@ -9,6 +9,7 @@ mod doing;
 mod draw;
 mod drive;
 mod frame_commands;
+mod output;
 mod reason;
 mod serve;
 mod serve_words;
@@ -30,11 +31,11 @@ use draw::run_draw;
 use drive::run_drive_task;
 use frame_commands::run_frame_task;
 use fw_script::{Script, cannot_read, no_memory};
+use output::standard_output;
 use serve::run_serve;
 use sides::run_side;
 use socket::run_socket;
 use std::fs::File;
-use std::io;
 use std::io::{BufWriter, ErrorKind, Write};
 use std::process::ExitCode;
 use version::{is_version, print_version};
@@ -44,9 +45,9 @@ use version::{is_version, print_version};
 fn run_file(rt: &HostRuntime, file: Option<&str>, hex: bool) -> u8
     ensures { Contains (0 ∷ 1 ∷ 3 ∷ 5 ∷ []) result }
 {
-    match BufWriter::new(rt.alloc(), io::writer(rt)) {
+    match BufWriter::new(rt.alloc(), standard_output(rt)) {
         Ok(mut out) => run_input(rt, file, hex, &mut out),
-        Err(_) => run_input(rt, file, hex, &mut io::writer(rt)),
+        Err(_) => run_input(rt, file, hex, &mut standard_output(rt)),
     }
 }
 

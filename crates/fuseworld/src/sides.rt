@@ -6,12 +6,12 @@ ghost use Rattle.fuseworld.specs.Commands.{IsCommand, side_app};
 ghost use Rattle.fuseworld.specs.Tasks.{AsksSide, is_side};
 
 use crate::arguments::flag;
+use crate::output::standard_output;
 use crate::values::is_set;
 use clap::{ArgMatches, Command};
 use fw_script::{cannot_read, no_memory};
 use fw_sides::{End, Form, run_kernel, run_server};
 use std::alloc::{AllocError, Global};
-use std::io;
 use std::io::{BufReader, BufWriter};
 
 /// One side, by itself.
@@ -90,7 +90,7 @@ pub fn run_side(rt: &HostRuntime, task: SideTask) -> u8
     let Ok(mut input) = BufReader::new(alloc, rt.reader()) else {
         return no_memory(&mut rt.stderr());
     };
-    let Ok(mut out) = BufWriter::new(alloc, io::writer(rt)) else {
+    let Ok(mut out) = BufWriter::new(alloc, standard_output(rt)) else {
         return no_memory(&mut rt.stderr());
     };
     let ended = match task {

@@ -2,6 +2,7 @@
 
 ghost use Rattle.std.specs.Prelude.{◌∷◌, [], Contains};
 
+use crate::output::standard_output;
 use fw_link::StreamLink;
 use fw_script::{Script, no_memory, socket_failed};
 use std::io::{BufWriter, ErrorKind};
@@ -36,7 +37,7 @@ fn run_on(rt: &HostRuntime, script: &Script, link: SocketLink) -> u8
 {
     let alloc = rt.alloc();
     let mut faults = rt.stderr();
-    let Ok(mut out) = BufWriter::new(alloc, io::writer(rt)) else {
+    let Ok(mut out) = BufWriter::new(alloc, standard_output(rt)) else {
         return no_memory(&mut faults);
     };
     script.run_over(alloc, link, false, &mut out, &mut faults)

@@ -3,9 +3,9 @@
 ghost use Rattle.std.specs.Prelude.{◌≡◌, ◌↔◌, ◌∷◌, [], Contains, IsTrue};
 ghost use Rattle.clap.specs.Words.{kind_of};
 
+use crate::output::standard_output;
 use clap::Error;
 use clap::error::ErrorKind;
-use std::io;
 use std::io::Write;
 
 /// The version, and the identity of the toolchain by which it is proved: what `rt version` prints.
@@ -22,7 +22,7 @@ pub fn is_version(error: &Error) -> bool
 pub fn print_version(rt: &HostRuntime) -> u8
     ensures { Contains (0 ∷ 5 ∷ []) result }
 {
-    let mut out = io::writer(rt);
+    let mut out = standard_output(rt);
     match writeln!(out, "fuseworld {VERSION}") {
         Ok(()) => 0,
         Err(_) => 5,
