@@ -7,6 +7,9 @@ set -u
 cd "$(dirname "$0")/.." || exit 1
 . tests/judge.sh
 
+# The stack of each run, in KiB (SECURITY.md).
+ulimit -s 256
+
 # expect_full NAME STATUS FAULT ARGUMENTS..: the same with a full device as standard output.
 expect_full() {
     name=$1
