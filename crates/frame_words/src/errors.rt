@@ -197,7 +197,7 @@ fn name_of(number: u32) -> Option<&'static str>
 ///
 /// Where `out` refuses.
 #[tactic(auto, unfolding(crate::specs::Errors::error_words))]
-pub fn write_error<W: Write>(out: &mut W, number: u32) -> io::Result<()>
+pub(crate) fn write_error<W: Write>(out: &mut W, number: u32) -> io::Result<()>
     ensures { OnOk result (Appends (W.contents out.old) (W.contents out.new) (error_words number)) }
 {
     match name_of(number) {

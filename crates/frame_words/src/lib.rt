@@ -11,11 +11,8 @@ mod replies;
 mod requests;
 mod words;
 
-pub use errors::write_error;
 pub use frames::{
     words_of_reply_fault, words_of_shape_fault, write_reply_frame, write_reply_head,
     write_request_frame,
 };
 pub use notifications::write_notification;
-pub use replies::write_reply;
-pub use requests::{write_init_request, write_request};

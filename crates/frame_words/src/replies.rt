@@ -197,7 +197,7 @@ fn write_result<W: Write>(out: &mut W, answer: &Answer<'_>) -> io::Result<()>
 /// # Errors
 ///
 /// Where `out` refuses.
-pub fn write_reply<W: Write>(
+pub(crate) fn write_reply<W: Write>(
     out: &mut W,
     opcode: Opcode,
     reply: &Reply<'_>,

@@ -169,7 +169,11 @@ fn write_parts<W: Write>(out: &mut W, request: &Request<'_>) -> io::Result<()>
 /// # Errors
 ///
 /// Where `out` refuses.
-pub fn write_request<W: Write>(out: &mut W, request: &Request<'_>, len: usize) -> io::Result<()>
+pub(crate) fn write_request<W: Write>(
+    out: &mut W,
+    request: &Request<'_>,
+    len: usize,
+) -> io::Result<()>
     ensures { OnOk result (Appends (W.contents out.old) (W.contents out.new)
         (request_words request.now.head.opcode (request_message request.now) len)) }
 {
@@ -184,7 +188,7 @@ pub fn write_request<W: Write>(out: &mut W, request: &Request<'_>, len: usize) -
 ///
 /// Where `out` refuses.
 #[tactic(auto, unfolding(crate::specs::Requests::init_request_words))]
-pub fn write_init_request<W: Write>(out: &mut W, init: InitRequest) -> io::Result<()>
+pub(crate) fn write_init_request<W: Write>(out: &mut W, init: InitRequest) -> io::Result<()>
     ensures { OnOk result (Appends (W.contents out.old) (W.contents out.new) (init_request_words init)) }
 {
     write_number(out, "major", u64::from(init.major))?;

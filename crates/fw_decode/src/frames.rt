@@ -1,13 +1,10 @@
-//! Frames in words, by what INIT agreed on and by the request that a reply answers.
+//! What servers write in words, by what INIT agreed on and by the request that a reply answers, and requests that are not
+//! read further.
 
-use frame_words::{
-    write_error, write_init_request, write_notification, write_reply, write_request,
-};
+use frame_words::{write_notification, write_reply_frame, write_reply_head};
 use fuse_judge::SessionJudge;
-use fuse_protocol::{
-    Agreed, Opcode, RequestHead, ShapeFault, read_init, read_request, read_request_header,
-};
-use fuse_replies::{ReplyHeader, read_notification, read_reply, read_reply_header};
+use fuse_protocol::{Agreed, Opcode, RequestHead, read_request_header};
+use fuse_replies::{ReplyHeader, read_notification, read_reply_header};
 use fuse_sessions::Asked;
 use std::alloc::Allocator;
 use std::io;
@@ -26,43 +23,6 @@ pub(crate) fn write_unread<W: Write>(out: &mut W, bytes: &[u8]) -> io::Result<()
     }
 }
 
-/// Writes a request that breaks the shape of its row: its head, if it has one, and why.
-fn write_bad_request<W: Write>(out: &mut W, bytes: &[u8], fault: ShapeFault) -> io::Result<()> {
-    write_unread(out, bytes)?;
-    write!(out, ": {fault}")
-}
-
-/// Writes a request.
-pub(crate) fn write_asked<W: Write>(out: &mut W, agreed: Agreed, bytes: &[u8]) -> io::Result<()> {
-    let request = match read_request(agreed, bytes) {
-        Ok(request) => request,
-        Err(fault) => return write_bad_request(out, bytes, fault),
-    };
-    write_request(out, &request, bytes.len())?;
-    match read_init(bytes) {
-        Ok(init) => write_init_request(out, init),
-        Err(_) => Ok(()),
-    }
-}
-
-/// Writes the head of a frame that is no reply to a request that waits.
-fn write_reply_head<W: Write>(
-    out: &mut W,
-    word: &str,
-    header: ReplyHeader,
-    len: usize,
-) -> io::Result<()> {
-    let unique = header.unique;
-    write!(out, "{word} {unique} ")?;
-    match header.error {
-        0 => write!(out, "0 {len}"),
-        error => {
-            write_error(out, error.unsigned_abs())?;
-            write!(out, " {len}")
-        }
-    }
-}
-
 /// Writes a reply to a request that waits.
 fn write_answer<W: Write>(
     out: &mut W,
@@ -78,13 +38,7 @@ fn write_answer<W: Write>(
         nodeid: asked.nodeid,
         asked: asked.asked,
     };
-    match read_reply(agreed, &head, bytes) {
-        Ok(reply) => write_reply(out, opcode, &reply, bytes.len()),
-        Err(fault) => {
-            write_reply_head(out, opcode.name(), header, bytes.len())?;
-            write!(out, ": {fault}")
-        }
-    }
+    write_reply_frame(out, agreed, &head, bytes)
 }
 
 /// Writes a notification.

@@ -1,8 +1,9 @@
 //! A capture, transfer after transfer.
 
-use crate::frames::{write_answered, write_asked, write_unread};
+use crate::frames::{write_answered, write_unread};
 use crate::stop::{Stop, taken};
 use crate::totals::Totals;
+use frame_words::write_request_frame;
 use fuse_judge::SessionJudge;
 use fuse_protocol::Unjudged;
 use fuse_sessions::{Act, Fault, Taken, Transfer};
@@ -72,7 +73,7 @@ impl<A: Allocator + Copy> Decoding<A> {
     fn write_request<W: Write>(&self, bytes: &[u8], out: &mut W) -> io::Result<()> {
         match self.judge.unjudged() {
             Some(_) => write_unread(out, bytes),
-            None => write_asked(out, self.judge.agreed(), bytes),
+            None => write_request_frame(out, self.judge.agreed(), bytes),
         }
     }
 
