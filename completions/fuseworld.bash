@@ -10,14 +10,14 @@ _fuseworld() {
             run) flags="--hex --help"; files=yes ;;
             socket) flags="--help"; files=yes ;;
             draw) flags="--help"; files=yes ;;
-            frame) flags="--words --help" ;;
+            frame) flags="--words --any --help" ;;
             reply)
-                flags="--help"
+                flags="--any --asked --help"
                 [ "$COMP_CWORD" -gt 2 ] || words="LOOKUP GETATTR MKDIR UNLINK RMDIR RENAME LINK OPEN READ WRITE RELEASE INIT READDIR CREATE INTERRUPT READDIRPLUS"
                 ;;
             decode) flags="--help"; files=yes ;;
             check) flags="--server --kernel --json --help"; files=yes ;;
-            vectors) flags="--help" ;;
+            vectors) flags="--all --help" ;;
             serve) flags="--found --missing --minor --show --trace --help"; files=yes ;;
             drive) flags="--calls --beside --no-opendir --trace --wait --offer --help"; files=yes ;;
             kernel | server) flags="--json --help" ;;

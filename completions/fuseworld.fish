@@ -15,9 +15,12 @@ complete -c fuseworld -n '__fish_seen_subcommand_from draw' -l help -d 'Print he
 
 complete -c fuseworld -n __fish_use_subcommand -a frame -d 'Read one request frame'
 complete -c fuseworld -n '__fish_seen_subcommand_from frame' -l words -d 'Print the fields as well'
+complete -c fuseworld -n '__fish_seen_subcommand_from frame' -l any -d 'Read a request of any opcode'
 complete -c fuseworld -n '__fish_seen_subcommand_from frame' -l help -d 'Print help'
 
 complete -c fuseworld -n __fish_use_subcommand -a reply -d 'Read one reply frame'
+complete -c fuseworld -n '__fish_seen_subcommand_from reply' -l any -d 'Read a reply to any opcode'
+complete -c fuseworld -n '__fish_seen_subcommand_from reply' -l asked -x -d 'How many bytes were asked for'
 complete -c fuseworld -n '__fish_seen_subcommand_from reply' -l help -d 'Print help'
 complete -c fuseworld -n '__fish_seen_subcommand_from reply' -a 'LOOKUP GETATTR MKDIR UNLINK RMDIR RENAME LINK OPEN READ WRITE RELEASE INIT READDIR CREATE INTERRUPT READDIRPLUS'
 
@@ -30,6 +33,7 @@ complete -c fuseworld -n '__fish_seen_subcommand_from check' -l json -d 'Print o
 complete -c fuseworld -n '__fish_seen_subcommand_from check' -l help -d 'Print help'
 
 complete -c fuseworld -n __fish_use_subcommand -a vectors -d 'Print frames of each kind with the codec\'s verdicts'
+complete -c fuseworld -n '__fish_seen_subcommand_from vectors' -l all -d 'Print also frames of every opcode'
 complete -c fuseworld -n '__fish_seen_subcommand_from vectors' -l help -d 'Print help'
 
 complete -c fuseworld -n __fish_use_subcommand -a serve -d 'Serve a file system in memory to a FUSE kernel'

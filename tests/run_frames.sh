@@ -1,7 +1,7 @@
 #!/bin/sh
 # Runs the built program's commands on frames, and compares what they print: each line of tests/frames/words.txt that
 # begins with `$` has the words of one run, and the line below it is what that prints. Then a capture, from its file and
-# from standard input, the faults of the commands, and the vectors, which Python's decoder judges too.
+# from standard input, the faults of the commands, and the vectors, which Python's decoders judge too.
 # Prints a line for each case that differs, and ends with status 1 where there is one.
 set -u
 cd "$(dirname "$0")/.." || exit 1
@@ -28,6 +28,9 @@ expect_lines 1 "" "bad hex" frame --words 2a0
 expect_lines 1 "" "bad hex" reply LOOKUP 2A
 expect_lines 2 "" "unknown opcode FLUSH" reply FLUSH 10000000000000000400000000000000
 expect_lines 2 "" "unknown opcode lookup" reply lookup 10000000000000000400000000000000
+expect_lines 1 "" "bad hex" frame --any 2a0
+expect_lines 1 "" "bad hex" reply --any STATFS 2A
+expect_lines 2 "" "unknown opcode CUSE_INIT" reply --any CUSE_INIT 10000000000000000400000000000000
 
 # A capture.
 cp tests/frames/made.expected "$work/want-out"
@@ -72,6 +75,12 @@ python3 tests/check_vectors.py < "$work/vectors" > "$work/out" || code=vectors
 echo "$(wc -l < "$work/vectors") vectors, 0 wrong" > "$work/want-out"
 : > "$work/want-err"
 judge "vectors" "$code" 0
+"$program" vectors --all > "$work/all" 2> "$work/err"
+code=$?
+head -n "$(wc -l < "$work/vectors")" "$work/all" | cmp -s - "$work/vectors" || code=beginning
+python3 tests/check_any_vectors.py < "$work/all" > "$work/out" || code=vectors
+echo "$(($(wc -l < "$work/all") - $(wc -l < "$work/vectors"))) vectors, 0 wrong" > "$work/want-out"
+judge "vectors of every opcode" "$code" 0
 "$program" vectors > /dev/full 2> "$work/err"
 code=$?
 : > "$work/out"
@@ -96,7 +105,7 @@ code=$?
 judge "version to a full device" "$code" 5
 
 # The command line. Its help goes to standard error.
-for words in "decode --help" "decode a b" "check --help" "check a b" "vectors a" "reply --help" "reply" "reply LOOKUP" "frame --words"; do
+for words in "decode --help" "decode a b" "check --help" "check a b" "vectors a" "reply --help" "reply" "reply LOOKUP" "frame --words" "frame --any" "reply --any --asked 16777201 READ 00"; do
     # shellcheck disable=SC2086
     "$program" $words < /dev/null > "$work/out" 2> "$work/err"
     code=$?

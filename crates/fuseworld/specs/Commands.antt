@@ -20,11 +20,17 @@ socket_app = with_rule (with_rule (new_app (codes "socket")) (needed (codes "FIL
 abbrev pub draw_app : App
 draw_app = with_rule (new_app (codes "draw")) (needed (codes "FILE"))
 
+-- the most bytes that a reply may have behind its header
+abbrev pub longest_reply : ℕ
+longest_reply = 16777200
+
 abbrev pub frame_app : App
-frame_app = with_rule (with_rule (new_app (codes "frame")) (flag (codes "words"))) (needed (codes "HEX"))
+frame_app = with_rule (with_rule (with_rule (new_app (codes "frame")) (flag (codes "words"))) (flag (codes "any")))
+    (needed (codes "HEX"))
 
 abbrev pub reply_app : App
-reply_app = with_rule (with_rule (new_app (codes "reply")) (needed (codes "OPNAME"))) (needed (codes "HEX"))
+reply_app = with_rule (with_rule (with_rule (with_rule (new_app (codes "reply")) (flag (codes "any")))
+    (number (codes "asked") 0 longest_reply (codes "16777200"))) (needed (codes "OPNAME"))) (needed (codes "HEX"))
 
 abbrev pub decode_app : App
 decode_app = with_rule (new_app (codes "decode")) (new_rule (codes "FILE"))
@@ -34,7 +40,7 @@ check_app = with_rule (with_rule (with_rule (with_rule (new_app (codes "check"))
     (flag (codes "kernel"))) (flag (codes "json"))) (new_rule (codes "FILE"))
 
 abbrev pub vectors_app : App
-vectors_app = new_app (codes "vectors")
+vectors_app = with_rule (new_app (codes "vectors")) (flag (codes "all"))
 
 -- the minors are the words between which `--minor` chooses
 abbrev pub serve_app : Bor (List (Bor Text)) → App

@@ -21,8 +21,11 @@ abbrev pub input_statuses : InputTask → List ℕ
 input_statuses (input.Script name hex) = 0 ∷ 1 ∷ 3 ∷ 5 ∷ []
 input_statuses (input.Picture name) = 0 ∷ 1 ∷ 3 ∷ 5 ∷ []
 input_statuses (input.Frame hex words) = 0 ∷ 1 ∷ 3 ∷ 5 ∷ []
+input_statuses (input.AnyFrame hex) = 0 ∷ 1 ∷ 3 ∷ 5 ∷ []
 input_statuses (input.Reply name hex) = 0 ∷ 1 ∷ 2 ∷ 3 ∷ 5 ∷ []
+input_statuses (input.AnyReply name asked hex) = 0 ∷ 1 ∷ 2 ∷ 3 ∷ 5 ∷ []
 input_statuses input.Vectors = 0 ∷ 3 ∷ 5 ∷ []
+input_statuses input.AllVectors = 0 ∷ 3 ∷ 5 ∷ []
 
 -- the exit statuses of a command on a capture
 abbrev pub capture_statuses : CaptureTask → List ℕ
@@ -40,10 +43,13 @@ check_statuses t = statuses_with (options_of t)
 -- the exit statuses of a command on frames
 abbrev pub frame_statuses : FrameTask → List ℕ
 frame_statuses (frame.Frame hex words) = 0 ∷ 1 ∷ 3 ∷ 5 ∷ []
+frame_statuses (frame.AnyFrame hex) = 0 ∷ 1 ∷ 3 ∷ 5 ∷ []
 frame_statuses (frame.Reply name hex) = 0 ∷ 1 ∷ 2 ∷ 3 ∷ 5 ∷ []
+frame_statuses (frame.AnyReply name asked hex) = 0 ∷ 1 ∷ 2 ∷ 3 ∷ 5 ∷ []
 frame_statuses (frame.Decode file) = 0 ∷ 1 ∷ 3 ∷ 5 ∷ []
 frame_statuses (frame.Check t) = check_statuses t
 frame_statuses frame.Vectors = 0 ∷ 3 ∷ 5 ∷ []
+frame_statuses frame.AllVectors = 0 ∷ 3 ∷ 5 ∷ []
 
 -- a run of the task may end with this exit status
 abbrev pub EndsWith : Task → ℕ → Type 0

@@ -14,7 +14,7 @@ use Rattle.fw_drive.specs.declared.Form.{Form}
 use Rattle.fw_drive.specs.declared.Form.TheVariants.{Events, Calls, CallsBeside}
 use Rattle.fw_sides.specs.declared.Form.{Form as Print}
 use Rattle.fw_sides.specs.declared.Form.TheVariants.{Words, Json}
-use Rattle.fuseworld.specs.Commands.{longest}
+use Rattle.fuseworld.specs.Commands.{longest, longest_reply}
 use Rattle.fuseworld.specs.Values.{text_of, is_set, number_of}
 use Rattle.fuseworld.specs.declared.check_words.CheckTask.{CheckTask}
 use Rattle.fuseworld.specs.declared.command.Task.{Task}
@@ -46,13 +46,22 @@ options_of t = options_in t.server t.kernel (if t.json then check_form.Json else
 -- a command on frames
 abbrev pub AsksFrame : Text → List Row → FrameTask → Type 0
 AsksFrame name rows (frame.Frame hex words) =
-    (name ≡ codes "frame") × (hex.now ≡ text_of (codes "HEX") rows) × (words ≡ is_set (codes "words") rows)
+    (name ≡ codes "frame") × (is_set (codes "any") rows ≡ false) × (hex.now ≡ text_of (codes "HEX") rows)
+    × (words ≡ is_set (codes "words") rows)
+AsksFrame name rows (frame.AnyFrame hex) =
+    (name ≡ codes "frame") × (is_set (codes "any") rows ≡ true) × (hex.now ≡ text_of (codes "HEX") rows)
 AsksFrame name rows (frame.Reply opcode hex) =
-    (name ≡ codes "reply") × (opcode.now ≡ text_of (codes "OPNAME") rows) × (hex.now ≡ text_of (codes "HEX") rows)
+    (name ≡ codes "reply") × (is_set (codes "any") rows ≡ false) × (opcode.now ≡ text_of (codes "OPNAME") rows)
+    × (hex.now ≡ text_of (codes "HEX") rows)
+AsksFrame name rows (frame.AnyReply opcode asked hex) =
+    (name ≡ codes "reply") × (is_set (codes "any") rows ≡ true) × (opcode.now ≡ text_of (codes "OPNAME") rows)
+    × (asked ≡ min (number_of (codes "asked") longest_reply rows) longest_reply)
+    × (hex.now ≡ text_of (codes "HEX") rows)
 AsksFrame name rows (frame.Decode file) =
     (name ≡ codes "decode") × (option_map (λ text. text.now) file ≡ first_of (codes "FILE") rows)
 AsksFrame name rows (frame.Check t) = (name ≡ codes "check") × AsksCheck rows t
-AsksFrame name rows frame.Vectors = name ≡ codes "vectors"
+AsksFrame name rows frame.Vectors = (name ≡ codes "vectors") × (is_set (codes "all") rows ≡ false)
+AsksFrame name rows frame.AllVectors = (name ≡ codes "vectors") × (is_set (codes "all") rows ≡ true)
 
 -- the minor that `--minor` names
 abbrev pub minor_of : List Row → Minor

@@ -108,7 +108,7 @@ fn program<'a>(alloc: Global) -> Result<Command<'a>, AllocError>
     let program = with_command(program, reply_command(alloc));
     let program = with_command(program, decode_command(alloc));
     let program = with_command(program, check_command(alloc));
-    let program = with_command(program, Ok(vectors_command(alloc)));
+    let program = with_command(program, vectors_command(alloc));
     let program = with_command(program, Ok(serve));
     let program = with_command(program, drive_command(alloc));
     let program = with_command(program, kernel_command(alloc));

@@ -2,34 +2,58 @@
 
 ghost use Rattle.std.specs.Prelude.{◌≡◌, ◌∷◌, [], Contains, IfOk, IfNone, IfSome, codes, false};
 ghost use Rattle.clap.specs.Words.{found_of, rows_of};
-ghost use Rattle.fuseworld.specs.Arguments.{IsArgument, needed};
-ghost use Rattle.fuseworld.specs.Commands.{IsCommand, frame_app, reply_app, decode_app, vectors_app};
+ghost use Rattle.fuseworld.specs.Arguments.{IsArgument, needed, number};
+ghost use Rattle.fuseworld.specs.Commands.{IsCommand, frame_app, reply_app, decode_app, longest_reply, vectors_app};
 ghost use Rattle.fuseworld.specs.Statuses.{frame_statuses, input_statuses};
 ghost use Rattle.fuseworld.specs.Tasks.{AsksFrame, is_frame_command};
 
-use crate::arguments::{flag, needed};
+use crate::arguments::{flag, needed, option};
 use crate::capture::{CaptureTask, capture_argument, run_capture};
 use crate::check_words::{CheckTask, check_task, run_check_task};
 use crate::doing::{InputTask, do_task};
 use crate::output::standard_output;
-use crate::values::{is_set, text, text_or_none};
+use crate::values::{is_set, number, text, text_or_none};
+use clap::builder::ValueParser;
 use clap::{Arg, ArgMatches, Command};
 use std::alloc::{AllocError, Global};
 use std::io::{BufWriter, Write};
+
+/// The most bytes that a reply may have behind its header.
+const LONGEST_REPLY: u64 = 16_777_200;
 
 /// One run of a command on frames.
 #[derive(Clone, Copy)]
 pub enum FrameTask<'a> {
     /// One request frame, with its fields under `words`.
-    Frame { hex: &'a str, words: bool },
+    Frame {
+        hex: &'a str,
+        words: bool,
+    },
+    /// One request frame of any opcode, in words.
+    AnyFrame {
+        hex: &'a str,
+    },
     /// One reply frame to a request of the opcode that has a name.
-    Reply { name: &'a str, hex: &'a str },
+    Reply {
+        name: &'a str,
+        hex: &'a str,
+    },
+    /// The same of any opcode, where so many bytes were asked for.
+    AnyReply {
+        name: &'a str,
+        asked: u32,
+        hex: &'a str,
+    },
     /// The capture in a file, or on standard input.
-    Decode { file: Option<&'a str> },
+    Decode {
+        file: Option<&'a str>,
+    },
     /// The same, judged.
     Check(CheckTask<'a>),
     /// Frames of each kind with the codec's verdicts.
     Vectors,
+    /// And then of every opcode, with whether each has the shape of its row.
+    AllVectors,
 }
 
 /// The argument that is a frame.
@@ -43,14 +67,34 @@ fn hex_argument<'a>(alloc: Global) -> Arg<'a>
     )
 }
 
+/// The option that says how many bytes a request asked for.
+fn asked_argument<'a>(alloc: Global) -> Arg<'a>
+    ensures { IsArgument (number (codes "asked") 0 longest_reply (codes "16777200")) result }
+{
+    option(
+        alloc,
+        "asked",
+        "N",
+        "16777200",
+        "With --any: how many bytes the request asked for, as READ or READDIR do",
+    )
+    .value_parser(ValueParser::Unsigned(0, LONGEST_REPLY))
+}
+
 /// The command `frame`.
 pub fn frame_command<'a>(alloc: Global) -> Result<Command<'a>, AllocError>
     ensures { IfOk result (IsCommand frame_app) }
 {
     let words = flag(alloc, "words", "Print the request's fields as well");
+    let any = flag(
+        alloc,
+        "any",
+        "Read a request of any opcode of FUSE 7.45, where INIT agreed on no flag, and print it in words",
+    );
     Command::new(alloc, "frame")
         .about("Read one request frame and print its opcode, unique, node and length")
         .arg(words)?
+        .arg(any)?
         .arg(hex_argument(alloc))
 }
 
@@ -58,11 +102,18 @@ pub fn frame_command<'a>(alloc: Global) -> Result<Command<'a>, AllocError>
 pub fn reply_command<'a>(alloc: Global) -> Result<Command<'a>, AllocError>
     ensures { IfOk result (IsCommand reply_app) }
 {
+    let any = flag(
+        alloc,
+        "any",
+        "Read a reply to any opcode of FUSE 7.45, where INIT agreed on no flag",
+    );
     let name = needed(alloc, "OPNAME", "The opcode of the request, as LOOKUP");
     Command::new(alloc, "reply")
         .about(
             "Read one reply frame and print its opcode, unique, error and length, and what it says",
         )
+        .arg(any)?
+        .arg(asked_argument(alloc))?
         .arg(name)?
         .arg(hex_argument(alloc))
 }
@@ -77,12 +128,53 @@ pub fn decode_command<'a>(alloc: Global) -> Result<Command<'a>, AllocError>
 }
 
 /// The command `vectors`.
-pub fn vectors_command<'a>(alloc: Global) -> Command<'a>
-    ensures { IsCommand vectors_app result }
+pub fn vectors_command<'a>(alloc: Global) -> Result<Command<'a>, AllocError>
+    ensures { IfOk result (IsCommand vectors_app) }
 {
-    Command::new(alloc, "vectors").about(
-        "Print frames of each kind with what the codec says of them, a JSON object a line",
-    )
+    let all = flag(
+        alloc,
+        "all",
+        "Print also frames of every opcode of FUSE 7.45, with whether they have its shape",
+    );
+    Command::new(alloc, "vectors")
+        .about("Print frames of each kind with what the codec says of them, a JSON object a line")
+        .arg(all)
+}
+
+/// What the words after `frame` ask for.
+fn one_frame_task<'a>(matches: &ArgMatches<'a>) -> FrameTask<'a>
+    ensures { AsksFrame (codes "frame") (rows_of (found_of matches.now)) result }
+{
+    let hex = text(matches, "HEX");
+    if is_set(matches, "any") {
+        return FrameTask::AnyFrame { hex };
+    }
+    let words = is_set(matches, "words");
+    FrameTask::Frame { hex, words }
+}
+
+/// What the words after `reply` ask for.
+fn one_reply_task<'a>(matches: &ArgMatches<'a>) -> FrameTask<'a>
+    ensures { AsksFrame (codes "reply") (rows_of (found_of matches.now)) result }
+{
+    let name = text(matches, "OPNAME");
+    let hex = text(matches, "HEX");
+    if is_set(matches, "any") {
+        let asked = number(matches, "asked", LONGEST_REPLY).min(LONGEST_REPLY) as u32;
+        return FrameTask::AnyReply { name, asked, hex };
+    }
+    FrameTask::Reply { name, hex }
+}
+
+/// What the words after `vectors` ask for.
+fn vectors_task<'a>(matches: &ArgMatches<'_>) -> FrameTask<'a>
+    ensures { AsksFrame (codes "vectors") (rows_of (found_of matches.now)) result }
+{
+    if is_set(matches, "all") {
+        FrameTask::AllVectors
+    } else {
+        FrameTask::Vectors
+    }
 }
 
 /// What the words after the name of a command on frames ask for, if it is one.
@@ -91,7 +183,7 @@ pub fn frame_task<'a>(name: &str, matches: &ArgMatches<'a>) -> Option<FrameTask<
     ensures other { IfNone result (is_frame_command name.now ≡ false) }
 {
     if name == "vectors" {
-        return Some(FrameTask::Vectors);
+        return Some(vectors_task(matches));
     }
     if name == "decode" {
         let file = text_or_none(matches, "FILE");
@@ -100,20 +192,18 @@ pub fn frame_task<'a>(name: &str, matches: &ArgMatches<'a>) -> Option<FrameTask<
     if name == "check" {
         return Some(FrameTask::Check(check_task(matches)));
     }
-    let hex = text(matches, "HEX");
     if name == "frame" {
-        let words = is_set(matches, "words");
-        return Some(FrameTask::Frame { hex, words });
+        return Some(one_frame_task(matches));
     }
     if name == "reply" {
-        let name = text(matches, "OPNAME");
-        return Some(FrameTask::Reply { name, hex });
+        return Some(one_reply_task(matches));
     }
     None
 }
 
-/// Prints the vectors, and gives the exit status.
-fn run_vectors(rt: &HostRuntime) -> u8
+/// Prints the codec's vectors or all, and gives the exit status.
+fn run_vectors(rt: &HostRuntime, task: InputTask<'_>) -> u8
+    requires { input_statuses task ≡ 0 ∷ 3 ∷ 5 ∷ [] }
     ensures { Contains (0 ∷ 3 ∷ 5 ∷ []) result }
 {
     let mut faults = rt.stderr();
@@ -121,13 +211,7 @@ fn run_vectors(rt: &HostRuntime) -> u8
         let _ = writeln!(faults, "no memory");
         return 3;
     };
-    do_task(
-        rt.alloc(),
-        InputTask::Vectors,
-        &mut rt.reader(),
-        &mut out,
-        &mut faults,
-    )
+    do_task(rt.alloc(), task, &mut rt.reader(), &mut out, &mut faults)
 }
 
 /// Reads one frame, and gives the exit status.
@@ -149,9 +233,14 @@ pub fn run_frame_task(rt: &HostRuntime, task: FrameTask<'_>) -> u8
 {
     match task {
         FrameTask::Frame { hex, words } => run_one(rt, InputTask::Frame { hex, words }),
+        FrameTask::AnyFrame { hex } => run_one(rt, InputTask::AnyFrame { hex }),
         FrameTask::Reply { name, hex } => run_one(rt, InputTask::Reply { name, hex }),
+        FrameTask::AnyReply { name, asked, hex } => {
+            run_one(rt, InputTask::AnyReply { name, asked, hex })
+        }
         FrameTask::Decode { file } => run_capture(rt, CaptureTask::Decode, file),
         FrameTask::Check(task) => run_check_task(rt, task),
-        FrameTask::Vectors => run_vectors(rt),
+        FrameTask::Vectors => run_vectors(rt, InputTask::Vectors),
+        FrameTask::AllVectors => run_vectors(rt, InputTask::AllVectors),
     }
 }
