@@ -16,7 +16,7 @@ use Rattle.fk_drive.specs.Driven.{driven}
 use Rattle.fk_drive.specs.Driving.{Driven, Drives, DrivesOver, Runs, Turn, answers, idle, picked, reads, unopened, nothing as no_steps}
 use Rattle.fk_drive.specs.Exchanges.{Ends, EndsAs, WentOver}
 use Rattle.fk_drive.specs.KernelSteps.{IsReplyTaken}
-use Rattle.fk_drive.specs.Openings.{AwaitsUntil}
+use Rattle.fk_drive.specs.Openings.{AwaitsUntil, HasTooMany}
 use Rattle.fk_drive.specs.Sending.{IsAnswerRefusedAs, IsRequestSent, SendsNext, SendsPicked, SendsUntil}
 use Rattle.fk_drive.specs.Steps.{IsAwaiting, SendStep}
 use Rattle.fk_drive.specs.declared.connection.Connection.{Connection}
@@ -39,12 +39,12 @@ sent_until (Err at.TooMany) new is log ends = absurd ends
 sent_until (Err (at.Refused refusal)) new is log ends = absurd ends
 
 -- the reply to OPENDIR did not come
-pub unsaid_until : (end : DriveEnd) (new : Driven) → IsAwaiting new.turn → (log : List Transfer)
-    → AwaitsUntil (AwaitEnded end) log → SendsUntil {T = Unit {0}} (Err end) new log
-unsaid_until (at.Device end) new is log ends = ends
-unsaid_until at.Memory new is log ends = (ends, is)
-unsaid_until at.TooMany new is log ends = (ends, is)
-unsaid_until (at.Refused refusal) new is log ends = absurd ends
+pub unsaid_until : (end : DriveEnd) (new : Driven) → IsAwaiting new.turn → HasTooMany (AwaitEnded end) new.waiting
+    → (log : List Transfer) → AwaitsUntil (AwaitEnded end) log → SendsUntil {T = Unit {0}} (Err end) new log
+unsaid_until (at.Device end) new is many log ends = ends
+unsaid_until at.Memory new is many log ends = (ends, is)
+unsaid_until at.TooMany new is many log ends = (ends, is, many)
+unsaid_until (at.Refused refusal) new is many log ends = absurd ends
 
 module _ {D : Type 0} (logs : D → D → List Transfer → Type 0)
     (goes_on : (first mid last : D) (h k : List Transfer) → logs first mid h → logs mid last k → logs first last (h ++ k))

@@ -1,5 +1,5 @@
 -- The turn of a request that lists a directory, by what came of OPENDIR.
-use Rattle.std.specs.Prelude.{◌≡◌, ℕ, Bool, false, List, Some, None}
+use Rattle.std.specs.Prelude.{◌≡◌, ◌≤◌, ℕ, Bool, false, List, Some, None, length}
 use Rattle.fuse_spec.specs.Kernel.Messages.{Request}
 use Rattle.fuse_device.specs.Transfers.{Transfer}
 use Rattle.fk_drive_frames.specs.OwnRequests.{IsErrorSaid}
@@ -7,6 +7,7 @@ use Rattle.fk_drive_frames.specs.declared.opendir_reply.OpendirSaid.{OpendirSaid
 use Rattle.fk_drive_frames.specs.declared.opendir_reply.OpendirSaid.TheVariants.{Handle, NotKnown, Failed}
 use Rattle.fk_drive.specs.Driving.{Turn, opened, opening, picked, unopened}
 use Rattle.fk_drive.specs.Exchanges.{Ends}
+use Rattle.fk_drive.specs.Rooms.{most_waiting}
 use Rattle.fk_drive.specs.declared.end.DriveEnd.TheVariants as at
 use Rattle.fk_drive.specs.declared.opening.Awaited.{Awaited}
 use Rattle.fk_drive.specs.declared.opening.Awaited.TheVariants.{Said, NotYet, Ended}
@@ -43,3 +44,8 @@ abbrev pub AwaitsUntil : Awaited → List Transfer → Type 0
 AwaitsUntil (Ended (at.Device end)) log = Ends (Some end) log
 AwaitsUntil (Ended (at.Refused refusal)) log = ⊥
 AwaitsUntil awaited log = Ends None log
+
+-- It failed for too many frames while so many wait as are kept.
+abbrev pub HasTooMany : Awaited → (waiting : List (List ℕ)) → Type 0
+HasTooMany (Ended at.TooMany) waiting = most_waiting ≤ length waiting
+HasTooMany awaited waiting = Unit {0}

@@ -1,5 +1,5 @@
 -- How a request is sent.
-use Rattle.std.specs.Prelude.{◌≡◌, ℕ, ℤ, List, [], Some, None, Result, Ok, Err}
+use Rattle.std.specs.Prelude.{◌≡◌, ◌≤◌, ℕ, ℤ, List, [], Some, None, Result, Ok, Err, length}
 use Rattle.fuse_spec.specs.Kernel.Messages.{Request}
 use Rattle.fuse_spec.specs.Kernel.Kernel.{Kernel}
 use Rattle.fuse_spec.specs.Kernel.Refusals.{or_no_memory}
@@ -16,6 +16,7 @@ use Rattle.fk_kernel.specs.Refused.{WriteRefused}
 use Rattle.fk_kernel.specs.declared.pick.Pick.{Pick}
 use Rattle.fk_drive.specs.Driving.{Driven, Runs, SendsFrame, Turn, idle, picked, unopened}
 use Rattle.fk_drive.specs.Exchanges.{Ends}
+use Rattle.fk_drive.specs.Rooms.{most_waiting}
 use Rattle.fk_drive.specs.Steps.{IsAwaiting, SendStep}
 use Rattle.fk_drive.specs.declared.end.DriveEnd.{DriveEnd}
 use Rattle.fk_drive.specs.declared.end.DriveEnd.TheVariants as at
@@ -49,13 +50,13 @@ abbrev pub IsAnswerRefused : Kernel → Turn → DriveEnd → Type 0
 IsAnswerRefused kernel (unopened request error) end = IsAnswerRefusedAs kernel request.unique error end
 IsAnswerRefused kernel turn end = ⊥
 
--- The request is sent, or the device came to its end; memory ran out, or too many frames wait, while the reply to OPENDIR
--- is awaited; or the kernel refused the error.
+-- The request is sent, or the device came to its end; memory ran out, or as many frames wait as are kept, while the reply
+-- to OPENDIR is awaited; or the kernel refused the error.
 abbrev pub SendsUntil : {T : Type 0} → Result T DriveEnd → Driven → List Transfer → Type 0
 SendsUntil (Ok _) new log = Ends None log × (new.turn ≡ idle)
 SendsUntil (Err (at.Device end)) new log = Ends (Some end) log
 SendsUntil (Err at.Memory) new log = Ends None log × IsAwaiting new.turn
-SendsUntil (Err at.TooMany) new log = Ends None log × IsAwaiting new.turn
+SendsUntil (Err at.TooMany) new log = Ends None log × IsAwaiting new.turn × (most_waiting ≤ length new.waiting)
 SendsUntil (Err (at.Refused refusal)) new log = Ends None log × IsAnswerRefused new.kernel new.turn (at.Refused refusal)
 
 -- Where the kernel refused to be read there is none either.

@@ -11,10 +11,10 @@ ghost use Rattle.fk_drive_frames.specs.Filling.{IsListing};
 ghost use Rattle.fuse_frames.specs.DecodedReplies.{head_unique};
 ghost use Rattle.fk_drive_frames.specs.OwnRequests.{GivesNothing, ListsNode, SaysOfOpendir};
 ghost use Rattle.fk_drive_frames.specs.declared.filling.FreeFields.{FreeFields};
-ghost use Rattle.fk_drive.specs.Driven.{driven};
+ghost use Rattle.fk_drive.specs.Driven.{driven, waiting_in};
 ghost use Rattle.fk_drive.specs.Driving.{Runs, opening, picked};
 ghost use Rattle.fk_drive.specs.Exchanges.{WentOver};
-ghost use Rattle.fk_drive.specs.Openings.{AwaitsUntil, HasErrorNumber, StopsAsking, StopsAskingWhere, turn_of, turn_where};
+ghost use Rattle.fk_drive.specs.Openings.{AwaitsUntil, HasErrorNumber, HasTooMany, StopsAsking, StopsAskingWhere, turn_of, turn_where};
 ghost use Rattle.fk_drive.specs.Rooms.{HasRoomForFrame, most_waiting};
 ghost use Rattle.fk_drive.specs.Steps.{SendStep};
 
@@ -144,6 +144,7 @@ fn receive_said<A: Allocator + Copy, D: Device, N: Notes>(
         (driven kernel connection.new (turn_where request own listing.node result))) }
     ensures number { HasErrorNumber result }
     ensures asks { StopsAskingWhere result connection.new.asks }
+    ensures many { HasTooMany result (waiting_in connection.new) }
     ensures few { vec_len connection.old.waiting ≤ most_waiting → vec_len connection.new.waiting ≤ most_waiting }
 {
     if let Err(end) = connection.make_room_awaiting() {
@@ -181,6 +182,7 @@ fn await_opendir<A: Allocator + Copy, D: Device, N: Notes>(
         (driven kernel connection.new (turn_where request own listing.node result))) }
     ensures number { HasErrorNumber result }
     ensures asks { StopsAskingWhere result connection.new.asks }
+    ensures many { HasTooMany result (waiting_in connection.new) }
 {
     for _frame in 0..u64::MAX {
         match receive_said(connection, device, notes, own, listing) {
@@ -208,6 +210,7 @@ pub(crate) fn open_directory<A: Allocator + Copy, D: Device, N: Notes>(
         (driven kernel connection.new (turn_where request connection.old.next listing.node result))) }
     ensures number { HasErrorNumber result }
     ensures asks { StopsAskingWhere result connection.new.asks }
+    ensures many { HasTooMany result (waiting_in connection.new) }
 {
     let own = connection.next;
     connection.next += 2;

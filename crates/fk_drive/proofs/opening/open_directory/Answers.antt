@@ -1,10 +1,10 @@
 use Rattle.std.proofs.Common.{◌+◌, refl}
-use Rattle.fk_drive.specs.Driven.{driven}
+use Rattle.fk_drive.specs.Driven.{driven, waiting_in}
 use Rattle.fk_drive.specs.Driving.{opening, opens, picked}
 use Rattle.fk_drive.specs.Openings.{AwaitsUntil, turn_where}
 use Rattle.fk_drive.specs.Steps.{SendStep}
 use Rattle.fk_drive.proofs.Drivings.{one_run, went_on}
-use Rattle.fk_drive.proofs.Ending.{awaits_as, awaits_on}
+use Rattle.fk_drive.proofs.Ending.{awaits_as, awaits_on, sent_many}
 use Rattle.fk_drive.proofs.opening.open_directory.Goals as goal
 
 pub returns-in-Err-clause-sends : goal.returns-in-Err-clause-sends
@@ -21,6 +21,10 @@ returns-in-Err-clause-sends g c free_fields kernel request under lists =
             tt,
           ),
     )
+
+pub returns-in-Err-clause-many : goal.returns-in-Err-clause-many
+returns-in-Err-clause-many g c =
+    let (log, over, ends, sends) = c.in-Err.ensures in sent_many c.in-Err.end log (waiting_in c.args.connection.now) ends
 
 pub returns-in-Ok-clause-sends : goal.returns-in-Ok-clause-sends
 returns-in-Ok-clause-sends g c free_fields kernel request under lists =

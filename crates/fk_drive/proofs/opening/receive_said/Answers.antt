@@ -2,12 +2,12 @@ use Rattle.std.proofs.Common.{◌≡◌, List, ℕ, [], ◌∷◌, refl, subst, 
 use Rattle.fuse_device.specs.Transfers.{received}
 use Rattle.fuse_frames.specs.DecodedReplies.{HasReplyHead, head_unique}
 use Rattle.fk_drive_frames.specs.OwnRequests.{SaysOfOpendir}
-use Rattle.fk_drive.specs.Driven.{driven}
+use Rattle.fk_drive.specs.Driven.{driven, waiting_in}
 use Rattle.fk_drive.specs.Driving.{Driven, Runs, nothing, opening}
 use Rattle.fk_drive.specs.Openings.{turn_of}
 use Rattle.fk_drive.specs.Steps.{SendStep}
 use Rattle.fk_drive.proofs.Drivings.{one_run}
-use Rattle.fk_drive.proofs.Ending.{no_room_ends}
+use Rattle.fk_drive.proofs.Ending.{no_room_ends, no_room_many, stopped_many}
 use Rattle.fk_drive.proofs.Keeping.{awaits_stopped, kept_sends}
 use Rattle.fk_drive.proofs.opening.receive_said.Goals as goal
 
@@ -20,6 +20,16 @@ returns-in-Err-clause-sends g c free_fields kernel request under =
       subst (λ (s : Driven). Runs (SendStep free_fields) (driven kernel c.args.connection.now turn) [] s)
           (sym (c.make_room_awaiting.ensures.same kernel turn)) nothing,
     )
+
+pub returns-in-Err-clause-many : goal.returns-in-Err-clause-many
+returns-in-Err-clause-many g c =
+    no_room_many c.args.connection.now c.make_room_awaiting.new.self c.in-Err.end c.in-Err.ensures.no_room
+    c.make_room_awaiting.ensures.long
+
+pub returns-in-Err-receive_frame-clause-many : goal.returns-in-Err-receive_frame-clause-many
+returns-in-Err-receive_frame-clause-many g c =
+    let (log, over, is) = c.in-Err-receive_frame.ensures.end in
+    stopped_many c.in-Err-receive_frame.end log (waiting_in c.make_room_awaiting.new.self) is
 
 pub returns-in-Err-receive_frame-clause-sends : goal.returns-in-Err-receive_frame-clause-sends
 returns-in-Err-receive_frame-clause-sends g c free_fields kernel request under =

@@ -27,7 +27,8 @@ returns-in-Ended g c request is under lists =
       (
         log,
         over,
-        unsaid_until c.in-Ended.end (driven c.args.kernel.now c.open_directory.new.connection turn) tt log ends,
+        unsaid_until c.in-Ended.end (driven c.args.kernel.now c.open_directory.new.connection turn) tt c.in-Ended.ensures.many
+            log ends,
         runs,
       ),
     )
