@@ -7,6 +7,8 @@ status 1 where there is one. Each run has 10 seconds.
 """
 import os
 import re
+import resource
+import signal
 import socket
 import struct
 import subprocess
@@ -14,6 +16,7 @@ import sys
 import tempfile
 import threading
 import time
+from contextlib import contextmanager
 from pathlib import Path
 
 sys.dont_write_bytecode = True
@@ -36,9 +39,10 @@ def judge(name, got, wanted):
     print(f"not ok: {name}\n  wanted {wanted}\n  got    {got}")
 
 
-def drive(words, script, peer):
-    """The lines that a run prints, its status, and what the peer gives, which has the other end of the connection; `None` where
-    nothing was connected."""
+@contextmanager
+def served(words, script, peer):
+    """The command that drives a peer, which has the other end of the connection, and a list for what the peer gives: nothing
+    where nothing was connected."""
     with tempfile.TemporaryDirectory() as folder:
         path, file = f"{folder}/socket", Path(folder) / "script"
         file.write_text("\n".join(script) + "\n")
@@ -59,12 +63,18 @@ def drive(words, script, peer):
 
         thread = threading.Thread(target=serve)
         thread.start()
-        run = subprocess.run([PROGRAM, "drive", *words, file, path], stdin=subprocess.DEVNULL, capture_output=True, text=True, timeout=SECONDS)
+        yield [PROGRAM, "drive", *words, file, path], gave
         # Where nothing was connected, the peer still waits for it.
         listener.shutdown(socket.SHUT_RDWR)
         thread.join()
         listener.close()
-        return run.stdout.splitlines() + run.stderr.splitlines(), run.returncode, gave[0] if gave else None
+
+
+def drive(words, script, peer):
+    """The lines that a run prints, its status, and what the peer gives, or `None`."""
+    with served(words, script, peer) as (command, gave):
+        run = subprocess.run(command, stdin=subprocess.DEVNULL, capture_output=True, text=True, timeout=SECONDS)
+    return run.stdout.splitlines() + run.stderr.splitlines(), run.returncode, gave[0] if gave else None
 
 
 def on_server(words, script, **choices):
@@ -75,9 +85,9 @@ def on_server(words, script, **choices):
 CLOSE = object()
 
 
-def on_frames(words, script, *answers):
-    """The same on a peer that sends the parts of the K-th answer at the K-th request but FORGET, each by a write of its own,
-    and closes the connection at `CLOSE`. At other requests it sends nothing."""
+def answering(*answers):
+    """A peer that sends the parts of the K-th answer at the K-th request but FORGET, each by a write of its own, and closes the
+    connection at `CLOSE`. At other requests it sends nothing."""
     def peer(connection):
         left = list(answers)
         for opcode, *_ in received(connection):
@@ -85,7 +95,12 @@ def on_frames(words, script, *answers):
             send(connection, *(part for part in parts if part is not CLOSE))
             if CLOSE in parts:
                 return
-    return drive(words, script, peer)[:2]
+    return peer
+
+
+def on_frames(words, script, *answers):
+    """The lines that a run prints on such a peer, and its status."""
+    return drive(words, script, answering(*answers))[:2]
 
 
 # --- a server with a bug or none
@@ -197,6 +212,8 @@ STATED = [*MOUNTED, "call 1", "read 4 GETATTR 56"]
 ANSWERED = ["written 4 0", "answer 1 0 dir 1 0 1", "kernel"]
 ATTR = reply(4, bytes(16) + Server().attr(1))
 SHORT_WAIT = ["--wait", "500"]
+NOTICE = struct.pack("<IiQ", 40, 2, 0) + bytes(24)
+NOTIFIED = "notification 2 40"
 
 
 def run_frames():
@@ -213,8 +230,7 @@ def run_frames():
         judge(f"a len of {length}", on_frames([], STAT, AGREES, [struct.pack("<IiQ", length, 0, 4)]), ([*STATED, "device failed"], 4))
     judge("a frame is cut short by the end", on_frames([], STAT, AGREES, [ATTR[:20], CLOSE]), ([*STATED, "device failed"], 4))
     judge("a frame is cut short by silence", on_frames(SHORT_WAIT, STAT, AGREES, [ATTR[:20]]), ([*STATED, "device failed"], 4))
-    notice = struct.pack("<IiQ", 40, 2, 0) + bytes(24)
-    judge("a notification", on_frames([], STAT, AGREES, [notice, ATTR]), ([*STATED, "notification 2 40", *ANSWERED], 0))
+    judge("a notification", on_frames([], STAT, AGREES, [NOTICE, ATTR]), ([*STATED, NOTIFIED, *ANSWERED], 0))
     judge("no notification: number 0 without a code", on_frames([], [*STAT, "write"], AGREES, [reply(0), ATTR]),
           ([*STATED, "written 0 2", "reply to nothing", *ANSWERED], 0))
     judge("a body beside an error", on_frames([], STAT, AGREES, [reply(4, bytes(8), error=2)]),
@@ -296,17 +312,68 @@ def run_opendir_bugs():
 
 
 def run_many():
-    """While the reply to OPENDIR is awaited 10,000 frames are kept for the kernel, and 10,000 that are not, that reply among them."""
+    """While the reply to OPENDIR is awaited 10,000 frames are kept for the kernel. What is not for it is printed, and not kept."""
     script = [*MOUNT, "call list / 0", "read p 0", "write"]
     begun = [*MOUNTED, "call 1"]
     opened = reply(1 << 62, struct.pack("<QII", 7, 0, 0))
     for count, last in [(9999, ["read 4 READDIR 80", "written 6 2", "reply to nothing", "kernel"]), (10000, ["device failed: 10000 frames wait"])]:
         judge(f"{count} frames wait", on_frames([], script, AGREES, [reply(6) * count + opened]), ([*begun, *last], 0 if count < 10000 else 4))
-    notice = struct.pack("<IiQ", 40, 2, 0) + bytes(24)
-    for count, last in [(9999, ["read 4 READDIR 80", "written 4 0", "answer 1 0", "kernel"]), (10000, ["device failed: 10000 frames wait"])]:
-        told = ["notification 2 40"] * count
-        judge(f"{count} notifications", on_frames([], script, AGREES, [notice * count + opened], [reply(4)]),
-              ([*begun, *told, *last], 0 if count < 10000 else 4))
+    last = ["read 4 READDIR 80", "written 4 0", "answer 1 0", "kernel"]
+    judge("20000 notifications", on_frames([], script, AGREES, [NOTICE * 20000 + opened], [reply(4)]), ([*begun, *[NOTIFIED] * 20000, *last], 0))
+
+
+def run_talking():
+    """A server sends notifications for two seconds before it answers. Their lines are read while the wait goes on."""
+    opened = reply(1 << 62, struct.pack("<QII", 7, 0, 0))
+    listing = [*MOUNT, "call list / 0", "read p 0", "write"]
+    listed = [*MOUNTED, "call 1", *[NOTIFIED] * 20, "read 4 READDIR 80", "written 4 0", "answer 1 0", "kernel"]
+    for name, script, answers, lines in [("a reply", STAT, [ATTR], [*STATED, *[NOTIFIED] * 20, *ANSWERED]),
+                                         ("OPENDIR's reply", listing, [opened, reply(4)], listed)]:
+        def talks(connection):
+            """Says when it answers what was awaited."""
+            frames = received(connection)
+            for answer in AGREES:
+                next(frames)
+                send(connection, answer)
+            next(frames)
+            for _ in range(20):
+                send(connection, NOTICE)
+                time.sleep(0.1)
+            answered = time.monotonic()
+            send(connection, answers[0])
+            for answer in answers[1:]:
+                next(frames)
+                send(connection, answer)
+            for _request in frames:
+                pass
+            return answered
+
+        with served([], script, talks) as (command, gave):
+            run = subprocess.Popen(command, stdin=subprocess.DEVNULL, stdout=subprocess.PIPE, text=True)
+            read = [(line.rstrip("\n"), time.monotonic()) for line in run.stdout]
+            run.wait(timeout=SECONDS)
+        judge(f"notifications before {name}", ([line for line, _ in read], run.returncode), (lines, 0))
+        # The last may be on its way as the answer is sent.
+        early = [line for line, at in read if line == NOTIFIED and at < gave[0]]
+        judge(f"notifications before {name} are read as they come", len(early) >= 15, True)
+
+
+def run_refusals():
+    """An output that takes the lines before a notification and no more: status 5, once what was awaited has come."""
+    for name, script, lines, answers in [
+        ("a reply", STAT, STATED, [[NOTICE, ATTR]]),
+        ("OPENDIR's reply", [*MOUNT, "call list / 0", "read p 0"], [*MOUNTED, "call 1"], [[NOTICE, NOTICE, reply(1 << 62, error=13)]]),
+    ]:
+        taken = "".join(line + "\n" for line in lines)
+
+        def limit():
+            signal.signal(signal.SIGXFSZ, signal.SIG_IGN)
+            resource.setrlimit(resource.RLIMIT_FSIZE, (len(taken), len(taken)))
+
+        with served([], script, answering(AGREES, *answers)) as (command, _), tempfile.TemporaryFile("w+") as out:
+            run = subprocess.run(command, stdin=subprocess.DEVNULL, stdout=out, stderr=subprocess.PIPE, text=True, timeout=SECONDS, preexec_fn=limit)
+            out.seek(0)
+            judge(f"a notification before {name} is refused", (out.read(), run.stderr, run.returncode), (taken, "", 5))
 
 
 def run_waits():
@@ -316,7 +383,7 @@ def run_waits():
         lines, status, _ = drive(SHORT_WAIT, script, peer)
         judge(name, (lines[-1] in last, status, time.monotonic() - began < SECONDS / 2), (True, 4, True))
 
-    def answering(connection, *answers):
+    def agreeing(connection, *answers):
         """Sends an answer at each of the first requests, and goes on."""
         frames = received(connection)
         for answer in answers:
@@ -327,21 +394,20 @@ def run_waits():
     def reads_nothing(connection):
         server = Server()
         entry = server.entry(server.make(server.files[1], b"f", bytearray())) + struct.pack("<QII", 1, 0, 0)
-        answering(connection, AGREES[0], reply(4, entry))
+        agreeing(connection, AGREES[0], reply(4, entry))
         time.sleep(2)
 
     def talks(connection):
-        next(answering(connection, AGREES[0]))
-        notice = struct.pack("<IiQ", 40, 2, 0) + bytes(24)
+        next(agreeing(connection, AGREES[0]))
         try:
             while True:
-                connection.sendall(notice)
+                connection.sendall(NOTICE)
                 time.sleep(0.01)
         except OSError:
             pass
 
     def dribbles(connection):
-        next(answering(connection, AGREES[0]))
+        next(agreeing(connection, AGREES[0]))
         try:
             for byte in ATTR:
                 connection.sendall(bytes([byte]))
@@ -412,7 +478,7 @@ def run_trace():
     ])
 
 
-for part in (run_bugs, run_otherwise, run_fields, run_frames, run_abort, run_closings, run_agreements, run_opendir, run_opendir_bugs, run_many, run_waits, run_words, run_packets, run_trace):
+for part in (run_bugs, run_otherwise, run_fields, run_frames, run_abort, run_closings, run_agreements, run_opendir, run_opendir_bugs, run_many, run_talking, run_refusals, run_waits, run_words, run_packets, run_trace):
     part()
 print(f"{passed} passed, {failed} failed")
 sys.exit(bool(failed))

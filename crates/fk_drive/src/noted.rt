@@ -3,6 +3,7 @@
 ghost use Rattle.std.specs.Prelude.{◌∷◌, [], List};
 
 use fk_drive_frames::OtherFrame;
+use std::io::Write;
 
 /// What is noted of a frame as it comes.
 #[derive(Clone, Copy, Debug, PartialEq, Eq)]
@@ -15,14 +16,14 @@ pub enum Noted {
     NoOpendirReply { unique: u64 },
 }
 
-/// Who notes them.
+/// Who notes them, each as it comes.
 pub trait Notes {
     ghost use Rattle.fk_drive.specs.declared.noted.Noted.{Noted};
 
     // From the one state to the other these were noted, in turn, and nothing else.
     ghost notes: { (old new : Self) → List Noted → Type 0 };
 
-    /// Notes a frame.
-    fn note(&mut self, noted: Noted)
+    /// Notes a frame. What is said of it at once goes to `out`.
+    fn note<W: Write>(&mut self, noted: Noted, out: &mut W)
         ensures { notes self.old self.new (noted ∷ []) };
 }

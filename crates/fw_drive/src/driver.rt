@@ -16,6 +16,7 @@ use fuse_frames::RequestFrame;
 use fuse_spec::Refusal;
 use fw_world::{Event, Outcome, Tables};
 use std::alloc::AllocError;
+use std::io::Write;
 use std::marker::Model;
 
 /// A kernel, its connection to a server, and what is said in fields that are free.
@@ -102,10 +103,11 @@ impl<T: Tables> Driver<T> {
     /// # Errors
     ///
     /// The run came to its end.
-    pub(crate) fn send<D: Device, N: FrameNotes>(
+    pub(crate) fn send<D: Device, N: FrameNotes, W: Write>(
         &mut self,
         device: &mut D,
         notes: &mut N,
+        out: &mut W,
         pick: Pick,
     ) -> Result<Result<RequestFrame<T::Heap>, Refusal>, DriveEnd>
         ensures { GoesOn D.logs device.old device.new self.old self.new result }
@@ -116,6 +118,7 @@ impl<T: Tables> Driver<T> {
             &mut self.connection,
             device,
             notes,
+            out,
             pick,
             free_fields,
         ) {
@@ -131,14 +134,15 @@ impl<T: Tables> Driver<T> {
     /// # Errors
     ///
     /// The run came to its end before there was one.
-    pub(crate) fn receive<D: Device, N: FrameNotes>(
+    pub(crate) fn receive<D: Device, N: FrameNotes, W: Write>(
         &mut self,
         device: &mut D,
         notes: &mut N,
+        out: &mut W,
     ) -> Result<Result<Written<T::Heap>, Refusal>, DriveEnd>
         ensures { GoesOn D.logs device.old device.new self.old self.new result }
     {
-        write_next(&mut self.kernel, &mut self.connection, device, notes)
+        write_next(&mut self.kernel, &mut self.connection, device, notes, out)
     }
 
     /// Whether a call waits for its answer.

@@ -91,8 +91,8 @@ pub(crate) fn send<T: Tables, D: Device, W: Write>(
     if out.flush().is_err() {
         return Err(Stop::OutputRefused);
     }
-    let sent = driver.send(device, notes, pick);
-    if let Err(stop) = notes.print_noted(out) {
+    let sent = driver.send(device, notes, out, pick);
+    if let Err(stop) = notes.all_printed() {
         return Err(stop);
     }
     match sent {
@@ -137,8 +137,8 @@ pub(crate) fn receive<T: Tables, D: Device, W: Write>(
     if out.flush().is_err() {
         return Err(Stop::OutputRefused);
     }
-    let received = driver.receive(device, notes);
-    if let Err(stop) = notes.print_noted(out) {
+    let received = driver.receive(device, notes, out);
+    if let Err(stop) = notes.all_printed() {
         return Err(stop);
     }
     match received {

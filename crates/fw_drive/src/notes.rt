@@ -1,9 +1,11 @@
 //! What is kept and printed beside a driven kernel.
 
+ghost use Rattle.std.specs.Prelude.{◌≡◌};
+
 use crate::beside::Beside;
 use crate::form::Form;
 use crate::printing::{
-    print_fault, print_notification, print_outcome, print_raised, print_sent, print_written,
+    print_fault, print_notification, print_outcome, print_raised, print_sent, print_written, taken,
 };
 use crate::stop::{Stop, stop_at};
 use crate::watch::Watch;
@@ -13,9 +15,6 @@ use fuse_spec::WriteResult;
 use fw_script::write_record;
 use fw_world::{Answer, Event, Outcome, Record, Refusal, Tables};
 use std::io::Write;
-
-/// How many frames are noted at most before they are printed.
-const MOST_NOTED: usize = 10_000;
 
 /// The stop where a world beside refuses, which is only where memory is out.
 fn stop_beside(_refusal: Refusal) -> Stop {
@@ -28,9 +27,7 @@ pub(crate) struct Notes<T: Tables> {
     pub(crate) form: Form,
     watch: Watch<T::Heap>,
     beside: Option<Beside<T>>,
-    /// What was noted of frames since it was last printed, in order.
-    noted: Vec<Noted, T::Heap>,
-    /// Why not all of that is there, if so.
+    /// Why what was noted of frames is printed no more, if so.
     ended: Result<(), Stop>,
 }
 
@@ -49,7 +46,6 @@ impl<T: Tables> Notes<T> {
             form,
             watch: Watch::new(alloc),
             beside,
-            noted: Vec::new(alloc),
             ended: Ok(()),
         })
     }
@@ -60,11 +56,9 @@ impl<T: Tables> Notes<T> {
             form: _,
             watch,
             beside,
-            noted,
             ended: _,
         } = self;
         drop(watch);
-        drop(noted);
         if let Some(beside) = beside {
             beside.end();
         }
@@ -160,8 +154,8 @@ impl<T: Tables> Notes<T> {
         }
     }
 
-    /// Prints a notification, or what the server did wrong at OPENDIR or RELEASEDIR.
-    fn print_noted_frame<W: Write>(&mut self, noted: Noted, out: &mut W) -> Result<(), Stop> {
+    /// Prints a notification, or what the server did wrong at OPENDIR or RELEASEDIR, and hands it on.
+    fn print_noted<W: Write>(&mut self, noted: Noted, out: &mut W) -> Result<(), Stop> {
         if let Noted::SetAside(OtherFrame::Notification { code, len }) = noted {
             print_notification(out, code, len)?;
         }
@@ -171,17 +165,18 @@ impl<T: Tables> Notes<T> {
         if let Some(fault) = fault {
             print_fault(out, fault)?;
         }
+        taken(out.flush())?;
         Ok(())
     }
 
-    /// Prints what was noted of frames, which is gone then.
-    pub(crate) fn print_noted<W: Write>(&mut self, out: &mut W) -> Result<(), Stop> {
-        for place in 0..self.noted.len() {
-            if let Some(noted) = self.noted.get(place).copied() {
-                self.print_noted_frame(noted, out)?;
-            }
-        }
-        self.noted.clear();
+    /// Whether all that was noted of frames is printed.
+    ///
+    /// # Errors
+    ///
+    /// The output refused, or out of memory.
+    pub(crate) fn all_printed(&self) -> Result<(), Stop>
+        ensures { result ≡ self.now.ended }
+    {
         self.ended
     }
 
@@ -198,11 +193,9 @@ impl<T: Tables> FrameNotes for Notes<T> {
     // What is printed is tested alone.
     ghost notes = { λ old new noted. Unit {0} };
 
-    fn note(&mut self, noted: Noted) {
-        if self.noted.len() >= MOST_NOTED {
-            self.ended = Err(Stop::TooMany);
-        } else if self.noted.push(noted).is_err() {
-            self.ended = Err(Stop::NoMemory);
+    fn note<W: Write>(&mut self, noted: Noted, out: &mut W) {
+        if self.ended.is_ok() {
+            self.ended = self.print_noted(noted, out);
         }
     }
 }

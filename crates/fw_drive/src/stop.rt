@@ -20,7 +20,7 @@ pub(crate) enum Stop {
     NoReply,
     /// The device failed: it took no frame, or what came was none.
     DeviceFailed,
-    /// More frames came than are kept.
+    /// As many frames wait for the kernel as are kept.
     TooMany,
     /// Out of memory.
     NoMemory,
