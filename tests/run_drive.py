@@ -468,13 +468,29 @@ def run_packets():
 
 
 def run_trace():
+    """The lines are those of `decode`, but for the faults."""
+    own = 1 << 62
+    agreed = ["> INIT 2 0 56 major 7 minor 31 flags 0x0000000000042041",
+              "< INIT 2 0 80 major 7 minor 31 max_write 4096 flags 0x0000000000042001"]
+    opendir, lists = f"> OPENDIR {own} 1 48 (of this command)", "1 80 fh {} offset 0 size 4096"
+    of = lambda lines: [line for line in lines if line[0] in "<>"]
     lines = drive(["--calls", "--trace"], ["call stat /", "call list / 0"], Server().serve)[0]
-    flags = "ASYNC_READ DO_READDIRPLUS PARALLEL_DIROPS"
-    judge("--trace", [line for line in lines if line[0] in "<>"][:9], [
-        f"> INIT 2 node 0 major 7 minor 31 flags {flags}", f"< 2 major 7 minor 31 flags {flags}",
-        "> GETATTR 4 node 1", "< 4 attr dir ino 1 size 0 nlink 1",
-        f"> OPENDIR {1 << 62} (of this command)", f"< {1 << 62} error 0 (to this command)",
-        "> READDIR 6 node 1 offset 0 size 4096", "< 6", f"> RELEASEDIR {(1 << 62) + 2} (of this command)",
+    judge("--trace", of(lines)[:9], [
+        *agreed, "> GETATTR 4 1 56", "< GETATTR 4 0 120 attr dir ino 1 size 0 nlink 1",
+        opendir, f"< OPENDIR {own} 0 32 fh 7 (to this command)",
+        f"> READDIR 6 {lists.format(7)}", "< READDIR 6 0 16", f"> RELEASEDIR {own + 2} 1 64 fh 7 (of this command)",
+    ])
+    # READDIR has no handle that was given, and a reply is to nothing: `decode` would say both.
+    lines = on_frames(["--trace"], [*MOUNT, "call list / 0", "read p 0", "write", "write"], AGREES,
+                      [NOTICE, reply(own, error=38)], [reply(1000), reply(4, error=2)])[0]
+    judge("--trace of errors and notifications", of(lines), [
+        *agreed, opendir, "< notification INVAL_INODE 40 node 0", f"< OPENDIR {own} ENOSYS 16 (to this command)",
+        f"> READDIR 4 {lists.format(0)}", "< unique 1000 0 16", "< READDIR 4 ENOENT 16",
+    ])
+    # What is no reply by its head answers nothing, and the reply behind it is OPENDIR's.
+    lines = on_frames(["--trace"], [*MOUNT, "call list / 0", "read p 0", "write"], AGREES, [struct.pack("<IiQ", 16, 5, own), reply(own, error=13)])[0]
+    judge("--trace of an error that is positive", of(lines), [
+        *agreed, opendir, f"< OPENDIR {own} EIO 16: the error number is out of range (to this command)", f"< OPENDIR {own} EACCES 16 (to this command)",
     ])
 
 

@@ -95,6 +95,14 @@ impl<A: Allocator + Copy> Decoding<A> {
         }
     }
 
+    /// The judge sees the next transfer: its acts, and their faults.
+    fn see(&mut self, transfer: Transfer<'_>) -> Result<(), Stop<'static>> {
+        match self.judge.see(transfer, &mut self.acts, &mut self.verdicts) {
+            Ok(()) => Ok(()),
+            Err(_) => Err(Stop::NoMemory),
+        }
+    }
+
     /// Writes the line of the next transfer, and notes it.
     pub(crate) fn decode<W: Write>(
         &mut self,
@@ -104,8 +112,7 @@ impl<A: Allocator + Copy> Decoding<A> {
     ) -> Result<(), Stop<'static>> {
         taken(self.write_transfer(transfer, out))?;
         let before = self.judge.unjudged();
-        let seen = self.judge.see(transfer, &mut self.acts, &mut self.verdicts);
-        seen.map_err(|_| Stop::NoMemory)?;
+        self.see(transfer)?;
         taken(write_verdicts(out, self.verdicts.as_slice()))?;
         taken(write_leaving(out, before, self.judge.unjudged()))?;
         taken(out.write_all(b"\n"))?;
@@ -121,6 +128,15 @@ impl<A: Allocator + Copy> Decoding<A> {
     pub fn print<W: Write>(&mut self, transfer: Transfer<'_>, out: &mut W) {
         let _ = self.decode(transfer, false, out);
         let _ = out.flush();
+    }
+
+    /// The same of a transfer that is seen where the judge would accuse wrongly: behind what it says the line has a remark
+    /// in place of its faults.
+    pub fn print_unjudged<W: Write>(&mut self, transfer: Transfer<'_>, remark: &str, out: &mut W) {
+        let _ = self.write_transfer(transfer, out);
+        let _ = writeln!(out, "{remark}");
+        let _ = out.flush();
+        let _ = self.see(transfer);
     }
 
     /// Writes the last line.
