@@ -3,5 +3,6 @@
 mod batch;
 mod faulty;
 mod growths;
+mod releases;
 mod session;
 mod told;

@@ -101,7 +101,7 @@ pub fn lent<'a>(alloc: Global, frames: &'a [Vec<u8>]) -> Result<Vec<&'a [u8]>, A
 }
 
 /// A server at its mount, whose found names are valid for a second.
-fn mounted<A: Allocator + Copy>(heap: A) -> Result<Server<A>, AllocError> {
+pub fn mounted<A: Allocator + Copy>(heap: A) -> Result<Server<A>, AllocError> {
     let mut server = Server::new(heap)?;
     server.remount(1000, 0, Minor::M31);
     Ok(server)

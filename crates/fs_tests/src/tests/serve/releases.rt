@@ -1,0 +1,193 @@
+//! A RELEASE is served while no memory is to be had.
+
+use crate::tests::serve::session::{frames_of, lent, mounted};
+use fail_at::FailAt;
+use fk_wire::{InitFlags, RequestBody};
+use fs_serve::serve;
+use fs_server::{Server, ServerFault};
+use fuse_device::{DeviceEnd, ListDevice};
+use fuse_spec::{Opened, WriteResult};
+use std::alloc::Global;
+use std::process::Abort;
+use std::test::Fail;
+
+/// A server whose memory can be refused.
+type Refusable<'a> = Server<&'a FailAt<Global>>;
+
+/// What is asked first: the file `f` is made and opened, under the node 2 and the file handle 1, and loses its name.
+const OPENED: [(u64, RequestBody<'static>); 3] = [
+    (
+        0,
+        RequestBody::Init {
+            major: 7,
+            minor: 31,
+            flags: InitFlags::DO_READDIRPLUS,
+        },
+    ),
+    (1, RequestBody::Create { name: b"f" }),
+    (1, RequestBody::Unlink { name: b"f" }),
+];
+
+const RELEASE: (u64, RequestBody<'static>) = (2, RequestBody::Release { fh: 1 });
+
+const READ: (u64, RequestBody<'static>) = (
+    2,
+    RequestBody::Read {
+        fh: 1,
+        offset: 0,
+        size: 1,
+    },
+);
+
+const ACCEPTED: Result<WriteResult, DeviceEnd> = Ok(WriteResult::Accepted);
+
+/// The replies under the unique 2 that have no body: without an error, also to a READ of no bytes, with EIO, and with
+/// EBADF (linux/fuse.h, struct fuse_out_header).
+const DONE: [u8; 16] = [16, 0, 0, 0, 0, 0, 0, 0, 2, 0, 0, 0, 0, 0, 0, 0];
+
+const EIO: [u8; 16] = [16, 0, 0, 0, 0xfb, 0xff, 0xff, 0xff, 2, 0, 0, 0, 0, 0, 0, 0];
+
+const EBADF: [u8; 16] = [16, 0, 0, 0, 0xf7, 0xff, 0xff, 0xff, 2, 0, 0, 0, 0, 0, 0, 0];
+
+/// The memory of a server, and memory for what is no part of it.
+#[derive(Clone, Copy)]
+struct Session<'a> {
+    alloc: Global,
+    heap: &'a FailAt<Global>,
+    ample: &'a FailAt<Global>,
+}
+
+impl<'a> Session<'a> {
+    fn new(alloc: Global, heap: &'a FailAt<Global>, ample: &'a FailAt<Global>) -> Session<'a> {
+        Session { alloc, heap, ample }
+    }
+
+    /// What the server sends while it serves these requests, under the uniques 2, 4, 6 and so on, before a device that
+    /// says this to the first send.
+    fn sent_by(
+        &self,
+        server: &mut Refusable<'a>,
+        requests: &[(u64, RequestBody<'static>)],
+        at_send: Result<WriteResult, DeviceEnd>,
+    ) -> Result<Vec<u8>, Fail> {
+        let frames = frames_of(self.alloc, requests)?;
+        let slices = lent(self.alloc, &frames)?;
+        let mut device = ListDevice::new(self.alloc, &slices);
+        device.answer_send(1, at_send);
+        let _end = serve(self.ample, server, &mut device)?;
+        let mut sent = Vec::new(self.alloc);
+        sent.extend_from_slice(device.sent())?;
+        Ok(sent)
+    }
+
+    /// Asserts that a request has this reply while no memory is to be had, and that none is asked for.
+    fn check_takes_none(
+        &self,
+        rt: &impl Abort,
+        server: &mut Refusable<'a>,
+        request: (u64, RequestBody<'static>),
+        reply: [u8; 16],
+    ) -> Result<(), Fail> {
+        self.heap.refuse(1);
+        let sent = self.sent_by(server, &[request], ACCEPTED)?;
+        assert_eq!(rt; sent.as_slice(), reply.as_slice());
+        assert_eq!(rt; self.heap.left(), 1);
+        self.heap.refuse(0);
+        Ok(())
+    }
+
+    /// Asserts what a READ under the file handle is replied.
+    fn check_read(
+        &self,
+        rt: &impl Abort,
+        server: &mut Refusable<'a>,
+        reply: [u8; 16],
+    ) -> Result<(), Fail> {
+        let sent = self.sent_by(server, &[READ], ACCEPTED)?;
+        assert_eq!(rt; sent.as_slice(), reply.as_slice());
+        Ok(())
+    }
+}
+
+/// A file is closed while each request for memory is refused. It is closed once: another RELEASE finds no file handle,
+/// and one of another node finds no node.
+fn check_without_memory<'a>(
+    rt: &impl Abort,
+    session: Session<'a>,
+    server: &mut Refusable<'a>,
+) -> Result<(), Fail> {
+    let _opened = session.sent_by(server, &OPENED, ACCEPTED)?;
+    session.check_takes_none(rt, server, (9, RequestBody::Release { fh: 1 }), EIO)?;
+    session.check_read(rt, server, DONE)?;
+    session.check_takes_none(rt, server, RELEASE, DONE)?;
+    session.check_read(rt, server, EBADF)?;
+    session.check_takes_none(rt, server, RELEASE, EBADF)
+}
+
+/// The file is closed, whatever the device says to the reply.
+fn check_result<'a>(
+    rt: &impl Abort,
+    session: Session<'a>,
+    server: &mut Refusable<'a>,
+    at_send: Result<WriteResult, DeviceEnd>,
+) -> Result<(), Fail> {
+    let _opened = session.sent_by(server, &OPENED, ACCEPTED)?;
+    let _sent = session.sent_by(server, &[RELEASE], at_send)?;
+    session.check_read(rt, server, EBADF)
+}
+
+/// A RELEASE is not done under a unique that is held, and done after an abort too.
+fn check_at_once<'a>(
+    rt: &impl Abort,
+    session: Session<'a>,
+    server: &mut Refusable<'a>,
+) -> Result<(), Fail> {
+    let _opened = session.sent_by(server, &OPENED, ACCEPTED)?;
+    let opened = Opened { nodeid: 2, fh: 1 };
+    let frames = frames_of(session.alloc, &[READ])?;
+    let read = frames.first().expect(rt, "the frame of READ");
+    let _held = server.take(read)?;
+    assert_eq!(rt; server.release(2, opened), Err(ServerFault::RepeatedUnique));
+    server.connection_lost();
+    assert_eq!(rt; server.release(4, opened), Ok(0));
+    assert_eq!(rt; server.release(6, opened), Ok(9));
+    Ok(())
+}
+
+#[test]
+fn a_release_takes_no_memory(rt: HostRuntime) -> Result<(), Fail> {
+    let heap = FailAt::new(rt.alloc());
+    let ample = FailAt::new(rt.alloc());
+    let session = Session::new(rt.alloc(), &heap, &ample);
+    let mut server = mounted(session.heap)?;
+    let checked = check_without_memory(&rt, session, &mut server);
+    server.end();
+    checked
+}
+
+#[test]
+fn a_release_with_each_result(rt: HostRuntime) -> Result<(), Fail> {
+    let heap = FailAt::new(rt.alloc());
+    let session = Session::new(rt.alloc(), &heap, &heap);
+    for at_send in [
+        Ok(WriteResult::NoEntry),
+        Ok(WriteResult::Invalid),
+        Err(DeviceEnd::Ended),
+    ] {
+        let mut server = mounted(session.heap)?;
+        let checked = check_result(&rt, session, &mut server, at_send);
+        server.end();
+        checked?;
+    }
+    Ok(())
+}
+
+#[test]
+fn a_release_at_once(rt: HostRuntime) -> Result<(), Fail> {
+    let heap = FailAt::new(rt.alloc());
+    let session = Session::new(rt.alloc(), &heap, &heap);
+    let mut server = mounted(session.heap)?;
+    let checked = check_at_once(&rt, session, &mut server);
+    server.end();
+    checked
+}
