@@ -470,8 +470,8 @@ def run_packets():
 def run_trace():
     """The lines are those of `decode`, but for the faults."""
     own = 1 << 62
-    agreed = ["> INIT 2 0 56 major 7 minor 31 flags 0x0000000000042041",
-              "< INIT 2 0 80 major 7 minor 31 max_write 4096 flags 0x0000000000042001"]
+    agreed = ["> INIT 2 0 56 major 7 minor 31 flags 0x0000000000042041 ASYNC_READ DONT_MASK DO_READDIRPLUS PARALLEL_DIROPS",
+              "< INIT 2 0 80 major 7 minor 31 max_write 4096 flags 0x0000000000042001 ASYNC_READ DO_READDIRPLUS PARALLEL_DIROPS"]
     opendir, lists = f"> OPENDIR {own} 1 48 (of this command)", "1 80 fh {} offset 0 size 4096"
     of = lambda lines: [line for line in lines if line[0] in "<>"]
     lines = drive(["--calls", "--trace"], ["call stat /", "call list / 0"], Server().serve)[0]
