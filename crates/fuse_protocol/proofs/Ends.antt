@@ -10,7 +10,7 @@ not_end other b e = (
 )
 
 -- What a place says at one default it says at any.
-plain_at : (other : ℕ) (bytes : List ℕ) (k d : ℕ) → k < length bytes → is_end other (get_or bytes k 0) ≡ false
+pub plain_at : (other : ℕ) (bytes : List ℕ) (k d : ℕ) → k < length bytes → is_end other (get_or bytes k 0) ≡ false
     → (get_or bytes k d ≢ 0) × (get_or bytes k d ≢ other)
 plain_at other bytes k d lt e =
     not_end other (get_or bytes k d) (ap (is_end other) (get_or_default bytes k d 0 lt) ∙ e)
