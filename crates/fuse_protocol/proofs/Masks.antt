@@ -28,8 +28,7 @@ at_place : (p : ℕ → Bool) (xs : List ℕ) (k : ℕ)
 at_place p [] k = (λ h. absurd cc, λ h. let q : k < 0 = h.0 in absurd (omega arith))
 at_place p (x ∷ xs) zero = (λ h. (grind arith, h), λ h. h.1)
 at_place p (x ∷ xs) (suc k) =
-    let more = at_place p xs k in
-    (
+    let more = at_place p xs k in (
       λ h. let q = more.0 h in let l : k < length xs = q.0 in (grind arith, q.1),
       λ h. let l : suc k < length (x ∷ xs) = h.0 in more.1 (grind arith, h.1),
     )

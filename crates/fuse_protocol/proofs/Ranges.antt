@@ -1,6 +1,6 @@
 -- Parts of a frame in which a name is looked for.
-use Rattle.std.proofs.Common.{◌≡◌, ◌≢◌, ℕ, suc, ◌+◌, ◌-◌, ◌<◌, ◌≤◌, List, ◌∷◌, ◌++◌, length, take, drop, get_or, true, false, sym, ap, subst, ◌∙◌, refl, length-append, length-drop, add-one, arith}
-use Rattle.std.specs.Prelude.{slice_range, Option, MatchOption, Some, None}
+use Rattle.std.proofs.Common.{◌≡◌, ◌≢◌, ℕ, suc, ◌+◌, ◌-◌, ◌<◌, ◌≤◌, List, ◌∷◌, ◌++◌, length, take, drop, get_or, true, false, sym, ap, subst, ◌∙◌, length-append, length-drop, add-one, arith}
+use Rattle.std.specs.Prelude.{slice_range}
 use Rattle.std.proofs.lemmas.List.{drop-drop, get_or-take, get_or-drop, length-take-le}
 use Rattle.std.proofs.Math.Seq.{take-add, drop-cons, take-append_seam, get_or-append_seam}
 use Rattle.fuse_protocol.specs.Ends.{is_end, HasNoEnd}

@@ -60,8 +60,9 @@ fn end_near(bytes: &[u8], place: usize, stop: usize, other: u8) -> Option<usize>
     Some(place + lowest(bits))
 }
 
-/// Where the first byte is, from a place up to another, that is NUL or the other.
-#[inline(always)]
+/// Where the first byte is, from a place up to another, that is NUL or the other. It is called and not copied,
+/// since the reader has a copy of what is in line for each opcode.
+#[inline(never)]
 pub(crate) fn name_end(bytes: &[u8], start: usize, stop: usize, other: u8) -> Option<usize>
     requires room { 16 ≤ start }
     requires ordered { start ≤ stop }

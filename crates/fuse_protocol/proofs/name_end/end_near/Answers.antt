@@ -1,4 +1,4 @@
-use Rattle.std.proofs.Common.{◌≡◌, ℕ, ◌+◌, ◌-◌, ◌<◌, subst, sym, ap, ◌∙◌, arith}
+use Rattle.std.proofs.Common.{ap, ◌∙◌, arith}
 use Rattle.std.specs.Int.{bit_at}
 use Rattle.std.proofs.lemmas.Nat.Bits.{bit_at-zero}
 use Rattle.fuse_protocol.proofs.Masks.{none_below}
@@ -20,6 +20,6 @@ returns c =
       omega arith,
       found.0,
       λ k from below. none_below c.args.other c.args.bytes.now c.args.place c.args.stop c.ends_in-bits.result c.lowest.result
-      c.ends_in-bits.ensures c.lowest.ensures.below k from below (omega (arith, below, found.0)),
+          c.ends_in-bits.ensures c.lowest.ensures.below k from below (omega (arith, below, found.0)),
       found.1,
     )

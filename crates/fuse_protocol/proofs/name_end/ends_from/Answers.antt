@@ -18,9 +18,8 @@ returns c k =
     let same = bitmask_splat w8 eqb lanes 16 other long (omega arith) in
     let told = ends_bit other lanes k in
     subst (λ m. (bit_at m k ≡ 1) ↔ ((k < 16) × (is_end other (get_or bytes (place + k) 0) ≡ true)))
-    (λ i. bit_or (sym nul i) (sym same i))
-    (
+    (λ i. bit_or (sym nul i) (sym same i)) (
       λ set. let h = told.0 set in let lt : k < 16 = omega (arith, h.0, long) in
-      (lt, sym (ap (is_end other) (get_or-chunk place 16 bytes k 0 lt)) ∙ h.1),
+          (lt, sym (ap (is_end other) (get_or-chunk place 16 bytes k 0 lt)) ∙ h.1),
       λ h. told.1 (omega (arith, h.0, long), ap (is_end other) (get_or-chunk place 16 bytes k 0 h.0) ∙ h.1),
     )

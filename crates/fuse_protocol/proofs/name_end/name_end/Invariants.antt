@@ -1,4 +1,4 @@
-use Rattle.std.proofs.Common.{◌≡◌, ℕ, ◌-◌, ◌<◌, ◌≤◌, false, length, get_or}
+use Rattle.std.proofs.Common.{◌≡◌, ℕ, ◌-◌, ◌<◌, ◌≤◌, false, get_or}
 use Rattle.fuse_protocol.specs.Ends.{is_end}
 use Rattle.fuse_protocol.proofs.name_end.name_end.Given as goal
 

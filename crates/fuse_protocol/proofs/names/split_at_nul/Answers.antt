@@ -1,4 +1,4 @@
-use Rattle.std.proofs.Common.{ℕ, ◌+◌, ◌∷◌, ◌++◌, ap, ◌∙◌, arith}
+use Rattle.std.proofs.Common.{ℕ, ◌+◌, ◌∷◌, ◌++◌, ap, ◌∙◌}
 use Rattle.std.specs.Prelude.{slice_range}
 use Rattle.fuse_protocol.proofs.Splits.{no_nul_in, no_split}
 use Rattle.fuse_protocol.proofs.Ranges.{range_split, other_first}
@@ -18,7 +18,7 @@ returns-then-bytes-end-eq0 c =
       found.1,
       found.2,
       range_split bytes c.args.start end c.args.stop found.0 found.1 c.requires.within
-      ∙ ap (λ (b : ℕ). slice_range bytes c.args.start end ++ b ∷ slice_range bytes (end + 1) c.args.stop) c.if-bytes-end-eq0.true,
+          ∙ ap (λ (b : ℕ). slice_range bytes c.args.start end ++ b ∷ slice_range bytes (end + 1) c.args.stop) c.if-bytes-end-eq0.true,
     )
 
 pub returns-else-bytes-end-eq0 : goal.returns-else-bytes-end-eq0
