@@ -6,7 +6,7 @@ use Rattle.fuse_protocol.proofs.reading.request_as.Goals as goal
 pub returns-then-is_tail-clause-ok : goal.returns-then-is_tail-clause-ok
 returns-then-is_tail-clause-ok c =
     let head = c.requires in
-    let row = sym c.row_of-row.ensures.row in
+    let row = sym c.row_alone-row.ensures.row in
     let size = sym c.size_of_struct-size.ensures.size in
     let extra = sym c.size_of_extensions-extra.ensures in
     let bytes = c.args.bytes.now in
