@@ -1,3 +1,4 @@
+pub mod ConcernLaws
 pub mod FlagLaws
 pub mod Keys
 pub mod NumberLaws

@@ -1,5 +1,5 @@
 -- A table of blocks of marks, as one number is marked.
-use Rattle.std.proofs.Common.{◌≡◌, ℕ, ◌+◌, ◌*◌, ◌/◌, ◌%◌, ◌<◌, cond, length, get_or, Option, Some, None, refl, sym, ◌∙◌, ap, subst, arith, nat_eq, inl, inr}
+use Rattle.std.proofs.Common.{◌≡◌, ℕ, Bool, ◌||◌, ◌+◌, ◌*◌, ◌/◌, ◌%◌, ◌<◌, cond, length, get_or, Option, Some, None, refl, sym, ◌∙◌, ap, subst, arith, nat_eq, inl, inr}
 use Rattle.std.specs.Prelude.{slice_set}
 use Rattle.std.proofs.Math.Nat.{div-add-mod, mod-lt}
 use Rattle.std.proofs.lemmas.Bool.{cases_eq}
@@ -10,7 +10,7 @@ use Rattle.fuse_spec.proofs.Tables.{get_put_here, get_put_there}
 use Rattle.fuse_judge.specs.declared.marks.Block.{Block}
 use Rattle.fuse_judge.specs.declared.marks.Mark.{Mark}
 use Rattle.fuse_judge.specs.declared.marks.Mark.TheVariants as mark
-use Rattle.fuse_judge.specs.Numbers.{block_in, mark_at, mark_in, AreWhole}
+use Rattle.fuse_judge.specs.Numbers.{block_in, mark_at, mark_in, is_forgets, read_mark, AreWhole}
 use Rattle.fuse_judge.proofs.Keys.{same, differ, all_after_put}
 
 in_block : (n : ℕ) → n % 64 < 64
@@ -66,3 +66,19 @@ module _ (numbers : Map Block) (u : ℕ) (m : Mark) (whole : AreWhole numbers) w
       (λ block e. subst (λ b. length b.marks ≡ 64) (same_Some new_block block e)
       (length-set (block_in (get numbers (u / 64))).marks (u % 64) m ∙ whole_block numbers whole (u / 64)))
       (λ q ne block e. whole q block e)
+
+  -- where this stands at the key of its block
+  pub marks_read : (o : Option Block) (f : Bool) → get numbers (u / 64) ≡ o
+      → m ≡ read_mark (is_forgets (mark_at o (u % 64)) || f) → (q : ℕ)
+      → mark_in (put numbers (u / 64) record { marks = slice_set (block_in o).marks (u % 64) m }) q
+      ≡ cond (nat_eq u q) (read_mark (is_forgets (mark_in numbers u) || f)) (mark_in numbers q)
+  marks_read o f e is q = subst
+      (λ p. m ≡ read_mark (is_forgets (mark_at p (u % 64)) || f)
+      → mark_in (put numbers (u / 64) record { marks = slice_set (block_in p).marks (u % 64) m }) q
+      ≡ cond (nat_eq u q) (read_mark (is_forgets (mark_in numbers u) || f)) (mark_in numbers q)) e
+      (λ same_mark. marks_after q ∙ ap (λ n. cond (nat_eq u q) n (mark_in numbers q)) same_mark) is
+
+  pub whole_read : (o : Option Block) → get numbers (u / 64) ≡ o
+      → AreWhole (put numbers (u / 64) record { marks = slice_set (block_in o).marks (u % 64) m })
+  whole_read o e = subst
+      (λ p. AreWhole (put numbers (u / 64) record { marks = slice_set (block_in p).marks (u % 64) m })) e whole_after

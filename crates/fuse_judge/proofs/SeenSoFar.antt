@@ -1,5 +1,5 @@
 -- What is true of the tables and the verdicts in the middle of the acts that are seen.
-use Rattle.std.proofs.Common.{◌≡◌, ℕ, List, [], ◌∷◌, ◌++◌, Option, append_assoc, subst, refl, arith, nat_eq}
+use Rattle.std.proofs.Common.{◌≡◌, ◌≤◌, ℕ, List, [], ◌∷◌, ◌++◌, Option, append_assoc, subst, refl, arith, nat_eq}
 use Rattle.std.proofs.lemmas.Option.{none-some}
 use Rattle.fuse_spec.specs.Values.Maps.{Map}
 use Rattle.fuse_sessions.specs.declared.act.Act.{Act}
@@ -10,11 +10,12 @@ use Rattle.fuse_judge.specs.declared.handle.Handle.{Handle}
 use Rattle.fuse_judge.specs.declared.marks.Block.{Block}
 use Rattle.fuse_judge.specs.declared.nodes.NodeRow.{NodeRow}
 use Rattle.fuse_judge.specs.declared.pending.Waiting.{Waiting}
+use Rattle.fuse_judge.specs.declared.tables.Tables.{Tables}
 use Rattle.fuse_judge.specs.Flags.{AreFlags}
 use Rattle.fuse_judge.specs.Handles.{handle, same_handle}
 use Rattle.fuse_judge.specs.Tallies.{Counts, count_in}
 use Rattle.fuse_judge.specs.Verdicts.{IsVerdict, AreVerdicts}
-use Rattle.fuse_judge.specs.Seen.{JudgeState, HasSeen}
+use Rattle.fuse_judge.specs.Seen.{JudgeState, HasRoom, HasSeen}
 use Rattle.fuse_judge.proofs.VerdictLaws.{verdicts-more}
 
 -- The first acts are seen, and each has its verdict.
@@ -79,3 +80,26 @@ seen_nothing flags numbers nodes waiting named used open_counts open_nodes are a
         few = omega arith;
       };
     }
+
+-- Tables with room for some acts have room for fewer.
+pub room_for_fewer : {A : Type 0} (t : Tables A) (more acts : ℕ) → acts ≤ more → HasRoom more t → HasRoom acts t
+room_for_fewer t more acts few has = record {
+  numbers = omega (arith, few, has.numbers);
+  nodes = omega (arith, few, has.nodes);
+  waiting = omega (arith, few, has.waiting);
+  named = omega (arith, few, has.named);
+  used = omega (arith, few, has.used);
+  open_counts = omega (arith, few, has.open_counts);
+  open_nodes = omega (arith, few, has.open_nodes);
+}
+
+pub room_for_none : {A : Type 0} (t : Tables A) → HasRoom 0 t
+room_for_none t = record {
+  numbers = omega arith;
+  nodes = omega arith;
+  waiting = omega arith;
+  named = omega arith;
+  used = omega arith;
+  open_counts = omega arith;
+  open_nodes = omega arith;
+}

@@ -6,5 +6,6 @@ pub mod Handles
 pub mod Pending
 pub mod Nodes
 pub mod Opens
+pub mod Concerns
 pub mod Seen
 pub mod Transfers

@@ -1,12 +1,16 @@
 -- What a judge of transfers has seen, and what it says of the next.
-use Rattle.std.specs.Prelude.{◌≡◌, ◌↔◌, ℕ, List, [], ◌∷◌, ◌++◌, Option, Some, length, slice_get}
+use Rattle.std.specs.Prelude.{◌≡◌, ◌↔◌, ℕ, List, [], ◌∷◌, ◌++◌, Option, Some, None, length, slice_get}
 use Rattle.fuse_sessions.specs.declared.act.Act.{Act}
+use Rattle.fuse_sessions.specs.declared.act.Asked.{Asked}
 use Rattle.fuse_sessions.specs.declared.fault.Fault.{Fault}
 use Rattle.fuse_sessions.specs.declared.known.Known.{Known}
 use Rattle.fuse_sessions.specs.declared.transfer.Transfer.{Transfer}
+use Rattle.fuse_sessions.specs.declared.transfer.Transfer.TheVariants as transfer
 use Rattle.fuse_sessions.specs.Sessions.{Session}
 use Rattle.fuse_sessions.specs.Faults.{HasFaultAt}
 use Rattle.fuse_sessions.specs.Frames.{AreActs, IsSession}
+use Rattle.fuse_sessions.specs.Waiting.{waits}
+use Rattle.session_frames.specs.Numbers.{IsReplyNumber}
 use Rattle.fuse_judge.specs.Seen.{JudgeState, HasSeen}
 
 -- What contracts see of a judge of transfers.
@@ -32,3 +36,9 @@ pub record IsJudged (transfers : List Transfer) (s : Session) (t : Transfer) (ol
   pub faults : AreFaults s acts verdicts
   pub each : length verdicts ≡ length acts
   pub seen : HasSeenTransfers (transfers ++ t ∷ []) (s ++ acts) new
+
+-- This waits for what a transfer writes: nothing, where it writes no frame.
+abbrev pub IsAskedFor : Session → Transfer → Option Asked → Type 0
+IsAskedFor s (transfer.Written bytes taken) asked =
+    (n : ℕ) × IsReplyNumber (transfer.Written bytes taken) n × (waits s n ≡ asked)
+IsAskedFor s t asked = asked ≡ None

@@ -10,7 +10,7 @@ ghost use Rattle.fuse_judge.specs.Seen.{HasSeen};
 use crate::flags::no_flags;
 use crate::opens::OpenFiles;
 use crate::pending::{Pending, asked_under};
-use crate::tables::Tables;
+use crate::tables::{Tables, make_room};
 use crate::tally::Tally;
 use fuse_sessions::{Act, Asked, Fault};
 use fuse_tables::RisingTable;
@@ -26,11 +26,13 @@ pub struct Judge<A: Allocator = Global> {
     pub(crate) tables: Tables<A>,
     /// How many acts were seen.
     acts: u64,
+    /// For how many more the tables have room.
+    room: usize,
 }
 
 impl<A: Allocator> Model for Judge<A> {
     ghost use Rattle.std.specs.Coded.{codes};
-    ghost use Rattle.fuse_judge.specs.Seen.{JudgeState, HasSeenFew, state_of};
+    ghost use Rattle.fuse_judge.specs.Seen.{JudgeState, HasRoom, HasSeenFew, state_of};
 
     ghost Value = { JudgeState };
 
@@ -38,7 +40,7 @@ impl<A: Allocator> Model for Judge<A> {
 
     ghost view = { λ j. state_of j.tables };
 
-    ghost invariant = { λ j. HasSeenFew j.acts (state_of j.tables) };
+    ghost invariant = { λ j. HasSeenFew j.acts (state_of j.tables) × HasRoom j.room j.tables };
 }
 
 impl<A: Allocator + Copy> Judge<A> {
@@ -62,6 +64,7 @@ impl<A: Allocator + Copy> Judge<A> {
                 },
             },
             acts: 0,
+            room: 0,
         }
     }
 
@@ -90,15 +93,16 @@ impl<A: Allocator + Copy> Judge<A> {
         ensures refused { OnErr result ((before : Session) → HasSeen before self.old → HasSeen before self.new) }
         ensures len { OnOk result (length verdicts.new.items ≡ length acts.now) }
     {
-        let more = acts.len() as u64;
-        if LIMIT < self.acts || LIMIT - self.acts < more {
+        let more = acts.len();
+        if LIMIT < self.acts || LIMIT - self.acts < more as u64 {
             return Err(AllocError);
         }
         verdicts.clear();
-        verdicts.reserve(acts.len())?;
-        self.tables.reserve(acts.len())?;
+        verdicts.reserve(more)?;
+        make_room(&mut self.tables, &mut self.room, more)?;
         self.tables.see(acts, verdicts);
-        self.acts += more;
+        self.room -= more;
+        self.acts += more as u64;
         Ok(())
     }
 }

@@ -3,6 +3,7 @@
 #![tactic(auto)]
 
 mod change;
+mod concern;
 mod flags;
 #[cfg(test)]
 mod frame_tests;
@@ -17,7 +18,6 @@ mod open_change;
 mod opens;
 mod pending;
 mod projections;
-mod rows;
 mod session;
 mod tables;
 mod tally;

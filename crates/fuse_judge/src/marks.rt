@@ -1,10 +1,8 @@
 //! Marks of numbers, in a table of blocks.
 
-ghost use Rattle.std.specs.Prelude.{◌≡◌, ℕ, ◌/◌, ◌+◌, ◌<◌, ◌≤◌, if◌then◌else◌, nat_eq};
-ghost use Rattle.fuse_spec.specs.Values.Maps.{get};
-ghost use Rattle.fuse_judge.specs.Numbers.{mark_in, block_in, read_mark, AreWhole};
+ghost use Rattle.std.specs.Prelude.{◌≡◌, ℕ, ◌+◌, ◌<◌, ◌≤◌, ◌||◌, if◌then◌else◌, nat_eq};
+ghost use Rattle.fuse_judge.specs.Numbers.{mark_in, is_forgets, read_mark, AreWhole};
 
-use crate::rows::write;
 use fuse_tables::RisingTable;
 use std::alloc::Allocator;
 
@@ -40,36 +38,30 @@ pub(crate) fn mark_of<A: Allocator + Copy>(numbers: &Marks<A>, unique: u64) -> M
     }
 }
 
-/// The block of a key.
-fn block_of<A: Allocator + Copy>(numbers: &Marks<A>, key: u64) -> Block
-    ensures { result ≡ block_in (get numbers.now.entries key) }
-{
-    match numbers.get(key) {
-        Some(block) => *block,
-        None => Block {
-            marks: [Mark::Unread; MARKS],
-        },
-    }
-}
-
-/// Marks a number.
+/// Marks a number that is read, as that of a FORGET if it is or was one.
 pub(crate) fn set_mark<A: Allocator + Copy>(numbers: &mut Marks<A>, unique: u64, is_forget: bool)
     requires { 0 < numbers.old.room }
     ensures marks { AreWhole numbers.old.entries → (q : ℕ) → mark_in numbers.new.entries q
-        ≡ (if nat_eq unique q then read_mark is_forget else mark_in numbers.old.entries q) }
+        ≡ (if nat_eq unique q then read_mark (is_forgets (mark_in numbers.old.entries unique) || is_forget)
+        else mark_in numbers.old.entries q) }
     ensures whole { AreWhole numbers.old.entries → AreWhole numbers.new.entries }
     ensures room { numbers.old.room ≤ numbers.new.room + 1 }
 {
-    let mut block = block_of(numbers, unique / 64);
-    block.marks[(unique % 64) as usize] = read(is_forget);
-    write(numbers, unique / 64, block);
+    let place = (unique % 64) as usize;
+    if let Some(block) = numbers.get_mut(unique / 64) {
+        block.marks[place] = read(block.marks[place], is_forget);
+        return;
+    }
+    let mut marks = [Mark::Unread; MARKS];
+    marks[place] = read(Mark::Unread, is_forget);
+    numbers.put(unique / 64, Block { marks });
 }
 
-/// The mark of a number that was read.
-fn read(is_forget: bool) -> Mark
-    ensures { result ≡ read_mark is_forget }
+/// The mark of a number that is read, by that from before.
+fn read(mark: Mark, is_forget: bool) -> Mark
+    ensures { result ≡ read_mark (is_forgets mark || is_forget) }
 {
-    if is_forget {
+    if matches!(mark, Mark::Forget) || is_forget {
         Mark::Forget
     } else {
         Mark::Request

@@ -13,7 +13,6 @@ ghost use Rattle.fuse_judge.specs.Tallies.{one_if};
 ghost use Rattle.fuse_judge.specs.Verdicts.{IsFault};
 
 use crate::node_change::{NodeChange, node_change_of};
-use crate::rows::write;
 use fuse_sessions::{Act, Fault, File};
 use fuse_tables::RisingTable;
 use std::alloc::Allocator;
@@ -141,7 +140,7 @@ fn forget<A: Allocator + Copy>(nodes: &mut RisingTable<NodeRow, A>, node: u64, l
         most: row.most - lookups,
         ..row
     };
-    write(nodes, node, left);
+    let _old = nodes.replace(node, left);
 }
 
 /// One, where an entry is certain to be counted.
@@ -173,20 +172,20 @@ fn give<A: Allocator + Copy>(
         → AreNodes (s ++ Gives node file is_certain ∷ []) nodes.new.entries }
     ensures room { nodes.old.room ≤ nodes.new.room + 1 }
 {
-    let Some(row) = nodes.get(node) else {
-        let first = NodeRow {
-            least: certainly(is_certain),
-            most: 1,
-            file,
+    if let Some(row) = nodes.get_mut(node) {
+        *row = NodeRow {
+            least: row.least + certainly(is_certain),
+            most: row.most + 1,
+            file: file_given(*row, file),
         };
-        return write(nodes, node, first);
+        return;
+    }
+    let first = NodeRow {
+        least: certainly(is_certain),
+        most: 1,
+        file,
     };
-    let more = NodeRow {
-        least: row.least + certainly(is_certain),
-        most: row.most + 1,
-        file: file_given(*row, file),
-    };
-    write(nodes, node, more);
+    nodes.put(node, first);
 }
 
 /// Writes down what an act does to the counts of nodes.

@@ -54,7 +54,6 @@ pub(crate) fn note_number<A: Allocator + Copy>(numbers: &mut Marks<A>, act: Act)
     ensures room { numbers.old.room ≤ numbers.new.room + 1 }
 {
     if let Some(reading) = read_by(act) {
-        let is_forget = was_forget(numbers, reading.unique) | reading.is_forget;
-        set_mark(numbers, reading.unique, is_forget);
+        set_mark(numbers, reading.unique, reading.is_forget);
     }
 }

@@ -25,7 +25,6 @@ use crate::handle::Handle;
 use crate::marks::Marks;
 use crate::named::{add_names, add_uses, take_names, take_uses};
 use crate::numbers::{was_forget, was_read};
-use crate::rows::write;
 use crate::tally::Tally;
 use fuse_sessions::{Act, Asked, Fault, Fit, Taken};
 use fuse_tables::RisingTable;
@@ -275,15 +274,10 @@ fn interrupt<A: Allocator + Copy>(
         → AreInterrupted s rows.old.entries → AreInterrupted (s ++ act ∷ []) rows.new.entries }
     ensures room { rows.old.room ≤ rows.new.room }
 {
-    let Some(row) = rows.get(unique) else {
-        return;
-    };
-    let row = Waiting {
-        interrupts: row.interrupts + one_if(interrupts),
-        agains: row.agains + one_if(agains),
-        ..*row
-    };
-    let _old = rows.replace(unique, row);
+    if let Some(row) = rows.get_mut(unique) {
+        row.interrupts += one_if(interrupts);
+        row.agains += one_if(agains);
+    }
 }
 
 /// Writes down what an act does to the requests that wait.

@@ -4,7 +4,8 @@ ghost use Rattle.std.specs.Prelude.{◌≡◌, [], List, OnErr, OnOk};
 ghost use Rattle.fuse_sessions.specs.declared.transfer.Transfer.{Transfer};
 ghost use Rattle.fuse_sessions.specs.Sessions.{Session};
 ghost use Rattle.fuse_sessions.specs.Waiting.{waits};
-ghost use Rattle.fuse_judge.specs.Transfers.{HasSeenTransfers, IsJudged};
+ghost use Rattle.fuse_judge.specs.Seen.{HasSeen};
+ghost use Rattle.fuse_judge.specs.Transfers.{HasSeenTransfers, IsAskedFor, IsJudged};
 
 use crate::judge::Judge;
 use fuse_protocol::{Agreed, BEFORE_INIT, Unjudged};
@@ -29,6 +30,16 @@ impl<A: Allocator> Model for SessionJudge<A> {
     ghost coded = { Prim.hlevel (codes) };
 
     ghost view = { λ j. record { judge = j.judge; known = j.known } };
+}
+
+/// The request that waits for what a transfer writes. What is read answers none, and is not looked up.
+fn asked_for<A: Allocator + Copy>(judge: &Judge<A>, transfer: Transfer<'_>) -> Option<Asked>
+    ensures { (s : Session) → HasSeen s judge.now → IsAskedFor s transfer.entry result }
+{
+    match transfer {
+        Transfer::Written(_, _) => judge.waiting(reply_number(transfer)),
+        _ => None,
+    }
 }
 
 impl<A: Allocator + Copy> SessionJudge<A> {
@@ -85,7 +96,7 @@ impl<A: Allocator + Copy> SessionJudge<A> {
         ensures refused { OnErr result ((before : List Transfer) (s : Session) → HasSeenTransfers before s self.old
             → HasSeenTransfers before s self.new) }
     {
-        let asked = self.judge.waiting(reply_number(transfer));
+        let asked = asked_for(&self.judge, transfer);
         let known = write_transfer(acts, self.known, asked, transfer)?;
         self.judge.see(acts, verdicts)?;
         self.known = known;

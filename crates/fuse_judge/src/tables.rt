@@ -11,6 +11,7 @@ ghost use Rattle.fuse_judge.specs.Pending.{ArePending, AreWaiting};
 ghost use Rattle.fuse_judge.specs.Seen.{HasSeen, HasRoom, state_of};
 ghost use Rattle.fuse_judge.specs.Verdicts.{IsVerdict, AreVerdicts};
 
+use crate::concern::{Concern, concern_of};
 use crate::flags::{
     Flags, fault_of_arrival, fault_of_beginning, fault_of_write, has_several_threads, note_flags,
 };
@@ -73,6 +74,34 @@ fn shows_end<A: Allocator + Copy>(pending: &Pending<A>, flags: Flags, act: Act) 
         Act::Ends => true,
         _ => false,
     }
+}
+
+/// For how many acts room is made at once, at least: so most frames need none made.
+const BATCH: usize = 64;
+
+/// Makes room for so many acts, where there is less.
+///
+/// # Errors
+///
+/// Out of memory.
+pub(crate) fn make_room<A: Allocator + Copy>(
+    tables: &mut Tables<A>,
+    room: &mut usize,
+    acts: usize,
+) -> Result<(), AllocError>
+    requires { HasRoom room.old tables.old }
+    ensures kept { (s : Session) → HasSeen s (state_of tables.old) → HasSeen s (state_of tables.new) }
+    ensures room { HasRoom room.new tables.new }
+    ensures enough { OnOk result (acts ≤ room.new) }
+{
+    if acts <= *room {
+        return Ok(());
+    }
+    *room = 0;
+    let made = acts.max(BATCH);
+    tables.reserve(made)?;
+    *room = made;
+    Ok(())
 }
 
 impl<A: Allocator + Copy> Tables<A> {
@@ -156,6 +185,26 @@ impl<A: Allocator + Copy> Tables<A> {
         ensures right { (s : Session) → HasSeen s (state_of self.old) → HasSeen (s ++ act.now ∷ []) (state_of self.new) }
         ensures room { (acts : ℕ) → HasRoom (acts + 1) self.old → HasRoom acts self.new }
     {
+        match concern_of(*act) {
+            Concern::Nothing => {}
+            Concern::Number => {
+                note_flags(&mut self.flags, *act, false);
+                note_number(&mut self.numbers, *act);
+            }
+            Concern::Requests => note_pending(&mut self.pending, *act),
+            Concern::Nodes => note_nodes(&mut self.nodes, *act),
+            Concern::OpenFiles => note_opens(&mut self.opens, *act),
+            Concern::Several => self.note_all(act),
+        }
+    }
+
+    /// Writes the next act down in each table.
+    fn note_all(&mut self, act: &Act)
+        requires room { HasRoom 1 self.old }
+        requires few { (s : Session) × HasSeen s (state_of self.old) × (2 * length s + 2 < 2 ^ 64) }
+        ensures right { (s : Session) → HasSeen s (state_of self.old) → HasSeen (s ++ act.now ∷ []) (state_of self.new) }
+        ensures room { (acts : ℕ) → HasRoom (acts + 1) self.old → HasRoom acts self.new }
+    {
         let shows = shows_end(&self.pending, self.flags, *act);
         note_flags(&mut self.flags, *act, shows);
         note_number(&mut self.numbers, *act);
@@ -173,6 +222,7 @@ impl<A: Allocator + Copy> Tables<A> {
         ensures verdicts { (s : Session) → HasSeen s (state_of self.old) → AreVerdicts s acts.now verdicts.new.items }
         ensures right { (s : Session) → HasSeen s (state_of self.old) → HasSeen (s ++ acts.now) (state_of self.new) }
         ensures len { length verdicts.new.items ≡ length acts.now }
+        ensures room { (more : ℕ) → HasRoom (length acts.now + more) self.old → HasRoom more self.new }
     {
         for act in acts {
             verdicts.push_reserved(self.fault(*act));

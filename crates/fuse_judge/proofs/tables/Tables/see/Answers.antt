@@ -18,4 +18,14 @@ loop-act-preserved g c =
       rw c.push_reserved.ensures.capacity seen.2,
       c.note.ensures.room (length c.args.acts.now - (c.loop-act.act-index + 1))
           (subst (λ n. HasRoom n c.loop-act.self) left seen.3),
+      λ more has.
+          let left_with : length c.args.acts.now - c.loop-act.act-index + more
+          ≡ length c.args.acts.now - (c.loop-act.act-index + 1) + more + 1 = omega (arith, c.loop-act-test.true) in
+          c.note.ensures.room (length c.args.acts.now - (c.loop-act.act-index + 1) + more)
+          (subst (λ n. HasRoom n c.loop-act.self) left_with (seen.4 more has)),
     )
+
+pub returns-clause-room : goal.returns-clause-room
+returns-clause-room g c = λ more has.
+    let none : length c.args.acts.now - c.loop-act.act-index + more ≡ more = omega (arith, c.loop-act-test.false) in
+    subst (λ n. HasRoom n c.loop-act.self) none (c.loop-act.invariant.4 more has)

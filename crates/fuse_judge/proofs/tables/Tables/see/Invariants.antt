@@ -1,4 +1,4 @@
-use Rattle.std.proofs.Common.{◌≡◌, ◌≤◌, ◌-◌, length, take, vec_capacity}
+use Rattle.std.proofs.Common.{◌≡◌, ◌≤◌, ◌+◌, ◌-◌, ℕ, length, take, vec_capacity}
 use Rattle.fuse_judge.specs.Seen.{HasRoom, state_of}
 use Rattle.fuse_judge.proofs.SeenSoFar.{AreSeen}
 use Rattle.fuse_judge.proofs.tables.Tables.see.Given as goal
@@ -9,3 +9,4 @@ invariant-loop-act g l =
     × (length l.verdicts.items ≡ l.act-index)
     × (length l.acts ≤ vec_capacity l.verdicts)
     × HasRoom (length l.acts - l.act-index) l.self
+    × ((more : ℕ) → HasRoom (length l.acts + more) l.fn.self → HasRoom (length l.acts - l.act-index + more) l.self)
