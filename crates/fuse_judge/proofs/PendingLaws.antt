@@ -8,6 +8,7 @@ use Rattle.std.proofs.lemmas.Grind.{common_steps}
 use Rattle.std.proofs.lemmas.List.{append-nil}
 use Rattle.std.proofs.lemmas.List.Elements.{filter-append}
 use Rattle.fuse_spec.specs.Values.Maps.{Map, get, put, remove}
+use Rattle.fuse_spec.proofs.Tables.{get_gone_here, get_gone_there}
 use Rattle.fuse_sessions.specs.declared.act.Act.{Act}
 use Rattle.fuse_sessions.specs.declared.act.Act.TheVariants as act
 use Rattle.fuse_sessions.specs.declared.act.Asked.{Asked}
@@ -222,15 +223,21 @@ module _ (xs : List (ℕ × Asked)) (rows : Map Waiting) (u : ℕ) (named : Coun
       sum w = sum_ended w xs u (Some row) (are.once u ∙ ap (entry_of u) there)
           ∙ ap (λ k. sum_by w xs - k) (one_sum w (u, row.asked))
 
-  pub ended_none : get rows u ≡ None → AreListed (without u xs) (remove rows u) named used
+  pub ended_none : get rows u ≡ None → AreListed (without u xs) rows named used
   ended_none gone = record {
-    once = once_ended xs rows u are.once;
+    once = λ q. once_ended xs rows u are.once q ∙ ap (entry_of q) (there q);
     names = λ n. are.names n ∙ sym (sum (λ e. names_of n e.1));
     uses = λ f. are.uses f ∙ sym (sum (λ e. uses_of f e.1));
   }
     where
       sum : (w : ℕ × Asked → ℕ) → sum_by w (without u xs) ≡ sum_by w xs
       sum w = sum_ended w xs u None (are.once u ∙ ap (entry_of u) gone) ∙ omega arith
+
+      there : (q : ℕ) → get (remove rows u) q ≡ get rows q
+      there q = elim (cases_eq u q) [
+        | inl e ↦ subst (λ k. get (remove rows u) k ≡ get rows k) e (get_gone_here rows u ∙ sym gone)
+        | inr ne ↦ get_gone_there rows u q (λ h. ne (sym h))
+      ]
 
   pub listed_asked : (asked : Asked) (names : Counts ℕ) (uses : Counts Handle) → get rows u ≡ None
       → ((n : ℕ) → count_in nat_eq names n ≡ count_in nat_eq named n + names_of n asked)

@@ -145,6 +145,7 @@ fn is_of_flags(act: Act) -> bool
 }
 
 /// What is known after one more act, which shows the connection's end or not.
+#[inline(always)]
 fn flags_with(flags: Flags, act: Act, shows: bool) -> Flags
     ensures { (s : Session) → AreFlags s flags → shows ≡ shows_end (s, act) → AreFlags (s ++ act ∷ []) result }
 {
@@ -163,6 +164,7 @@ fn flags_with(flags: Flags, act: Act, shows: bool) -> Flags
 }
 
 /// Writes down what an act makes known, which shows the connection's end or not.
+#[inline(always)]
 pub(crate) fn note_flags(flags: &mut Flags, act: Act, shows: bool)
     ensures { (s : Session) → AreFlags s flags.old → shows ≡ shows_end (s, act)
         → AreFlags (s ++ act ∷ []) flags.new }

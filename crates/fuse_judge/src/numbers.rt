@@ -48,6 +48,7 @@ pub(crate) fn fault_of_number<A: Allocator + Copy>(
 }
 
 /// Marks the number that an act reads.
+#[inline(always)]
 pub(crate) fn note_number<A: Allocator + Copy>(numbers: &mut Marks<A>, act: Act)
     requires { 0 < numbers.old.room }
     ensures kept { (s : Session) → AreNumbers s numbers.old.entries → AreNumbers (s ++ act ∷ []) numbers.new.entries }

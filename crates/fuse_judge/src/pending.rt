@@ -216,10 +216,12 @@ fn end<A: Allocator + Copy>(pending: &mut Pending<A>, unique: u64)
     ensures named_room { pending.old.named.room ≤ pending.new.named.room }
     ensures used_room { pending.old.used.room ≤ pending.new.used.room }
 {
-    if let Some(row) = pending.rows.remove(unique) {
-        take_names(&mut pending.named, row.asked);
-        take_uses(&mut pending.used, row.asked);
-    }
+    let Some(row) = pending.rows.get(unique) else {
+        return;
+    };
+    take_names(&mut pending.named, row.asked);
+    take_uses(&mut pending.used, row.asked);
+    let _row = pending.rows.remove(unique);
 }
 
 /// A request waits, under a number under which none does.
@@ -281,6 +283,7 @@ fn interrupt<A: Allocator + Copy>(
 }
 
 /// Writes down what an act does to the requests that wait.
+#[inline(always)]
 pub(crate) fn note_pending<A: Allocator + Copy>(pending: &mut Pending<A>, act: Act)
     requires room { 0 < pending.old.rows.room }
     requires named_room { 2 ≤ pending.old.named.room }

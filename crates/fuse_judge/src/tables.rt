@@ -198,7 +198,8 @@ impl<A: Allocator + Copy> Tables<A> {
         }
     }
 
-    /// Writes the next act down in each table.
+    /// Writes the next act down in each table. Few acts are of several.
+    #[inline(never)]
     fn note_all(&mut self, act: &Act)
         requires room { HasRoom 1 self.old }
         requires few { (s : Session) × HasSeen s (state_of self.old) × (2 * length s + 2 < 2 ^ 64) }
