@@ -1,4 +1,3 @@
-use Rattle.std.proofs.Common.{sym}
 use Rattle.fuse_sessions.proofs.FrameLaws.{lead-more}
 use Rattle.fuse_judge.proofs.TransferLaws.{acts_for, judged_once}
 use Rattle.fuse_judge.proofs.session.SessionJudge.see.Goals as goal
