@@ -1,6 +1,6 @@
--- What a kernel, a server and a device must not do: for each act the fault that it has after a session. The names of the
--- faults are those that are printed. Sources: linux/fuse.h, the kernel's fuse.rst and dev.c, libfuse's low-level notes.
-use Rattle.std.specs.Prelude.{◌≡◌, ◌≢◌, ◌<◌, ◌⊎◌, ℕ, ◌+◌, ◌%◌, max, List, ◌++◌, Option, Some, None, IsTrue, IsFalse, slice_get, take}
+-- What a kernel, a server and a device must not do, and what is odd: for each act the fault or the warning that it has
+-- after a session. The names of the faults are those that are printed. Sources: linux/fuse.h, the kernel's fuse.rst and dev.c, libfuse's low-level notes.
+use Rattle.std.specs.Prelude.{◌≡◌, ◌≢◌, ◌<◌, ◌⊎◌, ℕ, ◌+◌, ◌%◌, max, Bool, List, ◌++◌, Option, Some, None, IsTrue, IsFalse, slice_get, take}
 use Rattle.fuse_protocol.specs.declared.opcode.Opcode.{Opcode}
 use Rattle.fuse_protocol.specs.declared.opcode.Opcode.TheVariants as op
 use Rattle.fuse_sessions.specs.declared.act.Act.{Act}
@@ -19,6 +19,7 @@ use Rattle.fuse_sessions.specs.Waiting.{waits, is_named, is_used}
 use Rattle.fuse_sessions.specs.Numbers.{was_read, was_forget, is_out_of_order, was_anything_read, has_agreed, has_several_readers, has_several_threads, interrupts, agains, has_ended, is_surely_over}
 use Rattle.fuse_sessions.specs.Counts.{least_count, most_count, known}
 use Rattle.fuse_sessions.specs.OpenFiles.{opened, has_none, MayUse, HasOpen}
+use Rattle.fuse_sessions.specs.Warnings.{IsGivenAgain, IsOpenedAgain, IsThere, IsInterruptedByNobody, IsAgainTooOften}
 
 -- The first request is INIT, there is no other, and none comes before INIT is accepted.
 abbrev pub BreaksBeginning : Session → Opcode → Fault → Type 0
@@ -116,11 +117,12 @@ BreaksReply s unique f = ⊥
 -- A reply to an INTERRUPT is of a request that was read, and of an INTERRUPT while that request waits. Once the request
 -- is answered it is no fault, since the server may have met them the other way round. Where several threads use the
 -- device the INTERRUPT may stand before its request.
-abbrev pub BreaksReplyToInterrupt : Session → ℕ → Fault → Type 0
-BreaksReplyToInterrupt s original fault.ReplyToNothing = IsFalse (has_several_threads s) × IsFalse (was_read s original)
-BreaksReplyToInterrupt s original fault.ReplyToNoInterrupt = IsFalse (has_several_threads s)
+abbrev pub BreaksReplyToInterrupt : Session → ℕ → (is_again : Bool) → Taken → Fault → Type 0
+BreaksReplyToInterrupt s original is_again t fault.ReplyToNothing = IsFalse (has_several_threads s) × IsFalse (was_read s original)
+BreaksReplyToInterrupt s original is_again t fault.ReplyToNoInterrupt = IsFalse (has_several_threads s)
     × IsTrue (was_read s original) × (waits s original ≢ None) × (interrupts s original ≡ 0)
-BreaksReplyToInterrupt s original f = ⊥
+BreaksReplyToInterrupt s original is_again t fault.AgainTooOften = IsAgainTooOften s original is_again t
+BreaksReplyToInterrupt s original is_again t f = ⊥
 
 -- A node that is counted stays of one file. (linux/fuse.h: nodeid and generation are unique)
 abbrev pub BreaksGift : Session → ℕ → File → Fault → Type 0
@@ -131,6 +133,7 @@ BreaksGift s node file fault.NodeOfTwoKinds = (0 < least_count s node)
 BreaksGift s node file fault.NodeOfTwoInodeNumbers = (0 < least_count s node)
     × (old : File) × (known s node ≡ Some old) × (old.generation ≡ file.generation) × (old.kind ≡ file.kind)
     × (old.ino ≢ file.ino)
+BreaksGift s node file fault.NodeGivenAgain = IsGivenAgain s node file
 BreaksGift s node file f = ⊥
 
 -- And so do its attributes.
@@ -140,6 +143,19 @@ BreaksAttributes s node kind ino fault.NodeOfTwoKinds = (0 < least_count s node)
 BreaksAttributes s node kind ino fault.NodeOfTwoInodeNumbers = (0 < least_count s node)
     × (old : File) × (known s node ≡ Some old) × (old.kind ≡ kind) × (old.ino ≢ ino)
 BreaksAttributes s node kind ino f = ⊥
+
+-- Of what else a reply says some is odd.
+abbrev pub WarnsOfError : Session → ℕ → Fault → Type 0
+WarnsOfError s unique fault.InterruptedByNobody = IsInterruptedByNobody s unique
+WarnsOfError s unique f = ⊥
+
+abbrev pub WarnsOfMissing : Session → ℕ → Fault → Type 0
+WarnsOfMissing s node fault.NoSuchNode = IsThere s node
+WarnsOfMissing s node f = ⊥
+
+abbrev pub WarnsOfOpening : Session → OpenFile → Fault → Type 0
+WarnsOfOpening s file fault.HandleGivenAgain = IsOpenedAgain s file
+WarnsOfOpening s file f = ⊥
 
 -- No request is read once the connection has ended.
 abbrev pub BreaksArrival : Session → Fault → Type 0
@@ -160,10 +176,13 @@ Breaks s (act.Uses file) f = BreaksUse s file f
 Breaks s (act.Releases file) f = BreaksRelease s file f
 Breaks s (act.Writes size) f = BreaksWrite s size f
 Breaks s (act.Takes unique t body) f = BreaksTaking s unique t body f
+Breaks s (act.Interrupted unique) f = WarnsOfError s unique f
 Breaks s (act.Replies unique t) f = BreaksReply s unique f
-Breaks s (act.RepliesToInterrupt original is_again t) f = BreaksReplyToInterrupt s original f
+Breaks s (act.RepliesToInterrupt original is_again t) f = BreaksReplyToInterrupt s original is_again t f
 Breaks s (act.Gives node file is_certain) f = BreaksGift s node file f
 Breaks s (act.Describes node kind ino) f = BreaksAttributes s node kind ino f
+Breaks s (act.Missing node errno) f = WarnsOfMissing s node f
+Breaks s (act.Opens file) f = WarnsOfOpening s file f
 Breaks s other f = ⊥
 
 -- Of the next acts, the one at this place has this fault.

@@ -19,7 +19,7 @@ use Rattle.fuse_replies.specs.Replies as answer
 use Rattle.fuse_replies.specs.Records.{entry_records_from}
 use Rattle.fuse_replies.specs.Notifications.{IsNotification}
 use Rattle.fuse_sessions.specs.declared.act.Act.{Act}
-use Rattle.fuse_sessions.specs.declared.act.Act.TheVariants.{Faulty, Takes, Replies, Resends, RepliesToInterrupt, SeveralReaders, SeveralWriters, Ends}
+use Rattle.fuse_sessions.specs.declared.act.Act.TheVariants.{Faulty, Takes, Interrupted, Replies, Resends, RepliesToInterrupt, SeveralReaders, SeveralWriters, Ends}
 use Rattle.fuse_sessions.specs.declared.act.Asked.{Asked}
 use Rattle.fuse_sessions.specs.declared.act.Fit.{Fit}
 use Rattle.fuse_sessions.specs.declared.act.Fit.TheVariants as fit
@@ -116,9 +116,19 @@ abbrev pub IsTold : Known → Taken → AnswerContent → Known → Type 0
 IsTold k taken.Accepted (answer.init i) later = IsAgreed k k.offered i later
 IsTold k t content later = later ≡ k
 
+-- -EINTR, -4, in 32 bits
+abbrev pub eintr : ℕ
+eintr = 2 ^ 32 - 4
+
+-- the device accepts EINTR
+abbrev pub eintr_acts : List ℕ → Taken → List Act
+eintr_acts bytes taken.Accepted = if error_in bytes == eintr then Interrupted (number_in bytes) ∷ [] else []
+eintr_acts bytes t = []
+
 -- the device takes a reply, or does not, and it replies
-abbrev pub replied : ℕ → Taken → Fit → List Act
-replied unique t body = Takes unique t body ∷ Replies unique t ∷ []
+abbrev pub replied : List ℕ → Taken → Fit → List Act
+replied bytes t body =
+    eintr_acts bytes t ++ Takes (number_in bytes) t body ∷ Replies (number_in bytes) t ∷ []
 
 -- Of a listing with a bad name Linux counts the entries before it: so whether each counts is not certain.
 -- (linux/fs/fuse/readdir.c)
@@ -130,20 +140,20 @@ listed_acts o a t bytes = []
 -- A reply to a request of an opcode.
 abbrev pub IsReplyOf : Known → List ℕ → Taken → Opcode → Asked → List Act → Known → Type 0
 IsReplyOf k bytes t o a acts later = Reads (IsReply k.agreed (row_at o).reply a.asked bytes)
-    (λ m. (acts ≡ replied (number_in bytes) t (fit_in (row_at o).reply a.asked bytes) ++ said_acts k o a t m.answer)
+    (λ m. (acts ≡ replied bytes t (fit_in (row_at o).reply a.asked bytes) ++ said_acts k o a t m.answer)
     × IsTold k t m.answer later)
     ((acts ≡ Faulty fault.BodyOfAnotherRequest
-    ∷ (replied (number_in bytes) t (fit_of_another (fit_in (row_at o).reply a.asked bytes)) ++ listed_acts o a t bytes))
+    ∷ (replied bytes t (fit_of_another (fit_in (row_at o).reply a.asked bytes)) ++ listed_acts o a t bytes))
     × (later ≡ k))
 
 -- A reply to a request that was judged by an opcode, or by none.
 abbrev pub IsReplyBy : Known → List ℕ → Taken → Option Opcode → Asked → List Act → Known → Type 0
-IsReplyBy k bytes t None a acts later = (acts ≡ replied (number_in bytes) t fit.MayFit) × (later ≡ k)
+IsReplyBy k bytes t None a acts later = (acts ≡ replied bytes t fit.MayFit) × (later ≡ k)
 IsReplyBy k bytes t (Some o) a acts later = IsReplyOf k bytes t o a acts later
 
 -- A reply, by what waits under its number. Where nothing does, nothing is said of its body.
 abbrev pub IsReplyTo : Known → List ℕ → Taken → Option Asked → List Act → Known → Type 0
-IsReplyTo k bytes t None acts later = (acts ≡ replied (number_in bytes) t fit.MayFit) × (later ≡ k)
+IsReplyTo k bytes t None acts later = (acts ≡ replied bytes t fit.MayFit) × (later ≡ k)
 IsReplyTo k bytes t (Some a) acts later = IsReplyBy k bytes t a.opcode a acts later
 
 -- The header is whole, and its error is one; a notification has its code there.

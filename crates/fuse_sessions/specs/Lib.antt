@@ -10,3 +10,4 @@ pub mod RequestActs
 pub mod Sessions
 pub mod UnreadRequests
 pub mod Waiting
+pub mod Warnings

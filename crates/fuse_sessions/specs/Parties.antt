@@ -1,8 +1,8 @@
--- Whose fault each is.
+-- Whose fault each is. A warning is nobody's.
 use Rattle.fuse_sessions.specs.declared.fault.Fault.{Fault}
 use Rattle.fuse_sessions.specs.declared.fault.Fault.TheVariants as fault
 use Rattle.fuse_sessions.specs.declared.fault.Party.{Party}
-use Rattle.fuse_sessions.specs.declared.fault.Party.TheVariants.{Kernel, Server, Device}
+use Rattle.fuse_sessions.specs.declared.fault.Party.TheVariants.{Kernel, Server, Device, Nobody}
 
 abbrev pub party_of : Fault → Party
 party_of fault.MalformedRequest = Kernel
@@ -29,4 +29,11 @@ party_of fault.AcceptedAfterTheEnd = Device
 party_of fault.AcceptedReplyToNothing = Device
 party_of fault.AcceptedWrongBody = Device
 party_of fault.RefusedReply = Device
+party_of fault.NodeGivenAgain = Nobody
+party_of fault.HandleGivenAgain = Nobody
+party_of fault.NoSuchNode = Nobody
+party_of fault.InterruptedByNobody = Nobody
+party_of fault.AgainTooOften = Nobody
+party_of fault.OffsetGivenTwice = Nobody
+party_of fault.ListingWithoutEnd = Nobody
 party_of _ = Server

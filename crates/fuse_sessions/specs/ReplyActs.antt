@@ -1,5 +1,5 @@
 -- The acts that an accepted reply is, by what its request asked.
-use Rattle.std.specs.Prelude.{ℕ, ◌^◌, Bool, true, false, ◌&&◌, ◌||◌, not, List, [], ◌∷◌, ◌++◌, codes, nat_eq, nat_lt, bit_and, if◌then◌else◌}
+use Rattle.std.specs.Prelude.{ℕ, ◌^◌, Bool, true, false, ◌&&◌, ◌||◌, not, List, [], ◌∷◌, ◌++◌, codes, map, nat_eq, nat_lt, bit_and, if◌then◌else◌}
 use Rattle.std.specs.List.{list_any, flat_map}
 use Rattle.fuse_protocol.specs.declared.opcode.Opcode.{Opcode}
 use Rattle.fuse_protocol.specs.declared.opcode.Opcode.TheVariants as op
@@ -15,6 +15,7 @@ use Rattle.fuse_sessions.specs.declared.act.File.{File}
 use Rattle.fuse_sessions.specs.declared.act.OpenKind.TheVariants as kind
 use Rattle.fuse_sessions.specs.declared.fault.Fault.TheVariants as fault
 use Rattle.fuse_sessions.specs.RequestActs.{is_name}
+use Rattle.fuse_sessions.specs.Warnings.{listing_acts, missing_acts}
 
 -- ENOSYS
 abbrev pub enosys : ℕ
@@ -91,6 +92,10 @@ opening_none op.Open = OpensNone kind.File ∷ []
 opening_none op.Opendir = OpensNone kind.Directory ∷ []
 opening_none o = []
 
+-- what an error says, besides that the request failed
+abbrev pub failed_acts : Opcode → (node errno : ℕ) → List Act
+failed_acts o node errno = (if nat_eq errno enosys then opening_none o else []) ++ missing_acts o node errno
+
 -- Of WRITE and of the copies the number is how many bytes were written.
 abbrev pub counting : Opcode → (said most : ℕ) → List Act
 counting op.Write said most = if nat_lt most said then Faulty fault.MoreThanWasAsked ∷ [] else []
@@ -100,13 +105,15 @@ counting o said most = []
 
 -- The acts of what an accepted reply says to a request of an opcode.
 abbrev pub answer_acts : Opcode → Asked → AnswerContent → List Act
-answer_acts o a (answer.failed errno) = if nat_eq errno enosys then opening_none o else []
+answer_acts o a (answer.failed errno) = failed_acts o a.nodeid errno
 answer_acts o a (answer.entry e) = entry_acts true o a e
 answer_acts o a (answer.attributes v) = Describes a.nodeid (kind_of v.attributes) v.attributes.ino ∷ []
 answer_acts o a (answer.opened file) = opening o a.nodeid file.handle
 answer_acts o a (answer.created e file) =
     entry_acts true o a e ++ (if is_opened a e then opening o e.nodeid file.handle else [])
 answer_acts o a (answer.number n) = counting o n a.writes
-answer_acts o a (answer.entry_records rs) = flat_map (record_acts true a) rs
+answer_acts o a (answer.records rs) = listing_acts a.lists_from (map (λ r. r.off) rs)
+answer_acts o a (answer.entry_records rs) =
+    flat_map (record_acts true a) rs ++ listing_acts a.lists_from (map (λ r. r.said.off) rs)
 answer_acts o a (answer.init i) = Agrees i.max_write ∷ []
 answer_acts o a other = []

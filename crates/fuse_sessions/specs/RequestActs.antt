@@ -61,6 +61,12 @@ bytes_written op.CopyFileRange m = number_of (number_in (places_at op.CopyFileRa
 bytes_written op.CopyFileRange64 m = number_of (number_in (places_at op.CopyFileRange64).size m.fixed)
 bytes_written o m = 0
 
+-- the offset from which a request lists a directory
+abbrev pub listed_from : Opcode → RequestMessage → ℕ
+listed_from op.Readdir m = number_of (number_in (places_at op.Readdir).offset m.fixed)
+listed_from op.Readdirplus m = number_of (number_in (places_at op.Readdirplus).offset m.fixed)
+listed_from o m = 0
+
 -- the kind of file that a request makes: mkdir(2), symlink(2), open(2), mknod(2)
 abbrev pub kind_made : Opcode → RequestMessage → ℕ
 kind_made op.Mkdir m = 16384
@@ -89,6 +95,7 @@ asked_of o m = record {
   opcode = Some o;
   asked = m.asked;
   writes = bytes_written o m;
+  lists_from = listed_from o m;
   makes = kind_made o m;
   is_dots = looks_up (codes ".") o m || looks_up (codes "..") o m;
   nodeid = node_asked o m;

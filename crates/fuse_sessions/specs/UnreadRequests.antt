@@ -14,6 +14,7 @@ unjudged = record {
   opcode = None;
   asked = 0;
   writes = 0;
+  lists_from = 0;
   makes = 0;
   is_dots = false;
   nodeid = 0;

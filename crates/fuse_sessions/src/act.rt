@@ -35,6 +35,8 @@ pub struct Asked {
     pub asked: u32,
     /// How many bytes it writes or copies, at most; else 0.
     pub writes: u64,
+    /// The offset from which it lists a directory; else 0.
+    pub lists_from: u64,
     /// The kind of file that it makes, as the type's bits of a mode; 0 where any will do.
     pub makes: u64,
     /// Whether it is a LOOKUP of `.` or `..`, which may give the root.
@@ -75,7 +77,7 @@ pub enum Fit {
 /// its records.
 #[derive(Clone, Copy, Debug)]
 pub enum Act {
-    /// A frame is a fault in itself, or beside the request that it answers.
+    /// A frame is a fault in itself, or beside the request that it answers; or it is odd.
     Faulty(super::fault::Fault),
 
     // Of the kernel.
@@ -123,6 +125,8 @@ pub enum Act {
         taken: Taken,
         fit: Fit,
     },
+    /// The device accepts a reply under a number whose error is EINTR.
+    Interrupted(u64),
     /// A reply is written under a number.
     Replies {
         unique: u64,
@@ -149,6 +153,11 @@ pub enum Act {
         nodeid: u64,
         kind: u32,
         ino: u64,
+    },
+    /// A request about a node itself, and no name in it, is answered ENOENT or ESTALE.
+    Missing {
+        nodeid: u64,
+        errno: u32,
     },
     /// A file is open under a file handle.
     Opens(OpenFile),

@@ -1,4 +1,4 @@
-//! What an end of the device must not do.
+//! What an end of the device must not do, and what is odd.
 
 ghost use Rattle.std.specs.Prelude.{◌≡◌};
 ghost use Rattle.fuse_sessions.specs.Parties.{party_of};
@@ -9,9 +9,12 @@ pub enum Party {
     Kernel,
     Server,
     Device,
+    /// It is a warning, and no fault.
+    Nobody,
 }
 
-/// A fault. Each has its rule in `specs/Faults.antt`, or is one of a frame by itself in `specs/Frames.antt`.
+/// A fault, or a warning. Each has its rule in `specs/Faults.antt` or `specs/Warnings.antt`, or is one of a frame by
+/// itself in `specs/Frames.antt`.
 #[derive(Clone, Copy, Debug, PartialEq, Eq)]
 pub enum Fault {
     // Of the kernel.
@@ -60,6 +63,15 @@ pub enum Fault {
     AcceptedReplyToNothing,
     AcceptedWrongBody,
     RefusedReply,
+
+    // Warnings: what the server does that is odd, and breaks no rule.
+    NodeGivenAgain,
+    HandleGivenAgain,
+    NoSuchNode,
+    InterruptedByNobody,
+    AgainTooOften,
+    OffsetGivenTwice,
+    ListingWithoutEnd,
 }
 
 impl Fault {
@@ -92,6 +104,13 @@ impl Fault {
             | Fault::AcceptedReplyToNothing
             | Fault::AcceptedWrongBody
             | Fault::RefusedReply => Party::Device,
+            Fault::NodeGivenAgain
+            | Fault::HandleGivenAgain
+            | Fault::NoSuchNode
+            | Fault::InterruptedByNobody
+            | Fault::AgainTooOften
+            | Fault::OffsetGivenTwice
+            | Fault::ListingWithoutEnd => Party::Nobody,
             _ => Party::Server,
         }
     }
