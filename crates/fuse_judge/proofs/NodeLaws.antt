@@ -2,7 +2,7 @@
 use Rattle.std.proofs.Common.{◌≡◌, ◌≢◌, ◌≤◌, ◌<◌, ℕ, ◌+◌, ◌-◌, ◌*◌, Bool, true, false, cond, [], ◌∷◌, ◌++◌, length, Option, Some, None, refl, sym, ◌∙◌, ap, subst, arith, rules, nat_eq, inl, inr, List}
 use Rattle.std.specs.Prelude.{sum_by}
 use Rattle.std.proofs.lemmas.Bool.{cases_eq}
-use Rattle.fuse_spec.specs.Values.Maps.{Map, get, put, remove}
+use Rattle.fuse_spec.specs.Values.Maps.{Map, get, put}
 use Rattle.fuse_sessions.specs.declared.act.Act.{Act}
 use Rattle.fuse_sessions.specs.declared.act.Act.TheVariants.{Gives, Forgets}
 use Rattle.fuse_sessions.specs.declared.act.File.{File}
@@ -10,9 +10,9 @@ use Rattle.fuse_sessions.specs.Sessions.{Session, moments, latest, or_earlier, l
 use Rattle.fuse_sessions.specs.Counts.{gives_least, gives_most, forgets_of, least_count, most_count, first_file, known}
 use Rattle.fuse_sessions.proofs.Laws.{left-more, latest-more, moments-more}
 use Rattle.fuse_judge.specs.declared.nodes.NodeRow.{NodeRow}
-use Rattle.fuse_judge.specs.Nodes.{LeavesNode, file_given, IsCounted, IsNode, AreNodes}
+use Rattle.fuse_judge.specs.Nodes.{LeavesNode, file_given, IsRow, IsNode, AreNodes}
 use Rattle.fuse_judge.specs.Tallies.{one_if}
-use Rattle.fuse_judge.proofs.Keys.{same, differ, all_after_put, all_after_remove}
+use Rattle.fuse_judge.proofs.Keys.{same, differ, all_after_put}
 use Rattle.fuse_judge.proofs.PendingLaws.{sum_small, one_small}
 
 known-more : (s : Session) (a : Act) (n : ℕ) → known (s ++ a ∷ []) n ≡ or_earlier (first_file n (s, a)) (known s n)
@@ -34,26 +34,22 @@ other_node s a q o no_least no_most no_less no_file = by o
         = left-more (gives_most q) (forgets_of q) s a (inl no_most) in
         omega (arith, more, no_most, no_less)
 
+    file : known (s ++ a ∷ []) q ≡ known s q
+    file = rw (known-more s a q, no_file) refl
+
     by : (p : Option NodeRow) → IsNode s q p → IsNode (s ++ a ∷ []) q p
-    by None is = (least ∙ is.0, most ∙ is.1)
+    by None is = (least ∙ is.0, most ∙ is.1, file ∙ is.2)
     by (Some row) is = record {
-      some = is.some;
       within = is.within;
       least = least ∙ is.least;
       most = most ∙ is.most;
-      file = λ some. rw (known-more s a q, no_file) (is.file some);
+      file = file ∙ is.file;
     }
 
 pub left_alone : (s : Session) (a : Act) (nodes : Map NodeRow) → ((q : ℕ) → LeavesNode q a) → AreNodes s nodes
     → AreNodes (s ++ a ∷ []) nodes
 left_alone s a nodes is are q =
     other_node s a q (get nodes q) (is q).least (is q).most (is q).forgets ((is q).file s) (are q)
-
-equal : (a b : ℕ) → nat_eq a b ≡ true → a ≡ b
-equal a b e = grind (arith, rules, e)
-
-positive : (a : ℕ) → nat_eq a 0 ≡ false → 0 < a
-positive a e = grind (arith, rules, e)
 
 -- A node is given.
 module _ (s : Session) (nodes : Map NodeRow) (n : ℕ) (file : File) (c : Bool) (are : AreNodes s nodes) where
@@ -86,58 +82,50 @@ module _ (s : Session) (nodes : Map NodeRow) (n : ℕ) (file : File) (c : Bool) 
   others_given q ne = other_node s (Gives n file c) q (get nodes q) (none_given q c ne) (ap one_if (differ n q ne)) refl
       (no_file_given q c ne) (are q)
 
-  file_first : (b : Bool) → least_count s n ≡ 0 → 0 < one_if b → known (s ++ Gives n file b ∷ []) n ≡ Some file
-  file_first true none some = rw (known-more s (Gives n file true) n, same n, none) refl
-  file_first false none some = absurd (omega (arith, some))
+  chosen : (h : Bool) (was : Option File) → or_earlier (cond h (Some file) None) was ≡ cond h (Some file) was
+  chosen true was = refl
+  chosen false was = refl
 
-  file_more : (b : Bool) (row : NodeRow) (h : Bool) → nat_eq row.least 0 ≡ h → least_count s n ≡ row.least
-      → (0 < row.least → known s n ≡ Some row.file) → 0 < row.least + one_if b
-      → known (s ++ Gives n file b ∷ []) n ≡ Some (cond h file row.file)
-  file_more true row true e least was some =
-      let none : least_count s n ≡ 0 = least ∙ equal row.least 0 e in
-      rw (known-more s (Gives n file true) n, same n, none) refl
-  file_more false row true e least was some =
-      let none : row.least ≡ 0 = equal row.least 0 e in absurd (omega (arith, none, some))
-  file_more true row false e least was some =
-      let not_none : nat_eq (least_count s n) 0 ≡ false = ap (λ k. nat_eq k 0) least ∙ e in
-      rw (known-more s (Gives n file true) n, same n, not_none) (was (positive row.least e))
-  file_more false row false e least was some = rw (known-more s (Gives n file false) n) (was (positive row.least e))
+  file_now : (b : Bool) (least : ℕ) (was : Option File) → least_count s n ≡ least → known s n ≡ was
+      → known (s ++ Gives n file b ∷ []) n ≡ file_given least b was file
+  file_now true least was is_least is_was =
+      rw (known-more s (Gives n file true) n, same n, is_least, is_was) (chosen (nat_eq least 0) was)
+  file_now false least was is_least is_was = rw (known-more s (Gives n file false) n) is_was
 
-  pub gave_first : get nodes n ≡ None
-      → AreNodes (s ++ Gives n file c ∷ []) (put nodes n (record { least = one_if c; most = 1; file = file }))
+  pub gave_first : get nodes n ≡ None → AreNodes (s ++ Gives n file c ∷ [])
+      (put nodes n (record { least = one_if c; most = 1; file = file_given 0 c None file }))
   gave_first gone =
-      let is : (least_count s n ≡ 0) × (most_count s n ≡ 0) = subst (IsNode s n) gone (are n) in
+      let is : IsNode s n None = subst (IsNode s n) gone (are n) in
       let small : one_if c ≤ 1 = one_small c in
       all_after_put (IsNode (s ++ Gives n file c ∷ [])) nodes n _
       (record {
-        some = omega arith;
         within = small;
         least = omega (arith, least_given, is.0);
         most = omega (arith, most_given, is.1);
-        file = file_first c is.0;
+        file = file_now c 0 None is.0 is.2;
       })
       others_given
 
   pub gave_more : (row : NodeRow) → get nodes n ≡ Some row → AreNodes (s ++ Gives n file c ∷ [])
-      (put nodes n (record { least = row.least + one_if c; most = row.most + 1; file = file_given row file }))
+      (put nodes n (record {
+        least = row.least + one_if c;
+        most = row.most + 1;
+        file = file_given row.least c row.file file;
+      }))
   gave_more row there =
-      let is : IsCounted s n row = subst (IsNode s n) there (are n) in
+      let is : IsRow s n row = subst (IsNode s n) there (are n) in
       let small : one_if c ≤ 1 = one_small c in
       all_after_put (IsNode (s ++ Gives n file c ∷ [])) nodes n _
       (record {
-        some = omega arith;
         within = omega (arith, is.within, small);
         least = least_given ∙ ap (λ k. k + one_if c) is.least;
         most = most_given ∙ ap (λ k. k + 1) is.most;
-        file = file_more c row (nat_eq row.least 0) refl is.least is.file;
+        file = file_now c row.least row.file is.least is.file;
       })
       others_given
 
 -- A node is forgotten.
 module _ (s : Session) (nodes : Map NodeRow) (n lookups : ℕ) (are : AreNodes s nodes) where
-  more_before : (a : ℕ) → 0 < a - lookups → 0 < a
-  more_before a some = omega (arith, some)
-
   least_left : least_count (s ++ Forgets n lookups ∷ []) n ≡ least_count s n - lookups
   least_left =
       let more : least_count (s ++ Forgets n lookups ∷ []) n ≡ least_count s n + 0 - forgets_of n (Forgets n lookups)
@@ -155,36 +143,29 @@ module _ (s : Session) (nodes : Map NodeRow) (n lookups : ℕ) (are : AreNodes s
   others_left : (q : ℕ) → n ≢ q → IsNode (s ++ Forgets n lookups ∷ []) q (get nodes q)
   others_left q ne = other_node s (Forgets n lookups) q (get nodes q) refl refl (rw (differ n q ne) refl) refl (are q)
 
-  pub forgot_all : (row : NodeRow) → get nodes n ≡ Some row → row.most ≤ lookups
-      → AreNodes (s ++ Forgets n lookups ∷ []) (remove nodes n)
-  forgot_all row there all =
-      let is : IsCounted s n row = subst (IsNode s n) there (are n) in
-      all_after_remove (IsNode (s ++ Forgets n lookups ∷ [])) nodes n
-      (omega (arith, least_left, is.least, is.within, all), omega (arith, most_left, is.most, all))
-      others_left
+  file_left : known (s ++ Forgets n lookups ∷ []) n ≡ known s n
+  file_left = rw (known-more s (Forgets n lookups) n) refl
 
-  pub forgot_some : (row : NodeRow) → get nodes n ≡ Some row → lookups < row.most
-      → AreNodes (s ++ Forgets n lookups ∷ [])
+  pub forgot_some : (row : NodeRow) → get nodes n ≡ Some row → AreNodes (s ++ Forgets n lookups ∷ [])
       (put nodes n (record { least = row.least - lookups; most = row.most - lookups; file = row.file }))
-  forgot_some row there some =
-      let is : IsCounted s n row = subst (IsNode s n) there (are n) in
+  forgot_some row there =
+      let is : IsRow s n row = subst (IsNode s n) there (are n) in
       all_after_put (IsNode (s ++ Forgets n lookups ∷ [])) nodes n _
       (record {
-        some = omega (arith, some);
         within = omega (arith, is.within);
         least = least_left ∙ ap (λ k. k - lookups) is.least;
         most = most_left ∙ ap (λ k. k - lookups) is.most;
-        file = λ left_some. rw (known-more s (Forgets n lookups) n) (is.file (more_before row.least left_some));
+        file = file_left ∙ is.file;
       })
       others_left
 
   pub forgot_none : get nodes n ≡ None → AreNodes (s ++ Forgets n lookups ∷ []) nodes
   forgot_none gone q = elim (cases_eq n q) [
     | inl e ↦
-        let is : (least_count s n ≡ 0) × (most_count s n ≡ 0) = subst (IsNode s n) gone (are n) in
+        let is : IsNode s n None = subst (IsNode s n) gone (are n) in
         subst (λ k. IsNode (s ++ Forgets n lookups ∷ []) k (get nodes k)) e
         (subst (IsNode (s ++ Forgets n lookups ∷ []) n) (sym gone)
-        (omega (arith, least_left, is.0), omega (arith, most_left, is.1)))
+        (omega (arith, least_left, is.0), omega (arith, most_left, is.1), file_left ∙ is.2))
     | inr ne ↦ others_left q ne
   ]
 
@@ -209,7 +190,7 @@ most_small n a = omega arith
 pub nodes_few : (s : Session) (nodes : Map NodeRow) → AreNodes s nodes → (limit : ℕ) → length s + 1 < limit
     → (n : ℕ) (row : NodeRow) → get nodes n ≡ Some row → (row.least + 1 < limit) × (row.most + 1 < limit)
 nodes_few s nodes are limit small n row there =
-    let is : IsCounted s n row = subst (IsNode s n) there (are n) in
+    let is : IsRow s n row = subst (IsNode s n) there (are n) in
     let least : least_count s n ≤ length s = left_small (gives_least n) (forgets_of n) (least_small n) s in
     let most : most_count s n ≤ length s = left_small (gives_most n) (forgets_of n) (most_small n) s in
     (omega (arith, is.least, least, small), omega (arith, is.most, most, small))

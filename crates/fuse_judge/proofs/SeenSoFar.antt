@@ -63,7 +63,7 @@ seen_nothing flags numbers nodes waiting named used open_counts open_nodes are a
         };
         whole = λ k x none. absurd (none-some x none);
       };
-      right_nodes = λ n. (refl, refl);
+      right_nodes = λ n. (refl, refl, refl);
       right_pending = record {
         listed = record {
           once = λ u. refl;

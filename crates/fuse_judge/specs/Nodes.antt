@@ -1,5 +1,5 @@
--- The nodes that are counted.
-use Rattle.std.specs.Prelude.{◌≡◌, ◌<◌, ◌≤◌, ℕ, Option, Some, None, nat_eq, if◌then◌else◌}
+-- The nodes that were given.
+use Rattle.std.specs.Prelude.{◌≡◌, ◌≤◌, ℕ, Bool, true, false, Option, Some, None, nat_eq, if◌then◌else◌}
 use Rattle.fuse_spec.specs.Values.Maps.{Map, get}
 use Rattle.fuse_sessions.specs.declared.act.Act.{Act}
 use Rattle.fuse_sessions.specs.declared.act.Act.TheVariants as act
@@ -23,22 +23,22 @@ IsNodeChange a change.Nothing = (node : ℕ) → LeavesNode node a
 IsNodeChange a (change.Gives node file is_certain) = a ≡ act.Gives node file is_certain
 IsNodeChange a (change.Forgets node lookups) = a ≡ act.Forgets node lookups
 
--- the file of a row, once an entry gives one
-abbrev pub file_given : NodeRow → File → File
-file_given row file = if nat_eq row.least 0 then file else row.file
+-- the file of a node that is counted so often at least, once an entry gives one
+abbrev pub file_given : (least : ℕ) → (is_certain : Bool) → Option File → File → Option File
+file_given least true was file = if nat_eq least 0 then Some file else was
+file_given least false was file = was
 
--- A row of a node that may be counted.
-pub record IsCounted (s : Session) (node : ℕ) (row : NodeRow) : Type 0 where
-  pub some : 0 < row.most
+-- A row of a node: what it counts, and the file that it is of, or was when it was counted last.
+pub record IsRow (s : Session) (node : ℕ) (row : NodeRow) : Type 0 where
   pub within : row.least ≤ row.most
   pub least : least_count s node ≡ row.least
   pub most : most_count s node ≡ row.most
-  pub file : 0 < row.least → known s node ≡ Some row.file
+  pub file : known s node ≡ row.file
 
--- This is true of the node: no row stands for one that is not counted.
+-- This is true of the node: no row stands for one that was never given.
 abbrev pub IsNode : Session → ℕ → Option NodeRow → Type 0
-IsNode s node None = (least_count s node ≡ 0) × (most_count s node ≡ 0)
-IsNode s node (Some row) = IsCounted s node row
+IsNode s node None = (least_count s node ≡ 0) × (most_count s node ≡ 0) × (known s node ≡ None)
+IsNode s node (Some row) = IsRow s node row
 
 -- The table of nodes is right.
 abbrev pub AreNodes : Session → Map NodeRow → Type 0

@@ -32,7 +32,9 @@ pub(crate) fn concern_of(act: Act) -> Concern
         | Act::Names(_)
         | Act::Uses(_)
         | Act::Writes(_)
+        | Act::Interrupted(_)
         | Act::Describes { .. }
+        | Act::Missing { .. }
         | Act::Takes {
             taken: Taken::Accepted | Taken::Invalid | Taken::Failed,
             ..

@@ -1,11 +1,11 @@
-//! The nodes that are counted: the table, and what is a fault by it.
+//! The nodes that were given: the table, and what is a fault by it, or odd.
 
 ghost use Rattle.std.specs.Prelude.{◌≡◌, ◌↔◌, ℕ, ◌<◌, ◌≤◌, ◌+◌, ◌^◌, [], ◌∷◌, ◌++◌, Some, IsTrue, length};
 ghost use Rattle.fuse_spec.specs.Values.Maps.{get};
 ghost use Rattle.fuse_sessions.specs.declared.act.Act.TheVariants.{Gives, Forgets};
 ghost use Rattle.fuse_sessions.specs.Sessions.{Session};
-ghost use Rattle.fuse_sessions.specs.Counts.{most_count};
-ghost use Rattle.fuse_sessions.specs.Faults.{BreaksName, BreaksForget, BreaksGift, BreaksAttributes, IsInUse};
+ghost use Rattle.fuse_sessions.specs.Counts.{least_count, most_count, known};
+ghost use Rattle.fuse_sessions.specs.Faults.{BreaksName, BreaksForget, BreaksGift, BreaksAttributes, WarnsOfMissing, IsInUse};
 ghost use Rattle.fuse_judge.specs.declared.nodes.NodeRow.{NodeRow};
 ghost use Rattle.fuse_judge.specs.Nodes as words;
 ghost use Rattle.fuse_judge.specs.Nodes.{AreNodes};
@@ -20,13 +20,14 @@ use std::alloc::Allocator;
 /// The node that a mount begins at, which is never counted.
 const ROOT: u64 = 1;
 
-/// A node that is counted, or may be.
+/// A node that is counted, or was.
 #[derive(Clone, Copy, Drop)]
 pub struct NodeRow {
     /// How often at least, and at most: an entry of no known kind is counted or not.
     pub least: u64,
     pub most: u64,
-    pub file: File,
+    /// The file that it is of, or was when it was counted last: that of the entry by which it first counted for certain.
+    pub file: Option<File>,
 }
 
 /// The fault of a kernel that names a node.
@@ -36,10 +37,24 @@ pub(crate) fn fault_of_name<A: Allocator + Copy>(
 ) -> Option<Fault>
     ensures { (s : Session) → AreNodes s nodes.now.entries → IsFault (BreaksName s node) result }
 {
-    if node == ROOT || nodes.get(node).is_some() {
+    if node == ROOT || most(nodes, node) > 0 {
         None
     } else {
         Some(Fault::NodeNotCounted)
+    }
+}
+
+/// Whether a server that says that a node is not there is odd.
+pub(crate) fn fault_of_missing<A: Allocator + Copy>(
+    nodes: &RisingTable<NodeRow, A>,
+    node: u64,
+) -> Option<Fault>
+    ensures { (s : Session) → AreNodes s nodes.now.entries → IsFault (WarnsOfMissing s node) result }
+{
+    if node == ROOT || most(nodes, node) > 0 {
+        Some(Fault::NoSuchNode)
+    } else {
+        None
     }
 }
 
@@ -77,6 +92,18 @@ pub(crate) fn fault_of_forget<A: Allocator + Copy>(
     }
 }
 
+/// Whether an entry is odd that gives a node which was of a file and is counted no more.
+fn fault_of_gift_again(old: File, file: File) -> Option<Fault>
+    ensures { (s : Session) (node : ℕ) → least_count s node ≡ 0 → most_count s node ≡ 0 → known s node ≡ Some old
+        → IsFault (BreaksGift s node file) result }
+{
+    if old.generation == file.generation && (old.kind != file.kind || old.ino != file.ino) {
+        Some(Fault::NodeGivenAgain)
+    } else {
+        None
+    }
+}
+
 /// The fault of a server whose entry gives a node.
 pub(crate) fn fault_of_gift<A: Allocator + Copy>(
     nodes: &RisingTable<NodeRow, A>,
@@ -86,13 +113,17 @@ pub(crate) fn fault_of_gift<A: Allocator + Copy>(
     ensures { (s : Session) → AreNodes s nodes.now.entries → IsFault (BreaksGift s node file) result }
 {
     let row = nodes.get(node)?;
+    let old = row.file?;
+    if row.most == 0 {
+        return fault_of_gift_again(old, file);
+    }
     if row.least == 0 {
         None
-    } else if row.file.generation != file.generation {
+    } else if old.generation != file.generation {
         Some(Fault::NodeOfTwoGenerations)
-    } else if row.file.kind != file.kind {
+    } else if old.kind != file.kind {
         Some(Fault::NodeOfTwoKinds)
-    } else if row.file.ino != file.ino {
+    } else if old.ino != file.ino {
         Some(Fault::NodeOfTwoInodeNumbers)
     } else {
         None
@@ -109,18 +140,19 @@ pub(crate) fn fault_of_attributes<A: Allocator + Copy>(
     ensures { (s : Session) → AreNodes s nodes.now.entries → IsFault (BreaksAttributes s node kind ino) result }
 {
     let row = nodes.get(node)?;
+    let old = row.file?;
     if row.least == 0 {
         None
-    } else if row.file.kind != kind {
+    } else if old.kind != kind {
         Some(Fault::NodeOfTwoKinds)
-    } else if row.file.ino != ino {
+    } else if old.ino != ino {
         Some(Fault::NodeOfTwoInodeNumbers)
     } else {
         None
     }
 }
 
-/// The kernel forgets lookups of a node: those that it has, and no more.
+/// The kernel forgets lookups of a node: those that it has, and no more. The row stays, for its file.
 fn forget<A: Allocator + Copy>(nodes: &mut RisingTable<NodeRow, A>, node: u64, lookups: u64)
     requires { 0 < nodes.old.room }
     ensures kept { (s : Session) → AreNodes s nodes.old.entries
@@ -130,15 +162,10 @@ fn forget<A: Allocator + Copy>(nodes: &mut RisingTable<NodeRow, A>, node: u64, l
     let Some(row) = nodes.get(node) else {
         return;
     };
-    let row = *row;
-    if row.most <= lookups {
-        nodes.remove(node);
-        return;
-    }
     let left = NodeRow {
         least: row.least.saturating_sub(lookups),
-        most: row.most - lookups,
-        ..row
+        most: row.most.saturating_sub(lookups),
+        file: row.file,
     };
     let _old = nodes.replace(node, left);
 }
@@ -151,11 +178,15 @@ fn certainly(is_certain: bool) -> u64
     if is_certain { 1 } else { 0 }
 }
 
-/// The file of a row, once an entry gives one.
-fn file_given(row: NodeRow, file: File) -> File
-    ensures { result ≡ words.file_given row file }
+/// The file of a node that is counted so often at least, once an entry gives one.
+fn file_given(least: u64, is_certain: bool, was: Option<File>, file: File) -> Option<File>
+    ensures { result ≡ words.file_given least is_certain was file }
 {
-    if row.least == 0 { file } else { row.file }
+    if is_certain && least == 0 {
+        Some(file)
+    } else {
+        was
+    }
 }
 
 /// An entry gives a node. A node that is counted for certain stays of the file that it is of.
@@ -176,14 +207,14 @@ fn give<A: Allocator + Copy>(
         *row = NodeRow {
             least: row.least + certainly(is_certain),
             most: row.most + 1,
-            file: file_given(*row, file),
+            file: file_given(row.least, is_certain, row.file, file),
         };
         return;
     }
     let first = NodeRow {
         least: certainly(is_certain),
         most: 1,
-        file,
+        file: file_given(0, is_certain, None, file),
     };
     nodes.put(node, first);
 }

@@ -5,7 +5,7 @@ ghost use Rattle.fuse_sessions.specs.declared.act.Act.TheVariants.{Opens, Releas
 ghost use Rattle.fuse_sessions.specs.Sessions.{Session};
 ghost use Rattle.fuse_sessions.specs.Waiting.{is_used};
 ghost use Rattle.fuse_sessions.specs.OpenFiles.{opened, has_none, HasOpen};
-ghost use Rattle.fuse_sessions.specs.Faults.{BreaksUse, BreaksRelease};
+ghost use Rattle.fuse_sessions.specs.Faults.{BreaksUse, BreaksRelease, WarnsOfOpening};
 ghost use Rattle.fuse_judge.specs.Flags.{AreFlags};
 ghost use Rattle.fuse_judge.specs.Opens.{AreOpen};
 ghost use Rattle.fuse_judge.specs.Verdicts.{IsFault};
@@ -78,6 +78,17 @@ pub(crate) fn fault_of_use(count: u64, flags: Flags, file: OpenFile) -> Option<F
         None
     } else {
         Some(Fault::HandleNotOpen)
+    }
+}
+
+/// Whether a server is odd that opens a file, which is open so often, under a file handle.
+pub(crate) fn fault_of_opening(count: u64, file: OpenFile) -> Option<Fault>
+    ensures { (s : Session) → count ≡ opened s file → IsFault (WarnsOfOpening s file) result }
+{
+    if file.fh != 0 && count > 0 {
+        Some(Fault::HandleGivenAgain)
+    } else {
+        None
     }
 }
 

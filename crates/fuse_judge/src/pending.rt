@@ -1,6 +1,6 @@
 //! The requests that wait: the tables, and what is a fault by them.
 
-ghost use Rattle.std.specs.Prelude.{◌≡◌, ℕ, ◌+◌, ◌*◌, ◌<◌, ◌≤◌, ◌^◌, Bool, false, ◌&&◌, List, [], ◌∷◌, ◌++◌, None, OnOk, Some, nat_eq, filter, not, is_some, length};
+ghost use Rattle.std.specs.Prelude.{◌≡◌, ℕ, ◌+◌, ◌*◌, ◌<◌, ◌≤◌, ◌^◌, Bool, false, ◌&&◌, List, [], ◌∷◌, ◌++◌, None, OnOk, Some, if◌then◌else◌, nat_eq, filter, not, is_some, length};
 ghost use Rattle.fuse_spec.specs.Values.Maps.{get};
 ghost use Rattle.fuse_sessions.specs.declared.act.Act.{Act};
 ghost use Rattle.fuse_sessions.specs.declared.act.Act.TheVariants.{Asks};
@@ -9,8 +9,9 @@ ghost use Rattle.fuse_sessions.specs.declared.act.OpenFile.{OpenFile};
 ghost use Rattle.fuse_sessions.specs.Sessions.{Session};
 ghost use Rattle.fuse_sessions.specs.Numbers.{has_several_threads};
 ghost use Rattle.fuse_sessions.specs.Waiting.{waits};
+ghost use Rattle.fuse_sessions.specs.Waiting as waiting_words;
 ghost use Rattle.fuse_judge.specs.declared.pending.Waiting.{Waiting};
-ghost use Rattle.fuse_sessions.specs.Faults.{BreaksInterrupt, BreaksResent, BreaksTaking, BreaksReply, BreaksReplyToInterrupt};
+ghost use Rattle.fuse_sessions.specs.Faults.{BreaksInterrupt, BreaksResent, BreaksTaking, BreaksReply, BreaksReplyToInterrupt, WarnsOfError};
 ghost use Rattle.fuse_judge.specs.Flags.{AreFlags};
 ghost use Rattle.fuse_judge.specs.Handles.{handle, same_handle};
 ghost use Rattle.fuse_judge.specs.Numbers.{AreNumbers};
@@ -29,6 +30,9 @@ use crate::tally::Tally;
 use fuse_sessions::{Act, Asked, Fault, Fit, Taken};
 use fuse_tables::RisingTable;
 use std::alloc::{AllocError, Allocator, Global};
+
+/// How many INTERRUPTs of a request may be answered EAGAIN.
+const MOST_AGAINS: u64 = 1000;
 
 /// A request that waits.
 #[derive(Clone, Copy, Drop)]
@@ -155,25 +159,58 @@ pub(crate) fn fault_of_reply<A: Allocator + Copy>(
     }
 }
 
+/// A fault that is one where a single thread uses the device.
+fn unless(several: bool, fault: Fault) -> Option<Fault>
+    ensures { result ≡ (if several then None else Some fault) }
+{
+    if several { None } else { Some(fault) }
+}
+
+/// Whether a server is odd that answers EINTR under a number.
+pub(crate) fn fault_of_error<A: Allocator + Copy>(
+    rows: &RisingTable<Waiting, A>,
+    several: bool,
+    unique: u64,
+) -> Option<Fault>
+    ensures { (s : Session) → AreWaiting s rows.now.entries → several ≡ has_several_threads s
+        → IsFault (WarnsOfError s unique) result }
+{
+    let row = rows.get(unique)?;
+    if row.interrupts == 0 {
+        unless(several, Fault::InterruptedByNobody)
+    } else {
+        None
+    }
+}
+
+/// Whether the device takes a reply, or refuses it for another reason than that nothing waits for it.
+fn reaches(taken: Taken) -> bool
+    ensures { result ≡ waiting_words.reaches taken }
+{
+    !matches!(taken, Taken::NoEntry)
+}
+
 /// The fault of a server that replies to an INTERRUPT.
 pub(crate) fn fault_of_reply_to_interrupt<A: Allocator + Copy>(
     rows: &RisingTable<Waiting, A>,
     numbers: &Marks<A>,
     several: bool,
     original: u64,
+    is_again: bool,
+    taken: Taken,
 ) -> Option<Fault>
     ensures { (s : Session) → AreWaiting s rows.now.entries → AreNumbers s numbers.now.entries
-        → several ≡ has_several_threads s → IsFault (BreaksReplyToInterrupt s original) result }
+        → several ≡ has_several_threads s → IsFault (BreaksReplyToInterrupt s original is_again taken) result }
 {
-    if several {
-        return None;
-    }
     if !was_read(numbers, original) {
-        return Some(Fault::ReplyToNothing);
+        return unless(several, Fault::ReplyToNothing);
     }
     let row = rows.get(original)?;
     if row.interrupts == 0 {
-        Some(Fault::ReplyToNoInterrupt)
+        return unless(several, Fault::ReplyToNoInterrupt);
+    }
+    if is_again && reaches(taken) && row.agains == MOST_AGAINS {
+        Some(Fault::AgainTooOften)
     } else {
         None
     }

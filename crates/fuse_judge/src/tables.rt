@@ -18,15 +18,17 @@ use crate::flags::{
 use crate::handle::handle_of;
 use crate::marks::Marks;
 use crate::nodes::{
-    NodeRow, fault_of_attributes, fault_of_forget, fault_of_gift, fault_of_name, note_nodes,
+    NodeRow, fault_of_attributes, fault_of_forget, fault_of_gift, fault_of_missing, fault_of_name,
+    note_nodes,
 };
 use crate::numbers::{fault_of_number, note_number};
 use crate::opens::{
-    OpenFiles, fault_of_release, fault_of_use, has_open, note_opens, open_count, reserve_opens,
+    OpenFiles, fault_of_opening, fault_of_release, fault_of_use, has_open, note_opens, open_count,
+    reserve_opens,
 };
 use crate::pending::{
-    Pending, fault_of_interrupt, fault_of_reply, fault_of_reply_to_interrupt, fault_of_resent,
-    fault_of_taking, note_pending, reserve_pending, waits,
+    Pending, fault_of_error, fault_of_interrupt, fault_of_reply, fault_of_reply_to_interrupt,
+    fault_of_resent, fault_of_taking, note_pending, reserve_pending, waits,
 };
 use fuse_sessions::{Act, Fault, OpenFile, Taken};
 use fuse_tables::RisingTable;
@@ -158,18 +160,26 @@ impl<A: Allocator + Copy> Tables<A> {
             Act::Takes { unique, taken, fit } => fault_of_taking(
                 rows, self.flags, unique, taken, fit,
             ),
+            Act::Interrupted(unique) => {
+                fault_of_error(rows, has_several_threads(self.flags), unique)
+            }
             Act::Replies { unique, .. } => fault_of_reply(rows, &self.numbers, unique),
-            Act::RepliesToInterrupt { original, .. } => {
+            Act::RepliesToInterrupt {
+                original,
+                is_again,
+                taken,
+            } => {
                 let several = has_several_threads(self.flags);
-                fault_of_reply_to_interrupt(rows, &self.numbers, several, original)
+                fault_of_reply_to_interrupt(rows, &self.numbers, several, original, is_again, taken)
             }
             Act::Gives { nodeid, file, .. } => fault_of_gift(&self.nodes, nodeid, file),
             Act::Describes { nodeid, kind, ino } => {
                 fault_of_attributes(&self.nodes, nodeid, kind, ino)
             }
+            Act::Missing { nodeid, .. } => fault_of_missing(&self.nodes, nodeid),
+            Act::Opens(file) => fault_of_opening(open_count(&self.opens, file), file),
             Act::Asks { .. }
             | Act::Agrees(_)
-            | Act::Opens(_)
             | Act::OpensNone(_)
             | Act::SeveralReaders
             | Act::SeveralWriters

@@ -31,6 +31,7 @@ fn asks(unique: u64, opcode: Opcode, nodeid: u64, uses: Option<OpenFile>) -> Act
         opcode: Some(opcode),
         asked: 0,
         writes: 0,
+        lists_from: 0,
         makes: 0,
         is_dots: false,
         nodeid,

@@ -3,15 +3,53 @@
 ghost use Rattle.std.specs.Prelude.{◌≡◌, ◌++◌, OnOk};
 ghost use Rattle.fuse_replies.specs.Replies.{answer_content};
 ghost use Rattle.fuse_sessions.specs.ReplyActs as words;
+ghost use Rattle.fuse_sessions.specs.Warnings as warnings;
 
 use crate::entries::{is_opened, kind_of, write_entry, write_records};
+use crate::listings::{write_listing, write_listing_plus};
 use crate::writing::write;
 use fuse_protocol::Opcode;
 use fuse_replies::Answer;
 use fuse_sessions::{Act, Asked, Fault, OpenFile, OpenKind};
 use std::alloc::{AllocError, Allocator};
 
+const ENOENT: u32 = 2;
+
 const ENOSYS: u32 = 38;
+
+const ESTALE: u32 = 116;
+
+/// Whether an error says that a node is not there.
+fn is_missing(errno: u32) -> bool
+    ensures { result ≡ warnings.is_missing errno }
+{
+    errno == ENOENT || errno == ESTALE
+}
+
+/// Whether a request is about a node itself, or what is open of it, and has no name.
+fn is_of_node(opcode: Opcode) -> bool
+    ensures { result ≡ warnings.is_of_node opcode }
+{
+    matches!(
+        opcode,
+        Opcode::Getattr
+            | Opcode::Setattr
+            | Opcode::Readlink
+            | Opcode::Open
+            | Opcode::Read
+            | Opcode::Write
+            | Opcode::Fsync
+            | Opcode::Flush
+            | Opcode::Opendir
+            | Opcode::Readdir
+            | Opcode::Readdirplus
+            | Opcode::Fsyncdir
+            | Opcode::Access
+            | Opcode::Fallocate
+            | Opcode::Lseek
+            | Opcode::Statx
+    )
+}
 
 /// A file is open from now on.
 fn write_opening<A: Allocator + Copy>(
@@ -42,6 +80,24 @@ fn write_opening_none<A: Allocator + Copy>(
         Opcode::Opendir => write(acts, Act::OpensNone(OpenKind::Directory)),
         _ => Ok(()),
     }
+}
+
+/// What an error says, besides that the request failed.
+fn write_failed<A: Allocator + Copy>(
+    acts: &mut Vec<Act, A>,
+    opcode: Opcode,
+    nodeid: u64,
+    errno: u32,
+) -> Result<(), AllocError>
+    ensures { OnOk result (acts.new.items ≡ acts.old.items ++ words.failed_acts opcode nodeid errno) }
+{
+    if errno == ENOSYS {
+        write_opening_none(acts, opcode)?;
+    }
+    if is_of_node(opcode) && is_missing(errno) {
+        return write(acts, Act::Missing { nodeid, errno });
+    }
+    Ok(())
 }
 
 /// So many bytes were written or copied, of so many at most.
@@ -76,11 +132,7 @@ pub(crate) fn write_answer<A: Allocator + Copy>(
         ≡ acts.old.items ++ words.answer_acts opcode asked (answer_content answer.now)) }
 {
     match answer {
-        Answer::Failed(errno) => if *errno == ENOSYS {
-            write_opening_none(acts, opcode)
-        } else {
-            Ok(())
-        },
+        Answer::Failed(errno) => write_failed(acts, opcode, asked.nodeid, *errno),
         Answer::Entry(entry) => write_entry(acts, true, opcode, asked, entry),
         Answer::Attributes(valid) => {
             let describes = Act::Describes {
@@ -100,8 +152,12 @@ pub(crate) fn write_answer<A: Allocator + Copy>(
             }
         }
         Answer::Number(number) => write_counting(acts, opcode, *number, asked.writes),
-        Answer::EntryRecords(records) => write_records(acts, true, asked, *records),
+        Answer::Records(records) => write_listing(acts, asked.lists_from, *records),
+        Answer::EntryRecords(records) => {
+            write_records(acts, true, asked, *records)?;
+            write_listing_plus(acts, asked.lists_from, *records)
+        }
         Answer::Init(init) => write(acts, Act::Agrees(init.max_write)),
-        Answer::Done | Answer::Bytes(_) | Answer::Records(_) => Ok(()),
+        Answer::Done | Answer::Bytes(_) => Ok(()),
     }
 }

@@ -81,6 +81,16 @@ pub(crate) fn bytes_written(request: &Request<'_>) -> u64
     }
 }
 
+/// The offset from which a request lists a directory, or 0.
+fn listed_from(request: &Request<'_>) -> u64
+    ensures { result ≡ words.listed_from request.now.head.opcode (request_message request.now) }
+{
+    match request.head.opcode {
+        Opcode::Readdir | Opcode::Readdirplus => or_none(request.offset()),
+        _ => 0,
+    }
+}
+
 /// The kind of file that a request makes, as the type's bits of a mode, or 0.
 fn kind_made(request: &Request<'_>) -> u64
     ensures { result ≡ words.kind_made request.now.head.opcode (request_message request.now) }
@@ -117,6 +127,7 @@ pub(crate) fn asked_of(request: &Request<'_>) -> Asked
         opcode: Some(opcode),
         asked: request.head.asked,
         writes: bytes_written(request),
+        lists_from: listed_from(request),
         makes: kind_made(request),
         is_dots: is_dot || looks_up(request, b".."),
         nodeid: if is_dot {

@@ -10,6 +10,7 @@ mod entries;
 mod fits;
 mod frames;
 mod init;
+mod listings;
 mod replies;
 mod requests;
 mod unread;

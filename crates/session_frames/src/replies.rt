@@ -20,6 +20,9 @@ use std::alloc::{AllocError, Allocator};
 /// -EAGAIN.
 const AGAIN: u32 = u32::MAX - 10;
 
+/// -EINTR.
+const INTERRUPTED: u32 = u32::MAX - 3;
+
 /// The code of FUSE_NOTIFY_RESEND.
 const RESEND: u32 = 7;
 
@@ -82,15 +85,35 @@ fn write_notification<A: Allocator + Copy>(
     }
 }
 
+/// The device accepts EINTR.
+fn write_eintr<A: Allocator + Copy>(
+    acts: &mut Vec<Act, A>,
+    bytes: &[u8],
+    taken: Taken,
+) -> Result<(), AllocError>
+    requires { IsFrame bytes.now }
+    ensures { OnOk result (acts.new.items ≡ acts.old.items ++ words.eintr_acts bytes.now taken) }
+{
+    match taken {
+        Taken::Accepted if u32_at(bytes, 4) == INTERRUPTED => {
+            write(acts, Act::Interrupted(u64_at(bytes, 8)))
+        }
+        _ => Ok(()),
+    }
+}
+
 /// The device takes a reply, and it replies.
 fn write_replied<A: Allocator + Copy>(
     acts: &mut Vec<Act, A>,
-    unique: u64,
+    bytes: &[u8],
     taken: Taken,
     fit: Fit,
 ) -> Result<(), AllocError>
-    ensures { OnOk result (acts.new.items ≡ acts.old.items ++ words.replied unique taken fit) }
+    requires { IsFrame bytes.now }
+    ensures { OnOk result (acts.new.items ≡ acts.old.items ++ words.replied bytes.now taken fit) }
 {
+    write_eintr(acts, bytes, taken)?;
+    let unique = u64_at(bytes, 8);
     let takes = Act::Takes { unique, taken, fit };
     write(acts, takes)?;
     write(acts, Act::Replies { unique, taken })
@@ -149,23 +172,22 @@ fn write_answered<A: Allocator + Copy>(
     requires frame { IsFrame bytes.now }
     ensures { IfOk result (words.IsReplyOf known bytes.now taken opcode asked acts.new.items) }
 {
-    let unique = u64_at(bytes, 8);
     let fit = fit_in(row_of(opcode).reply, asked.asked, bytes);
     let request = RequestHead {
         opcode,
-        unique,
+        unique: u64_at(bytes, 8),
         nodeid: asked.nodeid,
         asked: asked.asked,
     };
     match read_reply(known.agreed, &request, bytes) {
         Ok(reply) => {
-            write_replied(acts, unique, taken, fit)?;
+            write_replied(acts, bytes, taken, fit)?;
             write_said(acts, known, opcode, asked, taken, &reply.answer)?;
             Ok(known_after_reply(known, taken, &reply.answer))
         }
         Err(_) => {
             write(acts, Act::Faulty(Fault::BodyOfAnotherRequest))?;
-            write_replied(acts, unique, taken, fit_of_another(fit))?;
+            write_replied(acts, bytes, taken, fit_of_another(fit))?;
             write_listed(acts, opcode, asked, bytes, taken)?;
             Ok(known)
         }
@@ -189,7 +211,7 @@ fn write_reply<A: Allocator + Copy>(
     {
         return write_answered(acts, known, opcode, asked, bytes, taken);
     }
-    write_replied(acts, u64_at(bytes, 8), taken, Fit::MayFit)?;
+    write_replied(acts, bytes, taken, Fit::MayFit)?;
     Ok(known)
 }
 

@@ -26,6 +26,7 @@ const fn unjudged() -> Asked
         opcode: None,
         asked: 0,
         writes: 0,
+        lists_from: 0,
         makes: 0,
         is_dots: false,
         nodeid: 0,

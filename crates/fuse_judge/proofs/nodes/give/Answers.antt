@@ -9,6 +9,6 @@ returns-in-Some-clause-kept g c = λ s are. rw (c.certainly.ensures.value, c.fil
     (sym c.get_mut.ensures.value ∙ ap option_copied_mut c.in-Some.is))
 
 pub returns-clause-kept : goal.returns-clause-kept
-returns-clause-kept g c = λ s are. rw (c.put.ensures.entries, c.certainly-2.ensures.value)
+returns-clause-kept g c = λ s are. rw (c.put.ensures.entries, c.certainly-2.ensures.value, c.file_given-2.ensures)
     (gave_first s c.args.nodes.now.entries c.args.node c.args.file c.args.is_certain are
     (sym c.get_mut.ensures.value ∙ ap option_copied_mut c.in_default.is))

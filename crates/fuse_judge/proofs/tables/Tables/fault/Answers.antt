@@ -27,6 +27,15 @@ pub returns-in-Takes : goal.returns-in-Takes
 returns-in-Takes g c = λ s are. rw c.in-Takes.is
     (c.fault_of_taking.ensures s (pending_waiting s _ _ _ are.right_pending) are.right_flags)
 
+pub returns-in-Interrupted : goal.returns-in-Interrupted
+returns-in-Interrupted g c = λ s are. rw c.in-Interrupted.is
+    (c.fault_of_error.ensures s (pending_waiting s _ _ _ are.right_pending)
+    (c.has_several_threads-in-Interrupted.ensures s are.right_flags))
+
+pub returns-in-Opens : goal.returns-in-Opens
+returns-in-Opens g c = λ s are. rw c.in-Opens.is
+    (c.fault_of_opening.ensures s (c.open_count-in-Opens.ensures s are.right_opens))
+
 pub returns-in-Replies : goal.returns-in-Replies
 returns-in-Replies g c = λ s are. rw c.in-Replies.is
     (c.fault_of_reply.ensures s (pending_waiting s _ _ _ are.right_pending) are.right_numbers)
