@@ -36,8 +36,8 @@ abbrev pub decode_app : App
 decode_app = with_rule (new_app (codes "decode")) (new_rule (codes "FILE"))
 
 abbrev pub check_app : App
-check_app = with_rule (with_rule (with_rule (with_rule (new_app (codes "check")) (flag (codes "server")))
-    (flag (codes "kernel"))) (flag (codes "json"))) (new_rule (codes "FILE"))
+check_app = with_rule (with_rule (with_rule (with_rule (with_rule (new_app (codes "check")) (flag (codes "server")))
+    (flag (codes "kernel"))) (flag (codes "json"))) (flag (codes "strict"))) (new_rule (codes "FILE"))
 
 abbrev pub vectors_app : App
 vectors_app = with_rule (new_app (codes "vectors")) (flag (codes "all"))

@@ -32,16 +32,17 @@ pub record AsksCheck (rows : List Row) (t : CheckTask) : Type 0 where
   pub server : t.server ≡ is_set (codes "server") rows
   pub kernel : t.kernel ≡ is_set (codes "kernel") rows
   pub json : t.json ≡ is_set (codes "json") rows
+  pub strict : t.strict ≡ is_set (codes "strict") rows
 
 -- what is asked of it: one party alone or all, and not two alone
-abbrev pub options_in : (server kernel : Bool) → CheckForm → Option CheckOptions
-options_in true true form = None
-options_in true false form = Some (record { only = Some party.Server; form = form })
-options_in false true form = Some (record { only = Some party.Kernel; form = form })
-options_in false false form = Some (record { only = None; form = form })
+abbrev pub options_in : (server kernel : Bool) → CheckForm → (strict : Bool) → Option CheckOptions
+options_in true true form strict = None
+options_in true false form strict = Some (record { only = Some party.Server; form = form; is_strict = strict })
+options_in false true form strict = Some (record { only = Some party.Kernel; form = form; is_strict = strict })
+options_in false false form strict = Some (record { only = None; form = form; is_strict = strict })
 
 abbrev pub options_of : CheckTask → Option CheckOptions
-options_of t = options_in t.server t.kernel (if t.json then check_form.Json else check_form.Words)
+options_of t = options_in t.server t.kernel (if t.json then check_form.Json else check_form.Words) t.strict
 
 -- a command on frames
 abbrev pub AsksFrame : Text → List Row → FrameTask → Type 0

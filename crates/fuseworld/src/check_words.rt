@@ -25,6 +25,8 @@ pub struct CheckTask<'a> {
     pub kernel: bool,
     /// A JSON object a line is printed.
     pub json: bool,
+    /// A warning counts as a fault.
+    pub strict: bool,
 }
 
 /// The command `check`.
@@ -34,11 +36,17 @@ pub fn check_command<'a>(alloc: Global) -> Result<Command<'a>, AllocError>
     let server = flag(alloc, "server", "Print and count the server's faults alone");
     let kernel = flag(alloc, "kernel", "Print and count the kernel's faults alone");
     let json = flag(alloc, "json", "Print one JSON object for each line");
+    let strict = flag(
+        alloc,
+        "strict",
+        "Let the exit status count a warning as a fault",
+    );
     Command::new(alloc, "check")
         .about("Judge a capture: which rule of the protocol is broken, in which line, and by whom")
         .arg(server)?
         .arg(kernel)?
         .arg(json)?
+        .arg(strict)?
         .arg(capture_argument(alloc))
 }
 
@@ -51,6 +59,7 @@ pub fn check_task<'a>(matches: &ArgMatches<'a>) -> CheckTask<'a>
         server: is_set(matches, "server"),
         kernel: is_set(matches, "kernel"),
         json: is_set(matches, "json"),
+        strict: is_set(matches, "strict"),
     }
 }
 
@@ -69,7 +78,11 @@ fn options_of(task: CheckTask<'_>) -> Option<CheckOptions>
     } else {
         CheckForm::Words
     };
-    Some(CheckOptions { only, form })
+    Some(CheckOptions {
+        only,
+        form,
+        is_strict: task.strict,
+    })
 }
 
 /// Judges a capture, and gives the exit status.

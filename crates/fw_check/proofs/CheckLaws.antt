@@ -212,6 +212,7 @@ kept_printed text judge c kept = record {
     kernel = kept.counts.kernel;
     server = kept.counts.server;
     device = kept.counts.device;
+    warnings = kept.counts.warnings;
   };
 }
 
@@ -251,10 +252,30 @@ not_begun o (Some capture) had has some = record {
 -- the counts that are kept are those of what was judged
 counts_are : (form : CheckForm) (n : ℕ) (j : Judged) (c : Counts) → AreCounts j c
     → counts_text form n c ≡ counts_text form n (counts_of j)
-counts_are Words n j c are = rw
-    (are.requests, are.replies, are.notifications, are.refused, are.entries, are.forgotten, are.kernel, are.server, are.device) refl
-counts_are Json n j c are = rw
-    (are.requests, are.replies, are.notifications, are.refused, are.entries, are.forgotten, are.kernel, are.server, are.device) refl
+counts_are Words n j c are = rw (
+  are.requests,
+  are.replies,
+  are.notifications,
+  are.refused,
+  are.entries,
+  are.forgotten,
+  are.kernel,
+  are.server,
+  are.device,
+  are.warnings,
+) refl
+counts_are Json n j c are = rw (
+  are.requests,
+  are.replies,
+  are.notifications,
+  are.refused,
+  are.entries,
+  are.forgotten,
+  are.kernel,
+  are.server,
+  are.device,
+  are.warnings,
+) refl
 
 -- with how many requests wait
 ends_are : (form : CheckForm) (n : ℕ) (j : Judged) (judge : SessionState) (c : Counts) → IsKept j judge c

@@ -1,16 +1,29 @@
 -- How a check ends, by its exit status.
-use Rattle.std.proofs.Common.{◌≡◌, ◌+◌, ℕ, List, [], ◌∷◌, Option, append-nil, arith, refl, sym, inl, inr}
+use Rattle.std.proofs.Common.{◌≡◌, ◌<◌, ◌+◌, ℕ, Bool, true, false, if◌then◌else◌, List, [], ◌∷◌, Option, append-nil, arith, refl, sym, inl, inr}
 use Rattle.std.specs.Prelude.{Contains}
 use Rattle.fw_check.specs.declared.counts.Counts.{Counts}
 use Rattle.fw_check.specs.declared.options.CheckOptions.{CheckOptions}
 use Rattle.fw_check.specs.declared.stop.Stop.{Stop}
 use Rattle.fw_check.specs.declared.stop.Stop.TheVariants.{BadLine, CannotRead, NoMemory, OutputRefused}
+use Rattle.fw_check.specs.Checks.{Judged, finding_count}
 use Rattle.fw_check.specs.Endings.{PrintsChecked, lines_of}
-use Rattle.fw_check.specs.Running.{AllPrinted, IsReported, StopsIn}
+use Rattle.fw_check.specs.Running.{AllPrinted, AreCounts, IsReported, StopsIn}
+
+-- the counts that are kept are those of what was found
+right_of : (is_strict : Bool) (c : Counts) (j : Judged) → AreCounts j c
+    → c.kernel + c.server + c.device + (if is_strict then c.warnings else 0) ≡ 0 → finding_count is_strict j ≡ 0
+right_of true c j are none = omega (arith, are.kernel, are.server, are.device, are.warnings, none)
+right_of false c j are none = omega (arith, are.kernel, are.server, are.device, none)
+
+wrong_of : (is_strict : Bool) (c : Counts) (j : Judged) → AreCounts j c
+    → (c.kernel + c.server + c.device + (if is_strict then c.warnings else 0) ≡ 0 → ⊥) → 0 < finding_count is_strict j
+wrong_of true c j are some = omega (arith, are.kernel, are.server, are.device, are.warnings, some)
+wrong_of false c j are some = omega (arith, are.kernel, are.server, are.device, some)
 
 -- all was judged and printed
 pub ends_well : (o : CheckOptions) (name capture : List ℕ) (c : Counts) (had has faults said : Option (List ℕ))
-    → AllPrinted o capture c had has → c.kernel + c.server + c.device ≡ 0
+    → AllPrinted o capture c had has
+    → c.kernel + c.server + c.device + (if o.is_strict then c.warnings else 0) ≡ 0
     → PrintsChecked o name capture had has faults said 0
 ends_well o name capture c had has faults said all none = record {
   done = lines_of capture;
@@ -19,7 +32,7 @@ ends_well o name capture c had has faults said all none = record {
   judged = all.judged;
   checks = all.checks;
   ended = λ is. (refl, all.printed);
-  right = λ is. omega (arith, all.counts.kernel, all.counts.server, all.counts.device, none);
+  right = λ is. right_of o.is_strict c all.judged all.counts none;
   wrong = λ is. absurd (omega arith);
   begun = λ is. elim is [ inl one ↦ absurd (omega arith) | inr three ↦ absurd (omega arith) ];
   bad = λ is. absurd (omega arith);
@@ -27,7 +40,8 @@ ends_well o name capture c had has faults said all none = record {
 }
 
 pub ends_with_faults : (o : CheckOptions) (name capture : List ℕ) (c : Counts) (had has faults said : Option (List ℕ))
-    → AllPrinted o capture c had has → (c.kernel + c.server + c.device ≡ 0 → ⊥)
+    → AllPrinted o capture c had has
+    → (c.kernel + c.server + c.device + (if o.is_strict then c.warnings else 0) ≡ 0 → ⊥)
     → PrintsChecked o name capture had has faults said 6
 ends_with_faults o name capture c had has faults said all some = record {
   done = lines_of capture;
@@ -37,7 +51,7 @@ ends_with_faults o name capture c had has faults said all some = record {
   checks = all.checks;
   ended = λ is. (refl, all.printed);
   right = λ is. absurd (omega arith);
-  wrong = λ is. omega (arith, all.counts.kernel, all.counts.server, all.counts.device, some);
+  wrong = λ is. wrong_of o.is_strict c all.judged all.counts some;
   begun = λ is. elim is [ inl one ↦ absurd (omega arith) | inr three ↦ absurd (omega arith) ];
   bad = λ is. absurd (omega arith);
   refused = λ is. absurd (omega arith);

@@ -1,5 +1,5 @@
 -- What is printed of a capture: the faults of the session that its lines say which are asked for, and counts.
-use Rattle.std.specs.Prelude.{◌≡◌, ◌+◌, ℕ, Bool, List, [], ◌∷◌, ◌++◌, Option, length, sum_by}
+use Rattle.std.specs.Prelude.{◌≡◌, ◌+◌, ℕ, Bool, List, [], ◌∷◌, ◌++◌, Option, if◌then◌else◌, length, sum_by}
 use Rattle.fuse_sessions.specs.declared.act.Act.{Act}
 use Rattle.fuse_sessions.specs.declared.fault.Fault.{Fault}
 use Rattle.fuse_sessions.specs.declared.fault.Party.{Party}
@@ -66,9 +66,10 @@ number_of test j = sum_by (λ t. one_if (test t)) j.transfers
 abbrev pub faults_of : Party → Judged → ℕ
 faults_of p j = sum_by (λ v. one_if (is_of p v)) j.verdicts
 
--- how many faults there are, of those that are asked for
-abbrev pub fault_count : Judged → ℕ
-fault_count j = faults_of party.Kernel j + faults_of party.Server j + faults_of party.Device j
+-- how many faults there are, of those that are asked for, and in a strict check warnings
+abbrev pub finding_count : (is_strict : Bool) → Judged → ℕ
+finding_count is_strict j = faults_of party.Kernel j + faults_of party.Server j + faults_of party.Device j
+    + (if is_strict then faults_of party.Nobody j else 0)
 
 abbrev pub counts_of : Judged → Counts
 counts_of j = record {
@@ -81,6 +82,7 @@ counts_of j = record {
   kernel = faults_of party.Kernel j;
   server = faults_of party.Server j;
   device = faults_of party.Device j;
+  warnings = faults_of party.Nobody j;
 }
 
 -- the counts at the end, also of the requests that wait

@@ -24,8 +24,9 @@ pub record CountsMore (old : Counts) (t : Transfer) (acts : List Act) (verdicts 
   pub kernel : new.kernel ≡ old.kernel + faults_in party.Kernel verdicts
   pub server : new.server ≡ old.server + faults_in party.Server verdicts
   pub device : new.device ≡ old.device + faults_in party.Device verdicts
+  pub warnings : new.warnings ≡ old.warnings + faults_in party.Nobody verdicts
 
 -- the last two lines
 abbrev pub counts_lines : (unanswered : ℕ) → Counts → List ℕ
 counts_lines unanswered c = transfers_text c.requests c.replies c.notifications c.refused
-    ++ later_text unanswered c.entries c.forgotten ++ faults_text c.kernel c.server c.device
+    ++ later_text unanswered c.entries c.forgotten ++ faults_text c.kernel c.server c.device c.warnings

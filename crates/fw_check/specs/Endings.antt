@@ -5,7 +5,7 @@ use Rattle.std.specs.Io.KnownBytes.{Appends}
 use Rattle.fuse_capture.specs.declared.line.CaptureFault.{CaptureFault}
 use Rattle.fuse_capture.specs.Lines.{LineFaultIs}
 use Rattle.fw_check.specs.declared.options.CheckOptions.{CheckOptions}
-use Rattle.fw_check.specs.Checks.{Judged, Checks, end_text, fault_count}
+use Rattle.fw_check.specs.Checks.{Judged, Checks, end_text, finding_count}
 use Rattle.fw_check.specs.Outputs.{AppendsSome}
 use Rattle.fw_check.specs.Reports.{bad_line, unreadable}
 
@@ -21,11 +21,11 @@ pub record PrintsChecked (o : CheckOptions) (name capture : List ℕ) (out_old o
   pub lines : lines_of capture ≡ done ++ rest
   pub judged : Judged
   pub checks : Checks o done judged
-  -- to the end: 0 where there is no fault that is asked for, and 6 where there is one
+  -- to the end: 0 where there is no fault that is asked for, and in a strict check no warning, and 6 where there is one
   pub ended : (status ≡ 0) ⊎ (status ≡ 6)
       → (rest ≡ []) × Appends out_old out_new (judged.text ++ end_text o.form judged)
-  pub right : status ≡ 0 → fault_count judged ≡ 0
-  pub wrong : status ≡ 6 → 0 < fault_count judged
+  pub right : status ≡ 0 → finding_count o.is_strict judged ≡ 0
+  pub wrong : status ≡ 6 → 0 < finding_count o.is_strict judged
   -- up to a line that has a fault or cannot be read, or until memory runs out
   pub begun : (status ≡ 1) ⊎ (status ≡ 3) → Appends out_old out_new judged.text
   pub bad : status ≡ 1 → AppendsSome faults_old faults_new (unreadable name)

@@ -1,4 +1,4 @@
--- The line of a fault.
+-- The line of a fault, or of a warning.
 use Rattle.std.specs.Prelude.{ℕ, List, [], ◌++◌, Some, None, codes, decimal}
 use Rattle.fuse_protocol.specs.Table.{name_of}
 use Rattle.fuse_sessions.specs.declared.act.Act.{Act}
@@ -13,8 +13,9 @@ abbrev pub party_word : Party → List ℕ
 party_word party.Kernel = codes "kernel"
 party_word party.Server = codes "server"
 party_word party.Device = codes "device"
+party_word party.Nobody = codes "warning"
 
--- the rule that is broken
+-- the rule that is broken, or what is odd
 abbrev pub fault_words : Fault → List ℕ
 fault_words fault.MalformedRequest = codes "malformed request"
 fault_words fault.RequestBeforeInit = codes "request before INIT"
@@ -57,6 +58,13 @@ fault_words fault.AcceptedAfterTheEnd = codes "reply accepted after the end"
 fault_words fault.AcceptedReplyToNothing = codes "reply to nothing accepted"
 fault_words fault.AcceptedWrongBody = codes "body of another request accepted"
 fault_words fault.RefusedReply = codes "right reply refused"
+fault_words fault.NodeGivenAgain = codes "node given again under its generation"
+fault_words fault.HandleGivenAgain = codes "file handle that is open given again"
+fault_words fault.NoSuchNode = codes "counted node that is said not to be there"
+fault_words fault.InterruptedByNobody = codes "EINTR without an INTERRUPT"
+fault_words fault.AgainTooOften = codes "INTERRUPT answered EAGAIN more than 1000 times"
+fault_words fault.OffsetGivenTwice = codes "offset given twice in a row"
+fault_words fault.ListingWithoutEnd = codes "listing that ends where it began"
 
 -- ` WORD NUMBER`
 abbrev pub said : List ℕ → ℕ → List ℕ
@@ -75,14 +83,17 @@ act_words (act.Uses file) = codes ":" ++ said (codes "node") file.nodeid ++ said
 act_words (act.Releases file) = codes ":" ++ said (codes "node") file.nodeid ++ said (codes "file handle") file.fh
 act_words (act.Writes size) = codes ":" ++ said (codes "bytes") size
 act_words (act.Takes unique t body) = codes ":" ++ said (codes "unique") unique
+act_words (act.Interrupted unique) = codes ":" ++ said (codes "unique") unique
 act_words (act.Replies unique t) = codes ":" ++ said (codes "unique") unique
 act_words (act.RepliesToInterrupt original is_again t) = codes ":" ++ said (codes "INTERRUPT of") original
 act_words (act.Gives node file is_certain) = codes ":" ++ said (codes "node") node
     ++ said (codes "generation") file.generation ++ said (codes "inode") file.ino
 act_words (act.Describes node kind ino) = codes ":" ++ said (codes "node") node ++ said (codes "inode") ino
+act_words (act.Missing node errno) = codes ":" ++ said (codes "node") node ++ said (codes "error") errno
+act_words (act.Opens file) = codes ":" ++ said (codes "node") file.nodeid ++ said (codes "file handle") file.fh
 act_words a = []
 
--- `line N: PARTY: RULE` and what the act is about
+-- `line N: PARTY: RULE` or `line N: warning: ..`, and what the act is about
 abbrev pub fault_line : (number : ℕ) → Act → Fault → List ℕ
 fault_line number a f = codes "line " ++ decimal number ++ codes ": " ++ party_word (party_of f) ++ codes ": "
     ++ fault_words f ++ act_words a ++ codes "\n"

@@ -5,6 +5,8 @@ use Rattle.fuse_sessions.specs.declared.act.Act.{Act}
 use Rattle.fuse_sessions.specs.declared.act.Act.TheVariants as act
 use Rattle.fuse_sessions.specs.declared.act.OpenFile.{OpenFile}
 use Rattle.fuse_sessions.specs.declared.fault.Fault.{Fault}
+use Rattle.fuse_sessions.specs.declared.fault.Party.{Party}
+use Rattle.fuse_sessions.specs.declared.fault.Party.TheVariants as party
 use Rattle.fuse_sessions.specs.Parties.{party_of}
 use Rattle.fw_check.specs.declared.counts.Counts.{Counts}
 use Rattle.fw_check.specs.FaultWords.{fault_words, party_word}
@@ -44,18 +46,30 @@ act_fields (act.Uses file) = file_fields file
 act_fields (act.Releases file) = file_fields file
 act_fields (act.Writes size) = number_field (codes "bytes") size
 act_fields (act.Takes unique t body) = number_field (codes "unique") unique
+act_fields (act.Interrupted unique) = number_field (codes "unique") unique
 act_fields (act.Replies unique t) = number_field (codes "unique") unique
 act_fields (act.RepliesToInterrupt original is_again t) = number_field (codes "original") original
 act_fields (act.Gives node file is_certain) =
     node_fields node (codes "generation") file.generation ++ number_field (codes "ino") file.ino
 act_fields (act.Describes node kind ino) = node_fields node (codes "ino") ino
+act_fields (act.Missing node errno) = node_fields node (codes "error") errno
+act_fields (act.Opens file) = file_fields file
 act_fields a = []
 
+-- a warning is nobody's fault
+abbrev pub event_text : Party → List ℕ
+event_text party.Nobody = codes "{\"event\":\"warning\""
+event_text p = codes "{\"event\":\"fault\""
+
+abbrev pub party_field : Party → List ℕ
+party_field party.Nobody = []
+party_field p = text_field (codes "party") (party_word p)
+
 abbrev pub rule_fields : Fault → List ℕ
-rule_fields f = text_field (codes "party") (party_word (party_of f)) ++ text_field (codes "rule") (fault_words f)
+rule_fields f = party_field (party_of f) ++ text_field (codes "rule") (fault_words f)
 
 abbrev pub fault_object : (number : ℕ) → Act → Fault → List ℕ
-fault_object number a f = codes "{\"event\":\"fault\"" ++ number_field (codes "line") number ++ rule_fields f ++ act_fields a
+fault_object number a f = event_text (party_of f) ++ number_field (codes "line") number ++ rule_fields f ++ act_fields a
     ++ codes "}\n"
 
 -- ---- the first and the last object
@@ -73,7 +87,7 @@ lookups_fields unanswered c = number_field (codes "unanswered") unanswered ++ nu
 
 abbrev pub parties_fields : Counts → List ℕ
 parties_fields c = number_field (codes "kernel") c.kernel ++ number_field (codes "server") c.server
-    ++ number_field (codes "device") c.device
+    ++ number_field (codes "device") c.device ++ number_field (codes "warnings") c.warnings
 
 abbrev pub counts_fields : (unanswered : ℕ) → Counts → List ℕ
 counts_fields unanswered c = transfers_fields c ++ lookups_fields unanswered c ++ parties_fields c

@@ -44,6 +44,7 @@ pub record AreCounts (j : Judged) (c : Counts) : Type 0 where
   pub kernel : c.kernel ≡ faults_of party.Kernel j
   pub server : c.server ≡ faults_of party.Server j
   pub device : c.device ≡ faults_of party.Device j
+  pub warnings : c.warnings ≡ faults_of party.Nobody j
 
 -- What a check keeps is right of what was judged.
 pub record IsKept (j : Judged) (judge : SessionState) (c : Counts) : Type 0 where

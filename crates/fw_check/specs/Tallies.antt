@@ -59,11 +59,16 @@ abbrev pub is_device : Party → Bool
 is_device party.Device = true
 is_device p = false
 
--- a verdict is a fault of the party
+abbrev pub is_nobody : Party → Bool
+is_nobody party.Nobody = true
+is_nobody p = false
+
+-- a verdict is a fault of the party, or a warning where that is nobody's
 abbrev pub is_of : Party → Option Fault → Bool
 is_of party.Kernel (Some f) = is_kernel (party_of f)
 is_of party.Server (Some f) = is_server (party_of f)
 is_of party.Device (Some f) = is_device (party_of f)
+is_of party.Nobody (Some f) = is_nobody (party_of f)
 is_of p None = false
 
 -- ---- lines
@@ -89,5 +94,6 @@ abbrev pub parties_text : (kernel server device : ℕ) → List ℕ
 parties_text kernel server device =
     counted (codes "faults: kernel") kernel ++ counted (codes " server") server ++ counted (codes " device") device
 
-abbrev pub faults_text : (kernel server device : ℕ) → List ℕ
-faults_text kernel server device = parties_text kernel server device ++ codes "\n"
+abbrev pub faults_text : (kernel server device warnings : ℕ) → List ℕ
+faults_text kernel server device warnings =
+    parties_text kernel server device ++ counted (codes ", warnings") warnings ++ codes "\n"

@@ -114,12 +114,15 @@ pub(crate) fn put_act<A: Allocator>(text: &mut Vec<u8, A>, act: Act) -> Result<(
         Act::Interrupts { unique, original } => put_interrupt(text, unique, original),
         Act::Names(node) => put_one(text, b"node", node),
         Act::Forgets(node, lookups) => put_node_and(text, node, b"lookups", lookups),
-        Act::Uses(file) | Act::Releases(file) => put_file(text, file),
+        Act::Uses(file) | Act::Releases(file) | Act::Opens(file) => put_file(text, file),
         Act::Writes(size) => put_one(text, b"bytes", size),
-        Act::Takes { unique, .. } | Act::Replies { unique, .. } => put_one(text, b"unique", unique),
+        Act::Takes { unique, .. } | Act::Replies { unique, .. } | Act::Interrupted(unique) => {
+            put_one(text, b"unique", unique)
+        }
         Act::RepliesToInterrupt { original, .. } => put_one(text, b"INTERRUPT of", original),
         Act::Gives { nodeid, file, .. } => put_gift(text, nodeid, file.generation, file.ino),
         Act::Describes { nodeid, ino, .. } => put_node_and(text, nodeid, b"inode", ino),
+        Act::Missing { nodeid, errno } => put_node_and(text, nodeid, b"error", u64::from(errno)),
         _ => Ok(()),
     }
 }

@@ -16,7 +16,7 @@ use crate::stop::Stop;
 use std::alloc::Allocator;
 use std::io::{BufRead, Write};
 
-/// The exit status where somebody broke a rule.
+/// The exit status where somebody broke a rule, and in a strict check where something is odd.
 const FAULTS: u8 = 6;
 
 /// Reads the next line and judges it. Says whether more lines come.
@@ -129,10 +129,10 @@ fn check_all<A: Allocator + Copy, R: BufRead, W: Write>(
     }
 }
 
-/// Judges the session that a capture says, and prints each fault that is asked for as soon as its line was read, and counts
-/// at the end, in the form that is asked for. The memory grows with what is unanswered, counted and open.
+/// Judges the session that a capture says, and prints each fault and warning that is asked for as soon as its line was read, and counts
+/// at the end, in the form that is asked for. The memory grows with what is unanswered and open, and with the nodes that were given.
 ///
-/// Gives the exit status: 0 where there is no fault that is asked for, and 6 where there is one; 1 after `cannot read` with the capture's
+/// Gives the exit status: 0 where there is no fault that is asked for, and in a strict check no warning, and 6 where there is one; 1 after `cannot read` with the capture's
 /// name, or after `line N:` and the fault of the first bad line, on `faults`; 3 after `no memory`; or 5 where `out`
 /// refuses. What was printed before is of the lines before.
 pub fn run_check<A: Allocator + Copy, R: BufRead, W: Write, F: Write>(
@@ -148,7 +148,7 @@ pub fn run_check<A: Allocator + Copy, R: BufRead, W: Write, F: Write>(
 {
     let mut checker = Checker::new(alloc);
     match check_all(alloc, options, &mut checker, input, out) {
-        Ok(()) => if checker.counts.has_no_fault() {
+        Ok(()) => if checker.counts.has_no_finding(options.is_strict) {
             0
         } else {
             FAULTS

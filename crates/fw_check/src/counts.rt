@@ -1,6 +1,6 @@
 //! The counts of a session.
 
-ghost use Rattle.std.specs.Prelude.{◌≡◌, ◌+◌, ◌++◌, ◌↔◌, ◌⊎◌, IfSome, IsTrue, OnOk, sum_by};
+ghost use Rattle.std.specs.Prelude.{◌≡◌, ◌+◌, ◌++◌, ◌↔◌, ◌⊎◌, IfSome, IsTrue, OnOk, if◌then◌else◌, sum_by};
 ghost use Rattle.fuse_sessions.specs.declared.fault.Party.TheVariants as party;
 ghost use Rattle.fw_check.specs.Tallies as words;
 ghost use Rattle.fw_check.specs.Counting.{CountsMore, counts_lines};
@@ -25,6 +25,7 @@ pub(crate) struct Counts {
     pub(crate) kernel: u64,
     pub(crate) server: u64,
     pub(crate) device: u64,
+    pub(crate) warnings: u64,
 }
 
 /// The counts of nothing.
@@ -38,6 +39,7 @@ pub(crate) const NOTHING: Counts = Counts {
     kernel: 0,
     server: 0,
     device: 0,
+    warnings: 0,
 };
 
 impl Counts {
@@ -60,14 +62,17 @@ impl Counts {
             kernel: faults_after(self.kernel, Party::Kernel, verdicts)?,
             server: faults_after(self.server, Party::Server, verdicts)?,
             device: faults_after(self.device, Party::Device, verdicts)?,
+            warnings: faults_after(self.warnings, Party::Nobody, verdicts)?,
         })
     }
 
-    /// Whether nobody broke a rule.
-    pub(crate) fn has_no_fault(self) -> bool
-        ensures { IsTrue result ↔ (self.kernel + self.server + self.device ≡ 0) }
+    /// Whether nobody broke a rule, and in a strict check nothing is odd.
+    pub(crate) fn has_no_finding(self, is_strict: bool) -> bool
+        ensures { IsTrue result
+            ↔ (self.kernel + self.server + self.device + (if is_strict then self.warnings else 0) ≡ 0) }
     {
-        self.kernel == 0 && self.server == 0 && self.device == 0
+        let odd = if is_strict { self.warnings } else { 0 };
+        self.kernel == 0 && self.server == 0 && self.device == 0 && odd == 0
     }
 
     /// The counts of transfers.
@@ -112,11 +117,13 @@ impl Counts {
         put_counted(text, b" device", self.device)
     }
 
-    /// The counts of faults.
+    /// The counts of faults and of warnings.
     fn put_faults<A: Allocator>(self, text: &mut Vec<u8, A>) -> Result<(), AllocError>
-        ensures { OnOk result (text.new.items ≡ text.old.items ++ words.faults_text self.kernel self.server self.device) }
+        ensures { OnOk result (text.new.items
+            ≡ text.old.items ++ words.faults_text self.kernel self.server self.device self.warnings) }
     {
         self.put_parties(text)?;
+        put_counted(text, b", warnings", self.warnings)?;
         put(text, b"\n")
     }
 

@@ -11,7 +11,7 @@ use crate::text::{put, put_number, put_wide};
 use crate::unjudged::unjudged_words;
 use crate::words::{fault_words, party_word};
 use fuse_protocol::{Opcode, Unjudged};
-use fuse_sessions::{Act, Fault};
+use fuse_sessions::{Act, Fault, Party};
 use std::alloc::{AllocError, Allocator};
 
 /// A key behind another.
@@ -131,15 +131,38 @@ fn put_act<A: Allocator>(text: &mut Vec<u8, A>, act: Act) -> Result<(), AllocErr
         }
         Act::Names(node) => put_field(text, b"nodeid", node),
         Act::Forgets(node, lookups) => put_node(text, node, b"lookups", lookups),
-        Act::Uses(file) | Act::Releases(file) => put_node(text, file.nodeid, b"fh", file.fh),
+        Act::Uses(file) | Act::Releases(file) | Act::Opens(file) => {
+            put_node(text, file.nodeid, b"fh", file.fh)
+        }
         Act::Writes(size) => put_field(text, b"bytes", size),
-        Act::Takes { unique, .. } | Act::Replies { unique, .. } => {
+        Act::Takes { unique, .. } | Act::Replies { unique, .. } | Act::Interrupted(unique) => {
             put_field(text, b"unique", unique)
         }
         Act::RepliesToInterrupt { original, .. } => put_field(text, b"original", original),
         Act::Gives { nodeid, file, .. } => put_gift(text, nodeid, file.generation, file.ino),
         Act::Describes { nodeid, ino, .. } => put_node(text, nodeid, b"ino", ino),
+        Act::Missing { nodeid, errno } => put_node(text, nodeid, b"error", u64::from(errno)),
         _ => Ok(()),
+    }
+}
+
+/// What the object of a fault begins with, or that of a warning.
+fn event_text(party: Party) -> &'static [u8]
+    ensures { result.now ≡ words.event_text party }
+{
+    match party {
+        Party::Nobody => b"{\"event\":\"warning\"",
+        _ => b"{\"event\":\"fault\"",
+    }
+}
+
+/// Whose fault it is, if it is one.
+fn put_party<A: Allocator>(text: &mut Vec<u8, A>, party: Party) -> Result<(), AllocError>
+    ensures { OnOk result (text.new.items ≡ text.old.items ++ words.party_field party) }
+{
+    match party {
+        Party::Nobody => Ok(()),
+        _ => put_text_field(text, b"party", party_word(party)),
     }
 }
 
@@ -147,7 +170,7 @@ fn put_act<A: Allocator>(text: &mut Vec<u8, A>, act: Act) -> Result<(), AllocErr
 fn put_rule<A: Allocator>(text: &mut Vec<u8, A>, fault: Fault) -> Result<(), AllocError>
     ensures { OnOk result (text.new.items ≡ text.old.items ++ words.rule_fields fault) }
 {
-    put_text_field(text, b"party", party_word(fault.party()))?;
+    put_party(text, fault.party())?;
     put_text_field(text, b"rule", fault_words(fault))
 }
 
@@ -160,7 +183,7 @@ pub(crate) fn put_fault_object<A: Allocator>(
 ) -> Result<(), AllocError>
     ensures { OnOk result (text.new.items ≡ text.old.items ++ words.fault_object number act fault) }
 {
-    put(text, b"{\"event\":\"fault\"")?;
+    put(text, event_text(fault.party()))?;
     put_field(text, b"line", number)?;
     put_rule(text, fault)?;
     put_act(text, act)?;
@@ -221,7 +244,8 @@ fn put_parties<A: Allocator>(text: &mut Vec<u8, A>, counts: Counts) -> Result<()
 {
     put_field(text, b"kernel", counts.kernel)?;
     put_field(text, b"server", counts.server)?;
-    put_field(text, b"device", counts.device)
+    put_field(text, b"device", counts.device)?;
+    put_field(text, b"warnings", counts.warnings)
 }
 
 /// The counts.

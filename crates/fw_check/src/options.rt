@@ -5,16 +5,19 @@ use fuse_sessions::Party;
 /// How a check prints.
 #[derive(Clone, Copy, Debug, PartialEq, Eq)]
 pub enum CheckForm {
-    /// A line in words for each fault, and two lines of counts.
+    /// A line in words for each fault and each warning, and two lines of counts.
     Words,
-    /// A JSON object a line: one that names the form's version, one for each fault, and one with the counts.
+    /// A JSON object a line: one that names the form's version, one for each fault and each warning, and one with the
+    /// counts.
     Json,
 }
 
 /// What a check is asked for.
 #[derive(Clone, Copy, Debug, PartialEq, Eq)]
 pub struct CheckOptions {
-    /// The party whose faults alone are printed and counted; `None` for all parties.
+    /// The party whose faults alone are printed and counted; `None` for all parties, and warnings.
     pub only: Option<Party>,
     pub form: CheckForm,
+    /// Whether the exit status counts a warning as a fault.
+    pub is_strict: bool,
 }

@@ -70,7 +70,7 @@ fn forgotten_by(act: Act) -> u64
     }
 }
 
-/// Whether a verdict is a fault of a party.
+/// Whether a verdict is a fault of a party, or a warning where that is nobody's.
 pub(crate) fn is_of(party: Party, verdict: Option<Fault>) -> bool
     ensures { result ≡ words.is_of party verdict }
 {
@@ -80,6 +80,7 @@ pub(crate) fn is_of(party: Party, verdict: Option<Fault>) -> bool
             (Party::Kernel, Party::Kernel)
                 | (Party::Server, Party::Server)
                 | (Party::Device, Party::Device)
+                | (Party::Nobody, Party::Nobody)
         ),
         None => false,
     }

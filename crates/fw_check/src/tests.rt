@@ -57,6 +57,7 @@ const FORGET_THREE: &str =
 const EVERYONE: CheckOptions = CheckOptions {
     only: None,
     form: CheckForm::Words,
+    is_strict: false,
 };
 
 /// A capture, and what is printed of it.
@@ -85,7 +86,7 @@ static ROWS: [Row; 13] = [
         ],
         feed: "\n",
         status: 0,
-        output: "requests 3 replies 2 notifications 0 refused 0 unanswered 0 entries 1 forgotten 1\nfaults: kernel 0 server 0 device 0\n",
+        output: "requests 3 replies 2 notifications 0 refused 0 unanswered 0 entries 1 forgotten 1\nfaults: kernel 0 server 0 device 0, warnings 0\n",
         faults: "",
     },
     // The same in other words.
@@ -101,42 +102,42 @@ static ROWS: [Row; 13] = [
         ],
         feed: "\r\n",
         status: 0,
-        output: "requests 3 replies 2 notifications 0 refused 0 unanswered 0 entries 1 forgotten 1\nfaults: kernel 0 server 0 device 0\n",
+        output: "requests 3 replies 2 notifications 0 refused 0 unanswered 0 entries 1 forgotten 1\nfaults: kernel 0 server 0 device 0, warnings 0\n",
         faults: "",
     },
     Row {
         lines: &[],
         feed: "\n",
         status: 0,
-        output: "requests 0 replies 0 notifications 0 refused 0 unanswered 0 entries 0 forgotten 0\nfaults: kernel 0 server 0 device 0\n",
+        output: "requests 0 replies 0 notifications 0 refused 0 unanswered 0 entries 0 forgotten 0\nfaults: kernel 0 server 0 device 0, warnings 0\n",
         faults: "",
     },
     Row {
         lines: &[INIT, ANSWER, LOOKUP, ENTRY, UNASKED_ENTRY],
         feed: "\n",
         status: 6,
-        output: "line 5: server: second reply: unique 4\nrequests 2 replies 3 notifications 0 refused 1 unanswered 0 entries 1 forgotten 0\nfaults: kernel 0 server 1 device 0\n",
+        output: "line 5: server: second reply: unique 4\nrequests 2 replies 3 notifications 0 refused 1 unanswered 0 entries 1 forgotten 0\nfaults: kernel 0 server 1 device 0, warnings 0\n",
         faults: "",
     },
     Row {
         lines: &[INIT, ANSWER, LOOKUP, ENTRY, "#", FORGET_THREE],
         feed: "\n",
         status: 6,
-        output: "line 6: kernel: forget of more than is counted: node 7 lookups 3\nrequests 3 replies 2 notifications 0 refused 0 unanswered 0 entries 1 forgotten 3\nfaults: kernel 1 server 0 device 0\n",
+        output: "line 6: kernel: forget of more than is counted: node 7 lookups 3\nrequests 3 replies 2 notifications 0 refused 0 unanswered 0 entries 1 forgotten 3\nfaults: kernel 1 server 0 device 0, warnings 0\n",
         faults: "",
     },
     Row {
         lines: &[INIT, ANSWER, LOOKUP, REFUSED_ENTRY],
         feed: "\n",
         status: 6,
-        output: "line 4: device: right reply refused: unique 4\nrequests 2 replies 2 notifications 0 refused 1 unanswered 0 entries 0 forgotten 0\nfaults: kernel 0 server 0 device 1\n",
+        output: "line 4: device: right reply refused: unique 4\nrequests 2 replies 2 notifications 0 refused 1 unanswered 0 entries 0 forgotten 0\nfaults: kernel 0 server 0 device 1, warnings 0\n",
         faults: "",
     },
     Row {
         lines: &[INIT, ANSWER, "= ended ENODEV", LOOKUP],
         feed: "\n",
         status: 6,
-        output: "line 4: device: read after the end\nrequests 2 replies 1 notifications 0 refused 0 unanswered 1 entries 0 forgotten 0\nfaults: kernel 0 server 0 device 1\n",
+        output: "line 4: device: read after the end\nrequests 2 replies 1 notifications 0 refused 0 unanswered 1 entries 0 forgotten 0\nfaults: kernel 0 server 0 device 1, warnings 0\n",
         faults: "",
     },
     // Frames of 7.8 are not judged: this one comes twice, and gives a node.
@@ -144,7 +145,7 @@ static ROWS: [Row; 13] = [
         lines: &[INIT, OLD_ANSWER, LOOKUP, ENTRY, UNASKED_ENTRY],
         feed: "\n",
         status: 0,
-        output: "line 2: not judged from here on: the sides agreed below 7.9, where entries and attributes are shorter\nrequests 2 replies 3 notifications 0 refused 1 unanswered 0 entries 0 forgotten 0\nfaults: kernel 0 server 0 device 0\n",
+        output: "line 2: not judged from here on: the sides agreed below 7.9, where entries and attributes are shorter\nrequests 2 replies 3 notifications 0 refused 1 unanswered 0 entries 0 forgotten 0\nfaults: kernel 0 server 0 device 0, warnings 0\n",
         faults: "",
     },
     // A frame by itself, and a header that is cut.
@@ -152,7 +153,7 @@ static ROWS: [Row; 13] = [
         lines: &["> 00", "< 0000000000000000ff"],
         feed: "\n",
         status: 6,
-        output: "line 1: kernel: malformed request\nline 2: server: malformed reply\nrequests 1 replies 1 notifications 0 refused 0 unanswered 0 entries 0 forgotten 0\nfaults: kernel 1 server 1 device 0\n",
+        output: "line 1: kernel: malformed request\nline 2: server: malformed reply\nrequests 1 replies 1 notifications 0 refused 0 unanswered 0 entries 0 forgotten 0\nfaults: kernel 1 server 1 device 0, warnings 0\n",
         faults: "",
     },
     // Bad lines: what was printed before stays.

@@ -15,6 +15,7 @@ pub fn party_word(party: Party) -> &'static str
         Party::Kernel => "kernel",
         Party::Server => "server",
         Party::Device => "device",
+        Party::Nobody => "warning",
     }
 }
 
@@ -64,6 +65,13 @@ pub fn fault_words(fault: Fault) -> &'static str
         Fault::AcceptedReplyToNothing => "reply to nothing accepted",
         Fault::AcceptedWrongBody => "body of another request accepted",
         Fault::RefusedReply => "right reply refused",
+        Fault::NodeGivenAgain => "node given again under its generation",
+        Fault::HandleGivenAgain => "file handle that is open given again",
+        Fault::NoSuchNode => "counted node that is said not to be there",
+        Fault::InterruptedByNobody => "EINTR without an INTERRUPT",
+        Fault::AgainTooOften => "INTERRUPT answered EAGAIN more than 1000 times",
+        Fault::OffsetGivenTwice => "offset given twice in a row",
+        Fault::ListingWithoutEnd => "listing that ends where it began",
     }
 }
 

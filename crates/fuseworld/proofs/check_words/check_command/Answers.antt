@@ -11,10 +11,12 @@ returns c =
     let server_is : IsArgument (flag (codes "server")) c.flag-server.result = search rules in
     let kernel_is : IsArgument (flag (codes "kernel")) c.flag-kernel.result = search rules in
     let json_is : IsArgument (flag (codes "json")) c.flag-json.result = search rules in
+    let strict_is : IsArgument (flag (codes "strict")) c.flag-strict.result = search rules in
     let file_is : IsArgument (new_rule (codes "FILE")) c.capture_argument.result = search rules in
     let new_is : IsCommand (new_app (codes "check")) c.new.result = search rules in
     let about_is = with_about _ _ c.about.result _ c.about.ensures new_is in
     let server = adds_argument _ _ _ _ _ about_is server_is c.in_ok-arg.ensures in
     let kernel = adds_argument _ _ _ _ _ server kernel_is c.in_ok-arg-2.ensures in
     let json = adds_argument _ _ _ _ _ kernel json_is c.in_ok-arg-3.ensures in
-    IfOk-weaker c.arg-4.result _ _ (λ command adds. adds_argument _ _ _ command _ json file_is adds) c.arg-4.ensures
+    let strict = adds_argument _ _ _ _ _ json strict_is c.in_ok-arg-4.ensures in
+    IfOk-weaker c.arg-5.result _ _ (λ command adds. adds_argument _ _ _ command _ strict file_is adds) c.arg-5.ensures

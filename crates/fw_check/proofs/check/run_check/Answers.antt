@@ -5,8 +5,8 @@ use Rattle.fw_check.proofs.CheckLaws.{map_some}
 use Rattle.fw_check.proofs.ReportLaws.{ends_well, ends_with_faults, stop_status, stops}
 use Rattle.fw_check.proofs.check.run_check.Goals as goal
 
-pub returns-then-has_no_fault : goal.returns-then-has_no_fault
-returns-then-has_no_fault g c =
+pub returns-then-has_no_finding : goal.returns-then-has_no_finding
+returns-then-has_no_finding g c =
     let name = c.args.name.now in
     let had = g.W.Write.contents c.args.out.now in
     let has = g.W.Write.contents c.check_all.new.out in
@@ -17,7 +17,7 @@ returns-then-has_no_fault g c =
       prints = map_some (λ capture. AllPrinted c.args.options capture counts had has)
           (λ capture. PrintsChecked c.args.options name capture had has faults faults 0)
           (g.R.Read.remaining c.args.input.now)
-          (λ capture all. ends_well c.args.options name capture counts had has faults faults all (c.if-has_no_fault.ensures.0 refl))
+          (λ capture all. ends_well c.args.options name capture counts had has faults faults all (c.if-has_no_finding.ensures.0 refl))
           (c.in-Ok.ensures c.new-checker.ensures);
     }
 
@@ -34,7 +34,7 @@ returns-in-Ok g c =
           (λ capture. PrintsChecked c.args.options name capture had has faults faults 6)
           (g.R.Read.remaining c.args.input.now)
           (λ capture all. ends_with_faults c.args.options name capture counts had has faults faults all
-          (λ none. let yes = c.if-has_no_fault.ensures.1 none in cc))
+          (λ none. let yes = c.if-has_no_finding.ensures.1 none in cc))
           (c.in-Ok.ensures c.new-checker.ensures);
     }
 
