@@ -19,6 +19,7 @@ ABOUT = [
     (r"node (\d+) file handle (\d+)", ("nodeid", "fh")),
     (r"node (\d+) generation (\d+) inode (\d+)", ("nodeid", "generation", "ino")),
     (r"node (\d+) inode (\d+)", ("nodeid", "ino")),
+    (r"node (\d+) error (\d+)", ("nodeid", "error")),
     (r"([A-Z_0-9]+) (\d+)", ("opcode", "unique")),
     (r"([A-Z_0-9]+)", ("opcode",)),
 ]
@@ -42,12 +43,14 @@ def fault(line):
         return {"event": "unjudged", "line": int(place), "why": why}
     _, place, party, rule, *rest = re.fullmatch(r"(line (\d+)): (\w+): ([^:]*)(?:: (.*))?", line).groups()
     named = about(rest[0]) if rest[0] else {}
+    if party == "warning":
+        return {"event": "warning", "line": int(place), "rule": rule} | named
     return {"event": "fault", "line": int(place), "party": party, "rule": rule} | named
 
 
 def main():
     *faults, counts, parties = open(sys.argv[1], encoding="utf-8").read().splitlines()
-    words = (counts + parties.removeprefix("faults:")).split()
+    words = (counts + parties.removeprefix("faults:").replace(",", "")).split()
     pairs = {key: int(value) for key, value in zip(words[::2], words[1::2])}
     for it in ({"event": "check", "schema": 1}, *map(fault, faults), {"event": "counts"} | pairs):
         print(json.dumps(it, separators=(",", ":")))

@@ -53,7 +53,7 @@ launcher=
 
 "$program" check "$capture" > "$work/out" 2>&1
 check "the status of a right session" 0 $?
-check "its faults" "faults: kernel 0 server 0 device 0" "$(tail -n 1 "$work/out")"
+check "its faults" "faults: kernel 0 server 0 device 0, warnings 0" "$(tail -n 1 "$work/out")"
 check "what is unanswered, and lookups that are left" " unanswered 0 lookups" \
     "$("$program" decode "$capture" | tail -n 1 | sed 's/.* refused 0//')"
 check "it has 500 frames or more" yes "$([ "$(wc -l < "$capture")" -ge 500 ] && echo yes)"

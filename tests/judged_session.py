@@ -36,11 +36,12 @@ class Session:
         self.write(init_reply(**agreed))
 
     def end(self, entries=0, forgotten=0, unanswered=0):
-        """The two lines of counts. A request is unanswered where it takes a reply, no reply under its number was written and
+        """The two lines of counts, of which the last has the warnings too. A request is unanswered where it takes a reply, no reply under its number was written and
         not refused with ENOENT, and no later request took its number."""
         parties = [fault.split(": ")[1] for fault in self.faults]
         transfers = " ".join(f"{word} {count}" for word, count in self.counted.items())
         return "\n".join([
             *self.faults, f"{transfers} unanswered {unanswered} entries {entries} forgotten {forgotten}",
-            "faults: " + " ".join(f"{party} {parties.count(party)}" for party in ("kernel", "server", "device")), "",
+            "faults: " + " ".join(f"{party} {parties.count(party)}" for party in ("kernel", "server", "device"))
+            + f", warnings {parties.count('warning')}", "",
         ])

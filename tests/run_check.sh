@@ -17,10 +17,10 @@ judged() {
 }
 
 # party_alone FILE PARTY OTHER: what is wanted of one party alone, by the lines that are wanted of all. A fault of another
-# party is neither printed nor counted.
+# party and a warning are neither printed nor counted.
 party_alone() {
     grep "^line [0-9]*: \($2\|not judged from here on\): " "$1"
-    sed -n "/^requests /p; /^faults: /s/\\($3\\|device\\) [0-9]*/\\1 0/gp" "$1"
+    sed -n "/^requests /p; /^faults: /s/\\($3\\|device\\|warnings\\) [0-9]*/\\1 0/gp" "$1"
 }
 
 : > "$work/want-err"
@@ -34,7 +34,7 @@ for capture in tests/sessions/*.capture; do
     expected=${capture%.capture}.expected
     cp "$expected" "$work/want-out"
     status=6
-    tail -n 1 "$expected" | grep -qx "faults: kernel 0 server 0 device 0" && status=0
+    tail -n 1 "$expected" | grep -qx "faults: kernel 0 server 0 device 0, warnings [0-9]*" && status=0
     judged "$capture" "$status" "$capture"
 done
 
@@ -54,12 +54,12 @@ line 4: server: reply to nothing: unique 90
 line 7: server: second reply: unique 4
 line 9: server: body that is not its request's
 requests 5 replies 7 notifications 0 refused 2 unanswered 0 entries 0 forgotten 0
-faults: kernel 0 server 3 device 0
+faults: kernel 0 server 3 device 0, warnings 0
 END
 judged "the server where all parties have faults" 6 --server tests/sessions/device.capture
 cat > "$work/want-out" <<END
 requests 5 replies 7 notifications 0 refused 2 unanswered 0 entries 0 forgotten 0
-faults: kernel 0 server 0 device 0
+faults: kernel 0 server 0 device 0, warnings 0
 END
 judged "the kernel where the others have faults" 0 --kernel tests/sessions/device.capture
 : > "$work/want-out"
@@ -77,25 +77,37 @@ cat > "$work/want-out" <<'END'
 {"event":"fault","line":9,"party":"server","rule":"body that is not its request's"}
 {"event":"fault","line":9,"party":"device","rule":"body of another request accepted","unique":6}
 {"event":"fault","line":11,"party":"device","rule":"right reply refused","unique":8}
-{"event":"counts","requests":5,"replies":7,"notifications":0,"refused":2,"unanswered":0,"entries":0,"forgotten":0,"kernel":0,"server":3,"device":4}
+{"event":"counts","requests":5,"replies":7,"notifications":0,"refused":2,"unanswered":0,"entries":0,"forgotten":0,"kernel":0,"server":3,"device":4,"warnings":0}
 END
 judged "a session in JSON" 6 --json tests/sessions/device.capture
 cat > "$work/want-out" <<'END'
 {"event":"check","schema":1}
-{"event":"counts","requests":5,"replies":7,"notifications":0,"refused":2,"unanswered":0,"entries":0,"forgotten":0,"kernel":0,"server":0,"device":0}
+{"event":"counts","requests":5,"replies":7,"notifications":0,"refused":2,"unanswered":0,"entries":0,"forgotten":0,"kernel":0,"server":0,"device":0,"warnings":0}
 END
 judged "one party in JSON" 0 --json --kernel tests/sessions/device.capture
 for expected in tests/sessions/*.expected; do
     capture=${expected%.expected}.capture
     python3 tests/check_json.py "$expected" > "$work/want-out"
     status=6
-    tail -n 1 "$expected" | grep -qx "faults: kernel 0 server 0 device 0" && status=0
+    tail -n 1 "$expected" | grep -qx "faults: kernel 0 server 0 device 0, warnings [0-9]*" && status=0
     judged "$capture in JSON" "$status" --json "$capture"
 done
 
-# Each rule is broken somewhere.
+# A strict check: a warning counts as a fault, and nothing else changes.
+for expected in tests/sessions/*.expected; do
+    capture=${expected%.expected}.capture
+    cp "$expected" "$work/want-out"
+    status=6
+    tail -n 1 "$expected" | grep -qx "faults: kernel 0 server 0 device 0, warnings 0" && status=0
+    judged "$capture with --strict" "$status" --strict "$capture"
+done
+grep -v "^line [0-9]*: warning: \|^faults: " tests/sessions/handles-given-again.expected > "$work/want-out"
+echo "faults: kernel 0 server 0 device 0, warnings 0" >> "$work/want-out"
+judged "warnings with --strict and --server" 0 --strict --server tests/sessions/handles-given-again.capture
+
+# Each rule is broken somewhere, and there is each warning.
 cat tests/sessions/*.expected | sed -n 's/^line [0-9]*: \([a-z]*: [^:]*\).*/\1/p' | sort -u | wc -l > "$work/out"
-echo 41 > "$work/want-out"
+echo 48 > "$work/want-out"
 : > "$work/err"
 judge "how many rules are broken in tests/sessions" 0 0
 
@@ -117,7 +129,7 @@ judged "no line feed at the end" 6 "$work/capture"
 judge "standard input" $? 6
 "$program" check - < "$capture" > "$work/out" 2> "$work/err"
 judge "standard input, by its name" $? 6
-printf 'requests 0 replies 0 notifications 0 refused 0 unanswered 0 entries 0 forgotten 0\nfaults: kernel 0 server 0 device 0\n' > "$work/want-out"
+printf 'requests 0 replies 0 notifications 0 refused 0 unanswered 0 entries 0 forgotten 0\nfaults: kernel 0 server 0 device 0, warnings 0\n' > "$work/want-out"
 "$program" check < /dev/null > "$work/out" 2> "$work/err"
 judge "nothing" $? 0
 

@@ -11,6 +11,7 @@ from fuse_frames import (DIRECTORY, EAGAIN, EIO, ENOENT, ENOSYS, LINK, REGULAR, 
                          getattr_body, init_reply, init_request, notification, numbers, opened, read_body, record,
                          release_body, reply, request, setattr_body, text, write_body)
 from judged_session import Session
+import warning_sessions
 
 FOLDER = Path(__file__).resolve().parent / "sessions"
 
@@ -247,7 +248,8 @@ def open_files():
     s.read(request("RELEASE", 28, 2, release_body(5)), "kernel: RELEASE of what is not open: node 2 file handle 5")
     # a handle that was given twice is open until its second RELEASE
     s.ask("OPEN", 30, 2, numbers("II", 0, 0), opened(9))
-    s.ask("OPEN", 32, 2, numbers("II", 0, 0), opened(9))
+    s.ask("OPEN", 32, 2, numbers("II", 0, 0), opened(9),
+          faults=("warning: file handle that is open given again: node 2 file handle 9",))
     s.read(request("READ", 34, 2, read_body(9)))
     s.read(request("RELEASE", 36, 2, release_body(9)))
     s.write(reply(34))
@@ -744,7 +746,7 @@ SESSIONS = [
     writes_of_a_page, replies, replies_to_interrupts, bodies, init_of_another_length, entries, entries_of_another_kind,
     exported, nodes_of_two_files, init_of_another_version, frames_of_an_old_minor, frames_of_a_later_minor,
     security_contexts_without_a_length, flags_that_were_not_offered, second_word_of_flags, notifications, device, after_the_end, after_a_lost_reply, good_names, good_attributes, good_files, good_directories, good_notifications,
-    good_extensions, good_minors, lines_of_a_capture,
+    good_extensions, good_minors, lines_of_a_capture, *warning_sessions.SESSIONS,
 ]
 
 
