@@ -198,7 +198,7 @@ class Run:
         self.frames += count
         known = KNOWN.get(self.sessions.server.name, set())
         faults = Counter(re.sub(r"^line \d+: (\w+: [^:]*).*", r"\1", line) for line in said.stdout.splitlines() if line.startswith("line "))
-        other = {fault: many for fault, many in faults.items() if fault not in known}
+        other = {fault: many for fault, many in faults.items() if fault not in known and not fault.startswith("warning: ")}
         is_right = is_ended and said.returncode in (0, 6) and not other and watched.watcher.returncode == 0
         self.passed += is_right
         self.failed += not is_right
