@@ -1,5 +1,7 @@
 pub mod ActsAlone
 pub mod Following
 pub mod KnownScripts
+pub mod LineRuns
+pub mod OneMove
 pub mod StopStatuses
 pub mod Words

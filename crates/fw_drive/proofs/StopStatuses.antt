@@ -46,6 +46,15 @@ pub bad_among : (b : BadScript) (s : ℕ) → s ≡ bad_status b → Contains (1
 bad_among (bad.BadLine number fault) s is = (0, omega arith, sym is)
 bad_among bad.NoMemory s is = (1, omega arith, sym is)
 
+pub bad_either : (b : BadScript) (s : ℕ) → s ≡ bad_status b → (s ≡ 1) ⊎ (s ≡ 3)
+bad_either (bad.BadLine number fault) s is = inl is
+bad_either bad.NoMemory s is = inr is
+
+pub unread_either : (s : ℕ) → Contains (1 ∷ 3 ∷ []) s → (s ≡ 1) ⊎ (s ≡ 3)
+unread_either s (zero, low, is) = inl (sym is)
+unread_either s (suc zero, low, is) = inr (sym is)
+unread_either s (suc (suc k), low, is) = absurd (omega (arith, low))
+
 -- it is 1 for a line with a fault
 pub bad_at_1 : (form : Form) (script : List ℕ) (b : BadScript) (s : ℕ) → s ≡ bad_status b → JudgingEnds form script b
     → (old new : Option (List ℕ)) → AppendsSome old new (bad_text b) → s ≡ 1 → SaysFirstFault form script old new

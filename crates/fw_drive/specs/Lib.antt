@@ -1,4 +1,6 @@
 pub mod Acts
 pub mod DriveLines
 pub mod Judging
+pub mod LineMoves
+pub mod Moves
 pub mod Runs

@@ -1,6 +1,8 @@
 //! Calls are carried to their answers.
 
-ghost use Rattle.fw_drive.specs.Runs.{GoesOn};
+ghost use Rattle.std.specs.Prelude.{All};
+ghost use Rattle.fw_drive.specs.LineMoves.{Carries, FirstThen, IsCarriedBy, IsMoveOf, mount_line};
+ghost use Rattle.fw_drive.specs.Runs.{Goes};
 
 use crate::driver::Driver;
 use crate::moves::{act, receive, send};
@@ -26,7 +28,7 @@ fn receive_toward<T: Tables, D: Device, W: Write>(
     unique: u64,
     out: &mut W,
 ) -> Result<bool, Stop>
-    ensures { GoesOn D.logs device.old device.new driver.old driver.new result }
+    ensures { Goes T.Heap D.logs device.old device.new driver.old driver.new result (All Carries) }
 {
     match receive(driver, device, notes, out) {
         Ok(received) => is_ended(received, unique),
@@ -42,7 +44,7 @@ fn await_reply<T: Tables, D: Device, W: Write>(
     unique: u64,
     out: &mut W,
 ) -> Result<bool, Stop>
-    ensures { GoesOn D.logs device.old device.new driver.old driver.new result }
+    ensures { Goes T.Heap D.logs device.old device.new driver.old driver.new result (All Carries) }
 {
     for _frame in 0..u64::MAX {
         match receive_toward(driver, device, notes, unique, out) {
@@ -71,7 +73,8 @@ fn carry_one<T: Tables, D: Device, W: Write>(
     pick: Pick,
     out: &mut W,
 ) -> Result<bool, Stop>
-    ensures { GoesOn D.logs device.old device.new driver.old driver.new result }
+    requires { IsCarriedBy pick }
+    ensures { Goes T.Heap D.logs device.old device.new driver.old driver.new result (All Carries) }
 {
     match send(driver, device, notes, pick, out) {
         Ok(Ok(Some(unique))) => await_reply(driver, device, notes, unique, out),
@@ -88,7 +91,8 @@ fn carry_all<T: Tables, D: Device, W: Write>(
     pick: Pick,
     out: &mut W,
 ) -> Result<(), Stop>
-    ensures { GoesOn D.logs device.old device.new driver.old driver.new result }
+    requires { IsCarriedBy pick }
+    ensures { Goes T.Heap D.logs device.old device.new driver.old driver.new result (All Carries) }
 {
     for _request in 0..u64::MAX {
         match carry_one(driver, device, notes, pick, out) {
@@ -107,7 +111,7 @@ pub(crate) fn carry<T: Tables, D: Device, W: Write>(
     notes: &mut Notes<T>,
     out: &mut W,
 ) -> Result<(), Stop>
-    ensures { GoesOn D.logs device.old device.new driver.old driver.new result }
+    ensures { Goes T.Heap D.logs device.old device.new driver.old driver.new result (All Carries) }
 {
     match carry_all(driver, device, notes, Pick::Pending(0), out) {
         Ok(()) => carry_all(driver, device, notes, Pick::Forgets(1), out),
@@ -122,7 +126,8 @@ pub(crate) fn mount<T: Tables, D: Device, W: Write>(
     notes: &mut Notes<T>,
     out: &mut W,
 ) -> Result<(), Stop>
-    ensures { GoesOn D.logs device.old device.new driver.old driver.new result }
+    ensures { Goes T.Heap D.logs device.old device.new driver.old driver.new result
+        (FirstThen (IsMoveOf mount_line) Carries) }
 {
     let event = Event::Mount {
         found_ms: 0,

@@ -1,10 +1,14 @@
 //! A kernel and its connection to a server.
 
-ghost use Rattle.std.specs.Prelude.{◌≡◌, IfNone, IfOk, IfSome, OnErr};
+ghost use Rattle.std.specs.Prelude.{◌≡◌, IfNone, IfOk, IfSome, List, OnErr, option_map, slice_get};
 ghost use Rattle.fuse_spec.specs.Values.Maps.{remove};
-ghost use Rattle.fk_drive.specs.Driving.{first_driven};
+ghost use Rattle.fuse_device.specs.Transfers.{Transfer};
+ghost use Rattle.fk_syscalls.specs.Values.{answer_of};
+ghost use Rattle.fk_drive.specs.Driving.{Turn, first_driven, idle};
+ghost use Rattle.fk_drive_frames.specs.declared.filling.FreeFields.{FreeFields as Fields};
 ghost use Rattle.fw_drive.specs.Acts.{Acts};
-ghost use Rattle.fw_drive.specs.Runs.{GoesOn, Keeps};
+ghost use Rattle.fw_drive.specs.Moves.{Moves, sends, writes};
+ghost use Rattle.fw_drive.specs.Runs.{Keeps, at};
 
 use crate::acting::act;
 use fk_drive::{
@@ -88,6 +92,8 @@ impl<T: Tables> Driver<T> {
 
     /// The answer of the lowest call that has one. It is collected then.
     pub(crate) fn collect(&mut self) -> Option<(u64, Answer<T::Heap>)>
+        ensures first { option_map (λ given. (given.0, answer_of given.1)) result
+            ≡ slice_get self.old.kernel.vfs.answers 0 }
         ensures some { IfSome result (λ given. self.new.kernel ≡ record self.old.kernel {
           vfs = record self.old.kernel.vfs { answers = remove self.old.kernel.vfs.answers given.0 };
         }) }
@@ -97,23 +103,23 @@ impl<T: Tables> Driver<T> {
         self.kernel.collect()
     }
 
-    /// Reads a request from the kernel, and sends it. What is not for the kernel is noted as it comes. `Err` of the inner
-    /// result is why the kernel refuses.
+    /// Reads a request from the kernel, and sends it. What is not for the kernel is noted as it comes.
     ///
     /// # Errors
     ///
-    /// The run came to its end.
+    /// As the kernel refuses it, or the run came to its end.
     pub(crate) fn send<D: Device, N: FrameNotes, W: Write>(
         &mut self,
         device: &mut D,
         notes: &mut N,
         out: &mut W,
         pick: Pick,
-    ) -> Result<Result<RequestFrame<T::Heap>, Refusal>, DriveEnd>
-        ensures { GoesOn D.logs device.old device.new self.old self.new result }
+    ) -> Result<RequestFrame<T::Heap>, NotSent>
+        ensures { (fields : Fields) × (turn : Turn) × (log : List Transfer) × D.logs device.old device.new log
+            × Moves {A = T.Heap} (at self.old idle) (sends pick fields result) log (at self.new turn) }
     {
         let free_fields = self.free_fields;
-        match send_next(
+        send_next(
             &mut self.kernel,
             &mut self.connection,
             device,
@@ -121,11 +127,7 @@ impl<T: Tables> Driver<T> {
             out,
             pick,
             free_fields,
-        ) {
-            Ok(frame) => Ok(Ok(frame)),
-            Err(NotSent::Refused(refusal)) => Ok(Err(refusal)),
-            Err(NotSent::Ended(end)) => Err(end),
-        }
+        )
     }
 
     /// Writes the next frame of the server to the kernel. What is not for the kernel is noted as it comes. `Err` of the
@@ -140,7 +142,8 @@ impl<T: Tables> Driver<T> {
         notes: &mut N,
         out: &mut W,
     ) -> Result<Result<Written<T::Heap>, Refusal>, DriveEnd>
-        ensures { GoesOn D.logs device.old device.new self.old self.new result }
+        ensures { (log : List Transfer) × D.logs device.old device.new log
+            × Moves {A = T.Heap} (at self.old idle) (writes result) log (at self.new idle) }
     {
         write_next(&mut self.kernel, &mut self.connection, device, notes, out)
     }

@@ -1,12 +1,14 @@
 //! One move of a driven kernel, printed.
 
-ghost use Rattle.fw_drive.specs.Runs.{GoesOn, MovesAlone};
+ghost use Rattle.std.specs.Prelude.{◌≡◌, IfNone, IfSome, OnOk};
+ghost use Rattle.fw_drive.specs.LineMoves.{FirstThen, IsCollected, IsEvent, IsSentBy, IsWritten, Perhaps};
+ghost use Rattle.fw_drive.specs.Runs.{Collects, Goes, GoesAlone};
 
 use crate::driver::Driver;
 use crate::notes::Notes;
 use crate::printing::{print_nodes, print_refusal};
 use crate::stop::{Stop, stop_at};
-use fk_drive::Written;
+use fk_drive::{NotSent, Written};
 use fk_wire::{Opcode, ReplyHead};
 use fuse_device::Device;
 use fuse_frames::RequestFrame;
@@ -21,12 +23,11 @@ fn collect_answers<T: Tables, W: Write>(
     notes: &mut Notes<T>,
     out: &mut W,
 ) -> Result<(), Stop>
-    ensures { MovesAlone driver.old driver.new }
+    ensures { Collects T.Heap driver.old driver.new result }
 {
-    for _answer in 0..u64::MAX {
-        match driver.collect() {
-            Some((call, answer)) => notes.note_answer(call, answer, out)?,
-            None => break,
+    while let Some((call, answer)) = driver.collect() {
+        if let Err(stop) = notes.note_answer(call, answer, out) {
+            return Err(stop);
         }
     }
     Ok(())
@@ -39,13 +40,13 @@ pub(crate) fn act<T: Tables, W: Write>(
     event: &Event<'_>,
     out: &mut W,
 ) -> Result<(), Stop>
-    ensures { MovesAlone driver.old driver.new }
+    ensures { GoesAlone T.Heap driver.old driver.new result (FirstThen (IsEvent event.now) IsCollected) }
 {
     match driver.act(event) {
-        Ok(outcome) => {
-            notes.note_outcome(event, outcome, out)?;
-            collect_answers(driver, notes, out)
-        }
+        Ok(outcome) => match notes.note_outcome(event, outcome, out) {
+            Ok(()) => collect_answers(driver, notes, out),
+            Err(stop) => Err(stop),
+        },
         Err(refusal) => {
             print_refusal::<T::Heap, W>(out, refusal)?;
             Ok(())
@@ -69,13 +70,17 @@ fn note_request<T: Tables, W: Write>(
     frame: &RequestFrame<T::Heap>,
     out: &mut W,
 ) -> Result<Result<Option<u64>, Refusal>, Stop>
-    ensures { MovesAlone driver.old driver.new }
+    ensures { Collects T.Heap driver.old driver.new result }
 {
-    notes.note_sent(frame, out)?;
+    if let Err(stop) = notes.note_sent(frame, out) {
+        return Err(stop);
+    }
     let (unique, opcode) = frame.head();
     let awaited = unique_awaited(driver, unique, opcode);
-    collect_answers(driver, notes, out)?;
-    Ok(Ok(awaited))
+    match collect_answers(driver, notes, out) {
+        Ok(()) => Ok(Ok(awaited)),
+        Err(stop) => Err(stop),
+    }
 }
 
 /// Reads a request from the kernel, and sends it. Says why the kernel refuses, or the number whose reply is to come.
@@ -86,7 +91,8 @@ pub(crate) fn send<T: Tables, D: Device, W: Write>(
     pick: Pick,
     out: &mut W,
 ) -> Result<Result<Option<u64>, Refusal>, Stop>
-    ensures { GoesOn D.logs device.old device.new driver.old driver.new result }
+    ensures { Goes T.Heap D.logs device.old device.new driver.old driver.new result
+        (Perhaps result (FirstThen (IsSentBy pick) IsCollected)) }
 {
     if out.flush().is_err() {
         return Err(Stop::OutputRefused);
@@ -96,9 +102,11 @@ pub(crate) fn send<T: Tables, D: Device, W: Write>(
         return Err(stop);
     }
     match sent {
-        Ok(Ok(frame)) => note_request(driver, notes, &frame, out),
-        Ok(Err(refusal)) => Ok(Err(refusal)),
-        Err(end) => Err(stop_at(end)),
+        Ok(frame) => note_request(driver, notes, &frame, out),
+        Err(not_sent) => match not_sent {
+            NotSent::Refused(refusal) => Ok(Err(refusal)),
+            NotSent::Ended(end) => Err(stop_at(end)),
+        },
     }
 }
 
@@ -110,19 +118,27 @@ fn ended_by<A: Allocator>(written: &Written<A>) -> Option<u64> {
     }
 }
 
-/// Notes a frame that was written to the kernel, and prints the answers that wait. Gives the request that it ended, if
-/// one.
+/// Notes a frame that was written to the kernel, and prints the answers that wait, where the run goes on behind it. Gives
+/// the request that it ended, if one.
 fn note_reply<T: Tables, W: Write>(
     driver: &mut Driver<T>,
     notes: &mut Notes<T>,
     written: &Written<T::Heap>,
     out: &mut W,
 ) -> Result<Result<Option<u64>, Refusal>, Stop>
-    ensures { MovesAlone driver.old driver.new }
+    ensures some { IfSome written.now.end (λ end. (driver.new ≡ driver.old) × OnOk result ⊥) }
+    ensures none { IfNone written.now.end (Collects T.Heap driver.old driver.new result) }
 {
-    notes.note_written(written, out)?;
-    collect_answers(driver, notes, out)?;
-    Ok(Ok(ended_by(written)))
+    if let Err(stop) = notes.note_written(written, out) {
+        return Err(stop);
+    }
+    if let Some(end) = written.end {
+        return Err(stop_at(end));
+    }
+    match collect_answers(driver, notes, out) {
+        Ok(()) => Ok(Ok(ended_by(written))),
+        Err(stop) => Err(stop),
+    }
 }
 
 /// Writes the next frame of the server to the kernel. Says why the kernel refuses, or which request that ended, if one.
@@ -132,7 +148,8 @@ pub(crate) fn receive<T: Tables, D: Device, W: Write>(
     notes: &mut Notes<T>,
     out: &mut W,
 ) -> Result<Result<Option<u64>, Refusal>, Stop>
-    ensures { GoesOn D.logs device.old device.new driver.old driver.new result }
+    ensures { Goes T.Heap D.logs device.old device.new driver.old driver.new result
+        (Perhaps result (FirstThen IsWritten IsCollected)) }
 {
     if out.flush().is_err() {
         return Err(Stop::OutputRefused);

@@ -7,7 +7,7 @@ use crate::form::Form;
 use crate::printing::{
     print_fault, print_notification, print_outcome, print_raised, print_sent, print_written, taken,
 };
-use crate::stop::{Stop, stop_at};
+use crate::stop::Stop;
 use crate::watch::Watch;
 use fk_drive::{Noted, Notes as FrameNotes, OtherFrame, Written};
 use fuse_frames::RequestFrame;
@@ -148,10 +148,7 @@ impl<T: Tables> Notes<T> {
         if let Some(fault) = fault {
             print_fault(out, fault)?;
         }
-        match written.end {
-            Some(end) => Err(stop_at(end)),
-            None => Ok(()),
-        }
+        Ok(())
     }
 
     /// Prints a notification, or what the server did wrong at OPENDIR or RELEASEDIR, and hands it on.

@@ -6,7 +6,8 @@ ghost use Rattle.fw_script.specs.Outputs.{AppendsSome};
 ghost use Rattle.fw_script.specs.Stops.{unreadable};
 ghost use Rattle.fw_drive.specs.DriveLines.{IsGoodDriveScript};
 ghost use Rattle.fw_drive.specs.Judging.{IsUnrun, SaysFirstFault};
-ghost use Rattle.fw_drive.specs.Runs.{GoesOn};
+ghost use Rattle.fw_drive.specs.LineMoves.{LinesMoveAs, all_lines};
+ghost use Rattle.fw_drive.specs.Runs.{Goes, RunsScript};
 
 use crate::driver::Driver;
 use crate::form::Form;
@@ -40,12 +41,14 @@ fn run_driver<T: Tables, D: Device, W: Write>(
     driver: &mut Driver<T>,
     device: &mut D,
     notes: &mut Notes<T>,
+    form: Form,
     lines: &[DriveLine<'_>],
     out: &mut W,
 ) -> Result<(), Stop>
-    ensures { GoesOn D.logs device.old device.new driver.old driver.new result }
+    ensures { Goes T.Heap D.logs device.old device.new driver.old driver.new result
+        (LinesMoveAs form result (all_lines form lines.now)) }
 {
-    match run_script(alloc, driver, device, notes, lines, out) {
+    match run_script(alloc, driver, device, notes, form, lines, out) {
         Ok(()) => print_end(driver, notes, out),
         Err(stop) => Err(stop),
     }
@@ -59,11 +62,23 @@ fn run_good<T: Tables, D: Device, W: Write>(
     lines: &[DriveLine<'_>],
     out: &mut W,
 ) -> Result<(), Stop>
-    ensures { (new : Driven) × DrivesOver D.logs device.old device.new (first_driven task.entry.opens_directories) new }
+    ensures { (last : Driven) × Goes T.Heap D.logs device.old device.new (first_driven task.entry.opens_directories) last
+        result (LinesMoveAs task.entry.form result (all_lines task.entry.form lines.now)) }
 {
-    let mut notes = Notes::<T>::new(alloc, task.form)?;
+    let mut notes = match Notes::<T>::new(alloc, task.form) {
+        Ok(notes) => notes,
+        Err(stop) => return Err(stop),
+    };
     let mut driver = Driver::<T>::new(alloc, task.opens_directories, task.free_fields);
-    let ended = run_driver(alloc, &mut driver, device, &mut notes, lines, out);
+    let ended = run_driver(
+        alloc,
+        &mut driver,
+        device,
+        &mut notes,
+        task.form,
+        lines,
+        out,
+    );
     driver.end();
     notes.end();
     ended
@@ -143,6 +158,8 @@ fn run_text<A: Allocator + Copy, D: Device, W: Write, F: Write>(
     ensures no_memory { result ≡ 3 → AppendsSome (F.contents faults.old) (F.contents faults.new) (codes "no memory\n") }
     ensures no_fault { (result ≡ 0) ⊎ (result ≡ 4) ⊎ (result ≡ 5) → faults.new ≡ faults.old }
     ensures drives { (new : Driven) × DrivesOver D.logs device.old device.new (first_driven task.entry.opens_directories) new }
+    ensures moves { RunsScript A D.logs device.old device.new task.entry.form task.entry.opens_directories result script.now
+        ⊎ ((device.new ≡ device.old) × (out.new ≡ out.old) × ((result ≡ 1) ⊎ (result ≡ 3))) }
 {
     let lines = match read_lines(alloc, task.form, script) {
         Ok(lines) => lines,
@@ -180,6 +197,10 @@ pub fn run_drive<A: Allocator + Copy, D: Device, R: Read, W: Write, F: Write>(
     ensures no_memory { result ≡ 3 → AppendsSome (F.contents faults.old) (F.contents faults.new) (codes "no memory\n") }
     ensures no_fault { (result ≡ 0) ⊎ (result ≡ 4) ⊎ (result ≡ 5) → faults.new ≡ faults.old }
     ensures drives { (new : Driven) × DrivesOver D.logs device.old device.new (first_driven task.entry.opens_directories) new }
+    // The lines of the script are run, in their order, and none is left out at status 0.
+    ensures moves { IfSome (R.remaining input.old)
+        (RunsScript A D.logs device.old device.new task.entry.form task.entry.opens_directories result)
+        ⊎ ((device.new ≡ device.old) × (out.new ≡ out.old) × ((result ≡ 1) ⊎ (result ≡ 3))) }
 {
     match read_script(alloc, task, input, faults) {
         Ok(text) => run_text(alloc, task, device, text.as_slice(), out, faults),

@@ -1,6 +1,9 @@
 //! The lines of a script, one after another.
 
-ghost use Rattle.fw_drive.specs.Runs.{GoesOn, MovesAlone};
+ghost use Rattle.std.specs.Prelude.{◌++◌, All};
+ghost use Rattle.fw_drive.specs.LineMoves.{FirstThen, IsCollected, IsMoveOf, LinesMoveAs, MayFollow, Perhaps, mount_lines};
+ghost use Rattle.fw_drive.specs.Runs.{Goes, GoesAlone};
+ghost use Rattle.fw_drive.specs.declared.line.DriveLine.TheVariants as said;
 
 use crate::carrying::{carry, mount};
 use crate::driver::Driver;
@@ -35,19 +38,25 @@ fn begin_write<T: Tables, W: Write>(
     file: (u64, u64, &[u8]),
     out: &mut W,
 ) -> Result<(), Stop>
-    ensures { MovesAlone driver.old driver.new }
+    ensures { GoesAlone T.Heap driver.old driver.new result
+        (Perhaps result (FirstThen (IsMoveOf (said.CallWrite file.entry.0 file.entry.1 file.entry.2)) IsCollected)) }
 {
     let (open_call, offset, hex) = file;
     let mut bytes = Vec::new(alloc);
-    if !is_hex_or_none(hex) || read_hex_or_none(&mut bytes, hex).is_err() {
+    if !is_hex_or_none(hex) {
         return Err(Stop::NoMemory);
     }
-    let call = Call::Write {
-        open_call,
-        offset,
-        bytes: bytes.as_slice(),
-    };
-    act(driver, notes, &Event::Call(call), out)
+    match read_hex_or_none(&mut bytes, hex) {
+        Ok(()) => {
+            let call = Call::Write {
+                open_call,
+                offset,
+                bytes: bytes.as_slice(),
+            };
+            act(driver, notes, &Event::Call(call), out)
+        }
+        Err(_) => Err(Stop::NoMemory),
+    }
 }
 
 /// Does what a line says.
@@ -59,7 +68,8 @@ fn run_line<T: Tables, D: Device, W: Write>(
     line: DriveLine<'_>,
     out: &mut W,
 ) -> Result<(), Stop>
-    ensures { GoesOn D.logs device.old device.new driver.old driver.new result }
+    ensures { Goes T.Heap D.logs device.old device.new driver.old driver.new result
+        (Perhaps result (FirstThen (IsMoveOf line.entry) IsCollected)) }
 {
     match line {
         DriveLine::Read(pick) => match send(driver, device, notes, pick, out) {
@@ -84,20 +94,39 @@ fn run_line<T: Tables, D: Device, W: Write>(
     }
 }
 
+/// Carries a call to its answer where the script is of calls.
+fn carry_on<T: Tables, D: Device, W: Write>(
+    driver: &mut Driver<T>,
+    device: &mut D,
+    notes: &mut Notes<T>,
+    form: Form,
+    out: &mut W,
+) -> Result<(), Stop>
+    ensures { Goes T.Heap D.logs device.old device.new driver.old driver.new result (All (MayFollow form)) }
+{
+    if form.is_of_calls() {
+        carry(driver, device, notes, out)
+    } else {
+        Ok(())
+    }
+}
+
 /// Does what a line says, and carries a call to its answer where the script is of calls.
 fn run_carried<T: Tables, D: Device, W: Write>(
     alloc: T::Heap,
     driver: &mut Driver<T>,
     device: &mut D,
     notes: &mut Notes<T>,
+    form: Form,
     line: DriveLine<'_>,
     out: &mut W,
 ) -> Result<(), Stop>
-    ensures { GoesOn D.logs device.old device.new driver.old driver.new result }
+    ensures { Goes T.Heap D.logs device.old device.new driver.old driver.new result
+        (Perhaps result (FirstThen (IsMoveOf line.entry) (MayFollow form))) }
 {
     match run_line(alloc, driver, device, notes, line, out) {
-        Ok(()) if notes.form.is_of_calls() => carry(driver, device, notes, out),
-        ended => ended,
+        Ok(()) => carry_on(driver, device, notes, form, out),
+        Err(stop) => Err(stop),
     }
 }
 
@@ -107,12 +136,14 @@ fn do_line<T: Tables, D: Device, W: Write>(
     driver: &mut Driver<T>,
     device: &mut D,
     notes: &mut Notes<T>,
+    form: Form,
     line: DriveLine<'_>,
     out: &mut W,
 ) -> Result<(), Stop>
-    ensures { GoesOn D.logs device.old device.new driver.old driver.new result }
+    ensures { Goes T.Heap D.logs device.old device.new driver.old driver.new result
+        (Perhaps result (FirstThen (IsMoveOf line.entry) (MayFollow form))) }
 {
-    match run_carried(alloc, driver, device, notes, line, out) {
+    match run_carried(alloc, driver, device, notes, form, line, out) {
         Ok(()) => flush(out),
         Err(stop) => Err(stop),
     }
@@ -132,13 +163,15 @@ fn run_lines<T: Tables, D: Device, W: Write>(
     driver: &mut Driver<T>,
     device: &mut D,
     notes: &mut Notes<T>,
+    form: Form,
     lines: &[DriveLine<'_>],
     out: &mut W,
 ) -> Result<(), Stop>
-    ensures { GoesOn D.logs device.old device.new driver.old driver.new result }
+    ensures { Goes T.Heap D.logs device.old device.new driver.old driver.new result
+        (LinesMoveAs form result lines.now) }
 {
     for line in lines {
-        if let Err(stop) = do_line(alloc, driver, device, notes, *line, out) {
+        if let Err(stop) = do_line(alloc, driver, device, notes, form, *line, out) {
             return Err(stop);
         }
     }
@@ -151,16 +184,18 @@ pub(crate) fn run_script<T: Tables, D: Device, W: Write>(
     driver: &mut Driver<T>,
     device: &mut D,
     notes: &mut Notes<T>,
+    form: Form,
     lines: &[DriveLine<'_>],
     out: &mut W,
 ) -> Result<(), Stop>
-    ensures { GoesOn D.logs device.old device.new driver.old driver.new result }
+    ensures { Goes T.Heap D.logs device.old device.new driver.old driver.new result
+        (LinesMoveAs form result (mount_lines form ++ lines.now)) }
 {
-    if !notes.form.is_of_calls() {
-        return run_lines(alloc, driver, device, notes, lines, out);
+    if !form.is_of_calls() {
+        return run_lines(alloc, driver, device, notes, form, lines, out);
     }
     match mount(driver, device, notes, out) {
-        Ok(()) => run_lines(alloc, driver, device, notes, lines, out),
+        Ok(()) => run_lines(alloc, driver, device, notes, form, lines, out),
         Err(stop) => Err(stop),
     }
 }

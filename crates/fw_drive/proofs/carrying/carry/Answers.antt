@@ -1,9 +1,17 @@
-use Rattle.fw_drive.proofs.Following.{goes_then, over_of}
+use Rattle.std.specs.Prelude.{All}
+use Rattle.std.proofs.lemmas.List.Elements.{All-append}
+use Rattle.fw_drive.specs.LineMoves.{Carries}
+use Rattle.fw_drive.proofs.Following.{failed, then}
 use Rattle.fw_drive.proofs.carrying.carry.Goals as goal
 
 pub returns-in-Ok : goal.returns-in-Ok
 returns-in-Ok g c =
-    goes_then g.D.Device.logs g.met.D.Device.goes_on g.met.D.Device.stays c.args.device.now c.carry_all.new.device c.carry_all-in-Ok.new.device c.args.driver.now
-    c.carry_all.new.driver c.carry_all-in-Ok.new.driver c.carry_all-in-Ok.result
-    (over_of g.D.Device.logs g.met.D.Device.goes_on g.met.D.Device.stays c.args.device.now c.carry_all.new.device c.args.driver.now c.carry_all.new.driver c.in-Ok.ensures)
-    c.carry_all-in-Ok.ensures
+    then g.row.T-Heap.Denot g.D.Device.logs g.met.D.Device.goes_on c.args.device.now c.carry_all.new.device
+    c.carry_all-in-Ok.new.device c.args.driver.now c.carry_all.new.driver c.carry_all-in-Ok.new.driver _
+    c.carry_all-in-Ok.result (All Carries) (All Carries) (All Carries) c.in-Ok.ensures c.carry_all-in-Ok.ensures
+    (All-append Carries)
+
+pub returns-in-Err : goal.returns-in-Err
+returns-in-Err g c =
+    failed g.row.T-Heap.Denot g.D.Device.logs c.args.device.now c.carry_all.new.device c.args.driver.now c.carry_all.new.driver
+    c.in-Err.stop (All Carries) (All Carries) c.in-Err.ensures (λ m are. are)

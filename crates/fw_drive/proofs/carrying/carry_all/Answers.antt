@@ -1,36 +1,36 @@
-use Rattle.std.proofs.Common.{[], refl}
-use Rattle.fk_drive.specs.Driving.{idle, nothing}
-use Rattle.fk_drive.proofs.Drivings.{over_on}
-use Rattle.fw_drive.specs.Runs.{at}
-use Rattle.fw_drive.proofs.Following.{over_of}
+use Rattle.std.specs.Prelude.{All, Ok, Err}
+use Rattle.std.proofs.lemmas.List.Elements.{All-append, All-nil}
+use Rattle.fw_drive.specs.LineMoves.{Carries}
+use Rattle.fw_drive.proofs.Following.{failed, given, none_went, then}
 use Rattle.fw_drive.proofs.carrying.carry_all.Goals as goal
 
 pub loop-request-init : goal.loop-request-init
-loop-request-init g c = ([], g.met.D.Device.stays c.args.device.now, nothing)
-
-pub returns-in-Ok-false : goal.returns-in-Ok-false
-returns-in-Ok-false g c = (
-  idle,
-  refl,
-  over_on g.D.Device.logs g.met.D.Device.goes_on c.args.device.now c.loop-request.device c.carry_one.new.device
-      (at c.args.driver.now idle) (at c.loop-request.driver idle) (at c.carry_one.new.driver idle) c.loop-request.invariant
-      (over_of g.D.Device.logs g.met.D.Device.goes_on g.met.D.Device.stays c.loop-request.device c.carry_one.new.device c.loop-request.driver c.carry_one.new.driver c.in-Ok-false.ensures),
-)
-
-pub returns-in-Err : goal.returns-in-Err
-returns-in-Err g c =
-    let (turn, is, over) = c.in-Err.ensures in (
-      turn,
-      tt,
-      over_on g.D.Device.logs g.met.D.Device.goes_on c.args.device.now c.loop-request.device c.carry_one.new.device
-          (at c.args.driver.now idle) (at c.loop-request.driver idle) (at c.carry_one.new.driver turn) c.loop-request.invariant over,
-    )
+loop-request-init g c =
+    none_went g.row.T-Heap.Denot g.D.Device.logs g.met.D.Device.stays c.args.device.now c.args.driver.now (All Carries)
+    (All-nil Carries)
 
 pub loop-request-preserved : goal.loop-request-preserved
 loop-request-preserved g c =
-    over_on g.D.Device.logs g.met.D.Device.goes_on c.args.device.now c.loop-request.device c.carry_one.new.device
-    (at c.args.driver.now idle) (at c.loop-request.driver idle) (at c.carry_one.new.driver idle) c.loop-request.invariant
-    (over_of g.D.Device.logs g.met.D.Device.goes_on g.met.D.Device.stays c.loop-request.device c.carry_one.new.device c.loop-request.driver c.carry_one.new.driver c.in-Ok-true.ensures)
+    given g.row.T-Heap.Denot g.D.Device.logs c.args.device.now c.carry_one.new.device c.args.driver.now c.carry_one.new.driver
+    _ (Ok tt) (All Carries) (All Carries) (then g.row.T-Heap.Denot g.D.Device.logs g.met.D.Device.goes_on c.args.device.now c.loop-request.device c.carry_one.new.device
+    c.args.driver.now c.loop-request.driver c.carry_one.new.driver tt _ (All Carries) (All Carries) (All Carries)
+    c.loop-request.invariant c.in-Ok-true.ensures (All-append Carries)) (λ m are. are)
+
+pub returns-in-Ok-false : goal.returns-in-Ok-false
+returns-in-Ok-false g c =
+    given g.row.T-Heap.Denot g.D.Device.logs c.args.device.now c.carry_one.new.device c.args.driver.now c.carry_one.new.driver
+    _ _ (All Carries) (All Carries) (then g.row.T-Heap.Denot g.D.Device.logs g.met.D.Device.goes_on c.args.device.now c.loop-request.device c.carry_one.new.device
+    c.args.driver.now c.loop-request.driver c.carry_one.new.driver tt _ (All Carries) (All Carries) (All Carries)
+    c.loop-request.invariant c.in-Ok-false.ensures (All-append Carries)) (λ m are. are)
+
+pub returns-in-Err : goal.returns-in-Err
+returns-in-Err g c =
+    failed g.row.T-Heap.Denot g.D.Device.logs c.args.device.now c.carry_one.new.device c.args.driver.now c.carry_one.new.driver
+    c.in-Err.stop (All Carries) (All Carries) (then g.row.T-Heap.Denot g.D.Device.logs g.met.D.Device.goes_on c.args.device.now c.loop-request.device c.carry_one.new.device
+    c.args.driver.now c.loop-request.driver c.carry_one.new.driver tt (Err c.in-Err.stop) (All Carries) (All Carries) (All Carries)
+    c.loop-request.invariant c.in-Err.ensures (All-append Carries)) (λ m are. are)
 
 pub returns : goal.returns
-returns g c = (idle, refl, c.loop-request.invariant)
+returns g c =
+    given g.row.T-Heap.Denot g.D.Device.logs c.args.device.now c.loop-request.device c.args.driver.now c.loop-request.driver tt _
+    (All Carries) (All Carries) c.loop-request.invariant (λ m are. are)

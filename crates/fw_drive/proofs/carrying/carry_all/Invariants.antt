@@ -1,8 +1,9 @@
-use Rattle.fk_drive.specs.Driving.{DrivesOver, idle}
-use Rattle.fw_drive.specs.Runs.{at}
+use Rattle.std.specs.Prelude.{All}
+use Rattle.fw_drive.specs.LineMoves.{Carries}
+use Rattle.fw_drive.proofs.Following.{Went}
 use Rattle.fw_drive.proofs.carrying.carry_all.Given as goal
 
--- the requests so far were driven
+-- requests so far
 abbrev pub invariant-loop-request : goal.invariant-loop-request
 invariant-loop-request g l =
-    DrivesOver g.D.Device.logs l.initial.device l.device (at l.initial.driver idle) (at l.driver idle)
+    Went g.row.T-Heap.Denot g.D.Device.logs l.initial.device l.device l.initial.driver l.driver (All Carries)

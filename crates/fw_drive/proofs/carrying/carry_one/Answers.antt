@@ -1,9 +1,25 @@
-use Rattle.fw_drive.proofs.Following.{goes_then, over_of}
+use Rattle.std.specs.Prelude.{All}
+use Rattle.std.proofs.lemmas.List.Elements.{All-append}
+use Rattle.fw_drive.specs.LineMoves.{Carries, FirstThen, IsCollected, IsSentBy}
+use Rattle.fw_drive.proofs.Following.{failed, given, then}
+use Rattle.fw_drive.proofs.LineRuns.{failed_carries, sent_carries}
 use Rattle.fw_drive.proofs.carrying.carry_one.Goals as goal
 
 pub returns-in-Ok-Ok-Some : goal.returns-in-Ok-Ok-Some
 returns-in-Ok-Ok-Some g c =
-    goes_then g.D.Device.logs g.met.D.Device.goes_on g.met.D.Device.stays c.args.device.now c.send.new.device c.await_reply.new.device c.args.driver.now c.send.new.driver
-    c.await_reply.new.driver c.await_reply.result
-    (over_of g.D.Device.logs g.met.D.Device.goes_on g.met.D.Device.stays c.args.device.now c.send.new.device c.args.driver.now c.send.new.driver c.in-Ok-Ok-Some.ensures)
-    c.await_reply.ensures
+    then g.row.T-Heap.Denot g.D.Device.logs g.met.D.Device.goes_on c.args.device.now c.send.new.device
+    c.await_reply.new.device c.args.driver.now c.send.new.driver c.await_reply.new.driver _ c.await_reply.result
+    (FirstThen (IsSentBy c.args.pick) IsCollected) (All Carries) (All Carries) c.in-Ok-Ok-Some.ensures c.await_reply.ensures
+    (λ m n first rest. All-append Carries m n (sent_carries c.args.pick c.requires m first) rest)
+
+pub returns-in-Ok : goal.returns-in-Ok
+returns-in-Ok g c =
+    given g.row.T-Heap.Denot g.D.Device.logs c.args.device.now c.send.new.device c.args.driver.now c.send.new.driver
+    c.in-Ok.sent c.is_sent.result (FirstThen (IsSentBy c.args.pick) IsCollected) (All Carries) c.in-Ok.ensures
+    (sent_carries c.args.pick c.requires)
+
+pub returns-in-Err : goal.returns-in-Err
+returns-in-Err g c =
+    failed g.row.T-Heap.Denot g.D.Device.logs c.args.device.now c.send.new.device c.args.driver.now c.send.new.driver
+    c.in-Err.stop _ (All Carries) c.in-Err.ensures
+    (failed_carries (FirstThen (IsSentBy c.args.pick) IsCollected) (sent_carries c.args.pick c.requires))

@@ -1,7 +1,16 @@
-use Rattle.fw_drive.proofs.Following.{over_goes, over_of}
+use Rattle.std.specs.Prelude.{All}
+use Rattle.fw_drive.specs.LineMoves.{Carries, FirstThen, IsCollected, IsWritten}
+use Rattle.fw_drive.proofs.Following.{failed, given}
+use Rattle.fw_drive.proofs.LineRuns.{failed_carries, written_carries}
 use Rattle.fw_drive.proofs.carrying.receive_toward.Goals as goal
 
 pub returns-in-Ok : goal.returns-in-Ok
 returns-in-Ok g c =
-    over_goes g.D.Device.logs g.met.D.Device.goes_on g.met.D.Device.stays c.args.device.now c.receive.new.device c.args.driver.now c.receive.new.driver c.is_ended.result
-    (over_of g.D.Device.logs g.met.D.Device.goes_on g.met.D.Device.stays c.args.device.now c.receive.new.device c.args.driver.now c.receive.new.driver c.in-Ok.ensures)
+    given g.row.T-Heap.Denot g.D.Device.logs c.args.device.now c.receive.new.device c.args.driver.now c.receive.new.driver
+    c.in-Ok.received c.is_ended.result (FirstThen IsWritten IsCollected) (All Carries) c.in-Ok.ensures written_carries
+
+pub returns-in-Err : goal.returns-in-Err
+returns-in-Err g c =
+    failed g.row.T-Heap.Denot g.D.Device.logs c.args.device.now c.receive.new.device c.args.driver.now c.receive.new.driver
+    c.in-Err.stop _ (All Carries) c.in-Err.ensures
+    (failed_carries (FirstThen IsWritten IsCollected) written_carries)

@@ -1,24 +1,34 @@
-use Rattle.fk_drive.specs.Driving.{nothing}
-use Rattle.fw_drive.proofs.Following.{gives, moves_on, unmoved}
+use Rattle.std.proofs.Common.{arith, ap, length, sym}
+use Rattle.fk_drive.specs.Driving.{Driven}
+use Rattle.fuse_spec.specs.Kernel.Kernel.{Kernel}
+use Rattle.fw_drive.proofs.Following.{all_collected, fewer, none_yet, one_more, some_collected}
+use Rattle.fw_drive.proofs.OneMove.{collects_move, none_waits, stayed}
 use Rattle.fw_drive.proofs.moves.collect_answers.Goals as goal
 
-pub loop-answer-init : goal.loop-answer-init
-loop-answer-init g c = nothing
+pub loop-call-init : goal.loop-call-init
+loop-call-init g c = none_yet c.args.driver.now
 
-pub returns-in_err-note_answer-in-Some : goal.returns-in_err-note_answer-in-Some
-returns-in_err-note_answer-in-Some g c =
-    moves_on c.args.driver.now c.loop-answer.driver c.collect.new.self c.loop-answer.invariant
-    (gives c.loop-answer.driver c.collect.new.self c.in-Some.call c.in-Some.ensures.some c.in-Some.ensures.same)
+pub loop-call-preserved : goal.loop-call-preserved
+loop-call-preserved g c =
+    one_more c.args.driver.now c.loop-call.driver c.collect.new.self c.in-Some.call c.in-Some.answer c.loop-call.invariant
+    (collects_move c.loop-call.driver c.collect.new.self c.in-Some.call c.in-Some.answer c.in-Some.ensures.first
+    c.in-Some.ensures.some c.in-Some.ensures.same)
 
-pub loop-answer-preserved : goal.loop-answer-preserved
-loop-answer-preserved g c =
-    moves_on c.args.driver.now c.loop-answer.driver c.collect.new.self c.loop-answer.invariant
-    (gives c.loop-answer.driver c.collect.new.self c.in-Some.call c.in-Some.ensures.some c.in-Some.ensures.same)
+pub loop-call-smaller : goal.loop-call-smaller
+loop-call-smaller g c =
+    let gone = ap (λ (k : Kernel). length k.vfs.answers) c.in-Some.ensures.some in
+    let short = fewer c.loop-call.driver.kernel.vfs.answers c.in-Some.call _ (sym c.in-Some.ensures.first) in
+    omega (arith, gone, short)
 
-pub returns-after-loop-answer : goal.returns-after-loop-answer
-returns-after-loop-answer g c = c.loop-answer.invariant
+pub returns-in-Err : goal.returns-in-Err
+returns-in-Err g c =
+    some_collected c.args.driver.now c.collect.new.self c.in-Err.stop
+    (one_more c.args.driver.now c.loop-call.driver c.collect.new.self c.in-Some.call c.in-Some.answer c.loop-call.invariant
+    (collects_move c.loop-call.driver c.collect.new.self c.in-Some.call c.in-Some.answer c.in-Some.ensures.first
+    c.in-Some.ensures.some c.in-Some.ensures.same))
 
-pub returns-in-None : goal.returns-in-None
-returns-in-None g c =
-    moves_on c.args.driver.now c.loop-answer.driver c.collect.new.self c.loop-answer.invariant
-    (unmoved c.loop-answer.driver c.collect.new.self c.in-None.ensures.none c.in-None.ensures.same)
+pub returns : goal.returns
+returns g c =
+    all_collected c.args.driver.now c.loop-call.driver c.collect.new.self _ c.loop-call.invariant
+    (stayed c.loop-call.driver c.collect.new.self c.in_default.ensures.none c.in_default.ensures.same)
+    (none_waits c.loop-call.driver c.in_default.ensures.first)

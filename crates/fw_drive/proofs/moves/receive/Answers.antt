@@ -1,42 +1,32 @@
-use Rattle.std.proofs.Common.{[], refl}
-use Rattle.fk_drive.specs.Driving.{idle, nothing}
-use Rattle.fw_drive.proofs.Following.{driven_goes, over_goes, over_where, then_alone}
+use Rattle.std.proofs.Common.{inl, refl}
+use Rattle.fw_drive.proofs.Following.{none_goes}
+use Rattle.fw_drive.proofs.OneMove.{frame_failed, frame_noted, frame_refused}
 use Rattle.fw_drive.proofs.moves.receive.Goals as goal
+
+pub returns-then-is_err : goal.returns-then-is_err
+returns-then-is_err g c =
+    none_goes g.row.T-Heap.Denot g.D.Device.logs g.met.D.Device.stays c.args.device.now c.args.driver.now _
+    _ (inl refl)
 
 pub returns-in-Err : goal.returns-in-Err
 returns-in-Err g c =
-    let logs = g.D.Device.logs in
-    driven_goes logs g.met.D.Device.goes_on g.met.D.Device.stays c.args.device.now c.receive-received.new.device c.args.driver.now
-    c.receive-received.new.self c.receive-received.result
-    c.receive-received.ensures
+    frame_failed g.row.T-Heap.Denot g.D.Device.logs c.args.device.now c.receive-received.new.device c.args.driver.now
+    c.receive-received.new.self c.receive-received.result c.receive-received.ensures c.in-Err.stop
 
 pub returns-in-Ok-Ok : goal.returns-in-Ok-Ok
 returns-in-Ok-Ok g c =
-    let logs = g.D.Device.logs in
-    let goes = c.receive-received.ensures in
-    over_goes logs g.met.D.Device.goes_on g.met.D.Device.stays c.args.device.now c.receive-received.new.device c.args.driver.now
-    c.note_reply.new.driver c.note_reply.result
-    (then_alone logs g.met.D.Device.goes_on g.met.D.Device.stays c.args.device.now c.receive-received.new.device c.args.driver.now
-    c.receive-received.new.self c.note_reply.new.driver
-    (over_where logs g.met.D.Device.goes_on g.met.D.Device.stays c.args.device.now c.receive-received.new.device c.args.driver.now
-    c.receive-received.new.self c.receive-received.result _ c.in-Ok-Ok.is goes) c.note_reply.ensures)
+    frame_noted g.row.T-Heap.Denot g.D.Device.logs c.args.device.now c.receive-received.new.device c.args.driver.now
+    c.receive-received.new.self c.note_reply.new.driver c.receive-received.result c.in-Ok-Ok.written
+    (rw c.in-Ok-Ok.field-0-is at c.in-Ok-Ok.is)
+    c.receive-received.ensures c.note_reply.result c.note_reply.ensures.some c.note_reply.ensures.none
 
 pub returns-in-Ok-Err : goal.returns-in-Ok-Err
 returns-in-Ok-Err g c =
-    let logs = g.D.Device.logs in
-    let goes = c.receive-received.ensures in (
-      idle,
-      refl,
-      over_where logs g.met.D.Device.goes_on g.met.D.Device.stays c.args.device.now c.receive-received.new.device
-          c.args.driver.now c.receive-received.new.self c.receive-received.result _ c.in-Ok-Err.is goes,
-    )
+    frame_refused g.row.T-Heap.Denot g.D.Device.logs c.args.device.now c.receive-received.new.device c.args.driver.now
+    c.receive-received.new.self c.receive-received.result c.in-Ok-Err.refusal
+    (rw c.in-Ok-Err.field-0-is at c.in-Ok-Err.is) c.receive-received.ensures _
 
 pub returns-in-Err-received : goal.returns-in-Err-received
 returns-in-Err-received g c =
-    let logs = g.D.Device.logs in
-    driven_goes logs g.met.D.Device.goes_on g.met.D.Device.stays c.args.device.now c.receive-received.new.device c.args.driver.now
-    c.receive-received.new.self c.receive-received.result
-    c.receive-received.ensures
-
-pub returns-then-is_err : goal.returns-then-is_err
-returns-then-is_err g c = (idle, tt, ([], g.met.D.Device.stays c.args.device.now, nothing))
+    frame_failed g.row.T-Heap.Denot g.D.Device.logs c.args.device.now c.receive-received.new.device c.args.driver.now
+    c.receive-received.new.self c.receive-received.result c.receive-received.ensures c.stop_at.result

@@ -1,42 +1,34 @@
-use Rattle.std.proofs.Common.{[], refl}
-use Rattle.fk_drive.specs.Driving.{idle, nothing}
-use Rattle.fw_drive.proofs.Following.{driven_goes, over_goes, over_where, then_alone}
+use Rattle.std.proofs.Common.{◌∙◌, ap, inl, refl}
+use Rattle.std.specs.Prelude.{Err}
+use Rattle.fk_drive.specs.declared.end.NotSent.{NotSent}
+use Rattle.fw_drive.specs.LineMoves.{FirstThen, IsCollected, IsSentBy, Perhaps}
+use Rattle.fw_drive.proofs.Following.{none_goes}
+use Rattle.fw_drive.proofs.OneMove.{request_collects, request_failed, request_refused}
 use Rattle.fw_drive.proofs.moves.send.Goals as goal
+
+pub returns-then-is_err : goal.returns-then-is_err
+returns-then-is_err g c =
+    none_goes g.row.T-Heap.Denot g.D.Device.logs g.met.D.Device.stays c.args.device.now c.args.driver.now _
+    _ (inl refl)
 
 pub returns-in-Err : goal.returns-in-Err
 returns-in-Err g c =
-    let logs = g.D.Device.logs in
-    driven_goes logs g.met.D.Device.goes_on g.met.D.Device.stays c.args.device.now c.send-sent.new.device c.args.driver.now
-    c.send-sent.new.self c.send-sent.result
-    c.send-sent.ensures
+    request_failed g.row.T-Heap.Denot g.D.Device.logs c.args.device.now c.send-sent.new.device c.args.pick c.args.driver.now
+    c.send-sent.new.self c.send-sent.result c.send-sent.ensures c.in-Err.stop
 
-pub returns-in-Ok-Ok : goal.returns-in-Ok-Ok
-returns-in-Ok-Ok g c =
-    let logs = g.D.Device.logs in
-    let goes = c.send-sent.ensures in
-    over_goes logs g.met.D.Device.goes_on g.met.D.Device.stays c.args.device.now c.send-sent.new.device c.args.driver.now
-    c.note_request.new.driver c.note_request.result
-    (then_alone logs g.met.D.Device.goes_on g.met.D.Device.stays c.args.device.now c.send-sent.new.device c.args.driver.now
-    c.send-sent.new.self c.note_request.new.driver
-    (over_where logs g.met.D.Device.goes_on g.met.D.Device.stays c.args.device.now c.send-sent.new.device c.args.driver.now
-    c.send-sent.new.self c.send-sent.result _ c.in-Ok-Ok.is goes) c.note_request.ensures)
+pub returns-in-Ok : goal.returns-in-Ok
+returns-in-Ok g c =
+    request_collects g.row.T-Heap.Denot g.D.Device.logs c.args.device.now c.send-sent.new.device c.args.pick c.args.driver.now
+    c.send-sent.new.self c.note_request.new.driver c.send-sent.result c.in-Ok.frame c.in-Ok.is c.send-sent.ensures
+    c.note_request.result c.note_request.ensures
 
-pub returns-in-Ok-Err : goal.returns-in-Ok-Err
-returns-in-Ok-Err g c =
-    let logs = g.D.Device.logs in
-    let goes = c.send-sent.ensures in (
-      idle,
-      refl,
-      over_where logs g.met.D.Device.goes_on g.met.D.Device.stays c.args.device.now c.send-sent.new.device
-          c.args.driver.now c.send-sent.new.self c.send-sent.result _ c.in-Ok-Err.is goes,
-    )
+pub returns-in-Refused : goal.returns-in-Refused
+returns-in-Refused g c =
+    request_refused g.row.T-Heap.Denot g.D.Device.logs c.args.device.now c.send-sent.new.device c.args.pick c.args.driver.now
+    c.send-sent.new.self c.send-sent.result c.in-Refused.refusal
+    (c.in-Err-sent.is ∙ ap (λ (n : NotSent). Err n) c.in-Refused.is) c.send-sent.ensures _
 
-pub returns-in-Err-sent : goal.returns-in-Err-sent
-returns-in-Err-sent g c =
-    let logs = g.D.Device.logs in
-    driven_goes logs g.met.D.Device.goes_on g.met.D.Device.stays c.args.device.now c.send-sent.new.device c.args.driver.now
-    c.send-sent.new.self c.send-sent.result
-    c.send-sent.ensures
-
-pub returns-then-is_err : goal.returns-then-is_err
-returns-then-is_err g c = (idle, tt, ([], g.met.D.Device.stays c.args.device.now, nothing))
+pub returns-in-Ended : goal.returns-in-Ended
+returns-in-Ended g c =
+    request_failed g.row.T-Heap.Denot g.D.Device.logs c.args.device.now c.send-sent.new.device c.args.pick c.args.driver.now
+    c.send-sent.new.self c.send-sent.result c.send-sent.ensures c.stop_at.result

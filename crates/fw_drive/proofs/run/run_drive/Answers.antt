@@ -2,13 +2,24 @@ use Rattle.std.proofs.Common.{[], ℕ, List, inl, inr, refl, subst}
 use Rattle.fk_drive.specs.Driving.{first_driven, nothing}
 use Rattle.fw_drive.specs.DriveLines.{IsGoodDriveScript}
 use Rattle.fw_drive.specs.Judging.{SaysFirstFault}
+use Rattle.fw_drive.specs.Runs.{RunsScript}
 use Rattle.fw_drive.proofs.KnownScripts.{good_or, of_known}
-use Rattle.fw_drive.proofs.StopStatuses.{unread_among, unread_never}
+use Rattle.fw_drive.proofs.StopStatuses.{unread_among, unread_either, unread_never}
 use Rattle.fw_drive.proofs.run.run_drive.Goals as goal
 
 pub returns-in-Err-clause-drives : goal.returns-in-Err-clause-drives
 returns-in-Err-clause-drives g c =
     (first_driven c.args.task.opens_directories, ([], g.met.D.Device.stays c.args.device.now, nothing))
+
+pub returns-in-Err-clause-moves : goal.returns-in-Err-clause-moves
+returns-in-Err-clause-moves g c = inr (refl, refl, unread_either c.in-Err.status c.in-Err.ensures.statuses)
+
+pub returns-in-Ok-clause-moves : goal.returns-in-Ok-clause-moves
+returns-in-Ok-clause-moves g c =
+    let Are = RunsScript g.row.A.Denot g.D.Device.logs c.args.device.now c.run_text.new.device c.args.task.form
+    c.args.task.opens_directories c.run_text.result in
+    good_or Are (g.R.Read.remaining c.args.input.now) c.in-Ok.text.items c.as_slice.result.now _
+    c.as_slice.ensures.value c.in-Ok.ensures.ok c.run_text.ensures.moves
 
 pub returns-in-Err-clause-statuses : goal.returns-in-Err-clause-statuses
 returns-in-Err-clause-statuses g c = unread_among c.in-Err.status c.in-Err.ensures.statuses

@@ -1,17 +1,23 @@
-use Rattle.std.proofs.Common.{[], ap, subst}
-use Rattle.fk_drive.specs.Driving.{Driven, DrivesOver, first_driven, idle, nothing}
-use Rattle.fw_drive.specs.Runs.{at}
+use Rattle.std.proofs.Common.{subst}
+use Rattle.fk_drive.specs.Driving.{Driven, first_driven}
+use Rattle.fw_drive.specs.LineMoves.{LinesMoveAs, all_lines}
+use Rattle.fw_drive.specs.Runs.{Goes}
+use Rattle.fw_drive.proofs.Following.{none_goes}
+use Rattle.fw_drive.proofs.LineRuns.{no_lines}
 use Rattle.fw_drive.proofs.run.run_good.Goals as goal
 
-pub returns-in_err-notes : goal.returns-in_err-notes
-returns-in_err-notes g c =
-    (first_driven c.args.task.opens_directories, ([], g.met.D.Device.stays c.args.device.now, nothing))
+pub returns-in-Err : goal.returns-in-Err
+returns-in-Err g c = (
+  first_driven c.args.task.opens_directories,
+  none_goes g.row.T-Heap.Denot g.D.Device.logs g.met.D.Device.stays c.args.device.now
+      (first_driven c.args.task.opens_directories) _ _ (no_lines _ c.args.task.form _),
+)
 
 pub returns : goal.returns
-returns g c =
-    let (turn, is, over) = c.run_driver-ended.ensures in
-    let last = at c.run_driver-ended.new.driver turn in (
-      last,
-      subst (λ (first : Driven). DrivesOver g.D.Device.logs c.args.device.now c.run_driver-ended.new.device first last)
-          (ap (λ (driver : Driven). at driver idle) c.new-driver.ensures) over,
-    )
+returns g c = (
+  c.run_driver-ended.new.driver,
+  subst (λ (first : Driven). Goes g.row.T-Heap.Denot g.D.Device.logs c.args.device.now c.run_driver-ended.new.device first
+      c.run_driver-ended.new.driver c.run_driver-ended.result
+      (LinesMoveAs c.args.task.form c.run_driver-ended.result (all_lines c.args.task.form c.args.lines.now)))
+      c.new-driver.ensures c.run_driver-ended.ensures,
+)

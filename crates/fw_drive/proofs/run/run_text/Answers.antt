@@ -1,6 +1,10 @@
-use Rattle.std.proofs.Common.{[], inl, inr, refl}
+use Rattle.std.proofs.Common.{[], inl, inr, refl, subst, sym}
+use Rattle.std.specs.Prelude.{Result}
 use Rattle.fk_drive.specs.Driving.{first_driven, nothing}
-use Rattle.fw_drive.proofs.StopStatuses.{among_all, bad_among, bad_at_1, bad_at_3, never_0, never_1, unread_among, unread_never}
+use Rattle.fw_drive.specs.Runs.{IsStatusOf}
+use Rattle.fw_drive.specs.declared.stop.Stop.{Stop}
+use Rattle.fw_drive.proofs.Following.{goes_drive, runs_script}
+use Rattle.fw_drive.proofs.StopStatuses.{among_all, bad_among, bad_either, bad_at_1, bad_at_3, never_0, never_1, unread_among, unread_never}
 use Rattle.fw_drive.proofs.run.run_text.Goals as goal
 
 pub returns-in-Err-clause-statuses : goal.returns-in-Err-clause-statuses
@@ -26,6 +30,27 @@ returns-in-Err-clause-no_memory g c three =
 pub returns-in-Err-clause-no_fault : goal.returns-in-Err-clause-no_fault
 returns-in-Err-clause-no_fault g c run =
     absurd (unread_never c.say.result (bad_among c.in-Err.bad c.say.result c.say.ensures.status) run)
+
+pub returns-in-Err-clause-moves : goal.returns-in-Err-clause-moves
+returns-in-Err-clause-moves g c = inr (refl, refl, bad_either c.in-Err.bad c.say.result c.say.ensures.status)
+
+pub returns-in-Ok-run_good-clause-drives : goal.returns-in-Ok-run_good-clause-drives
+returns-in-Ok-run_good-clause-drives g c =
+    goes_drive _ g.D.Device.logs c.args.device.now c.run_good.new.device (first_driven c.args.task.opens_directories) _
+    c.run_good.result _ refl refl c.run_good.ensures.1
+
+pub returns-clause-drives : goal.returns-clause-drives
+returns-clause-drives g c =
+    goes_drive _ g.D.Device.logs c.args.device.now c.run_good.new.device (first_driven c.args.task.opens_directories) _
+    c.run_good.result _ refl refl c.run_good.ensures.1
+
+pub returns-clause-moves : goal.returns-clause-moves
+returns-clause-moves g c =
+    inl (runs_script _ g.D.Device.logs c.args.device.now c.run_good.new.device c.args.task.form
+    c.args.task.opens_directories c.args.script.now c.in-Ok.lines.items c.as_slice.result.now c.as_slice.ensures.value
+    c.in-Ok.ensures.say c.run_good.result c.report.result
+    (subst (λ (r : Result (Unit {0}) Stop). IsStatusOf r c.report.result) (sym c.in-Err-run_good.is)
+    c.report.ensures.statuses) c.run_good.ensures)
 
 pub returns-in-Err-clause-drives : goal.returns-in-Err-clause-drives
 returns-in-Err-clause-drives g c =

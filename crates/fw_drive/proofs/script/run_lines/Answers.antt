@@ -1,28 +1,34 @@
-use Rattle.std.proofs.Common.{[], refl}
-use Rattle.fk_drive.specs.Driving.{idle, nothing}
-use Rattle.fk_drive.proofs.Drivings.{over_on}
-use Rattle.fw_drive.specs.Runs.{at}
-use Rattle.fw_drive.proofs.Following.{over_of}
+use Rattle.std.proofs.Common.{take, subst, get_or, ◌+◌}
+use Rattle.std.specs.Prelude.{Ok, Err, List}
+use Rattle.std.proofs.lemmas.List.{take_all}
+use Rattle.fw_drive.specs.LineMoves.{FirstThen, IsMoveOf, LinesMove, LinesMoveAs, MayFollow, no_line}
+use Rattle.fw_drive.specs.declared.line.DriveLine.{DriveLine}
+use Rattle.fw_drive.proofs.Following.{given, none_went, then}
+use Rattle.fw_drive.proofs.LineRuns.{line_failed, line_more}
 use Rattle.fw_drive.proofs.script.run_lines.Goals as goal
 
 pub loop-line-init : goal.loop-line-init
-loop-line-init g c = ([], g.met.D.Device.stays c.args.device.now, nothing)
-
-pub returns-in-Err : goal.returns-in-Err
-returns-in-Err g c =
-    let (turn, is, over) = c.in-Err.ensures in (
-      turn,
-      tt,
-      over_on g.D.Device.logs g.met.D.Device.goes_on c.args.device.now c.loop-line.device c.do_line.new.device
-          (at c.args.driver.now idle) (at c.loop-line.driver idle) (at c.do_line.new.driver turn)
-          c.loop-line.invariant over,
-    )
+loop-line-init g c =
+    none_went g.row.T-Heap.Denot g.D.Device.logs g.met.D.Device.stays c.args.device.now c.args.driver.now _ no_line
 
 pub loop-line-preserved : goal.loop-line-preserved
 loop-line-preserved g c =
-    over_on g.D.Device.logs g.met.D.Device.goes_on c.args.device.now c.loop-line.device c.do_line.new.device
-    (at c.args.driver.now idle) (at c.loop-line.driver idle) (at c.do_line.new.driver idle) c.loop-line.invariant
-    (over_of g.D.Device.logs g.met.D.Device.goes_on g.met.D.Device.stays c.loop-line.device c.do_line.new.device c.loop-line.driver c.do_line.new.driver c.in_default.ensures)
+    let before = LinesMove c.args.form (take c.loop-line.line-index c.args.lines.now) in
+    then g.row.T-Heap.Denot g.D.Device.logs g.met.D.Device.goes_on c.args.device.now c.loop-line.device c.do_line.new.device
+    c.args.driver.now c.loop-line.driver c.do_line.new.driver tt (Ok tt) before _ _ c.loop-line.invariant c.in_default.ensures
+    (line_more c.args.form c.args.lines.now c.loop-line.line-index _ c.loop-line-test.true)
+
+pub returns-in-Err : goal.returns-in-Err
+returns-in-Err g c =
+    let before = LinesMove c.args.form (take c.loop-line.line-index c.args.lines.now) in
+    then g.row.T-Heap.Denot g.D.Device.logs g.met.D.Device.goes_on c.args.device.now c.loop-line.device c.do_line.new.device
+    c.args.driver.now c.loop-line.driver c.do_line.new.driver tt (Err c.in-Err.stop) before _ _ c.loop-line.invariant c.in-Err.ensures
+    (line_failed c.args.form c.args.lines.now c.loop-line.line-index _ c.loop-line-test.true)
 
 pub returns : goal.returns
-returns g c = (idle, refl, c.loop-line.invariant)
+returns g c =
+    given g.row.T-Heap.Denot g.D.Device.logs c.args.device.now c.loop-line.device c.args.driver.now c.loop-line.driver tt _
+    (LinesMove c.args.form (take c.loop-line.line-index c.args.lines.now)) (LinesMove c.args.form c.args.lines.now)
+    c.loop-line.invariant
+    (λ m are. subst (λ (lines : List DriveLine). LinesMove c.args.form lines m)
+    (take_all c.loop-line.line-index c.args.lines.now c.loop-line-test.false) are)

@@ -1,8 +1,10 @@
-use Rattle.fk_drive.specs.Driving.{DrivesOver, idle}
-use Rattle.fw_drive.specs.Runs.{at}
+use Rattle.std.proofs.Common.{take}
+use Rattle.fw_drive.specs.LineMoves.{LinesMove}
+use Rattle.fw_drive.proofs.Following.{Went}
 use Rattle.fw_drive.proofs.script.run_lines.Given as goal
 
--- the lines so far were driven
+-- the lines so far made their moves
 abbrev pub invariant-loop-line : goal.invariant-loop-line
 invariant-loop-line g l =
-    DrivesOver g.D.Device.logs l.initial.device l.device (at l.initial.driver idle) (at l.driver idle)
+    Went g.row.T-Heap.Denot g.D.Device.logs l.initial.device l.device l.initial.driver l.driver
+    (LinesMove l.form (take l.line-index l.lines))
