@@ -1,12 +1,13 @@
 # `make run` runs a script through the program, proving and building it first.
-# `make try` runs it without any proof, and says so. `make test` is the gate: first whether what the documents name is
+# `make unproved` leaves a program without proofs and prints its path; `make try` runs a script through such a program.
+# `make test` is the gate: first whether what the documents name is
 # there, then the proofs, and then the rows, the frames, the man page and completions, and the mount over the built program.
 # `make check`, `make rows`, `make docs` and `make fmt` are for a change in progress (CONTRIBUTING.md).
 # `make mount DIR=path` proves and builds the program and serves a folder by it, until it is unmounted or a signal comes.
 
 SCRIPT ?= tests/rows/stat-of-root.script
 
-.PHONY: run try test build mount watch vectors lib install uninstall bench drive-tests watch-tests watch-times wrong-bodies check rows docs fmt
+.PHONY: run try unproved test build mount watch vectors lib install uninstall bench drive-tests watch-tests watch-times wrong-bodies check rows docs fmt
 
 run: build
 	@crates/fuseworld/out/fuseworld run "$(SCRIPT)"
@@ -16,10 +17,14 @@ try:
 	@script=$$(realpath -- "$(SCRIPT)") && cd crates/fuseworld && rt try -- run "$$script"; status=$$?; \
 		echo "Built without proofs: nothing was proved in this run." >&2; exit $$status
 
-# `rt run` builds only to run: here an empty script.
+# The program without proofs. It is slow, and what proofs would rule out stops it.
+unproved:
+	@python3 tests/unproved.py
+
+# `rt run` builds only to run: here an empty script. Each crate that is proved has a line; from nothing that takes most of
+# an hour.
 build:
-	@log=$$(mktemp); cd crates/fuseworld && rt run -- run /dev/null > "$$log" 2>&1 \
-		|| { cat "$$log" >&2; rm -f "$$log"; exit 1; }; rm -f "$$log"
+	@cd crates/fuseworld && python3 ../../tests/proving.py rt run -- run /dev/null
 
 # ARGS has further words for the command `serve`.
 mount: build
@@ -44,8 +49,7 @@ CODEC_VERSION = 1.0.0
 SHARED = libfuseworld_codec.so
 
 lib:
-	@log=$$(mktemp); cd crates/fuseworld_codec && rt lib > "$$log" 2>&1 \
-		|| { cat "$$log" >&2; rm -f "$$log"; exit 1; }; rm -f "$$log"
+	@cd crates/fuseworld_codec && python3 ../../tests/proving.py rt lib
 	@cc -shared -o $(CODEC)/$(SHARED).$(CODEC_VERSION) -Wl,-soname,$(SHARED).1 \
 		-Wl,--whole-archive $(CODEC)/libfuseworld_codec.a -Wl,--no-whole-archive
 	@ln -sf $(SHARED).$(CODEC_VERSION) $(CODEC)/$(SHARED).1
