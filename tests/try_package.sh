@@ -56,7 +56,7 @@ mkdir -p "$root/src/tests"
 cp -R README.md docs "$root/src"
 cp -R tests/run_tutorial.py tests/frames "$root/src/tests"
 step "man, a compiler and Python are installed" inside sh -c \
-    'apt-get update && apt-get install -y --no-install-recommends man-db gcc libc6-dev pkg-config python3-minimal'
+    'apt-get update && apt-get install -y --no-install-recommends man-db gcc libc6-dev pkg-config python3'
 # What debootstrap leaves out of man pages and documents is no part of this.
 rm -f "$root"/etc/dpkg/dpkg.cfg.d/*doc*
 step "the .deb is installed" inside dpkg -i /tmp/fuseworld.deb
