@@ -61,7 +61,8 @@ def page(name):
     version = version.replace("FUSEWORLD", name.upper(), 1).replace("User Commands", "File Formats")
     text = f'.\\" Written by tests/man_pages.py from the documents.\n{version}\n.SH NAME\n{name} \\- {title}\n'
     for heading, document, where, blocks in sections:
-        text += f".SH {heading}\n" + "".join(map(in_page, section(document, where)[blocks])).removeprefix(".PP\n")
+        body = "".join(map(in_page, section(document, where)[blocks]))
+        text += f".SH {heading}\n" + (body[4:] if body.startswith(".PP\n") else body)
     others = [other for other in PAGES if other != name]
     return text + ".SH SEE ALSO\n.BR fuseworld (1),\n" + ",\n".join(f".BR {other} (5)" for other in others) + "\n"
 

@@ -37,7 +37,7 @@ def running_in(folder):
             words = (process / "cmdline").read_text().split("\0")[-4:-1] if process.name.isdigit() else []
         except OSError:
             continue  # it has ended
-        if words[1:] == WORDS and Path(words[0]).is_relative_to(folder):
+        if words[1:] == WORDS and words[0].startswith(f"{folder}/"):
             return Path(words[0])
     return None
 
@@ -63,6 +63,9 @@ def catch(folder):
 
 
 def main():
+    if shutil.which("rt") is None:
+        print("rt is not on the path: it takes the toolchain of Rattle (README.md)", file=sys.stderr)
+        return 1
     wanted = sources()
     if not (PROGRAM.exists() and STAMP.exists() and STAMP.read_text() == wanted):
         print("building without proofs, a minute or more ..", file=sys.stderr)
@@ -73,7 +76,7 @@ def main():
                 return 1
         STAMP.write_text(wanted)
     print("built without proofs: nothing of it is proved, and its --version is that of the proved program", file=sys.stderr)
-    print(PROGRAM.relative_to(Path.cwd()) if PROGRAM.is_relative_to(Path.cwd()) else PROGRAM)
+    print(os.path.relpath(PROGRAM))
     return 0
 
 
