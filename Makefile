@@ -20,8 +20,7 @@ try:
 unproved:
 	@python3 tests/unproved.py
 
-# `rt run` builds only to run: here an empty script. Each crate that is proved has a line; from nothing that takes most of
-# an hour.
+# `rt run` builds only to run: here an empty script. Each crate that is proved has a line; from nothing that takes long.
 build:
 	@cd crates/fuseworld && python3 ../../tests/proving.py rt run -- run /dev/null
 

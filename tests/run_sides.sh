@@ -45,13 +45,13 @@ if command -v rustc > /dev/null; then
 else
     echo "skipped: examples/rust/server_test.rs, as there is no rustc"
 fi
-if command -v cargo > /dev/null; then
+if cargo --version > /dev/null 2>&1; then
     cp -R examples/rust "$work/rust"
     example "examples/rust" cargo test --offline --quiet --manifest-path "$work/rust/Cargo.toml"
 else
     echo "skipped: examples/rust, as there is no cargo"
 fi
-if command -v go > /dev/null; then
+if go version > /dev/null 2>&1; then
     (cd examples/go && GO111MODULE=on GOFLAGS= GOCACHE="$work/go" go test -c -o "$work/go_test" .) && example "examples/go" "$work/go_test"
 else
     echo "skipped: examples/go, as there is no go"
