@@ -7,12 +7,12 @@ set -u
 cd "$(dirname "$0")/.." || exit 1
 skip() { echo "skipped: the packages, as $1"; exit 0; }
 [ "$(id -u)" = 0 ] || skip "this is not root"
-command -v debootstrap > /dev/null || skip "there is no debootstrap"
+[ -n "${1:-}" ] || command -v debootstrap > /dev/null || skip "there is no debootstrap"
 archive=$(ls -t dist/*.tar.gz | head -n 1)
 package=$(ls -t dist/*.deb | head -n 1)
 name=$(basename "$archive" .tar.gz)
 root=$(mktemp -d)
-trap 'umount "$root/proc" 2> /dev/null; rm -rf "$root"' EXIT
+trap 'umount -l "$root/proc" 2> /dev/null; rm -rf --one-file-system "$root"' EXIT
 failed=0
 
 if [ -n "${1:-}" ]; then
