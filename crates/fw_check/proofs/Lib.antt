@@ -1,6 +1,8 @@
 mod CheckLaws
 mod CutNumbers
 mod FaultLines
+mod HeldLaws
 mod LineFeeds
 mod ReportLaws
+mod StandingLaws
 mod Writes
