@@ -1,4 +1,5 @@
 mod CheckLaws
+mod CountLaws
 mod CutNumbers
 mod FaultLines
 mod HeldLaws

@@ -1,5 +1,5 @@
 -- What stands of a session, with one act more, and how much that is.
-use Rattle.std.proofs.Common.{◌≡◌, ℕ, ◌+◌, ◌-◌, ◌<◌, Bool, true, false, true≢false, ◌&&◌, ◌||◌, max, cond, map, List, [], ◌∷◌, ◌++◌, Option, Some, None, length, refl, sym, ◌∙◌, ap, subst, arith, rules, nat_eq, nat_lt, inl, inr, ◌⊎◌, append_assoc, add-one, get_or, take}
+use Rattle.std.proofs.Common.{◌≡◌, ℕ, ◌+◌, ◌-◌, ◌<◌, Bool, true, false, true≢false, ◌&&◌, ◌||◌, cond, map, List, [], ◌∷◌, ◌++◌, Some, None, length, refl, sym, ◌∙◌, ap, arith, rules, nat_eq, nat_lt, inl, inr, ◌⊎◌, append_assoc, add-one, get_or, take}
 use Rattle.std.specs.Prelude.{is_some, sum_by, filter}
 use Rattle.std.specs.Cmp.{IsEquivalence, and_equiv, on_equiv, bool_eq_equiv, nat_eq_equiv}
 use Rattle.std.specs.Bool.{beq}
@@ -25,7 +25,7 @@ use Rattle.fw_check.specs.declared.file_key.FileKey.{FileKey}
 use Rattle.fw_check.specs.declared.held.Step.{Step}
 use Rattle.fw_check.specs.declared.held.Step.TheVariants as step
 use Rattle.fw_check.specs.Held.{Does, Holds, IsStep, any_of}
-use Rattle.fw_check.specs.Standing.{file_count, file_of, given_by, is_directory, key_of, kind_of, node_count, opened_by, same_key}
+use Rattle.fw_check.specs.Standing.{file_of, given_by, is_directory, key_of, kind_of, opened_by, same_key}
 
 -- ---- one act more
 

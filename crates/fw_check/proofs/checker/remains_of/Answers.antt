@@ -1,6 +1,3 @@
-use Rattle.std.proofs.Common.{◌≡◌, ap, ◌∙◌}
-use Rattle.fw_check.specs.declared.remains.Remains.{Remains}
-use Rattle.fw_check.specs.Standing.{remains_of}
 use Rattle.fw_check.proofs.CheckLaws.{left_of}
 use Rattle.fw_check.proofs.checker.remains_of.Goals as goal
 

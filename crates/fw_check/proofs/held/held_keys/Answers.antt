@@ -1,4 +1,4 @@
-use Rattle.std.proofs.Common.{sym, ◌∙◌, ap}
+use Rattle.std.proofs.Common.{◌∙◌}
 use Rattle.std.specs.Cmp.{ties}
 use Rattle.fw_check.proofs.HeldLaws.{as_many}
 use Rattle.fw_check.proofs.held.held_keys.Goals as goal

@@ -1,5 +1,4 @@
-use Rattle.std.proofs.Common.{◌≡◌, ◌+◌, Some, None, sym, ◌∙◌, ap, is_some, arith}
-use Rattle.std.specs.Prelude.{unwrap_or}
+use Rattle.std.proofs.Common.{◌≡◌, ◌+◌, Some, sym, ◌∙◌, ap, is_some, arith}
 use Rattle.std.specs.Cmp.{ties}
 use Rattle.std.specs.Option.{option_copied_mut}
 use Rattle.fw_check.specs.Held.{any_of}

@@ -1,4 +1,4 @@
-use Rattle.std.proofs.Common.{◌≡◌, ◌++◌, arith, sym, subst, take, length, ap, ◌∙◌}
+use Rattle.std.proofs.Common.{◌++◌, arith, subst, take}
 use Rattle.std.proofs.lemmas.List.{take_all}
 use Rattle.fuse_sessions.specs.Sessions.{Session}
 use Rattle.fw_check.specs.Standing.{Stands}
