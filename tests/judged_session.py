@@ -1,5 +1,6 @@
 """A capture that is written a transfer at a time, and what `fuseworld check` has to print of it."""
 from fuse_frames import init_reply, init_request, reply, request
+from standing import Standing
 
 
 class Session:
@@ -35,13 +36,26 @@ class Session:
         self.read(init_request())
         self.write(init_reply(**agreed))
 
+    def standing(self):
+        """What stands after the lines that are judged."""
+        standing = Standing()
+        for number, line in enumerate(self.lines, 1):
+            standing.line(line)
+            if any(fault.startswith(f"line {number}: not judged from here on") for fault in self.faults):
+                break
+        return standing
+
     def end(self, entries=0, forgotten=0, unanswered=0):
         """The two lines of counts, of which the last has the warnings too. A request is unanswered where it takes a reply, no reply under its number was written and
         not refused with ENOENT, and no later request took its number."""
+        standing = self.standing()
+        assert (standing.entries, standing.forgotten) == (entries, forgotten), (standing.entries, standing.forgotten)
+        nodes, files = standing.counts()
         parties = [fault.split(": ")[1] for fault in self.faults]
         transfers = " ".join(f"{word} {count}" for word, count in self.counted.items())
         return "\n".join([
-            *self.faults, f"{transfers} unanswered {unanswered} entries {entries} forgotten {forgotten}",
+            *self.faults,
+            f"{transfers} unanswered {unanswered} entries {entries} forgotten {forgotten} nodes {nodes} open {files}",
             "faults: " + " ".join(f"{party} {parties.count(party)}" for party in ("kernel", "server", "device"))
             + f", warnings {parties.count('warning')}", "",
         ])

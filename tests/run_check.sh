@@ -53,12 +53,12 @@ cat > "$work/want-out" <<END
 line 4: server: reply to nothing: unique 90
 line 7: server: second reply: unique 4
 line 9: server: body that is not its request's
-requests 5 replies 7 notifications 0 refused 2 unanswered 0 entries 0 forgotten 0
+requests 5 replies 7 notifications 0 refused 2 unanswered 0 entries 0 forgotten 0 nodes 0 open 0
 faults: kernel 0 server 3 device 0, warnings 0
 END
 judged "the server where all parties have faults" 6 --server tests/sessions/device.capture
 cat > "$work/want-out" <<END
-requests 5 replies 7 notifications 0 refused 2 unanswered 0 entries 0 forgotten 0
+requests 5 replies 7 notifications 0 refused 2 unanswered 0 entries 0 forgotten 0 nodes 0 open 0
 faults: kernel 0 server 0 device 0, warnings 0
 END
 judged "the kernel where the others have faults" 0 --kernel tests/sessions/device.capture
@@ -77,12 +77,12 @@ cat > "$work/want-out" <<'END'
 {"event":"fault","line":9,"party":"server","rule":"body that is not its request's"}
 {"event":"fault","line":9,"party":"device","rule":"body of another request accepted","unique":6}
 {"event":"fault","line":11,"party":"device","rule":"right reply refused","unique":8}
-{"event":"counts","requests":5,"replies":7,"notifications":0,"refused":2,"unanswered":0,"entries":0,"forgotten":0,"kernel":0,"server":3,"device":4,"warnings":0}
+{"event":"counts","requests":5,"replies":7,"notifications":0,"refused":2,"unanswered":0,"entries":0,"forgotten":0,"nodes":0,"open":0,"kernel":0,"server":3,"device":4,"warnings":0}
 END
 judged "a session in JSON" 6 --json tests/sessions/device.capture
 cat > "$work/want-out" <<'END'
 {"event":"check","schema":1}
-{"event":"counts","requests":5,"replies":7,"notifications":0,"refused":2,"unanswered":0,"entries":0,"forgotten":0,"kernel":0,"server":0,"device":0,"warnings":0}
+{"event":"counts","requests":5,"replies":7,"notifications":0,"refused":2,"unanswered":0,"entries":0,"forgotten":0,"nodes":0,"open":0,"kernel":0,"server":0,"device":0,"warnings":0}
 END
 judged "one party in JSON" 0 --json --kernel tests/sessions/device.capture
 for expected in tests/sessions/*.expected; do
@@ -129,7 +129,7 @@ judged "no line feed at the end" 6 "$work/capture"
 judge "standard input" $? 6
 "$program" check - < "$capture" > "$work/out" 2> "$work/err"
 judge "standard input, by its name" $? 6
-printf 'requests 0 replies 0 notifications 0 refused 0 unanswered 0 entries 0 forgotten 0\nfaults: kernel 0 server 0 device 0, warnings 0\n' > "$work/want-out"
+printf 'requests 0 replies 0 notifications 0 refused 0 unanswered 0 entries 0 forgotten 0 nodes 0 open 0\nfaults: kernel 0 server 0 device 0, warnings 0\n' > "$work/want-out"
 "$program" check < /dev/null > "$work/out" 2> "$work/err"
 judge "nothing" $? 0
 

@@ -5,7 +5,8 @@ use Rattle.std.specs.Io.KnownBytes.{Appends}
 use Rattle.fuse_sessions.specs.declared.act.Act.{Act}
 use Rattle.fuse_sessions.specs.declared.fault.Fault.{Fault}
 use Rattle.fuse_sessions.specs.declared.transfer.Transfer.{Transfer}
-use Rattle.fuse_judge.specs.Transfers.{SessionState}
+use Rattle.fuse_sessions.specs.Sessions.{Session}
+use Rattle.fuse_sessions.specs.Waiting.{waiting}
 use Rattle.fuse_capture.specs.declared.line.CaptureLine.{CaptureLine}
 use Rattle.fuse_capture.specs.Lines.{IsPassedOver, LineSays}
 use Rattle.fuse_capture.specs.Readings.{IsTransferOf}
@@ -13,13 +14,15 @@ use Rattle.fw_check.specs.declared.counts.Counts.{Counts}
 use Rattle.fw_check.specs.declared.options.CheckForm.{CheckForm}
 use Rattle.fw_check.specs.declared.options.CheckForm.TheVariants.{Json, Words}
 use Rattle.fw_check.specs.declared.options.CheckOptions.{CheckOptions}
+use Rattle.fw_check.specs.declared.remains.Remains.{Remains}
 use Rattle.fw_check.specs.declared.stop.Stop.{Stop}
 use Rattle.fw_check.specs.declared.stop.Stop.TheVariants.{BadLine, CannotRead, NoMemory, OutputRefused}
 use Rattle.fw_check.specs.Checks.{Judged, Checks, passed_over, says, no_line, nothing_judged, counts_of, end_text, start_in}
 use Rattle.fw_check.specs.Endings.{lines_of}
 use Rattle.fw_check.specs.Forms.{counts_text, head_text, transfer_lines}
 use Rattle.fw_check.specs.Outputs.{AppendsSome}
-use Rattle.fw_check.specs.Running.{AllChecked, AreCounts, CheckEnds, ChecksMore, IsJudgedSo, IsKept, IsTaken, IsUnanswered, IsUpTo, LineEnds, NextEnds, PrintsEnd, SaidEnds, StopsIn, judged_after}
+use Rattle.fw_check.specs.Standing.{file_count, node_count, remains_of}
+use Rattle.fw_check.specs.Running.{AllChecked, AreCounts, CheckEnds, ChecksMore, IsJudgedSo, IsKept, IsTaken, AreLeft, IsUpTo, LineEnds, NextEnds, PrintsEnd, SaidEnds, SeenState, StopsIn, judged_after}
 use Rattle.fw_check.proofs.Writes.{Appends-append, some_first, some_then}
 
 -- ---- results
@@ -47,38 +50,38 @@ line_passed_over o lines j line checks is = record {
 
 -- the lines with the one that says the transfer
 said_checks : (o : CheckOptions) (lines : List (List ℕ)) (j : Judged) (line : List ℕ) (l : CaptureLine) (acts : List Act)
-    (verdicts : List (Option Fault)) (judge : SessionState) (c : Counts) → Checks o lines j
+    (verdicts : List (Option Fault)) (judge : SeenState) (c : Counts) → Checks o lines j
     → (so : IsJudgedSo o j l acts verdicts judge c) → LineSays line so.transfer
-    → Checks o (lines ++ line ∷ []) (judged_after j so.transfer acts verdicts judge.known
-    (j.text ++ transfer_lines o.form (length lines + 1) j.known judge.known acts verdicts))
+    → Checks o (lines ++ line ∷ []) (judged_after j so.transfer acts verdicts judge.session.known
+    (j.text ++ transfer_lines o.form (length lines + 1) j.known judge.session.known acts verdicts))
 said_checks o lines j line l acts verdicts judge c checks so is =
-    subst (λ (vs : List (Option Fault)). Checks o (lines ++ line ∷ []) (judged_after j so.transfer acts vs judge.known
-    (j.text ++ transfer_lines o.form (length lines + 1) j.known judge.known acts vs)))
+    subst (λ (vs : List (Option Fault)). Checks o (lines ++ line ∷ []) (judged_after j so.transfer acts vs judge.session.known
+    (j.text ++ transfer_lines o.form (length lines + 1) j.known judge.session.known acts vs)))
     (sym so.asked)
-    (says lines j checks line so.transfer is acts judge.known so.are so.all so.each so.faults)
+    (says lines j checks line so.transfer is acts judge.session.known so.are so.all so.each so.faults)
 
 pub line_said : {T : Type 0} (o : CheckOptions) (r : Result T Stop) (lines : List (List ℕ)) (j : Judged) (line : List ℕ) (number : ℕ)
-    (l : CaptureLine) (judge : SessionState) (c : Counts) (had has : Option (List ℕ)) → Checks o lines j
+    (l : CaptureLine) (judge : SeenState) (c : Counts) (had has : Option (List ℕ)) → Checks o lines j
     → ((t : Transfer) → IsTransferOf l t → LineSays line t) → number ≡ length lines + 1
     → SaidEnds o j number l judge c r had has → LineEnds o lines j line judge c r had has
 line_said o (Ok done) lines j line number l judge c had has checks said is (acts, verdicts, so, appends) =
-    let text = j.text ++ transfer_lines o.form (length lines + 1) j.known judge.known acts verdicts in (
-      judged_after j so.transfer acts verdicts judge.known text,
-      transfer_lines o.form number j.known judge.known acts verdicts,
+    let text = j.text ++ transfer_lines o.form (length lines + 1) j.known judge.session.known acts verdicts in (
+      judged_after j so.transfer acts verdicts judge.session.known text,
+      transfer_lines o.form number j.known judge.session.known acts verdicts,
       record {
         checks = said_checks o lines j line l acts verdicts judge c checks so (said so.transfer so.is);
-        text = ap (λ n. j.text ++ transfer_lines o.form n j.known judge.known acts verdicts) (sym is);
+        text = ap (λ n. j.text ++ transfer_lines o.form n j.known judge.session.known acts verdicts) (sym is);
       },
       so.kept text,
       appends,
     )
 line_said o (Err OutputRefused) lines j line number l judge c had has checks said is (acts, verdicts, so, some) =
-    let text = j.text ++ transfer_lines o.form (length lines + 1) j.known judge.known acts verdicts in (
-      judged_after j so.transfer acts verdicts judge.known text,
-      transfer_lines o.form number j.known judge.known acts verdicts,
+    let text = j.text ++ transfer_lines o.form (length lines + 1) j.known judge.session.known acts verdicts in (
+      judged_after j so.transfer acts verdicts judge.session.known text,
+      transfer_lines o.form number j.known judge.session.known acts verdicts,
       record {
         checks = said_checks o lines j line l acts verdicts judge c checks so (said so.transfer so.is);
-        text = ap (λ n. j.text ++ transfer_lines o.form n j.known judge.known acts verdicts) (sym is);
+        text = ap (λ n. j.text ++ transfer_lines o.form n j.known judge.session.known acts verdicts) (sym is);
       },
       some,
     )
@@ -110,9 +113,9 @@ after_next : (all done : List (List ℕ)) (line : List ℕ) (rest after : List (
 after_next all done line rest after e next =
     e ∙ ap (λ (l : List (List ℕ)). done ++ l) next ∙ sym (append_assoc done (line ∷ []) after)
 
-module _ (o : CheckOptions) (capture : List ℕ) (known left : Option (List ℕ)) (number : ℕ) (judge : SessionState) (c : Counts)
+module _ (o : CheckOptions) (capture : List ℕ) (known left : Option (List ℕ)) (number : ℕ) (judge : SeenState) (c : Counts)
     (had mid : Option (List ℕ)) (upto : IsUpTo o capture known number judge c had mid) where
-  pub next_done : (is_more : Bool) (line : List ℕ) (later : SessionState) (counts : Counts) (has : Option (List ℕ))
+  pub next_done : (is_more : Bool) (line : List ℕ) (later : SeenState) (counts : Counts) (has : Option (List ℕ))
       → IfSome known (λ bytes. IsTaken bytes is_more line left)
       → LineEnds {T = Unit {0}} o upto.done upto.judged line later counts (Ok tt) mid has
       → NextEnds o capture left number later counts (Ok is_more) had has
@@ -141,7 +144,7 @@ module _ (o : CheckOptions) (capture : List ℕ) (known left : Option (List ℕ)
       }
 
   -- the line is not done
-  pub next_stopped : (is_more : Bool) (line : List ℕ) (later : SessionState) (counts : Counts) (has : Option (List ℕ))
+  pub next_stopped : (is_more : Bool) (line : List ℕ) (later : SeenState) (counts : Counts) (has : Option (List ℕ))
       (s : Stop) → IfSome known (λ bytes. IsTaken bytes is_more line left)
       → LineEnds {T = Unit {0}} o upto.done upto.judged line later counts (Err s) mid has → StopsIn o capture s had has
   next_stopped is_more line later counts has (BadLine n f) taken (number_is, is, still) =
@@ -197,10 +200,11 @@ module _ (o : CheckOptions) (capture : List ℕ) (known left : Option (List ℕ)
   }
 
 -- what is kept says nothing of what was printed
-kept_printed : (text : List ℕ) (judge : SessionState) (c : Counts) → IsKept nothing_judged judge c
+kept_printed : (text : List ℕ) (judge : SeenState) (c : Counts) → IsKept nothing_judged judge c
     → IsKept (record nothing_judged { text = text }) judge c
 kept_printed text judge c kept = record {
   seen = kept.seen;
+  stands = kept.stands;
   known = kept.known;
   counts = record {
     requests = kept.counts.requests;
@@ -217,7 +221,7 @@ kept_printed text judge c kept = record {
 }
 
 -- before the first line
-pub at_start : (o : CheckOptions) (known had has : Option (List ℕ)) (judge : SessionState) (c : Counts)
+pub at_start : (o : CheckOptions) (known had has : Option (List ℕ)) (judge : SeenState) (c : Counts)
     → Appends had has (head_text o.form) → IsKept nothing_judged judge c
     → IfSome known (λ capture. IsUpTo o capture known 1 judge c had has)
 at_start o None had has judge c begun kept = tt
@@ -249,8 +253,19 @@ not_begun o (Some capture) had has some = record {
 
 -- ---- the end
 
+-- each count of what is left
+abbrev make : (unanswered nodes files : ℕ) → Remains
+make unanswered nodes files = record { unanswered = unanswered; nodes = nodes; files = files }
+
+pub left_of : (s : Session) (unanswered nodes files : ℕ) → unanswered ≡ length (waiting s) → nodes ≡ node_count s
+    → files ≡ file_count s → make unanswered nodes files ≡ remains_of s
+left_of s unanswered nodes files a b c = by unanswered nodes files _ _ _ a b c
+  where
+    by : (u n f u' n' f' : ℕ) → u ≡ u' → n ≡ n' → f ≡ f' → make u n f ≡ make u' n' f'
+    by u n f u' n' f' e g h = rw (e, g, h) refl
+
 -- the counts that are kept are those of what was judged
-counts_are : (form : CheckForm) (n : ℕ) (j : Judged) (c : Counts) → AreCounts j c
+counts_are : (form : CheckForm) (n : Remains) (j : Judged) (c : Counts) → AreCounts j c
     → counts_text form n c ≡ counts_text form n (counts_of j)
 counts_are Words n j c are = rw (
   are.requests,
@@ -277,17 +292,17 @@ counts_are Json n j c are = rw (
   are.warnings,
 ) refl
 
--- with how many requests wait
-ends_are : (form : CheckForm) (n : ℕ) (j : Judged) (judge : SessionState) (c : Counts) → IsKept j judge c
-    → IsUnanswered judge n → counts_text form n c ≡ end_text form j
-ends_are form n j judge c kept waits =
-    counts_are form n j c kept.counts ∙ ap (λ k. counts_text form k (counts_of j)) (waits j.transfers j.acts kept.seen)
+-- with what is left
+ends_are : (form : CheckForm) (n : Remains) (j : Judged) (judge : SeenState) (c : Counts) → IsKept j judge c
+    → AreLeft judge n → counts_text form n c ≡ end_text form j
+ends_are form n j judge c kept lefts =
+    counts_are form n j c kept.counts ∙ ap (λ k. counts_text form k (counts_of j)) (lefts j.transfers j.acts kept.seen kept.stands)
 
-pub all_ends : {T : Type 0} (o : CheckOptions) (n : ℕ) (r : Result T Stop) (capture : List ℕ) (judge : SessionState)
-    (c : Counts) (had mid has : Option (List ℕ)) → IsUnanswered judge n → AllChecked o capture judge c had mid
+pub all_ends : {T : Type 0} (o : CheckOptions) (n : Remains) (r : Result T Stop) (capture : List ℕ) (judge : SeenState)
+    (c : Counts) (had mid has : Option (List ℕ)) → AreLeft judge n → AllChecked o capture judge c had mid
     → PrintsEnd o.form n c r mid has → CheckEnds o capture c r had has
-all_ends o n (Ok done) capture judge c had mid has waits all appends =
-    let same = ends_are o.form n all.judged judge c all.kept waits in
+all_ends o n (Ok done) capture judge c had mid has lefts all appends =
+    let same = ends_are o.form n all.judged judge c all.kept lefts in
     record {
       judged = all.judged;
       checks = all.checks;
@@ -295,8 +310,8 @@ all_ends o n (Ok done) capture judge c had mid has waits all appends =
       printed = Appends-append had mid has all.judged.text (end_text o.form all.judged) all.printed
           (subst (Appends mid has) same appends);
     }
-all_ends o n (Err OutputRefused) capture judge c had mid has waits all some =
-    let same = ends_are o.form n all.judged judge c all.kept waits in
+all_ends o n (Err OutputRefused) capture judge c had mid has lefts all some =
+    let same = ends_are o.form n all.judged judge c all.kept lefts in
     record {
       done = lines_of capture;
       rest = [];
@@ -306,7 +321,7 @@ all_ends o n (Err OutputRefused) capture judge c had mid has waits all some =
       says = some_then had mid has all.judged.text (end_text o.form all.judged)
           (all.judged.text ++ end_text o.form all.judged) refl all.printed (subst (AppendsSome mid has) same some);
     }
-all_ends o n (Err NoMemory) capture judge c had mid has waits all still = record {
+all_ends o n (Err NoMemory) capture judge c had mid has lefts all still = record {
   done = lines_of capture;
   rest = [];
   lines = sym (append-nil (lines_of capture));
@@ -314,5 +329,5 @@ all_ends o n (Err NoMemory) capture judge c had mid has waits all still = record
   checks = all.checks;
   says = printed_still had mid has all.judged.text all.printed still;
 }
-all_ends o n (Err CannotRead) capture judge c had mid has waits all h = absurd h
-all_ends o n (Err (BadLine k f)) capture judge c had mid has waits all h = absurd h
+all_ends o n (Err CannotRead) capture judge c had mid has lefts all h = absurd h
+all_ends o n (Err (BadLine k f)) capture judge c had mid has lefts all h = absurd h

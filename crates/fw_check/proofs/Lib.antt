@@ -1,6 +1,9 @@
 mod CheckLaws
+mod CountLaws
 mod CutNumbers
 mod FaultLines
+mod HeldLaws
 mod LineFeeds
 mod ReportLaws
+mod StandingLaws
 mod Writes

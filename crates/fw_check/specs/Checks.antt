@@ -8,7 +8,6 @@ use Rattle.fuse_sessions.specs.declared.known.Known.{Known}
 use Rattle.fuse_sessions.specs.declared.transfer.Transfer.{Transfer}
 use Rattle.fuse_sessions.specs.Sessions.{Session}
 use Rattle.fuse_sessions.specs.Frames.{AreActs, nothing_known}
-use Rattle.fuse_sessions.specs.Waiting.{waiting}
 use Rattle.fuse_judge.specs.Transfers.{AreFaults}
 use Rattle.fuse_capture.specs.Lines.{LineSays, IsPassedOver}
 use Rattle.fw_check.specs.declared.counts.Counts.{Counts}
@@ -16,6 +15,7 @@ use Rattle.fw_check.specs.declared.options.CheckForm.{CheckForm}
 use Rattle.fw_check.specs.declared.options.CheckOptions.{CheckOptions}
 use Rattle.fw_check.specs.Asked.{asked_verdicts}
 use Rattle.fw_check.specs.Forms.{counts_text, head_text, transfer_lines}
+use Rattle.fw_check.specs.Standing.{remains_of}
 use Rattle.fw_check.specs.Tallies.{entries_of, forgotten_by, is_notification, is_of, is_refused, is_reply, is_request, one_if}
 
 -- What was judged: the transfers that were said, what is known after them, their acts, the verdict on each act without a
@@ -85,6 +85,6 @@ counts_of j = record {
   warnings = faults_of party.Nobody j;
 }
 
--- the counts at the end, also of the requests that wait
+-- the counts at the end, also of what is left then: requests that wait, nodes that are counted, files that are open
 abbrev pub end_text : CheckForm → Judged → List ℕ
-end_text form j = counts_text form (length (waiting j.acts)) (counts_of j)
+end_text form j = counts_text form (remains_of j.acts) (counts_of j)

@@ -6,6 +6,7 @@ use Rattle.fuse_sessions.specs.declared.fault.Party.{Party}
 use Rattle.fuse_sessions.specs.declared.fault.Party.TheVariants as party
 use Rattle.fuse_sessions.specs.declared.transfer.Transfer.{Transfer}
 use Rattle.fw_check.specs.declared.counts.Counts.{Counts}
+use Rattle.fw_check.specs.declared.remains.Remains.{Remains}
 use Rattle.fw_check.specs.Tallies.{entries_of, faults_text, forgotten_by, is_notification, is_of, is_refused, is_reply, is_request, later_text, one_if, transfers_text}
 
 -- how many of these verdicts are faults of a party
@@ -27,6 +28,6 @@ pub record CountsMore (old : Counts) (t : Transfer) (acts : List Act) (verdicts 
   pub warnings : new.warnings ≡ old.warnings + faults_in party.Nobody verdicts
 
 -- the last two lines
-abbrev pub counts_lines : (unanswered : ℕ) → Counts → List ℕ
-counts_lines unanswered c = transfers_text c.requests c.replies c.notifications c.refused
-    ++ later_text unanswered c.entries c.forgotten ++ faults_text c.kernel c.server c.device c.warnings
+abbrev pub counts_lines : Remains → Counts → List ℕ
+counts_lines r c = transfers_text c.requests c.replies c.notifications c.refused
+    ++ later_text r c.entries c.forgotten ++ faults_text c.kernel c.server c.device c.warnings

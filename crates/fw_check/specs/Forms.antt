@@ -7,6 +7,7 @@ use Rattle.fuse_sessions.specs.declared.known.Known.{Known}
 use Rattle.fw_check.specs.declared.counts.Counts.{Counts}
 use Rattle.fw_check.specs.declared.options.CheckForm.{CheckForm}
 use Rattle.fw_check.specs.declared.options.CheckForm.TheVariants as forms
+use Rattle.fw_check.specs.declared.remains.Remains.{Remains}
 use Rattle.fw_check.specs.Counting.{counts_lines}
 use Rattle.fw_check.specs.FaultWords.{fault_line}
 use Rattle.fw_check.specs.Json.{counts_object, fault_object, head_object}
@@ -44,7 +45,7 @@ abbrev pub transfer_lines : CheckForm → (number : ℕ) → (before after : Kno
 transfer_lines form number before after acts verdicts =
     fault_lines form number acts verdicts ++ leaving_text form number before.unjudged after.unjudged
 
--- the counts, with how many requests wait
-abbrev pub counts_text : CheckForm → (unanswered : ℕ) → Counts → List ℕ
-counts_text forms.Words unanswered c = counts_lines unanswered c
-counts_text forms.Json unanswered c = counts_object unanswered c
+-- the counts, with what is left at the end
+abbrev pub counts_text : CheckForm → Remains → Counts → List ℕ
+counts_text forms.Words r c = counts_lines r c
+counts_text forms.Json r c = counts_object r c

@@ -9,6 +9,7 @@ use Rattle.fuse_sessions.specs.declared.fault.Party.{Party}
 use Rattle.fuse_sessions.specs.declared.fault.Party.TheVariants as party
 use Rattle.fuse_sessions.specs.Parties.{party_of}
 use Rattle.fw_check.specs.declared.counts.Counts.{Counts}
+use Rattle.fw_check.specs.declared.remains.Remains.{Remains}
 use Rattle.fw_check.specs.FaultWords.{fault_words, party_word}
 
 -- a key behind another
@@ -81,16 +82,19 @@ abbrev pub transfers_fields : Counts → List ℕ
 transfers_fields c = number_field (codes "requests") c.requests ++ number_field (codes "replies") c.replies
     ++ number_field (codes "notifications") c.notifications ++ number_field (codes "refused") c.refused
 
-abbrev pub lookups_fields : (unanswered : ℕ) → Counts → List ℕ
-lookups_fields unanswered c = number_field (codes "unanswered") unanswered ++ number_field (codes "entries") c.entries
+abbrev pub lookups_fields : Remains → Counts → List ℕ
+lookups_fields r c = number_field (codes "unanswered") r.unanswered ++ number_field (codes "entries") c.entries
     ++ number_field (codes "forgotten") c.forgotten
+
+abbrev pub standing_fields : Remains → List ℕ
+standing_fields r = number_field (codes "nodes") r.nodes ++ number_field (codes "open") r.files
 
 abbrev pub parties_fields : Counts → List ℕ
 parties_fields c = number_field (codes "kernel") c.kernel ++ number_field (codes "server") c.server
     ++ number_field (codes "device") c.device ++ number_field (codes "warnings") c.warnings
 
-abbrev pub counts_fields : (unanswered : ℕ) → Counts → List ℕ
-counts_fields unanswered c = transfers_fields c ++ lookups_fields unanswered c ++ parties_fields c
+abbrev pub counts_fields : Remains → Counts → List ℕ
+counts_fields r c = transfers_fields c ++ lookups_fields r c ++ standing_fields r ++ parties_fields c
 
-abbrev pub counts_object : (unanswered : ℕ) → Counts → List ℕ
-counts_object unanswered c = codes "{\"event\":\"counts\"" ++ counts_fields unanswered c ++ codes "}\n"
+abbrev pub counts_object : Remains → Counts → List ℕ
+counts_object r c = codes "{\"event\":\"counts\"" ++ counts_fields r c ++ codes "}\n"

@@ -4,9 +4,11 @@ pub mod Counting
 pub mod Endings
 pub mod FaultWords
 pub mod Forms
+pub mod Held
 pub mod Json
 pub mod Outputs
 pub mod Reports
 pub mod Running
+pub mod Standing
 pub mod Tallies
 pub mod Unjudged

@@ -8,7 +8,6 @@ use Rattle.fuse_sessions.specs.declared.known.Known.{Known}
 use Rattle.fuse_sessions.specs.declared.transfer.Transfer.{Transfer}
 use Rattle.fuse_sessions.specs.Frames.{AreActs}
 use Rattle.fuse_sessions.specs.Sessions.{Session}
-use Rattle.fuse_sessions.specs.Waiting.{waiting}
 use Rattle.fuse_judge.specs.Transfers.{AreFaults, HasSeenTransfers, SessionState}
 use Rattle.fuse_capture.specs.declared.line.CaptureLine.{CaptureLine}
 use Rattle.fuse_capture.specs.Lines.{LineFaultIs}
@@ -16,6 +15,9 @@ use Rattle.fuse_capture.specs.Readings.{IsTransferOf}
 use Rattle.fw_check.specs.declared.counts.Counts.{Counts}
 use Rattle.fw_check.specs.declared.options.CheckForm.{CheckForm}
 use Rattle.fw_check.specs.declared.options.CheckOptions.{CheckOptions}
+use Rattle.fw_check.specs.declared.file_key.FileKey.{FileKey}
+use Rattle.fw_check.specs.declared.remains.Remains.{Remains}
+use Rattle.fw_check.specs.declared.standing.Standing.{Standing}
 use Rattle.fw_check.specs.declared.stop.Stop.{Stop}
 use Rattle.fw_check.specs.declared.stop.Stop.TheVariants as stop
 use Rattle.fw_check.specs.Asked.{asked_verdicts}
@@ -24,6 +26,7 @@ use Rattle.fw_check.specs.Endings.{lines_of}
 use Rattle.fw_check.specs.Forms.{counts_text, fault_text, transfer_lines}
 use Rattle.fw_check.specs.Outputs.{AppendsSome}
 use Rattle.fw_check.specs.Reports.{bad_line, unreadable}
+use Rattle.fw_check.specs.Standing.{Stands, remains_of}
 use Rattle.fw_check.specs.Tallies.{entries_of, forgotten_by, is_notification, is_refused, is_reply, is_request}
 
 -- what is printed of a verdict, where it is a fault
@@ -46,10 +49,20 @@ pub record AreCounts (j : Judged) (c : Counts) : Type 0 where
   pub device : c.device ≡ faults_of party.Device j
   pub warnings : c.warnings ≡ faults_of party.Nobody j
 
+-- What contracts see of the judge, and of what stands of the session that it has seen.
+pub record SeenState : Type 0 where
+  pub session : SessionState
+  pub nodes : List (ℕ × ℕ)
+  pub files : List (FileKey × ℕ)
+
+abbrev pub seen_by : {A : Type 0} → SessionState → Standing A → SeenState
+seen_by session t = record { session = session; nodes = t.nodes.entries; files = t.files.entries }
+
 -- What a check keeps is right of what was judged.
-pub record IsKept (j : Judged) (judge : SessionState) (c : Counts) : Type 0 where
-  pub seen : HasSeenTransfers j.transfers j.acts judge
-  pub known : j.known ≡ judge.known
+pub record IsKept (j : Judged) (w : SeenState) (c : Counts) : Type 0 where
+  pub seen : HasSeenTransfers j.transfers j.acts w.session
+  pub stands : Stands j.acts w.nodes w.files
+  pub known : j.known ≡ w.session.known
   pub counts : AreCounts j c
 
 -- what was judged, with one transfer more
@@ -65,23 +78,23 @@ judged_after j t acts verdicts known text = record {
 -- The transfer that a line says was judged: these are its acts, and these their verdicts without the faults that are not
 -- asked for.
 pub record IsJudgedSo (o : CheckOptions) (j : Judged) (l : CaptureLine) (acts : List Act)
-    (verdicts : List (Option Fault)) (judge : SessionState) (c : Counts) : Type 0 where
+    (verdicts : List (Option Fault)) (judge : SeenState) (c : Counts) : Type 0 where
   pub transfer : Transfer
   pub all : List (Option Fault)
   pub is : IsTransferOf l transfer
-  pub are : AreActs j.known j.acts transfer acts judge.known
+  pub are : AreActs j.known j.acts transfer acts judge.session.known
   pub each : length all ≡ length acts
   pub faults : AreFaults j.acts acts all
   pub asked : verdicts ≡ asked_verdicts o.only all
-  pub kept : (text : List ℕ) → IsKept (judged_after j transfer acts verdicts judge.known text) judge c
+  pub kept : (text : List ℕ) → IsKept (judged_after j transfer acts verdicts judge.session.known text) judge c
 
 -- What became of a line that says a transfer, and of the output.
-abbrev pub SaidEnds : {T : Type 0} → CheckOptions → Judged → (number : ℕ) → CaptureLine → SessionState → Counts → Result T Stop
+abbrev pub SaidEnds : {T : Type 0} → CheckOptions → Judged → (number : ℕ) → CaptureLine → SeenState → Counts → Result T Stop
     → (had has : Option (List ℕ)) → Type 0
 SaidEnds o j number l judge c (Ok done) had has = (acts : List Act) × (verdicts : List (Option Fault))
-    × IsJudgedSo o j l acts verdicts judge c × Appends had has (transfer_lines o.form number j.known judge.known acts verdicts)
+    × IsJudgedSo o j l acts verdicts judge c × Appends had has (transfer_lines o.form number j.known judge.session.known acts verdicts)
 SaidEnds o j number l judge c (Err stop.OutputRefused) had has = (acts : List Act) × (verdicts : List (Option Fault))
-    × IsJudgedSo o j l acts verdicts judge c × AppendsSome had has (transfer_lines o.form number j.known judge.known acts verdicts)
+    × IsJudgedSo o j l acts verdicts judge c × AppendsSome had has (transfer_lines o.form number j.known judge.session.known acts verdicts)
 SaidEnds o j number l judge c (Err stop.NoMemory) had has = Appends had has []
 SaidEnds o j number l judge c (Err other) had has = ⊥
 
@@ -93,7 +106,7 @@ pub record ChecksMore (o : CheckOptions) (lines : List (List ℕ)) (before after
   pub text : after.text ≡ before.text ++ more
 
 -- What became of a line after these.
-abbrev pub LineEnds : {T : Type 0} → CheckOptions → (lines : List (List ℕ)) → Judged → (line : List ℕ) → SessionState → Counts
+abbrev pub LineEnds : {T : Type 0} → CheckOptions → (lines : List (List ℕ)) → Judged → (line : List ℕ) → SeenState → Counts
     → Result T Stop → (had has : Option (List ℕ)) → Type 0
 LineEnds o lines j line judge c (Ok done) had has = (next : Judged) × (more : List ℕ)
     × ChecksMore o (lines ++ line ∷ []) j next more × IsKept next judge c × Appends had has more
@@ -107,7 +120,7 @@ LineEnds o lines j line judge c (Err stop.CannotRead) had has = ⊥
 -- ---- a capture
 
 -- The first lines of a capture were judged, and these bytes are left of it.
-pub record IsUpTo (o : CheckOptions) (capture : List ℕ) (left : Option (List ℕ)) (number : ℕ) (judge : SessionState)
+pub record IsUpTo (o : CheckOptions) (capture : List ℕ) (left : Option (List ℕ)) (number : ℕ) (judge : SeenState)
     (c : Counts) (had has : Option (List ℕ)) : Type 0 where
   pub done : List (List ℕ)
   pub rest : List ℕ
@@ -120,7 +133,7 @@ pub record IsUpTo (o : CheckOptions) (capture : List ℕ) (left : Option (List �
   pub printed : Appends had has judged.text
 
 -- All lines were judged.
-pub record AllChecked (o : CheckOptions) (capture : List ℕ) (judge : SessionState) (c : Counts)
+pub record AllChecked (o : CheckOptions) (capture : List ℕ) (judge : SeenState) (c : Counts)
     (had has : Option (List ℕ)) : Type 0 where
   pub judged : Judged
   pub checks : Checks o (lines_of capture) judged
@@ -144,13 +157,13 @@ pub record StopsIn (o : CheckOptions) (capture : List ℕ) (s : Stop) (had has :
   pub says : StopSays o.form s (length done + 1) rest judged had has
 
 -- What became of the next line: there are more, or it was the last.
-abbrev pub NextEnds : CheckOptions → (capture : List ℕ) → (left : Option (List ℕ)) → (number : ℕ) → SessionState → Counts
+abbrev pub NextEnds : CheckOptions → (capture : List ℕ) → (left : Option (List ℕ)) → (number : ℕ) → SeenState → Counts
     → Result Bool Stop → (had has : Option (List ℕ)) → Type 0
 NextEnds o capture left number judge c (Ok true) had has = IsUpTo o capture left (number + 1) judge c had has
 NextEnds o capture left number judge c (Ok false) had has = AllChecked o capture judge c had has
 NextEnds o capture left number judge c (Err s) had has = StopsIn o capture s had has
 
-abbrev pub LinesEnd : {T : Type 0} → CheckOptions → (capture : List ℕ) → SessionState → Counts → Result T Stop
+abbrev pub LinesEnd : {T : Type 0} → CheckOptions → (capture : List ℕ) → SeenState → Counts → Result T Stop
     → (had has : Option (List ℕ)) → Type 0
 LinesEnd o capture judge c (Ok done) had has = AllChecked o capture judge c had has
 LinesEnd o capture judge c (Err s) had has = StopsIn o capture s had has
@@ -168,17 +181,17 @@ CheckEnds o capture c (Ok done) had has = AllPrinted o capture c had has
 CheckEnds o capture c (Err s) had has = StopsIn o capture s had has
 
 -- What became of the counts.
-abbrev pub PrintsEnd : {T : Type 0} → CheckForm → (unanswered : ℕ) → Counts → Result T Stop
+abbrev pub PrintsEnd : {T : Type 0} → CheckForm → Remains → Counts → Result T Stop
     → (had has : Option (List ℕ)) → Type 0
-PrintsEnd form unanswered c (Ok done) had has = Appends had has (counts_text form unanswered c)
-PrintsEnd form unanswered c (Err stop.OutputRefused) had has = AppendsSome had has (counts_text form unanswered c)
-PrintsEnd form unanswered c (Err stop.NoMemory) had has = Appends had has []
-PrintsEnd form unanswered c (Err other) had has = ⊥
+PrintsEnd form r c (Ok done) had has = Appends had has (counts_text form r c)
+PrintsEnd form r c (Err stop.OutputRefused) had has = AppendsSome had has (counts_text form r c)
+PrintsEnd form r c (Err stop.NoMemory) had has = Appends had has []
+PrintsEnd form r c (Err other) had has = ⊥
 
--- So many requests wait in the session that the judge has seen.
-abbrev pub IsUnanswered : SessionState → ℕ → Type 0
-IsUnanswered judge n = (transfers : List Transfer) (s : Session) → HasSeenTransfers transfers s judge
-    → n ≡ length (waiting s)
+-- This is left of the session that the judge has seen.
+abbrev pub AreLeft : SeenState → Remains → Type 0
+AreLeft w r = (transfers : List Transfer) (s : Session) → HasSeenTransfers transfers s w.session
+    → Stands s w.nodes w.files → r ≡ remains_of s
 
 -- ---- reading
 

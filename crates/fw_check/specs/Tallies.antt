@@ -11,6 +11,7 @@ use Rattle.fuse_sessions.specs.declared.transfer.Transfer.{Transfer}
 use Rattle.fuse_sessions.specs.declared.transfer.Transfer.TheVariants as transfer
 use Rattle.fuse_sessions.specs.Parties.{party_of}
 use Rattle.fuse_sessions.specs.Frames.{number_in}
+use Rattle.fw_check.specs.declared.remains.Remains.{Remains}
 
 abbrev pub one_if : Bool → ℕ
 one_if b = if b then 1 else 0
@@ -82,13 +83,15 @@ transfers_text requests replies notifications refused =
     ++ counted (codes " notifications") notifications ++ counted (codes " refused") refused
 
 abbrev pub lookups_text : (entries forgotten : ℕ) → List ℕ
-lookups_text entries forgotten =
-    counted (codes " entries") entries ++ counted (codes " forgotten") forgotten ++ codes "\n"
+lookups_text entries forgotten = counted (codes " entries") entries ++ counted (codes " forgotten") forgotten
+
+abbrev pub standing_text : Remains → List ℕ
+standing_text r = counted (codes " nodes") r.nodes ++ counted (codes " open") r.files ++ codes "\n"
 
 -- behind the counts of transfers
-abbrev pub later_text : (unanswered entries forgotten : ℕ) → List ℕ
-later_text unanswered entries forgotten =
-    counted (codes " unanswered") unanswered ++ lookups_text entries forgotten
+abbrev pub later_text : Remains → (entries forgotten : ℕ) → List ℕ
+later_text r entries forgotten =
+    counted (codes " unanswered") r.unanswered ++ lookups_text entries forgotten ++ standing_text r
 
 abbrev pub parties_text : (kernel server device : ℕ) → List ℕ
 parties_text kernel server device =

@@ -5,13 +5,14 @@ ghost use Rattle.std.specs.Io.KnownBytes.{Appends};
 ghost use Rattle.fw_check.specs.Checks.{nothing_judged};
 ghost use Rattle.fw_check.specs.Endings.{EndsCheck};
 ghost use Rattle.fw_check.specs.Forms as words;
-ghost use Rattle.fw_check.specs.Running.{CheckEnds, IsKept, IsUpTo, LinesEnd, NextEnds, PrintsEnd};
+ghost use Rattle.fw_check.specs.Running.{CheckEnds, IsKept, IsUpTo, LinesEnd, NextEnds, PrintsEnd, seen_by};
 
-use crate::checker::{Checker, print};
+use crate::checker::{Checker, print, remains_of};
 use crate::counts::Counts;
 use crate::form::{head_text, put_counts};
 use crate::lines::next_line;
 use crate::options::{CheckForm, CheckOptions};
+use crate::remains::Remains;
 use crate::stop::Stop;
 use std::alloc::Allocator;
 use std::io::{BufRead, Write};
@@ -29,8 +30,8 @@ fn check_next<A: Allocator + Copy, R: BufRead, W: Write>(
     out: &mut W,
 ) -> Result<bool, Stop>
     ensures { (capture : List ℕ) (had : Option (List ℕ))
-        → IsUpTo options capture (R.remaining input.old) number checker.old.judge checker.old.counts had (W.contents out.old)
-        → NextEnds options capture (R.remaining input.new) number checker.new.judge checker.new.counts result had
+        → IsUpTo options capture (R.remaining input.old) number (seen_by checker.old.judge checker.old.standing) checker.old.counts had (W.contents out.old)
+        → NextEnds options capture (R.remaining input.new) number (seen_by checker.new.judge checker.new.standing) checker.new.counts result had
         (W.contents out.new) }
 {
     match next_line(input, line) {
@@ -51,8 +52,8 @@ fn check_lines<A: Allocator + Copy, R: BufRead, W: Write>(
     out: &mut W,
 ) -> Result<(), Stop>
     ensures { (had : Option (List ℕ)) → Appends had (W.contents out.old) (words.head_text options.form)
-        → IsKept nothing_judged checker.old.judge checker.old.counts → IfSome (R.remaining input.old)
-        (λ capture. LinesEnd options capture checker.new.judge checker.new.counts result had (W.contents out.new)) }
+        → IsKept nothing_judged (seen_by checker.old.judge checker.old.standing) checker.old.counts → IfSome (R.remaining input.old)
+        (λ capture. LinesEnd options capture (seen_by checker.new.judge checker.new.standing) checker.new.counts result had (W.contents out.new)) }
 {
     let mut line = Vec::new(alloc);
     for number in 1..u64::MAX {
@@ -68,15 +69,15 @@ fn check_lines<A: Allocator + Copy, R: BufRead, W: Write>(
 /// Prints the counts. The room is for the text.
 fn print_end<A: Allocator, W: Write>(
     form: CheckForm,
-    unanswered: u64,
+    remains: Remains,
     counts: Counts,
     room: &mut Vec<u8, A>,
     out: &mut W,
 ) -> Result<(), Stop>
-    ensures { PrintsEnd form unanswered counts result (W.contents out.old) (W.contents out.new) }
+    ensures { PrintsEnd form remains counts result (W.contents out.old) (W.contents out.new) }
 {
     room.clear();
-    if put_counts(room, form, unanswered, counts).is_err() {
+    if put_counts(room, form, remains, counts).is_err() {
         return Err(Stop::NoMemory);
     }
     match print(out, room.as_slice()) {
@@ -94,15 +95,15 @@ fn check_rest<A: Allocator + Copy, R: BufRead, W: Write>(
     out: &mut W,
 ) -> Result<(), Stop>
     ensures { (had : Option (List ℕ)) → Appends had (W.contents out.old) (words.head_text options.form)
-        → IsKept nothing_judged checker.old.judge checker.old.counts → IfSome (R.remaining input.old)
+        → IsKept nothing_judged (seen_by checker.old.judge checker.old.standing) checker.old.counts → IfSome (R.remaining input.old)
         (λ capture. CheckEnds options capture checker.new.counts result had (W.contents out.new)) }
 {
     match check_lines(alloc, options, checker, input, out) {
         Ok(()) => {
-            let unanswered = checker.judge.unanswered();
+            let remains = remains_of(&mut checker.judge, &checker.standing);
             print_end(
                 options.form,
-                unanswered,
+                remains,
                 checker.counts,
                 &mut checker.text,
                 out,
@@ -120,7 +121,7 @@ fn check_all<A: Allocator + Copy, R: BufRead, W: Write>(
     input: &mut R,
     out: &mut W,
 ) -> Result<(), Stop>
-    ensures { IsKept nothing_judged checker.old.judge checker.old.counts → IfSome (R.remaining input.old)
+    ensures { IsKept nothing_judged (seen_by checker.old.judge checker.old.standing) checker.old.counts → IfSome (R.remaining input.old)
         (λ capture. CheckEnds options capture checker.new.counts result (W.contents out.old) (W.contents out.new)) }
 {
     match print(out, head_text(options.form)) {

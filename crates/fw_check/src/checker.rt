@@ -5,13 +5,15 @@ ghost use Rattle.std.specs.Io.KnownBytes.{Appends, Keeps};
 ghost use Rattle.fw_check.specs.Checks.{Checks, Judged, nothing_judged};
 ghost use Rattle.fw_check.specs.Forms.{transfer_lines};
 ghost use Rattle.fw_check.specs.Outputs.{AppendsSome};
-ghost use Rattle.fw_check.specs.Running.{IsJudgedSo, IsKept, LineEnds, SaidEnds};
+ghost use Rattle.fw_check.specs.Running.{AreLeft, IsJudgedSo, IsKept, LineEnds, SaidEnds, seen_by};
 
 use crate::asked::keep_asked;
 use crate::counts::{Counts, NOTHING};
 use crate::form::{put_faults, put_leaving};
 use crate::options::CheckOptions;
 use crate::output::{OutputRefused, write_text};
+use crate::remains::Remains;
+use crate::standing::{Standing, counted_nodes, note_acts, nothing_stands, open_files};
 use crate::stop::Stop;
 use fuse_capture::{CaptureLine, read_line, read_transfer};
 use fuse_judge::SessionJudge;
@@ -19,10 +21,12 @@ use fuse_sessions::{Act, Fault};
 use std::alloc::{AllocError, Allocator, Global};
 use std::io::Write;
 
-/// What a check keeps of the lines before: the judge and the counts. The buffers are kept so that few lines take memory.
+/// What a check keeps of the lines before: the judge, what stands, and the counts. The buffers are kept so that few lines take memory.
 #[derive(Drop)]
 pub(crate) struct Checker<A: Allocator = Global> {
     pub(crate) judge: SessionJudge<A>,
+    /// What stands of the session that the judge has seen.
+    pub(crate) standing: Standing<A>,
     pub(crate) counts: Counts,
     /// The frame of a line.
     pub(crate) frame: Vec<u8, A>,
@@ -38,17 +42,19 @@ pub(crate) struct Checker<A: Allocator = Global> {
 fn judge_said<A: Allocator + Copy>(
     options: CheckOptions,
     judge: &mut SessionJudge<A>,
+    standing: &mut Standing<A>,
     counts: &mut Counts,
     frame: &mut Vec<u8, A>,
     acts: &mut Vec<Act, A>,
     verdicts: &mut Vec<Option<Fault>, A>,
     said: CaptureLine<'_>,
 ) -> Result<(), AllocError>
-    ensures { OnOk result ((j : Judged) → IsKept j judge.old counts.old
-        → IsJudgedSo options j said.entry acts.new.items verdicts.new.items judge.new counts.new) }
+    ensures { OnOk result ((j : Judged) → IsKept j (seen_by judge.old standing.old) counts.old
+        → IsJudgedSo options j said.entry acts.new.items verdicts.new.items (seen_by judge.new standing.new) counts.new) }
 {
     let transfer = read_transfer(said, frame)?;
     judge.see(transfer, acts, verdicts)?;
+    note_acts(standing, acts.as_slice())?;
     keep_asked(options.only, verdicts);
     match counts.after(transfer, acts.as_slice(), verdicts.as_slice()) {
         Some(more) => {
@@ -56,6 +62,20 @@ fn judge_said<A: Allocator + Copy>(
             Ok(())
         }
         None => Err(AllocError),
+    }
+}
+
+/// What is left of the session that the judge has seen. Nothing changes.
+pub(crate) fn remains_of<A: Allocator + Copy>(
+    judge: &mut SessionJudge<A>,
+    standing: &Standing<A>,
+) -> Remains
+    ensures { AreLeft (seen_by judge.old standing.now) result }
+{
+    Remains {
+        unanswered: judge.unanswered(),
+        nodes: counted_nodes(standing),
+        files: open_files(standing),
     }
 }
 
@@ -86,10 +106,11 @@ pub(crate) fn print<W: Write>(out: &mut W, text: &[u8]) -> Result<(), OutputRefu
 impl<A: Allocator + Copy> Checker<A> {
     /// A check that has seen no line.
     pub(crate) fn new(alloc: A) -> Self
-        ensures { IsKept nothing_judged result.judge result.counts }
+        ensures { IsKept nothing_judged (seen_by result.judge result.standing) result.counts }
     {
         Checker {
             judge: SessionJudge::new(alloc),
+            standing: nothing_stands(alloc),
             counts: NOTHING,
             frame: Vec::new(alloc),
             acts: Vec::new(alloc),
@@ -106,8 +127,8 @@ impl<A: Allocator + Copy> Checker<A> {
         number: u64,
         said: CaptureLine<'_>,
     ) -> Result<(), AllocError>
-        ensures judged { OnOk result ((j : Judged) → IsKept j self.old.judge self.old.counts
-            → IsJudgedSo options j said.entry self.new.acts.items self.new.verdicts.items self.new.judge self.new.counts) }
+        ensures judged { OnOk result ((j : Judged) → IsKept j (seen_by self.old.judge self.old.standing) self.old.counts
+            → IsJudgedSo options j said.entry self.new.acts.items self.new.verdicts.items (seen_by self.new.judge self.new.standing) self.new.counts) }
         ensures text { OnOk result (self.new.text.items ≡ transfer_lines options.form number self.old.judge.known
             self.new.judge.known self.new.acts.items self.new.verdicts.items) }
     {
@@ -115,6 +136,7 @@ impl<A: Allocator + Copy> Checker<A> {
         judge_said(
             options,
             &mut self.judge,
+            &mut self.standing,
             &mut self.counts,
             &mut self.frame,
             &mut self.acts,
@@ -141,8 +163,8 @@ impl<A: Allocator + Copy> Checker<A> {
         said: CaptureLine<'_>,
         out: &mut W,
     ) -> Result<(), Stop>
-        ensures { (j : Judged) → IsKept j self.old.judge self.old.counts
-            → SaidEnds options j number said.entry self.new.judge self.new.counts result (W.contents out.old) (W.contents out.new) }
+        ensures { (j : Judged) → IsKept j (seen_by self.old.judge self.old.standing) self.old.counts
+            → SaidEnds options j number said.entry (seen_by self.new.judge self.new.standing) self.new.counts result (W.contents out.old) (W.contents out.new) }
     {
         if self.judge_line(options, number, said).is_err() {
             return Err(Stop::NoMemory);
@@ -161,9 +183,9 @@ impl<A: Allocator + Copy> Checker<A> {
         line: &[u8],
         out: &mut W,
     ) -> Result<(), Stop>
-        ensures { (lines : List (List ℕ)) (j : Judged) → Checks options lines j → IsKept j self.old.judge self.old.counts
+        ensures { (lines : List (List ℕ)) (j : Judged) → Checks options lines j → IsKept j (seen_by self.old.judge self.old.standing) self.old.counts
             → number ≡ length lines + 1
-            → LineEnds options lines j line.now self.new.judge self.new.counts result (W.contents out.old) (W.contents out.new) }
+            → LineEnds options lines j line.now (seen_by self.new.judge self.new.standing) self.new.counts result (W.contents out.old) (W.contents out.new) }
     {
         match read_line(line) {
             Ok(None) => Ok(()),

@@ -5,6 +5,7 @@ ghost use Rattle.fuse_sessions.specs.declared.fault.Party.TheVariants as party;
 ghost use Rattle.fw_check.specs.Tallies as words;
 ghost use Rattle.fw_check.specs.Counting.{CountsMore, counts_lines};
 
+use crate::remains::Remains;
 use crate::tallies::{
     count_after, entries_after, faults_after, forgotten_after, is_notification, is_refused,
     is_reply, is_request,
@@ -86,26 +87,26 @@ impl Counts {
         put_counted(text, b" refused", self.refused)
     }
 
-    /// The counts of lookups.
+    /// The counts of lookups, without the line feed.
     fn put_lookups<A: Allocator>(self, text: &mut Vec<u8, A>) -> Result<(), AllocError>
         ensures { OnOk result (text.new.items ≡ text.old.items ++ words.lookups_text self.entries self.forgotten) }
     {
         put_counted(text, b" entries", self.entries)?;
-        put_counted_wide(text, b" forgotten", self.forgotten)?;
-        put(text, b"\n")
+        put_counted_wide(text, b" forgotten", self.forgotten)
     }
 
-    /// The counts of requests that wait and of lookups.
+    /// The counts of requests that wait, of lookups, and of what stands.
     fn put_later<A: Allocator>(
         self,
         text: &mut Vec<u8, A>,
-        unanswered: u64,
+        remains: Remains,
     ) -> Result<(), AllocError>
         ensures { OnOk result (text.new.items
-            ≡ text.old.items ++ words.later_text unanswered self.entries self.forgotten) }
+            ≡ text.old.items ++ words.later_text remains self.entries self.forgotten) }
     {
-        put_counted(text, b" unanswered", unanswered)?;
-        self.put_lookups(text)
+        put_counted(text, b" unanswered", remains.unanswered)?;
+        self.put_lookups(text)?;
+        remains.put_standing(text)
     }
 
     /// The counts of faults, without the line feed.
@@ -127,16 +128,16 @@ impl Counts {
         put(text, b"\n")
     }
 
-    /// The last two lines, with how many requests wait.
+    /// The last two lines, with what is left at the end.
     pub(crate) fn put<A: Allocator>(
         self,
         text: &mut Vec<u8, A>,
-        unanswered: u64,
+        remains: Remains,
     ) -> Result<(), AllocError>
-        ensures { OnOk result (text.new.items ≡ text.old.items ++ counts_lines unanswered self) }
+        ensures { OnOk result (text.new.items ≡ text.old.items ++ counts_lines remains self) }
     {
         self.put_transfers(text)?;
-        self.put_later(text, unanswered)?;
+        self.put_later(text, remains)?;
         self.put_faults(text)
     }
 }

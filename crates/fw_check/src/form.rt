@@ -8,6 +8,7 @@ use crate::counts::Counts;
 use crate::fault_line::put_fault_line;
 use crate::json::{put_counts_object, put_fault_object, put_unjudged_object};
 use crate::options::CheckForm;
+use crate::remains::Remains;
 use crate::unjudged::put_unjudged_line;
 use fuse_protocol::Unjudged;
 use fuse_sessions::{Act, Fault};
@@ -106,13 +107,13 @@ pub(crate) fn put_leaving<A: Allocator>(
 pub(crate) fn put_counts<A: Allocator>(
     text: &mut Vec<u8, A>,
     form: CheckForm,
-    unanswered: u64,
+    remains: Remains,
     counts: Counts,
 ) -> Result<(), AllocError>
-    ensures { OnOk result (text.new.items ≡ text.old.items ++ words.counts_text form unanswered counts) }
+    ensures { OnOk result (text.new.items ≡ text.old.items ++ words.counts_text form remains counts) }
 {
     match form {
-        CheckForm::Words => counts.put(text, unanswered),
-        CheckForm::Json => put_counts_object(text, unanswered, counts),
+        CheckForm::Words => counts.put(text, remains),
+        CheckForm::Json => put_counts_object(text, remains, counts),
     }
 }

@@ -7,6 +7,7 @@ ghost use Rattle.fw_check.specs.Json as words;
 ghost use Rattle.fw_check.specs.Unjudged.{unjudged_fields, unjudged_object};
 
 use crate::counts::Counts;
+use crate::remains::Remains;
 use crate::text::{put, put_number, put_wide};
 use crate::unjudged::unjudged_words;
 use crate::words::{fault_words, party_word};
@@ -228,14 +229,22 @@ fn put_transfers<A: Allocator>(text: &mut Vec<u8, A>, counts: Counts) -> Result<
 /// The counts of requests that wait and of lookups.
 fn put_lookups<A: Allocator>(
     text: &mut Vec<u8, A>,
-    unanswered: u64,
+    remains: Remains,
     counts: Counts,
 ) -> Result<(), AllocError>
-    ensures { OnOk result (text.new.items ≡ text.old.items ++ words.lookups_fields unanswered counts) }
+    ensures { OnOk result (text.new.items ≡ text.old.items ++ words.lookups_fields remains counts) }
 {
-    put_field(text, b"unanswered", unanswered)?;
+    put_field(text, b"unanswered", remains.unanswered)?;
     put_field(text, b"entries", counts.entries)?;
     put_wide_field(text, b"forgotten", counts.forgotten)
+}
+
+/// The counts of nodes that are counted and of files that are open.
+fn put_standing<A: Allocator>(text: &mut Vec<u8, A>, remains: Remains) -> Result<(), AllocError>
+    ensures { OnOk result (text.new.items ≡ text.old.items ++ words.standing_fields remains) }
+{
+    put_field(text, b"nodes", remains.nodes)?;
+    put_field(text, b"open", remains.files)
 }
 
 /// The counts of faults.
@@ -251,25 +260,26 @@ fn put_parties<A: Allocator>(text: &mut Vec<u8, A>, counts: Counts) -> Result<()
 /// The counts.
 fn put_counts<A: Allocator>(
     text: &mut Vec<u8, A>,
-    unanswered: u64,
+    remains: Remains,
     counts: Counts,
 ) -> Result<(), AllocError>
-    ensures { OnOk result (text.new.items ≡ text.old.items ++ words.counts_fields unanswered counts) }
+    ensures { OnOk result (text.new.items ≡ text.old.items ++ words.counts_fields remains counts) }
 {
     put_transfers(text, counts)?;
-    put_lookups(text, unanswered, counts)?;
+    put_lookups(text, remains, counts)?;
+    put_standing(text, remains)?;
     put_parties(text, counts)
 }
 
 /// The object of the counts.
 pub(crate) fn put_counts_object<A: Allocator>(
     text: &mut Vec<u8, A>,
-    unanswered: u64,
+    remains: Remains,
     counts: Counts,
 ) -> Result<(), AllocError>
-    ensures { OnOk result (text.new.items ≡ text.old.items ++ words.counts_object unanswered counts) }
+    ensures { OnOk result (text.new.items ≡ text.old.items ++ words.counts_object remains counts) }
 {
     put(text, b"{\"event\":\"counts\"")?;
-    put_counts(text, unanswered, counts)?;
+    put_counts(text, remains, counts)?;
     put(text, b"}\n")
 }

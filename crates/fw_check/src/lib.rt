@@ -11,12 +11,16 @@ mod check;
 mod checker;
 mod counts;
 mod fault_line;
+mod file_key;
 mod form;
+mod held;
 mod json;
 mod lines;
 mod number_in;
 mod options;
 mod output;
+mod remains;
+mod standing;
 mod stop;
 mod tallies;
 #[cfg(test)]

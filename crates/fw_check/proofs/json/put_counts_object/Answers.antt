@@ -7,7 +7,7 @@ pub returns : goal.returns
 returns g c =
     let old = c.args.text.now.items in
     let head = codes "{\"event\":\"counts\"" in
-    let fields = counts_fields c.args.unanswered c.args.counts in
+    let fields = counts_fields c.args.remains c.args.counts in
     let both = after_two old c.put.new.text.items c.put_counts.new.text.items head fields c.in_ok-put.ensures
     c.in_ok-put_counts.ensures in
     two_parts c.put-2.result old c.put_counts.new.text.items c.put-2.new.text.items (head ++ fields) (codes "}\n") both
