@@ -1,6 +1,5 @@
-use Rattle.std.proofs.Common.{ap, sym, ◌∙◌, subst, rules}
+use Rattle.std.proofs.Common.{sym, ◌∙◌, subst, rules}
 use Rattle.std.specs.Prelude.{IsSome}
-use Rattle.std.specs.Option.{option_copied}
 use Rattle.fuse_judge.specs.Nodes.{IsNode}
 use Rattle.fuse_judge.proofs.NodeLaws.{gave_first, gave_more}
 use Rattle.fuse_judge.proofs.nodes.give.Goals as goal

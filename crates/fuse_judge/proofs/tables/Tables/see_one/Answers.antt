@@ -1,4 +1,4 @@
-use Rattle.std.proofs.Common.{◌^◌, omega, arith}
+use Rattle.std.proofs.Common.{◌^◌, arith}
 use Rattle.fuse_sessions.specs.declared.act.Act.TheVariants.{Gives, Asks}
 use Rattle.fuse_judge.proofs.ConcernLaws.{is_concern}
 use Rattle.fuse_judge.proofs.FlagLaws.{flags-kept}
