@@ -2,8 +2,9 @@
 """Whether the man page and the completions name the commands and flags of the built program, as its help has them.
 
 bash's completion is asked for its words; those of zsh and fish are read, and parsed by their shells where these are there.
-Prints a line for each difference, and ends with status 1 where there is one.
+FUSEWORLD names another program. Prints a line for each difference, and ends with status 1 where there is one.
 """
+import os
 import re
 import shutil
 import subprocess
@@ -11,7 +12,7 @@ import sys
 from pathlib import Path
 
 TOP = Path(__file__).resolve().parent.parent
-PROGRAM = TOP / "crates" / "fuseworld" / "out" / "fuseworld"
+PROGRAM = Path(os.environ.get("FUSEWORLD", TOP / "crates" / "fuseworld" / "out" / "fuseworld")).resolve()
 MAN = TOP / "man" / "fuseworld.1"
 BASH = TOP / "completions" / "fuseworld.bash"
 ZSH = TOP / "completions" / "_fuseworld"

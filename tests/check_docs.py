@@ -3,8 +3,9 @@
 
 A lone word in backticks has to be a word of a source outside its comments, or in the name of a file, a folder or a crate.
 In the tables whose second column is "Definition", each rule has to lead to a definition, a function and a test.
-Each sample of Rust has to be lines of crates/callers, and the version has to be the program's everywhere. Each row with
-a line has to begin with a comment that says what it shows.
+Each sample of Rust has to be lines of crates/callers, and each sample that names a file lines of that file. The version
+has to be the program's everywhere; ARCHITECTURE.md has each crate below those that it uses. Each row with a line has to
+begin with a comment that says what it shows.
 
 Comments of sources, definitions and proofs name an identifier in backticks, or it is a name of linux/fuse.h; they have
 none of the words of the last column of WORDS.md, and no verb that a renaming broke. Prints a line for each fault, and
@@ -111,6 +112,14 @@ def unlike_callers(page):
     samples = re.findall(r"```rust\n(.*?)```", page.read_text(), re.S)
     return [sample for sample in samples if not any("\n".join(flat(sample)) in source for source in sources)]
 
+def unlike_files(page):
+    """The samples on a page that name a file, and do not stand in it line after line."""
+    flat = lambda text: [line.strip() for line in text.strip().split("\n")]
+    for name, sample in re.findall(r"```\w+ (\S+)\n(.*?)```", page.read_text(), re.S):
+        lines, wanted = flat((TOP / name).read_text()), flat(sample)
+        if not any(lines[place:place + len(wanted)] == wanted for place in range(len(lines))):
+            yield f"{name} has no such lines: {sample}"
+
 def uncommented_rows():
     """The rows with a line whose first line is no comment."""
     return [script for script in sorted(TOP.glob("tests/rows/*.script")) if not re.match(r"# \S|$", script.read_text())]
@@ -119,8 +128,20 @@ def versions():
     """Where the version and the logic stand, with what stands there: they have to agree."""
     program = re.search(r'VERSION: &str = "(\S+) \((.*)\)"', (TOP / "crates/fuseworld/src/version.rt").read_text())
     yield "README.md", program[2], re.search(r"^Proved with .*?`(logic \S+)`", (TOP / "README.md").read_text(), re.M)[1]
-    yield "CHANGELOG.md", program[1], re.search(r"^## (\S+)", (TOP / "CHANGELOG.md").read_text(), re.M)[1]
+    yield "CHANGELOG.md", program[1], re.search(r"^## (\S+)$", (TOP / "CHANGELOG.md").read_text(), re.M)[1]
     yield "man/fuseworld.1", f"fuseworld {program[1]}", re.search(r'^\.TH .*?"(.*?)"', (TOP / "man/fuseworld.1").read_text(), re.M)[1]
+
+def out_of_order():
+    """The crates of ARCHITECTURE.md's table that stand above one that they use; the tests are its last row."""
+    rows = re.findall(r"^\| (`.*?) \|", (TOP / "docs/ARCHITECTURE.md").read_text(), re.M)
+    place = {crate: number for number, row in enumerate(rows) for crate in names(row)}
+    tests = max(place.values())
+    for line in (TOP / "crates.txt").read_text().split("\n")[1:-1]:
+        crate, uses = line.split(":")[0].split()[0], line.split(":")[1].split()
+        if crate not in place:
+            yield f"{crate} is not in ARCHITECTURE.md"
+        yield from (f"{crate} stands above {low} in ARCHITECTURE.md" for low in uses
+                    if crate in place and place.get(low, -1) > place[crate] and place[low] != tests)
 
 def refused_words():
     """The words of the last column of WORDS.md, which comments may not have."""
@@ -155,7 +176,9 @@ def comment_faults():
 def main():
     wrong = [f"{place}: {there}, and fuseworld --version has {program}" for place, program, there in versions() if program != there]
     wrong += [f"{page.relative_to(TOP)}: no lines of crates/callers: {sample}" for page in PAGES for sample in unlike_callers(page)]
+    wrong += [f"{page.relative_to(TOP)}: {fault}" for page in PAGES for fault in unlike_files(page)]
     wrong += [f"{script.relative_to(TOP)}: no comment at its head" for script in uncommented_rows()]
+    wrong += out_of_order()
     wrong += comment_faults()
     for page in PAGES:
         in_rules = False

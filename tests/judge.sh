@@ -1,5 +1,6 @@
 # What the scripts that run the built program share: a folder for its output, and how that is judged. Read by `.`.
-program=$PWD/crates/fuseworld/out/fuseworld
+# FUSEWORLD names another program.
+program=$(realpath -m "${FUSEWORLD:-crates/fuseworld/out/fuseworld}")
 work=$(mktemp -d)
 trap 'rm -rf "$work"' EXIT
 passed=0

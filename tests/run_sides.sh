@@ -41,9 +41,20 @@ else
     echo "skipped: examples/python, as there is no python3"
 fi
 if command -v rustc > /dev/null; then
-    rustc --edition 2021 --test -o "$work/server_test" examples/rust/server_test.rs && example "examples/rust" "$work/server_test"
+    rustc --edition 2021 --test -o "$work/server_test" examples/rust/server_test.rs && example "examples/rust/server_test.rs" "$work/server_test"
 else
-    echo "skipped: examples/rust, as there is no rustc"
+    echo "skipped: examples/rust/server_test.rs, as there is no rustc"
+fi
+if cargo --version > /dev/null 2>&1; then
+    cp -R examples/rust "$work/rust"
+    example "examples/rust" cargo test --offline --quiet --manifest-path "$work/rust/Cargo.toml"
+else
+    echo "skipped: examples/rust, as there is no cargo"
+fi
+if go version > /dev/null 2>&1; then
+    (cd examples/go && GO111MODULE=on GOFLAGS= GOCACHE="$work/go" go test -c -o "$work/go_test" .) && example "examples/go" "$work/go_test"
+else
+    echo "skipped: examples/go, as there is no go"
 fi
 if command -v cc > /dev/null; then
     cc -O1 -Wall -Wextra -o "$work/both_sides" examples/c/both_sides.c && example "examples/c" "$work/both_sides" "$program"

@@ -1,11 +1,10 @@
 """A FUSE server of two files, held against the proved kernel: `FUSEWORLD=path python3 -m unittest test_own_server`."""
-import json
-import os
 import struct
-import subprocess
 import unittest
+from contextlib import suppress
 
-PROGRAM = os.environ.get("FUSEWORLD", "fuseworld")
+import fuseworld
+
 FILES = {b"a": (2, b"first"), b"b": (3, b"second")}  # name: nodeid and content
 DIRECTORY, REGULAR = 0o040755, 0o100644
 ENOENT, EAGAIN, ENOSYS = 2, 11, 38
@@ -55,32 +54,31 @@ class Server:
         return reply(unique, error=EAGAIN if opcode == 36 else ENOSYS)  # INTERRUPT of a request that is not known
 
 
-class Kernel:
-    """The program's kernel: one line there, one object back."""
+def serve(connection, server):
+    """Serves a connected stream socket, until it is closed."""
+    with connection, connection.makefile("rb") as requests, suppress(ConnectionError):
+        while length := requests.read(4):
+            frame = length + requests.read(struct.unpack("<I", length)[0] - 4)
+            if answer := server.answer(frame):
+                connection.sendall(answer)
 
-    def __init__(self):
-        self.process = subprocess.Popen([PROGRAM, "kernel", "--json"], stdin=subprocess.PIPE, stdout=subprocess.PIPE, text=True)
 
-    def __call__(self, line):
-        self.process.stdin.write(line + "\n")
-        self.process.stdin.flush()
-        return json.loads(self.process.stdout.readline())
-
-    def read(self, pick="p 0"):
-        return bytes.fromhex(self(f"read {pick}")["frame"])
-
-    def write(self, frame):
-        return self(f"write {frame.hex()}")
+def next_request(kernel):
+    """The next request's frame, or None where none is pending."""
+    try:
+        return kernel.read()
+    except LookupError:
+        return None
 
 
 class OwnServer(unittest.TestCase):
     def setUp(self):
-        self.server, self.kernel = Server(), Kernel()
+        self.server, self.kernel = Server(), fuseworld.Kernel()
         self.kernel("mount")
         self.assertEqual(self.kernel.write(self.server.answer(self.kernel.read()))["result"], 0)
 
     def tearDown(self):
-        self.kernel.process.communicate()
+        self.kernel.close()
 
     def test_late_copy(self):
         """A second copy of an entry is refused, so what it counted has to be given back."""
@@ -91,7 +89,7 @@ class OwnServer(unittest.TestCase):
         self.assertEqual(kernel.write(entry_of_a)["result"], ENOENT)
         answered = kernel.write(server.answer(kernel.read()))
         self.assertEqual(answered["answers"], [{"call": 1, "error": 0, "kind": "file", "ino": 2, "size": 5, "nlink": 1}])
-        self.assertEqual(kernel("show")["nodes"], [{"nodeid": 2, "generation": 1, "count": 1}])
+        self.assertEqual(kernel.nodes(), {(2, 1): 1})
         kernel("drop 1 a")
         self.assertEqual(kernel("evict 2")["count"], server.lookups[2])
         server.answer(kernel.read("f 1"))
@@ -115,3 +113,31 @@ class OwnServer(unittest.TestCase):
         request = kernel.read()
         self.assertEqual(kernel("abort")["answers"], [{"call": 1, "error": 103}])
         self.assertEqual(kernel.write(server.answer(request))["result"], ENOENT)
+
+    def test_driven(self):
+        """Calls that are carried to their answers are answered as by the proved server, where nothing is there yet."""
+        driven = fuseworld.drive(["call stat /missing", "call stat /"], lambda connection: serve(connection, self.server), "--calls")
+        self.assertEqual((driven.status, driven.faults), (0, []))
+        self.assertIn("answer 1 2", driven.lines)
+
+    def test_a_wrong_server(self):
+        """A server that sends each reply twice, driven: which fault is printed."""
+        self.server.answer = lambda frame, once=self.server.answer: (once(frame) or b"") * 2
+        driven = fuseworld.drive(["call stat /"], lambda connection: serve(connection, self.server), "--calls")
+        self.assertIn("second reply", driven.faults)
+
+    def test_session(self):
+        """A session of this kernel and this server, judged."""
+        capture = []
+        with fuseworld.Kernel() as kernel:
+            kernel("mount")
+            for line in ("call stat /a", "call stat /b"):
+                for request in iter(lambda: next_request(kernel), None):
+                    answer = self.server.answer(request)
+                    capture += [f"> {request.hex()}", f"< {answer.hex()}"]
+                    kernel.write(answer)
+                kernel(line)
+        judged = fuseworld.check(capture)
+        self.assertEqual((judged.faults, judged.counts["requests"]), ([], 3))
+        judged = fuseworld.check([*capture, capture[-1]])
+        self.assertEqual([(fault["party"], fault["rule"]) for fault in judged.faults][-1], ("server", "second reply"))

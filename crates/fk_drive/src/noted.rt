@@ -3,7 +3,6 @@
 ghost use Rattle.std.specs.Prelude.{◌∷◌, [], List};
 
 use fk_drive_frames::OtherFrame;
-use std::io::Write;
 
 /// What is noted of a frame as it comes.
 #[derive(Clone, Copy, Debug, PartialEq, Eq)]
@@ -23,7 +22,7 @@ pub trait Notes {
     // From the one state to the other these were noted, in turn, and nothing else.
     ghost notes: { (old new : Self) → List Noted → Type 0 };
 
-    /// Notes a frame. What is said of it at once goes to `out`.
-    fn note<W: Write>(&mut self, noted: Noted, out: &mut W)
+    /// Notes a frame.
+    fn note(&mut self, noted: Noted)
         ensures { notes self.old self.new (noted ∷ []) };
 }

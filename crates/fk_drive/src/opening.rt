@@ -28,7 +28,6 @@ use fk_drive_frames::{
 use fuse_device::Device;
 use fuse_spec::Opened;
 use std::alloc::Allocator;
-use std::io::Write;
 
 /// What came of OPENDIR.
 #[derive(Clone, Copy, Debug, PartialEq, Eq)]
@@ -108,7 +107,7 @@ impl<A: Allocator + Copy> Connection<A> {
 }
 
 /// Notes the reply to the OPENDIR under a number.
-fn note_reply<N: Notes, W: Write>(notes: &mut N, out: &mut W, own: u64, frame: &[u8])
+fn note_reply<N: Notes>(notes: &mut N, own: u64, frame: &[u8])
     ensures { (is_whole : Bool) × N.notes notes.old notes.new (Noted.OpendirReply own is_whole ∷ [])
         × (is_whole ≡ true → (reply : ReplyMessage) × SpellsReply op.Open frame.now reply)
         × (is_whole ≡ false → GivesNothing frame.now) }
@@ -117,28 +116,27 @@ fn note_reply<N: Notes, W: Write>(notes: &mut N, out: &mut W, own: u64, frame: &
         unique: own,
         is_whole: is_opendir_reply(frame),
     };
-    notes.note(noted, out);
+    notes.note(noted);
 }
 
 /// Notes what is no reply, and has the number of the OPENDIR whose reply is awaited.
-fn note_no_reply<N: Notes, W: Write>(notes: &mut N, out: &mut W, own: u64, frame: &[u8])
+fn note_no_reply<N: Notes>(notes: &mut N, own: u64, frame: &[u8])
     ensures under { 16 ≤ length frame.now → head_unique frame.now ≡ own
         → N.notes notes.old notes.new (Noted.NoOpendirReply own ∷ []) }
     ensures none { (16 ≤ length frame.now → head_unique frame.now ≡ own → ⊥)
-        → (notes.new ≡ notes.old) × (out.new ≡ out.old) }
+        → (notes.new ≡ notes.old) }
 {
     if is_under(own, frame) {
-        notes.note(Noted::NoOpendirReply { unique: own }, out);
+        notes.note(Noted::NoOpendirReply { unique: own });
     }
 }
 
 /// Receives a frame while the reply to an OPENDIR is awaited: what that says, if it is that. Any other waits for the
 /// kernel, or is set aside.
-fn receive_said<A: Allocator + Copy, D: Device, N: Notes, W: Write>(
+fn receive_said<A: Allocator + Copy, D: Device, N: Notes>(
     connection: &mut Connection<A>,
     device: &mut D,
     notes: &mut N,
-    out: &mut W,
     own: u64,
     listing: Listing,
 ) -> Awaited
@@ -160,24 +158,23 @@ fn receive_said<A: Allocator + Copy, D: Device, N: Notes, W: Write>(
     };
     match said_in(own, frame.as_slice()) {
         Some(said) => {
-            note_reply(notes, out, own, frame.as_slice());
+            note_reply(notes, own, frame.as_slice());
             connection.take_said(listing, said);
             Awaited::Said(said)
         }
         None => {
-            note_no_reply(notes, out, own, frame.as_slice());
-            connection.keep(frame, notes, out);
+            note_no_reply(notes, own, frame.as_slice());
+            connection.keep(frame, notes);
             Awaited::NotYet
         }
     }
 }
 
 /// Receives frames until the reply to an OPENDIR.
-fn await_opendir<A: Allocator + Copy, D: Device, N: Notes, W: Write>(
+fn await_opendir<A: Allocator + Copy, D: Device, N: Notes>(
     connection: &mut Connection<A>,
     device: &mut D,
     notes: &mut N,
-    out: &mut W,
     own: u64,
     listing: Listing,
 ) -> Awaited
@@ -190,7 +187,7 @@ fn await_opendir<A: Allocator + Copy, D: Device, N: Notes, W: Write>(
     ensures many { HasTooMany result (waiting_in connection.new) }
 {
     for _frame in 0..u64::MAX {
-        match receive_said(connection, device, notes, out, own, listing) {
+        match receive_said(connection, device, notes, own, listing) {
             Awaited::NotYet => {}
             Awaited::Said(said) => return Awaited::Said(said),
             Awaited::Ended(end) => return Awaited::Ended(end),
@@ -200,11 +197,10 @@ fn await_opendir<A: Allocator + Copy, D: Device, N: Notes, W: Write>(
 }
 
 /// Opens the directory that a request lists.
-pub(crate) fn open_directory<A: Allocator + Copy, D: Device, N: Notes, W: Write>(
+pub(crate) fn open_directory<A: Allocator + Copy, D: Device, N: Notes>(
     connection: &mut Connection<A>,
     device: &mut D,
     notes: &mut N,
-    out: &mut W,
     listing: Listing,
 ) -> Awaited
     requires asks { connection.old.asks ≡ true }
@@ -221,7 +217,7 @@ pub(crate) fn open_directory<A: Allocator + Copy, D: Device, N: Notes, W: Write>
     let own = connection.next;
     connection.next += 2;
     match send_bytes(device, &opendir(own, listing.node)) {
-        Ok(()) => await_opendir(connection, device, notes, out, own, listing),
+        Ok(()) => await_opendir(connection, device, notes, own, listing),
         Err(end) => Awaited::Ended(end),
     }
 }

@@ -20,7 +20,6 @@ use crate::noted::{Noted, Notes};
 use fk_drive_frames::other_frame_in;
 use fuse_device::Device;
 use std::alloc::Allocator;
-use std::io::Write;
 
 /// How many frames wait for the kernel at most, while the reply to OPENDIR is awaited.
 const MOST_WAITING: usize = 10_000;
@@ -65,17 +64,16 @@ impl<A: Allocator + Copy> Connection<A> {
     }
 
     /// A frame waits for the kernel, or is set aside, and that is noted.
-    pub(crate) fn keep<N: Notes, W: Write>(&mut self, frame: Vec<u8, A>, notes: &mut N, out: &mut W)
+    pub(crate) fn keep<N: Notes>(&mut self, frame: Vec<u8, A>, notes: &mut N)
         requires { HasRoomForFrame self.old }
         ensures keeps { (kernel : KernelState) (turn : Turn)
             → (step : DriveStep (driven kernel self.old turn) (received frame.items ∷ []) (driven kernel self.new turn))
             × IsKept frame.items step }
         ensures noted { AreNoted N.notes notes.old notes.new self.old.next frame.items }
-        ensures silent { (IsOtherFrame self.old.next frame.items → ⊥) → out.new ≡ out.old }
         ensures long { vec_len self.new.waiting ≤ vec_len self.old.waiting + 1 }
     {
         match other_frame_in(self.next, frame.as_slice()) {
-            Some(other_frame) => notes.note(Noted::SetAside(other_frame), out),
+            Some(other_frame) => notes.note(Noted::SetAside(other_frame)),
             None => self.have_wait(frame),
         }
     }
@@ -86,11 +84,10 @@ impl<A: Allocator + Copy> Connection<A> {
 /// # Errors
 ///
 /// The device came to its end, or memory runs out: nothing is then received.
-pub(crate) fn receive_next<A: Allocator + Copy, D: Device, N: Notes, W: Write>(
+pub(crate) fn receive_next<A: Allocator + Copy, D: Device, N: Notes>(
     connection: &mut Connection<A>,
     device: &mut D,
     notes: &mut N,
-    out: &mut W,
 ) -> Result<(), DriveEnd>
     requires { waiting_in connection.old ≡ [] }
     ensures { (kernel : KernelState) (turn : Turn) → WentOver D.logs device.old device.new
@@ -99,6 +96,6 @@ pub(crate) fn receive_next<A: Allocator + Copy, D: Device, N: Notes, W: Write>(
 {
     connection.make_room()?;
     let frame = receive_frame(connection.alloc, device)?;
-    connection.keep(frame, notes, out);
+    connection.keep(frame, notes);
     Ok(())
 }

@@ -30,7 +30,6 @@ use fk_wire::{MAX_FRAME, frame_of_error, spelled_is_decoded, written_is_spelled}
 use fuse_device::Device;
 use fuse_frames::RequestFrame;
 use fuse_spec::Purpose;
-use std::io::Write;
 
 /// Sends a request, with what servers expect in its free fields.
 fn send_same<D: Device>(
@@ -68,13 +67,11 @@ fn send_opened<
     C: CountTable<Heap = Q::Heap> + Drop,
     D: Device,
     N: Notes,
-    W: Write,
 >(
     kernel: &mut KernelOf<Q, C>,
     connection: &mut Connection<Q::Heap>,
     device: &mut D,
     notes: &mut N,
-    out: &mut W,
     frame: &[u8],
     free_fields: FreeFields,
     listing: Listing,
@@ -90,7 +87,7 @@ fn send_opened<
         (driven kernel.new connection.new turn)) }
 {
     written_is_spelled();
-    let said = match open_directory(connection, device, notes, out, listing) {
+    let said = match open_directory(connection, device, notes, listing) {
         Awaited::Said(said) => said,
         Awaited::NotYet => return Err(DriveEnd::Memory),
         Awaited::Ended(end) => return Err(end),
@@ -127,13 +124,11 @@ fn send_read<
     C: CountTable<Heap = Q::Heap> + Drop,
     D: Device,
     N: Notes,
-    W: Write,
 >(
     kernel: &mut KernelOf<Q, C>,
     connection: &mut Connection<Q::Heap>,
     device: &mut D,
     notes: &mut N,
-    out: &mut W,
     frame: &[u8],
     free_fields: FreeFields,
     unique: u64,
@@ -152,7 +147,6 @@ fn send_read<
             connection,
             device,
             notes,
-            out,
             frame,
             free_fields,
             Listing { unique, node },
@@ -172,13 +166,11 @@ pub fn send_next<
     C: CountTable<Heap = Q::Heap> + Drop,
     D: Device,
     N: Notes,
-    W: Write,
 >(
     kernel: &mut KernelOf<Q, C>,
     connection: &mut Connection<Q::Heap>,
     device: &mut D,
     notes: &mut N,
-    out: &mut W,
     pick: Pick,
     free_fields: FreeFields,
 ) -> Result<RequestFrame<Q::Heap>, NotSent>
@@ -200,7 +192,6 @@ pub fn send_next<
         connection,
         device,
         notes,
-        out,
         frame.bytes(),
         free_fields,
         unique,

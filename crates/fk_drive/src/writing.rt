@@ -29,7 +29,6 @@ use fk_wire::ReplyHead;
 use fuse_device::Device;
 use fuse_spec::{Purpose, Refusal, WriteResult};
 use std::alloc::Allocator;
-use std::io::Write;
 
 /// A frame that was written to the kernel.
 #[derive(Drop)]
@@ -61,11 +60,10 @@ fn hand_on<Q: QueueTable<Purpose> + Drop, C: CountTable<Heap = Q::Heap> + Drop>(
 }
 
 /// Receives frames until one waits for the kernel.
-fn receive_one<A: Allocator + Copy, D: Device, N: Notes, W: Write>(
+fn receive_one<A: Allocator + Copy, D: Device, N: Notes>(
     connection: &mut Connection<A>,
     device: &mut D,
     notes: &mut N,
-    out: &mut W,
 ) -> Result<(), DriveEnd>
     ensures receives { (kernel : KernelState) (turn : Turn) → WentOver D.logs device.old device.new
         (ReceivesUntil result (driven kernel connection.new turn))
@@ -76,7 +74,7 @@ fn receive_one<A: Allocator + Copy, D: Device, N: Notes, W: Write>(
         if connection.waiting.len() != 0 {
             return Ok(());
         }
-        receive_next(connection, device, notes, out)?;
+        receive_next(connection, device, notes)?;
     }
     if connection.waiting.len() != 0 {
         Ok(())
@@ -191,13 +189,11 @@ pub fn write_next<
     C: CountTable<Heap = Q::Heap> + Drop,
     D: Device,
     N: Notes,
-    W: Write,
 >(
     kernel: &mut KernelOf<Q, C>,
     connection: &mut Connection<Q::Heap>,
     device: &mut D,
     notes: &mut N,
-    out: &mut W,
 ) -> Result<Result<Written<Q::Heap>, Refusal>, DriveEnd>
     ensures writes { (turn : Turn) → (log : List Transfer) × D.logs device.old device.new log
         × WritesNext result (driven kernel.old connection.old turn) log (driven kernel.new connection.new turn) }
@@ -205,7 +201,7 @@ pub fn write_next<
         (driven kernel.new connection.new turn) }
     ensures refused { IfOk result (λ written. IfErr written (IsFirstRefused kernel.new connection.new)) }
 {
-    receive_one(connection, device, notes, out)?;
+    receive_one(connection, device, notes)?;
     match write_first(kernel, connection) {
         Ok(mut written) => {
             written.end = release_behind(connection, device, &written.frame).err();

@@ -1,6 +1,7 @@
 -- How the moves of a driven run follow one another.
-use Rattle.std.proofs.Common.{◌≡◌, ◌<◌, ◌≤◌, Bool, true, false, not, cond, arith, inl, length, slice_get, nat_eq, eq-eqb, filter, lit≤, ℕ, List, [], ◌∷◌, ◌++◌, None, Some, refl, sym, ap, subst, ◌∙◌, append-nil, append_assoc}
-use Rattle.std.specs.Prelude.{All, Result, Ok, Err, OnOk}
+use Rattle.std.proofs.Common.{codes, ◌≡◌, ◌<◌, ◌≤◌, ◌⊎◌, Bool, true, false, not, cond, arith, inl, inr, length, slice_get, nat_eq, eq-eqb, filter, lit≤, ℕ, List, [], ◌∷◌, ◌++◌, None, Some, refl, sym, ap, subst, ◌∙◌, append-nil, append_assoc}
+use Rattle.std.specs.Prelude.{All, IfErr, Option, Result, Ok, Err, OnOk}
+use Rattle.std.specs.Io.KnownBytes.{Appends, Keeps as KeepsContents}
 use Rattle.std.proofs.lemmas.List.Elements.{All-append, All-cons, All-nil, All-push, All-weaker}
 use Rattle.fuse_spec.specs.declared.Refusal.{Refusal}
 use Rattle.fuse_spec.specs.Kernel.Kernel.{Kernel}
@@ -16,20 +17,25 @@ use Rattle.fk_drive.specs.declared.end.NotSent.TheVariants.{Refused, Ended}
 use Rattle.fk_drive.proofs.Drivings.{drives_on, one_step}
 use Rattle.fk_drive.proofs.Sent.{picked_drives}
 use Rattle.fk_drive.proofs.WrittenNext.{over_next}
+use Rattle.fw_script.specs.Records.{answer_text, nodes_text}
 use Rattle.fw_world.specs.Values.{counted_nodes}
 use Rattle.fw_world.specs.declared.event.Event.{Event}
 use Rattle.fw_world.specs.declared.event.Outcome.{Outcome}
 use Rattle.fw_drive.specs.Acts.{Acts}
-use Rattle.fw_drive.specs.LineMoves.{FirstThen, IsCollected, IsMoveOf, LinesMoveAs, Perhaps, all_lines}
-use Rattle.fw_drive.specs.Moves.{GoOn, IsDue, IsSettled, Move, Moves, MovesOn, acts, sends, writes, collects, shows, end_of, no_move, next_move}
-use Rattle.fw_drive.specs.Runs.{Collects, EndsAs, Goes, GoesAlone, Keeps, IsStatusOf, NothingOver, RunsScript, StopsAt, at, by_itself, at_end}
+use Rattle.fw_drive.specs.LineMoves.{FirstThen, IsCollected, IsMoveOf, LinesMoveAs, Perhaps, all_lines, first_move}
+use Rattle.fw_drive.specs.Moves.{GoOn, IsDue, IsNote, IsSettled, Move, Moves, MovesOn, acts, sends, writes, collects, shows, notes, end_of, no_move, next_move}
+use Rattle.fw_drive.specs.Notes.{Note, notes_text}
+use Rattle.fw_drive.specs.Printed.{Gets, GetsAt, IsLineOf, IsTextOf, next_text, no_text}
+use Rattle.fw_drive.specs.Runs.{Collects, EndsAs, Goes, GoesAlone, IsOwnStop, IsUnprinted, Keeps, IsStatusOf, NothingOver, RunsScript, SaysStop, StopsAt, at, by_itself, at_end, stop_of}
 use Rattle.fw_script.specs.Scripts.{lines_of}
 use Rattle.fw_drive.specs.Judging.{Say}
 use Rattle.fw_drive.specs.declared.form.Form.{Form}
 use Rattle.fw_drive.specs.declared.line.DriveLine.{DriveLine}
 use Rattle.fw_drive.specs.declared.line.DriveLine.TheVariants as line
 use Rattle.fw_drive.specs.declared.stop.Stop.{Stop}
+use Rattle.fw_script.proofs.Writes.{Appends-Keeps, Appends-append, Appends-nil}
 use Rattle.fw_drive.proofs.ActsAlone.{acts_alone}
+use Rattle.fw_drive.proofs.Texts.{after_said, all_said, gets_all, gets_all_at, gets_none, gets_then, own_result, own_stop, said_collected, said_goes, said_moves, text_on, text_said}
 
 -- the kernel did something without its server
 alone_drives : (old new : Driven) (k : Kernel) (log : List Transfer) → log ≡ [] → ActsAlone old.kernel k
@@ -60,6 +66,7 @@ move_drives old (writes r) log new is goes =
 move_drives old (collects call answer) log new is (none, first, same) =
     alone_drives old new _ log none (gives_answer call) same
 move_drives old (shows nodes) log new is (none, counted, same) = still_drives old new log none same
+move_drives old (notes note) log new is (none, same) = still_drives old new log none same
 
 pub moves_drive : {A : Type 0} (old : Driven) (moves : List (Move A)) (log : List Transfer) (new : Driven)
     → MovesOn old moves log new → Drives old log new
@@ -84,6 +91,7 @@ one_move a b move log is due step = next_move [] [] a no_move is move due log b 
 
 pub due_settled : {A : Type 0} (a : Driven) (move : Move A) → IsSettled a → IsDue a move
 due_settled a (collects call answer) settled = tt
+due_settled a (notes note) settled = tt
 due_settled a move settled = settled
 
 -- receiving changes nothing of the kernel
@@ -104,40 +112,53 @@ receives_keep old _ _ (next before mid run log new step) =
 
 collected_goes : {A : Type 0} (move : Move A) → IsCollected move → end_of move ≡ None
 collected_goes (collects call answer) is = refl
+collected_goes (notes note) is = refl
 collected_goes move is = absurd is
 
 pub collected_go : {A : Type 0} (moves : List (Move A)) → All IsCollected moves → GoOn moves
 collected_go moves all = All-weaker IsCollected (λ move. end_of move ≡ None) collected_goes moves all
 
-pub went : {A T : Type 0} (r : Result T Stop) (moves : List (Move A)) → GoOn moves → EndsAs r moves
-went (Ok x) moves go = go
-went (Err stop) moves go = by_itself go
+pub went : {A T : Type 0} (r : Result T Stop) (moves : List (Move A)) → IfErr r IsOwnStop → GoOn moves → EndsAs r moves
+went (Ok x) moves own go = go
+went (Err stop) moves own go = by_itself go own
 
 pub ends_then : {A T : Type 0} (m n : List (Move A)) (r : Result T Stop) → GoOn m → EndsAs r n → EndsAs r (m ++ n)
 ends_then m n (Ok x) go more = All-append (λ move. end_of move ≡ None) m n go more
-ends_then m n (Err stop) go (by_itself more) = by_itself (All-append (λ move. end_of move ≡ None) m n go more)
-ends_then {A} m n (Err stop) go (at_end before last is more end ended) =
-    at_end (m ++ before) last (ap (λ (k : List (Move A)). m ++ k) is ∙ sym (append_assoc m before (last ∷ [])))
-    (All-append (λ move. end_of move ≡ None) m before go more) end ended
+ends_then m n (Err stop) go (by_itself more own) = by_itself (All-append (λ move. end_of move ≡ None) m n go more) own
+ends_then {A} m n (Err stop) go (at_end before last after is more said end ended why) =
+    at_end (m ++ before) last after
+    (ap (λ (k : List (Move A)). m ++ k) is ∙ sym (append_assoc m before (last ∷ after)))
+    (All-append (λ move. end_of move ≡ None) m before go more) said end ended why
 
-pub ended_at : {A : Type 0} (stop : Stop) (move : Move A) (end : DriveEnd) → end_of move ≡ Some end
-    → StopsAt stop (move ∷ [])
-ended_at stop move end ended = at_end [] move refl (All-nil (λ move. end_of move ≡ None)) end ended
+pub ended_at : {A : Type 0} (stop : Stop) (move : Move A) (after : List (Note A)) (end : DriveEnd)
+    → end_of move ≡ Some end → (stop ≡ stop_of end) ⊎ IsUnprinted stop → StopsAt stop (move ∷ said_moves after)
+ended_at stop move after end ended why =
+    at_end [] move (said_moves after) refl (All-nil (λ move. end_of move ≡ None)) (all_said IsNote (λ note. tt) after) end
+    ended why
 
 pub on_any : {U : Type 0} (r : Result U Stop) (P : Type 0) → P → OnOk r P
 on_any (Ok x) P holds = holds
 on_any (Err stop) P holds = tt
 
--- a part of a call, which did not fail
-abbrev pub Went : (A : Type 0) {D : Type 0} → (D → D → List Transfer → Type 0) → D → D → Driven → Driven
-    → (List (Move A) → Type 0) → Type 0
-Went A logs d e old new P = let r : Result (Unit {0}) Stop = Ok tt in Goes A logs d e old new r P
+-- something was said
+pub said_on : {A : Type 0} (driver : Driven) (said : List (Note A))
+    → MovesOn (at driver idle) (said_moves said) [] (at driver idle)
+said_on driver [] = no_move
+said_on driver (note ∷ said) =
+    moves_on (at driver idle) (at driver idle) (at driver idle) (notes note ∷ []) (said_moves said) [] []
+    (one_move (at driver idle) (at driver idle) (notes note) [] refl tt (refl, refl)) (said_on driver said)
 
-module _ (A : Type 0) {D : Type 0} (logs : D → D → List Transfer → Type 0) where
+-- a part of a call, which did not fail
+abbrev pub Went : (A : Type 0) {D : Type 0} → (D → D → List Transfer → Type 0) → Form → D → D
+    → (had has : Option (List ℕ)) → Driven → Driven → (List (Move A) → Type 0) → Type 0
+Went A logs f d e had has old new P = let r : Result (Unit {0}) Stop = Ok tt in Goes A logs f d e had has old new r P
+
+module _ (A : Type 0) {D : Type 0} (logs : D → D → List Transfer → Type 0) (f : Form) where
   -- the same call, of whose moves less is said
-  pub weaker : {T : Type 0} (d e : D) (old new : Driven) (r : Result T Stop) (P Q : List (Move A) → Type 0)
-      → Goes A logs d e old new r P → ((m : List (Move A)) → P m → Q m) → Goes A logs d e old new r Q
-  weaker d e old new r P Q one less = record {
+  pub weaker : {T : Type 0} (d e : D) (had has : Option (List ℕ)) (old new : Driven) (r : Result T Stop)
+      (P Q : List (Move A) → Type 0) → Goes A logs f d e had has old new r P → ((m : List (Move A)) → P m → Q m)
+      → Goes A logs f d e had has old new r Q
+  weaker d e had has old new r P Q one less = record {
     moves = one.moves;
     are = less one.moves one.are;
     ends = one.ends;
@@ -147,28 +168,73 @@ module _ (A : Type 0) {D : Type 0} (logs : D → D → List Transfer → Type 0)
     log = one.log;
     over = one.over;
     on = one.on;
+    text = one.text;
+    lines = one.lines;
+    printed = one.printed;
   }
 
   -- what a call gave is given otherwise, or not at all
-  pub given : {T U : Type 0} (d e : D) (old new : Driven) (x : T) (r : Result U Stop) (P Q : List (Move A) → Type 0)
-      → Goes A logs d e old new (Ok x) P → ((m : List (Move A)) → P m → Q m) → Goes A logs d e old new r Q
-  given d e old new x r P Q one less = record {
+  pub given : {T U : Type 0} (d e : D) (had has : Option (List ℕ)) (old new : Driven) (x : T) (r : Result U Stop)
+      → IfErr r IsOwnStop → (P Q : List (Move A) → Type 0) → Goes A logs f d e had has old new (Ok x) P
+      → ((m : List (Move A)) → P m → Q m) → Goes A logs f d e had has old new r Q
+  given d e had has old new x r own P Q one less = record {
     moves = one.moves;
     are = less one.moves one.are;
-    ends = went r one.moves one.ends;
+    ends = went r one.moves own one.ends;
     turn = one.turn;
     between = on_any r (one.turn ≡ idle) one.between;
     settled = λ is. on_any r (IsSettled new) (one.settled is);
     log = one.log;
     over = one.over;
     on = one.on;
+    text = one.text;
+    lines = one.lines;
+    printed = gets_all r had has one.text one.printed;
+  }
+
+  -- what was printed before was handed on first
+  pub kept_before : {T : Type 0} (d e : D) (had mid has : Option (List ℕ)) (old new : Driven) (r : Result T Stop)
+      (P : List (Move A) → Type 0) → KeepsContents had mid → Goes A logs f d e mid has old new r P
+      → Goes A logs f d e had has old new r P
+  kept_before d e had mid has old new r P keeps one = record {
+    moves = one.moves;
+    are = one.are;
+    ends = one.ends;
+    turn = one.turn;
+    between = one.between;
+    settled = one.settled;
+    log = one.log;
+    over = one.over;
+    on = one.on;
+    text = one.text;
+    lines = one.lines;
+    printed = gets_then r had mid has [] one.text (Appends-Keeps had had mid [] (Appends-nil had) keeps) one.printed;
+  }
+
+  -- what was printed was handed on
+  pub handed_on : {T U : Type 0} (d e : D) (had mid has : Option (List ℕ)) (old new : Driven) (x : T) (r : Result U Stop)
+      → IfErr r IsOwnStop → (P Q : List (Move A) → Type 0) → Goes A logs f d e had mid old new (Ok x) P
+      → KeepsContents mid has → ((m : List (Move A)) → P m → Q m) → Goes A logs f d e had has old new r Q
+  handed_on d e had mid has old new x r own P Q one keeps less = record {
+    moves = one.moves;
+    are = less one.moves one.are;
+    ends = went r one.moves own one.ends;
+    turn = one.turn;
+    between = on_any r (one.turn ≡ idle) one.between;
+    settled = λ is. on_any r (IsSettled new) (one.settled is);
+    log = one.log;
+    over = one.over;
+    on = one.on;
+    text = one.text;
+    lines = one.lines;
+    printed = gets_all r had has one.text (Appends-Keeps had mid has one.text one.printed keeps);
   }
 
   -- a call failed, and the one that made it
-  pub failed : {T U : Type 0} (d e : D) (old new : Driven) (stop : Stop) (P Q : List (Move A) → Type 0)
-      → Goes A {T = T} logs d e old new (Err stop) P → ((m : List (Move A)) → P m → Q m)
-      → Goes A {T = U} logs d e old new (Err stop) Q
-  failed d e old new stop P Q one less = record {
+  pub failed : {T U : Type 0} (d e : D) (had has : Option (List ℕ)) (old new : Driven) (stop : Stop)
+      (P Q : List (Move A) → Type 0) → Goes A {T = T} logs f d e had has old new (Err stop) P
+      → ((m : List (Move A)) → P m → Q m) → Goes A {T = U} logs f d e had has old new (Err stop) Q
+  failed d e had has old new stop P Q one less = record {
     moves = one.moves;
     are = less one.moves one.are;
     ends = one.ends;
@@ -178,32 +244,74 @@ module _ (A : Type 0) {D : Type 0} (logs : D → D → List Transfer → Type 0)
     log = one.log;
     over = one.over;
     on = one.on;
+    text = one.text;
+    lines = one.lines;
+    printed = one.printed;
   }
 
-  -- one move was made
-  pub one_goes : {T : Type 0} (d e : D) (old new : Driven) (turn : Turn) (move : Move A) (log : List Transfer)
+  -- one move was made, before which something was said
+  pub one_goes : {T : Type 0} (d e : D) (had has : Option (List ℕ)) (old new : Driven) (turn : Turn)
+      (said : List (Note A)) (move : Move A) (line : List ℕ) → IsLineOf f move line → (log : List Transfer)
       (First Rest : Move A → Type 0) → First move → logs d e log → Moves (at old idle) move log (at new turn)
       → (r : Result T Stop) → EndsAs r (move ∷ []) → OnOk r (turn ≡ idle) → (IsSettled old → OnOk r (IsSettled new))
-      → Goes A logs d e old new r (FirstThen First Rest)
-  one_goes d e old new turn move log First Rest first over moves r came between settled = record {
-    moves = move ∷ [];
-    are = (first, All-nil Rest);
-    ends = came;
+      → Gets r had has (notes_text said ++ line) → Goes A logs f d e had has old new r (FirstThen First Rest)
+  one_goes d e had has old new turn said move line is log First Rest first over moves r came between settled printed = record {
+    moves = said_moves said ++ move ∷ [];
+    are = after_said First Rest said (move ∷ []) (first_move move first [] (All-nil Rest));
+    ends = ends_then (said_moves said) (move ∷ []) r (said_goes said) came;
     turn = turn;
     between = between;
     settled = settled;
     log = log;
     over = over;
-    on = λ is. one_move (at old idle) (at new turn) move log refl (due_settled (at old idle) move is) moves;
+    on =
+        λ waits. moves_on (at old idle) (at old idle) (at new turn) (said_moves said) (move ∷ []) [] log (said_on old said)
+        (one_move (at old idle) (at new turn) move log refl (due_settled (at old idle) move waits) moves);
+    text = notes_text said ++ (line ++ []);
+    lines =
+        text_on f (said_moves said) (move ∷ []) (notes_text said) (line ++ []) (text_said f said)
+        (next_text move line is [] [] no_text);
+    printed =
+        subst (λ (l : List ℕ). Gets r had has (notes_text said ++ l)) (sym (append-nil line)) printed;
+  }
+
+  -- one was made between requests, and others that do nothing with the device
+  pub several : {T : Type 0} (d e : D) (had has : Option (List ℕ)) (old mid new : Driven) (said : List (Note A))
+      (move : Move A) (line : List ℕ) → IsLineOf f move line → (log : List Transfer) (First Rest : Move A → Type 0)
+      → First move → logs d e log → Moves (at old idle) move log (at mid idle) → (more : List (Move A)) → All Rest more
+      → MovesOn (at mid idle) more [] (at new idle) → (text : List ℕ) → IsTextOf f more text → (r : Result T Stop)
+      → EndsAs r (move ∷ more) → (IsSettled old → OnOk r (IsSettled new))
+      → Gets r had has (notes_text said ++ (line ++ text)) → Goes A logs f d e had has old new r (FirstThen First Rest)
+  several d e had has old mid new said move line is log First Rest first over moves more are on text lines r came settled printed = record {
+    moves = said_moves said ++ move ∷ more;
+    are = after_said First Rest said (move ∷ more) (first_move move first more are);
+    ends = ends_then (said_moves said) (move ∷ more) r (said_goes said) came;
+    turn = idle;
+    between = on_any r (◌≡◌ {A = Turn} idle idle) refl;
+    settled = settled;
+    log = log;
+    over = over;
+    on =
+        λ waits. moves_on (at old idle) (at old idle) (at new idle) (said_moves said) (move ∷ more) [] log (said_on old said)
+        (subst (λ (l : List Transfer). MovesOn (at old idle) (move ∷ more) l (at new idle)) (append-nil log)
+        (moves_on (at old idle) (at mid idle) (at new idle) (move ∷ []) more log []
+        (one_move (at old idle) (at mid idle) move log refl (due_settled (at old idle) move waits) moves) on));
+    text = notes_text said ++ (line ++ text);
+    lines =
+        text_on f (said_moves said) (move ∷ more) (notes_text said) (line ++ text) (text_said f said)
+        (next_text move line is more text lines);
+    printed = printed;
   }
 
 module _ (A : Type 0) {D : Type 0} (logs : D → D → List Transfer → Type 0)
-    (goes_on : (first mid last : D) (h k : List Transfer) → logs first mid h → logs mid last k → logs first last (h ++ k)) where
+    (goes_on : (first mid last : D) (h k : List Transfer) → logs first mid h → logs mid last k → logs first last (h ++ k))
+    (f : Form) where
   -- one call after another
-  pub then : {T U : Type 0} (d e f : D) (old mid new : Driven) (x : T) (r : Result U Stop)
-      (P Q S : List (Move A) → Type 0) → Goes A logs d e old mid (Ok x) P → Goes A logs e f mid new r Q
-      → ((m n : List (Move A)) → P m → Q n → S (m ++ n)) → Goes A logs d f old new r S
-  then d e f old mid new x r P Q S one two joins = record {
+  pub then : {T U : Type 0} (d e g : D) (had got has : Option (List ℕ)) (old mid new : Driven) (x : T) (r : Result U Stop)
+      (P Q S : List (Move A) → Type 0) → Goes A logs f d e had got old mid (Ok x) P
+      → Goes A logs f e g got has mid new r Q → ((m n : List (Move A)) → P m → Q n → S (m ++ n))
+      → Goes A logs f d g had has old new r S
+  then d e g had got has old mid new x r P Q S one two joins = record {
     moves = one.moves ++ two.moves;
     are = joins one.moves two.moves one.are two.are;
     ends = ends_then one.moves two.moves r one.ends two.ends;
@@ -211,57 +319,74 @@ module _ (A : Type 0) {D : Type 0} (logs : D → D → List Transfer → Type 0)
     between = two.between;
     settled = λ is. two.settled (one.settled is);
     log = one.log ++ two.log;
-    over = goes_on d e f one.log two.log one.over two.over;
+    over = goes_on d e g one.log two.log one.over two.over;
     on =
         λ is. moves_on (at old idle) (at mid idle) (at new two.turn) one.moves two.moves one.log two.log
         (subst (λ (t : Turn). MovesOn (at old idle) one.moves one.log (at mid t)) one.between (one.on is))
         (two.on (one.settled is));
+    text = one.text ++ two.text;
+    lines = text_on f one.moves two.moves one.text two.text one.lines two.lines;
+    printed = gets_then r had got has one.text two.text one.printed two.printed;
   }
 
-module _ (A : Type 0) {D : Type 0} (logs : D → D → List Transfer → Type 0) where
+module _ (A : Type 0) {D : Type 0} (logs : D → D → List Transfer → Type 0) (f : Form) where
   -- one was made, and then answers were collected
-  pub collects_behind : {T : Type 0} (d e : D) (old mid new : Driven) (turn : Turn) (move : Move A) (log : List Transfer)
+  pub collects_behind : {T : Type 0} (d e : D) (had has : Option (List ℕ)) (old mid new : Driven) (turn : Turn)
+      (said : List (Note A)) (move : Move A) (line : List ℕ) → IsLineOf f move line → (log : List Transfer)
       (First : Move A → Type 0) → First move → end_of move ≡ None → logs d e log
-      → Moves (at old idle) move log (at mid turn) → turn ≡ idle → (r : Result T Stop) → Collects A mid new r
-      → Goes A logs d e old new r (FirstThen First IsCollected)
-  collects_behind d e old mid new turn move log First first none over moves is r more = record {
-    moves = move ∷ more.moves;
-    are = (first, more.are);
-    ends =
-        went r (move ∷ more.moves)
-        (All-cons (λ move. end_of move ≡ None) move more.moves none (collected_go more.moves more.are));
-    turn = idle;
-    between = on_any r (◌≡◌ {A = Turn} idle idle) refl;
-    settled = λ settled. more.settled;
-    log = log;
-    over = over;
-    on =
-        λ settled. subst (λ (l : List Transfer). MovesOn (at old idle) (move ∷ more.moves) l (at new idle)) (append-nil log)
-        (moves_on (at old idle) (at mid idle) (at new idle) (move ∷ []) more.moves log []
-        (one_move (at old idle) (at mid idle) move log refl (due_settled (at old idle) move settled)
-        (subst (λ (t : Turn). Moves (at old idle) move log (at mid t)) is moves)) more.on);
-  }
+      → Moves (at old idle) move log (at mid turn) → turn ≡ idle → (r : Result T Stop)
+      → Collects A f (notes_text said ++ line) had has mid new r
+      → Goes A logs f d e had has old new r (FirstThen First IsCollected)
+  collects_behind d e had has old mid new turn said move line says log First first none over moves is r more =
+      several A logs f d e had has old mid new said move line says log First IsCollected first over
+      (subst (λ (t : Turn). Moves (at old idle) move log (at mid t)) is moves) more.moves more.are more.on more.text
+      more.lines r
+      (went r (move ∷ more.moves) (own_result r more.own)
+      (All-cons (λ move. end_of move ≡ None) move more.moves none (collected_go more.moves more.are)))
+      (λ waits. more.settled)
+      (subst (λ (l : List ℕ). Gets r had has l) (append_assoc (notes_text said) line more.text) more.printed)
 
-module _ (A : Type 0) {D : Type 0} (logs : D → D → List Transfer → Type 0) (stays : (d : D) → logs d d []) where
+module _ (A : Type 0) {D : Type 0} (logs : D → D → List Transfer → Type 0) (stays : (d : D) → logs d d []) (f : Form) where
   -- nothing was done
-  pub none_goes : {T : Type 0} (d : D) (driver : Driven) (r : Result T Stop) (P : List (Move A) → Type 0) → P []
-      → Goes A logs d d driver driver r P
-  none_goes d driver r P are = record {
+  pub none_goes : {T : Type 0} (d : D) (had : Option (List ℕ)) (driver : Driven) (r : Result T Stop) → IfErr r IsOwnStop
+      → (P : List (Move A) → Type 0) → P [] → Goes A logs f d d had had driver driver r P
+  none_goes d had driver r own P are = record {
     moves = [];
     are = are;
-    ends = went r [] (All-nil (λ move. end_of move ≡ None));
+    ends = went r [] own (All-nil (λ move. end_of move ≡ None));
     turn = idle;
     between = on_any r (◌≡◌ {A = Turn} idle idle) refl;
     settled = λ is. on_any r (IsSettled driver) is;
     log = [];
     over = stays d;
     on = λ is. no_move;
+    text = [];
+    lines = no_text;
+    printed = gets_all r had had [] (Appends-nil had);
+  }
+
+  -- nothing more was printed
+  pub unprinted : {T : Type 0} (d : D) (had has : Option (List ℕ)) (driver : Driven) (s : Stop) → IsOwnStop s
+      → KeepsContents had has → (P : List (Move A) → Type 0) → P [] → Goes A {T = T} logs f d d had has driver driver (Err s) P
+  unprinted d had has driver s own keeps P are = record {
+    moves = [];
+    are = are;
+    ends = by_itself (All-nil (λ move. end_of move ≡ None)) own;
+    turn = idle;
+    between = tt;
+    settled = λ is. tt;
+    log = [];
+    over = stays d;
+    on = λ is. no_move;
+    text = [];
+    lines = no_text;
+    printed = gets_all_at s had has [] (Appends-Keeps had had has [] (Appends-nil had) keeps);
   }
 
   -- what was done with no device
-  pub lifts : {T : Type 0} (d : D) (old new : Driven) (r : Result T Stop) (P : List (Move A) → Type 0)
-      → GoesAlone A old new r P → Goes A logs d d old new r P
-  lifts d old new r P one = record {
+  pub lifts : {T : Type 0} (d : D) (had has : Option (List ℕ)) (old new : Driven) (r : Result T Stop)
+      (P : List (Move A) → Type 0) → GoesAlone A f had has old new r P → Goes A logs f d d had has old new r P
+  lifts d had has old new r P one = record {
     moves = one.moves;
     are = one.are;
     ends = one.ends;
@@ -271,19 +396,27 @@ module _ (A : Type 0) {D : Type 0} (logs : D → D → List Transfer → Type 0)
     log = one.log;
     over = subst (λ (l : List Transfer). logs d d l) (sym one.over) (stays d);
     on = one.on;
+    text = one.text;
+    lines = one.lines;
+    printed = one.printed;
   }
 
-  pub none_went : (d : D) (driver : Driven) (P : List (Move A) → Type 0) → P [] → Went A logs d d driver driver P
-  none_went d driver P are = none_goes d driver (Ok tt) P are
+  pub none_went : (d : D) (had : Option (List ℕ)) (driver : Driven) (P : List (Move A) → Type 0) → P []
+      → Went A logs f d d had had driver driver P
+  none_went d had driver P are = none_goes d had driver (Ok tt) tt P are
 
-  -- the nodes were shown, or that failed
-  pub shows_nodes : {T : Type 0} (d : D) (driver : Driven) (r : Result T Stop) (Rest : Move A → Type 0)
-      → Goes A logs d d driver driver r (Perhaps r (FirstThen (IsMoveOf line.Show) Rest))
-  shows_nodes d driver (Ok x) Rest =
-      one_goes A logs d d driver driver idle (shows (counted_nodes driver.kernel.nodes)) [] (IsMoveOf line.Show) Rest tt
-      (stays d) (refl, refl, refl) (Ok x) (All-cons (λ move. end_of move ≡ None) _ [] refl (All-nil _)) refl (λ is. is)
-  shows_nodes d driver (Err stop) Rest =
-      none_goes d driver (Err stop) (Perhaps {T = Unit {0}} (Err stop) (FirstThen (IsMoveOf line.Show) Rest)) (inl refl)
+  -- the nodes were shown, and something was said, or printing failed
+  pub shows_nodes : {T : Type 0} (d : D) (had has : Option (List ℕ)) (driver : Driven) (r : Result T Stop)
+      → IfErr r IsUnprinted → (Rest : Move A → Type 0) (said : List (Note A)) → All Rest (said_moves said)
+      → Gets r had has (nodes_text (codes "kernel") (counted_nodes driver.kernel.nodes) ++ notes_text said)
+      → Goes A logs f d d had has driver driver r (FirstThen (IsMoveOf line.Show) Rest)
+  shows_nodes d had has driver r own Rest said rest printed =
+      several A logs f d d had has driver driver driver [] (shows (counted_nodes driver.kernel.nodes))
+      (nodes_text (codes "kernel") (counted_nodes driver.kernel.nodes)) refl [] (IsMoveOf line.Show) Rest tt (stays d)
+      (refl, refl, refl) (said_moves said) rest (said_on driver said) (notes_text said) (text_said f said) r
+      (went r (shows (counted_nodes driver.kernel.nodes) ∷ said_moves said) (own_result r own)
+      (All-cons (λ move. end_of move ≡ None) (shows (counted_nodes driver.kernel.nodes)) (said_moves said) refl (said_goes said)))
+      (λ is. on_any r (IsSettled driver) is) printed
 
 -- ---- what is done with no device
 
@@ -294,9 +427,10 @@ pub nothing_stays : (a : Unit {0}) → NothingOver a a []
 nothing_stays a = refl
 
 -- what is driven stayed the same before it
-pub kept_alone : (A : Type 0) {T : Type 0} (old mid new : Driven) (r : Result T Stop) (P : List (Move A) → Type 0)
-    → Keeps old mid → GoesAlone A mid new r P → GoesAlone A old new r P
-kept_alone A old mid new r P keeps one =
+pub kept_alone : (A : Type 0) (f : Form) {T : Type 0} (had has : Option (List ℕ)) (old mid new : Driven)
+    (r : Result T Stop) (P : List (Move A) → Type 0) → Keeps old mid → GoesAlone A f had has mid new r P
+    → GoesAlone A f had has old new r P
+kept_alone A f had has old mid new r P keeps one =
     let answers = ap (λ (d : Driven). d.kernel.vfs.answers) (keeps idle) in record {
       moves = one.moves;
       are = one.are;
@@ -307,6 +441,9 @@ kept_alone A old mid new r P keeps one =
       log = one.log;
       over = one.over;
       on = λ is. subst (λ (d : Driven). MovesOn d one.moves one.log (at new one.turn)) (keeps idle) (one.on (answers ∙ is));
+      text = one.text;
+      lines = one.lines;
+      printed = one.printed;
     }
 
 -- an event happened
@@ -321,53 +458,176 @@ refused_move A old new e refusal kernel same =
     (refl, ap (λ (d : Driven). at d idle) (same ∙ ap (λ (k : Kernel). record old { kernel = k }) kernel))
 
 -- one move was made, and the run goes on
-pub one_went : {A T : Type 0} (r : Result T Stop) (move : Move A) → end_of move ≡ None → EndsAs r (move ∷ [])
-one_went r move none =
-    went r (move ∷ []) (All-cons (λ move. end_of move ≡ None) move [] none (All-nil (λ move. end_of move ≡ None)))
+pub one_went : {A T : Type 0} (r : Result T Stop) (move : Move A) → IfErr r IsOwnStop → end_of move ≡ None
+    → EndsAs r (move ∷ [])
+one_went r move own none =
+    went r (move ∷ []) own (All-cons (λ move. end_of move ≡ None) move [] none (All-nil (λ move. end_of move ≡ None)))
+
+-- something was said behind what was printed first, and nothing was collected, as something failed
+pub said_alone : {A T : Type 0} (f : Form) (first : List ℕ) (had has : Option (List ℕ)) (driver : Driven) (stop : Stop)
+    → IsUnprinted stop → (said : List (Note A)) → GetsAt stop had has (first ++ notes_text said)
+    → Collects A {T = T} f first had has driver driver (Err stop)
+said_alone f first had has driver stop own said printed = record {
+  moves = said_moves said;
+  are = said_collected said;
+  own = own;
+  settled = tt;
+  on = said_on driver said;
+  text = notes_text said;
+  lines = text_said f said;
+  printed = printed;
+}
 
 -- nothing was collected, as something failed
-pub none_collected : {A T : Type 0} (driver : Driven) (stop : Stop) → Collects A {T = T} driver driver (Err stop)
-none_collected driver stop = record { moves = []; are = All-nil IsCollected; settled = tt; on = no_move }
+pub none_collected : {A T : Type 0} (f : Form) (first : List ℕ) (had has : Option (List ℕ)) (driver : Driven) (stop : Stop)
+    → IsUnprinted stop → GetsAt stop had has first → Collects A {T = T} f first had has driver driver (Err stop)
+none_collected f first had has driver stop own printed =
+    said_alone f first had has driver stop own []
+    (subst (λ (l : List ℕ). GetsAt stop had has l) (sym (append-nil first)) printed)
 
 -- answers were collected, and another result is given
-pub collects_given : {A T U : Type 0} (old new : Driven) (x : T) (r : Result U Stop) → Collects A old new (Ok x)
-    → Collects A old new r
-collects_given old new x r one =
-    record { moves = one.moves; are = one.are; settled = on_any r (IsSettled new) one.settled; on = one.on }
+pub collects_given : {A T U : Type 0} (f : Form) (first : List ℕ) (had mid has : Option (List ℕ)) (old new : Driven)
+    (x : T) (y : U) → Appends had mid first → Collects A f [] mid has old new (Ok x)
+    → Collects A f first had has old new (Ok y)
+collects_given f first had mid has old new x y before one = record {
+  moves = one.moves;
+  are = one.are;
+  own = tt;
+  settled = one.settled;
+  on = one.on;
+  text = one.text;
+  lines = one.lines;
+  printed = Appends-append had mid has first one.text before one.printed;
+}
 
-pub collects_failed : {A T U : Type 0} (old new : Driven) (stop : Stop) → Collects A {T = T} old new (Err stop)
-    → Collects A {T = U} old new (Err stop)
-collects_failed old new stop one = record { moves = one.moves; are = one.are; settled = tt; on = one.on }
+pub collects_failed : {A T U : Type 0} (f : Form) (first : List ℕ) (had mid has : Option (List ℕ)) (old new : Driven)
+    (stop : Stop) → Appends had mid first → Collects A {T = T} f [] mid has old new (Err stop)
+    → Collects A {T = U} f first had has old new (Err stop)
+collects_failed {A} {T} f first had mid has old new stop before one =
+    let r : Result T Stop = Err stop in record {
+      moves = one.moves;
+      are = one.are;
+      own = one.own;
+      settled = tt;
+      on = one.on;
+      text = one.text;
+      lines = one.lines;
+      printed = gets_then r had mid has first one.text before one.printed;
+    }
+
+pub collects_after : {A T : Type 0} (f : Form) (first : List ℕ) (had mid has : Option (List ℕ)) (old new : Driven)
+    (r : Result T Stop) → Appends had mid first → Collects A f [] mid has old new r → Collects A f first had has old new r
+collects_after f first had mid has old new (Ok x) before one = collects_given f first had mid has old new x x before one
+collects_after f first had mid has old new (Err stop) before one =
+    collects_failed f first had mid has old new stop before one
+
+-- the last of what was printed first is what was said
+pub said_within : {A T : Type 0} (f : Form) (had has : Option (List ℕ)) (old new : Driven) (r : Result T Stop)
+    (first : List ℕ) (said : List (Note A)) → Collects A f (first ++ notes_text said) had has old new r
+    → Collects A f first had has old new r
+said_within f had has old new r first said one = record {
+  moves = said_moves said ++ one.moves;
+  are = All-append IsCollected (said_moves said) one.moves (said_collected said) one.are;
+  own = one.own;
+  settled = one.settled;
+  on =
+      moves_on (at old idle) (at old idle) (at new idle) (said_moves said) one.moves [] [] (said_on old said) one.on;
+  text = notes_text said ++ one.text;
+  lines = text_on f (said_moves said) one.moves (notes_text said) one.text (text_said f said) one.lines;
+  printed = subst (λ (l : List ℕ). Gets r had has l) (append_assoc first (notes_text said) one.text) one.printed;
+}
 
 -- some were collected
-abbrev pub Collected : (A : Type 0) → Driven → Driven → Type 0
-Collected A old new = (moves : List (Move A)) × All IsCollected moves × MovesOn (at old idle) moves [] (at new idle)
+pub record Collected (A : Type 0) (f : Form) (had has : Option (List ℕ)) (old new : Driven) : Type 0 where
+  pub moves : List (Move A)
+  pub are : All IsCollected moves
+  pub on : MovesOn (at old idle) moves [] (at new idle)
+  pub text : List ℕ
+  pub lines : IsTextOf f moves text
+  pub printed : Appends had has text
 
-pub none_yet : {A : Type 0} (driver : Driven) → Collected A driver driver
-none_yet driver = ([], All-nil IsCollected, no_move)
+pub none_yet : {A : Type 0} (f : Form) (had : Option (List ℕ)) (driver : Driven) → Collected A f had had driver driver
+none_yet f had driver = record {
+  moves = [];
+  are = All-nil IsCollected;
+  on = no_move;
+  text = [];
+  lines = no_text;
+  printed = Appends-nil had;
+}
 
-pub one_more : {A : Type 0} (old mid new : Driven) (call : ℕ) (answer : Answer A) → Collected A old mid
-    → Moves (at mid idle) (collects call answer) [] (at new idle) → Collected A old new
-one_more old mid new call answer (moves, are, on) collected = (
-  moves ++ collects call answer ∷ [],
-  All-push IsCollected moves (collects call answer) are tt,
-  next_move moves [] (at mid idle) on refl (collects call answer) tt [] (at new idle) collected,
-)
+-- an answer and what is said behind it
+abbrev pub answer_moves : {A : Type 0} → ℕ → Answer A → List (Note A) → List (Move A)
+answer_moves call answer said = collects call answer ∷ said_moves said
+
+answer_on : {A : Type 0} (mid new : Driven) (call : ℕ) (answer : Answer A) (said : List (Note A))
+    → Moves (at mid idle) (collects call answer) [] (at new idle)
+    → MovesOn (at mid idle) (answer_moves call answer said) [] (at new idle)
+answer_on mid new call answer said collected =
+    moves_on (at mid idle) (at new idle) (at new idle) (collects call answer ∷ []) (said_moves said) [] []
+    (one_move (at mid idle) (at new idle) (collects call answer) [] refl tt collected) (said_on new said)
+
+answer_line : {A : Type 0} (f : Form) (call : ℕ) (answer : Answer A) (said : List (Note A))
+    → IsTextOf f (answer_moves call answer said) (answer_text call answer ++ notes_text said)
+answer_line f call answer said =
+    next_text (collects call answer) (answer_text call answer) refl (said_moves said) (notes_text said) (text_said f said)
+
+pub one_more : {A : Type 0} (f : Form) (had got has : Option (List ℕ)) (old mid new : Driven) (call : ℕ)
+    (answer : Answer A) (said : List (Note A)) → Collected A f had got old mid
+    → Moves (at mid idle) (collects call answer) [] (at new idle)
+    → Appends got has (answer_text call answer ++ notes_text said) → Collected A f had has old new
+one_more f had got has old mid new call answer said one collected more = record {
+  moves = one.moves ++ answer_moves call answer said;
+  are =
+      All-append IsCollected one.moves (answer_moves call answer said) one.are
+      (All-cons IsCollected (collects call answer) (said_moves said) tt (said_collected said));
+  on =
+      moves_on (at old idle) (at mid idle) (at new idle) one.moves (answer_moves call answer said) [] [] one.on
+      (answer_on mid new call answer said collected);
+  text = one.text ++ (answer_text call answer ++ notes_text said);
+  lines =
+      text_on f one.moves (answer_moves call answer said) one.text (answer_text call answer ++ notes_text said) one.lines
+      (answer_line f call answer said);
+  printed = Appends-append had got has one.text (answer_text call answer ++ notes_text said) one.printed more;
+}
 
 -- none waits any more
-pub all_collected : {A T : Type 0} (old mid new : Driven) (r : Result T Stop) → Collected A old mid → new ≡ mid
-    → IsSettled mid → Collects A old new r
-all_collected old mid new r (moves, are, on) same none = record {
-  moves = moves;
-  are = are;
-  settled = on_any r (IsSettled new) (ap (λ (d : Driven). d.kernel.vfs.answers) same ∙ none);
-  on = subst (λ (d : Driven). MovesOn (at old idle) moves [] (at d idle)) (sym same) on;
+pub all_collected : {A T : Type 0} (f : Form) (had has : Option (List ℕ)) (old mid new : Driven) (x : T)
+    → Collected A f had has old mid → new ≡ mid → IsSettled mid → Collects A f [] had has old new (Ok x)
+all_collected f had has old mid new x one same none = record {
+  moves = one.moves;
+  are = one.are;
+  own = tt;
+  settled = ap (λ (d : Driven). d.kernel.vfs.answers) same ∙ none;
+  on = subst (λ (d : Driven). MovesOn (at old idle) one.moves [] (at d idle)) (sym same) one.on;
+  text = one.text;
+  lines = one.lines;
+  printed = one.printed;
 }
 
 -- or one could not be printed
-pub some_collected : {A T : Type 0} (old new : Driven) (stop : Stop) → Collected A old new
-    → Collects A {T = T} old new (Err stop)
-some_collected old new stop (moves, are, on) = record { moves = moves; are = are; settled = tt; on = on }
+pub some_collected : {A T : Type 0} (f : Form) (had got has : Option (List ℕ)) (old mid new : Driven) (call : ℕ)
+    (answer : Answer A) (said : List (Note A)) (stop : Stop) → IsUnprinted stop → Collected A f had got old mid
+    → Moves (at mid idle) (collects call answer) [] (at new idle)
+    → GetsAt stop got has (answer_text call answer ++ notes_text said)
+    → Collects A {T = T} f [] had has old new (Err stop)
+some_collected {A} {T} f had got has old mid new call answer said stop own one collected more =
+    let r : Result T Stop = Err stop in record {
+      moves = one.moves ++ answer_moves call answer said;
+      are =
+          All-append IsCollected one.moves (answer_moves call answer said) one.are
+          (All-cons IsCollected (collects call answer) (said_moves said) tt (said_collected said));
+      own = own;
+      settled = tt;
+      on =
+          moves_on (at old idle) (at mid idle) (at new idle) one.moves (answer_moves call answer said) [] [] one.on
+          (answer_on mid new call answer said collected);
+      text = one.text ++ (answer_text call answer ++ notes_text said);
+      lines =
+          text_on f one.moves (answer_moves call answer said) one.text (answer_text call answer ++ notes_text said) one.lines
+          (answer_line f call answer said);
+      printed = gets_then r had got has one.text (answer_text call answer ++ notes_text said) one.printed more;
+    }
 
 filter_short : {X : Type 0} (p : X → Bool) (xs : List X) → length (filter p xs) ≤ length xs
 filter_short p [] = lit≤ tt
@@ -394,10 +654,10 @@ fewer {X} (e ∷ m) call x first =
 -- ---- the whole run
 
 -- What went over the device is driven.
-pub goes_drive : (A : Type 0) {D T : Type 0} (logs : D → D → List Transfer → Type 0) (d e : D) (old last : Driven)
-    (r : Result T Stop) (P : List (Move A) → Type 0) → at old idle ≡ old → IsSettled old → Goes A logs d e old last r P
-    → (new : Driven) × DrivesOver logs d e old new
-goes_drive A logs d e old last r P first settled goes = (
+pub goes_drive : (A : Type 0) {D T : Type 0} (logs : D → D → List Transfer → Type 0) (f : Form) (d e : D)
+    (had has : Option (List ℕ)) (old last : Driven) (r : Result T Stop) (P : List (Move A) → Type 0) → at old idle ≡ old
+    → IsSettled old → Goes A logs f d e had has old last r P → (new : Driven) × DrivesOver logs d e old new
+goes_drive A logs f d e had has old last r P first settled goes = (
   at last goes.turn,
   (
     goes.log,
@@ -408,17 +668,21 @@ goes_drive A logs d e old last r P first settled goes = (
 )
 
 -- A script was run whose lines are known.
-pub runs_script : (A : Type 0) {D : Type 0} (logs : D → D → List Transfer → Type 0) (d e : D) (f : Form) (asks : Bool)
-    (script : List ℕ) (said given_lines : List DriveLine) → given_lines ≡ said → Say f (lines_of script) said
-    → (r : Result (Unit {0}) Stop) (status : ℕ) → IsStatusOf r status
-    → (last : Driven) × Goes A logs d e (first_driven asks) last r (LinesMoveAs f r (all_lines f given_lines))
-    → RunsScript A logs d e f asks status script
-runs_script A logs d e f asks script said given_lines same say r status is (last, goes) = record {
+pub runs_script : (A : Type 0) {D : Type 0} (logs : D → D → List Transfer → Type 0) (d e : D)
+    (had got has : Option (List ℕ)) (f : Form) (asks : Bool) (script : List ℕ) (said given_lines : List DriveLine)
+    → given_lines ≡ said → Say f (lines_of script) said → (r : Result (Unit {0}) Stop) (status : ℕ) → IsStatusOf r status
+    → SaysStop A r status got has
+    → (last : Driven) × Goes A logs f d e had got (first_driven asks) last r (LinesMoveAs f r (all_lines f given_lines))
+    → RunsScript A logs d e had has f asks status script
+runs_script A logs d e had got has f asks script said given_lines same say r status is says (last, goes) = record {
   said = said;
   say = say;
   ended = r;
   is = is;
   last = last;
+  got = got;
   goes =
-      subst (λ (l : List DriveLine). Goes A logs d e (first_driven asks) last r (LinesMoveAs f r (all_lines f l))) same goes;
+      subst (λ (l : List DriveLine). Goes A logs f d e had got (first_driven asks) last r (LinesMoveAs f r (all_lines f l)))
+      same goes;
+  says = says;
 }

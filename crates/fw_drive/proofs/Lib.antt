@@ -4,4 +4,5 @@ pub mod KnownScripts
 pub mod LineRuns
 pub mod OneMove
 pub mod StopStatuses
+pub mod Texts
 pub mod Words

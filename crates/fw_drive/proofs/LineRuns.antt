@@ -1,30 +1,34 @@
 -- The moves of lines, one line after another.
 use Rattle.std.proofs.Common.{◌≡◌, ◌⊎◌, ◌+◌, ◌<◌, ℕ, List, [], ◌∷◌, ◌++◌, length, take, drop, get_or, inl, inr, refl, sym, ap, subst, ◌∙◌, append-nil, append_assoc, take-append-drop}
-use Rattle.std.specs.Prelude.{All, Result, Ok, Err}
+use Rattle.std.specs.Prelude.{All, Option, Result, Ok, Err}
 use Rattle.std.proofs.lemmas.List.{take_more}
 use Rattle.std.proofs.lemmas.List.Elements.{All-append, All-cons, All-nil, All-same, All-weaker}
 use Rattle.fuse_device.specs.Transfers.{Transfer}
 use Rattle.fk_kernel.specs.declared.pick.Pick.{Pick}
 use Rattle.fk_drive.specs.Driving.{Driven}
 use Rattle.fw_drive.specs.DriveLines.{IsOfCalls}
-use Rattle.fw_drive.specs.LineMoves.{Carries, FirstLinesMove, FirstThen, IsCarriedBy, IsCollected, IsMoveOf, IsSentBy, IsWritten, LinesMove, LinesMoveAs, MayFollow, Perhaps, all_lines, mount_line, mount_lines, next_line, no_line}
-use Rattle.fw_drive.specs.Moves.{Move, acts, sends, writes, collects, shows}
+use Rattle.fw_drive.specs.LineMoves.{Carries, FirstLinesMove, FirstThen, after_note, first_move, IsCarriedBy, IsCollected, IsMoveOf, IsSentBy, IsWritten, LinesMove, LinesMoveAs, MayFollow, Perhaps, all_lines, mount_line, mount_lines, next_line, no_line}
+use Rattle.fw_drive.specs.Moves.{Move, acts, sends, writes, collects, shows, notes}
+use Rattle.fw_drive.specs.Notes.{Note}
 use Rattle.fw_drive.specs.Runs.{Goes}
 use Rattle.fw_drive.specs.declared.form.Form.{Form}
 use Rattle.fw_drive.specs.declared.form.Form.TheVariants as form
 use Rattle.fw_drive.specs.declared.line.DriveLine.{DriveLine}
 use Rattle.fw_drive.specs.declared.line.DriveLine.TheVariants as line
 use Rattle.fw_drive.specs.declared.stop.Stop.{Stop}
+use Rattle.fw_drive.proofs.Following.{weaker}
 
 pub first_weaker : {A : Type 0} (F G R S : Move A → Type 0) → ((m : Move A) → F m → G m) → ((m : Move A) → R m → S m)
     → (moves : List (Move A)) → FirstThen F R moves → FirstThen G S moves
-first_weaker F G R S first rest [] holds = absurd holds
-first_weaker F G R S first rest (m ∷ moves) (is, are) = (first m is, All-weaker R S rest moves are)
+first_weaker F G R S first rest _ (first_move m is moves are) =
+    first_move m (first m is) moves (All-weaker R S rest moves are)
+first_weaker F G R S first rest _ (after_note note moves are) =
+    after_note note moves (first_weaker F G R S first rest moves are)
 
 pub first_on : {A : Type 0} (F R : Move A → Type 0) (m n : List (Move A)) → FirstThen F R m → All R n
     → FirstThen F R (m ++ n)
-first_on F R [] n holds more = absurd holds
-first_on F R (x ∷ m) n (is, are) more = (is, All-append R m n are more)
+first_on F R _ n (first_move x is m are) more = first_move x is (m ++ n) (All-append R m n are more)
+first_on F R _ n (after_note note m are) more = after_note note (m ++ n) (first_on F R m n are more)
 
 pub perhaps : {A T E : Type 0} (r : Result T E) (Are : List (Move A) → Type 0) (moves : List (Move A)) → Are moves
     → Perhaps r Are moves
@@ -39,12 +43,18 @@ perhaps_weaker (Err e) P Q less m (inr holds) = inr (less m holds)
 
 pub collected_carries : {A : Type 0} (move : Move A) → IsCollected move → Carries move
 collected_carries (collects call answer) is = tt
+collected_carries (notes note) is = tt
 collected_carries move is = absurd is
 
 pub collected_follows : {A : Type 0} (f : Form) (move : Move A) → IsCollected move → MayFollow f move
 collected_follows form.Events move is = is
 collected_follows form.Calls move is = collected_carries move is
 collected_follows form.CallsBeside move is = collected_carries move is
+
+pub note_follows : {A : Type 0} (f : Form) (note : Note A) → MayFollow f (notes note)
+note_follows form.Events note = tt
+note_follows form.Calls note = tt
+note_follows form.CallsBeside note = tt
 
 pub carries_follows : {A : Type 0} (f : Form) → IsOfCalls f → (move : Move A) → Carries move → MayFollow f move
 carries_follows form.Events of_calls move is = absurd of_calls
@@ -133,9 +143,10 @@ module _ {A : Type 0} (f : Form) where
 
 both_carry : {A : Type 0} (F : Move A → Type 0) → ((m : Move A) → F m → Carries m) → (moves : List (Move A))
     → FirstThen F IsCollected moves → All Carries moves
-both_carry F first [] holds = absurd holds
-both_carry F first (m ∷ moves) (is, are) =
+both_carry F first _ (first_move m is moves are) =
     All-cons Carries m moves (first m is) (All-weaker IsCollected Carries collected_carries moves are)
+both_carry F first _ (after_note note moves are) =
+    All-cons Carries (notes note) moves tt (both_carry F first moves are)
 
 written_one : {A : Type 0} (move : Move A) → IsWritten move → Carries move
 written_one (writes result) is = tt
@@ -176,13 +187,15 @@ failed_line line made First is says moves (inr are) =
     (λ move first. subst (λ (l : DriveLine). IsMoveOf l move) (sym is) (says move first)) (λ move is. is) moves are)
 
 -- a call made the moves of a line that is known
-pub said_line : (A : Type 0) {D T : Type 0} (logs : D → D → List Transfer → Type 0) (d : D) (driver : Driven)
-    (r : Result T Stop) (line made : DriveLine) → line ≡ made
-    → Goes A logs d d driver driver r (Perhaps r (FirstThen (IsMoveOf made) IsCollected))
-    → Goes A logs d d driver driver r (Perhaps r (FirstThen (IsMoveOf line) IsCollected))
-said_line A logs d driver r line made is goes =
-    subst (λ (l : DriveLine). Goes A logs d d driver driver r (Perhaps r (FirstThen (IsMoveOf l) IsCollected))) (sym is)
-    goes
+pub said_line : (A : Type 0) {D T : Type 0} (logs : D → D → List Transfer → Type 0) (f : Form) (d : D)
+    (had has : Option (List ℕ)) (driver : Driven) (r : Result T Stop) (line made : DriveLine) → line ≡ made
+    → Goes A logs f d d had has driver driver r (FirstThen (IsMoveOf made) IsCollected)
+    → Goes A logs f d d had has driver driver r (Perhaps r (FirstThen (IsMoveOf line) IsCollected))
+said_line A logs f d had has driver r line made is goes =
+    weaker A logs f d d had has driver driver r (FirstThen (IsMoveOf made) IsCollected)
+    (Perhaps r (FirstThen (IsMoveOf line) IsCollected)) goes
+    (λ m are. perhaps r (FirstThen (IsMoveOf line) IsCollected) m
+    (subst (λ (l : DriveLine). FirstThen (IsMoveOf l) IsCollected m) (sym is) are))
 
 -- ---- the lines of a script
 

@@ -1,17 +1,36 @@
 -- The statuses of a run are those of its end, and others.
-use Rattle.std.proofs.Common.{◌≡◌, ◌⊎◌, inl, inr, ℕ, zero, suc, List, [], ◌∷◌, arith, sym}
-use Rattle.std.specs.Prelude.{Contains, Option, codes}
+use Rattle.std.proofs.Common.{◌≡◌, ◌⊎◌, inl, inr, ℕ, zero, suc, List, [], ◌∷◌, arith, refl, subst, sym}
+use Rattle.std.specs.Prelude.{Contains, Err, Option, codes}
+use Rattle.fuse_spec.specs.declared.Refusal.TheVariants as refusals
 use Rattle.fw_script.specs.Outputs.{AppendsSome}
 use Rattle.fw_drive.specs.Judging.{JudgingEnds, SaysFirstFault, bad_status, bad_text}
+use Rattle.fw_drive.specs.Runs.{IsStatusOf, stop_status}
 use Rattle.fw_drive.specs.declared.form.Form.{Form}
 use Rattle.fw_drive.specs.declared.lines.BadScript.{BadScript}
 use Rattle.fw_drive.specs.declared.lines.BadScript.TheVariants as bad
+use Rattle.fw_drive.specs.declared.stop.Stop.{Stop}
+use Rattle.fw_drive.specs.declared.stop.Stop.TheVariants as stops
 
 pub among_all : (s : ℕ) → Contains (3 ∷ 4 ∷ 5 ∷ []) s → Contains (0 ∷ 1 ∷ 3 ∷ 4 ∷ 5 ∷ []) s
 among_all s (zero, low, is) = (2, omega arith, is)
 among_all s (suc zero, low, is) = (3, omega arith, is)
 among_all s (suc (suc zero), low, is) = (4, omega arith, is)
 among_all s (suc (suc (suc k)), low, is) = absurd (omega (arith, low))
+
+status_among : (stop : Stop) → Contains (3 ∷ 4 ∷ 5 ∷ []) (stop_status stop)
+status_among stops.NoMemory = (0, omega arith, refl)
+status_among stops.OutputRefused = (2, omega arith, refl)
+status_among (stops.Refused refusals.NoMemory) = (0, omega arith, refl)
+status_among (stops.Refused other) = (1, omega arith, refl)
+status_among stops.ServerEnded = (1, omega arith, refl)
+status_among stops.NoReply = (1, omega arith, refl)
+status_among stops.DeviceFailed = (1, omega arith, refl)
+status_among stops.TooMany = (1, omega arith, refl)
+
+-- that of a run which ended before its script
+pub stop_among : (stop : Stop) (s : ℕ) → IsStatusOf (Err stop) s → Contains (3 ∷ 4 ∷ 5 ∷ []) s
+stop_among stop s (inl is) = subst (λ (n : ℕ). Contains (3 ∷ 4 ∷ 5 ∷ []) n) (sym is) (status_among stop)
+stop_among stop s (inr (five, at)) = (2, omega arith, sym five)
 
 -- that of a run is neither 0 nor 1
 pub never_1 : (s : ℕ) → Contains (3 ∷ 4 ∷ 5 ∷ []) s → s ≡ 1 → ⊥

@@ -3,4 +3,6 @@ pub mod DriveLines
 pub mod Judging
 pub mod LineMoves
 pub mod Moves
+pub mod Notes
+pub mod Printed
 pub mod Runs

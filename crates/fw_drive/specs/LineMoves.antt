@@ -8,7 +8,8 @@ use Rattle.fw_world.specs.declared.event.Event.{Event}
 use Rattle.fw_world.specs.declared.event.Event.TheVariants as event
 use Rattle.fw_script.specs.Lines.{spelled}
 use Rattle.fw_script.specs.declared.line.Line.TheVariants as lines
-use Rattle.fw_drive.specs.Moves.{Move, acts, sends, writes, collects, shows}
+use Rattle.fw_drive.specs.Moves.{Move, acts, sends, writes, collects, shows, notes}
+use Rattle.fw_drive.specs.Notes.{Note}
 use Rattle.fw_drive.specs.declared.form.Form.{Form}
 use Rattle.fw_drive.specs.declared.form.Form.TheVariants as form
 use Rattle.fw_drive.specs.declared.line.DriveLine.{DriveLine}
@@ -40,9 +41,10 @@ IsMoveOf line.Write move = IsWritten move
 IsMoveOf line.Show (shows nodes) = Unit {0}
 IsMoveOf line.Show move = ⊥
 
--- an answer is collected
+-- an answer is collected, or something is said
 abbrev pub IsCollected : {A : Type 0} → Move A → Type 0
 IsCollected (collects call answer) = Unit {0}
+IsCollected (notes note) = Unit {0}
 IsCollected move = ⊥
 
 -- the request that has waited longest, or one forget
@@ -54,6 +56,7 @@ abbrev pub Carries : {A : Type 0} → Move A → Type 0
 Carries (sends picked free_fields result) = IsCarriedBy picked
 Carries (writes result) = Unit {0}
 Carries (collects call answer) = Unit {0}
+Carries (notes note) = Unit {0}
 Carries move = ⊥
 
 -- What may follow the move of a line, before the next line.
@@ -61,10 +64,12 @@ abbrev pub MayFollow : {A : Type 0} → Form → Move A → Type 0
 MayFollow form.Events move = IsCollected move
 MayFollow other move = Carries move
 
--- one such move, and then none but such
-abbrev pub FirstThen : {A : Type 0} → (First Rest : Move A → Type 0) → List (Move A) → Type 0
-FirstThen First Rest [] = ⊥
-FirstThen First Rest (first ∷ rest) = First first × All Rest rest
+-- one such move, and then none but such; before it something may be said
+pub data FirstThen {A : Type 0} (First Rest : Move A → Type 0) : List (Move A) → Type 0 where
+  first_move : (move : Move A) → First move → (rest : List (Move A)) → All Rest rest
+      → FirstThen First Rest (move ∷ rest)
+  after_note : (note : Note A) (moves : List (Move A)) → FirstThen First Rest moves
+      → FirstThen First Rest (notes note ∷ moves)
 
 -- Lines make these moves, one line after another.
 pub data LinesMove {A : Type 0} (form : Form) : List DriveLine → List (Move A) → Type 0 where

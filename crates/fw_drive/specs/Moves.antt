@@ -19,6 +19,7 @@ use Rattle.fw_world.specs.Values.{counted_nodes}
 use Rattle.fw_world.specs.declared.event.Event.{Event}
 use Rattle.fw_world.specs.declared.event.Outcome.{Outcome}
 use Rattle.fw_drive.specs.Acts.{Acts}
+use Rattle.fw_drive.specs.Notes.{Note}
 
 -- A move, with what it results in.
 pub data Move (A : Type 0) : Type 0 where
@@ -32,6 +33,8 @@ pub data Move (A : Type 0) : Type 0 where
   collects : ℕ → Answer A → Move A
   -- The nodes are shown that the kernel counts.
   shows : List (ℕ × ℕ × ℕ) → Move A
+  -- Something else is said.
+  notes : Note A → Move A
 
 -- A move makes this of what is driven, and this goes over the device at it.
 abbrev pub Moves : {A : Type 0} → Driven → Move A → List Transfer → Driven → Type 0
@@ -45,14 +48,16 @@ Moves old (collects call answer) log new =
       kernel = record old.kernel { vfs = record old.kernel.vfs { answers = remove old.kernel.vfs.answers call } };
     })
 Moves old (shows nodes) log new = (log ≡ []) × (nodes ≡ counted_nodes old.kernel.nodes) × (new ≡ old)
+Moves old (notes note) log new = (log ≡ []) × (new ≡ old)
 
 -- no answer waits
 abbrev pub IsSettled : Driven → Type 0
 IsSettled driven = driven.kernel.vfs.answers ≡ []
 
--- Before any other move the answers are collected that wait.
+-- Before any move that does something the answers are collected that wait.
 abbrev pub IsDue : {A : Type 0} → Driven → Move A → Type 0
 IsDue old (collects call answer) = Unit {0}
+IsDue old (notes note) = Unit {0}
 IsDue old move = IsSettled old
 
 -- Moves follow one another, each between requests.
@@ -72,3 +77,8 @@ end_of other = None
 -- It came to its end at none of these.
 abbrev pub GoOn : {A : Type 0} → List (Move A) → Type 0
 GoOn moves = All (λ move. end_of move ≡ None) moves
+
+-- something is said
+abbrev pub IsNote : {A : Type 0} → Move A → Type 0
+IsNote (notes note) = Unit {0}
+IsNote move = ⊥

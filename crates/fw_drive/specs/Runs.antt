@@ -1,15 +1,24 @@
 -- What a driver's calls are.
-use Rattle.std.specs.Prelude.{◌≡◌, ◌++◌, ◌∷◌, [], ℕ, Bool, Contains, List, All, Result, Ok, Err, OnOk, Some}
+use Rattle.std.specs.Prelude.{◌≡◌, ◌⊎◌, ◌++◌, ◌∷◌, [], ℕ, Bool, List, All, IfErr, Option, Result, Ok, Err, OnOk, Some}
+use Rattle.std.specs.Io.KnownBytes.{Appends}
+use Rattle.fuse_spec.specs.declared.Refusal.TheVariants as refusals
+use Rattle.fuse_device.specs.declared.device.DeviceEnd.TheVariants as device_ends
 use Rattle.fuse_device.specs.Transfers.{Transfer}
 use Rattle.fk_drive.specs.Driving.{Driven, Turn, first_driven, idle}
 use Rattle.fk_drive.specs.declared.end.DriveEnd.{DriveEnd}
+use Rattle.fk_drive.specs.declared.end.DriveEnd.TheVariants as drive_ends
+use Rattle.fk_drive.specs.declared.writing.Written.{Written}
+use Rattle.fw_script.specs.Outputs.{AppendsSome}
 use Rattle.fw_script.specs.Scripts.{lines_of}
 use Rattle.fw_drive.specs.Judging.{Say}
 use Rattle.fw_drive.specs.LineMoves.{IsCollected, LinesMoveAs, all_lines}
-use Rattle.fw_drive.specs.Moves.{GoOn, IsSettled, Move, MovesOn, end_of}
+use Rattle.fw_drive.specs.Moves.{GoOn, IsNote, IsSettled, Move, MovesOn, end_of}
+use Rattle.fw_drive.specs.Notes.{Note, notes_text}
+use Rattle.fw_drive.specs.Printed.{Gets, IsTextOf, IsWrittenLine, stop_line}
 use Rattle.fw_drive.specs.declared.form.Form.{Form}
 use Rattle.fw_drive.specs.declared.line.DriveLine.{DriveLine}
 use Rattle.fw_drive.specs.declared.stop.Stop.{Stop}
+use Rattle.fw_drive.specs.declared.stop.Stop.TheVariants as stops
 
 -- a driver at a turn
 abbrev pub at : Driven → Turn → Driven
@@ -19,21 +28,42 @@ at driver turn = record driver { turn = turn }
 abbrev pub Keeps : Driven → Driven → Type 0
 Keeps old new = (turn : Turn) → at new turn ≡ at old turn
 
--- A call failed: the run came to its end at the last of these moves, or at none.
+-- why nothing more is printed
+abbrev pub IsUnprinted : Stop → Type 0
+IsUnprinted stops.NoMemory = Unit {0}
+IsUnprinted stops.OutputRefused = Unit {0}
+IsUnprinted other = ⊥
+
+-- why a run ends before its server does: nothing more is printed, or the kernel refuses what cannot be gone on without
+abbrev pub IsOwnStop : Stop → Type 0
+IsOwnStop (stops.Refused refusal) = Unit {0}
+IsOwnStop other = IsUnprinted other
+
+-- the stop of an end
+abbrev pub stop_of : DriveEnd → Stop
+stop_of (drive_ends.Device device_ends.Ended) = stops.ServerEnded
+stop_of (drive_ends.Device device_ends.TimedOut) = stops.NoReply
+stop_of (drive_ends.Device device_ends.Failed) = stops.DeviceFailed
+stop_of drive_ends.Memory = stops.NoMemory
+stop_of drive_ends.TooMany = stops.TooMany
+stop_of (drive_ends.Refused refusal) = stops.Refused refusal
+
+-- A call failed: the run came to its end at one of these moves, behind which nothing was but said, or at none.
 pub data StopsAt {A : Type 0} (stop : Stop) (moves : List (Move A)) : Type 0 where
-  by_itself : GoOn moves → StopsAt stop moves
-  at_end : (before : List (Move A)) (last : Move A) → moves ≡ before ++ last ∷ [] → GoOn before → (end : DriveEnd)
-      → end_of last ≡ Some end → StopsAt stop moves
+  by_itself : GoOn moves → IsOwnStop stop → StopsAt stop moves
+  at_end : (before : List (Move A)) (last : Move A) (after : List (Move A)) → moves ≡ before ++ last ∷ after
+      → GoOn before → All IsNote after → (e : DriveEnd) → end_of last ≡ Some e → (stop ≡ stop_of e) ⊎ IsUnprinted stop
+      → StopsAt stop moves
 
 -- Where a call did not fail, it came to its end at none.
 abbrev pub EndsAs : {A T : Type 0} → Result T Stop → List (Move A) → Type 0
 EndsAs (Ok _) moves = GoOn moves
 EndsAs (Err stop) moves = StopsAt stop moves
 
--- A call makes these moves, and what went over the device is theirs. It begins and ends between requests, with no answer
--- that waits, but where it fails.
-pub record Goes (A : Type 0) {D T : Type 0} (logs : D → D → List Transfer → Type 0) (before after : D) (old new : Driven)
-    (result : Result T Stop) (Are : List (Move A) → Type 0) : Type 0 where
+-- A call makes these moves: what went over the device is theirs, and what the output got. It begins and ends between
+-- requests, with no answer that waits, but where it fails.
+pub record Goes (A : Type 0) {D T : Type 0} (logs : D → D → List Transfer → Type 0) (f : Form) (before after : D)
+    (had has : Option (List ℕ)) (old new : Driven) (result : Result T Stop) (Are : List (Move A) → Type 0) : Type 0 where
   pub moves : List (Move A)
   pub are : Are moves
   pub ends : EndsAs result moves
@@ -43,34 +73,68 @@ pub record Goes (A : Type 0) {D T : Type 0} (logs : D → D → List Transfer �
   pub log : List Transfer
   pub over : logs before after log
   pub on : IsSettled old → MovesOn (at old idle) moves log (at new turn)
+  pub text : List ℕ
+  pub lines : IsTextOf f moves text
+  pub printed : Gets result had has text
 
 -- nothing goes over a device
 abbrev pub NothingOver : Unit {0} → Unit {0} → List Transfer → Type 0
 NothingOver before after log = log ≡ []
 
 -- A call makes these moves with no device.
-abbrev pub GoesAlone : (A : Type 0) {T : Type 0} → Driven → Driven → Result T Stop → (List (Move A) → Type 0) → Type 0
-GoesAlone A old new result Are = Goes A NothingOver tt tt old new result Are
+abbrev pub GoesAlone : (A : Type 0) {T : Type 0} → Form → (had has : Option (List ℕ)) → Driven → Driven
+    → Result T Stop → (List (Move A) → Type 0) → Type 0
+GoesAlone A f had has old new result Are = Goes A NothingOver f tt tt had has old new result Are
 
--- Answers are collected that wait: all, or the first of them where that fails.
-pub record Collects (A : Type 0) {T : Type 0} (old new : Driven) (result : Result T Stop) : Type 0 where
+-- Behind what was printed first the answers are collected that wait: all, or the first of them where that fails.
+pub record Collects (A : Type 0) {T : Type 0} (f : Form) (first : List ℕ) (had has : Option (List ℕ)) (old new : Driven)
+    (result : Result T Stop) : Type 0 where
   pub moves : List (Move A)
   pub are : All IsCollected moves
+  pub own : IfErr result IsUnprinted
   pub settled : OnOk result (IsSettled new)
   pub on : MovesOn (at old idle) moves [] (at new idle)
+  pub text : List ℕ
+  pub lines : IsTextOf f moves text
+  pub printed : Gets result had has (first ++ text)
 
--- The exit status of a run that ended so.
+-- The run came to its end behind a frame that was written: it is printed, and what is said of it.
+pub record EndsBehind {A T : Type 0} (f : Form) (written : Written A) (end : DriveEnd) (had has : Option (List ℕ))
+    (result : Result T Stop) : Type 0 where
+  pub failed : OnOk result ⊥
+  pub stop : IfErr result (λ s. (s ≡ stop_of end) ⊎ IsUnprinted s)
+  pub before : List (Note A)
+  pub after : List (Note A)
+  pub line : List ℕ
+  pub is : IsWrittenLine f written line
+  pub printed : Gets result had has (notes_text before ++ (line ++ notes_text after))
+
+-- The exit status of a run that ended so: 3 where memory ran out, 5 where the output refused, also the last line.
+abbrev pub stop_status : Stop → ℕ
+stop_status stops.NoMemory = 3
+stop_status (stops.Refused refusals.NoMemory) = 3
+stop_status stops.OutputRefused = 5
+stop_status other = 4
+
 abbrev pub IsStatusOf : Result (Unit {0}) Stop → ℕ → Type 0
 IsStatusOf (Ok _) status = status ≡ 0
-IsStatusOf (Err stop) status = Contains (3 ∷ 4 ∷ 5 ∷ []) status
+IsStatusOf (Err stop) status = (status ≡ stop_status stop) ⊎ ((status ≡ 5) × (stop_status stop ≡ 4))
 
--- A script is run on a first kernel: its lines make their moves in their order, all of them where the status is 0, and
--- what goes over the device is theirs.
-pub record RunsScript (A : Type 0) {D : Type 0} (logs : D → D → List Transfer → Type 0) (before after : D) (form : Form)
-    (asks : Bool) (status : ℕ) (script : List ℕ) : Type 0 where
+-- The line that says it is printed last: at status 4 all of it.
+abbrev pub SaysStop : (A : Type 0) → Result (Unit {0}) Stop → ℕ → (had has : Option (List ℕ)) → Type 0
+SaysStop A (Ok _) status had has = has ≡ had
+SaysStop A (Err stop) status had has =
+    (status ≡ 4 → Appends had has (stop_line A stop)) × AppendsSome had has (stop_line A stop)
+
+-- A script is run on a first kernel: its lines make their moves in their order, all of them where the status is 0. What
+-- goes over the device is theirs, and so is what the output gets, with a line behind it where the run ended before.
+pub record RunsScript (A : Type 0) {D : Type 0} (logs : D → D → List Transfer → Type 0) (before after : D)
+    (had has : Option (List ℕ)) (f : Form) (asks : Bool) (status : ℕ) (script : List ℕ) : Type 0 where
   pub said : List DriveLine
-  pub say : Say form (lines_of script) said
+  pub say : Say f (lines_of script) said
   pub ended : Result (Unit {0}) Stop
   pub is : IsStatusOf ended status
   pub last : Driven
-  pub goes : Goes A logs before after (first_driven asks) last ended (LinesMoveAs form ended (all_lines form said))
+  pub got : Option (List ℕ)
+  pub goes : Goes A logs f before after had got (first_driven asks) last ended (LinesMoveAs f ended (all_lines f said))
+  pub says : SaysStop A ended status got has

@@ -1,13 +1,20 @@
 //! The same calls in a world of this project's own.
 
+ghost use Rattle.std.specs.Prelude.{◌≡◌, ◌++◌, ℕ, IfErr, IfOk, List, codes};
+ghost use Rattle.fw_script.specs.Records.{answer_text};
+ghost use Rattle.fw_drive.specs.Notes.{Note, notes_text};
+ghost use Rattle.fw_drive.specs.Printed.{Gets};
+ghost use Rattle.fw_drive.specs.Runs.{IsUnprinted};
+
 use crate::alike::are_alike;
 use crate::asked::{Asked, is_made_otherwise, is_refused_as_above};
-use crate::printing::taken;
+use crate::printing::{print_compared, print_difference};
 use crate::stop::Stop;
-use fw_script::{OutputRefused, write_record};
+use fw_script::write_record;
 use fw_world::{
     Answer, Call, Event, Minor, Outcome, Pick, Record, Refusal, Tables, Taken, WorldOf,
 };
+use std::alloc::Allocator;
 use std::collections::BTreeMap;
 use std::io::Write;
 
@@ -233,7 +240,10 @@ impl<T: Tables> Beside<T> {
         call: u64,
         answer: Answer<T::Heap>,
         out: &mut W,
-    ) -> Result<(), Stop> {
+    ) -> Result<(), Stop>
+        ensures printed { (said : List (Note T.Heap)) × Gets result (W.contents out.old) (W.contents out.new) (notes_text said) }
+        ensures own { IfErr result IsUnprinted }
+    {
         let Some((_call, here)) = self.world.collect() else {
             return Ok(());
         };
@@ -241,27 +251,11 @@ impl<T: Tables> Beside<T> {
         match self.is_right(call, &answer, &here) {
             Ok(true) => Ok(()),
             Ok(false) => {
-                self.print_differing(call, answer, here, out)?;
-                Ok(())
+                self.differences = self.differences.saturating_add(1);
+                print_differing(self.alloc, call, answer, here, out)
             }
             Err(_) => Err(Stop::NoMemory),
         }
-    }
-
-    /// Prints that an answer differs from the one here, and counts it.
-    fn print_differing<W: Write>(
-        &mut self,
-        call: u64,
-        answer: Answer<T::Heap>,
-        here: Answer<T::Heap>,
-        out: &mut W,
-    ) -> Result<(), OutputRefused> {
-        self.differences = self.differences.saturating_add(1);
-        let mut text = Vec::new(self.alloc);
-        write_record(&mut text, &Record::Answered { call, answer })?;
-        let mut here_text = Vec::new(self.alloc);
-        write_record(&mut here_text, &Record::Answered { call, answer: here })?;
-        print_difference(out, text.as_slice(), here_text.as_slice())
     }
 
     /// Prints how many answers were compared, and how many of them differ.
@@ -269,28 +263,64 @@ impl<T: Tables> Beside<T> {
     /// # Errors
     ///
     /// The output refused.
-    pub(crate) fn print_count<W: Write>(&self, out: &mut W) -> Result<(), OutputRefused> {
-        let answers = self.answers;
-        let differences = self.differences;
-        taken(writeln!(out, "answers {answers} differ {differences}"))
+    pub(crate) fn print_count<W: Write>(&self, out: &mut W) -> Result<(), Stop>
+        ensures printed { (said : List (Note T.Heap)) × Gets result (W.contents out.old) (W.contents out.new) (notes_text said) }
+        ensures own { IfErr result IsUnprinted }
+    {
+        match print_compared::<T::Heap, W>(out, self.answers, self.differences) {
+            Ok(()) => Ok(()),
+            Err(_refused) => Err(Stop::OutputRefused),
+        }
     }
 }
 
-/// A line without its line feed.
-fn without_feed(line: &[u8]) -> &[u8] {
-    line.strip_suffix(b"\n").unwrap_or(line)
+/// The line of an answered call.
+fn line_of<A: Allocator + Copy>(alloc: A, call: u64, answer: Answer<A>) -> Result<Vec<u8, A>, Stop>
+    ensures ok { IfOk result (λ line. line.items ≡ answer_text call answer) }
+    ensures own { IfErr result IsUnprinted }
+{
+    let mut line = Vec::new(alloc);
+    match write_record(&mut line, &Record::Answered { call, answer }) {
+        Ok(()) => Ok(line),
+        Err(_refused) => Err(Stop::NoMemory),
+    }
 }
 
-/// Prints two answers that differ, by their lines.
-fn print_difference<W: Write>(
+/// Prints two answers to a call that differ.
+fn print_differing<A: Allocator + Copy, W: Write>(
+    alloc: A,
+    call: u64,
+    answer: Answer<A>,
+    here: Answer<A>,
     out: &mut W,
-    answer: &[u8],
-    here: &[u8],
-) -> Result<(), OutputRefused> {
-    let here = without_feed(here);
-    taken(out.write_all(b"differs: "))?;
-    taken(out.write_all(without_feed(answer)))?;
-    taken(out.write_all(b", here"))?;
-    taken(out.write_all(here.strip_prefix(b"answer").unwrap_or(here)))?;
-    taken(out.write_all(b"\n"))
+) -> Result<(), Stop>
+    ensures printed { (said : List (Note A)) × Gets result (W.contents out.old) (W.contents out.new) (notes_text said) }
+    ensures own { IfErr result IsUnprinted }
+{
+    let answered = match line_of(alloc, call, answer) {
+        Ok(line) => line,
+        Err(stop) => return Err(stop),
+    };
+    let answered_here = match line_of(alloc, call, here) {
+        Ok(line) => line,
+        Err(stop) => return Err(stop),
+    };
+    match print_difference(
+        out,
+        said_in(answered.as_slice()),
+        said_in(answered_here.as_slice()),
+    ) {
+        Ok(()) => Ok(()),
+        Err(_refused) => Err(Stop::OutputRefused),
+    }
+}
+
+/// What stands in the line of an answered call behind its first word: the call's number and its answer.
+fn said_in(line: &[u8]) -> &[u8]
+    ensures { (words : List ℕ) → line.now ≡ codes "answer " ++ words ++ codes "\n" → result.now ≡ words }
+{
+    if line.len() < 8 {
+        return line;
+    }
+    &line[7..line.len() - 1]
 }

@@ -1,11 +1,12 @@
 //! Calls are carried to their answers.
 
-ghost use Rattle.std.specs.Prelude.{All};
+ghost use Rattle.std.specs.Prelude.{All, IfErr};
 ghost use Rattle.fw_drive.specs.LineMoves.{Carries, FirstThen, IsCarriedBy, IsMoveOf, mount_line};
-ghost use Rattle.fw_drive.specs.Runs.{Goes};
+ghost use Rattle.fw_drive.specs.Runs.{Goes, IsOwnStop};
 
 use crate::driver::Driver;
-use crate::moves::{act, receive, send};
+use crate::form::Form;
+use crate::moves::{Moved, act, receive, send};
 use crate::notes::Notes;
 use crate::stop::Stop;
 use fuse_device::Device;
@@ -13,7 +14,9 @@ use fw_world::{Event, Minor, Pick, Refusal, Tables};
 use std::io::Write;
 
 /// Whether what the kernel said of a frame ended a request.
-fn is_ended(received: Result<Option<u64>, Refusal>, unique: u64) -> Result<bool, Stop> {
+fn is_ended(received: Moved, unique: u64) -> Result<bool, Stop>
+    ensures own { IfErr result IsOwnStop }
+{
     match received {
         Ok(ended) => Ok(ended == Some(unique)),
         Err(refusal) => Err(Stop::Refused(refusal)),
@@ -25,12 +28,14 @@ fn receive_toward<T: Tables, D: Device, W: Write>(
     driver: &mut Driver<T>,
     device: &mut D,
     notes: &mut Notes<T>,
+    form: Form,
     unique: u64,
     out: &mut W,
 ) -> Result<bool, Stop>
-    ensures { Goes T.Heap D.logs device.old device.new driver.old driver.new result (All Carries) }
+    ensures { Goes T.Heap D.logs form device.old device.new (W.contents out.old) (W.contents out.new)
+        driver.old driver.new result (All Carries) }
 {
-    match receive(driver, device, notes, out) {
+    match receive(driver, device, notes, form, out) {
         Ok(received) => is_ended(received, unique),
         Err(stop) => Err(stop),
     }
@@ -41,13 +46,15 @@ fn await_reply<T: Tables, D: Device, W: Write>(
     driver: &mut Driver<T>,
     device: &mut D,
     notes: &mut Notes<T>,
+    form: Form,
     unique: u64,
     out: &mut W,
 ) -> Result<bool, Stop>
-    ensures { Goes T.Heap D.logs device.old device.new driver.old driver.new result (All Carries) }
+    ensures { Goes T.Heap D.logs form device.old device.new (W.contents out.old) (W.contents out.new)
+        driver.old driver.new result (All Carries) }
 {
     for _frame in 0..u64::MAX {
-        match receive_toward(driver, device, notes, unique, out) {
+        match receive_toward(driver, device, notes, form, unique, out) {
             Ok(true) => return Ok(true),
             Ok(false) => {}
             Err(stop) => return Err(stop),
@@ -57,7 +64,9 @@ fn await_reply<T: Tables, D: Device, W: Write>(
 }
 
 /// Whether a request was sent that has no reply. There is none where the kernel has no such request, or no mount.
-fn is_sent(sent: Result<Option<u64>, Refusal>) -> Result<bool, Stop> {
+fn is_sent(sent: Moved) -> Result<bool, Stop>
+    ensures own { IfErr result IsOwnStop }
+{
     match sent {
         Ok(_) => Ok(true),
         Err(Refusal::NoSuch | Refusal::NotReady) => Ok(false),
@@ -70,14 +79,16 @@ fn carry_one<T: Tables, D: Device, W: Write>(
     driver: &mut Driver<T>,
     device: &mut D,
     notes: &mut Notes<T>,
+    form: Form,
     pick: Pick,
     out: &mut W,
 ) -> Result<bool, Stop>
     requires { IsCarriedBy pick }
-    ensures { Goes T.Heap D.logs device.old device.new driver.old driver.new result (All Carries) }
+    ensures { Goes T.Heap D.logs form device.old device.new (W.contents out.old) (W.contents out.new)
+        driver.old driver.new result (All Carries) }
 {
-    match send(driver, device, notes, pick, out) {
-        Ok(Ok(Some(unique))) => await_reply(driver, device, notes, unique, out),
+    match send(driver, device, notes, form, pick, out) {
+        Ok(Ok(Some(unique))) => await_reply(driver, device, notes, form, unique, out),
         Ok(sent) => is_sent(sent),
         Err(stop) => Err(stop),
     }
@@ -88,14 +99,16 @@ fn carry_all<T: Tables, D: Device, W: Write>(
     driver: &mut Driver<T>,
     device: &mut D,
     notes: &mut Notes<T>,
+    form: Form,
     pick: Pick,
     out: &mut W,
 ) -> Result<(), Stop>
     requires { IsCarriedBy pick }
-    ensures { Goes T.Heap D.logs device.old device.new driver.old driver.new result (All Carries) }
+    ensures { Goes T.Heap D.logs form device.old device.new (W.contents out.old) (W.contents out.new)
+        driver.old driver.new result (All Carries) }
 {
     for _request in 0..u64::MAX {
-        match carry_one(driver, device, notes, pick, out) {
+        match carry_one(driver, device, notes, form, pick, out) {
             Ok(true) => {}
             Ok(false) => return Ok(()),
             Err(stop) => return Err(stop),
@@ -109,12 +122,14 @@ pub(crate) fn carry<T: Tables, D: Device, W: Write>(
     driver: &mut Driver<T>,
     device: &mut D,
     notes: &mut Notes<T>,
+    form: Form,
     out: &mut W,
 ) -> Result<(), Stop>
-    ensures { Goes T.Heap D.logs device.old device.new driver.old driver.new result (All Carries) }
+    ensures { Goes T.Heap D.logs form device.old device.new (W.contents out.old) (W.contents out.new)
+        driver.old driver.new result (All Carries) }
 {
-    match carry_all(driver, device, notes, Pick::Pending(0), out) {
-        Ok(()) => carry_all(driver, device, notes, Pick::Forgets(1), out),
+    match carry_all(driver, device, notes, form, Pick::Pending(0), out) {
+        Ok(()) => carry_all(driver, device, notes, form, Pick::Forgets(1), out),
         Err(stop) => Err(stop),
     }
 }
@@ -124,9 +139,11 @@ pub(crate) fn mount<T: Tables, D: Device, W: Write>(
     driver: &mut Driver<T>,
     device: &mut D,
     notes: &mut Notes<T>,
+    form: Form,
     out: &mut W,
 ) -> Result<(), Stop>
-    ensures { Goes T.Heap D.logs device.old device.new driver.old driver.new result
+    ensures { Goes T.Heap D.logs form device.old device.new (W.contents out.old) (W.contents out.new)
+        driver.old driver.new result
         (FirstThen (IsMoveOf mount_line) Carries) }
 {
     let event = Event::Mount {
@@ -135,7 +152,7 @@ pub(crate) fn mount<T: Tables, D: Device, W: Write>(
         minor: Minor::M31,
     };
     match act(driver, notes, &event, out) {
-        Ok(()) => carry(driver, device, notes, out),
+        Ok(()) => carry(driver, device, notes, form, out),
         Err(stop) => Err(stop),
     }
 }

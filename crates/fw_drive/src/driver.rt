@@ -6,6 +6,7 @@ ghost use Rattle.fuse_device.specs.Transfers.{Transfer};
 ghost use Rattle.fk_syscalls.specs.Values.{answer_of};
 ghost use Rattle.fk_drive.specs.Driving.{Turn, first_driven, idle};
 ghost use Rattle.fk_drive_frames.specs.declared.filling.FreeFields.{FreeFields as Fields};
+ghost use Rattle.fw_world.specs.Values.{counted_nodes};
 ghost use Rattle.fw_drive.specs.Acts.{Acts};
 ghost use Rattle.fw_drive.specs.Moves.{Moves, sends, writes};
 ghost use Rattle.fw_drive.specs.Runs.{Keeps, at};
@@ -20,7 +21,6 @@ use fuse_frames::RequestFrame;
 use fuse_spec::Refusal;
 use fw_world::{Event, Outcome, Tables};
 use std::alloc::AllocError;
-use std::io::Write;
 use std::marker::Model;
 
 /// A kernel, its connection to a server, and what is said in fields that are free.
@@ -108,11 +108,10 @@ impl<T: Tables> Driver<T> {
     /// # Errors
     ///
     /// As the kernel refuses it, or the run came to its end.
-    pub(crate) fn send<D: Device, N: FrameNotes, W: Write>(
+    pub(crate) fn send<D: Device, N: FrameNotes>(
         &mut self,
         device: &mut D,
         notes: &mut N,
-        out: &mut W,
         pick: Pick,
     ) -> Result<RequestFrame<T::Heap>, NotSent>
         ensures { (fields : Fields) × (turn : Turn) × (log : List Transfer) × D.logs device.old device.new log
@@ -124,7 +123,6 @@ impl<T: Tables> Driver<T> {
             &mut self.connection,
             device,
             notes,
-            out,
             pick,
             free_fields,
         )
@@ -136,16 +134,15 @@ impl<T: Tables> Driver<T> {
     /// # Errors
     ///
     /// The run came to its end before there was one.
-    pub(crate) fn receive<D: Device, N: FrameNotes, W: Write>(
+    pub(crate) fn receive<D: Device, N: FrameNotes>(
         &mut self,
         device: &mut D,
         notes: &mut N,
-        out: &mut W,
     ) -> Result<Result<Written<T::Heap>, Refusal>, DriveEnd>
         ensures { (log : List Transfer) × D.logs device.old device.new log
             × Moves {A = T.Heap} (at self.old idle) (writes result) log (at self.new idle) }
     {
-        write_next(&mut self.kernel, &mut self.connection, device, notes, out)
+        write_next(&mut self.kernel, &mut self.connection, device, notes)
     }
 
     /// Whether a call waits for its answer.
@@ -154,7 +151,9 @@ impl<T: Tables> Driver<T> {
     }
 
     /// The nodes that the kernel counts, each its id, its generation and its lookup count.
-    pub(crate) fn nodes(&self) -> Result<Vec<(u64, u64, u64), T::Heap>, AllocError> {
+    pub(crate) fn nodes(&self) -> Result<Vec<(u64, u64, u64), T::Heap>, AllocError>
+        ensures { IfOk result (λ nodes. nodes.items ≡ counted_nodes self.now.kernel.nodes) }
+    {
         self.kernel.nodes(self.alloc)
     }
 }

@@ -1,7 +1,5 @@
 //! What a server did wrong.
 
-use std::fmt;
-
 /// What a server did wrong, as far as a reply shows.
 #[derive(Clone, Copy, Debug, PartialEq, Eq)]
 pub(crate) enum Fault {
@@ -19,18 +17,4 @@ pub(crate) enum Fault {
     TwoGenerations { node: u64 },
     /// It gives a node, which the kernel counts, for another file: of another kind, or of another inode number.
     TwoFiles { node: u64 },
-}
-
-impl fmt::Display for Fault {
-    fn fmt<W: fmt::Write>(&self, f: &mut fmt::Formatter<W>) -> fmt::Result {
-        match *self {
-            Fault::NoReply => write!(f, "no reply's head"),
-            Fault::ToNothing => write!(f, "reply to nothing"),
-            Fault::Second => write!(f, "second reply"),
-            Fault::Body => write!(f, "body is not its request's"),
-            Fault::Root => write!(f, "the root given for a name"),
-            Fault::TwoGenerations { node } => write!(f, "node {node} under two generations"),
-            Fault::TwoFiles { node } => write!(f, "node {node} given for two files at once"),
-        }
-    }
 }

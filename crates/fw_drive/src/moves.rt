@@ -1,21 +1,31 @@
 //! One move of a driven kernel, printed.
 
-ghost use Rattle.std.specs.Prelude.{◌≡◌, IfNone, IfSome, OnOk};
+ghost use Rattle.std.specs.Prelude.{◌≡◌, ◌⊎◌, ◌++◌, [], ℕ, IfErr, IfNone, IfSome, List, codes};
+ghost use Rattle.fw_script.specs.Records.{nodes_text};
+ghost use Rattle.fw_world.specs.Values.{counted_nodes};
 ghost use Rattle.fw_drive.specs.LineMoves.{FirstThen, IsCollected, IsEvent, IsSentBy, IsWritten, Perhaps};
-ghost use Rattle.fw_drive.specs.Runs.{Collects, Goes, GoesAlone};
+ghost use Rattle.fw_drive.specs.Notes.{Note, notes_text};
+ghost use Rattle.fw_drive.specs.Printed.{Gets, GetsAt, IsRequestLine, IsWrittenLine, of_frame, refusal_text};
+ghost use Rattle.fw_drive.specs.Runs.{Collects, EndsBehind, Goes, GoesAlone, IsUnprinted};
+ghost use Rattle.fw_drive.specs.declared.form.Form.{Form as FormOf};
 
 use crate::driver::Driver;
+use crate::form::Form;
 use crate::notes::Notes;
-use crate::printing::{print_nodes, print_refusal};
+use crate::printing::{print_frame, print_refusal, print_refused, shown_unique};
 use crate::stop::{Stop, stop_at};
 use fk_drive::{NotSent, Written};
 use fk_wire::{Opcode, ReplyHead};
 use fuse_device::Device;
 use fuse_frames::RequestFrame;
 use fuse_spec::WriteResult;
-use fw_world::{Event, Pick, Refusal, Tables};
+use fw_script::write_nodes;
+use fw_world::{Event, Outcome, Pick, Refusal, Tables};
 use std::alloc::Allocator;
 use std::io::Write;
+
+/// What a move gives back: the number of a request, if one, or why the kernel refuses.
+pub(crate) type Moved = Result<Option<u64>, Refusal>;
 
 /// Collects the answers that wait, in rising number of their calls, and prints them.
 fn collect_answers<T: Tables, W: Write>(
@@ -23,11 +33,12 @@ fn collect_answers<T: Tables, W: Write>(
     notes: &mut Notes<T>,
     out: &mut W,
 ) -> Result<(), Stop>
-    ensures { Collects T.Heap driver.old driver.new result }
+    ensures { (f : FormOf) → Collects T.Heap f [] (W.contents out.old) (W.contents out.new) driver.old driver.new result }
 {
     while let Some((call, answer)) = driver.collect() {
-        if let Err(stop) = notes.note_answer(call, answer, out) {
-            return Err(stop);
+        match notes.note_answer(call, answer, out) {
+            Ok(()) => {}
+            Err(stop) => return Err(stop),
         }
     }
     Ok(())
@@ -40,17 +51,18 @@ pub(crate) fn act<T: Tables, W: Write>(
     event: &Event<'_>,
     out: &mut W,
 ) -> Result<(), Stop>
-    ensures { GoesAlone T.Heap driver.old driver.new result (FirstThen (IsEvent event.now) IsCollected) }
+    ensures { (f : FormOf) → GoesAlone T.Heap f (W.contents out.old) (W.contents out.new) driver.old driver.new result
+        (FirstThen (IsEvent event.now) IsCollected) }
 {
     match driver.act(event) {
         Ok(outcome) => match notes.note_outcome(event, outcome, out) {
             Ok(()) => collect_answers(driver, notes, out),
             Err(stop) => Err(stop),
         },
-        Err(refusal) => {
-            print_refusal::<T::Heap, W>(out, refusal)?;
-            Ok(())
-        }
+        Err(refusal) => match print_refusal::<T::Heap, W>(out, refusal) {
+            Ok(()) => Ok(()),
+            Err(_refused) => Err(Stop::OutputRefused),
+        },
     }
 }
 
@@ -63,23 +75,73 @@ fn unique_awaited<T: Tables>(driver: &Driver<T>, unique: u64, opcode: Opcode) ->
     }
 }
 
-/// Notes a request that was sent, and prints the answers that wait. Gives the number whose reply is to come, if one is.
+/// Prints what was noted, a request that was sent, and the answers that wait. Gives the number whose reply is to come, if
+/// one is.
 fn note_request<T: Tables, W: Write>(
     driver: &mut Driver<T>,
     notes: &mut Notes<T>,
+    form: Form,
     frame: &RequestFrame<T::Heap>,
     out: &mut W,
-) -> Result<Result<Option<u64>, Refusal>, Stop>
-    ensures { Collects T.Heap driver.old driver.new result }
+) -> Result<Moved, Stop>
+    ensures { (before : List (Note T.Heap)) × (line : List ℕ) × IsRequestLine T.Heap form frame.now line
+        × Collects T.Heap form (notes_text before ++ line) (W.contents out.old) (W.contents out.new) driver.old driver.new
+        result }
 {
-    if let Err(stop) = notes.note_sent(frame, out) {
+    let (unique, opcode) = frame.head();
+    let len = frame.bytes().len();
+    if let Err(stop) = notes.print_noted(out) {
         return Err(stop);
     }
-    let (unique, opcode) = frame.head();
-    let awaited = unique_awaited(driver, unique, opcode);
-    match collect_answers(driver, notes, out) {
-        Ok(()) => Ok(Ok(awaited)),
-        Err(stop) => Err(stop),
+    if notes.note_sent(frame).is_err() {
+        return Err(Stop::NoMemory);
+    }
+    let read = Outcome::Read {
+        unique,
+        opcode,
+        len,
+    };
+    match print_frame::<T::Heap, W>(out, form, read) {
+        Ok(()) => {
+            let awaited = unique_awaited(driver, unique, opcode);
+            match collect_answers(driver, notes, out) {
+                Ok(()) => Ok(Ok(awaited)),
+                Err(stop) => Err(stop),
+            }
+        }
+        Err(_refused) => Err(Stop::OutputRefused),
+    }
+}
+
+/// Prints what was noted, and why the kernel refuses.
+fn note_refusal<T: Tables, W: Write>(
+    notes: &mut Notes<T>,
+    form: Form,
+    refusal: Refusal,
+    out: &mut W,
+) -> Result<Moved, Stop>
+    ensures printed { (before : List (Note T.Heap)) × Gets result (W.contents out.old) (W.contents out.new)
+        (notes_text before ++ of_frame form (refusal_text T.Heap refusal)) }
+    ensures own { IfErr result IsUnprinted }
+{
+    if let Err(stop) = notes.print_noted(out) {
+        return Err(stop);
+    }
+    match print_refused::<T::Heap, W>(out, form, refusal) {
+        Ok(()) => Ok(Err(refusal)),
+        Err(_refused) => Err(Stop::OutputRefused),
+    }
+}
+
+/// Prints what was noted before a run came to its end. Gives why it ends.
+fn note_end<T: Tables, W: Write>(notes: &mut Notes<T>, stop: Stop, out: &mut W) -> Stop
+    ensures printed { (before : List (Note T.Heap)) × GetsAt result (W.contents out.old) (W.contents out.new)
+        (notes_text before) }
+    ensures own { (result ≡ stop) ⊎ IsUnprinted result }
+{
+    match notes.print_noted(out) {
+        Ok(()) => stop,
+        Err(unprinted) => unprinted,
     }
 }
 
@@ -88,24 +150,21 @@ pub(crate) fn send<T: Tables, D: Device, W: Write>(
     driver: &mut Driver<T>,
     device: &mut D,
     notes: &mut Notes<T>,
+    form: Form,
     pick: Pick,
     out: &mut W,
-) -> Result<Result<Option<u64>, Refusal>, Stop>
-    ensures { Goes T.Heap D.logs device.old device.new driver.old driver.new result
-        (Perhaps result (FirstThen (IsSentBy pick) IsCollected)) }
+) -> Result<Moved, Stop>
+    ensures { Goes T.Heap D.logs form device.old device.new (W.contents out.old) (W.contents out.new) driver.old driver.new
+        result (Perhaps result (FirstThen (IsSentBy pick) IsCollected)) }
 {
     if out.flush().is_err() {
         return Err(Stop::OutputRefused);
     }
-    let sent = driver.send(device, notes, out, pick);
-    if let Err(stop) = notes.all_printed() {
-        return Err(stop);
-    }
-    match sent {
-        Ok(frame) => note_request(driver, notes, &frame, out),
+    match driver.send(device, notes, pick) {
+        Ok(frame) => note_request(driver, notes, form, &frame, out),
         Err(not_sent) => match not_sent {
-            NotSent::Refused(refusal) => Ok(Err(refusal)),
-            NotSent::Ended(end) => Err(stop_at(end)),
+            NotSent::Refused(refusal) => note_refusal(notes, form, refusal, out),
+            NotSent::Ended(end) => Err(note_end(notes, stop_at(end), out)),
         },
     }
 }
@@ -118,18 +177,44 @@ fn ended_by<A: Allocator>(written: &Written<A>) -> Option<u64> {
     }
 }
 
-/// Notes a frame that was written to the kernel, and prints the answers that wait, where the run goes on behind it. Gives
-/// the request that it ended, if one.
+/// Prints what was noted, a frame that was written to the kernel, and what is to be said of it.
+fn print_reply<T: Tables, W: Write>(
+    notes: &mut Notes<T>,
+    form: Form,
+    written: &Written<T::Heap>,
+    out: &mut W,
+) -> Result<(), Stop>
+    ensures printed { (before after : List (Note T.Heap)) × (line : List ℕ) × IsWrittenLine form written.now line
+        × Gets result (W.contents out.old) (W.contents out.new) (notes_text before ++ (line ++ notes_text after)) }
+    ensures own { IfErr result IsUnprinted }
+{
+    let unique = shown_unique(written.frame.as_slice());
+    let result = written.result;
+    if let Err(stop) = notes.print_noted(out) {
+        return Err(stop);
+    }
+    match print_frame::<T::Heap, W>(out, form, Outcome::Written { unique, result }) {
+        Ok(()) => notes.note_written(written, out),
+        Err(_refused) => Err(Stop::OutputRefused),
+    }
+}
+
+/// Prints what is to be said of a frame that was written to the kernel, and the answers that wait, where the run goes on
+/// behind it. Gives the request that it ended, if one.
 fn note_reply<T: Tables, W: Write>(
     driver: &mut Driver<T>,
     notes: &mut Notes<T>,
+    form: Form,
     written: &Written<T::Heap>,
     out: &mut W,
-) -> Result<Result<Option<u64>, Refusal>, Stop>
-    ensures some { IfSome written.now.end (λ end. (driver.new ≡ driver.old) × OnOk result ⊥) }
-    ensures none { IfNone written.now.end (Collects T.Heap driver.old driver.new result) }
+) -> Result<Moved, Stop>
+    ensures some { IfSome written.now.end (λ end. (driver.new ≡ driver.old)
+        × EndsBehind form written.now end (W.contents out.old) (W.contents out.new) result) }
+    ensures none { IfNone written.now.end ((before : List (Note T.Heap)) × (line : List ℕ) × IsWrittenLine form written.now line
+        × Collects T.Heap form (notes_text before ++ line) (W.contents out.old) (W.contents out.new) driver.old driver.new
+        result) }
 {
-    if let Err(stop) = notes.note_written(written, out) {
+    if let Err(stop) = print_reply(notes, form, written, out) {
         return Err(stop);
     }
     if let Some(end) = written.end {
@@ -146,32 +231,33 @@ pub(crate) fn receive<T: Tables, D: Device, W: Write>(
     driver: &mut Driver<T>,
     device: &mut D,
     notes: &mut Notes<T>,
+    form: Form,
     out: &mut W,
-) -> Result<Result<Option<u64>, Refusal>, Stop>
-    ensures { Goes T.Heap D.logs device.old device.new driver.old driver.new result
-        (Perhaps result (FirstThen IsWritten IsCollected)) }
+) -> Result<Moved, Stop>
+    ensures { Goes T.Heap D.logs form device.old device.new (W.contents out.old) (W.contents out.new) driver.old driver.new
+        result (Perhaps result (FirstThen IsWritten IsCollected)) }
 {
     if out.flush().is_err() {
         return Err(Stop::OutputRefused);
     }
-    let received = driver.receive(device, notes, out);
-    if let Err(stop) = notes.all_printed() {
-        return Err(stop);
-    }
-    match received {
-        Ok(Ok(written)) => note_reply(driver, notes, &written, out),
-        Ok(Err(refusal)) => Ok(Err(refusal)),
-        Err(end) => Err(stop_at(end)),
+    match driver.receive(device, notes) {
+        Ok(Ok(written)) => note_reply(driver, notes, form, &written, out),
+        Ok(Err(refusal)) => note_refusal(notes, form, refusal, out),
+        Err(end) => Err(note_end(notes, stop_at(end), out)),
     }
 }
 
 /// Prints the nodes that the kernel counts.
-pub(crate) fn show<T: Tables, W: Write>(driver: &Driver<T>, out: &mut W) -> Result<(), Stop> {
+pub(crate) fn show<T: Tables, W: Write>(driver: &Driver<T>, out: &mut W) -> Result<(), Stop>
+    ensures printed { Gets result (W.contents out.old) (W.contents out.new)
+        (nodes_text (codes "kernel") (counted_nodes driver.now.kernel.nodes)) }
+    ensures own { IfErr result IsUnprinted }
+{
     match driver.nodes() {
-        Ok(nodes) => {
-            print_nodes(out, nodes.as_slice())?;
-            Ok(())
-        }
+        Ok(nodes) => match write_nodes(out, b"kernel", nodes.as_slice()) {
+            Ok(()) => Ok(()),
+            Err(_refused) => Err(Stop::OutputRefused),
+        },
         Err(_) => Err(Stop::NoMemory),
     }
 }

@@ -1,12 +1,16 @@
 //! What is kept and printed beside a driven kernel.
 
-ghost use Rattle.std.specs.Prelude.{◌≡◌};
+ghost use Rattle.std.specs.Prelude.{◌≡◌, ◌++◌, IfErr, List};
+ghost use Rattle.fk_syscalls.specs.declared.call.Answer.{Answer as GivenAnswer};
+ghost use Rattle.fw_script.specs.Records.{answer_text};
+ghost use Rattle.fw_drive.specs.Notes.{Note, notes_text};
+ghost use Rattle.fw_drive.specs.Printed.{Gets, outcome_text};
+ghost use Rattle.fw_drive.specs.Runs.{IsUnprinted};
 
 use crate::beside::Beside;
+use crate::fault::Fault;
 use crate::form::Form;
-use crate::printing::{
-    print_fault, print_notification, print_outcome, print_raised, print_sent, print_written, taken,
-};
+use crate::printing::{print_fault, print_notification, print_outcome, print_raised};
 use crate::stop::Stop;
 use crate::watch::Watch;
 use fk_drive::{Noted, Notes as FrameNotes, OtherFrame, Written};
@@ -14,21 +18,24 @@ use fuse_frames::RequestFrame;
 use fuse_spec::WriteResult;
 use fw_script::write_record;
 use fw_world::{Answer, Event, Outcome, Record, Refusal, Tables};
+use std::alloc::AllocError;
 use std::io::Write;
 
-/// The stop where a world beside refuses, which is only where memory is out.
-fn stop_beside(_refusal: Refusal) -> Stop {
-    Stop::NoMemory
-}
-
-/// What is kept beside a driven kernel: what its server is known by, the world beside it, and room for bytes.
+/// What is kept beside a driven kernel: what its server is known by, the world beside it, and what was noted of frames
+/// and is not yet printed.
 #[derive(Drop)]
 pub(crate) struct Notes<T: Tables> {
-    pub(crate) form: Form,
+    alloc: T::Heap,
     watch: Watch<T::Heap>,
     beside: Option<Beside<T>>,
-    /// Why what was noted of frames is printed no more, if so.
-    ended: Result<(), Stop>,
+    noted: Vec<Noted, T::Heap>,
+    /// Whether memory was out for what was noted.
+    is_lacking: bool,
+}
+
+/// The minor that an agreement says, at byte 20 of its frame (`struct fuse_init_out`).
+fn minor_of(frame: &[u8]) -> Option<u8> {
+    frame.get(20).copied()
 }
 
 impl<T: Tables> Notes<T> {
@@ -37,51 +44,58 @@ impl<T: Tables> Notes<T> {
     /// # Errors
     ///
     /// Out of memory.
-    pub(crate) fn new(alloc: T::Heap, form: Form) -> Result<Self, Stop> {
+    pub(crate) fn new(alloc: T::Heap, form: Form) -> Result<Self, Stop>
+        ensures own { IfErr result IsUnprinted }
+    {
         let beside = match form {
-            Form::CallsBeside => Some(Beside::new(alloc).map_err(stop_beside)?),
+            Form::CallsBeside => match Beside::new(alloc) {
+                Ok(beside) => Some(beside),
+                Err(_) => return Err(Stop::NoMemory),
+            },
             Form::Events | Form::Calls => None,
         };
         Ok(Notes {
-            form,
+            alloc,
             watch: Watch::new(alloc),
             beside,
-            ended: Ok(()),
+            noted: Vec::new(alloc),
+            is_lacking: false,
         })
     }
 
     /// Ends the world beside, if there is one.
     pub(crate) fn end(self) {
         let Notes {
-            form: _,
+            alloc: _,
             watch,
             beside,
-            ended: _,
+            noted,
+            is_lacking: _,
         } = self;
         drop(watch);
+        drop(noted);
         if let Some(beside) = beside {
             beside.end();
         }
     }
 
-    /// Whether each frame is printed.
-    fn prints_frames(&self) -> bool {
-        !self.form.is_of_calls()
-    }
-
     /// Notes what the kernel counts and awaits anew after an event.
-    fn watch_outcome(&mut self, outcome: Outcome) -> Result<(), Stop> {
+    fn watch_outcome(&mut self, outcome: Outcome) -> Result<(), AllocError> {
         match outcome {
-            Outcome::Mounted => {
-                if self.watch.note_mount().is_err() {
-                    return Err(Stop::NoMemory);
-                }
-            }
+            Outcome::Mounted => self.watch.note_mount()?,
             Outcome::Aborted => self.watch.note_abort(),
             Outcome::Evicted { node, .. } => self.watch.note_evicted(node),
             _ => {}
         }
         Ok(())
+    }
+
+    /// The same event happens in the world beside, if there is one, which refuses only where memory is out.
+    fn follow(&mut self, event: &Event<'_>, outcome: Outcome) -> Result<(), Refusal> {
+        match &mut self.beside {
+            Some(beside) => beside.follow(event, outcome),
+            None => Ok(()),
+        }
     }
 
     /// Prints what an event came to, and notes it.
@@ -90,11 +104,34 @@ impl<T: Tables> Notes<T> {
         event: &Event<'_>,
         outcome: Outcome,
         out: &mut W,
-    ) -> Result<(), Stop> {
-        self.watch_outcome(outcome)?;
-        print_outcome::<T::Heap, W>(out, outcome)?;
+    ) -> Result<(), Stop>
+        ensures printed { Gets result (W.contents out.old) (W.contents out.new) (outcome_text T.Heap outcome) }
+        ensures own { IfErr result IsUnprinted }
+    {
+        if self.watch_outcome(outcome).is_err() {
+            return Err(Stop::NoMemory);
+        }
+        match print_outcome::<T::Heap, W>(out, outcome) {
+            Ok(()) => match self.follow(event, outcome) {
+                Ok(()) => Ok(()),
+                Err(_) => Err(Stop::NoMemory),
+            },
+            Err(_refused) => Err(Stop::OutputRefused),
+        }
+    }
+
+    /// Compares an answer with that of the world beside, if there is one, and prints that it differs.
+    fn compare<W: Write>(
+        &mut self,
+        call: u64,
+        answer: Answer<T::Heap>,
+        out: &mut W,
+    ) -> Result<(), Stop>
+        ensures printed { (said : List (Note T.Heap)) × Gets result (W.contents out.old) (W.contents out.new) (notes_text said) }
+        ensures own { IfErr result IsUnprinted }
+    {
         match &mut self.beside {
-            Some(beside) => beside.follow(event, outcome).map_err(stop_beside),
+            Some(beside) => beside.compare(call, answer, out),
             None => Ok(()),
         }
     }
@@ -105,94 +142,170 @@ impl<T: Tables> Notes<T> {
         call: u64,
         answer: Answer<T::Heap>,
         out: &mut W,
-    ) -> Result<(), Stop> {
+    ) -> Result<(), Stop>
+        ensures printed { (said : List (Note T.Heap)) × Gets result (W.contents out.old) (W.contents out.new)
+            (answer_text call answer ++ notes_text said) }
+        ensures own { IfErr result IsUnprinted }
+    {
         let record = Record::Answered { call, answer };
-        write_record(out, &record)?;
-        match (&mut self.beside, record) {
-            (Some(beside), Record::Answered { call, answer }) => beside.compare(call, answer, out),
-            _ => Ok(()),
+        match write_record(out, &record) {
+            Ok(()) => match record {
+                Record::Answered { call, answer } => self.compare(call, answer, out),
+                _ => Err(Stop::NoMemory),
+            },
+            Err(_refused) => Err(Stop::OutputRefused),
         }
     }
 
-    /// Prints a request that was sent, and notes it.
-    pub(crate) fn note_sent<W: Write>(
-        &mut self,
-        frame: &RequestFrame<T::Heap>,
-        out: &mut W,
-    ) -> Result<(), Stop> {
+    /// Notes a request that was sent.
+    pub(crate) fn note_sent(&mut self, frame: &RequestFrame<T::Heap>) -> Result<(), AllocError> {
         let (unique, opcode) = frame.head();
-        if self.watch.note_sent(unique, opcode, frame.bytes()).is_err() {
-            return Err(Stop::NoMemory);
-        }
-        if self.prints_frames() {
-            print_sent(out, frame)?;
-        }
-        Ok(())
+        self.watch.note_sent(unique, opcode, frame.bytes())
     }
 
-    /// Prints a frame that was written to the kernel, and what the server did wrong.
+    /// Prints what the server did wrong, if it did.
+    fn print_judged<W: Write>(
+        judged: Result<Option<Fault>, AllocError>,
+        out: &mut W,
+    ) -> Result<(), Stop>
+        ensures printed { (said : List (Note T.Heap)) × Gets result (W.contents out.old) (W.contents out.new) (notes_text said) }
+        ensures own { IfErr result IsUnprinted }
+    {
+        match judged {
+            Ok(None) => Ok(()),
+            Ok(Some(fault)) => match print_fault::<T::Heap, W>(out, fault) {
+                Ok(()) => Ok(()),
+                Err(_refused) => Err(Stop::OutputRefused),
+            },
+            Err(_) => Err(Stop::NoMemory),
+        }
+    }
+
+    /// Prints that an older agreement was handed on as one on 7.31, if one was.
+    fn note_raised<W: Write>(written: &Written<T::Heap>, out: &mut W) -> Result<(), Stop>
+        ensures printed { (said : List (Note T.Heap)) × Gets result (W.contents out.old) (W.contents out.new) (notes_text said) }
+        ensures own { IfErr result IsUnprinted }
+    {
+        if !written.is_raised || written.result != WriteResult::Accepted {
+            return Ok(());
+        }
+        match minor_of(written.frame.as_slice()) {
+            Some(minor) => match print_raised::<T::Heap, W>(out, minor) {
+                Ok(()) => Ok(()),
+                Err(_refused) => Err(Stop::OutputRefused),
+            },
+            None => Ok(()),
+        }
+    }
+
+    /// Prints what is to be said of a frame that was written to the kernel.
     pub(crate) fn note_written<W: Write>(
         &mut self,
         written: &Written<T::Heap>,
         out: &mut W,
-    ) -> Result<(), Stop> {
-        if self.prints_frames() {
-            print_written(out, written)?;
+    ) -> Result<(), Stop>
+        ensures printed { (said : List (Note T.Heap)) × Gets result (W.contents out.old) (W.contents out.new) (notes_text said) }
+        ensures own { IfErr result IsUnprinted }
+    {
+        match Self::note_raised(written, out) {
+            Ok(()) => {
+                let judged = self.watch.judge(written);
+                Self::print_judged(judged, out)
+            }
+            Err(stop) => Err(stop),
         }
-        if written.is_raised && written.result == WriteResult::Accepted {
-            print_raised(out, written.frame.as_slice())?;
+    }
+
+    /// Prints a notification.
+    fn print_aside<W: Write>(noted: Noted, out: &mut W) -> Result<(), Stop>
+        ensures printed { (said : List (Note T.Heap)) × Gets result (W.contents out.old) (W.contents out.new) (notes_text said) }
+        ensures own { IfErr result IsUnprinted }
+    {
+        match noted {
+            Noted::SetAside(OtherFrame::Notification { code, len }) => {
+                match print_notification::<T::Heap, W>(out, code, len) {
+                    Ok(()) => Ok(()),
+                    Err(_refused) => Err(Stop::OutputRefused),
+                }
+            }
+            _ => Ok(()),
         }
-        let Ok(fault) = self.watch.judge(written) else {
-            return Err(Stop::NoMemory);
-        };
-        if let Some(fault) = fault {
-            print_fault(out, fault)?;
+    }
+
+    /// Prints a notification, or what the server did wrong at OPENDIR or RELEASEDIR.
+    fn print_one<W: Write>(&mut self, noted: Noted, out: &mut W) -> Result<(), Stop>
+        ensures printed { (said : List (Note T.Heap)) × Gets result (W.contents out.old) (W.contents out.new) (notes_text said) }
+        ensures own { IfErr result IsUnprinted }
+    {
+        match Self::print_aside(noted, out) {
+            Ok(()) => {
+                let judged = self.watch.judge_noted(noted);
+                Self::print_judged(judged, out)
+            }
+            Err(stop) => Err(stop),
+        }
+    }
+
+    /// Prints these, one after another.
+    fn print_each<W: Write>(&mut self, noted: &[Noted], out: &mut W) -> Result<(), Stop>
+        ensures printed { (said : List (Note T.Heap)) × Gets result (W.contents out.old) (W.contents out.new) (notes_text said) }
+        ensures own { IfErr result IsUnprinted }
+    {
+        for one in noted {
+            match self.print_one(*one, out) {
+                Ok(()) => {}
+                Err(stop) => return Err(stop),
+            }
         }
         Ok(())
     }
 
-    /// Prints a notification, or what the server did wrong at OPENDIR or RELEASEDIR, and hands it on.
-    fn print_noted<W: Write>(&mut self, noted: Noted, out: &mut W) -> Result<(), Stop> {
-        if let Noted::SetAside(OtherFrame::Notification { code, len }) = noted {
-            print_notification(out, code, len)?;
+    /// Whether memory was there for all that was noted.
+    fn all_noted(&self) -> Result<(), Stop>
+        ensures own { IfErr result IsUnprinted }
+    {
+        if self.is_lacking {
+            Err(Stop::NoMemory)
+        } else {
+            Ok(())
         }
-        let Ok(fault) = self.watch.judge_noted(noted) else {
-            return Err(Stop::NoMemory);
-        };
-        if let Some(fault) = fault {
-            print_fault(out, fault)?;
-        }
-        taken(out.flush())?;
-        Ok(())
     }
 
-    /// Whether all that was noted of frames is printed.
+    /// Prints all that was noted of frames as they came, and forgets it.
     ///
     /// # Errors
     ///
     /// The output refused, or out of memory.
-    pub(crate) fn all_printed(&self) -> Result<(), Stop>
-        ensures { result ≡ self.now.ended }
+    pub(crate) fn print_noted<W: Write>(&mut self, out: &mut W) -> Result<(), Stop>
+        ensures printed { (said : List (Note T.Heap)) × Gets result (W.contents out.old) (W.contents out.new) (notes_text said) }
+        ensures own { IfErr result IsUnprinted }
     {
-        self.ended
+        let noted = std::mem::replace(&mut self.noted, Vec::new(self.alloc));
+        match self.print_each(noted.as_slice(), out) {
+            Ok(()) => self.all_noted(),
+            Err(stop) => Err(stop),
+        }
     }
 
-    /// Prints how the answers of the world beside compare.
-    pub(crate) fn print_count<W: Write>(&self, out: &mut W) -> Result<(), Stop> {
-        if let Some(beside) = &self.beside {
-            beside.print_count(out)?;
+    /// Prints how the answers of the world beside compare, if there is one.
+    pub(crate) fn print_count<W: Write>(&self, out: &mut W) -> Result<(), Stop>
+        ensures printed { (said : List (Note T.Heap)) × Gets result (W.contents out.old) (W.contents out.new) (notes_text said) }
+        ensures own { IfErr result IsUnprinted }
+    {
+        match &self.beside {
+            Some(beside) => beside.print_count(out),
+            None => Ok(()),
         }
-        Ok(())
     }
 }
 
 impl<T: Tables> FrameNotes for Notes<T> {
-    // What is printed is tested alone.
+    // Which frames are noted is tested alone.
     ghost notes = { λ old new noted. Unit {0} };
 
-    fn note<W: Write>(&mut self, noted: Noted, out: &mut W) {
-        if self.ended.is_ok() {
-            self.ended = self.print_noted(noted, out);
+    fn note(&mut self, noted: Noted) {
+        if self.noted.push(noted).is_err() {
+            self.is_lacking = true;
         }
     }
 }

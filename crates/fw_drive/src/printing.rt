@@ -1,28 +1,32 @@
 //! What is printed of a driven run.
 
-use crate::fault::Fault;
-use fk_drive::Written;
-use fk_wire::ReplyHead;
-use fuse_frames::RequestFrame;
-use fw_script::{OutputRefused, write_record};
-use fw_world::{Outcome, Record, Refusal};
-use std::alloc::Allocator;
-use std::io;
-use std::io::Write;
+ghost use Rattle.std.specs.Prelude.{◌≡◌, ◌++◌, OnErr, OnOk, codes, decimal};
+ghost use Rattle.std.specs.Io.KnownBytes.{Appends};
+ghost use Rattle.fuse_frames.specs.RequestTies.{asked_opcode};
+ghost use Rattle.fk_syscalls.specs.declared.call.Answer.{Answer as AnswerValue};
+ghost use Rattle.fw_script.specs.Outputs.{AppendsSome};
+ghost use Rattle.fw_script.specs.Records.{outcome_line, record_text};
+ghost use Rattle.fw_world.specs.declared.event.Outcome.TheVariants as outcomes;
+ghost use Rattle.fw_drive.specs.Notes.{compared, differs, fault_words, note_text, notification, raised, wrong};
+ghost use Rattle.fw_drive.specs.Printed.{IsShownUnique, of_frame, outcome_text, refusal_text};
 
-/// Whether the output took what was written.
-pub(crate) fn taken(written: io::Result<()>) -> Result<(), OutputRefused> {
-    match written {
-        Ok(()) => Ok(()),
-        Err(_) => Err(OutputRefused),
-    }
-}
+use crate::fault::Fault;
+use crate::form::Form;
+use fk_wire::{Opcode, ReplyHead};
+use fuse_spec::WriteResult;
+use fw_script::{OutputRefused, write_number, write_record, write_text};
+use fw_world::{Answer, Outcome, Record, Refusal};
+use std::alloc::Allocator;
+use std::io::Write;
 
 /// Prints what an event came to.
 pub(crate) fn print_outcome<A: Allocator, W: Write>(
     out: &mut W,
     outcome: Outcome,
-) -> Result<(), OutputRefused> {
+) -> Result<(), OutputRefused>
+    ensures ok { OnOk result (Appends (W.contents out.old) (W.contents out.new) (outcome_text A outcome)) }
+    ensures refused { OnErr result (AppendsSome (W.contents out.old) (W.contents out.new) (outcome_text A outcome)) }
+{
     write_record(out, &Record::<A>::Outcome(outcome))
 }
 
@@ -30,70 +34,207 @@ pub(crate) fn print_outcome<A: Allocator, W: Write>(
 pub(crate) fn print_refusal<A: Allocator, W: Write>(
     out: &mut W,
     refusal: Refusal,
-) -> Result<(), OutputRefused> {
+) -> Result<(), OutputRefused>
+    ensures ok { OnOk result (Appends (W.contents out.old) (W.contents out.new) (refusal_text A refusal)) }
+    ensures refused { OnErr result (AppendsSome (W.contents out.old) (W.contents out.new) (refusal_text A refusal)) }
+{
     write_record(out, &Record::<A>::Refused(refusal))
 }
 
-/// Prints a request that was sent.
-pub(crate) fn print_sent<A: Allocator, W: Write>(
+/// Prints what came to a frame, where the script is of events.
+pub(crate) fn print_frame<A: Allocator, W: Write>(
     out: &mut W,
-    frame: &RequestFrame<A>,
-) -> Result<(), OutputRefused> {
-    let (unique, opcode) = frame.head();
-    let len = frame.bytes().len();
-    print_outcome::<A, W>(
-        out,
-        Outcome::Read {
-            unique,
-            opcode,
-            len,
-        },
-    )
+    form: Form,
+    outcome: Outcome,
+) -> Result<(), OutputRefused>
+    ensures ok { OnOk result (Appends (W.contents out.old) (W.contents out.new) (of_frame form (outcome_text A outcome))) }
+    ensures refused { OnErr result (AppendsSome (W.contents out.old) (W.contents out.new)
+        (of_frame form (outcome_text A outcome))) }
+{
+    match form {
+        Form::Events => print_outcome::<A, W>(out, outcome),
+        Form::Calls | Form::CallsBeside => Ok(()),
+    }
 }
 
-/// Prints a frame that was written to the kernel, and what the kernel said.
-pub(crate) fn print_written<A: Allocator, W: Write>(
+/// Prints why the kernel refuses a frame, or to be read, where the script is of events.
+pub(crate) fn print_refused<A: Allocator, W: Write>(
     out: &mut W,
-    written: &Written<A>,
-) -> Result<(), OutputRefused> {
-    let unique = match ReplyHead::read(written.frame.as_slice()) {
+    form: Form,
+    refusal: Refusal,
+) -> Result<(), OutputRefused>
+    ensures ok { OnOk result (Appends (W.contents out.old) (W.contents out.new) (of_frame form (refusal_text A refusal))) }
+    ensures refused { OnErr result (AppendsSome (W.contents out.old) (W.contents out.new)
+        (of_frame form (refusal_text A refusal))) }
+{
+    match form {
+        Form::Events => print_refusal::<A, W>(out, refusal),
+        Form::Calls | Form::CallsBeside => Ok(()),
+    }
+}
+
+/// The number that is printed of a frame of the server: that in its head, or 0 where it has none.
+pub(crate) fn shown_unique(frame: &[u8]) -> u64
+    ensures { IsShownUnique frame.now result }
+{
+    match ReplyHead::read(frame) {
         Ok(head) => head.unique,
         Err(_) => 0,
-    };
-    let result = written.result;
-    print_outcome::<A, W>(out, Outcome::Written { unique, result })
+    }
 }
 
-/// Prints that an older agreement was handed on as one on 7.31. Its minor is at byte 20 (`struct fuse_init_out`).
-pub(crate) fn print_raised<W: Write>(out: &mut W, frame: &[u8]) -> Result<(), OutputRefused> {
-    match frame.get(20) {
-        Some(minor) => taken(writeln!(out, "7.{minor} taken as 7.31")),
-        None => Ok(()),
+/// Prints words and a number behind them.
+pub(crate) fn print_counted<W: Write>(
+    out: &mut W,
+    words: &[u8],
+    number: u64,
+) -> Result<(), OutputRefused>
+    ensures ok { OnOk result (Appends (W.contents out.old) (W.contents out.new) (words.now ++ decimal number)) }
+    ensures refused { OnErr result (AppendsSome (W.contents out.old) (W.contents out.new) (words.now ++ decimal number)) }
+{
+    write_text(out, words)?;
+    write_number(out, number)
+}
+
+/// Prints words, a number and other words.
+fn print_between<W: Write>(
+    out: &mut W,
+    before: &[u8],
+    number: u64,
+    after: &[u8],
+) -> Result<(), OutputRefused>
+    ensures ok { OnOk result (Appends (W.contents out.old) (W.contents out.new)
+        (before.now ++ (decimal number ++ after.now))) }
+    ensures refused { OnErr result (AppendsSome (W.contents out.old) (W.contents out.new)
+        (before.now ++ (decimal number ++ after.now))) }
+{
+    print_counted(out, before, number)?;
+    write_text(out, after)
+}
+
+/// Prints that an older agreement was handed on as one on 7.31.
+pub(crate) fn print_raised<A: Allocator, W: Write>(
+    out: &mut W,
+    minor: u8,
+) -> Result<(), OutputRefused>
+    ensures ok { OnOk result (Appends (W.contents out.old) (W.contents out.new) (note_text {A = A} (raised minor))) }
+    ensures refused { OnErr result (AppendsSome (W.contents out.old) (W.contents out.new) (note_text {A = A} (raised minor))) }
+{
+    print_between(out, b"7.", u64::from(minor), b" taken as 7.31\n")
+}
+
+/// Prints what a server did wrong, in words.
+fn print_fault_words<W: Write>(out: &mut W, fault: Fault) -> Result<(), OutputRefused>
+    ensures ok { OnOk result (Appends (W.contents out.old) (W.contents out.new) (fault_words fault)) }
+    ensures refused { OnErr result (AppendsSome (W.contents out.old) (W.contents out.new) (fault_words fault)) }
+{
+    match fault {
+        Fault::NoReply => write_text(out, b"no reply's head"),
+        Fault::ToNothing => write_text(out, b"reply to nothing"),
+        Fault::Second => write_text(out, b"second reply"),
+        Fault::Body => write_text(out, b"body is not its request's"),
+        Fault::Root => write_text(out, b"the root given for a name"),
+        Fault::TwoGenerations { node } => print_between(
+            out,
+            b"node ",
+            node,
+            b" under two generations",
+        ),
+        Fault::TwoFiles { node } => print_between(
+            out,
+            b"node ",
+            node,
+            b" given for two files at once",
+        ),
     }
 }
 
 /// Prints what a server did wrong.
-pub(crate) fn print_fault<W: Write>(out: &mut W, fault: Fault) -> Result<(), OutputRefused> {
-    taken(writeln!(out, "{fault}"))
+pub(crate) fn print_fault<A: Allocator, W: Write>(
+    out: &mut W,
+    fault: Fault,
+) -> Result<(), OutputRefused>
+    ensures ok { OnOk result (Appends (W.contents out.old) (W.contents out.new) (note_text {A = A} (wrong fault))) }
+    ensures refused { OnErr result (AppendsSome (W.contents out.old) (W.contents out.new) (note_text {A = A} (wrong fault))) }
+{
+    print_fault_words(out, fault)?;
+    write_text(out, b"\n")
+}
+
+/// Prints words and a number, other words and a number, and a line feed.
+fn print_numbers<W: Write>(
+    out: &mut W,
+    words: &[u8],
+    number: u64,
+    more: &[u8],
+    last: u64,
+) -> Result<(), OutputRefused>
+    ensures ok { OnOk result (Appends (W.contents out.old) (W.contents out.new)
+        (words.now ++ (decimal number ++ (more.now ++ (decimal last ++ codes "\n"))))) }
+    ensures refused { OnErr result (AppendsSome (W.contents out.old) (W.contents out.new)
+        (words.now ++ (decimal number ++ (more.now ++ (decimal last ++ codes "\n"))))) }
+{
+    print_counted(out, words, number)?;
+    print_between(out, more, last, b"\n")
 }
 
 /// Prints a notification.
-pub(crate) fn print_notification<W: Write>(
+pub(crate) fn print_notification<A: Allocator, W: Write>(
     out: &mut W,
     code: u32,
     len: usize,
-) -> Result<(), OutputRefused> {
-    taken(writeln!(out, "notification {code} {len}"))
+) -> Result<(), OutputRefused>
+    ensures ok { OnOk result (Appends (W.contents out.old) (W.contents out.new) (note_text {A = A} (notification code len))) }
+    ensures refused { OnErr result (AppendsSome (W.contents out.old) (W.contents out.new)
+        (note_text {A = A} (notification code len))) }
+{
+    print_numbers(out, b"notification ", u64::from(code), b" ", len as u64)
 }
 
-/// Prints the nodes that the kernel counts, each as `id:generation:count`.
-pub(crate) fn print_nodes<W: Write>(
+/// Prints how many answers were compared, and how many of them differ.
+pub(crate) fn print_compared<A: Allocator, W: Write>(
     out: &mut W,
-    nodes: &[(u64, u64, u64)],
-) -> Result<(), OutputRefused> {
-    taken(out.write_all(b"kernel"))?;
-    for (id, generation, count) in nodes {
-        taken(write!(out, " {id}:{generation}:{count}"))?;
-    }
-    taken(out.write_all(b"\n"))
+    answers: u64,
+    differences: u64,
+) -> Result<(), OutputRefused>
+    ensures ok { OnOk result (Appends (W.contents out.old) (W.contents out.new)
+        (note_text {A = A} (compared answers differences))) }
+    ensures refused { OnErr result (AppendsSome (W.contents out.old) (W.contents out.new)
+        (note_text {A = A} (compared answers differences))) }
+{
+    print_numbers(out, b"answers ", answers, b" differ ", differences)
+}
+
+/// Prints words and what follows them.
+fn print_both<W: Write>(out: &mut W, words: &[u8], more: &[u8]) -> Result<(), OutputRefused>
+    ensures ok { OnOk result (Appends (W.contents out.old) (W.contents out.new) (words.now ++ more.now)) }
+    ensures refused { OnErr result (AppendsSome (W.contents out.old) (W.contents out.new) (words.now ++ more.now)) }
+{
+    write_text(out, words)?;
+    write_text(out, more)
+}
+
+/// Prints what follows words, and a line feed.
+fn print_last<W: Write>(out: &mut W, words: &[u8], more: &[u8]) -> Result<(), OutputRefused>
+    ensures ok { OnOk result (Appends (W.contents out.old) (W.contents out.new) (words.now ++ (more.now ++ codes "\n"))) }
+    ensures refused { OnErr result (AppendsSome (W.contents out.old) (W.contents out.new)
+        (words.now ++ (more.now ++ codes "\n"))) }
+{
+    print_both(out, words, more)?;
+    write_text(out, b"\n")
+}
+
+/// Prints that the answer to a call differs from the one here, each by its call's number and its words.
+pub(crate) fn print_difference<W: Write>(
+    out: &mut W,
+    answer: &[u8],
+    here: &[u8],
+) -> Result<(), OutputRefused>
+    ensures ok { OnOk result (Appends (W.contents out.old) (W.contents out.new)
+        (codes "differs: answer " ++ (answer.now ++ (codes ", here " ++ (here.now ++ codes "\n"))))) }
+    ensures refused { OnErr result (AppendsSome (W.contents out.old) (W.contents out.new)
+        (codes "differs: answer " ++ (answer.now ++ (codes ", here " ++ (here.now ++ codes "\n"))))) }
+{
+    print_both(out, b"differs: answer ", answer)?;
+    print_last(out, b", here ", here)
 }

@@ -45,7 +45,8 @@ fn run_driver<T: Tables, D: Device, W: Write>(
     lines: &[DriveLine<'_>],
     out: &mut W,
 ) -> Result<(), Stop>
-    ensures { Goes T.Heap D.logs device.old device.new driver.old driver.new result
+    ensures { Goes T.Heap D.logs form device.old device.new (W.contents out.old) (W.contents out.new) driver.old driver.new
+        result
         (LinesMoveAs form result (all_lines form lines.now)) }
 {
     match run_script(alloc, driver, device, notes, form, lines, out) {
@@ -62,8 +63,8 @@ fn run_good<T: Tables, D: Device, W: Write>(
     lines: &[DriveLine<'_>],
     out: &mut W,
 ) -> Result<(), Stop>
-    ensures { (last : Driven) × Goes T.Heap D.logs device.old device.new (first_driven task.entry.opens_directories) last
-        result (LinesMoveAs task.entry.form result (all_lines task.entry.form lines.now)) }
+    ensures { (last : Driven) × Goes T.Heap D.logs task.entry.form device.old device.new (W.contents out.old)
+        (W.contents out.new) (first_driven task.entry.opens_directories) last result (LinesMoveAs task.entry.form result (all_lines task.entry.form lines.now)) }
 {
     let mut notes = match Notes::<T>::new(alloc, task.form) {
         Ok(notes) => notes,
@@ -158,7 +159,8 @@ fn run_text<A: Allocator + Copy, D: Device, W: Write, F: Write>(
     ensures no_memory { result ≡ 3 → AppendsSome (F.contents faults.old) (F.contents faults.new) (codes "no memory\n") }
     ensures no_fault { (result ≡ 0) ⊎ (result ≡ 4) ⊎ (result ≡ 5) → faults.new ≡ faults.old }
     ensures drives { (new : Driven) × DrivesOver D.logs device.old device.new (first_driven task.entry.opens_directories) new }
-    ensures moves { RunsScript A D.logs device.old device.new task.entry.form task.entry.opens_directories result script.now
+    ensures moves { RunsScript A D.logs device.old device.new (W.contents out.old) (W.contents out.new)
+        task.entry.form task.entry.opens_directories result script.now
         ⊎ ((device.new ≡ device.old) × (out.new ≡ out.old) × ((result ≡ 1) ⊎ (result ≡ 3))) }
 {
     let lines = match read_lines(alloc, task.form, script) {
@@ -197,9 +199,11 @@ pub fn run_drive<A: Allocator + Copy, D: Device, R: Read, W: Write, F: Write>(
     ensures no_memory { result ≡ 3 → AppendsSome (F.contents faults.old) (F.contents faults.new) (codes "no memory\n") }
     ensures no_fault { (result ≡ 0) ⊎ (result ≡ 4) ⊎ (result ≡ 5) → faults.new ≡ faults.old }
     ensures drives { (new : Driven) × DrivesOver D.logs device.old device.new (first_driven task.entry.opens_directories) new }
-    // The lines of the script are run, in their order, and none is left out at status 0.
+    // The lines of the script are run, in their order, and none is left out at status 0. What is printed is the text of
+    // what they come to.
     ensures moves { IfSome (R.remaining input.old)
-        (RunsScript A D.logs device.old device.new task.entry.form task.entry.opens_directories result)
+        (RunsScript A D.logs device.old device.new (W.contents out.old) (W.contents out.new) task.entry.form
+        task.entry.opens_directories result)
         ⊎ ((device.new ≡ device.old) × (out.new ≡ out.old) × ((result ≡ 1) ⊎ (result ≡ 3))) }
 {
     match read_script(alloc, task, input, faults) {

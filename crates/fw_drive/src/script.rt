@@ -1,8 +1,14 @@
 //! The lines of a script, one after another.
 
-ghost use Rattle.std.specs.Prelude.{◌++◌, All};
+ghost use Rattle.std.specs.Prelude.{◌++◌, All, IfErr, List, codes};
+ghost use Rattle.std.specs.Io.KnownBytes.{Keeps as KeepsContents};
+ghost use Rattle.fw_script.specs.Records.{nodes_text};
+ghost use Rattle.fw_world.specs.Values.{counted_nodes};
 ghost use Rattle.fw_drive.specs.LineMoves.{FirstThen, IsCollected, IsMoveOf, LinesMoveAs, MayFollow, Perhaps, mount_lines};
-ghost use Rattle.fw_drive.specs.Runs.{Goes, GoesAlone};
+ghost use Rattle.fw_drive.specs.Notes.{Note, notes_text};
+ghost use Rattle.fw_drive.specs.Printed.{Gets};
+ghost use Rattle.fw_drive.specs.Runs.{Goes, GoesAlone, IsUnprinted};
+ghost use Rattle.fw_drive.specs.declared.form.Form.{Form as FormOf};
 ghost use Rattle.fw_drive.specs.declared.line.DriveLine.TheVariants as said;
 
 use crate::carrying::{carry, mount};
@@ -11,24 +17,11 @@ use crate::form::Form;
 use crate::line::DriveLine;
 use crate::moves::{act, receive, send, show};
 use crate::notes::Notes;
-use crate::printing::print_refusal;
 use crate::stop::Stop;
 use fuse_device::Device;
 use fw_script::{is_hex_or_none, read_hex_or_none};
-use fw_world::{Call, Event, Refusal, Tables};
-use std::alloc::Allocator;
+use fw_world::{Call, Event, Tables};
 use std::io::Write;
-
-/// Prints why a request or a reply is refused, if it is.
-fn print_refused<A: Allocator, W: Write>(
-    moved: Result<Option<u64>, Refusal>,
-    out: &mut W,
-) -> Result<(), Stop> {
-    if let Err(refusal) = moved {
-        print_refusal::<A, W>(out, refusal)?;
-    }
-    Ok(())
-}
 
 /// A call that puts bytes into an open file begins.
 fn begin_write<T: Tables, W: Write>(
@@ -38,7 +31,7 @@ fn begin_write<T: Tables, W: Write>(
     file: (u64, u64, &[u8]),
     out: &mut W,
 ) -> Result<(), Stop>
-    ensures { GoesAlone T.Heap driver.old driver.new result
+    ensures { (f : FormOf) → GoesAlone T.Heap f (W.contents out.old) (W.contents out.new) driver.old driver.new result
         (Perhaps result (FirstThen (IsMoveOf (said.CallWrite file.entry.0 file.entry.1 file.entry.2)) IsCollected)) }
 {
     let (open_call, offset, hex) = file;
@@ -65,15 +58,17 @@ fn run_line<T: Tables, D: Device, W: Write>(
     driver: &mut Driver<T>,
     device: &mut D,
     notes: &mut Notes<T>,
+    form: Form,
     line: DriveLine<'_>,
     out: &mut W,
 ) -> Result<(), Stop>
-    ensures { Goes T.Heap D.logs device.old device.new driver.old driver.new result
+    ensures { Goes T.Heap D.logs form device.old device.new (W.contents out.old) (W.contents out.new)
+        driver.old driver.new result
         (Perhaps result (FirstThen (IsMoveOf line.entry) IsCollected)) }
 {
     match line {
-        DriveLine::Read(pick) => match send(driver, device, notes, pick, out) {
-            Ok(sent) => print_refused::<T::Heap, W>(sent, out),
+        DriveLine::Read(pick) => match send(driver, device, notes, form, pick, out) {
+            Ok(_) => Ok(()),
             Err(stop) => Err(stop),
         },
         DriveLine::Event(event) => act(driver, notes, &event, out),
@@ -86,8 +81,8 @@ fn run_line<T: Tables, D: Device, W: Write>(
             offset,
             hex,
         } => begin_write(alloc, driver, notes, (open_call, offset, hex), out),
-        DriveLine::Write => match receive(driver, device, notes, out) {
-            Ok(received) => print_refused::<T::Heap, W>(received, out),
+        DriveLine::Write => match receive(driver, device, notes, form, out) {
+            Ok(_) => Ok(()),
             Err(stop) => Err(stop),
         },
         DriveLine::Show => show(driver, out),
@@ -102,10 +97,11 @@ fn carry_on<T: Tables, D: Device, W: Write>(
     form: Form,
     out: &mut W,
 ) -> Result<(), Stop>
-    ensures { Goes T.Heap D.logs device.old device.new driver.old driver.new result (All (MayFollow form)) }
+    ensures { Goes T.Heap D.logs form device.old device.new (W.contents out.old) (W.contents out.new)
+        driver.old driver.new result (All (MayFollow form)) }
 {
     if form.is_of_calls() {
-        carry(driver, device, notes, out)
+        carry(driver, device, notes, form, out)
     } else {
         Ok(())
     }
@@ -121,10 +117,11 @@ fn run_carried<T: Tables, D: Device, W: Write>(
     line: DriveLine<'_>,
     out: &mut W,
 ) -> Result<(), Stop>
-    ensures { Goes T.Heap D.logs device.old device.new driver.old driver.new result
+    ensures { Goes T.Heap D.logs form device.old device.new (W.contents out.old) (W.contents out.new)
+        driver.old driver.new result
         (Perhaps result (FirstThen (IsMoveOf line.entry) (MayFollow form))) }
 {
-    match run_line(alloc, driver, device, notes, line, out) {
+    match run_line(alloc, driver, device, notes, form, line, out) {
         Ok(()) => carry_on(driver, device, notes, form, out),
         Err(stop) => Err(stop),
     }
@@ -140,7 +137,8 @@ fn do_line<T: Tables, D: Device, W: Write>(
     line: DriveLine<'_>,
     out: &mut W,
 ) -> Result<(), Stop>
-    ensures { Goes T.Heap D.logs device.old device.new driver.old driver.new result
+    ensures { Goes T.Heap D.logs form device.old device.new (W.contents out.old) (W.contents out.new)
+        driver.old driver.new result
         (Perhaps result (FirstThen (IsMoveOf line.entry) (MayFollow form))) }
 {
     match run_carried(alloc, driver, device, notes, form, line, out) {
@@ -150,10 +148,13 @@ fn do_line<T: Tables, D: Device, W: Write>(
 }
 
 /// Hands on what was printed.
-fn flush<W: Write>(out: &mut W) -> Result<(), Stop> {
+fn flush<W: Write>(out: &mut W) -> Result<(), Stop>
+    ensures keeps { KeepsContents (W.contents out.old) (W.contents out.new) }
+    ensures own { IfErr result IsUnprinted }
+{
     match out.flush() {
         Ok(()) => Ok(()),
-        Err(_) => Err(Stop::OutputRefused),
+        Err(_refused) => Err(Stop::OutputRefused),
     }
 }
 
@@ -167,7 +168,8 @@ fn run_lines<T: Tables, D: Device, W: Write>(
     lines: &[DriveLine<'_>],
     out: &mut W,
 ) -> Result<(), Stop>
-    ensures { Goes T.Heap D.logs device.old device.new driver.old driver.new result
+    ensures { Goes T.Heap D.logs form device.old device.new (W.contents out.old) (W.contents out.new)
+        driver.old driver.new result
         (LinesMoveAs form result lines.now) }
 {
     for line in lines {
@@ -188,13 +190,14 @@ pub(crate) fn run_script<T: Tables, D: Device, W: Write>(
     lines: &[DriveLine<'_>],
     out: &mut W,
 ) -> Result<(), Stop>
-    ensures { Goes T.Heap D.logs device.old device.new driver.old driver.new result
+    ensures { Goes T.Heap D.logs form device.old device.new (W.contents out.old) (W.contents out.new)
+        driver.old driver.new result
         (LinesMoveAs form result (mount_lines form ++ lines.now)) }
 {
     if !form.is_of_calls() {
         return run_lines(alloc, driver, device, notes, form, lines, out);
     }
-    match mount(driver, device, notes, out) {
+    match mount(driver, device, notes, form, out) {
         Ok(()) => run_lines(alloc, driver, device, notes, form, lines, out),
         Err(stop) => Err(stop),
     }
@@ -205,8 +208,16 @@ pub(crate) fn print_end<T: Tables, W: Write>(
     driver: &Driver<T>,
     notes: &Notes<T>,
     out: &mut W,
-) -> Result<(), Stop> {
-    show(driver, out)?;
-    notes.print_count(out)?;
-    flush(out)
+) -> Result<(), Stop>
+    ensures printed { (said : List (Note T.Heap)) × Gets result (W.contents out.old) (W.contents out.new)
+        (nodes_text (codes "kernel") (counted_nodes driver.now.kernel.nodes) ++ notes_text said) }
+    ensures own { IfErr result IsUnprinted }
+{
+    match show(driver, out) {
+        Ok(()) => match notes.print_count(out) {
+            Ok(()) => flush(out),
+            Err(stop) => Err(stop),
+        },
+        Err(stop) => Err(stop),
+    }
 }

@@ -1,13 +1,16 @@
 //! Why a driven run ends before its script does.
 
-ghost use Rattle.std.specs.Prelude.{◌≡◌, ◌⊎◌, ◌∷◌, [], Contains, codes};
+ghost use Rattle.std.specs.Prelude.{◌≡◌, ◌⊎◌, Err, OnErr, OnOk, codes};
+ghost use Rattle.std.specs.Io.KnownBytes.{Appends};
 ghost use Rattle.fw_script.specs.Outputs.{AppendsSome};
+ghost use Rattle.fw_drive.specs.Printed.{stop_line};
+ghost use Rattle.fw_drive.specs.Runs.{IsStatusOf, SaysStop, stop_of, stop_status};
 
-use crate::printing::{print_refusal, taken};
+use crate::printing::print_refusal;
 use fk_drive::DriveEnd;
 use fuse_device::DeviceEnd;
 use fuse_spec::Refusal;
-use fw_script::{OutputRefused, no_memory};
+use fw_script::{OutputRefused, no_memory, write_text};
 use std::alloc::Allocator;
 use std::io::Write;
 
@@ -30,19 +33,10 @@ pub(crate) enum Stop {
     OutputRefused,
 }
 
-impl From<OutputRefused> for Stop {
-    ghost use Rattle.std.specs.Prelude.{◌≡◌};
-    ghost use Rattle.fw_drive.specs.declared.stop.Stop.{Stop};
-
-    ghost from_gives = { λ _ stop. stop ≡ Stop.OutputRefused };
-
-    fn from(_refused: OutputRefused) -> Stop {
-        Stop::OutputRefused
-    }
-}
-
 /// The stop of an end.
-pub(crate) fn stop_at(end: DriveEnd) -> Stop {
+pub(crate) fn stop_at(end: DriveEnd) -> Stop
+    ensures { result ≡ stop_of end }
+{
     match end {
         DriveEnd::Device(DeviceEnd::Ended) => Stop::ServerEnded,
         DriveEnd::Device(DeviceEnd::TimedOut) => Stop::NoReply,
@@ -55,28 +49,62 @@ pub(crate) fn stop_at(end: DriveEnd) -> Stop {
 
 impl Stop {
     /// Writes the line that says it.
-    fn write_line<A: Allocator, W: Write>(self, out: &mut W) -> Result<(), OutputRefused> {
+    fn write_line<A: Allocator, W: Write>(self, out: &mut W) -> Result<(), OutputRefused>
+        ensures ok { OnOk result (Appends (W.contents out.old) (W.contents out.new) (stop_line A self)) }
+        ensures refused { OnErr result (AppendsSome (W.contents out.old) (W.contents out.new) (stop_line A self)) }
+    {
         match self {
-            Stop::ServerEnded => taken(out.write_all(b"server ended\n"))?,
-            Stop::NoReply => taken(out.write_all(b"no reply\n"))?,
-            Stop::DeviceFailed => taken(out.write_all(b"device failed\n"))?,
-            Stop::TooMany => taken(out.write_all(b"device failed: 10000 frames wait\n"))?,
-            Stop::Refused(refusal) => print_refusal::<A, W>(out, refusal)?,
-            Stop::NoMemory | Stop::OutputRefused => {}
+            Stop::ServerEnded => write_text(out, b"server ended\n"),
+            Stop::NoReply => write_text(out, b"no reply\n"),
+            Stop::DeviceFailed => write_text(out, b"device failed\n"),
+            Stop::TooMany => write_text(out, b"device failed: 10000 frames wait\n"),
+            Stop::Refused(refusal) => print_refusal::<A, W>(out, refusal),
+            Stop::NoMemory | Stop::OutputRefused => Ok(()),
         }
-        taken(out.flush())
+    }
+
+    /// Writes the line that says it, and hands it on.
+    fn say<A: Allocator, W: Write>(self, out: &mut W) -> Result<(), OutputRefused>
+        ensures ok { OnOk result (Appends (W.contents out.old) (W.contents out.new) (stop_line A self)) }
+        ensures refused { OnErr result (AppendsSome (W.contents out.old) (W.contents out.new) (stop_line A self)) }
+    {
+        match self.write_line::<A, W>(out) {
+            Ok(()) => match out.flush() {
+                Ok(()) => Ok(()),
+                Err(_refused) => Err(OutputRefused),
+            },
+            Err(refused) => Err(refused),
+        }
+    }
+
+    /// The exit status.
+    fn status(self) -> u8
+        ensures { result ≡ stop_status self }
+    {
+        match self {
+            Stop::NoMemory | Stop::Refused(Refusal::NoMemory) => 3,
+            Stop::OutputRefused => 5,
+            _ => 4,
+        }
     }
 
     /// Says it, out of memory on `faults` and all else on the output, and gives the exit status.
     pub(crate) fn report<A: Allocator, W: Write, F: Write>(self, out: &mut W, faults: &mut F) -> u8
-        ensures statuses { Contains (3 ∷ 4 ∷ 5 ∷ []) result }
+        ensures status { IsStatusOf (Err self) result }
+        ensures says { SaysStop A (Err self) result (W.contents out.old) (W.contents out.new) }
         ensures no_memory { result ≡ 3 → AppendsSome (F.contents faults.old) (F.contents faults.new) (codes "no memory\n") }
         ensures no_fault { (result ≡ 4) ⊎ (result ≡ 5) → faults.new ≡ faults.old }
     {
-        match (self, self.write_line::<A, W>(out)) {
-            (Stop::NoMemory | Stop::Refused(Refusal::NoMemory), _) => no_memory(faults),
-            (Stop::OutputRefused, _) | (_, Err(_)) => 5,
-            (_, Ok(())) => 4,
+        match self.say::<A, W>(out) {
+            Ok(()) => match self.status() {
+                3 => no_memory(faults),
+                status => status,
+            },
+            Err(_refused) => match self.status() {
+                3 => no_memory(faults),
+                4 => 5,
+                status => status,
+            },
         }
     }
 }

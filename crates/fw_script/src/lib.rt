@@ -24,8 +24,8 @@ pub use hex_text::{is_hex_or_none, read_hex_or_none, write_hex, write_hex_or_non
 pub use line::{Line, LineFault, read_line};
 pub use lines::is_passed_over;
 pub use number::read_number;
-pub use output::OutputRefused;
+pub use output::{OutputRefused, write_number, write_text};
 pub use print::{name_of_refusal, number_of_refusal, word_of_effect, word_of_kind};
 pub use records::write_record;
-pub use script::{Script, run_lists, run_over, run_script};
+pub use script::{Script, run_lists, run_over, run_script, write_nodes};
 pub use stop::{bad_line, cannot_read, no_memory, socket_failed};

@@ -1,9 +1,10 @@
 //! The output of a run.
 
-ghost use Rattle.std.specs.Prelude.{◌≤◌, [], IfOk, OnErr, OnOk, length, take};
+ghost use Rattle.std.specs.Prelude.{◌≤◌, [], IfOk, OnErr, OnOk, decimal, length, take};
 ghost use Rattle.std.specs.Io.KnownBytes.{Appends};
 ghost use Rattle.fw_script.specs.Outputs.{AppendsSome};
 
+use crate::short_text::ShortText;
 use std::io::{ErrorKind, Write};
 use thiserror::Error;
 
@@ -50,9 +51,13 @@ fn write_rest<W: Write>(out: &mut W, text: &[u8]) -> Result<(), OutputRefused>
     Ok(())
 }
 
-/// Writes a text, which an output mostly takes at once. Where it refuses, it has a beginning of the text.
+/// Writes a text, which an output mostly takes at once.
+///
+/// # Errors
+///
+/// The output refused: it has a beginning of the text.
 #[inline(always)]
-pub(crate) fn write_text<W: Write>(out: &mut W, text: &[u8]) -> Result<(), OutputRefused>
+pub fn write_text<W: Write>(out: &mut W, text: &[u8]) -> Result<(), OutputRefused>
     ensures ok { OnOk result (Appends (W.contents out.old) (W.contents out.new) text.now) }
     ensures refused { OnErr result (AppendsSome (W.contents out.old) (W.contents out.new) text.now) }
 {
@@ -64,4 +69,18 @@ pub(crate) fn write_text<W: Write>(out: &mut W, text: &[u8]) -> Result<(), Outpu
         return Err(OutputRefused);
     }
     write_rest(out, &text[count..])
+}
+
+/// Writes a number by its decimal digits.
+///
+/// # Errors
+///
+/// The output refused: it has the first of its digits, or none.
+pub fn write_number<W: Write>(out: &mut W, number: u64) -> Result<(), OutputRefused>
+    ensures ok { OnOk result (Appends (W.contents out.old) (W.contents out.new) (decimal number)) }
+    ensures refused { OnErr result (AppendsSome (W.contents out.old) (W.contents out.new) (decimal number)) }
+{
+    let mut text = ShortText::new();
+    text.put_number(number);
+    write_text(out, text.bytes())
 }

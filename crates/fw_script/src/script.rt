@@ -142,8 +142,12 @@ fn write_list<W: Write>(out: &mut W, nodes: &[(u64, u64, u64)]) -> Result<(), Ou
     Ok(())
 }
 
-/// Writes the line of one side's nodes.
-fn write_nodes<W: Write>(
+/// Writes the line of one side's nodes, each as ` ID:GENERATION:COUNT` behind the side's name.
+///
+/// # Errors
+///
+/// The output refused: it has a beginning of the line.
+pub fn write_nodes<W: Write>(
     out: &mut W,
     side: &[u8],
     nodes: &[(u64, u64, u64)],

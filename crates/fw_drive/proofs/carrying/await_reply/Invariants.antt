@@ -6,4 +6,5 @@ use Rattle.fw_drive.proofs.carrying.await_reply.Given as goal
 -- frames so far
 abbrev pub invariant-loop-frame : goal.invariant-loop-frame
 invariant-loop-frame g l =
-    Went g.row.T-Heap.Denot g.D.Device.logs l.initial.device l.device l.initial.driver l.driver (All Carries)
+    Went g.row.T-Heap.Denot g.D.Device.logs l.form l.initial.device l.device (g.W.Write.contents l.initial.out)
+    (g.W.Write.contents l.out) l.initial.driver l.driver (All Carries)

@@ -7,18 +7,22 @@ use Rattle.fw_drive.proofs.carrying.mount.Goals as goal
 pub returns-in-Ok : goal.returns-in-Ok
 returns-in-Ok g c =
     let First = IsMoveOf mount_line in
-    then g.row.T-Heap.Denot g.D.Device.logs g.met.D.Device.goes_on c.args.device.now c.args.device.now
-    c.carry.new.device c.args.driver.now c.act.new.driver c.carry.new.driver _ c.carry.result (FirstThen First IsCollected)
-    (All Carries) (FirstThen First Carries)
-    (lifts g.row.T-Heap.Denot g.D.Device.logs g.met.D.Device.stays c.args.device.now c.args.driver.now c.act.new.driver _
-    (FirstThen First IsCollected) c.in-Ok.ensures) c.carry.ensures
+    then g.row.T-Heap.Denot g.D.Device.logs g.met.D.Device.goes_on c.args.form c.args.device.now c.args.device.now
+    c.carry.new.device (g.W.Write.contents c.args.out.now) (g.W.Write.contents c.act.new.out)
+    (g.W.Write.contents c.carry.new.out) c.args.driver.now c.act.new.driver c.carry.new.driver _ c.carry.result
+    (FirstThen First IsCollected) (All Carries) (FirstThen First Carries)
+    (lifts g.row.T-Heap.Denot g.D.Device.logs g.met.D.Device.stays c.args.form c.args.device.now
+    (g.W.Write.contents c.args.out.now) (g.W.Write.contents c.act.new.out) c.args.driver.now c.act.new.driver _
+    (FirstThen First IsCollected) (c.in-Ok.ensures c.args.form)) c.carry.ensures
     (λ m n first rest. first_on First Carries m n (first_weaker First First IsCollected Carries (λ move is. is) collected_carries m first) rest)
 
 pub returns-in-Err : goal.returns-in-Err
 returns-in-Err g c =
     let First = IsMoveOf mount_line in
-    failed g.row.T-Heap.Denot g.D.Device.logs c.args.device.now c.args.device.now c.args.driver.now c.act.new.driver
-    c.in-Err.stop (FirstThen First IsCollected) (FirstThen First Carries)
-    (lifts g.row.T-Heap.Denot g.D.Device.logs g.met.D.Device.stays c.args.device.now c.args.driver.now c.act.new.driver _
-    (FirstThen First IsCollected) c.in-Err.ensures)
+    failed g.row.T-Heap.Denot g.D.Device.logs c.args.form c.args.device.now c.args.device.now
+    (g.W.Write.contents c.args.out.now) (g.W.Write.contents c.act.new.out) c.args.driver.now c.act.new.driver c.in-Err.stop
+    (FirstThen First IsCollected) (FirstThen First Carries)
+    (lifts g.row.T-Heap.Denot g.D.Device.logs g.met.D.Device.stays c.args.form c.args.device.now
+    (g.W.Write.contents c.args.out.now) (g.W.Write.contents c.act.new.out) c.args.driver.now c.act.new.driver _
+    (FirstThen First IsCollected) (c.in-Err.ensures c.args.form))
     (first_weaker First First IsCollected Carries (λ move is. is) collected_carries)

@@ -1,10 +1,12 @@
 use Rattle.std.proofs.Common.{length}
+use Rattle.fw_drive.specs.declared.form.Form.{Form}
 use Rattle.fw_drive.proofs.Following.{Collected}
 use Rattle.fw_drive.proofs.moves.collect_answers.Given as goal
 
--- what was collected so far
+-- what was collected so far, and printed
 abbrev pub invariant-loop-call : goal.invariant-loop-call
-invariant-loop-call g l = Collected g.row.T-Heap.Denot l.initial.driver l.driver
+invariant-loop-call g l =
+    (f : Form) → Collected g.row.T-Heap.Denot f (g.W.Write.contents l.initial.out) (g.W.Write.contents l.out) l.initial.driver l.driver
 
 abbrev pub decreases-loop-call : goal.decreases-loop-call
 decreases-loop-call g l = length l.driver.kernel.vfs.answers

@@ -1,13 +1,92 @@
+use Rattle.std.proofs.Common.{◌++◌, length, refl}
+use Rattle.fw_script.proofs.Writes.{Appends-append}
+use Rattle.fw_world.specs.declared.event.Outcome.TheVariants as outcome
+use Rattle.fw_drive.specs.Notes.{notes_text}
+use Rattle.fw_drive.specs.Printed.{of_frame, outcome_text}
+use Rattle.fw_drive.specs.declared.stop.Stop.TheVariants as stops
 use Rattle.fw_drive.proofs.Following.{collects_failed, collects_given, none_collected}
+use Rattle.fw_drive.proofs.OneMove.{request_line}
+use Rattle.fw_drive.proofs.Texts.{gets_all_at, gets_more, gets_then_at}
 use Rattle.fw_drive.proofs.moves.note_request.Goals as goal
 
 pub returns-in-Err : goal.returns-in-Err
-returns-in-Err g c = none_collected c.args.driver.now c.in-Err.stop
+returns-in-Err g c =
+    let A = g.row.T-Heap.Denot in
+    let line = of_frame c.args.form (outcome_text A (outcome.Read c.head-unique.result.0 c.head-unique.result.1 (length c.bytes-len.result.now))) in
+    let (said, some) = c.in-Err.ensures.printed in
+    let had = g.W.Write.contents c.args.out.now in
+    let has = g.W.Write.contents c.print_noted.new.out in (
+      said,
+      line,
+      request_line A c.args.form c.args.frame.now c.bytes-len.result.now c.head-unique.result.0 c.head-unique.result.1 (length c.bytes-len.result.now)
+          c.bytes-len.ensures c.head-unique.ensures.unique c.head-unique.ensures.opcode refl,
+      none_collected c.args.form (notes_text said ++ line) had has c.args.driver.now c.in-Err.stop c.in-Err.ensures.own
+          (gets_more c.in-Err.stop had has (notes_text said) line c.in-Err.ensures.own some),
+    )
 
-pub returns-in-Ok : goal.returns-in-Ok
-returns-in-Ok g c =
-    collects_given c.args.driver.now c.collect_answers.new.driver _ _ c.in-Ok.ensures
+pub returns-then-is_err : goal.returns-then-is_err
+returns-then-is_err g c =
+    let A = g.row.T-Heap.Denot in
+    let line = of_frame c.args.form (outcome_text A (outcome.Read c.head-unique.result.0 c.head-unique.result.1 (length c.bytes-len.result.now))) in
+    let (said, all) = c.in_default.ensures.printed in
+    let had = g.W.Write.contents c.args.out.now in
+    let has = g.W.Write.contents c.print_noted.new.out in (
+      said,
+      line,
+      request_line A c.args.form c.args.frame.now c.bytes-len.result.now c.head-unique.result.0 c.head-unique.result.1 (length c.bytes-len.result.now)
+          c.bytes-len.ensures c.head-unique.ensures.unique c.head-unique.ensures.opcode refl,
+      none_collected c.args.form (notes_text said ++ line) had has c.args.driver.now stops.NoMemory tt
+          (gets_more stops.NoMemory had has (notes_text said) line tt (gets_all_at stops.NoMemory had has (notes_text said) all)),
+    )
+
+pub returns-in-Ok-collect_answers : goal.returns-in-Ok-collect_answers
+returns-in-Ok-collect_answers g c =
+    let A = g.row.T-Heap.Denot in
+    let line = of_frame c.args.form (outcome_text A (outcome.Read c.head-unique.result.0 c.head-unique.result.1 (length c.bytes-len.result.now))) in
+    let (said, all) = c.in_default.ensures.printed in
+    let had = g.W.Write.contents c.args.out.now in
+    let noted = g.W.Write.contents c.print_noted.new.out in
+    let mid = g.W.Write.contents c.print_frame.new.out in (
+      said,
+      line,
+      request_line A c.args.form c.args.frame.now c.bytes-len.result.now c.head-unique.result.0 c.head-unique.result.1 (length c.bytes-len.result.now)
+          c.bytes-len.ensures c.head-unique.ensures.unique c.head-unique.ensures.opcode refl,
+      collects_given c.args.form (notes_text said ++ line) had mid (g.W.Write.contents c.collect_answers.new.out)
+          c.args.driver.now c.collect_answers.new.driver _ _
+          (Appends-append had noted mid (notes_text said) line all c.in-Ok.ensures.ok)
+          (c.in-Ok-collect_answers.ensures c.args.form),
+    )
 
 pub returns-in-Err-collect_answers : goal.returns-in-Err-collect_answers
 returns-in-Err-collect_answers g c =
-    collects_failed c.args.driver.now c.collect_answers.new.driver c.in-Err-collect_answers.stop c.in-Err-collect_answers.ensures
+    let A = g.row.T-Heap.Denot in
+    let line = of_frame c.args.form (outcome_text A (outcome.Read c.head-unique.result.0 c.head-unique.result.1 (length c.bytes-len.result.now))) in
+    let (said, all) = c.in_default.ensures.printed in
+    let had = g.W.Write.contents c.args.out.now in
+    let noted = g.W.Write.contents c.print_noted.new.out in
+    let mid = g.W.Write.contents c.print_frame.new.out in (
+      said,
+      line,
+      request_line A c.args.form c.args.frame.now c.bytes-len.result.now c.head-unique.result.0 c.head-unique.result.1 (length c.bytes-len.result.now)
+          c.bytes-len.ensures c.head-unique.ensures.unique c.head-unique.ensures.opcode refl,
+      collects_failed c.args.form (notes_text said ++ line) had mid (g.W.Write.contents c.collect_answers.new.out)
+          c.args.driver.now c.collect_answers.new.driver c.in-Err-collect_answers.stop
+          (Appends-append had noted mid (notes_text said) line all c.in-Ok.ensures.ok)
+          (c.in-Err-collect_answers.ensures c.args.form),
+    )
+
+pub returns-in-Err-print_frame : goal.returns-in-Err-print_frame
+returns-in-Err-print_frame g c =
+    let A = g.row.T-Heap.Denot in
+    let line = of_frame c.args.form (outcome_text A (outcome.Read c.head-unique.result.0 c.head-unique.result.1 (length c.bytes-len.result.now))) in
+    let (said, all) = c.in_default.ensures.printed in
+    let had = g.W.Write.contents c.args.out.now in
+    let noted = g.W.Write.contents c.print_noted.new.out in
+    let has = g.W.Write.contents c.print_frame.new.out in (
+      said,
+      line,
+      request_line A c.args.form c.args.frame.now c.bytes-len.result.now c.head-unique.result.0 c.head-unique.result.1 (length c.bytes-len.result.now)
+          c.bytes-len.ensures c.head-unique.ensures.unique c.head-unique.ensures.opcode refl,
+      none_collected c.args.form (notes_text said ++ line) had has c.args.driver.now stops.OutputRefused tt
+          (gets_then_at stops.OutputRefused had noted has (notes_text said) line all c.in-Err-print_frame.ensures.refused),
+    )

@@ -1,32 +1,47 @@
 use Rattle.std.proofs.Common.{inl, refl}
-use Rattle.fw_drive.proofs.Following.{none_goes}
-use Rattle.fw_drive.proofs.OneMove.{frame_failed, frame_noted, frame_refused}
+use Rattle.fw_drive.specs.declared.stop.Stop.TheVariants as stops
+use Rattle.fw_drive.proofs.Following.{kept_before, unprinted}
+use Rattle.fw_drive.proofs.OneMove.{ends_so, frame_ended, frame_noted, frame_refused}
 use Rattle.fw_drive.proofs.moves.receive.Goals as goal
 
 pub returns-then-is_err : goal.returns-then-is_err
 returns-then-is_err g c =
-    none_goes g.row.T-Heap.Denot g.D.Device.logs g.met.D.Device.stays c.args.device.now c.args.driver.now _
-    _ (inl refl)
-
-pub returns-in-Err : goal.returns-in-Err
-returns-in-Err g c =
-    frame_failed g.row.T-Heap.Denot g.D.Device.logs c.args.device.now c.receive-received.new.device c.args.driver.now
-    c.receive-received.new.self c.receive-received.result c.receive-received.ensures c.in-Err.stop
+    unprinted g.row.T-Heap.Denot g.D.Device.logs g.met.D.Device.stays c.args.form c.args.device.now
+    (g.W.Write.contents c.args.out.now) (g.W.Write.contents c.flush.new.self) c.args.driver.now stops.OutputRefused tt
+    c.flush.ensures.bytes _ (inl refl)
 
 pub returns-in-Ok-Ok : goal.returns-in-Ok-Ok
 returns-in-Ok-Ok g c =
-    frame_noted g.row.T-Heap.Denot g.D.Device.logs c.args.device.now c.receive-received.new.device c.args.driver.now
-    c.receive-received.new.self c.note_reply.new.driver c.receive-received.result c.in-Ok-Ok.written
-    (rw c.in-Ok-Ok.field-0-is at c.in-Ok-Ok.is)
-    c.receive-received.ensures c.note_reply.result c.note_reply.ensures.some c.note_reply.ensures.none
+    let mid = g.W.Write.contents c.flush.new.self in
+    let has = g.W.Write.contents c.note_reply.new.out in
+    kept_before g.row.T-Heap.Denot g.D.Device.logs c.args.form c.args.device.now c.receive.new.device
+    (g.W.Write.contents c.args.out.now) mid has c.args.driver.now c.note_reply.new.driver c.note_reply.result _
+    c.flush.ensures.bytes
+    (frame_noted g.row.T-Heap.Denot g.D.Device.logs c.args.form c.args.device.now c.receive.new.device mid has
+    c.args.driver.now c.receive.new.self c.note_reply.new.driver c.receive.result c.in-Ok-Ok.written
+    (rw c.in-Ok-Ok.field-0-is at c.in-Ok-Ok.is) c.receive.ensures c.note_reply.result c.note_reply.ensures.some
+    c.note_reply.ensures.none)
 
 pub returns-in-Ok-Err : goal.returns-in-Ok-Err
 returns-in-Ok-Err g c =
-    frame_refused g.row.T-Heap.Denot g.D.Device.logs c.args.device.now c.receive-received.new.device c.args.driver.now
-    c.receive-received.new.self c.receive-received.result c.in-Ok-Err.refusal
-    (rw c.in-Ok-Err.field-0-is at c.in-Ok-Err.is) c.receive-received.ensures _
+    let (before, printed) = c.note_refusal.ensures.printed in
+    let mid = g.W.Write.contents c.flush.new.self in
+    let has = g.W.Write.contents c.note_refusal.new.out in
+    kept_before g.row.T-Heap.Denot g.D.Device.logs c.args.form c.args.device.now c.receive.new.device
+    (g.W.Write.contents c.args.out.now) mid has c.args.driver.now c.receive.new.self c.note_refusal.result _
+    c.flush.ensures.bytes
+    (frame_refused g.row.T-Heap.Denot g.D.Device.logs c.args.form c.args.device.now c.receive.new.device mid has
+    c.args.driver.now c.receive.new.self c.receive.result c.in-Ok-Err.refusal
+    (rw c.in-Ok-Err.field-0-is at c.in-Ok-Err.is) c.receive.ensures c.note_refusal.result c.note_refusal.ensures.own before
+    printed)
 
-pub returns-in-Err-received : goal.returns-in-Err-received
-returns-in-Err-received g c =
-    frame_failed g.row.T-Heap.Denot g.D.Device.logs c.args.device.now c.receive-received.new.device c.args.driver.now
-    c.receive-received.new.self c.receive-received.result c.receive-received.ensures c.stop_at.result
+pub returns-in-Err : goal.returns-in-Err
+returns-in-Err g c =
+    let (before, printed) = c.note_end.ensures.printed in
+    let mid = g.W.Write.contents c.flush.new.self in
+    let has = g.W.Write.contents c.note_end.new.out in
+    kept_before g.row.T-Heap.Denot g.D.Device.logs c.args.form c.args.device.now c.receive.new.device
+    (g.W.Write.contents c.args.out.now) mid has c.args.driver.now c.receive.new.self _ _ c.flush.ensures.bytes
+    (frame_ended g.row.T-Heap.Denot g.D.Device.logs c.args.form c.args.device.now c.receive.new.device mid has
+    c.args.driver.now c.receive.new.self c.receive.result c.in-Err.end c.in-Err.is c.receive.ensures c.note_end.result
+    (ends_so c.note_end.result c.stop_at.result c.in-Err.end c.stop_at.ensures c.note_end.ensures.own) before printed)

@@ -1,34 +1,50 @@
 use Rattle.std.proofs.Common.{◌∙◌, ap, inl, refl}
 use Rattle.std.specs.Prelude.{Err}
 use Rattle.fk_drive.specs.declared.end.NotSent.{NotSent}
-use Rattle.fw_drive.specs.LineMoves.{FirstThen, IsCollected, IsSentBy, Perhaps}
-use Rattle.fw_drive.proofs.Following.{none_goes}
-use Rattle.fw_drive.proofs.OneMove.{request_collects, request_failed, request_refused}
+use Rattle.fw_drive.specs.declared.stop.Stop.TheVariants as stops
+use Rattle.fw_drive.proofs.Following.{kept_before, unprinted}
+use Rattle.fw_drive.proofs.OneMove.{ends_so, request_collects, request_ended, request_refused}
 use Rattle.fw_drive.proofs.moves.send.Goals as goal
 
 pub returns-then-is_err : goal.returns-then-is_err
 returns-then-is_err g c =
-    none_goes g.row.T-Heap.Denot g.D.Device.logs g.met.D.Device.stays c.args.device.now c.args.driver.now _
-    _ (inl refl)
-
-pub returns-in-Err : goal.returns-in-Err
-returns-in-Err g c =
-    request_failed g.row.T-Heap.Denot g.D.Device.logs c.args.device.now c.send-sent.new.device c.args.pick c.args.driver.now
-    c.send-sent.new.self c.send-sent.result c.send-sent.ensures c.in-Err.stop
+    unprinted g.row.T-Heap.Denot g.D.Device.logs g.met.D.Device.stays c.args.form c.args.device.now
+    (g.W.Write.contents c.args.out.now) (g.W.Write.contents c.flush.new.self) c.args.driver.now stops.OutputRefused tt
+    c.flush.ensures.bytes _ (inl refl)
 
 pub returns-in-Ok : goal.returns-in-Ok
 returns-in-Ok g c =
-    request_collects g.row.T-Heap.Denot g.D.Device.logs c.args.device.now c.send-sent.new.device c.args.pick c.args.driver.now
-    c.send-sent.new.self c.note_request.new.driver c.send-sent.result c.in-Ok.frame c.in-Ok.is c.send-sent.ensures
-    c.note_request.result c.note_request.ensures
+    let (before, line, says, more) = c.note_request.ensures in
+    let mid = g.W.Write.contents c.flush.new.self in
+    let has = g.W.Write.contents c.note_request.new.out in
+    kept_before g.row.T-Heap.Denot g.D.Device.logs c.args.form c.args.device.now c.send.new.device
+    (g.W.Write.contents c.args.out.now) mid has c.args.driver.now c.note_request.new.driver c.note_request.result _
+    c.flush.ensures.bytes
+    (request_collects g.row.T-Heap.Denot g.D.Device.logs c.args.form c.args.device.now c.send.new.device c.args.pick mid has
+    c.args.driver.now c.send.new.self c.note_request.new.driver c.send.result c.in-Ok.frame c.in-Ok.is c.send.ensures
+    c.note_request.result before line says more)
 
 pub returns-in-Refused : goal.returns-in-Refused
 returns-in-Refused g c =
-    request_refused g.row.T-Heap.Denot g.D.Device.logs c.args.device.now c.send-sent.new.device c.args.pick c.args.driver.now
-    c.send-sent.new.self c.send-sent.result c.in-Refused.refusal
-    (c.in-Err-sent.is ∙ ap (λ (n : NotSent). Err n) c.in-Refused.is) c.send-sent.ensures _
+    let (before, printed) = c.note_refusal.ensures.printed in
+    let mid = g.W.Write.contents c.flush.new.self in
+    let has = g.W.Write.contents c.note_refusal.new.out in
+    kept_before g.row.T-Heap.Denot g.D.Device.logs c.args.form c.args.device.now c.send.new.device
+    (g.W.Write.contents c.args.out.now) mid has c.args.driver.now c.send.new.self c.note_refusal.result _
+    c.flush.ensures.bytes
+    (request_refused g.row.T-Heap.Denot g.D.Device.logs c.args.form c.args.device.now c.send.new.device c.args.pick mid has
+    c.args.driver.now c.send.new.self c.send.result c.in-Refused.refusal
+    (c.in-Err.is ∙ ap (λ (n : NotSent). Err n) c.in-Refused.is) c.send.ensures c.note_refusal.result
+    c.note_refusal.ensures.own before printed)
 
 pub returns-in-Ended : goal.returns-in-Ended
 returns-in-Ended g c =
-    request_failed g.row.T-Heap.Denot g.D.Device.logs c.args.device.now c.send-sent.new.device c.args.pick c.args.driver.now
-    c.send-sent.new.self c.send-sent.result c.send-sent.ensures c.stop_at.result
+    let (before, printed) = c.note_end.ensures.printed in
+    let mid = g.W.Write.contents c.flush.new.self in
+    let has = g.W.Write.contents c.note_end.new.out in
+    kept_before g.row.T-Heap.Denot g.D.Device.logs c.args.form c.args.device.now c.send.new.device
+    (g.W.Write.contents c.args.out.now) mid has c.args.driver.now c.send.new.self _ _ c.flush.ensures.bytes
+    (request_ended g.row.T-Heap.Denot g.D.Device.logs c.args.form c.args.device.now c.send.new.device c.args.pick mid has
+    c.args.driver.now c.send.new.self c.send.result c.in-Ended.end
+    (c.in-Err.is ∙ ap (λ (n : NotSent). Err n) c.in-Ended.is) c.send.ensures c.note_end.result
+    (ends_so c.note_end.result c.stop_at.result c.in-Ended.end c.stop_at.ensures c.note_end.ensures.own) before printed)

@@ -16,7 +16,8 @@ returns-in-Err-clause-moves g c = inr (refl, refl, unread_either c.in-Err.status
 
 pub returns-in-Ok-clause-moves : goal.returns-in-Ok-clause-moves
 returns-in-Ok-clause-moves g c =
-    let Are = RunsScript g.row.A.Denot g.D.Device.logs c.args.device.now c.run_text.new.device c.args.task.form
+    let Are = RunsScript g.row.A.Denot g.D.Device.logs c.args.device.now c.run_text.new.device
+    (g.W.Write.contents c.args.out.now) (g.W.Write.contents c.run_text.new.out) c.args.task.form
     c.args.task.opens_directories c.run_text.result in
     good_or Are (g.R.Read.remaining c.args.input.now) c.in-Ok.text.items c.as_slice.result.now _
     c.as_slice.ensures.value c.in-Ok.ensures.ok c.run_text.ensures.moves

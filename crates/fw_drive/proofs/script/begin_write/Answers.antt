@@ -13,11 +13,12 @@ use Rattle.fw_drive.proofs.LineRuns.{first_weaker, perhaps}
 use Rattle.fw_drive.proofs.script.begin_write.Goals as goal
 
 pub returns-then-not-is_hex_or_none : goal.returns-then-not-is_hex_or_none
-returns-then-not-is_hex_or_none g c =
-    none_goes g.row.T-Heap.Denot NothingOver nothing_stays tt c.args.driver.now _ _ (inl refl)
+returns-then-not-is_hex_or_none g c f =
+    none_goes g.row.T-Heap.Denot NothingOver nothing_stays f tt (g.W.Write.contents c.args.out.now) c.args.driver.now _ tt _
+    (inl refl)
 
 pub returns-in-Ok : goal.returns-in-Ok
-returns-in-Ok g c =
+returns-in-Ok g c f =
     let r = c.act.result in
     let Is = IsMoveOf (line.CallWrite c.args.file.0 c.args.file.1 c.args.file.2) in
     let made = event.Call (call.Write c.args.file.0 c.args.file.1 c.as_slice.result) in
@@ -25,10 +26,13 @@ returns-in-Ok g c =
     ≡ spelled (lines.CallWrite c.args.file.0 c.args.file.1 c.args.file.2) =
     ap (λ (hex : List ℕ). codes "call" ∷ codes "write" ∷ decimal c.args.file.0 ∷ decimal c.args.file.1 ∷ hex ∷ [])
     (ap hex_or_none c.as_slice.ensures.value ∙ sym c.in-Ok.ensures) in
-    weaker g.row.T-Heap.Denot NothingOver tt tt c.args.driver.now c.act.new.driver r (FirstThen (IsEvent made) IsCollected)
-    (Perhaps r (FirstThen Is IsCollected)) c.act.ensures
+    weaker g.row.T-Heap.Denot NothingOver f tt tt (g.W.Write.contents c.args.out.now) (g.W.Write.contents c.act.new.out)
+    c.args.driver.now c.act.new.driver r (FirstThen (IsEvent made) IsCollected)
+    (Perhaps r (FirstThen Is IsCollected)) (c.act.ensures f)
     (λ m are. perhaps r (FirstThen Is IsCollected) m
     (first_weaker (IsEvent made) Is IsCollected IsCollected (λ move is. (made, is, spells)) (λ move is. is) m are))
 
 pub returns : goal.returns
-returns g c = none_goes g.row.T-Heap.Denot NothingOver nothing_stays tt c.args.driver.now _ _ (inl refl)
+returns g c f =
+    none_goes g.row.T-Heap.Denot NothingOver nothing_stays f tt (g.W.Write.contents c.args.out.now) c.args.driver.now _ tt _
+    (inl refl)

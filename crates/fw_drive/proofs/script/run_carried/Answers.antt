@@ -9,8 +9,10 @@ pub returns-in-Ok : goal.returns-in-Ok
 returns-in-Ok g c =
     let Is = IsMoveOf c.args.line in
     let Follow = MayFollow c.args.form in
-    then g.row.T-Heap.Denot g.D.Device.logs g.met.D.Device.goes_on c.args.device.now c.run_line.new.device
-    c.carry_on.new.device c.args.driver.now c.run_line.new.driver c.carry_on.new.driver _ c.carry_on.result
+    then g.row.T-Heap.Denot g.D.Device.logs g.met.D.Device.goes_on c.args.form c.args.device.now c.run_line.new.device
+    c.carry_on.new.device (g.W.Write.contents c.args.out.now) (g.W.Write.contents c.run_line.new.out)
+    (g.W.Write.contents c.carry_on.new.out) c.args.driver.now c.run_line.new.driver c.carry_on.new.driver _
+    c.carry_on.result
     (FirstThen Is IsCollected) (All Follow) (Perhaps c.carry_on.result (FirstThen Is Follow)) c.in-Ok.ensures
     c.carry_on.ensures
     (λ m n first rest. perhaps c.carry_on.result (FirstThen Is Follow) _
@@ -21,7 +23,8 @@ returns-in-Err g c =
     let failed : Result (Unit {0}) Stop = Err c.in-Err.stop in
     let Is = IsMoveOf c.args.line in
     let Follow = MayFollow c.args.form in
-    weaker g.row.T-Heap.Denot g.D.Device.logs c.args.device.now c.run_line.new.device c.args.driver.now c.run_line.new.driver
+    weaker g.row.T-Heap.Denot g.D.Device.logs c.args.form c.args.device.now c.run_line.new.device
+    (g.W.Write.contents c.args.out.now) (g.W.Write.contents c.run_line.new.out) c.args.driver.now c.run_line.new.driver
     failed _ _ c.in-Err.ensures
     (perhaps_weaker failed (FirstThen Is IsCollected) (FirstThen Is Follow)
     (first_weaker Is Is IsCollected Follow (λ move is. is) (collected_follows c.args.form)))

@@ -32,7 +32,3 @@ returns-in-None-clause-noted g c =
       aside = λ other. absurd (none other);
       waits = λ no. refl;
     }
-
-pub returns-in-Some-clause-silent : goal.returns-in-Some-clause-silent
-returns-in-Some-clause-silent g c none =
-    absurd (none (subst (λ (l : List ℕ). IsOtherFrame c.args.self.now.next l) c.as_slice.ensures.value c.in-Some.ensures.some))

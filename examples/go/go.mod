@@ -1,0 +1,3 @@
+module fuseworld
+
+go 1.19
