@@ -1,6 +1,7 @@
 //! The judge.
 
 ghost use Rattle.std.specs.Prelude.{◌≡◌, ◌↔◌, ℕ, [], ◌++◌, OnOk, OnErr, Some, length, slice_get};
+ghost use Rattle.std.specs.Option.{option_copied};
 ghost use Rattle.fuse_sessions.specs.declared.fault.Fault.{Fault};
 ghost use Rattle.fuse_sessions.specs.Sessions.{Session};
 ghost use Rattle.fuse_sessions.specs.Waiting.{waits};
@@ -71,6 +72,14 @@ impl<A: Allocator + Copy> Judge<A> {
     /// The request that waits under a number: it was read, and no reply has ended it.
     pub fn waiting(&self, unique: u64) -> Option<Asked>
         ensures { (s : Session) → HasSeen s self.now → result ≡ waits s unique }
+    {
+        self.asked(unique).copied()
+    }
+
+    /// The same, where it stands.
+    #[inline(always)]
+    pub(crate) fn asked(&self, unique: u64) -> Option<&Asked>
+        ensures { (s : Session) → HasSeen s self.now → option_copied result ≡ waits s unique }
     {
         asked_under(&self.tables.pending.rows, unique)
     }

@@ -13,11 +13,11 @@ use fuse_sessions::{Asked, OpenFile};
 use std::alloc::Allocator;
 
 /// The nodes that a request names are named once more.
-pub(crate) fn add_names<A: Allocator + Copy>(named: &mut Tally<u64, A>, asked: Asked)
+pub(crate) fn add_names<A: Allocator + Copy>(named: &mut Tally<u64, A>, asked: &Asked)
     requires room { 2 ≤ named.old.room }
     requires few { (node : ℕ) → count_in nat_eq named.old.counts node + 2 < 2 ^ 64 }
     ensures counts { (node : ℕ) → count_in nat_eq named.new.counts node
-        ≡ count_in nat_eq named.old.counts node + names_of node asked }
+        ≡ count_in nat_eq named.old.counts node + names_of node asked.now }
     ensures room { named.old.room ≤ named.new.room + 2 }
 {
     named.add(asked.nodeid);
@@ -25,9 +25,9 @@ pub(crate) fn add_names<A: Allocator + Copy>(named: &mut Tally<u64, A>, asked: A
 }
 
 /// The nodes that a request names are named once less.
-pub(crate) fn take_names<A: Allocator + Copy>(named: &mut Tally<u64, A>, asked: Asked)
+pub(crate) fn take_names<A: Allocator + Copy>(named: &mut Tally<u64, A>, asked: &Asked)
     ensures counts { (node : ℕ) → count_in nat_eq named.new.counts node
-        ≡ count_in nat_eq named.old.counts node - names_of node asked }
+        ≡ count_in nat_eq named.old.counts node - names_of node asked.now }
     ensures room { named.old.room ≤ named.new.room }
 {
     named.take(asked.nodeid);
@@ -59,11 +59,11 @@ fn take_use<A: Allocator + Copy>(used: &mut Tally<Handle, A>, file: Option<OpenF
 }
 
 /// The open files of a request are used once more.
-pub(crate) fn add_uses<A: Allocator + Copy>(used: &mut Tally<Handle, A>, asked: Asked)
+pub(crate) fn add_uses<A: Allocator + Copy>(used: &mut Tally<Handle, A>, asked: &Asked)
     requires room { 2 ≤ used.old.room }
     requires few { (q : OpenFile) → count_in same_handle used.old.counts (handle q) + 2 < 2 ^ 64 }
     ensures counts { (file : OpenFile) → count_in same_handle used.new.counts (handle file)
-        ≡ count_in same_handle used.old.counts (handle file) + uses_of file asked }
+        ≡ count_in same_handle used.old.counts (handle file) + uses_of file asked.now }
     ensures room { used.old.room ≤ used.new.room + 2 }
 {
     add_use(used, asked.uses);
@@ -71,9 +71,9 @@ pub(crate) fn add_uses<A: Allocator + Copy>(used: &mut Tally<Handle, A>, asked: 
 }
 
 /// The open files of a request are used once less.
-pub(crate) fn take_uses<A: Allocator + Copy>(used: &mut Tally<Handle, A>, asked: Asked)
+pub(crate) fn take_uses<A: Allocator + Copy>(used: &mut Tally<Handle, A>, asked: &Asked)
     ensures counts { (file : OpenFile) → count_in same_handle used.new.counts (handle file)
-        ≡ count_in same_handle used.old.counts (handle file) - uses_of file asked }
+        ≡ count_in same_handle used.old.counts (handle file) - uses_of file asked.now }
     ensures room { used.old.room ≤ used.new.room }
 {
     take_use(used, asked.uses);

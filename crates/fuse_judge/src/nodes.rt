@@ -8,7 +8,7 @@ ghost use Rattle.fuse_sessions.specs.Counts.{least_count, most_count, known};
 ghost use Rattle.fuse_sessions.specs.Faults.{BreaksName, BreaksForget, BreaksGift, BreaksAttributes, WarnsOfMissing, IsInUse};
 ghost use Rattle.fuse_judge.specs.declared.nodes.NodeRow.{NodeRow};
 ghost use Rattle.fuse_judge.specs.Nodes as words;
-ghost use Rattle.fuse_judge.specs.Nodes.{AreNodes};
+ghost use Rattle.fuse_judge.specs.Nodes.{AreNodes, IsNode};
 ghost use Rattle.fuse_judge.specs.Tallies.{one_if};
 ghost use Rattle.fuse_judge.specs.Verdicts.{IsFault};
 
@@ -104,15 +104,12 @@ fn fault_of_gift_again(old: File, file: File) -> Option<Fault>
     }
 }
 
-/// The fault of a server whose entry gives a node.
-pub(crate) fn fault_of_gift<A: Allocator + Copy>(
-    nodes: &RisingTable<NodeRow, A>,
-    node: u64,
-    file: File,
-) -> Option<Fault>
-    ensures { (s : Session) → AreNodes s nodes.now.entries → IsFault (BreaksGift s node file) result }
+/// The fault of a server whose entry gives a node, by the row that the node has.
+#[inline(always)]
+pub(crate) fn fault_of_gift(row: Option<NodeRow>, file: File) -> Option<Fault>
+    ensures { (s : Session) (node : ℕ) → IsNode s node row → IsFault (BreaksGift s node file) result }
 {
-    let row = nodes.get(node)?;
+    let row = row?;
     let old = row.file?;
     if row.most == 0 {
         return fault_of_gift_again(old, file);
@@ -189,34 +186,41 @@ fn file_given(least: u64, is_certain: bool, was: Option<File>, file: File) -> Op
     }
 }
 
-/// An entry gives a node. A node that is counted for certain stays of the file that it is of.
-fn give<A: Allocator + Copy>(
+/// An entry gives a node. A node that is counted for certain stays of the file that it is of. Returns the fault of the
+/// server: so a row is looked up once for both.
+#[inline(always)]
+pub(crate) fn give<A: Allocator + Copy>(
     nodes: &mut RisingTable<NodeRow, A>,
     node: u64,
     file: File,
     is_certain: bool,
-)
+) -> Option<Fault>
     requires room { 0 < nodes.old.room }
     requires few { (n : ℕ) (row : NodeRow) → get nodes.old.entries n ≡ Some row
         → (row.least + 1 < 2 ^ 64) × (row.most + 1 < 2 ^ 64) }
     ensures kept { (s : Session) → AreNodes s nodes.old.entries
         → AreNodes (s ++ Gives node file is_certain ∷ []) nodes.new.entries }
+    ensures verdict { (s : Session) → AreNodes s nodes.old.entries → IsFault (BreaksGift s node file) result }
     ensures room { nodes.old.room ≤ nodes.new.room + 1 }
 {
-    if let Some(row) = nodes.get_mut(node) {
-        *row = NodeRow {
-            least: row.least + certainly(is_certain),
-            most: row.most + 1,
-            file: file_given(row.least, is_certain, row.file, file),
+    let there = nodes.get(node).copied();
+    let fault = fault_of_gift(there, file);
+    let Some(row) = there else {
+        let first = NodeRow {
+            least: certainly(is_certain),
+            most: 1,
+            file: file_given(0, is_certain, None, file),
         };
-        return;
-    }
-    let first = NodeRow {
-        least: certainly(is_certain),
-        most: 1,
-        file: file_given(0, is_certain, None, file),
+        nodes.put(node, first);
+        return fault;
     };
-    nodes.put(node, first);
+    let more = NodeRow {
+        least: row.least + certainly(is_certain),
+        most: row.most + 1,
+        file: file_given(row.least, is_certain, row.file, file),
+    };
+    let _old = nodes.replace(node, more);
+    fault
 }
 
 /// Writes down what an act does to the counts of nodes.
@@ -232,7 +236,9 @@ pub(crate) fn note_nodes<A: Allocator + Copy>(nodes: &mut RisingTable<NodeRow, A
             nodeid,
             file,
             is_certain,
-        } => give(nodes, nodeid, file, is_certain),
+        } => {
+            let _verdict = give(nodes, nodeid, file, is_certain);
+        }
         NodeChange::Forgets { nodeid, lookups } => forget(nodes, nodeid, lookups),
     }
 }

@@ -1,6 +1,7 @@
 //! The requests that wait: the tables, and what is a fault by them.
 
 ghost use Rattle.std.specs.Prelude.{◌≡◌, ℕ, ◌+◌, ◌*◌, ◌<◌, ◌≤◌, ◌^◌, Bool, false, ◌&&◌, List, [], ◌∷◌, ◌++◌, None, OnOk, Some, if◌then◌else◌, nat_eq, filter, not, is_some, length};
+ghost use Rattle.std.specs.Option.{option_copied};
 ghost use Rattle.fuse_spec.specs.Values.Maps.{get};
 ghost use Rattle.fuse_sessions.specs.declared.act.Act.{Act};
 ghost use Rattle.fuse_sessions.specs.declared.act.Act.TheVariants.{Asks};
@@ -220,11 +221,11 @@ pub(crate) fn fault_of_reply_to_interrupt<A: Allocator + Copy>(
 pub(crate) fn asked_under<A: Allocator + Copy>(
     rows: &RisingTable<Waiting, A>,
     unique: u64,
-) -> Option<Asked>
-    ensures { (s : Session) → AreWaiting s rows.now.entries → result ≡ waits s unique }
+) -> Option<&Asked>
+    ensures { (s : Session) → AreWaiting s rows.now.entries → option_copied result ≡ waits s unique }
 {
     match rows.get(unique) {
-        Some(row) => Some(row.asked),
+        Some(row) => Some(&row.asked),
         None => None,
     }
 }
@@ -256,13 +257,13 @@ fn end<A: Allocator + Copy>(pending: &mut Pending<A>, unique: u64)
     let Some(row) = pending.rows.get(unique) else {
         return;
     };
-    take_names(&mut pending.named, row.asked);
-    take_uses(&mut pending.used, row.asked);
+    take_names(&mut pending.named, &row.asked);
+    take_uses(&mut pending.used, &row.asked);
     let _row = pending.rows.remove(unique);
 }
 
 /// A request waits, under a number under which none does.
-fn ask<A: Allocator + Copy>(pending: &mut Pending<A>, unique: u64, asked: Asked)
+fn ask<A: Allocator + Copy>(pending: &mut Pending<A>, unique: u64, asked: &Asked)
     requires gone { get pending.old.rows.entries unique ≡ None }
     requires room { 0 < pending.old.rows.room }
     requires named_room { 2 ≤ pending.old.named.room }
@@ -271,22 +272,43 @@ fn ask<A: Allocator + Copy>(pending: &mut Pending<A>, unique: u64, asked: Asked)
     requires uses { (f : OpenFile) → count_in same_handle pending.old.used.counts (handle f) + 2 < 2 ^ 64 }
     ensures listed { (xs : List (ℕ × Asked))
         → AreListed xs pending.old.rows.entries pending.old.named.counts pending.old.used.counts
-        → AreListed (xs ++ (unique, asked) ∷ []) pending.new.rows.entries pending.new.named.counts
+        → AreListed (xs ++ (unique, asked.now) ∷ []) pending.new.rows.entries pending.new.named.counts
         pending.new.used.counts }
     ensures interrupted { (s : Session) → AreInterrupted s pending.old.rows.entries
-        → AreInterrupted (s ++ Asks unique asked ∷ []) pending.new.rows.entries }
+        → AreInterrupted (s ++ Asks unique asked.now ∷ []) pending.new.rows.entries }
     ensures room { pending.old.rows.room ≤ pending.new.rows.room + 1 }
     ensures named_room { pending.old.named.room ≤ pending.new.named.room + 2 }
     ensures used_room { pending.old.used.room ≤ pending.new.used.room + 2 }
 {
     let row = Waiting {
-        asked,
+        asked: *asked,
         interrupts: 0,
         agains: 0,
     };
     pending.rows.put(unique, row);
     add_names(&mut pending.named, asked);
     add_uses(&mut pending.used, asked);
+}
+
+/// Writes down that a request waits, in place of any under its number.
+#[inline(always)]
+pub(crate) fn note_asked<A: Allocator + Copy>(pending: &mut Pending<A>, unique: u64, asked: &Asked)
+    requires room { 0 < pending.old.rows.room }
+    requires named_room { 2 ≤ pending.old.named.room }
+    requires used_room { 2 ≤ pending.old.used.room }
+    requires few { (s : Session)
+        × ArePending s pending.old.rows.entries pending.old.named.counts pending.old.used.counts
+        × (2 * length s + 2 < 2 ^ 64) }
+    ensures kept { (s : Session)
+        → ArePending s pending.old.rows.entries pending.old.named.counts pending.old.used.counts
+        → ArePending (s ++ Asks unique asked.now ∷ []) pending.new.rows.entries pending.new.named.counts
+        pending.new.used.counts }
+    ensures room { pending.old.rows.room ≤ pending.new.rows.room + 1 }
+    ensures named_room { pending.old.named.room ≤ pending.new.named.room + 2 }
+    ensures used_room { pending.old.used.room ≤ pending.new.used.room + 2 }
+{
+    end(pending, unique);
+    ask(pending, unique, asked);
 }
 
 /// One, or none.
@@ -337,10 +359,7 @@ pub(crate) fn note_pending<A: Allocator + Copy>(pending: &mut Pending<A>, act: A
 {
     match change_of(act) {
         Change::Nothing => {}
-        Change::Asks { unique, asked } => {
-            end(pending, unique);
-            ask(pending, unique, asked);
-        }
+        Change::Asks { unique, asked } => note_asked(pending, unique, &asked),
         Change::Ends(unique) => end(pending, unique),
         Change::Interrupts(unique) => interrupt(&mut pending.rows, unique, true, false),
         Change::Again(unique) => interrupt(&mut pending.rows, unique, false, true),

@@ -1,6 +1,7 @@
 //! The judge of transfers.
 
 ghost use Rattle.std.specs.Prelude.{◌≡◌, [], List, OnErr, OnOk};
+ghost use Rattle.std.specs.Option.{option_copied};
 ghost use Rattle.fuse_sessions.specs.declared.transfer.Transfer.{Transfer};
 ghost use Rattle.fuse_sessions.specs.Sessions.{Session};
 ghost use Rattle.fuse_sessions.specs.Waiting.{waits};
@@ -33,11 +34,15 @@ impl<A: Allocator> Model for SessionJudge<A> {
 }
 
 /// The request that waits for what a transfer writes. What is read answers none, and is not looked up.
-fn asked_for<A: Allocator + Copy>(judge: &Judge<A>, transfer: Transfer<'_>) -> Option<Asked>
-    ensures { (s : Session) → HasSeen s judge.now → IsAskedFor s transfer.entry result }
+#[inline(always)]
+fn asked_for<'a, A: Allocator + Copy>(
+    judge: &'a Judge<A>,
+    transfer: Transfer<'_>,
+) -> Option<&'a Asked>
+    ensures { (s : Session) → HasSeen s judge.now → IsAskedFor s transfer.entry (option_copied result) }
 {
     match transfer {
-        Transfer::Written(_, _) => judge.waiting(reply_number(transfer)),
+        Transfer::Written(_, _) => judge.asked(reply_number(transfer)),
         _ => None,
     }
 }
@@ -97,9 +102,11 @@ impl<A: Allocator + Copy> SessionJudge<A> {
             → HasSeenTransfers before s self.new) }
     {
         let asked = asked_for(&self.judge, transfer);
-        let known = write_transfer(acts, self.known, asked, transfer)?;
+        let learnt = write_transfer(acts, &self.known, asked, transfer)?;
         self.judge.see(acts, verdicts)?;
-        self.known = known;
+        if let Some(known) = learnt {
+            self.known = known;
+        }
         Ok(())
     }
 }

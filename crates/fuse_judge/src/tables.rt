@@ -19,7 +19,7 @@ use crate::handle::handle_of;
 use crate::marks::Marks;
 use crate::nodes::{
     NodeRow, fault_of_attributes, fault_of_forget, fault_of_gift, fault_of_missing, fault_of_name,
-    note_nodes,
+    give, note_nodes,
 };
 use crate::numbers::{fault_of_number, note_number};
 use crate::opens::{
@@ -28,7 +28,7 @@ use crate::opens::{
 };
 use crate::pending::{
     Pending, fault_of_error, fault_of_interrupt, fault_of_reply, fault_of_reply_to_interrupt,
-    fault_of_resent, fault_of_taking, note_pending, reserve_pending, waits,
+    fault_of_resent, fault_of_taking, note_asked, note_pending, reserve_pending, waits,
 };
 use fuse_sessions::{Act, Fault, OpenFile, Taken};
 use fuse_tables::RisingTable;
@@ -132,11 +132,12 @@ impl<A: Allocator + Copy> Tables<A> {
     }
 
     /// The fault of the next act, if it has one.
-    pub fn fault(&self, act: Act) -> Option<Fault>
-        ensures { (s : Session) → HasSeen s (state_of self.now) → IsVerdict s act result }
+    #[inline(always)]
+    fn fault(&self, act: &Act) -> Option<Fault>
+        ensures { (s : Session) → HasSeen s (state_of self.now) → IsVerdict s act.now result }
     {
         let rows = &self.pending.rows;
-        match act {
+        match *act {
             Act::Faulty(that) => Some(that),
             Act::Arrives => fault_of_arrival(self.flags),
             Act::Begins(opcode) => fault_of_beginning(self.flags, opcode),
@@ -172,7 +173,7 @@ impl<A: Allocator + Copy> Tables<A> {
                 let several = has_several_threads(self.flags);
                 fault_of_reply_to_interrupt(rows, &self.numbers, several, original, is_again, taken)
             }
-            Act::Gives { nodeid, file, .. } => fault_of_gift(&self.nodes, nodeid, file),
+            Act::Gives { nodeid, file, .. } => fault_of_gift(self.nodes.get(nodeid).copied(), file),
             Act::Describes { nodeid, kind, ino } => {
                 fault_of_attributes(&self.nodes, nodeid, kind, ino)
             }
@@ -189,7 +190,8 @@ impl<A: Allocator + Copy> Tables<A> {
     }
 
     /// Writes the next act down, whether or not it has a fault.
-    pub fn note(&mut self, act: &Act)
+    #[inline(always)]
+    fn note(&mut self, act: &Act)
         requires room { HasRoom 1 self.old }
         requires few { (s : Session) × HasSeen s (state_of self.old) × (2 * length s + 2 < 2 ^ 64) }
         ensures right { (s : Session) → HasSeen s (state_of self.old) → HasSeen (s ++ act.now ∷ []) (state_of self.new) }
@@ -224,6 +226,32 @@ impl<A: Allocator + Copy> Tables<A> {
         note_opens(&mut self.opens, *act);
     }
 
+    /// The fault of the next act, if it has one, which is written down.
+    #[inline(always)]
+    fn see_one(&mut self, act: &Act) -> Option<Fault>
+        requires room { HasRoom 1 self.old }
+        requires few { (s : Session) × HasSeen s (state_of self.old) × (2 * length s + 2 < 2 ^ 64) }
+        ensures verdict { (s : Session) → HasSeen s (state_of self.old) → IsVerdict s act.now result }
+        ensures right { (s : Session) → HasSeen s (state_of self.old) → HasSeen (s ++ act.now ∷ []) (state_of self.new) }
+        ensures room { (acts : ℕ) → HasRoom (acts + 1) self.old → HasRoom acts self.new }
+    {
+        if let Act::Gives {
+            nodeid,
+            file,
+            is_certain,
+        } = *act
+        {
+            return give(&mut self.nodes, nodeid, file, is_certain);
+        }
+        if let Act::Asks { unique, asked } = act {
+            note_asked(&mut self.pending, *unique, asked);
+            return None;
+        }
+        let fault = self.fault(act);
+        self.note(act);
+        fault
+    }
+
     /// Sees acts one after another, and writes a verdict on each.
     pub fn see(&mut self, acts: &[Act], verdicts: &mut Vec<Option<Fault>, A>)
         requires empty { verdicts.old.items ≡ [] }
@@ -236,8 +264,8 @@ impl<A: Allocator + Copy> Tables<A> {
         ensures room { (more : ℕ) → HasRoom (length acts.now + more) self.old → HasRoom more self.new }
     {
         for act in acts {
-            verdicts.push_reserved(self.fault(*act));
-            self.note(act);
+            let verdict = self.see_one(act);
+            verdicts.push_reserved(verdict);
         }
     }
 }

@@ -6,7 +6,7 @@ ghost use Rattle.fuse_sessions.specs.ReplyActs as words;
 ghost use Rattle.fuse_sessions.specs.Warnings as warnings;
 
 use crate::entries::{is_opened, kind_of, write_entry, write_records};
-use crate::listings::{write_listing, write_listing_plus};
+use crate::listings::{write_listing, write_offsets};
 use crate::writing::write;
 use fuse_protocol::Opcode;
 use fuse_replies::Answer;
@@ -125,11 +125,11 @@ fn write_counting<A: Allocator + Copy>(
 pub(crate) fn write_answer<A: Allocator + Copy>(
     acts: &mut Vec<Act, A>,
     opcode: Opcode,
-    asked: Asked,
+    asked: &Asked,
     answer: &Answer<'_>,
 ) -> Result<(), AllocError>
     ensures { OnOk result (acts.new.items
-        ≡ acts.old.items ++ words.answer_acts opcode asked (answer_content answer.now)) }
+        ≡ acts.old.items ++ words.answer_acts opcode asked.now (answer_content answer.now)) }
 {
     match answer {
         Answer::Failed(errno) => write_failed(acts, opcode, asked.nodeid, *errno),
@@ -154,8 +154,8 @@ pub(crate) fn write_answer<A: Allocator + Copy>(
         Answer::Number(number) => write_counting(acts, opcode, *number, asked.writes),
         Answer::Records(records) => write_listing(acts, asked.lists_from, *records),
         Answer::EntryRecords(records) => {
-            write_records(acts, true, asked, *records)?;
-            write_listing_plus(acts, asked.lists_from, *records)
+            let offsets = write_records(acts, true, asked, *records)?;
+            write_offsets(acts, asked.lists_from, offsets)
         }
         Answer::Init(init) => write(acts, Act::Agrees(init.max_write)),
         Answer::Done | Answer::Bytes(_) => Ok(()),

@@ -1,10 +1,12 @@
 //! The acts of entries.
 
-ghost use Rattle.std.specs.Prelude.{◌≡◌, ◌++◌, OnOk, flat_map};
+ghost use Rattle.std.specs.Prelude.{◌≡◌, ◌++◌, IfOk, OnOk, flat_map, map};
 ghost use Rattle.fuse_replies.specs.Record.{entry_record_content};
 ghost use Rattle.fuse_replies.specs.Records.{entry_records_in};
 ghost use Rattle.fuse_sessions.specs.ReplyActs as words;
+ghost use Rattle.session_frames.specs.Offsets.{AreOffsets};
 
+use crate::listings::{Offsets, no_offsets, with_offset};
 use crate::writing::write;
 use fuse_protocol::Opcode;
 use fuse_replies::{Attributes, Entry, EntryRecord, EntryRecords};
@@ -46,22 +48,22 @@ fn file_of(entry: &Entry) -> File
 }
 
 /// Whether the file of an entry is of the kind that its request makes.
-fn is_made(asked: Asked, entry: &Entry) -> bool
-    ensures { result ≡ words.is_made asked entry.now }
+fn is_made(asked: &Asked, entry: &Entry) -> bool
+    ensures { result ≡ words.is_made asked.now entry.now }
 {
     asked.makes == 0 || asked.makes == u64::from(kind_of(&entry.attributes))
 }
 
 /// Whether Linux counts the node of an entry for certain.
-fn is_counted(asked: Asked, entry: &Entry) -> bool
-    ensures { result ≡ words.is_counted asked entry.now }
+fn is_counted(asked: &Asked, entry: &Entry) -> bool
+    ensures { result ≡ words.is_counted asked.now entry.now }
 {
     is_kind(kind_of(&entry.attributes)) && is_made(asked, entry) && entry.attributes.size < 1 << 63
 }
 
 /// Whether Linux opens the file of an entry that it created.
-pub(crate) fn is_opened(asked: Asked, entry: &Entry) -> bool
-    ensures { result ≡ words.is_opened asked entry.now }
+pub(crate) fn is_opened(asked: &Asked, entry: &Entry) -> bool
+    ensures { result ≡ words.is_opened asked.now entry.now }
 {
     is_counted(asked, entry) && entry.nodeid != 0 && entry.nodeid != 1
 }
@@ -76,10 +78,10 @@ fn may_be_missing(opcode: Opcode) -> bool
 /// The kind of an entry's file.
 fn write_kind<A: Allocator + Copy>(
     acts: &mut Vec<Act, A>,
-    asked: Asked,
+    asked: &Asked,
     entry: &Entry,
 ) -> Result<(), AllocError>
-    ensures { OnOk result (acts.new.items ≡ acts.old.items ++ words.kind_acts asked entry.now) }
+    ensures { OnOk result (acts.new.items ≡ acts.old.items ++ words.kind_acts asked.now entry.now) }
 {
     if !is_kind(kind_of(&entry.attributes)) {
         write(acts, Act::Faulty(Fault::EntryOfNoKind))
@@ -94,10 +96,10 @@ fn write_kind<A: Allocator + Copy>(
 fn write_gift<A: Allocator + Copy>(
     acts: &mut Vec<Act, A>,
     certain: bool,
-    asked: Asked,
+    asked: &Asked,
     entry: &Entry,
 ) -> Result<(), AllocError>
-    ensures { OnOk result (acts.new.items ≡ acts.old.items ++ words.gift_acts certain asked entry.now) }
+    ensures { OnOk result (acts.new.items ≡ acts.old.items ++ words.gift_acts certain asked.now entry.now) }
 {
     write_kind(acts, asked, entry)?;
     let gives = Act::Gives {
@@ -109,8 +111,8 @@ fn write_gift<A: Allocator + Copy>(
 }
 
 /// An entry of the root.
-fn write_root<A: Allocator + Copy>(acts: &mut Vec<Act, A>, asked: Asked) -> Result<(), AllocError>
-    ensures { OnOk result (acts.new.items ≡ acts.old.items ++ words.root_acts asked) }
+fn write_root<A: Allocator + Copy>(acts: &mut Vec<Act, A>, asked: &Asked) -> Result<(), AllocError>
+    ensures { OnOk result (acts.new.items ≡ acts.old.items ++ words.root_acts asked.now) }
 {
     if asked.is_dots {
         Ok(())
@@ -124,10 +126,10 @@ pub(crate) fn write_entry<A: Allocator + Copy>(
     acts: &mut Vec<Act, A>,
     certain: bool,
     opcode: Opcode,
-    asked: Asked,
+    asked: &Asked,
     entry: &Entry,
 ) -> Result<(), AllocError>
-    ensures { OnOk result (acts.new.items ≡ acts.old.items ++ words.entry_acts certain opcode asked entry.now) }
+    ensures { OnOk result (acts.new.items ≡ acts.old.items ++ words.entry_acts certain opcode asked.now entry.now) }
 {
     if entry.nodeid == 1 {
         write_root(acts, asked)
@@ -144,11 +146,11 @@ pub(crate) fn write_entry<A: Allocator + Copy>(
 fn write_record<A: Allocator + Copy>(
     acts: &mut Vec<Act, A>,
     certain: bool,
-    asked: Asked,
+    asked: &Asked,
     listed: &EntryRecord<'_>,
 ) -> Result<(), AllocError>
     ensures { OnOk result (acts.new.items
-        ≡ acts.old.items ++ words.record_acts certain asked (entry_record_content listed.now)) }
+        ≡ acts.old.items ++ words.record_acts certain asked.now (entry_record_content listed.now)) }
 {
     let name = listed.record.name;
     if name == b".".as_slice() || name == b"..".as_slice() {
@@ -158,19 +160,22 @@ fn write_record<A: Allocator + Copy>(
     }
 }
 
-/// The records of a listing.
+/// The records of a listing. Returns what their offsets come to.
 pub(crate) fn write_records<A: Allocator + Copy>(
     acts: &mut Vec<Act, A>,
     certain: bool,
-    asked: Asked,
+    asked: &Asked,
     records: EntryRecords<'_>,
-) -> Result<(), AllocError>
-    ensures { OnOk result (acts.new.items
-        ≡ acts.old.items ++ flat_map (words.record_acts certain asked) (entry_records_in records.entry)) }
+) -> Result<Offsets, AllocError>
+    ensures acts { OnOk result (acts.new.items
+        ≡ acts.old.items ++ flat_map (words.record_acts certain asked.now) (entry_records_in records.entry)) }
+    ensures offsets { IfOk result (λ o. AreOffsets o (map (λ r. r.said.off) (entry_records_in records.entry))) }
 {
+    let mut offsets = no_offsets();
     let mut left = records;
     'records: while let Some(record) = left.next() {
+        offsets = with_offset(offsets, record.record.off);
         write_record(acts, certain, asked, &record)?;
     }
-    Ok(())
+    Ok(offsets)
 }

@@ -1,6 +1,7 @@
 //! The acts of a transfer.
 
-ghost use Rattle.std.specs.Prelude.{◌≡◌, ℕ, [], IfOk, OnOk};
+ghost use Rattle.std.specs.Prelude.{◌≡◌, ℕ, [], IfOk, OnOk, unwrap_or};
+ghost use Rattle.std.specs.Option.{option_copied};
 ghost use Rattle.fuse_sessions.specs.Frames as words;
 ghost use Rattle.fuse_sessions.specs.Sessions.{Session};
 ghost use Rattle.fuse_sessions.specs.Waiting.{waits};
@@ -19,14 +20,15 @@ use std::alloc::{AllocError, Allocator};
 /// A request that was read.
 fn write_read<A: Allocator + Copy>(
     acts: &mut Vec<Act, A>,
-    known: Known,
+    known: &Known,
     bytes: &[u8],
 ) -> Result<(), AllocError>
     requires { acts.old.items ≡ [] }
-    ensures { OnOk result (words.AreRequestActs known bytes.now acts.new.items) }
+    ensures { OnOk result (words.AreRequestActs known.now bytes.now acts.new.items) }
 {
-    match read_request(known.agreed, bytes) {
-        Ok(request) => write_request(acts, known.has_resent, &request),
+    let read = read_request(known.agreed, bytes);
+    match &read {
+        Ok(request) => write_request(acts, known.has_resent, request),
         Err(_) => write_unread(acts, known.offered, bytes),
     }
 }
@@ -41,16 +43,17 @@ pub fn reply_number(transfer: Transfer<'_>) -> u64
     }
 }
 
-/// The acts of a transfer whose frames can be read, by what waits under its number. Returns what is known after it.
+/// The acts of a transfer whose frames can be read, by what waits under its number. Returns what is known after it,
+/// where that is new.
 fn write_read_transfer<A: Allocator + Copy>(
     acts: &mut Vec<Act, A>,
-    known: Known,
-    asked: Option<Asked>,
+    known: &Known,
+    asked: Option<&Asked>,
     transfer: Transfer<'_>,
-) -> Result<Known, AllocError>
+) -> Result<Option<Known>, AllocError>
     requires { acts.old.items ≡ [] }
-    ensures { IfOk result (λ later. (s : Session) (n : ℕ) → IsReplyNumber transfer.entry n → waits s n ≡ asked
-        → words.AreReadActs known s transfer.entry acts.new.items later) }
+    ensures { IfOk result (λ later. (s : Session) (n : ℕ) → IsReplyNumber transfer.entry n → waits s n ≡ option_copied asked.entry
+        → words.AreReadActs known.now s transfer.entry acts.new.items (unwrap_or later known.now)) }
 {
     match transfer {
         Transfer::Request(bytes) => {
@@ -60,37 +63,37 @@ fn write_read_transfer<A: Allocator + Copy>(
         Transfer::Written(bytes, taken) => write_written(acts, known, asked, bytes, taken),
         Transfer::SeveralReaders => {
             write(acts, Act::SeveralReaders)?;
-            Ok(known)
+            Ok(None)
         }
         Transfer::SeveralWriters => {
             write(acts, Act::SeveralWriters)?;
-            Ok(known)
+            Ok(None)
         }
         Transfer::Ended => {
             write(acts, Act::Ends)?;
-            Ok(known)
+            Ok(None)
         }
     }
 }
 
 /// The acts of a transfer, by what waits under its number, in place of what the vector had: none once INIT agreed on frames
-/// that cannot be read. Returns what is known after it.
+/// that cannot be read. Returns what is known after it, where that is new.
 ///
 /// # Errors
 ///
 /// Out of memory.
 pub fn write_transfer<A: Allocator + Copy>(
     acts: &mut Vec<Act, A>,
-    known: Known,
-    asked: Option<Asked>,
+    known: &Known,
+    asked: Option<&Asked>,
     transfer: Transfer<'_>,
-) -> Result<Known, AllocError>
-    ensures { IfOk result (λ later. (s : Session) (n : ℕ) → IsReplyNumber transfer.entry n → waits s n ≡ asked
-        → words.AreActs known s transfer.entry acts.new.items later) }
+) -> Result<Option<Known>, AllocError>
+    ensures { IfOk result (λ later. (s : Session) (n : ℕ) → IsReplyNumber transfer.entry n → waits s n ≡ option_copied asked.entry
+        → words.AreActs known.now s transfer.entry acts.new.items (unwrap_or later known.now)) }
 {
     acts.clear();
     if known.unjudged.is_some() {
-        return Ok(known);
+        return Ok(None);
     }
     write_read_transfer(acts, known, asked, transfer)
 }

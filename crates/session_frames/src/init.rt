@@ -1,6 +1,6 @@
 //! What INIT makes known.
 
-ghost use Rattle.std.specs.Prelude.{◌≡◌, ◌++◌, OnOk};
+ghost use Rattle.std.specs.Prelude.{◌≡◌, ◌++◌, OnOk, unwrap_or};
 ghost use Rattle.fuse_replies.specs.Replies.{answer_content};
 ghost use Rattle.fuse_sessions.specs.Frames as words;
 
@@ -10,45 +10,44 @@ use fuse_replies::Answer;
 use fuse_sessions::{Act, Fault, Known, Taken};
 use std::alloc::{AllocError, Allocator};
 
-/// What is known once a request was read: what the first INIT offers.
-pub(crate) fn known_after_request(known: Known, bytes: &[u8]) -> Known
-    ensures { words.IsOffered known bytes.now result }
+/// What is known once a request was read, where that is new: what the first INIT offers.
+#[inline(always)]
+pub(crate) fn known_after_request(known: &Known, bytes: &[u8]) -> Option<Known>
+    ensures { words.IsOffered known.now bytes.now (unwrap_or result known.now) }
 {
     if known.offered.is_some() {
-        return known;
+        return None;
     }
     match read_init(bytes) {
-        Ok(init) => Known {
+        Ok(init) => Some(Known {
             offered: Some(init),
-            ..known
-        },
-        Err(_) => known,
+            ..*known
+        }),
+        Err(_) => None,
     }
 }
 
-/// What is known once INIT was answered: what was agreed, or why the frames cannot be read.
-fn known_by_init(known: Known, reply: &InitReply) -> Known
-    ensures { words.IsAgreed known known.offered reply.now result }
+/// What is known once INIT was answered, where that is new: what was agreed, or why the frames cannot be read.
+fn known_by_init(known: &Known, reply: &InitReply) -> Option<Known>
+    ensures { words.IsAgreed known.now known.now.offered reply.now (unwrap_or result known.now) }
 {
-    let Some(request) = known.offered else {
-        return known;
-    };
+    let request = known.offered?;
     match Agreed::of_init(&request, reply) {
-        Ok(agreed) => Known { agreed, ..known },
-        Err(why) => Known {
+        Ok(agreed) => Some(Known { agreed, ..*known }),
+        Err(why) => Some(Known {
             unjudged: Some(why),
-            ..known
-        },
+            ..*known
+        }),
     }
 }
 
-/// What is known once a reply was written.
-pub(crate) fn known_after_reply(known: Known, taken: Taken, answer: &Answer<'_>) -> Known
-    ensures { words.IsTold known taken (answer_content answer.now) result }
+/// What is known once a reply was written, where that is new.
+pub(crate) fn known_after_reply(known: &Known, taken: Taken, answer: &Answer<'_>) -> Option<Known>
+    ensures { words.IsTold known.now taken (answer_content answer.now) (unwrap_or result known.now) }
 {
     match (taken, answer) {
         (Taken::Accepted, Answer::Init(reply)) => known_by_init(known, reply),
-        _ => known,
+        _ => None,
     }
 }
 

@@ -1,11 +1,12 @@
 //! What is odd in the records of a listing.
 
-ghost use Rattle.std.specs.Prelude.{◌≡◌, ℕ, ◌||◌, ◌++◌, List, Some, None, OnOk, map};
-ghost use Rattle.fuse_replies.specs.Records.{records_in, entry_records_in};
+ghost use Rattle.std.specs.Prelude.{◌≡◌, ℕ, ◌||◌, ◌++◌, [], List, Some, OnOk, map};
+ghost use Rattle.fuse_replies.specs.Records.{records_in};
 ghost use Rattle.fuse_sessions.specs.Warnings as words;
+ghost use Rattle.session_frames.specs.Offsets.{AreOffsets};
 
 use crate::writing::write;
-use fuse_replies::{EntryRecords, Records};
+use fuse_replies::Records;
 use fuse_sessions::{Act, Fault};
 use std::alloc::{AllocError, Allocator};
 
@@ -24,8 +25,19 @@ fn is_offset(offset: u64, other: Option<u64>) -> bool
     other == Some(offset)
 }
 
+/// No record has come.
+pub(crate) fn no_offsets() -> Offsets
+    ensures { AreOffsets result [] }
+{
+    Offsets {
+        repeats: false,
+        last: None,
+    }
+}
+
 /// One offset more.
-fn with_offset(before: Offsets, offset: u64) -> Offsets
+#[inline(always)]
+pub(crate) fn with_offset(before: Offsets, offset: u64) -> Offsets
     ensures repeats { result.repeats ≡ (before.repeats || words.is_offset offset before.last) }
     ensures last { result.last ≡ Some offset }
 {
@@ -36,13 +48,13 @@ fn with_offset(before: Offsets, offset: u64) -> Offsets
 }
 
 /// What is odd in offsets, of a listing from this one on.
-fn write_offsets<A: Allocator + Copy>(
+pub(crate) fn write_offsets<A: Allocator + Copy>(
     acts: &mut Vec<Act, A>,
     asked: u64,
     offsets: Offsets,
 ) -> Result<(), AllocError>
-    ensures { (all : List ℕ) → offsets.repeats ≡ words.repeats_behind None all → offsets.last ≡ words.last_behind None all
-        → OnOk result (acts.new.items ≡ acts.old.items ++ words.listing_acts asked all) }
+    ensures { (all : List ℕ) → AreOffsets offsets all → OnOk result (acts.new.items
+        ≡ acts.old.items ++ words.listing_acts asked all) }
 {
     if offsets.repeats {
         write(acts, Act::Faulty(Fault::OffsetGivenTwice))?;
@@ -62,33 +74,10 @@ pub(crate) fn write_listing<A: Allocator + Copy>(
     ensures { OnOk result (acts.new.items
         ≡ acts.old.items ++ words.listing_acts asked (map (λ r. r.off) (records_in records.entry))) }
 {
-    let mut offsets = Offsets {
-        repeats: false,
-        last: None,
-    };
+    let mut offsets = no_offsets();
     let mut left = records;
     'records: while let Some(record) = left.next() {
         offsets = with_offset(offsets, record.off);
-    }
-    write_offsets(acts, asked, offsets)
-}
-
-/// The same of READDIRPLUS.
-pub(crate) fn write_listing_plus<A: Allocator + Copy>(
-    acts: &mut Vec<Act, A>,
-    asked: u64,
-    records: EntryRecords<'_>,
-) -> Result<(), AllocError>
-    ensures { OnOk result (acts.new.items
-        ≡ acts.old.items ++ words.listing_acts asked (map (λ r. r.said.off) (entry_records_in records.entry))) }
-{
-    let mut offsets = Offsets {
-        repeats: false,
-        last: None,
-    };
-    let mut left = records;
-    'records: while let Some(record) = left.next() {
-        offsets = with_offset(offsets, record.record.off);
     }
     write_offsets(acts, asked, offsets)
 }

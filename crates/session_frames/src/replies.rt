@@ -1,6 +1,7 @@
 //! The acts of what the server writes.
 
-ghost use Rattle.std.specs.Prelude.{◌≡◌, ◌≤◌, ◌↔◌, [], ◌++◌, IfOk, IsTrue, OnOk, length};
+ghost use Rattle.std.specs.Prelude.{◌≡◌, ◌≤◌, ◌↔◌, [], ◌++◌, IfOk, IsTrue, OnOk, length, unwrap_or};
+ghost use Rattle.std.specs.Option.{option_copied};
 ghost use Rattle.fuse_replies.specs.Replies.{IsFrame, answer_content};
 ghost use Rattle.fuse_sessions.specs.Frames as words;
 ghost use Rattle.fuse_sessions.specs.Sessions.{Session};
@@ -58,29 +59,29 @@ fn is_resend(bytes: &[u8], taken: Taken) -> bool
     }
 }
 
-/// A notification. Returns what is known after it.
+/// A notification. Returns what is known after it, where that is new.
 fn write_notification<A: Allocator + Copy>(
     acts: &mut Vec<Act, A>,
-    known: Known,
+    known: &Known,
     bytes: &[u8],
     taken: Taken,
-) -> Result<Known, AllocError>
+) -> Result<Option<Known>, AllocError>
     requires empty { acts.old.items ≡ [] }
     requires frame { IsFrame bytes.now }
-    ensures { IfOk result (words.IsNotified known bytes.now taken acts.new.items) }
+    ensures { IfOk result (λ later. words.IsNotified known.now bytes.now taken acts.new.items (unwrap_or later known.now)) }
 {
     match read_notification(known.agreed, bytes) {
         Ok(_) if is_resend(bytes, taken) => {
             write(acts, Act::Resends)?;
-            Ok(Known {
+            Ok(Some(Known {
                 has_resent: true,
-                ..known
-            })
+                ..*known
+            }))
         }
-        Ok(_) => Ok(known),
+        Ok(_) => Ok(None),
         Err(_) => {
             write(acts, Act::Faulty(Fault::MalformedNotification))?;
-            Ok(known)
+            Ok(None)
         }
     }
 }
@@ -122,14 +123,14 @@ fn write_replied<A: Allocator + Copy>(
 /// What a reply says, once the device has accepted it.
 fn write_said<A: Allocator + Copy>(
     acts: &mut Vec<Act, A>,
-    known: Known,
+    known: &Known,
     opcode: Opcode,
-    asked: Asked,
+    asked: &Asked,
     taken: Taken,
     answer: &Answer<'_>,
 ) -> Result<(), AllocError>
     ensures { OnOk result (acts.new.items
-        ≡ acts.old.items ++ words.said_acts known opcode asked taken (answer_content answer.now)) }
+        ≡ acts.old.items ++ words.said_acts known.now opcode asked.now taken (answer_content answer.now)) }
 {
     match taken {
         Taken::Accepted => {
@@ -144,33 +145,35 @@ fn write_said<A: Allocator + Copy>(
 fn write_listed<A: Allocator + Copy>(
     acts: &mut Vec<Act, A>,
     opcode: Opcode,
-    asked: Asked,
+    asked: &Asked,
     bytes: &[u8],
     taken: Taken,
 ) -> Result<(), AllocError>
     requires { IsFrame bytes.now }
-    ensures { OnOk result (acts.new.items ≡ acts.old.items ++ words.listed_acts opcode asked taken bytes.now) }
+    ensures { OnOk result (acts.new.items ≡ acts.old.items ++ words.listed_acts opcode asked.now taken bytes.now) }
 {
     match (opcode, taken) {
         (Opcode::Readdirplus, Taken::Accepted) if u32_at(bytes, 4) == 0 => {
-            write_records(acts, false, asked, EntryRecords::over(&bytes[16..]))
+            let _offsets = write_records(acts, false, asked, EntryRecords::over(&bytes[16..]))?;
+            Ok(())
         }
         _ => Ok(()),
     }
 }
 
-/// A reply to a request of an opcode that waits. Returns what is known after it.
+/// A reply to a request of an opcode that waits. Returns what is known after it, where that is new.
 fn write_answered<A: Allocator + Copy>(
     acts: &mut Vec<Act, A>,
-    known: Known,
+    known: &Known,
     opcode: Opcode,
-    asked: Asked,
+    asked: &Asked,
     bytes: &[u8],
     taken: Taken,
-) -> Result<Known, AllocError>
+) -> Result<Option<Known>, AllocError>
     requires empty { acts.old.items ≡ [] }
     requires frame { IsFrame bytes.now }
-    ensures { IfOk result (words.IsReplyOf known bytes.now taken opcode asked acts.new.items) }
+    ensures { IfOk result (λ later. words.IsReplyOf known.now bytes.now taken opcode asked.now acts.new.items
+        (unwrap_or later known.now)) }
 {
     let fit = fit_in(row_of(opcode).reply, asked.asked, bytes);
     let request = RequestHead {
@@ -179,7 +182,7 @@ fn write_answered<A: Allocator + Copy>(
         nodeid: asked.nodeid,
         asked: asked.asked,
     };
-    match read_reply(known.agreed, &request, bytes) {
+    match &read_reply(known.agreed, &request, bytes) {
         Ok(reply) => {
             write_replied(acts, bytes, taken, fit)?;
             write_said(acts, known, opcode, asked, taken, &reply.answer)?;
@@ -189,22 +192,23 @@ fn write_answered<A: Allocator + Copy>(
             write(acts, Act::Faulty(Fault::BodyOfAnotherRequest))?;
             write_replied(acts, bytes, taken, fit_of_another(fit))?;
             write_listed(acts, opcode, asked, bytes, taken)?;
-            Ok(known)
+            Ok(None)
         }
     }
 }
 
-/// A reply, by what waits under its number. Returns what is known after it.
+/// A reply, by what waits under its number. Returns what is known after it, where that is new.
 fn write_reply<A: Allocator + Copy>(
     acts: &mut Vec<Act, A>,
-    known: Known,
-    asked: Option<Asked>,
+    known: &Known,
+    asked: Option<&Asked>,
     bytes: &[u8],
     taken: Taken,
-) -> Result<Known, AllocError>
+) -> Result<Option<Known>, AllocError>
     requires empty { acts.old.items ≡ [] }
     requires frame { IsFrame bytes.now }
-    ensures { IfOk result (words.IsReplyTo known bytes.now taken asked acts.new.items) }
+    ensures { IfOk result (λ later. words.IsReplyTo known.now bytes.now taken (option_copied asked.entry) acts.new.items
+        (unwrap_or later known.now)) }
 {
     if let Some(asked) = asked
         && let Some(opcode) = asked.opcode
@@ -212,21 +216,21 @@ fn write_reply<A: Allocator + Copy>(
         return write_answered(acts, known, opcode, asked, bytes, taken);
     }
     write_replied(acts, bytes, taken, Fit::MayFit)?;
-    Ok(known)
+    Ok(None)
 }
 
-/// What is written under a good header, by what waits under its number. Returns what is known after it.
+/// What is written under a good header, by what waits under its number. Returns what is known after it, where that is new.
 fn write_headed<A: Allocator + Copy>(
     acts: &mut Vec<Act, A>,
-    known: Known,
-    asked: Option<Asked>,
+    known: &Known,
+    asked: Option<&Asked>,
     bytes: &[u8],
     taken: Taken,
-) -> Result<Known, AllocError>
+) -> Result<Option<Known>, AllocError>
     requires empty { acts.old.items ≡ [] }
     requires frame { IsFrame bytes.now }
-    ensures { IfOk result (λ later. (s : Session) → waits s (words.number_in bytes.now) ≡ asked
-        → words.IsHeaded known s bytes.now taken acts.new.items later) }
+    ensures { IfOk result (λ later. (s : Session) → waits s (words.number_in bytes.now) ≡ option_copied asked.entry
+        → words.IsHeaded known.now s bytes.now taken acts.new.items (unwrap_or later known.now)) }
 {
     let unique = u64_at(bytes, 8);
     if unique == 0 {
@@ -239,31 +243,31 @@ fn write_headed<A: Allocator + Copy>(
             taken,
         };
         write(acts, replies)?;
-        return Ok(known);
+        return Ok(None);
     }
     write_reply(acts, known, asked, bytes, taken)
 }
 
-/// What the server writes, by what waits under its number. Returns what is known after it.
+/// What the server writes, by what waits under its number. Returns what is known after it, where that is new.
 ///
 /// # Errors
 ///
 /// Out of memory.
 pub(crate) fn write_written<A: Allocator + Copy>(
     acts: &mut Vec<Act, A>,
-    known: Known,
-    asked: Option<Asked>,
+    known: &Known,
+    asked: Option<&Asked>,
     bytes: &[u8],
     taken: Taken,
-) -> Result<Known, AllocError>
+) -> Result<Option<Known>, AllocError>
     requires { acts.old.items ≡ [] }
     ensures { IfOk result (λ later. (s : Session)
-        → (16 ≤ length bytes.now → waits s (words.number_in bytes.now) ≡ asked)
-        → words.IsWritten known s bytes.now taken acts.new.items later) }
+        → (16 ≤ length bytes.now → waits s (words.number_in bytes.now) ≡ option_copied asked.entry)
+        → words.IsWritten known.now s bytes.now taken acts.new.items (unwrap_or later known.now)) }
 {
     if has_head(bytes) {
         return write_headed(acts, known, asked, bytes, taken);
     }
     write(acts, Act::Faulty(Fault::MalformedReply))?;
-    Ok(known)
+    Ok(None)
 }

@@ -10,9 +10,13 @@ use std::alloc::{AllocError, Allocator};
 /// # Errors
 ///
 /// Out of memory.
+#[inline(always)]
 pub(crate) fn write<A: Allocator + Copy>(acts: &mut Vec<Act, A>, act: Act) -> Result<(), AllocError>
     ensures { OnOk result (acts.new.items ≡ acts.old.items ++ act ∷ []) }
 {
-    acts.push(act)?;
+    if acts.len() == acts.capacity() {
+        acts.reserve(1)?;
+    }
+    acts.push_reserved(act);
     Ok(())
 }

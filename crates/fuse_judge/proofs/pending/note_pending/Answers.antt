@@ -1,23 +1,7 @@
-use Rattle.std.proofs.Common.{◌<◌, ◌+◌, ◌^◌, arith, nat_eq}
+use Rattle.std.proofs.Common.{◌^◌}
 use Rattle.fuse_sessions.specs.Waiting.{waiting}
-use Rattle.fuse_judge.specs.Handles.{handle, same_handle}
-use Rattle.fuse_judge.specs.Tallies.{count_in}
-use Rattle.fuse_judge.proofs.PendingLaws.{names_few, uses_few, interrupts_few, pending_kept, pending_asked, pending_ended, pending_interrupted, as_interrupt, as_again}
+use Rattle.fuse_judge.proofs.PendingLaws.{interrupts_few, pending_kept, pending_ended, pending_interrupted, as_interrupt, as_again}
 use Rattle.fuse_judge.proofs.pending.note_pending.Goals as goal
-
-pub ask-requires-clause-names : goal.ask-requires-clause-names
-ask-requires-clause-names g c = λ n.
-    let few : count_in nat_eq c.args.pending.now.named.counts n + 2 < 2 ^ 64
-    = names_few _ _ _ _ c.requires.few.1 (2 ^ 64) c.requires.few.2 n in
-    let less = c.end.ensures.names n in
-    omega (arith, few, less)
-
-pub ask-requires-clause-uses : goal.ask-requires-clause-uses
-ask-requires-clause-uses g c = λ f.
-    let few : count_in same_handle c.args.pending.now.used.counts (handle f) + 2 < 2 ^ 64
-    = uses_few _ _ _ _ c.requires.few.1 (2 ^ 64) c.requires.few.2 f in
-    let less = c.end.ensures.uses f in
-    omega (arith, few, less)
 
 pub interrupt-requires : goal.interrupt-requires
 interrupt-requires g c = record { few = interrupts_few _ _ _ _ c.requires.few.1 (2 ^ 64) c.requires.few.2 }
@@ -29,14 +13,11 @@ pub returns-in-Nothing-clause-kept : goal.returns-in-Nothing-clause-kept
 returns-in-Nothing-clause-kept g c = λ s are. pending_kept s c.args.act _ _ _ are c.in-Nothing.ensures
 
 pub returns-in-Asks-clause-kept : goal.returns-in-Asks-clause-kept
-returns-in-Asks-clause-kept g c = λ s are. rw c.in-Asks.ensures
-    (pending_asked s c.in-Asks.unique c.in-Asks.asked _ _ _
-    (c.ask.ensures.listed _ (c.end.ensures.listed (waiting s) are.listed))
-    (c.ask.ensures.interrupted s (c.end.ensures.interrupted s are.interrupted)))
+returns-in-Asks-clause-kept g c = λ s are. rw c.in-Asks.ensures (c.note_asked.ensures.kept s are)
 
 pub returns-in-Ends-clause-kept : goal.returns-in-Ends-clause-kept
 returns-in-Ends-clause-kept g c = λ s are. pending_ended s c.args.act _ _ _ are c.in-Ends.unique _ _ _ c.in-Ends.ensures
-    (c.end-in-Ends.ensures.listed (waiting s) are.listed) (c.end-in-Ends.ensures.interrupted s are.interrupted)
+    (c.end.ensures.listed (waiting s) are.listed) (c.end.ensures.interrupted s are.interrupted)
 
 pub returns-in-Interrupts-clause-kept : goal.returns-in-Interrupts-clause-kept
 returns-in-Interrupts-clause-kept g c

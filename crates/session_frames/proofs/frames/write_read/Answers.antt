@@ -8,5 +8,6 @@ pub returns-in-Ok : goal.returns-in-Ok
 returns-in-Ok g c =
     let o = c.in-Ok.request.head.opcode in
     let m = request_message c.in-Ok.request in
+    let is = rw c.in-Ok.is at c.read_request-read.ensures.ok in
     on_ok _ _ c.write_request.result
-    (λ e. inl ((o, m), c.in-Ok.ensures.ok, e ∙ ap (λ l. l ++ request_acts c.args.known.has_resent o m) c.requires)) c.write_request.ensures
+    (λ e. inl ((o, m), is, e ∙ ap (λ l. l ++ request_acts c.args.known.now.has_resent o m) c.requires)) c.write_request.ensures

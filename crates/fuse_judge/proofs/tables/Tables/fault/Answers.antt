@@ -1,5 +1,10 @@
+use Rattle.std.proofs.Common.{sym, ◌∙◌, subst}
+use Rattle.fuse_judge.specs.Nodes.{IsNode}
 use Rattle.fuse_judge.proofs.PendingLaws.{pending_waiting}
 use Rattle.fuse_judge.proofs.tables.Tables.fault.Goals as goal
+
+pub returns-in-Read : goal.returns-in-Read
+returns-in-Read g c = λ s are. rw c.in-Read.is (c.fault_of_number.ensures s are.right_numbers are.right_flags)
 
 pub returns-in-Resent : goal.returns-in-Resent
 returns-in-Resent g c = λ s are. rw c.in-Resent.is
@@ -44,3 +49,8 @@ pub returns-in-RepliesToInterrupt : goal.returns-in-RepliesToInterrupt
 returns-in-RepliesToInterrupt g c = λ s are. rw c.in-RepliesToInterrupt.is
     (c.fault_of_reply_to_interrupt.ensures s (pending_waiting s _ _ _ are.right_pending) are.right_numbers
     (c.has_several_threads-several.ensures s are.right_flags))
+
+pub returns-in-Gives : goal.returns-in-Gives
+returns-in-Gives g c = λ s are. rw c.in-Gives.is
+    (c.fault_of_gift.ensures s c.in-Gives.nodeid
+    (subst (IsNode s c.in-Gives.nodeid) (sym c.get.ensures ∙ sym c.copied.ensures) (are.right_nodes c.in-Gives.nodeid)))

@@ -13,15 +13,15 @@ loop-act-preserved g c =
     let left : length c.args.acts.now - c.loop-act.act-index ≡ length c.args.acts.now - (c.loop-act.act-index + 1) + 1
     = omega (arith, c.loop-act-test.true) in (
       rw (one_more, c.push_reserved.ensures.items)
-          (seen-more _ _ _ _ _ _ _ seen.0 c.fault.ensures c.note.ensures.right),
+          (seen-more _ _ _ _ _ _ _ seen.0 c.see_one-verdict.ensures.verdict c.see_one-verdict.ensures.right),
       rw (c.push_reserved.ensures.items) (length_push _ _ ∙ ap (λ n. n + 1) seen.1),
       rw c.push_reserved.ensures.capacity seen.2,
-      c.note.ensures.room (length c.args.acts.now - (c.loop-act.act-index + 1))
+      c.see_one-verdict.ensures.room (length c.args.acts.now - (c.loop-act.act-index + 1))
           (subst (λ n. HasRoom n c.loop-act.self) left seen.3),
       λ more has.
           let left_with : length c.args.acts.now - c.loop-act.act-index + more
           ≡ length c.args.acts.now - (c.loop-act.act-index + 1) + more + 1 = omega (arith, c.loop-act-test.true) in
-          c.note.ensures.room (length c.args.acts.now - (c.loop-act.act-index + 1) + more)
+          c.see_one-verdict.ensures.room (length c.args.acts.now - (c.loop-act.act-index + 1) + more)
           (subst (λ n. HasRoom n c.loop-act.self) left_with (seen.4 more has)),
     )
 

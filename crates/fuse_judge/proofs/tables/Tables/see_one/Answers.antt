@@ -1,0 +1,40 @@
+use Rattle.std.proofs.Common.{◌^◌, arith}
+use Rattle.fuse_sessions.specs.declared.act.Act.TheVariants.{Gives, Asks}
+use Rattle.fuse_judge.proofs.ConcernLaws.{is_concern}
+use Rattle.fuse_judge.proofs.FlagLaws.{flags-kept}
+use Rattle.fuse_judge.proofs.NumberLaws.{quiet_numbers}
+use Rattle.fuse_judge.proofs.NodeLaws.{left_alone, nodes_few}
+use Rattle.fuse_judge.proofs.OpenLaws.{left_open}
+use Rattle.fuse_judge.proofs.PendingLaws.{pending_kept}
+use Rattle.fuse_judge.proofs.tables.Tables.see_one.Goals as goal
+
+pub give-requires-clause-few : goal.give-requires-clause-few
+give-requires-clause-few g c =
+    nodes_few _ _ c.requires.few.1.right_nodes (2 ^ 64) (omega (arith, c.requires.few.2))
+
+pub returns-in-Gives-clause-verdict : goal.returns-in-Gives-clause-verdict
+returns-in-Gives-clause-verdict g c = λ s are. rw c.in-Gives.is (c.give.ensures.verdict s are.right_nodes)
+
+pub returns-in-Gives-clause-right : goal.returns-in-Gives-clause-right
+returns-in-Gives-clause-right g c = λ s are.
+    let act = Gives c.in-Gives.nodeid c.in-Gives.file c.in-Gives.is_certain in
+    let leaves = is_concern act in
+    rw c.in-Gives.is (record {
+      right_flags = flags-kept s act _ leaves.flags (leaves.no_end s) are.right_flags;
+      right_numbers = quiet_numbers s act _ leaves.numbers are.right_numbers;
+      right_nodes = c.give.ensures.kept s are.right_nodes;
+      right_pending = pending_kept s act _ _ _ are.right_pending leaves.requests;
+      right_opens = left_open s act _ _ leaves.files are.right_opens;
+    })
+
+pub returns-in-Asks-clause-right : goal.returns-in-Asks-clause-right
+returns-in-Asks-clause-right g c = λ s are.
+    let act = Asks c.in-Asks.unique c.in-Asks.asked in
+    let leaves = is_concern act in
+    rw c.in-Asks.is (record {
+      right_flags = flags-kept s act _ leaves.flags (leaves.no_end s) are.right_flags;
+      right_numbers = quiet_numbers s act _ leaves.numbers are.right_numbers;
+      right_nodes = left_alone s act _ leaves.nodes are.right_nodes;
+      right_pending = c.note_asked.ensures.kept s are.right_pending;
+      right_opens = left_open s act _ _ leaves.files are.right_opens;
+    })
