@@ -16,7 +16,7 @@ _fuseworld() {
                 [ "$COMP_CWORD" -gt 2 ] || words="LOOKUP GETATTR MKDIR UNLINK RMDIR RENAME LINK OPEN READ WRITE RELEASE INIT READDIR CREATE INTERRUPT READDIRPLUS"
                 ;;
             decode) flags="--help"; files=yes ;;
-            check) flags="--server --kernel --json --strict --help"; files=yes ;;
+            check) flags="--server --kernel --json --node --strict --help"; files=yes ;;
             vectors) flags="--all --help" ;;
             serve) flags="--found --missing --minor --show --trace --help"; files=yes ;;
             drive) flags="--calls --beside --no-opendir --trace --wait --offer --help"; files=yes ;;

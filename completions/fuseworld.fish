@@ -30,6 +30,7 @@ complete -c fuseworld -n '__fish_seen_subcommand_from decode' -l help -d 'Print 
 complete -c fuseworld -n '__fish_seen_subcommand_from check' -l server -d 'Print the faults of the server alone'
 complete -c fuseworld -n '__fish_seen_subcommand_from check' -l kernel -d 'Print the faults of the kernel alone'
 complete -c fuseworld -n '__fish_seen_subcommand_from check' -l json -d 'Print one JSON object for each line'
+complete -c fuseworld -n '__fish_seen_subcommand_from check' -l node -x -d 'Print the life of this node'
 complete -c fuseworld -n '__fish_seen_subcommand_from check' -l strict -d 'Let the exit status count a warning as a fault'
 complete -c fuseworld -n '__fish_seen_subcommand_from check' -l help -d 'Print help'
 

@@ -93,6 +93,66 @@ for expected in tests/sessions/*.expected; do
     judged "$capture in JSON" "$status" --json "$capture"
 done
 
+# The life of one node, in place of faults, which are counted as ever.
+cat > "$work/want-out" <<END
+line 7: MKNOD 6 gives node 2: count 1
+line 14: LINK 14 names node 2: count 1
+line 15: LINK 14 gives node 2: count 2
+line 29: FORGET 30 forgets node 2: lookups 2 count 0
+END
+tail -n 2 tests/sessions/good-names.expected >> "$work/want-out"
+judged "the life of a file" 0 --node 2 tests/sessions/good-names.capture
+cat > "$work/want-out" <<END
+line 9: MKDIR 8 gives node 3: count 1
+line 10: SYMLINK 10 names node 3: count 1
+line 14: LINK 14 names node 3: count 1
+line 16: RENAME 16 names node 3: count 1
+line 18: RENAME2 18 names node 3: count 1
+line 20: UNLINK 20 names node 3: count 1
+line 22: UNLINK 22 names node 3: count 1
+line 26: BATCH_FORGET 26 forgets node 3: lookups 1 count 0
+END
+tail -n 2 tests/sessions/good-names.expected >> "$work/want-out"
+judged "the life of a directory" 0 --node 3 tests/sessions/good-names.capture
+cat > "$work/want-out" <<END
+line 5: LOOKUP 4 gives node 2: count 1
+line 7: LOOKUP 6 gives node 2: count 2
+line 9: FORGET 10 forgets node 2: lookups 0 count 2
+line 10: FORGET 12 forgets node 2: lookups 3 count 0
+END
+tail -n 2 tests/sessions/forgets.expected >> "$work/want-out"
+judged "the life of a node that is forgotten too often" 6 --node 2 tests/sessions/forgets.capture
+cat > "$work/want-out" <<END
+line 4: LOOKUP 4 names node 1: count 0
+line 6: LOOKUP 6 names node 1: count 0
+line 8: FORGET 8 forgets node 1: lookups 1 count 0
+line 11: LOOKUP 14 names node 1: count 0
+line 13: LOOKUP 16 names node 1: count 0
+line 18: BATCH_FORGET 22 forgets node 1: lookups 0 count 0
+line 19: LOOKUP 24 names node 1: count 0
+line 21: LOOKUP 26 names node 1: count 0
+END
+tail -n 2 tests/sessions/forgets.expected >> "$work/want-out"
+judged "the life of the root, which is not counted" 6 --node 1 tests/sessions/forgets.capture
+cat > "$work/want-out" <<END
+line 7: READDIRPLUS 6 gives node 2: count 1
+line 18: BATCH_FORGET 18 forgets node 2: lookups 1 count 0
+END
+tail -n 2 tests/sessions/good-directories.expected >> "$work/want-out"
+judged "the life of a file that is listed" 0 --node 2 tests/sessions/good-directories.capture
+tail -n 2 tests/sessions/good-directories.expected > "$work/want-out"
+judged "the life of what .. is listed as" 0 --node 7 tests/sessions/good-directories.capture
+cp tests/sessions/frames-of-an-old-minor.expected "$work/want-out"
+judged "the life of a node in a session that is not judged" 0 --node 2 tests/sessions/frames-of-an-old-minor.capture
+tail -n 2 tests/sessions/forgets.expected > "$work/want-out"
+judged "the life of a node that is not there" 6 --node 77 tests/sessions/forgets.capture
+cp tests/sessions/forgets.expected "$work/want-out"
+judged "no node" 6 --node 0 tests/sessions/forgets.capture
+: > "$work/want-out"
+echo "error: --json and --node exclude each other" > "$work/want-err"
+judged "the life of a node in JSON" 2 --json --node 2 tests/sessions/forgets.capture
+: > "$work/want-err"
+
 # A strict check: a warning counts as a fault, and nothing else changes.
 for expected in tests/sessions/*.expected; do
     capture=${expected%.expected}.capture
@@ -182,7 +242,8 @@ for capture in tests/sessions/good-names.capture tests/sessions/forgets.capture;
 done
 
 # The command line. Its help goes to standard error.
-for words in "check --help" "check a b" "check --unknown"; do
+for words in "check --help" "check a b" "check --unknown" "check --node x" "check --node -1" \
+    "check --node 18446744073709551616"; do
     # shellcheck disable=SC2086
     "$program" $words < /dev/null > "$work/out" 2> "$work/err"
     code=$?

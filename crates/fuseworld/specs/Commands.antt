@@ -35,9 +35,14 @@ reply_app = with_rule (with_rule (with_rule (with_rule (new_app (codes "reply"))
 abbrev pub decode_app : App
 decode_app = with_rule (new_app (codes "decode")) (new_rule (codes "FILE"))
 
+-- the last nodeid that 64 bits have
+abbrev pub last_node : ℕ
+last_node = 18446744073709551615
+
 abbrev pub check_app : App
-check_app = with_rule (with_rule (with_rule (with_rule (with_rule (new_app (codes "check")) (flag (codes "server")))
-    (flag (codes "kernel"))) (flag (codes "json"))) (flag (codes "strict"))) (new_rule (codes "FILE"))
+check_app = with_rule (with_rule (with_rule (with_rule (with_rule (with_rule (new_app (codes "check"))
+    (flag (codes "server"))) (flag (codes "kernel"))) (flag (codes "json")))
+    (number (codes "node") 0 last_node (codes "0"))) (flag (codes "strict"))) (new_rule (codes "FILE"))
 
 abbrev pub vectors_app : App
 vectors_app = with_rule (new_app (codes "vectors")) (flag (codes "all"))

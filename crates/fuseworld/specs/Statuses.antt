@@ -32,7 +32,7 @@ abbrev pub capture_statuses : CaptureTask → List ℕ
 capture_statuses capture.Decode = 0 ∷ 1 ∷ 3 ∷ 5 ∷ []
 capture_statuses (capture.Check o) = 0 ∷ 1 ∷ 3 ∷ 5 ∷ 6 ∷ []
 
--- the exit statuses of a check: 2 where two parties alone are asked for
+-- the exit statuses of a check: 2 where two parties alone are asked for, or the life of a node in JSON
 abbrev pub statuses_with : Option CheckOptions → List ℕ
 statuses_with None = 2 ∷ []
 statuses_with (Some o) = capture_statuses (capture.Check o)

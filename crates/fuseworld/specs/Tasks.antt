@@ -1,5 +1,5 @@
 -- Which task the matches of a command line ask for.
-use Rattle.std.specs.Prelude.{◌≡◌, ◌⊎◌, ◌||◌, IfSome, Bool, true, false, not, List, [], Option, Some, None, Result, Ok, Err, ⊤, min, option_map, unwrap_or, if◌then◌else◌, codes}
+use Rattle.std.specs.Prelude.{◌≡◌, ◌⊎◌, ◌||◌, ℕ, IfSome, Bool, true, false, not, List, [], Option, Some, None, Result, Ok, Err, ⊤, min, option_map, unwrap_or, if◌then◌else◌, nat_eq, codes}
 use Rattle.std.specs.Option.{option_map_or}
 use Rattle.std.specs.Str.{bytes_eq}
 use Rattle.clap.specs.Words.{App, HasKind, Row, Text, fault_of, first_of, subcommand_of}
@@ -32,17 +32,32 @@ pub record AsksCheck (rows : List Row) (t : CheckTask) : Type 0 where
   pub server : t.server ≡ is_set (codes "server") rows
   pub kernel : t.kernel ≡ is_set (codes "kernel") rows
   pub json : t.json ≡ is_set (codes "json") rows
+  pub node : t.node ≡ number_of (codes "node") 0 rows
   pub strict : t.strict ≡ is_set (codes "strict") rows
 
+-- the node that is asked for: 0 is none
+abbrev pub node_of : ℕ → Option ℕ
+node_of number = if nat_eq number 0 then None else Some number
+
+-- the form, and the node that is asked for: no life of a node is in JSON
+abbrev pub check_form_of : (json : Bool) → Option ℕ → Option CheckForm
+check_form_of true (Some node) = None
+check_form_of true None = Some check_form.Json
+check_form_of false node = Some check_form.Words
+
 -- what is asked of it: one party alone or all, and not two alone
-abbrev pub options_in : (server kernel : Bool) → CheckForm → (strict : Bool) → Option CheckOptions
-options_in true true form strict = None
-options_in true false form strict = Some (record { only = Some party.Server; form = form; is_strict = strict })
-options_in false true form strict = Some (record { only = Some party.Kernel; form = form; is_strict = strict })
-options_in false false form strict = Some (record { only = None; form = form; is_strict = strict })
+abbrev pub options_in : (server kernel : Bool) → Option CheckForm → (asked : Option ℕ) → (strict : Bool) → Option CheckOptions
+options_in true true form asked strict = None
+options_in server kernel None asked strict = None
+options_in true false (Some form) asked strict =
+    Some (record { only = Some party.Server; form = form; node = asked; is_strict = strict })
+options_in false true (Some form) asked strict =
+    Some (record { only = Some party.Kernel; form = form; node = asked; is_strict = strict })
+options_in false false (Some form) asked strict =
+    Some (record { only = None; form = form; node = asked; is_strict = strict })
 
 abbrev pub options_of : CheckTask → Option CheckOptions
-options_of t = options_in t.server t.kernel (if t.json then check_form.Json else check_form.Words) t.strict
+options_of t = options_in t.server t.kernel (check_form_of t.json (node_of t.node)) (node_of t.node) t.strict
 
 -- a command on frames
 abbrev pub AsksFrame : Text → List Row → FrameTask → Type 0

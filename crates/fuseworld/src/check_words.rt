@@ -1,15 +1,17 @@
 //! The command `check`: what its words ask for.
 
-ghost use Rattle.std.specs.Prelude.{◌≡◌, Contains, IfOk};
+ghost use Rattle.std.specs.Prelude.{◌≡◌, Contains, IfOk, codes};
 ghost use Rattle.clap.specs.Words.{found_of, rows_of};
-ghost use Rattle.fuseworld.specs.Commands.{IsCommand, check_app};
+ghost use Rattle.fuseworld.specs.Arguments.{IsArgument, number};
+ghost use Rattle.fuseworld.specs.Commands.{IsCommand, check_app, last_node};
 ghost use Rattle.fuseworld.specs.Statuses.{check_statuses};
 ghost use Rattle.fuseworld.specs.Tasks as words;
 
-use crate::arguments::flag;
+use crate::arguments::{flag, option};
 use crate::capture::{CaptureTask, capture_argument, run_capture};
-use crate::values::{is_set, text_or_none};
-use clap::{ArgMatches, Command};
+use crate::values::{is_set, number, text_or_none};
+use clap::builder::ValueParser;
+use clap::{Arg, ArgMatches, Command};
 use fuse_sessions::Party;
 use fw_check::{CheckForm, CheckOptions};
 use std::alloc::{AllocError, Global};
@@ -25,8 +27,24 @@ pub struct CheckTask<'a> {
     pub kernel: bool,
     /// A JSON object a line is printed.
     pub json: bool,
+    /// The node whose life is printed; 0 for none.
+    pub node: u64,
     /// A warning counts as a fault.
     pub strict: bool,
+}
+
+/// The option that asks for the life of a node.
+fn node_argument<'a>(alloc: Global) -> Arg<'a>
+    ensures { IsArgument (number (codes "node") 0 last_node (codes "0")) result }
+{
+    option(
+        alloc,
+        "node",
+        "N",
+        "0",
+        "Print what gives, names and forgets this node, in place of faults; 0 for none",
+    )
+    .value_parser(ValueParser::Unsigned(0, u64::MAX))
 }
 
 /// The command `check`.
@@ -36,6 +54,7 @@ pub fn check_command<'a>(alloc: Global) -> Result<Command<'a>, AllocError>
     let server = flag(alloc, "server", "Print and count the server's faults alone");
     let kernel = flag(alloc, "kernel", "Print and count the kernel's faults alone");
     let json = flag(alloc, "json", "Print one JSON object for each line");
+    let node = node_argument(alloc);
     let strict = flag(
         alloc,
         "strict",
@@ -46,6 +65,7 @@ pub fn check_command<'a>(alloc: Global) -> Result<Command<'a>, AllocError>
         .arg(server)?
         .arg(kernel)?
         .arg(json)?
+        .arg(node)?
         .arg(strict)?
         .arg(capture_argument(alloc))
 }
@@ -59,11 +79,19 @@ pub fn check_task<'a>(matches: &ArgMatches<'a>) -> CheckTask<'a>
         server: is_set(matches, "server"),
         kernel: is_set(matches, "kernel"),
         json: is_set(matches, "json"),
+        node: number(matches, "node", 0),
         strict: is_set(matches, "strict"),
     }
 }
 
-/// What is asked of the check; `None` where two parties alone are.
+/// The node that is asked for.
+fn node_of(number: u64) -> Option<u64>
+    ensures { result ≡ words.node_of number }
+{
+    if number == 0 { None } else { Some(number) }
+}
+
+/// What is asked of the check; `None` where two parties alone are, or a node's life in JSON.
 fn options_of(task: CheckTask<'_>) -> Option<CheckOptions>
     ensures { result ≡ words.options_of task.entry }
 {
@@ -73,16 +101,27 @@ fn options_of(task: CheckTask<'_>) -> Option<CheckOptions>
         (false, true) => Some(Party::Kernel),
         (false, false) => None,
     };
-    let form = if task.json {
-        CheckForm::Json
-    } else {
-        CheckForm::Words
+    let node = node_of(task.node);
+    let form = match (task.json, node) {
+        (true, Some(_)) => return None,
+        (true, None) => CheckForm::Json,
+        (false, _) => CheckForm::Words,
     };
     Some(CheckOptions {
         only,
         form,
+        node,
         is_strict: task.strict,
     })
+}
+
+/// Which options exclude each other, where they do.
+fn excluded(task: CheckTask<'_>) -> &'static str {
+    if task.server && task.kernel {
+        "--server and --kernel"
+    } else {
+        "--json and --node"
+    }
 }
 
 /// Judges a capture, and gives the exit status.
@@ -92,7 +131,8 @@ pub fn run_check_task(rt: &HostRuntime, task: CheckTask<'_>) -> u8
     match options_of(task) {
         Some(options) => run_capture(rt, CaptureTask::Check(options), task.file),
         None => {
-            let _ = eprintln!(rt; "error: --server and --kernel exclude each other");
+            let pair = excluded(task);
+            let _ = eprintln!(rt; "error: {pair} exclude each other");
             2
         }
     }

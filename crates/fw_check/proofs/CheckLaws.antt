@@ -53,10 +53,10 @@ said_checks : (o : CheckOptions) (lines : List (List ℕ)) (j : Judged) (line : 
     (verdicts : List (Option Fault)) (judge : SeenState) (c : Counts) → Checks o lines j
     → (so : IsJudgedSo o j l acts verdicts judge c) → LineSays line so.transfer
     → Checks o (lines ++ line ∷ []) (judged_after j so.transfer acts verdicts judge.session.known
-    (j.text ++ transfer_lines o.form (length lines + 1) j.known judge.session.known acts verdicts))
+    (j.text ++ transfer_lines o (length lines + 1) j.known judge.session.known j.acts so.transfer acts verdicts))
 said_checks o lines j line l acts verdicts judge c checks so is =
     subst (λ (vs : List (Option Fault)). Checks o (lines ++ line ∷ []) (judged_after j so.transfer acts vs judge.session.known
-    (j.text ++ transfer_lines o.form (length lines + 1) j.known judge.session.known acts vs)))
+    (j.text ++ transfer_lines o (length lines + 1) j.known judge.session.known j.acts so.transfer acts vs)))
     (sym so.asked)
     (says lines j checks line so.transfer is acts judge.session.known so.are so.all so.each so.faults)
 
@@ -65,23 +65,23 @@ pub line_said : {T : Type 0} (o : CheckOptions) (r : Result T Stop) (lines : Lis
     → ((t : Transfer) → IsTransferOf l t → LineSays line t) → number ≡ length lines + 1
     → SaidEnds o j number l judge c r had has → LineEnds o lines j line judge c r had has
 line_said o (Ok done) lines j line number l judge c had has checks said is (acts, verdicts, so, appends) =
-    let text = j.text ++ transfer_lines o.form (length lines + 1) j.known judge.session.known acts verdicts in (
+    let text = j.text ++ transfer_lines o (length lines + 1) j.known judge.session.known j.acts so.transfer acts verdicts in (
       judged_after j so.transfer acts verdicts judge.session.known text,
-      transfer_lines o.form number j.known judge.session.known acts verdicts,
+      transfer_lines o number j.known judge.session.known j.acts so.transfer acts verdicts,
       record {
         checks = said_checks o lines j line l acts verdicts judge c checks so (said so.transfer so.is);
-        text = ap (λ n. j.text ++ transfer_lines o.form n j.known judge.session.known acts verdicts) (sym is);
+        text = ap (λ n. j.text ++ transfer_lines o n j.known judge.session.known j.acts so.transfer acts verdicts) (sym is);
       },
       so.kept text,
       appends,
     )
 line_said o (Err OutputRefused) lines j line number l judge c had has checks said is (acts, verdicts, so, some) =
-    let text = j.text ++ transfer_lines o.form (length lines + 1) j.known judge.session.known acts verdicts in (
+    let text = j.text ++ transfer_lines o (length lines + 1) j.known judge.session.known j.acts so.transfer acts verdicts in (
       judged_after j so.transfer acts verdicts judge.session.known text,
-      transfer_lines o.form number j.known judge.session.known acts verdicts,
+      transfer_lines o number j.known judge.session.known j.acts so.transfer acts verdicts,
       record {
         checks = said_checks o lines j line l acts verdicts judge c checks so (said so.transfer so.is);
-        text = ap (λ n. j.text ++ transfer_lines o.form n j.known judge.session.known acts verdicts) (sym is);
+        text = ap (λ n. j.text ++ transfer_lines o n j.known judge.session.known j.acts so.transfer acts verdicts) (sym is);
       },
       some,
     )

@@ -3,6 +3,7 @@ mod CountLaws
 mod CutNumbers
 mod FaultLines
 mod HeldLaws
+mod LifeLaws
 mod LineFeeds
 mod ReportLaws
 mod StandingLaws

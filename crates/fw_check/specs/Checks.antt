@@ -1,4 +1,5 @@
--- What is printed of a capture: the faults of the session that its lines say which are asked for, and counts.
+-- What is printed of a capture: the faults of the session that its lines say which are asked for, or the life of a node,
+-- and counts.
 use Rattle.std.specs.Prelude.{◌≡◌, ◌+◌, ℕ, Bool, List, [], ◌∷◌, ◌++◌, Option, if◌then◌else◌, length, sum_by}
 use Rattle.fuse_sessions.specs.declared.act.Act.{Act}
 use Rattle.fuse_sessions.specs.declared.fault.Fault.{Fault}
@@ -53,7 +54,7 @@ pub data Checks (o : CheckOptions) : (lines : List (List ℕ)) → Judged → Ty
         known = known;
         acts = j.acts ++ acts;
         verdicts = j.verdicts ++ asked_verdicts o.only verdicts;
-        text = j.text ++ transfer_lines o.form (length lines + 1) j.known known acts (asked_verdicts o.only verdicts);
+        text = j.text ++ transfer_lines o (length lines + 1) j.known known j.acts t acts (asked_verdicts o.only verdicts);
       })
 
 -- ---- counts

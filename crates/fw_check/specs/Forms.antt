@@ -4,13 +4,17 @@ use Rattle.fuse_protocol.specs.declared.agreed.Unjudged.{Unjudged}
 use Rattle.fuse_sessions.specs.declared.act.Act.{Act}
 use Rattle.fuse_sessions.specs.declared.fault.Fault.{Fault}
 use Rattle.fuse_sessions.specs.declared.known.Known.{Known}
+use Rattle.fuse_sessions.specs.declared.transfer.Transfer.{Transfer}
+use Rattle.fuse_sessions.specs.Sessions.{Session}
 use Rattle.fw_check.specs.declared.counts.Counts.{Counts}
 use Rattle.fw_check.specs.declared.options.CheckForm.{CheckForm}
 use Rattle.fw_check.specs.declared.options.CheckForm.TheVariants as forms
+use Rattle.fw_check.specs.declared.options.CheckOptions.{CheckOptions}
 use Rattle.fw_check.specs.declared.remains.Remains.{Remains}
 use Rattle.fw_check.specs.Counting.{counts_lines}
 use Rattle.fw_check.specs.FaultWords.{fault_line}
 use Rattle.fw_check.specs.Json.{counts_object, fault_object, head_object}
+use Rattle.fw_check.specs.Life.{doer_of, life_lines}
 use Rattle.fw_check.specs.Unjudged.{unjudged_line, unjudged_object}
 
 -- before all else
@@ -40,10 +44,17 @@ abbrev pub leaving_text : CheckForm → (number : ℕ) → (before after : Optio
 leaving_text form number None (Some why) = unjudged_text form number why
 leaving_text form number before after = []
 
--- what is printed of a transfer: the faults of its acts, and whether the session is not judged any more
-abbrev pub transfer_lines : CheckForm → (number : ℕ) → (before after : Known) → List Act → List (Option Fault) → List ℕ
-transfer_lines form number before after acts verdicts =
-    fault_lines form number acts verdicts ++ leaving_text form number before.unjudged after.unjudged
+-- what is printed of a transfer's acts that follow a session: their faults, or what they do to the node that is asked for
+abbrev pub act_lines : (node : Option ℕ) → CheckForm → (number : ℕ) → Session → Transfer → List Act → List (Option Fault)
+    → List ℕ
+act_lines None form number s t acts verdicts = fault_lines form number acts verdicts
+act_lines (Some node) form number s t acts verdicts = life_lines number node (doer_of s t) s acts
+
+-- what is printed of a transfer after a session: the lines of its acts, and whether the session is not judged any more
+abbrev pub transfer_lines : CheckOptions → (number : ℕ) → (before after : Known) → Session → Transfer → List Act
+    → List (Option Fault) → List ℕ
+transfer_lines o number before after s t acts verdicts =
+    act_lines o.node o.form number s t acts verdicts ++ leaving_text o.form number before.unjudged after.unjudged
 
 -- the counts, with what is left at the end
 abbrev pub counts_text : CheckForm → Remains → Counts → List ℕ

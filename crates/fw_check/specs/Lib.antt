@@ -6,6 +6,7 @@ pub mod FaultWords
 pub mod Forms
 pub mod Held
 pub mod Json
+pub mod Life
 pub mod Outputs
 pub mod Reports
 pub mod Running

@@ -16,6 +16,7 @@ use Rattle.fw_check.specs.declared.counts.Counts.{Counts}
 use Rattle.fw_check.specs.declared.options.CheckForm.{CheckForm}
 use Rattle.fw_check.specs.declared.options.CheckOptions.{CheckOptions}
 use Rattle.fw_check.specs.declared.file_key.FileKey.{FileKey}
+use Rattle.fw_check.specs.declared.life.Doer.{Doer}
 use Rattle.fw_check.specs.declared.remains.Remains.{Remains}
 use Rattle.fw_check.specs.declared.standing.Standing.{Standing}
 use Rattle.fw_check.specs.declared.stop.Stop.{Stop}
@@ -24,6 +25,7 @@ use Rattle.fw_check.specs.Asked.{asked_verdicts}
 use Rattle.fw_check.specs.Checks.{Judged, Checks, end_text, faults_of, number_of}
 use Rattle.fw_check.specs.Endings.{lines_of}
 use Rattle.fw_check.specs.Forms.{counts_text, fault_text, transfer_lines}
+use Rattle.fw_check.specs.Life.{doer_for}
 use Rattle.fw_check.specs.Outputs.{AppendsSome}
 use Rattle.fw_check.specs.Reports.{bad_line, unreadable}
 use Rattle.fw_check.specs.Standing.{Stands, remains_of}
@@ -88,13 +90,26 @@ pub record IsJudgedSo (o : CheckOptions) (j : Judged) (l : CaptureLine) (acts : 
   pub asked : verdicts ≡ asked_verdicts o.only all
   pub kept : (text : List ℕ) → IsKept (judged_after j transfer acts verdicts judge.session.known text) judge c
 
+-- The same, and whose its first acts are.
+abbrev pub IsJudgedBy : CheckOptions → Judged → CaptureLine → List Act → List (Option Fault) → SeenState → Counts → Doer → Type 0
+IsJudgedBy o j l acts verdicts judge c who =
+    (so : IsJudgedSo o j l acts verdicts judge c) × (who ≡ doer_for o.node j.acts so.transfer)
+
+-- The same, and what is printed of it.
+abbrev pub IsJudgedAs : CheckOptions → Judged → (number : ℕ) → CaptureLine → List Act → List (Option Fault) → SeenState → Counts
+    → (text : List ℕ) → Type 0
+IsJudgedAs o j number l acts verdicts judge c text = (so : IsJudgedSo o j l acts verdicts judge c)
+    × (text ≡ transfer_lines o number j.known judge.session.known j.acts so.transfer acts verdicts)
+
 -- What became of a line that says a transfer, and of the output.
 abbrev pub SaidEnds : {T : Type 0} → CheckOptions → Judged → (number : ℕ) → CaptureLine → SeenState → Counts → Result T Stop
     → (had has : Option (List ℕ)) → Type 0
 SaidEnds o j number l judge c (Ok done) had has = (acts : List Act) × (verdicts : List (Option Fault))
-    × IsJudgedSo o j l acts verdicts judge c × Appends had has (transfer_lines o.form number j.known judge.session.known acts verdicts)
+    × (so : IsJudgedSo o j l acts verdicts judge c)
+    × Appends had has (transfer_lines o number j.known judge.session.known j.acts so.transfer acts verdicts)
 SaidEnds o j number l judge c (Err stop.OutputRefused) had has = (acts : List Act) × (verdicts : List (Option Fault))
-    × IsJudgedSo o j l acts verdicts judge c × AppendsSome had has (transfer_lines o.form number j.known judge.session.known acts verdicts)
+    × (so : IsJudgedSo o j l acts verdicts judge c)
+    × AppendsSome had has (transfer_lines o number j.known judge.session.known j.acts so.transfer acts verdicts)
 SaidEnds o j number l judge c (Err stop.NoMemory) had has = Appends had has []
 SaidEnds o j number l judge c (Err other) had has = ⊥
 

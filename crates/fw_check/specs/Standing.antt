@@ -1,5 +1,5 @@
 -- What stands of a session: the nodes that are counted and the files that are open. And what is left at its end.
-use Rattle.std.specs.Prelude.{ℕ, Bool, true, false, ◌&&◌, List, [], ◌∷◌, filter, length, nat_eq, nat_lt}
+use Rattle.std.specs.Prelude.{◌≡◌, ℕ, Bool, true, false, ◌&&◌, List, [], ◌∷◌, filter, Option, Some, None, length, nat_eq, nat_lt}
 use Rattle.std.specs.Bool.{beq}
 use Rattle.std.specs.List.{flat_map}
 use Rattle.std.specs.Set.{distinct_count}
@@ -56,6 +56,11 @@ file_of key = record { kind = kind_of key.is_directory; nodeid = key.nodeid; fh 
 
 abbrev pub same_key : FileKey → FileKey → Bool
 same_key a b = beq a.is_directory b.is_directory && (nat_eq a.nodeid b.nodeid && nat_eq a.fh b.fh)
+
+-- So often the node is counted at most, if one is asked for.
+abbrev pub IsCountOf : Session → Option ℕ → ℕ → Type 0
+IsCountOf s None count = Unit {0}
+IsCountOf s (Some node) count = most_count s node ≡ count
 
 -- The rows say how often each node is counted at most, and how often each file is open.
 pub record Stands (s : Session) (nodes : List (ℕ × ℕ)) (files : List (FileKey × ℕ)) : Type 0 where

@@ -1,19 +1,21 @@
 //! What a check keeps, and how it goes on with one line more.
 
-ghost use Rattle.std.specs.Prelude.{◌≡◌, ◌+◌, ◌++◌, ℕ, List, OnErr, OnOk, length};
+ghost use Rattle.std.specs.Prelude.{◌≡◌, ◌+◌, ◌++◌, ℕ, List, IfOk, OnErr, OnOk, length};
 ghost use Rattle.std.specs.Io.KnownBytes.{Appends, Keeps};
 ghost use Rattle.fw_check.specs.Checks.{Checks, Judged, nothing_judged};
-ghost use Rattle.fw_check.specs.Forms.{transfer_lines};
 ghost use Rattle.fw_check.specs.Outputs.{AppendsSome};
-ghost use Rattle.fw_check.specs.Running.{AreLeft, IsJudgedSo, IsKept, LineEnds, SaidEnds, seen_by};
+ghost use Rattle.fw_check.specs.Running.{AreLeft, IsJudgedAs, IsJudgedBy, IsKept, LineEnds, SaidEnds, seen_by};
 
 use crate::asked::keep_asked;
 use crate::counts::{Counts, NOTHING};
-use crate::form::{put_faults, put_leaving};
+use crate::form::{put_act_lines, put_leaving};
+use crate::life::{Doer, first_doer};
 use crate::options::CheckOptions;
 use crate::output::{OutputRefused, write_text};
 use crate::remains::Remains;
-use crate::standing::{Standing, counted_nodes, note_acts, nothing_stands, open_files};
+use crate::standing::{
+    Standing, count_of_node, counted_nodes, note_acts, nothing_stands, open_files,
+};
 use crate::stop::Stop;
 use fuse_capture::{CaptureLine, read_line, read_transfer};
 use fuse_judge::SessionJudge;
@@ -38,7 +40,8 @@ pub(crate) struct Checker<A: Allocator = Global> {
     pub(crate) text: Vec<u8, A>,
 }
 
-/// Judges the transfer that a line says, leaves out the faults that are not asked for, and counts it.
+/// Judges the transfer that a line says, leaves out the faults that are not asked for, and counts it. Gives whose its
+/// first acts are, if the life of a node is asked for.
 fn judge_said<A: Allocator + Copy>(
     options: CheckOptions,
     judge: &mut SessionJudge<A>,
@@ -48,18 +51,19 @@ fn judge_said<A: Allocator + Copy>(
     acts: &mut Vec<Act, A>,
     verdicts: &mut Vec<Option<Fault>, A>,
     said: CaptureLine<'_>,
-) -> Result<(), AllocError>
-    ensures { OnOk result ((j : Judged) → IsKept j (seen_by judge.old standing.old) counts.old
-        → IsJudgedSo options j said.entry acts.new.items verdicts.new.items (seen_by judge.new standing.new) counts.new) }
+) -> Result<Doer, AllocError>
+    ensures { IfOk result (λ doer. (j : Judged) → IsKept j (seen_by judge.old standing.old) counts.old
+        → IsJudgedBy options j said.entry acts.new.items verdicts.new.items (seen_by judge.new standing.new) counts.new doer) }
 {
     let transfer = read_transfer(said, frame)?;
+    let doer = first_doer(options.node, judge, transfer);
     judge.see(transfer, acts, verdicts)?;
     note_acts(standing, acts.as_slice())?;
     keep_asked(options.only, verdicts);
     match counts.after(transfer, acts.as_slice(), verdicts.as_slice()) {
         Some(more) => {
             *counts = more;
-            Ok(())
+            Ok(doer)
         }
         None => Err(AllocError),
     }
@@ -119,7 +123,7 @@ impl<A: Allocator + Copy> Checker<A> {
         }
     }
 
-    /// Judges the transfer that a line says, and makes the text of its faults, in the form that is asked for, and of why the
+    /// Judges the transfer that a line says, and makes the text of its acts, in the form that is asked for, and of why the
     /// session is not judged any more.
     fn judge_line(
         &mut self,
@@ -127,13 +131,13 @@ impl<A: Allocator + Copy> Checker<A> {
         number: u64,
         said: CaptureLine<'_>,
     ) -> Result<(), AllocError>
-        ensures judged { OnOk result ((j : Judged) → IsKept j (seen_by self.old.judge self.old.standing) self.old.counts
-            → IsJudgedSo options j said.entry self.new.acts.items self.new.verdicts.items (seen_by self.new.judge self.new.standing) self.new.counts) }
-        ensures text { OnOk result (self.new.text.items ≡ transfer_lines options.form number self.old.judge.known
-            self.new.judge.known self.new.acts.items self.new.verdicts.items) }
+        ensures { OnOk result ((j : Judged) → IsKept j (seen_by self.old.judge self.old.standing) self.old.counts
+            → IsJudgedAs options j number said.entry self.new.acts.items self.new.verdicts.items (seen_by self.new.judge self.new.standing)
+            self.new.counts self.new.text.items) }
     {
         let before = self.judge.unjudged();
-        judge_said(
+        let count = count_of_node(&self.standing, options.node);
+        let doer = judge_said(
             options,
             &mut self.judge,
             &mut self.standing,
@@ -144,10 +148,12 @@ impl<A: Allocator + Copy> Checker<A> {
             said,
         )?;
         self.text.clear();
-        put_faults(
+        put_act_lines(
             &mut self.text,
-            options.form,
+            options,
             number,
+            count,
+            doer,
             self.acts.as_slice(),
             self.verdicts.as_slice(),
         )?;
@@ -155,7 +161,7 @@ impl<A: Allocator + Copy> Checker<A> {
         put_leaving(&mut self.text, options.form, number, before, after)
     }
 
-    /// Judges the transfer that a line says, and prints its faults.
+    /// Judges the transfer that a line says, and prints its text.
     fn check_said<W: Write>(
         &mut self,
         options: CheckOptions,
@@ -175,7 +181,7 @@ impl<A: Allocator + Copy> Checker<A> {
         }
     }
 
-    /// Judges a line, and prints its faults.
+    /// Judges a line, and prints its text.
     pub(crate) fn check_line<W: Write>(
         &mut self,
         options: CheckOptions,

@@ -1,17 +1,21 @@
 //! What is printed in each form.
 
 ghost use Rattle.std.specs.Prelude.{◌≡◌, ◌++◌, OnOk};
+ghost use Rattle.fuse_sessions.specs.Sessions.{Session};
 ghost use Rattle.fw_check.specs.Forms as words;
+ghost use Rattle.fw_check.specs.Life.{doer_for};
 ghost use Rattle.fw_check.specs.Running.{verdict_text};
+ghost use Rattle.fw_check.specs.Standing.{IsCountOf};
 
 use crate::counts::Counts;
 use crate::fault_line::put_fault_line;
 use crate::json::{put_counts_object, put_fault_object, put_unjudged_object};
-use crate::options::CheckForm;
+use crate::life::{Doer, put_life};
+use crate::options::{CheckForm, CheckOptions};
 use crate::remains::Remains;
 use crate::unjudged::put_unjudged_line;
 use fuse_protocol::Unjudged;
-use fuse_sessions::{Act, Fault};
+use fuse_sessions::{Act, Fault, Transfer};
 use std::alloc::{AllocError, Allocator};
 
 /// What is printed before all else.
@@ -57,7 +61,7 @@ fn put_verdict<A: Allocator>(
 }
 
 /// What is printed of the faults of a transfer's acts.
-pub(crate) fn put_faults<A: Allocator>(
+fn put_faults<A: Allocator>(
     text: &mut Vec<u8, A>,
     form: CheckForm,
     number: u64,
@@ -70,6 +74,26 @@ pub(crate) fn put_faults<A: Allocator>(
         put_verdict(text, form, number, acts[place], verdicts[place])?;
     }
     Ok(())
+}
+
+/// What is printed of a transfer's acts: their faults, or what they do to the node that is asked for, which is counted so
+/// often before, and whose they are at first.
+pub(crate) fn put_act_lines<A: Allocator>(
+    text: &mut Vec<u8, A>,
+    options: CheckOptions,
+    number: u64,
+    count: u64,
+    first: Doer,
+    acts: &[Act],
+    verdicts: &[Option<Fault>],
+) -> Result<(), AllocError>
+    ensures { OnOk result ((s : Session) (t : Transfer) → IsCountOf s options.node count → first ≡ doer_for options.node s t
+        → text.new.items ≡ text.old.items ++ words.act_lines options.node options.form number s t acts.now verdicts.now) }
+{
+    match options.node {
+        Some(node) => put_life(text, number, node, count, first, acts),
+        None => put_faults(text, options.form, number, acts, verdicts),
+    }
 }
 
 /// What is printed of why nothing is judged any more.

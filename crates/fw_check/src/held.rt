@@ -22,7 +22,7 @@ pub(crate) enum Step<K> {
 }
 
 /// How many a key has.
-fn count_of<K: Copy + Ord + Drop, A: Allocator>(held: &Held<K, A>, key: K) -> u64
+pub(crate) fn count_of<K: Copy + Ord + Drop, A: Allocator>(held: &Held<K, A>, key: K) -> u64
     ensures { result ≡ unwrap_or (lookup (K.eq key) held.now.entries) 0 }
 {
     held.get(&key).copied().unwrap_or(0)

@@ -15,6 +15,7 @@ mod file_key;
 mod form;
 mod held;
 mod json;
+mod life;
 mod lines;
 mod number_in;
 mod options;

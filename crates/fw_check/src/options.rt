@@ -18,6 +18,8 @@ pub struct CheckOptions {
     /// The party whose faults alone are printed and counted; `None` for all parties, and warnings.
     pub only: Option<Party>,
     pub form: CheckForm,
+    /// The node whose life is printed in place of the faults, in words in either form.
+    pub node: Option<u64>,
     /// Whether the exit status counts a warning as a fault.
     pub is_strict: bool,
 }

@@ -5,10 +5,10 @@ ghost use Rattle.fuse_sessions.specs.Counts.{gives_most, forgets_of};
 ghost use Rattle.fuse_sessions.specs.OpenFiles.{opens_this, releases_this};
 ghost use Rattle.fuse_sessions.specs.Sessions.{Session};
 ghost use Rattle.fw_check.specs.Held.{Does};
-ghost use Rattle.fw_check.specs.Standing.{Stands, file_count, file_of, node_count, same_key};
+ghost use Rattle.fw_check.specs.Standing.{IsCountOf, Stands, file_count, file_of, node_count, same_key};
 
 use crate::file_key::{FileKey, key_of};
-use crate::held::{Held, Step, held_keys, note_step};
+use crate::held::{Held, Step, count_of, held_keys, note_step};
 use fuse_sessions::Act;
 use std::alloc::{AllocError, Allocator, Global};
 use std::collections::BTreeMap;
@@ -97,4 +97,14 @@ pub(crate) fn open_files<A: Allocator + Copy>(standing: &Standing<A>) -> u64
     ensures { (s : Session) → Stands s standing.now.nodes.entries standing.now.files.entries → result ≡ file_count s }
 {
     held_keys(&standing.files)
+}
+
+/// How often a node is counted at most, if one is asked for.
+pub(crate) fn count_of_node<A: Allocator + Copy>(standing: &Standing<A>, node: Option<u64>) -> u64
+    ensures { (s : Session) → Stands s standing.now.nodes.entries standing.now.files.entries → IsCountOf s node result }
+{
+    match node {
+        Some(node) => count_of(&standing.nodes, node),
+        None => 0,
+    }
 }

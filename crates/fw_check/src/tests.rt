@@ -57,6 +57,15 @@ const FORGET_THREE: &str =
 const EVERYONE: CheckOptions = CheckOptions {
     only: None,
     form: CheckForm::Words,
+    node: None,
+    is_strict: false,
+};
+
+/// The life of node 7.
+const OF_NODE: CheckOptions = CheckOptions {
+    only: None,
+    form: CheckForm::Words,
+    node: Some(7),
     is_strict: false,
 };
 
@@ -187,6 +196,15 @@ static ROWS: [Row; 13] = [
     },
 ];
 
+/// An entry, a forget of more than is counted, and what both do to the node.
+const LIFE: Row = Row {
+    lines: &[INIT, ANSWER, LOOKUP, ENTRY, FORGET_THREE],
+    feed: "\n",
+    status: 6,
+    output: "line 4: LOOKUP 4 gives node 7: count 1\nline 5: FORGET 6 forgets node 7: lookups 3 count 0\nrequests 3 replies 2 notifications 0 refused 0 unanswered 0 entries 1 forgotten 3 nodes 0 open 0\nfaults: kernel 1 server 0 device 0, warnings 0\n",
+    faults: "",
+};
+
 /// The bytes of a row's capture.
 fn capture_of(alloc: Global, row: Row) -> Result<Vec<u8>, AllocError> {
     let mut capture = Vec::new(alloc);
@@ -198,12 +216,12 @@ fn capture_of(alloc: Global, row: Row) -> Result<Vec<u8>, AllocError> {
 }
 
 /// Whether what is wanted is printed of a row.
-fn is_right(alloc: Global, row: Row) -> Result<bool, AllocError> {
+fn is_right(alloc: Global, options: CheckOptions, row: Row) -> Result<bool, AllocError> {
     let capture = capture_of(alloc, row)?;
     let mut input = capture.as_slice();
     let mut out = Vec::new(alloc);
     let mut faults = Vec::new(alloc);
-    let status = run_check(alloc, EVERYONE, "-", &mut input, &mut out, &mut faults);
+    let status = run_check(alloc, options, "-", &mut input, &mut out, &mut faults);
     Ok(
         status == row.status
             && out.as_slice() == row.output.as_bytes()
@@ -214,7 +232,7 @@ fn is_right(alloc: Global, row: Row) -> Result<bool, AllocError> {
 /// The first row of which something else is printed.
 fn first_wrong(alloc: Global) -> Result<Option<usize>, AllocError> {
     for (place, row) in ROWS.iter().enumerate() {
-        if !is_right(alloc, *row)? {
+        if !is_right(alloc, EVERYONE, *row)? {
             return Ok(Some(place));
         }
     }
@@ -224,6 +242,12 @@ fn first_wrong(alloc: Global) -> Result<Option<usize>, AllocError> {
 #[test]
 fn each_row(rt: HostRuntime) -> Result<(), Fail> {
     assert_eq!(rt; first_wrong(rt.alloc())?, None);
+    Ok(())
+}
+
+#[test]
+fn life_of_a_node(rt: HostRuntime) -> Result<(), Fail> {
+    assert!(rt; is_right(rt.alloc(), OF_NODE, LIFE)?);
     Ok(())
 }
 

@@ -1,8 +1,8 @@
 use Rattle.std.proofs.Common.{rules, codes}
 use Rattle.std.proofs.lemmas.Result.{IfOk-weaker}
 use Rattle.clap.specs.Words.{new_rule, new_app}
-use Rattle.fuseworld.specs.Arguments.{IsArgument, flag}
-use Rattle.fuseworld.specs.Commands.{IsCommand}
+use Rattle.fuseworld.specs.Arguments.{IsArgument, flag, number}
+use Rattle.fuseworld.specs.Commands.{IsCommand, last_node}
 use Rattle.fuseworld.proofs.Adding.{adds_argument, with_about}
 use Rattle.fuseworld.proofs.check_words.check_command.Goals as goal
 
@@ -11,6 +11,7 @@ returns c =
     let server_is : IsArgument (flag (codes "server")) c.flag-server.result = search rules in
     let kernel_is : IsArgument (flag (codes "kernel")) c.flag-kernel.result = search rules in
     let json_is : IsArgument (flag (codes "json")) c.flag-json.result = search rules in
+    let node_is : IsArgument (number (codes "node") 0 last_node (codes "0")) c.node_argument-node.result = search rules in
     let strict_is : IsArgument (flag (codes "strict")) c.flag-strict.result = search rules in
     let file_is : IsArgument (new_rule (codes "FILE")) c.capture_argument.result = search rules in
     let new_is : IsCommand (new_app (codes "check")) c.new.result = search rules in
@@ -18,5 +19,6 @@ returns c =
     let server = adds_argument _ _ _ _ _ about_is server_is c.in_ok-arg.ensures in
     let kernel = adds_argument _ _ _ _ _ server kernel_is c.in_ok-arg-2.ensures in
     let json = adds_argument _ _ _ _ _ kernel json_is c.in_ok-arg-3.ensures in
-    let strict = adds_argument _ _ _ _ _ json strict_is c.in_ok-arg-4.ensures in
-    IfOk-weaker c.arg-5.result _ _ (λ command adds. adds_argument _ _ _ command _ strict file_is adds) c.arg-5.ensures
+    let node = adds_argument _ _ _ _ _ json node_is c.in_ok-arg-4.ensures in
+    let strict = adds_argument _ _ _ _ _ node strict_is c.in_ok-arg-5.ensures in
+    IfOk-weaker c.arg-6.result _ _ (λ command adds. adds_argument _ _ _ command _ strict file_is adds) c.arg-6.ensures

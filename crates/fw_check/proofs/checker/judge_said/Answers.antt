@@ -19,19 +19,21 @@ returns-in-Some g c j kept =
     let of_acts = subst (λ (l : List Act). CountsMore c.args.counts.now transfer l c.as_slice-3.result.now c.in-Some.more)
     c.as_slice-2.ensures.value c.in-Some.ensures in
     let more = subst (λ (l : List (Option Fault)). CountsMore c.args.counts.now transfer acts l c.in-Some.more)
-    c.as_slice-3.ensures.value of_acts in
-    record {
-      transfer = transfer;
-      all = c.see.new.verdicts.items;
-      is = c.in_ok-transfer.ensures;
-      are = subst (λ k. AreActs k j.acts transfer acts known) (sym kept.known) seen.are;
-      each = seen.each;
-      faults = seen.faults;
-      asked = c.keep_asked.ensures;
-      kept = λ text. record {
-        seen = seen.seen;
-        stands = stands;
-        known = refl;
-        counts = counts_after j transfer acts verdicts known text c.args.counts.now c.in-Some.more kept.counts more;
-      };
-    }
+    c.as_slice-3.ensures.value of_acts in (
+      record {
+        transfer = transfer;
+        all = c.see.new.verdicts.items;
+        is = c.in_ok-transfer.ensures;
+        are = subst (λ k. AreActs k j.acts transfer acts known) (sym kept.known) seen.are;
+        each = seen.each;
+        faults = seen.faults;
+        asked = c.keep_asked.ensures;
+        kept = λ text. record {
+          seen = seen.seen;
+          stands = stands;
+          known = refl;
+          counts = counts_after j transfer acts verdicts known text c.args.counts.now c.in-Some.more kept.counts more;
+        };
+      },
+      c.first_doer-doer.ensures j.transfers j.acts kept.seen,
+    )

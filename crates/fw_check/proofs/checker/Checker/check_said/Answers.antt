@@ -1,6 +1,5 @@
-use Rattle.std.proofs.Common.{ap, subst, sym, ◌∙◌}
+use Rattle.std.proofs.Common.{subst, ◌∙◌}
 use Rattle.std.specs.Io.KnownBytes.{Appends}
-use Rattle.fw_check.specs.Forms.{transfer_lines}
 use Rattle.fw_check.specs.Outputs.{AppendsSome}
 use Rattle.fw_check.proofs.CheckLaws.{from_no_error}
 use Rattle.fw_check.proofs.checker.Checker.check_said.Goals as goal
@@ -8,27 +7,21 @@ use Rattle.fw_check.proofs.checker.Checker.check_said.Goals as goal
 pub returns-in-Ok : goal.returns-in-Ok
 returns-in-Ok g c j kept =
     let line = c.judge_line in
-    let judged = from_no_error _ line.result c.is_err.result c.is_err.ensures.value c.if-is_err.false line.ensures.judged in
-    let text = from_no_error _ line.result c.is_err.result c.is_err.ensures.value c.if-is_err.false line.ensures.text in
-    let known_before = ap (λ k. transfer_lines c.args.options.form c.args.number k line.new.self.judge.known
-    line.new.self.acts.items line.new.self.verdicts.items) (sym kept.known) in (
+    let (so, text) = from_no_error _ line.result c.is_err.result c.is_err.ensures.value c.if-is_err.false line.ensures j kept in (
       line.new.self.acts.items,
       line.new.self.verdicts.items,
-      judged j kept,
+      so,
       subst (Appends (g.W.Write.contents c.args.out.now) (g.W.Write.contents c.print.new.out))
-          (c.as_slice.ensures.value ∙ text ∙ known_before) c.in-Ok.ensures.ok,
+          (c.as_slice.ensures.value ∙ text) c.in-Ok.ensures.ok,
     )
 
 pub returns-in-Err : goal.returns-in-Err
 returns-in-Err g c j kept =
     let line = c.judge_line in
-    let judged = from_no_error _ line.result c.is_err.result c.is_err.ensures.value c.if-is_err.false line.ensures.judged in
-    let text = from_no_error _ line.result c.is_err.result c.is_err.ensures.value c.if-is_err.false line.ensures.text in
-    let known_before = ap (λ k. transfer_lines c.args.options.form c.args.number k line.new.self.judge.known
-    line.new.self.acts.items line.new.self.verdicts.items) (sym kept.known) in (
+    let (so, text) = from_no_error _ line.result c.is_err.result c.is_err.ensures.value c.if-is_err.false line.ensures j kept in (
       line.new.self.acts.items,
       line.new.self.verdicts.items,
-      judged j kept,
+      so,
       subst (AppendsSome (g.W.Write.contents c.args.out.now) (g.W.Write.contents c.print.new.out))
-          (c.as_slice.ensures.value ∙ text ∙ known_before) c.in-Err.ensures.refused,
+          (c.as_slice.ensures.value ∙ text) c.in-Err.ensures.refused,
     )
