@@ -132,8 +132,8 @@ def versions():
     yield "man/fuseworld.1", f"fuseworld {program[1]}", re.search(r'^\.TH .*?"(.*?)"', (TOP / "man/fuseworld.1").read_text(), re.M)[1]
 
 def out_of_order():
-    """The crates of ARCHITECTURE.md's table that stand above one that they use; the tests are its last row."""
-    rows = re.findall(r"^\| (`.*?) \|", (TOP / "docs/ARCHITECTURE.md").read_text(), re.M)
+    """The crates of ARCHITECTURE.md's list that stand above one that they use; the tests are its last line."""
+    rows = re.findall(r"^- (`[^:]*):", (TOP / "docs/ARCHITECTURE.md").read_text(), re.M)
     place = {crate: number for number, row in enumerate(rows) for crate in names(row)}
     tests = max(place.values())
     for line in (TOP / "crates.txt").read_text().split("\n")[1:-1]:
