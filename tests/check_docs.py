@@ -144,8 +144,8 @@ def out_of_order():
                     if crate in place and place.get(low, -1) > place[crate] and place[low] != tests)
 
 def refused_words():
-    """The words that WORDS.md has in brackets behind another, which comments may not have."""
-    listed = re.findall(r"^\| [^|]*\(not: ([^)]+)\)", (TOP / "docs/WORDS.md").read_text(), re.M)
+    """The words behind "not" in WORDS.md, which comments may not have."""
+    listed = re.findall(r"^- .*; not: (.+)$", (TOP / "docs/WORDS.md").read_text(), re.M)
     words = [word.strip() for cell in listed for word in cell.split(",")]
     return re.compile(rf"\b({'|'.join(words)})\b", re.I)
 
