@@ -78,7 +78,7 @@ def catch(folder):
     finally:
         tried.send_signal(signal.SIGTERM)
         tried.wait()
-    return said.read_text(errors="replace")
+    return said.read_text(errors="replace").replace(str(folder), str(TOP))
 
 
 def main():
