@@ -8,7 +8,7 @@ has to be the program's everywhere; ARCHITECTURE.md has each crate below those t
 begin with a comment that says what it shows.
 
 Comments of sources, definitions and proofs name an identifier in backticks, or it is a name of linux/fuse.h; they have
-none of the words of the last column of WORDS.md, and no verb that a renaming broke. Prints a line for each fault, and
+none of the words that WORDS.md refuses, and no verb that a renaming broke. Prints a line for each fault, and
 ends with status 1 where there is one.
 """
 import re
@@ -132,8 +132,8 @@ def versions():
     yield "man/fuseworld.1", f"fuseworld {program[1]}", re.search(r'^\.TH .*?"(.*?)"', (TOP / "man/fuseworld.1").read_text(), re.M)[1]
 
 def out_of_order():
-    """The crates of ARCHITECTURE.md's table that stand above one that they use; the tests are its last row."""
-    rows = re.findall(r"^\| (`.*?) \|", (TOP / "docs/ARCHITECTURE.md").read_text(), re.M)
+    """The crates of ARCHITECTURE.md's list that stand above one that they use; the tests are its last line."""
+    rows = re.findall(r"^- (`[^:]*):", (TOP / "docs/ARCHITECTURE.md").read_text(), re.M)
     place = {crate: number for number, row in enumerate(rows) for crate in names(row)}
     tests = max(place.values())
     for line in (TOP / "crates.txt").read_text().split("\n")[1:-1]:
@@ -144,9 +144,9 @@ def out_of_order():
                     if crate in place and place.get(low, -1) > place[crate] and place[low] != tests)
 
 def refused_words():
-    """The words of the last column of WORDS.md, which comments may not have."""
-    cells = [line.split("|")[1:-1] for line in (TOP / "docs/WORDS.md").read_text().split("\n") if line.startswith("| ")]
-    words = [word.strip() for row in cells if len(row) == 5 and row[4].strip() not in ("", "Not") for word in row[4].split(",")]
+    """The words behind "not" in WORDS.md, which comments may not have."""
+    listed = re.findall(r"^- .*; not: (.+)$", (TOP / "docs/WORDS.md").read_text(), re.M)
+    words = [word.strip() for cell in listed for word in cell.split(",")]
     return re.compile(rf"\b({'|'.join(words)})\b", re.I)
 
 def comments(file):

@@ -96,8 +96,10 @@ for place in begin end; do
     judge "vectors beyond the limit on the size of files, from its $place" "$code" 5
 done
 
-# The version.
-expect_lines 0 "fuseworld $(sed -n 's/.*VERSION: &str = "\(.*\)";/\1/p' crates/fuseworld/src/version.rt)" "" --version
+# The version. A program without proofs (tests/unproved.py) says so.
+version=$(sed -n 's/.*VERSION: &str = "\(.*\)";/\1/p' crates/fuseworld/src/version.rt)
+case $program in *-unproved) version="${version%% *}-unproved (no proofs)" ;; esac
+expect_lines 0 "fuseworld $version" "" --version
 "$program" --version > /dev/full 2> "$work/err"
 code=$?
 : > "$work/out"

@@ -4,9 +4,12 @@
 `rt try` builds a program without proofs, runs it, and keeps no file of it. Here it runs `serve`, which waits for a
 connection, and the file that runs is copied. It is compiled with checks and without optimizing, so it is slow, and
 what the proofs rule out ends it with a message. Where no source has changed since, it is not built again.
+
+What is built is a copy of the sources whose version is another, so that `--version` says that nothing is proved.
 """
 import hashlib
 import os
+import re
 import shutil
 import signal
 import subprocess
@@ -20,14 +23,30 @@ CRATE = TOP / "crates" / "fuseworld"
 PROGRAM = CRATE / "out" / "fuseworld-unproved"
 STAMP = CRATE / "out" / "fuseworld-unproved.sources"
 WORDS = ["serve", "waits"]
+VERSION = re.compile(r'(VERSION: &str = "\S+) \(.*\)"')
+UNPROVED = r'\1-unproved (no proofs)"'
 
 
 def sources():
-    """A digest of all that the build reads of the repository."""
-    digest = hashlib.sha256()
+    """A digest of all that the build reads of the repository, and of what it changes."""
+    digest = hashlib.sha256(UNPROVED.encode())
     for file in [TOP / "crates.txt", *sorted(TOP.glob("crates/*/src/**/*.rt"))]:
         digest.update(f"{file.relative_to(TOP)}\n".encode() + file.read_bytes())
     return digest.hexdigest()
+
+
+def copied_to(folder):
+    """Copies the sources into the folder, with the other version; returns the program's crate there."""
+    shutil.copytree(TOP / "crates", folder / "crates", ignore=shutil.ignore_patterns("out"))
+    for name in ("crates.txt", "HANDLES"):
+        shutil.copy(TOP / name, folder)
+    crate = folder / "crates" / "fuseworld"
+    source = crate / "src" / "version.rt"
+    text, found = VERSION.subn(UNPROVED, source.read_text())
+    if found != 1:
+        sys.exit(f"{source.relative_to(folder)} has no version of the form that {Path(__file__).name} changes")
+    source.write_text(text)
+    return crate
 
 
 def running_in(folder):
@@ -46,7 +65,7 @@ def catch(folder):
     """Has the program built and run in the folder, and copies it; returns what was said where that fails, else None."""
     said = folder / "said"
     with said.open("wb") as log:
-        tried = subprocess.Popen(["rt", "try", "--", *WORDS], cwd=CRATE, stdin=subprocess.DEVNULL, stdout=log,
+        tried = subprocess.Popen(["rt", "try", "--", *WORDS], cwd=copied_to(folder), stdin=subprocess.DEVNULL, stdout=log,
                                  stderr=subprocess.STDOUT, env={**os.environ, "TMPDIR": str(folder)})
     try:
         while tried.poll() is None:
@@ -59,7 +78,7 @@ def catch(folder):
     finally:
         tried.send_signal(signal.SIGTERM)
         tried.wait()
-    return said.read_text(errors="replace")
+    return said.read_text(errors="replace").replace(str(folder), str(TOP))
 
 
 def main():
@@ -75,7 +94,7 @@ def main():
                 print(fault, end="", file=sys.stderr)
                 return 1
         STAMP.write_text(wanted)
-    print("built without proofs: nothing of it is proved, and its --version is that of the proved program", file=sys.stderr)
+    print("built without proofs: nothing of it is proved, and its --version says so", file=sys.stderr)
     print(os.path.relpath(PROGRAM))
     return 0
 
