@@ -1,6 +1,6 @@
 //! A table from numbers to values, of which the oldest and the newest come and go.
 
-ghost use Rattle.std.specs.Prelude.{ℕ, Bool, ◌≡◌, ◌+◌, ◌<◌, ◌≤◌, ◌*◌, ◌^◌, [], IsSome, MatchOption, None, OnErr, OnOk, T};
+ghost use Rattle.std.specs.Prelude.{ℕ, Bool, ◌≡◌, ◌+◌, ◌<◌, ◌≤◌, ◌*◌, ◌^◌, [], IsSome, MatchOption, None, OnErr, OnOk, T, true};
 ghost use Rattle.std.specs.Prelude.{if◌then◌else◌, is_some, length};
 ghost use Rattle.std.specs.Option.{option_copied};
 ghost use Rattle.std.specs.Ordering.{nat_cmp};
@@ -9,7 +9,7 @@ ghost use Rattle.fuse_spec.specs.Values.Maps.{get as value_at, put as with_value
 ghost use Rattle.fuse_tables.specs.KeyTests.{Tells, kept_by};
 
 use crate::late::{Late, has_late, put_value, replace_value, retain_values, take_value, value_of};
-use crate::live_rows::Rows;
+use crate::live_rows::{Rows, is_above};
 use crate::rows_by_key::find_row;
 use std::alloc::{AllocError, Allocator, Global};
 use std::collections::{BTreeMap, VecDeque};
@@ -31,6 +31,7 @@ use std::marker::Model;
 /// |---|---|
 /// | `get`, `get_mut`, `replace`, `remove` | log `n` steps, or where no key came late, one at either end or without gaps |
 /// | `put` | log `n` steps, or one for a key above all, on the whole of many calls: at times one moves all rows |
+/// | `is_above` | one step |
 /// | `reserve` | one step, on the whole of many calls: at times one moves all rows |
 /// | `retain`, `clear` | `n` steps |
 #[derive(Drop)]
@@ -94,6 +95,15 @@ impl<V: Drop, A: Allocator + Copy> RisingTable<V, A> {
         ensures { option_copied result ≡ value_at self.now.entries key }
     {
         value_of(&self.rows, &self.late, key)
+    }
+
+    /// Whether a key is surely above all others: then it has no value. The last row alone says it, and only where no key
+    /// came late.
+    #[inline(always)]
+    pub fn is_above(&self, key: u64) -> bool
+        ensures { result ≡ true → value_at self.now.entries key ≡ None }
+    {
+        self.late.is_empty() && is_above(&self.rows, key)
     }
 
     /// The value at a key, to change it in place.
