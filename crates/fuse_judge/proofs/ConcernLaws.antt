@@ -1,5 +1,6 @@
 -- An act leaves the tables that it does not concern as they are.
-use Rattle.std.proofs.Common.{◌≡◌, ℕ, false, refl}
+use Rattle.std.proofs.Common.{◌≡◌, ℕ, false, Option, refl}
+use Rattle.fuse_protocol.specs.declared.opcode.Opcode.{Opcode}
 use Rattle.fuse_sessions.specs.declared.act.Act.{Act}
 use Rattle.fuse_sessions.specs.declared.act.Act.TheVariants as act
 use Rattle.fuse_sessions.specs.declared.act.OpenFile.{OpenFile}
@@ -67,21 +68,23 @@ pub record IsOfFiles (a : Act) : Type 0 where
   pub requests : LeavesRequests a
   pub nodes : LeavesNodes a
 
+pub is_of_numbers : (opcode : Option Opcode) (unique : ℕ) → IsOfNumbers (act.Read opcode unique)
+is_of_numbers opcode unique = record {
+  no_end = λ s. refl;
+  requests = λ u. record { ending = refl; asking = refl; under = refl; interrupting = refl; again = refl };
+  nodes = λ n. record { least = refl; most = refl; forgets = refl; file = λ s. refl };
+  files = λ f. record { opens = refl; releases = refl };
+}
+
 abbrev pub IsConcern : Act → Concern → Type 0
 IsConcern a concern.Nothing = IsQuiet a
-IsConcern a concern.Number = IsOfNumbers a
 IsConcern a concern.Requests = IsOfRequests a
 IsConcern a concern.Nodes = IsOfNodes a
 IsConcern a concern.OpenFiles = IsOfFiles a
 IsConcern a concern.Several = Unit {0}
 
 pub is_concern : (a : Act) → IsConcern a (concern_in a)
-is_concern (act.Read opcode unique) = record {
-  no_end = λ s. refl;
-  requests = λ u. record { ending = refl; asking = refl; under = refl; interrupting = refl; again = refl };
-  nodes = λ n. record { least = refl; most = refl; forgets = refl; file = λ s. refl };
-  files = λ f. record { opens = refl; releases = refl };
-}
+is_concern (act.Read opcode unique) = tt
 is_concern (act.Asks unique asked) = record {
   flags = record {
     began = refl;

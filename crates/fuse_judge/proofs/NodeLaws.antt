@@ -46,6 +46,13 @@ other_node s a q o no_least no_most no_less no_file = by o
       file = file ∙ is.file;
     }
 
+-- an act that neither gives a node nor forgets one
+pub nodes_left : (a : Act) → ((node : ℕ) (file : File) (c : Bool) → a ≢ Gives node file c)
+    → ((node lookups : ℕ) → a ≢ Forgets node lookups) → (q : ℕ) → LeavesNode q a
+nodes_left (Gives node file c) no_gift no_forget q = absurd (no_gift node file c refl)
+nodes_left (Forgets node lookups) no_gift no_forget q = absurd (no_forget node lookups refl)
+nodes_left a no_gift no_forget q = record { least = refl; most = refl; forgets = refl; file = λ s. refl }
+
 pub left_alone : (s : Session) (a : Act) (nodes : Map NodeRow) → ((q : ℕ) → LeavesNode q a) → AreNodes s nodes
     → AreNodes (s ++ a ∷ []) nodes
 left_alone s a nodes is are q =

@@ -1,8 +1,10 @@
 -- The table of numbers, with one more act.
-use Rattle.std.proofs.Common.{◌≡◌, ℕ, Bool, true, false, ◌||◌, ◌&&◌, cond, [], ◌∷◌, ◌++◌, refl, sym, ◌∙◌, ap, subst, nat_eq, inl, inr}
+use Rattle.std.proofs.Common.{◌≡◌, ◌≢◌, ℕ, Bool, Option, true, false, ◌||◌, ◌&&◌, cond, [], ◌∷◌, ◌++◌, refl, sym, ◌∙◌, ap, subst, nat_eq, inl, inr}
 use Rattle.std.proofs.lemmas.Bool.{cases_eq}
 use Rattle.fuse_spec.specs.Values.Maps.{Map}
+use Rattle.fuse_protocol.specs.declared.opcode.Opcode.{Opcode}
 use Rattle.fuse_sessions.specs.declared.act.Act.{Act}
+use Rattle.fuse_sessions.specs.declared.act.Act.TheVariants as act
 use Rattle.fuse_sessions.specs.Sessions.{Session}
 use Rattle.fuse_sessions.specs.Numbers.{reads, reads_forget, was_read, was_forget}
 use Rattle.fuse_sessions.proofs.Laws.{any-more}
@@ -64,3 +66,10 @@ number_read s a numbers new u is_forget is are after whole = record {
           ∙ ap (λ b. b || is_forget) (are.marked u).forget
           ∙ forgets_it (is_forgets (mark_in numbers u) || is_forget);
     }
+
+-- an act that reads no number
+pub reads_none : (a : Act) → ((opcode : Option Opcode) (u : ℕ) → a ≢ act.Read opcode u)
+    → ((u original : ℕ) → a ≢ act.Resent u original) → (q : ℕ) → (reads q a ≡ false) × (reads_forget q a ≡ false)
+reads_none (act.Read opcode u) no_read no_resent q = absurd (no_read opcode u refl)
+reads_none (act.Resent u original) no_read no_resent q = absurd (no_resent u original refl)
+reads_none a no_read no_resent q = (refl, refl)

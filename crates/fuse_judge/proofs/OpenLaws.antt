@@ -91,6 +91,13 @@ fewer p (x ∷ xs) = by (p x) (fewer p xs)
     by true h = omega (arith, h)
     by false h = omega (arith, h)
 
+-- an act that neither opens a file nor releases one
+pub files_left : (a : Act) → ((file : OpenFile) → a ≢ Opens file) → ((file : OpenFile) → a ≢ Releases file)
+    → (q : OpenFile) → LeavesOpen q a
+files_left (Opens file) no_opening no_release q = absurd (no_opening file refl)
+files_left (Releases file) no_opening no_release q = absurd (no_release file refl)
+files_left a no_opening no_release q = record { opens = refl; releases = refl }
+
 pub left_open : (s : Session) (a : Act) (counts : Counts Handle) (nodes : Counts ℕ) → ((q : OpenFile) → LeavesOpen q a)
     → AreOpen s counts nodes → AreOpen (s ++ a ∷ []) counts nodes
 left_open s a counts nodes is are = record {

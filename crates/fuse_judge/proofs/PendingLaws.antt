@@ -1,6 +1,7 @@
 -- The requests that wait, with one more act.
-use Rattle.std.proofs.Common.{◌≡◌, ◌≢◌, ◌≤◌, ◌<◌, ℕ, ◌+◌, ◌-◌, ◌*◌, Bool, true, false, true≢false, not, cond, List, [], ◌∷◌, ◌++◌, length, length-append, suc, ◌&&◌, ◌||◌, nat_lt, Option, Some, None, refl, sym, ◌∙◌, ap, subst, arith, rules, nat_eq, inl, inr}
+use Rattle.std.proofs.Common.{◌≡◌, ◌≢◌, ◌≤◌, ◌<◌, ℕ, ◌+◌, ◌-◌, ◌*◌, Bool, true, false, true≢false, not, cond, List, [], ◌∷◌, ◌++◌, length, length-append, suc, is_some, ◌&&◌, ◌||◌, nat_lt, Option, Some, None, refl, sym, ◌∙◌, ap, subst, arith, rules, nat_eq, inl, inr}
 use Rattle.std.specs.Prelude.{sum_by, filter}
+use Rattle.std.specs.Int.{from_bool}
 use Rattle.std.specs.List.{list_any}
 use Rattle.std.specs.Map.{lookup}
 use Rattle.std.proofs.lemmas.Bool.{cases_eq}
@@ -13,8 +14,9 @@ use Rattle.fuse_sessions.specs.declared.act.Act.{Act}
 use Rattle.fuse_sessions.specs.declared.act.Act.TheVariants as act
 use Rattle.fuse_sessions.specs.declared.act.Asked.{Asked}
 use Rattle.fuse_sessions.specs.declared.act.OpenFile.{OpenFile}
+use Rattle.fuse_sessions.specs.declared.act.Taken.{Taken}
 use Rattle.fuse_sessions.specs.Sessions.{Session, since}
-use Rattle.fuse_sessions.specs.Waiting.{waiting, asked_by, ends, is_that, reaches, names_node, uses_file, is_named, is_used}
+use Rattle.fuse_sessions.specs.Waiting.{waiting, waits, asked_by, ends, is_that, reaches, names_node, uses_file, is_named, is_used}
 use Rattle.fuse_sessions.specs.Numbers.{interrupts, agains, asks_under, interrupts_of, agains_of}
 use Rattle.fuse_sessions.proofs.Laws.{sum-more, since-more, waiting-more, same_filter}
 use Rattle.fuse_judge.specs.declared.handle.Handle.{Handle}
@@ -22,7 +24,7 @@ use Rattle.fuse_judge.specs.declared.pending.Waiting.{Waiting}
 use Rattle.fuse_judge.specs.Handles.{handle, same_handle}
 use Rattle.fuse_judge.specs.Pending.{HasEffect, entry_of, names_of, uses_of, AreListed, IsInterrupted, AreInterrupted, ArePending, IsWaiting, AreWaiting}
 use Rattle.fuse_judge.specs.Tallies.{Counts, count_in, one_if}
-use Rattle.fuse_judge.proofs.Keys.{same, differ, all_after_put, all_after_remove}
+use Rattle.fuse_judge.proofs.Keys.{same, differ, and_true, and_false, all_after_put, all_after_remove}
 
 -- filters
 
@@ -223,16 +225,23 @@ module _ (xs : List (ℕ × Asked)) (rows : Map Waiting) (u : ℕ) (named : Coun
       sum w = sum_ended w xs u (Some row) (are.once u ∙ ap (entry_of u) there)
           ∙ ap (λ k. sum_by w xs - k) (one_sum w (u, row.asked))
 
+  none_ended : get rows u ≡ None → (w : ℕ × Asked → ℕ) → sum_by w (without u xs) ≡ sum_by w xs
+  none_ended gone w = sum_ended w xs u None (are.once u ∙ ap (entry_of u) gone) ∙ omega arith
+
+  pub ended_absent : get rows u ≡ None → AreListed (without u xs) (remove rows u) named used
+  ended_absent gone = record {
+    once = once_ended xs rows u are.once;
+    names = λ n. are.names n ∙ sym (none_ended gone (λ e. names_of n e.1));
+    uses = λ f. are.uses f ∙ sym (none_ended gone (λ e. uses_of f e.1));
+  }
+
   pub ended_none : get rows u ≡ None → AreListed (without u xs) rows named used
   ended_none gone = record {
     once = λ q. once_ended xs rows u are.once q ∙ ap (entry_of q) (there q);
-    names = λ n. are.names n ∙ sym (sum (λ e. names_of n e.1));
-    uses = λ f. are.uses f ∙ sym (sum (λ e. uses_of f e.1));
+    names = λ n. are.names n ∙ sym (none_ended gone (λ e. names_of n e.1));
+    uses = λ f. are.uses f ∙ sym (none_ended gone (λ e. uses_of f e.1));
   }
     where
-      sum : (w : ℕ × Asked → ℕ) → sum_by w (without u xs) ≡ sum_by w xs
-      sum w = sum_ended w xs u None (are.once u ∙ ap (entry_of u) gone) ∙ omega arith
-
       there : (q : ℕ) → get (remove rows u) q ≡ get rows q
       there q = elim (cases_eq u q) [
         | inl e ↦ subst (λ k. get (remove rows u) k ≡ get rows k) e (get_gone_here rows u ∙ sym gone)
@@ -353,7 +362,34 @@ pub pending_waiting : (s : Session) (rows : Map Waiting) (named : Counts ℕ) (u
     → AreWaiting s rows
 pending_waiting s rows named used are u = is_waiting s u (get rows u) (are.listed.once u) (are.interrupted u)
 
+pub waits_is : (s : Session) (u : ℕ) (o : Option Waiting) → IsWaiting s u o → is_some o ≡ is_some (waits s u)
+waits_is s u None is = sym (ap is_some is)
+waits_is s u (Some row) is = sym (ap is_some is.0)
+
+-- a reply ends what waits under its number, or nothing
+pub reply_ends : (u : ℕ) (t : Taken) → reaches t ≡ true → (q : ℕ) → HasEffect q (act.Replies u t) (nat_eq u q) 0 0
+reply_ends u t is q = record {
+  ending = ap (λ b. nat_eq u q && b) is ∙ and_true (nat_eq u q);
+  asking = refl;
+  under = refl;
+  interrupting = refl;
+  again = refl;
+}
+
+pub reply_ends_none : (u : ℕ) (t : Taken) → reaches t ≡ false → (q : ℕ) → HasEffect q (act.Replies u t) false 0 0
+reply_ends_none u t is q = record {
+  ending = ap (λ b. nat_eq u q && b) is ∙ and_false (nat_eq u q);
+  asking = refl;
+  under = refl;
+  interrupting = refl;
+  again = refl;
+}
+
 -- No count is larger than the session.
+
+pub from_one : (b : Bool) → from_bool b ≡ one_if b
+from_one true = refl
+from_one false = refl
 
 pub one_small : (b : Bool) → one_if b ≤ 1
 one_small true = omega arith

@@ -6,7 +6,7 @@ use Rattle.fuse_judge.specs.declared.concern.Concern.{Concern}
 use Rattle.fuse_judge.specs.declared.concern.Concern.TheVariants as concern
 
 abbrev pub concern_in : Act → Concern
-concern_in (act.Read opcode unique) = concern.Number
+concern_in (act.Read opcode unique) = concern.Several
 concern_in (act.Asks unique asked) = concern.Requests
 concern_in (act.Interrupts unique original) = concern.Requests
 concern_in (act.Replies unique t) = concern.Requests

@@ -2,12 +2,9 @@
 use Rattle.std.specs.Prelude.{◌≡◌, ◌≤◌, ℕ, Bool, true, false, Option, Some, None, nat_eq, if◌then◌else◌}
 use Rattle.fuse_spec.specs.Values.Maps.{Map, get}
 use Rattle.fuse_sessions.specs.declared.act.Act.{Act}
-use Rattle.fuse_sessions.specs.declared.act.Act.TheVariants as act
 use Rattle.fuse_sessions.specs.declared.act.File.{File}
 use Rattle.fuse_sessions.specs.Sessions.{Session}
 use Rattle.fuse_sessions.specs.Counts.{gives_least, gives_most, forgets_of, least_count, most_count, first_file, known}
-use Rattle.fuse_judge.specs.declared.node_change.NodeChange.{NodeChange}
-use Rattle.fuse_judge.specs.declared.node_change.NodeChange.TheVariants as change
 use Rattle.fuse_judge.specs.declared.nodes.NodeRow.{NodeRow}
 
 -- An act neither gives a node nor forgets it.
@@ -16,12 +13,6 @@ pub record LeavesNode (node : ℕ) (a : Act) : Type 0 where
   pub most : gives_most node a ≡ 0
   pub forgets : forgets_of node a ≡ 0
   pub file : (before : Session) → first_file node (before, a) ≡ None
-
--- This is what an act does to the counts of nodes.
-abbrev pub IsNodeChange : Act → NodeChange → Type 0
-IsNodeChange a change.Nothing = (node : ℕ) → LeavesNode node a
-IsNodeChange a (change.Gives node file is_certain) = a ≡ act.Gives node file is_certain
-IsNodeChange a (change.Forgets node lookups) = a ≡ act.Forgets node lookups
 
 -- the file of a node that is counted so often at least, once an entry gives one
 abbrev pub file_given : (least : ℕ) → (is_certain : Bool) → Option File → File → Option File

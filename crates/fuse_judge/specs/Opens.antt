@@ -1,13 +1,10 @@
 -- The files that are open.
 use Rattle.std.specs.Prelude.{◌≡◌, ◌≤◌, ℕ, length, List, [], ◌∷◌, if◌then◌else◌, nat_eq, nat_lt, filter, sum_by}
 use Rattle.fuse_sessions.specs.declared.act.Act.{Act}
-use Rattle.fuse_sessions.specs.declared.act.Act.TheVariants as act
 use Rattle.fuse_sessions.specs.declared.act.OpenFile.{OpenFile}
 use Rattle.fuse_sessions.specs.Sessions.{Session}
 use Rattle.fuse_sessions.specs.Waiting.{same_open}
 use Rattle.fuse_sessions.specs.OpenFiles.{opened, opens_this, releases_this}
-use Rattle.fuse_judge.specs.declared.open_change.OpenChange.{OpenChange}
-use Rattle.fuse_judge.specs.declared.open_change.OpenChange.TheVariants as change
 use Rattle.fuse_judge.specs.declared.handle.Handle.{Handle}
 use Rattle.fuse_judge.specs.Handles.{handle, same_handle}
 use Rattle.fuse_judge.specs.Tallies.{Counts, count_in, one_if}
@@ -16,12 +13,6 @@ use Rattle.fuse_judge.specs.Tallies.{Counts, count_in, one_if}
 pub record LeavesOpen (file : OpenFile) (a : Act) : Type 0 where
   pub opens : opens_this file a ≡ 0
   pub releases : releases_this file a ≡ 0
-
--- This is what an act does to the files that are open.
-abbrev pub IsOpenChange : Act → OpenChange → Type 0
-IsOpenChange a change.Nothing = (file : OpenFile) → LeavesOpen file a
-IsOpenChange a (change.Opens file) = a ≡ act.Opens file
-IsOpenChange a (change.Releases file) = a ≡ act.Releases file
 
 -- The tables of open files are right: how often each is open, and of those that are open how many each node has.
 pub record AreOpen (s : Session) (counts : Counts Handle) (nodes : Counts ℕ) : Type 0 where

@@ -20,8 +20,8 @@ pub enum Change {
     Again(u64),
 }
 
-/// Whether what was written ends its request.
-fn reaches(taken: Taken) -> bool
+/// Whether the device takes a reply, or refuses it for another reason than that nothing waits for it.
+pub(crate) fn reaches(taken: Taken) -> bool
     ensures { result ≡ words.reaches taken }
 {
     !matches!(taken, Taken::NoEntry)

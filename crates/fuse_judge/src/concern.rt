@@ -9,8 +9,6 @@ use fuse_sessions::{Act, Taken};
 #[derive(Clone, Copy)]
 pub enum Concern {
     Nothing,
-    /// What is known of the session as a whole, and the numbers.
-    Number,
     /// The requests that wait.
     Requests,
     /// The counts of nodes.
@@ -39,7 +37,6 @@ pub(crate) fn concern_of(act: Act) -> Concern
             taken: Taken::Accepted | Taken::Invalid | Taken::Failed,
             ..
         } => Concern::Nothing,
-        Act::Read { .. } => Concern::Number,
         Act::Asks { .. } | Act::Interrupts { .. } | Act::Replies { .. } => Concern::Requests,
         Act::Gives { .. } | Act::Forgets(_, _) => Concern::Nodes,
         Act::Opens(_) | Act::Releases(_) => Concern::OpenFiles,

@@ -1,17 +1,14 @@
 //! What is known of a session as a whole.
 
-ghost use Rattle.std.specs.Prelude.{◌≡◌, false, [], ◌∷◌, ◌++◌};
+ghost use Rattle.std.specs.Prelude.{◌≡◌, [], ◌∷◌, ◌++◌, Some};
 ghost use Rattle.fuse_sessions.specs.Sessions.{Session};
 ghost use Rattle.fuse_sessions.specs.Numbers as words;
 ghost use Rattle.fuse_sessions.specs.Numbers.{shows_end};
 ghost use Rattle.fuse_sessions.specs.Faults.{BreaksArrival, BreaksBeginning, BreaksWrite};
-ghost use Rattle.fuse_judge.specs.Flags.{AreFlags, LeavesFlags, is_from, highest_with};
+ghost use Rattle.fuse_judge.specs.Flags.{AreFlags, is_from, highest_with};
 ghost use Rattle.fuse_judge.specs.Verdicts.{IsFault};
 
-use crate::projections::{
-    agreed_write, is_agreement, is_of_several, is_of_writers, is_reading, is_resend, opens_none,
-    request_read,
-};
+use crate::projections::is_forget;
 use fuse_protocol::Opcode;
 use fuse_sessions::{Act, Fault, OpenKind};
 
@@ -119,47 +116,12 @@ pub(crate) fn fault_of_write(flags: Flags, size: u64) -> Option<Fault>
 }
 
 /// The highest of a number and those before it.
-fn higher(highest: Option<u64>, read: Option<u64>) -> Option<u64>
-    ensures { result ≡ highest_with highest read }
+fn higher(highest: Option<u64>, unique: u64) -> Option<u64>
+    ensures { result ≡ highest_with highest (Some unique) }
 {
-    match (highest, read) {
-        (Some(highest), Some(unique)) => Some(highest.max(unique)),
-        (None, read) => read,
-        (highest, None) => highest,
-    }
-}
-
-/// Whether an act may change what is known of a session as a whole. Few do.
-fn is_of_flags(act: Act) -> bool
-    ensures { result ≡ false → LeavesFlags act }
-{
-    matches!(
-        act,
-        Act::Read { .. }
-            | Act::Agrees(_)
-            | Act::OpensNone(_)
-            | Act::SeveralReaders
-            | Act::SeveralWriters
-            | Act::Resends
-    )
-}
-
-/// What is known after one more act, which shows the connection's end or not.
-#[inline(always)]
-fn flags_with(flags: Flags, act: Act, shows: bool) -> Flags
-    ensures { (s : Session) → AreFlags s flags → shows ≡ shows_end (s, act) → AreFlags (s ++ act ∷ []) result }
-{
-    Flags {
-        began: flags.began | is_reading(act),
-        agreed: flags.agreed | is_agreement(act),
-        max_write: agreed_write(act).or(flags.max_write),
-        has_several_readers: flags.has_several_readers | is_of_several(act),
-        has_several_writers: flags.has_several_writers | is_of_writers(act),
-        has_resent: flags.has_resent | is_resend(act),
-        ended: flags.ended | shows,
-        opens_no_files: flags.opens_no_files | opens_none(OpenKind::File, act),
-        opens_no_directories: flags.opens_no_directories | opens_none(OpenKind::Directory, act),
-        highest: higher(flags.highest, request_read(act)),
+    match highest {
+        Some(highest) => Some(highest.max(unique)),
+        None => Some(unique),
     }
 }
 
@@ -169,7 +131,25 @@ pub(crate) fn note_flags(flags: &mut Flags, act: Act, shows: bool)
     ensures { (s : Session) → AreFlags s flags.old → shows ≡ shows_end (s, act)
         → AreFlags (s ++ act ∷ []) flags.new }
 {
-    if shows | is_of_flags(act) {
-        *flags = flags_with(*flags, act, shows);
+    flags.ended |= shows;
+    match act {
+        Act::Read { opcode, unique } => {
+            flags.began = true;
+            if !is_forget(opcode) {
+                flags.highest = higher(flags.highest, unique);
+            }
+        }
+        Act::Agrees(max_write) => {
+            flags.agreed = true;
+            flags.max_write = Some(max_write);
+        }
+        Act::SeveralReaders => flags.has_several_readers = true,
+        Act::SeveralWriters => flags.has_several_writers = true,
+        Act::Resends => flags.has_resent = true,
+        Act::OpensNone(kind) => match kind {
+            OpenKind::File => flags.opens_no_files = true,
+            OpenKind::Directory => flags.opens_no_directories = true,
+        },
+        _ => {}
     }
 }

@@ -10,7 +10,7 @@ ghost use Rattle.fuse_judge.specs.Seen.{HasSeen};
 
 use crate::flags::no_flags;
 use crate::opens::OpenFiles;
-use crate::pending::{Pending, asked_under};
+use crate::pending::Pending;
 use crate::tables::{Tables, make_room};
 use crate::tally::Tally;
 use fuse_sessions::{Act, Asked, Fault};
@@ -81,7 +81,10 @@ impl<A: Allocator + Copy> Judge<A> {
     pub(crate) fn asked(&self, unique: u64) -> Option<&Asked>
         ensures { (s : Session) → HasSeen s self.now → option_copied result ≡ waits s unique }
     {
-        asked_under(&self.tables.pending.rows, unique)
+        match self.tables.pending.rows.get(unique) {
+            Some(row) => Some(&row.asked),
+            None => None,
+        }
     }
 
     /// Sees the next acts, one after another, and writes a verdict on each: its fault, or `None`. What the vector had

@@ -38,9 +38,14 @@ pub(crate) fn mark_of<A: Allocator + Copy>(numbers: &Marks<A>, unique: u64) -> M
     }
 }
 
-/// Marks a number that is read, as that of a FORGET if it is or was one.
-pub(crate) fn set_mark<A: Allocator + Copy>(numbers: &mut Marks<A>, unique: u64, is_forget: bool)
+/// Marks a number that is read, as that of a FORGET if it is or was one. Returns the mark from before.
+pub(crate) fn set_mark<A: Allocator + Copy>(
+    numbers: &mut Marks<A>,
+    unique: u64,
+    is_forget: bool,
+) -> Mark
     requires { 0 < numbers.old.room }
+    ensures before { result ≡ mark_in numbers.old.entries unique }
     ensures marks { AreWhole numbers.old.entries → (q : ℕ) → mark_in numbers.new.entries q
         ≡ (if nat_eq unique q then read_mark (is_forgets (mark_in numbers.old.entries unique) || is_forget)
         else mark_in numbers.old.entries q) }
@@ -49,12 +54,14 @@ pub(crate) fn set_mark<A: Allocator + Copy>(numbers: &mut Marks<A>, unique: u64,
 {
     let place = (unique % 64) as usize;
     if let Some(block) = numbers.get_mut(unique / 64) {
-        block.marks[place] = read(block.marks[place], is_forget);
-        return;
+        let before = block.marks[place];
+        block.marks[place] = read(before, is_forget);
+        return before;
     }
     let mut marks = [Mark::Unread; MARKS];
     marks[place] = read(Mark::Unread, is_forget);
     numbers.put(unique / 64, Block { marks });
+    Mark::Unread
 }
 
 /// The mark of a number that is read, by that from before.

@@ -9,10 +9,8 @@ ghost use Rattle.fuse_sessions.specs.Faults.{BreaksName, BreaksForget, BreaksGif
 ghost use Rattle.fuse_judge.specs.declared.nodes.NodeRow.{NodeRow};
 ghost use Rattle.fuse_judge.specs.Nodes as words;
 ghost use Rattle.fuse_judge.specs.Nodes.{AreNodes, IsNode};
-ghost use Rattle.fuse_judge.specs.Tallies.{one_if};
 ghost use Rattle.fuse_judge.specs.Verdicts.{IsFault};
 
-use crate::node_change::{NodeChange, node_change_of};
 use fuse_sessions::{Act, Fault, File};
 use fuse_tables::RisingTable;
 use std::alloc::Allocator;
@@ -156,23 +154,10 @@ fn forget<A: Allocator + Copy>(nodes: &mut RisingTable<NodeRow, A>, node: u64, l
         → AreNodes (s ++ Forgets node lookups ∷ []) nodes.new.entries }
     ensures room { nodes.old.room ≤ nodes.new.room + 1 }
 {
-    let Some(row) = nodes.get(node) else {
-        return;
-    };
-    let left = NodeRow {
-        least: row.least.saturating_sub(lookups),
-        most: row.most.saturating_sub(lookups),
-        file: row.file,
-    };
-    let _old = nodes.replace(node, left);
-}
-
-/// One, where an entry is certain to be counted.
-fn certainly(is_certain: bool) -> u64
-    ensures value { result ≡ one_if is_certain }
-    ensures small { result ≤ 1 }
-{
-    if is_certain { 1 } else { 0 }
+    if let Some(row) = nodes.get_mut(node) {
+        row.least = row.least.saturating_sub(lookups);
+        row.most = row.most.saturating_sub(lookups);
+    }
 }
 
 /// The file of a node that is counted so often at least, once an entry gives one.
@@ -203,24 +188,20 @@ pub(crate) fn give<A: Allocator + Copy>(
     ensures verdict { (s : Session) → AreNodes s nodes.old.entries → IsFault (BreaksGift s node file) result }
     ensures room { nodes.old.room ≤ nodes.new.room + 1 }
 {
-    let there = nodes.get(node).copied();
-    let fault = fault_of_gift(there, file);
-    let Some(row) = there else {
-        let first = NodeRow {
-            least: certainly(is_certain),
-            most: 1,
-            file: file_given(0, is_certain, None, file),
-        };
-        nodes.put(node, first);
+    if let Some(row) = nodes.get_mut(node) {
+        let fault = fault_of_gift(Some(*row), file);
+        row.file = file_given(row.least, is_certain, row.file, file);
+        row.least += u64::from(is_certain);
+        row.most += 1;
         return fault;
+    }
+    let first = NodeRow {
+        least: u64::from(is_certain),
+        most: 1,
+        file: file_given(0, is_certain, None, file),
     };
-    let more = NodeRow {
-        least: row.least + certainly(is_certain),
-        most: row.most + 1,
-        file: file_given(row.least, is_certain, row.file, file),
-    };
-    let _old = nodes.replace(node, more);
-    fault
+    nodes.put(node, first);
+    fault_of_gift(None, file)
 }
 
 /// Writes down what an act does to the counts of nodes.
@@ -230,15 +211,15 @@ pub(crate) fn note_nodes<A: Allocator + Copy>(nodes: &mut RisingTable<NodeRow, A
     ensures kept { (s : Session) → AreNodes s nodes.old.entries → AreNodes (s ++ act ∷ []) nodes.new.entries }
     ensures room { nodes.old.room ≤ nodes.new.room + 1 }
 {
-    match node_change_of(act) {
-        NodeChange::Nothing => {}
-        NodeChange::Gives {
+    match act {
+        Act::Gives {
             nodeid,
             file,
             is_certain,
         } => {
             let _verdict = give(nodes, nodeid, file, is_certain);
         }
-        NodeChange::Forgets { nodeid, lookups } => forget(nodes, nodeid, lookups),
+        Act::Forgets(node, lookups) => forget(nodes, node, lookups),
+        _ => {}
     }
 }

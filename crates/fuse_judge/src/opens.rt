@@ -12,7 +12,6 @@ ghost use Rattle.fuse_judge.specs.Verdicts.{IsFault};
 
 use crate::flags::Flags;
 use crate::handle::{Handle, handle_of};
-use crate::open_change::{OpenChange, open_change_of};
 use crate::tally::Tally;
 use fuse_sessions::{Act, Fault, OpenFile, OpenKind};
 use std::alloc::{AllocError, Allocator, Global};
@@ -157,9 +156,9 @@ pub(crate) fn note_opens<A: Allocator + Copy>(opens: &mut OpenFiles<A>, act: Act
     ensures room { opens.old.counts.room ≤ opens.new.counts.room + 1 }
     ensures nodes_room { opens.old.nodes.room ≤ opens.new.nodes.room + 1 }
 {
-    match open_change_of(act) {
-        OpenChange::Nothing => {}
-        OpenChange::Opens(file) => open(opens, file),
-        OpenChange::Releases(file) => release(opens, file),
+    match act {
+        Act::Opens(file) => open(opens, file),
+        Act::Releases(file) => release(opens, file),
+        _ => {}
     }
 }

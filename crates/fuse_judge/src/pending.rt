@@ -1,15 +1,13 @@
 //! The requests that wait: the tables, and what is a fault by them.
 
 ghost use Rattle.std.specs.Prelude.{◌≡◌, ℕ, ◌+◌, ◌*◌, ◌<◌, ◌≤◌, ◌^◌, Bool, false, ◌&&◌, List, [], ◌∷◌, ◌++◌, None, OnOk, Some, if◌then◌else◌, nat_eq, filter, not, is_some, length};
-ghost use Rattle.std.specs.Option.{option_copied};
 ghost use Rattle.fuse_spec.specs.Values.Maps.{get};
 ghost use Rattle.fuse_sessions.specs.declared.act.Act.{Act};
-ghost use Rattle.fuse_sessions.specs.declared.act.Act.TheVariants.{Asks};
+ghost use Rattle.fuse_sessions.specs.declared.act.Act.TheVariants.{Asks, Replies};
 ghost use Rattle.fuse_sessions.specs.declared.act.Asked.{Asked};
 ghost use Rattle.fuse_sessions.specs.declared.act.OpenFile.{OpenFile};
 ghost use Rattle.fuse_sessions.specs.Sessions.{Session};
 ghost use Rattle.fuse_sessions.specs.Numbers.{has_several_threads};
-ghost use Rattle.fuse_sessions.specs.Waiting.{waits};
 ghost use Rattle.fuse_sessions.specs.Waiting as waiting_words;
 ghost use Rattle.fuse_judge.specs.declared.pending.Waiting.{Waiting};
 ghost use Rattle.fuse_sessions.specs.Faults.{BreaksInterrupt, BreaksResent, BreaksTaking, BreaksReply, BreaksReplyToInterrupt, WarnsOfError};
@@ -21,12 +19,11 @@ ghost use Rattle.fuse_judge.specs.Tallies as words;
 ghost use Rattle.fuse_judge.specs.Tallies.{count_in};
 ghost use Rattle.fuse_judge.specs.Verdicts.{IsFault};
 
-use crate::change::{Change, change_of};
+use crate::change::{Change, change_of, reaches};
 use crate::flags::{Flags, is_surely_over};
 use crate::handle::Handle;
-use crate::marks::Marks;
+use crate::marks::{Mark, Marks, mark_of};
 use crate::named::{add_names, add_uses, take_names, take_uses};
-use crate::numbers::{was_forget, was_read};
 use crate::tally::Tally;
 use fuse_sessions::{Act, Asked, Fault, Fit, Taken};
 use fuse_tables::RisingTable;
@@ -140,23 +137,22 @@ pub(crate) fn fault_of_taking<A: Allocator + Copy>(
     }
 }
 
-/// The fault of a server that replies under a number.
+/// The fault of a server that replies under a number, under which a request waits or not.
 pub(crate) fn fault_of_reply<A: Allocator + Copy>(
-    rows: &RisingTable<Waiting, A>,
     numbers: &Marks<A>,
+    waits: bool,
     unique: u64,
 ) -> Option<Fault>
-    ensures { (s : Session) → AreWaiting s rows.now.entries → AreNumbers s numbers.now.entries
+    ensures { (s : Session) → waits ≡ is_some (waiting_words.waits s unique) → AreNumbers s numbers.now.entries
         → IsFault (BreaksReply s unique) result }
 {
-    if rows.get(unique).is_some() {
-        None
-    } else if was_forget(numbers, unique) {
-        Some(Fault::ReplyToForget)
-    } else if was_read(numbers, unique) {
-        Some(Fault::SecondReply)
-    } else {
-        Some(Fault::ReplyToNothing)
+    if waits {
+        return None;
+    }
+    match mark_of(numbers, unique) {
+        Mark::Unread => Some(Fault::ReplyToNothing),
+        Mark::Request => Some(Fault::SecondReply),
+        Mark::Forget => Some(Fault::ReplyToForget),
     }
 }
 
@@ -184,13 +180,6 @@ pub(crate) fn fault_of_error<A: Allocator + Copy>(
     }
 }
 
-/// Whether the device takes a reply, or refuses it for another reason than that nothing waits for it.
-fn reaches(taken: Taken) -> bool
-    ensures { result ≡ waiting_words.reaches taken }
-{
-    !matches!(taken, Taken::NoEntry)
-}
-
 /// The fault of a server that replies to an INTERRUPT.
 pub(crate) fn fault_of_reply_to_interrupt<A: Allocator + Copy>(
     rows: &RisingTable<Waiting, A>,
@@ -203,7 +192,7 @@ pub(crate) fn fault_of_reply_to_interrupt<A: Allocator + Copy>(
     ensures { (s : Session) → AreWaiting s rows.now.entries → AreNumbers s numbers.now.entries
         → several ≡ has_several_threads s → IsFault (BreaksReplyToInterrupt s original is_again taken) result }
 {
-    if !was_read(numbers, original) {
+    if matches!(mark_of(numbers, original), Mark::Unread) {
         return unless(several, Fault::ReplyToNothing);
     }
     let row = rows.get(original)?;
@@ -217,19 +206,6 @@ pub(crate) fn fault_of_reply_to_interrupt<A: Allocator + Copy>(
     }
 }
 
-/// The request that waits under a number.
-pub(crate) fn asked_under<A: Allocator + Copy>(
-    rows: &RisingTable<Waiting, A>,
-    unique: u64,
-) -> Option<&Asked>
-    ensures { (s : Session) → AreWaiting s rows.now.entries → option_copied result ≡ waits s unique }
-{
-    match rows.get(unique) {
-        Some(row) => Some(&row.asked),
-        None => None,
-    }
-}
-
 /// Whether a request waits under a number.
 pub(crate) fn waits<A: Allocator + Copy>(rows: &RisingTable<Waiting, A>, unique: u64) -> bool
     ensures { result ≡ is_some (get rows.now.entries unique) }
@@ -237,8 +213,9 @@ pub(crate) fn waits<A: Allocator + Copy>(rows: &RisingTable<Waiting, A>, unique:
     rows.get(unique).is_some()
 }
 
-/// What waits under a number ends.
-fn end<A: Allocator + Copy>(pending: &mut Pending<A>, unique: u64)
+/// What waits under a number ends. Returns whether anything did.
+fn end<A: Allocator + Copy>(pending: &mut Pending<A>, unique: u64) -> bool
+    ensures waited { result ≡ is_some (get pending.old.rows.entries unique) }
     ensures listed { (xs : List (ℕ × Asked))
         → AreListed xs pending.old.rows.entries pending.old.named.counts pending.old.used.counts
         → AreListed (filter (λ (e : ℕ × Asked). not (nat_eq unique e.0)) xs) pending.new.rows.entries
@@ -254,12 +231,16 @@ fn end<A: Allocator + Copy>(pending: &mut Pending<A>, unique: u64)
     ensures named_room { pending.old.named.room ≤ pending.new.named.room }
     ensures used_room { pending.old.used.room ≤ pending.new.used.room }
 {
-    let Some(row) = pending.rows.get(unique) else {
-        return;
+    // Most numbers are new and above all, and are not searched for.
+    if pending.rows.is_above(unique) {
+        return false;
+    }
+    let Some(row) = pending.rows.remove(unique) else {
+        return false;
     };
     take_names(&mut pending.named, &row.asked);
     take_uses(&mut pending.used, &row.asked);
-    let _row = pending.rows.remove(unique);
+    true
 }
 
 /// A request waits, under a number under which none does.
@@ -307,16 +288,8 @@ pub(crate) fn note_asked<A: Allocator + Copy>(pending: &mut Pending<A>, unique: 
     ensures named_room { pending.old.named.room ≤ pending.new.named.room + 2 }
     ensures used_room { pending.old.used.room ≤ pending.new.used.room + 2 }
 {
-    end(pending, unique);
+    let _waited = end(pending, unique);
     ask(pending, unique, asked);
-}
-
-/// One, or none.
-fn one_if(counts: bool) -> u64
-    ensures value { result ≡ words.one_if counts }
-    ensures small { result ≤ 1 }
-{
-    if counts { 1 } else { 0 }
 }
 
 /// Counts an INTERRUPT of what waits under a number, or an EAGAIN to one.
@@ -336,8 +309,8 @@ fn interrupt<A: Allocator + Copy>(
     ensures room { rows.old.room ≤ rows.new.room }
 {
     if let Some(row) = rows.get_mut(unique) {
-        row.interrupts += one_if(interrupts);
-        row.agains += one_if(agains);
+        row.interrupts += u64::from(interrupts);
+        row.agains += u64::from(agains);
     }
 }
 
@@ -360,8 +333,37 @@ pub(crate) fn note_pending<A: Allocator + Copy>(pending: &mut Pending<A>, act: A
     match change_of(act) {
         Change::Nothing => {}
         Change::Asks { unique, asked } => note_asked(pending, unique, &asked),
-        Change::Ends(unique) => end(pending, unique),
+        Change::Ends(unique) => {
+            let _waited = end(pending, unique);
+        }
         Change::Interrupts(unique) => interrupt(&mut pending.rows, unique, true, false),
         Change::Again(unique) => interrupt(&mut pending.rows, unique, false, true),
     }
+}
+
+/// Writes down a reply, which ends what waits under its number where it reaches. Returns the fault of the server: so a
+/// row is looked up once for both.
+#[inline(always)]
+pub(crate) fn reply<A: Allocator + Copy>(
+    pending: &mut Pending<A>,
+    numbers: &Marks<A>,
+    unique: u64,
+    taken: Taken,
+) -> Option<Fault>
+    ensures kept { (s : Session)
+        → ArePending s pending.old.rows.entries pending.old.named.counts pending.old.used.counts
+        → ArePending (s ++ Replies unique taken ∷ []) pending.new.rows.entries pending.new.named.counts
+        pending.new.used.counts }
+    ensures verdict { (s : Session)
+        → ArePending s pending.old.rows.entries pending.old.named.counts pending.old.used.counts
+        → AreNumbers s numbers.now.entries → IsFault (BreaksReply s unique) result }
+    ensures room { pending.old.rows.room ≤ pending.new.rows.room }
+    ensures named_room { pending.old.named.room ≤ pending.new.named.room }
+    ensures used_room { pending.old.used.room ≤ pending.new.used.room }
+{
+    if !reaches(taken) {
+        return fault_of_reply(numbers, waits(&pending.rows, unique), unique);
+    }
+    let waited = end(pending, unique);
+    fault_of_reply(numbers, waited, unique)
 }

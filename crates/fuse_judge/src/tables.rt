@@ -1,13 +1,13 @@
 //! The judge's tables, seen act after act.
 
 ghost use Rattle.std.specs.Prelude.{◌≡◌, ◌↔◌, ℕ, ◌<◌, ◌≤◌, ◌+◌, ◌*◌, ◌^◌, [], ◌∷◌, ◌++◌, IsTrue, OnOk, length, vec_capacity};
+ghost use Rattle.fuse_sessions.specs.declared.act.Act.TheVariants.{Read};
 ghost use Rattle.fuse_sessions.specs.Sessions.{Session};
-ghost use Rattle.fuse_sessions.specs.Waiting as words;
 ghost use Rattle.fuse_sessions.specs.Numbers as numbers;
 ghost use Rattle.fuse_sessions.specs.Faults.{IsInUse};
 ghost use Rattle.fuse_judge.specs.Flags.{AreFlags};
 ghost use Rattle.fuse_judge.specs.Opens.{AreOpen};
-ghost use Rattle.fuse_judge.specs.Pending.{ArePending, AreWaiting};
+ghost use Rattle.fuse_judge.specs.Pending.{AreWaiting};
 ghost use Rattle.fuse_judge.specs.Seen.{HasSeen, HasRoom, state_of};
 ghost use Rattle.fuse_judge.specs.Verdicts.{IsVerdict, AreVerdicts};
 
@@ -16,7 +16,7 @@ use crate::flags::{
     Flags, fault_of_arrival, fault_of_beginning, fault_of_write, has_several_threads, note_flags,
 };
 use crate::handle::handle_of;
-use crate::marks::Marks;
+use crate::marks::{Marks, mark_of, set_mark};
 use crate::nodes::{
     NodeRow, fault_of_attributes, fault_of_forget, fault_of_gift, fault_of_missing, fault_of_name,
     give, note_nodes,
@@ -28,9 +28,11 @@ use crate::opens::{
 };
 use crate::pending::{
     Pending, fault_of_error, fault_of_interrupt, fault_of_reply, fault_of_reply_to_interrupt,
-    fault_of_resent, fault_of_taking, note_asked, note_pending, reserve_pending, waits,
+    fault_of_resent, fault_of_taking, note_asked, note_pending, reply, reserve_pending, waits,
 };
-use fuse_sessions::{Act, Fault, OpenFile, Taken};
+use crate::projections::is_forget;
+use fuse_protocol::Opcode;
+use fuse_sessions::{Act, Fault, Taken};
 use fuse_tables::RisingTable;
 use std::alloc::{AllocError, Allocator, Global};
 
@@ -42,24 +44,6 @@ pub struct Tables<A: Allocator = Global> {
     pub nodes: RisingTable<NodeRow, A>,
     pub pending: Pending<A>,
     pub opens: OpenFiles<A>,
-}
-
-/// Whether a request that waits names a node.
-fn is_named<A: Allocator + Copy>(pending: &Pending<A>, node: u64) -> bool
-    ensures { (s : Session)
-        → ArePending s pending.now.rows.entries pending.now.named.counts pending.now.used.counts
-        → result ≡ words.is_named s node }
-{
-    pending.named.count(node) > 0
-}
-
-/// Whether a request that waits uses an open file.
-fn is_used<A: Allocator + Copy>(pending: &Pending<A>, file: OpenFile) -> bool
-    ensures { (s : Session)
-        → ArePending s pending.now.rows.entries pending.now.named.counts pending.now.used.counts
-        → result ≡ words.is_used s file }
-{
-    pending.used.count(handle_of(file)) > 0
 }
 
 /// Whether an act shows that the connection has ended.
@@ -126,7 +110,7 @@ impl<A: Allocator + Copy> Tables<A> {
     fn is_in_use(&self, node: u64) -> bool
         ensures { (s : Session) → HasSeen s (state_of self.now) → IsTrue result ↔ IsInUse s node }
     {
-        let named = is_named(&self.pending, node);
+        let named = self.pending.named.count(node) > 0;
         let opened = has_open(&self.opens, node);
         named | (opened & !self.flags.opens_no_files)
     }
@@ -141,7 +125,9 @@ impl<A: Allocator + Copy> Tables<A> {
             Act::Faulty(that) => Some(that),
             Act::Arrives => fault_of_arrival(self.flags),
             Act::Begins(opcode) => fault_of_beginning(self.flags, opcode),
-            Act::Read { unique, .. } => fault_of_number(&self.numbers, self.flags, unique),
+            Act::Read { unique, .. } => {
+                fault_of_number(mark_of(&self.numbers, unique), self.flags, unique)
+            }
             Act::Resent { unique, original } => fault_of_resent(rows, unique, original),
             Act::Interrupts { unique, original } => {
                 fault_of_interrupt(rows, has_several_threads(self.flags), unique, original)
@@ -155,7 +141,7 @@ impl<A: Allocator + Copy> Tables<A> {
                 open_count(&self.opens, file),
                 self.flags,
                 file,
-                is_used(&self.pending, file),
+                self.pending.used.count(handle_of(file)) > 0,
             ),
             Act::Writes(size) => fault_of_write(self.flags, size),
             Act::Takes { unique, taken, fit } => fault_of_taking(
@@ -164,7 +150,9 @@ impl<A: Allocator + Copy> Tables<A> {
             Act::Interrupted(unique) => {
                 fault_of_error(rows, has_several_threads(self.flags), unique)
             }
-            Act::Replies { unique, .. } => fault_of_reply(rows, &self.numbers, unique),
+            Act::Replies { unique, .. } => {
+                fault_of_reply(&self.numbers, waits(rows, unique), unique)
+            }
             Act::RepliesToInterrupt {
                 original,
                 is_again,
@@ -199,10 +187,6 @@ impl<A: Allocator + Copy> Tables<A> {
     {
         match concern_of(*act) {
             Concern::Nothing => {}
-            Concern::Number => {
-                note_flags(&mut self.flags, *act, false);
-                note_number(&mut self.numbers, *act);
-            }
             Concern::Requests => note_pending(&mut self.pending, *act),
             Concern::Nodes => note_nodes(&mut self.nodes, *act),
             Concern::OpenFiles => note_opens(&mut self.opens, *act),
@@ -226,6 +210,22 @@ impl<A: Allocator + Copy> Tables<A> {
         note_opens(&mut self.opens, *act);
     }
 
+    /// Writes a request down that is read under a number. Returns the fault of the kernel: so a mark is looked up once for
+    /// both.
+    #[inline(always)]
+    fn read(&mut self, opcode: Option<Opcode>, unique: u64) -> Option<Fault>
+        requires room { HasRoom 1 self.old }
+        ensures verdict { (s : Session) → HasSeen s (state_of self.old) → IsVerdict s (Read opcode unique) result }
+        ensures right { (s : Session) → HasSeen s (state_of self.old)
+            → HasSeen (s ++ Read opcode unique ∷ []) (state_of self.new) }
+        ensures room { (acts : ℕ) → HasRoom (acts + 1) self.old → HasRoom acts self.new }
+    {
+        let before = set_mark(&mut self.numbers, unique, is_forget(opcode));
+        let fault = fault_of_number(before, self.flags, unique);
+        note_flags(&mut self.flags, Act::Read { opcode, unique }, false);
+        fault
+    }
+
     /// The fault of the next act, if it has one, which is written down.
     #[inline(always)]
     fn see_one(&mut self, act: &Act) -> Option<Fault>
@@ -246,6 +246,12 @@ impl<A: Allocator + Copy> Tables<A> {
         if let Act::Asks { unique, asked } = act {
             note_asked(&mut self.pending, *unique, asked);
             return None;
+        }
+        if let Act::Read { opcode, unique } = *act {
+            return self.read(opcode, unique);
+        }
+        if let Act::Replies { unique, taken } = *act {
+            return reply(&mut self.pending, &self.numbers, unique, taken);
         }
         let fault = self.fault(act);
         self.note(act);

@@ -17,7 +17,7 @@ returns-in-Asks-clause-kept g c = λ s are. rw c.in-Asks.ensures (c.note_asked.e
 
 pub returns-in-Ends-clause-kept : goal.returns-in-Ends-clause-kept
 returns-in-Ends-clause-kept g c = λ s are. pending_ended s c.args.act _ _ _ are c.in-Ends.unique _ _ _ c.in-Ends.ensures
-    (c.end.ensures.listed (waiting s) are.listed) (c.end.ensures.interrupted s are.interrupted)
+    (c.end-waited.ensures.listed (waiting s) are.listed) (c.end-waited.ensures.interrupted s are.interrupted)
 
 pub returns-in-Interrupts-clause-kept : goal.returns-in-Interrupts-clause-kept
 returns-in-Interrupts-clause-kept g c

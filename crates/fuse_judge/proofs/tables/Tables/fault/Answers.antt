@@ -1,10 +1,13 @@
-use Rattle.std.proofs.Common.{sym, ◌∙◌, subst}
+use Rattle.std.proofs.Common.{ap, sym, ◌∙◌, subst, nat_lt}
 use Rattle.fuse_judge.specs.Nodes.{IsNode}
-use Rattle.fuse_judge.proofs.PendingLaws.{pending_waiting}
+use Rattle.fuse_judge.specs.Numbers.{IsMark}
+use Rattle.fuse_judge.proofs.PendingLaws.{pending_waiting, waits_is, used_counts}
 use Rattle.fuse_judge.proofs.tables.Tables.fault.Goals as goal
 
 pub returns-in-Read : goal.returns-in-Read
-returns-in-Read g c = λ s are. rw c.in-Read.is (c.fault_of_number.ensures s are.right_numbers are.right_flags)
+returns-in-Read g c = λ s are. rw c.in-Read.is
+    (c.fault_of_number.ensures s
+    (subst (IsMark s c.in-Read.unique) (sym c.mark_of.ensures) (are.right_numbers.marked c.in-Read.unique)) are.right_flags)
 
 pub returns-in-Resent : goal.returns-in-Resent
 returns-in-Resent g c = λ s are. rw c.in-Resent.is
@@ -26,7 +29,7 @@ returns-in-Uses g c = λ s are. rw c.in-Uses.is
 pub returns-in-Releases : goal.returns-in-Releases
 returns-in-Releases g c = λ s are. rw c.in-Releases.is
     (c.fault_of_release.ensures s (c.open_count-in-Releases.ensures s are.right_opens) are.right_flags
-    (c.is_used.ensures s are.right_pending))
+    (ap (nat_lt 0) (rw c.handle_of.ensures at c.count.ensures) ∙ used_counts s _ _ _ are.right_pending c.in-Releases.file))
 
 pub returns-in-Takes : goal.returns-in-Takes
 returns-in-Takes g c = λ s are. rw c.in-Takes.is
@@ -43,7 +46,9 @@ returns-in-Opens g c = λ s are. rw c.in-Opens.is
 
 pub returns-in-Replies : goal.returns-in-Replies
 returns-in-Replies g c = λ s are. rw c.in-Replies.is
-    (c.fault_of_reply.ensures s (pending_waiting s _ _ _ are.right_pending) are.right_numbers)
+    (c.fault_of_reply.ensures s
+    (c.waits.ensures ∙ waits_is s c.in-Replies.unique _ (pending_waiting s _ _ _ are.right_pending c.in-Replies.unique))
+    are.right_numbers)
 
 pub returns-in-RepliesToInterrupt : goal.returns-in-RepliesToInterrupt
 returns-in-RepliesToInterrupt g c = λ s are. rw c.in-RepliesToInterrupt.is

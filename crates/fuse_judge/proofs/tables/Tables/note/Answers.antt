@@ -18,17 +18,6 @@ returns-in-Nothing-clause-right g c = λ s are.
       right_opens = left_open s act _ _ leaves.files are.right_opens;
     }
 
-pub returns-in-Number-clause-right : goal.returns-in-Number-clause-right
-returns-in-Number-clause-right g c = λ s are.
-    let act = c.args.act.now in
-    let leaves = subst (IsConcern act) (sym c.in-Number.ensures) (is_concern act) in record {
-      right_flags = c.note_flags.ensures s are.right_flags (leaves.no_end s);
-      right_numbers = c.note_number.ensures.kept s are.right_numbers;
-      right_nodes = left_alone s act _ leaves.nodes are.right_nodes;
-      right_pending = pending_kept s act _ _ _ are.right_pending leaves.requests;
-      right_opens = left_open s act _ _ leaves.files are.right_opens;
-    }
-
 pub returns-in-Requests-clause-right : goal.returns-in-Requests-clause-right
 returns-in-Requests-clause-right g c = λ s are.
     let act = c.args.act.now in

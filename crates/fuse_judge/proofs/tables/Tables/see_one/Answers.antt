@@ -1,5 +1,5 @@
 use Rattle.std.proofs.Common.{◌^◌, arith}
-use Rattle.fuse_sessions.specs.declared.act.Act.TheVariants.{Gives, Asks}
+use Rattle.fuse_sessions.specs.declared.act.Act.TheVariants.{Gives, Asks, Replies}
 use Rattle.fuse_judge.proofs.ConcernLaws.{is_concern}
 use Rattle.fuse_judge.proofs.FlagLaws.{flags-kept}
 use Rattle.fuse_judge.proofs.NumberLaws.{quiet_numbers}
@@ -36,5 +36,27 @@ returns-in-Asks-clause-right g c = λ s are.
       right_numbers = quiet_numbers s act _ leaves.numbers are.right_numbers;
       right_nodes = left_alone s act _ leaves.nodes are.right_nodes;
       right_pending = c.note_asked.ensures.kept s are.right_pending;
+      right_opens = left_open s act _ _ leaves.files are.right_opens;
+    })
+
+pub returns-in-Read-clause-verdict : goal.returns-in-Read-clause-verdict
+returns-in-Read-clause-verdict g c = λ s are. rw c.in-Read.is (c.read.ensures.verdict s are)
+
+pub returns-in-Read-clause-right : goal.returns-in-Read-clause-right
+returns-in-Read-clause-right g c = λ s are. rw c.in-Read.is (c.read.ensures.right s are)
+
+pub returns-in-Replies-clause-verdict : goal.returns-in-Replies-clause-verdict
+returns-in-Replies-clause-verdict g c = λ s are.
+    rw c.in-Replies.is (c.reply.ensures.verdict s are.right_pending are.right_numbers)
+
+pub returns-in-Replies-clause-right : goal.returns-in-Replies-clause-right
+returns-in-Replies-clause-right g c = λ s are.
+    let act = Replies c.in-Replies.unique c.in-Replies.taken in
+    let leaves = is_concern act in
+    rw c.in-Replies.is (record {
+      right_flags = flags-kept s act _ leaves.flags (leaves.no_end s) are.right_flags;
+      right_numbers = quiet_numbers s act _ leaves.numbers are.right_numbers;
+      right_nodes = left_alone s act _ leaves.nodes are.right_nodes;
+      right_pending = c.reply.ensures.kept s are.right_pending;
       right_opens = left_open s act _ _ leaves.files are.right_opens;
     })
