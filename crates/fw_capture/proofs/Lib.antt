@@ -1,0 +1,4 @@
+mod Logged
+mod ReadBack
+mod Said
+mod Writing
