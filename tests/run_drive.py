@@ -323,14 +323,14 @@ def run_many():
 
 
 def run_talking():
-    """A server sends notifications for two seconds before it answers. Their lines stand before that of the answer."""
+    """A server sends notifications for two seconds before it answers. Their lines are read while the wait goes on."""
     opened = reply(1 << 62, struct.pack("<QII", 7, 0, 0))
     listing = [*MOUNT, "call list / 0", "read p 0", "write"]
     listed = [*MOUNTED, "call 1", *[NOTIFIED] * 20, "read 4 READDIR 80", "written 4 0", "answer 1 0", "kernel"]
     for name, script, answers, lines in [("a reply", STAT, [ATTR], [*STATED, *[NOTIFIED] * 20, *ANSWERED]),
                                          ("OPENDIR's reply", listing, [opened, reply(4)], listed)]:
         def talks(connection):
-            """Answers late what was awaited, behind notifications."""
+            """Says when it answers what was awaited."""
             frames = received(connection)
             for answer in AGREES:
                 next(frames)
@@ -339,16 +339,23 @@ def run_talking():
             for _ in range(20):
                 send(connection, NOTICE)
                 time.sleep(0.1)
+            answered = time.monotonic()
             send(connection, answers[0])
             for answer in answers[1:]:
                 next(frames)
                 send(connection, answer)
             for _request in frames:
                 pass
+            return answered
 
-        with served([], script, talks) as (command, _gave):
-            run = subprocess.run(command, stdin=subprocess.DEVNULL, stdout=subprocess.PIPE, text=True, timeout=SECONDS)
-        judge(f"notifications before {name}", (run.stdout.splitlines(), run.returncode), (lines, 0))
+        with served([], script, talks) as (command, gave):
+            run = subprocess.Popen(command, stdin=subprocess.DEVNULL, stdout=subprocess.PIPE, text=True)
+            read = [(line.rstrip("\n"), time.monotonic()) for line in run.stdout]
+            run.wait(timeout=SECONDS)
+        judge(f"notifications before {name}", ([line for line, _ in read], run.returncode), (lines, 0))
+        # The last may be on its way as the answer is sent.
+        early = [line for line, at in read if line == NOTIFIED and at < gave[0]]
+        judge(f"notifications before {name} are read as they come", len(early) >= 15, True)
 
 
 def run_refusals():

@@ -1,6 +1,6 @@
 //! What is noted of a server's frames beside what the kernel makes of them.
 
-ghost use Rattle.std.specs.Prelude.{◌∷◌, [], List};
+ghost use Rattle.std.specs.Prelude.{◌∷◌, ◌++◌, [], List};
 
 use fk_drive_frames::OtherFrame;
 
@@ -15,14 +15,19 @@ pub enum Noted {
     NoOpendirReply { unique: u64 },
 }
 
-/// Who notes them, each as it comes.
-pub trait Notes {
+/// Who notes them, each as it comes, with something at hand, as an output.
+pub trait Notes<O> {
     ghost use Rattle.fk_drive.specs.declared.noted.Noted.{Noted};
 
-    // From the one state to the other these were noted, in turn, and nothing else.
-    ghost notes: { (old new : Self) → List Noted → Type 0 };
+    // From the one state to the other, of both, these were noted, in turn, and nothing else.
+    ghost notes: { (old new : Self) → (had has : O) → List Noted → Type 0 };
 
     /// Notes a frame.
-    fn note(&mut self, noted: Noted)
-        ensures { notes self.old self.new (noted ∷ []) };
+    fn note(&mut self, noted: Noted, out: &mut O)
+        ensures { notes self.old self.new out.old out.new (noted ∷ []) };
+
+    ghost stays: { (n : Self) (o : O) → notes n n o o [] };
+
+    ghost goes_on: { (first mid last : Self) (had got has : O) (h k : List Noted) →
+        notes first mid had got h → notes mid last got has k → notes first last had has (h ++ k) };
 }

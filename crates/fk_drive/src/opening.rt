@@ -14,6 +14,7 @@ ghost use Rattle.fk_drive_frames.specs.declared.filling.FreeFields.{FreeFields};
 ghost use Rattle.fk_drive.specs.Driven.{driven, waiting_in};
 ghost use Rattle.fk_drive.specs.Driving.{Runs, opening, picked};
 ghost use Rattle.fk_drive.specs.Exchanges.{WentOver};
+ghost use Rattle.fk_drive.specs.Notings.{HasNoted};
 ghost use Rattle.fk_drive.specs.Openings.{AwaitsUntil, HasErrorNumber, HasTooMany, StopsAsking, StopsAskingWhere, turn_of, turn_where};
 ghost use Rattle.fk_drive.specs.Rooms.{HasRoomForFrame, most_waiting};
 ghost use Rattle.fk_drive.specs.Steps.{SendStep};
@@ -107,8 +108,8 @@ impl<A: Allocator + Copy> Connection<A> {
 }
 
 /// Notes the reply to the OPENDIR under a number.
-fn note_reply<N: Notes>(notes: &mut N, own: u64, frame: &[u8])
-    ensures { (is_whole : Bool) × N.notes notes.old notes.new (Noted.OpendirReply own is_whole ∷ [])
+fn note_reply<N: Notes<O>, O>(notes: &mut N, out: &mut O, own: u64, frame: &[u8])
+    ensures { (is_whole : Bool) × N.notes notes.old notes.new out.old out.new (Noted.OpendirReply own is_whole ∷ [])
         × (is_whole ≡ true → (reply : ReplyMessage) × SpellsReply op.Open frame.now reply)
         × (is_whole ≡ false → GivesNothing frame.now) }
 {
@@ -116,27 +117,29 @@ fn note_reply<N: Notes>(notes: &mut N, own: u64, frame: &[u8])
         unique: own,
         is_whole: is_opendir_reply(frame),
     };
-    notes.note(noted);
+    notes.note(noted, out);
 }
 
 /// Notes what is no reply, and has the number of the OPENDIR whose reply is awaited.
-fn note_no_reply<N: Notes>(notes: &mut N, own: u64, frame: &[u8])
+fn note_no_reply<N: Notes<O>, O>(notes: &mut N, out: &mut O, own: u64, frame: &[u8])
     ensures under { 16 ≤ length frame.now → head_unique frame.now ≡ own
-        → N.notes notes.old notes.new (Noted.NoOpendirReply own ∷ []) }
+        → N.notes notes.old notes.new out.old out.new (Noted.NoOpendirReply own ∷ []) }
     ensures none { (16 ≤ length frame.now → head_unique frame.now ≡ own → ⊥)
-        → (notes.new ≡ notes.old) }
+        → (notes.new ≡ notes.old) × (out.new ≡ out.old) }
+    ensures noted { HasNoted N.notes notes.old notes.new out.old out.new }
 {
     if is_under(own, frame) {
-        notes.note(Noted::NoOpendirReply { unique: own });
+        notes.note(Noted::NoOpendirReply { unique: own }, out);
     }
 }
 
 /// Receives a frame while the reply to an OPENDIR is awaited: what that says, if it is that. Any other waits for the
 /// kernel, or is set aside.
-fn receive_said<A: Allocator + Copy, D: Device, N: Notes>(
+fn receive_said<A: Allocator + Copy, D: Device, N: Notes<O>, O>(
     connection: &mut Connection<A>,
     device: &mut D,
     notes: &mut N,
+    out: &mut O,
     own: u64,
     listing: Listing,
 ) -> Awaited
@@ -148,6 +151,7 @@ fn receive_said<A: Allocator + Copy, D: Device, N: Notes>(
     ensures asks { StopsAskingWhere result connection.new.asks }
     ensures many { HasTooMany result (waiting_in connection.new) }
     ensures few { vec_len connection.old.waiting ≤ most_waiting → vec_len connection.new.waiting ≤ most_waiting }
+    ensures noted { HasNoted N.notes notes.old notes.new out.old out.new }
 {
     if let Err(end) = connection.make_room_awaiting() {
         return Awaited::Ended(end);
@@ -158,23 +162,24 @@ fn receive_said<A: Allocator + Copy, D: Device, N: Notes>(
     };
     match said_in(own, frame.as_slice()) {
         Some(said) => {
-            note_reply(notes, own, frame.as_slice());
+            note_reply(notes, out, own, frame.as_slice());
             connection.take_said(listing, said);
             Awaited::Said(said)
         }
         None => {
-            note_no_reply(notes, own, frame.as_slice());
-            connection.keep(frame, notes);
+            note_no_reply(notes, out, own, frame.as_slice());
+            connection.keep(frame, notes, out);
             Awaited::NotYet
         }
     }
 }
 
 /// Receives frames until the reply to an OPENDIR.
-fn await_opendir<A: Allocator + Copy, D: Device, N: Notes>(
+fn await_opendir<A: Allocator + Copy, D: Device, N: Notes<O>, O>(
     connection: &mut Connection<A>,
     device: &mut D,
     notes: &mut N,
+    out: &mut O,
     own: u64,
     listing: Listing,
 ) -> Awaited
@@ -185,9 +190,10 @@ fn await_opendir<A: Allocator + Copy, D: Device, N: Notes>(
     ensures number { HasErrorNumber result }
     ensures asks { StopsAskingWhere result connection.new.asks }
     ensures many { HasTooMany result (waiting_in connection.new) }
+    ensures noted { HasNoted N.notes notes.old notes.new out.old out.new }
 {
     for _frame in 0..u64::MAX {
-        match receive_said(connection, device, notes, own, listing) {
+        match receive_said(connection, device, notes, out, own, listing) {
             Awaited::NotYet => {}
             Awaited::Said(said) => return Awaited::Said(said),
             Awaited::Ended(end) => return Awaited::Ended(end),
@@ -197,10 +203,11 @@ fn await_opendir<A: Allocator + Copy, D: Device, N: Notes>(
 }
 
 /// Opens the directory that a request lists.
-pub(crate) fn open_directory<A: Allocator + Copy, D: Device, N: Notes>(
+pub(crate) fn open_directory<A: Allocator + Copy, D: Device, N: Notes<O>, O>(
     connection: &mut Connection<A>,
     device: &mut D,
     notes: &mut N,
+    out: &mut O,
     listing: Listing,
 ) -> Awaited
     requires asks { connection.old.asks ≡ true }
@@ -213,11 +220,12 @@ pub(crate) fn open_directory<A: Allocator + Copy, D: Device, N: Notes>(
     ensures number { HasErrorNumber result }
     ensures asks { StopsAskingWhere result connection.new.asks }
     ensures many { HasTooMany result (waiting_in connection.new) }
+    ensures noted { HasNoted N.notes notes.old notes.new out.old out.new }
 {
     let own = connection.next;
     connection.next += 2;
     match send_bytes(device, &opendir(own, listing.node)) {
-        Ok(()) => await_opendir(connection, device, notes, own, listing),
+        Ok(()) => await_opendir(connection, device, notes, out, own, listing),
         Err(end) => Awaited::Ended(end),
     }
 }

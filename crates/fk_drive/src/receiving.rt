@@ -8,7 +8,7 @@ ghost use Rattle.fk_drive.specs.Driven.{Keeps, driven, waiting_in};
 ghost use Rattle.fk_drive.specs.Driving.{DriveStep, Runs, Turn};
 ghost use Rattle.fk_drive.specs.Exchanges.{WentOver};
 ghost use Rattle.fk_drive.specs.Receiving.{ReceivesUntil};
-ghost use Rattle.fk_drive.specs.Notings.{AreNoted};
+ghost use Rattle.fk_drive.specs.Notings.{AreNoted, HasNoted};
 ghost use Rattle.fk_drive.specs.Rooms.{HasRoomForFrame, IsNoRoom, most_waiting};
 ghost use Rattle.fk_drive.specs.Steps.{IsKept, ReceiveStep};
 ghost use Rattle.fk_drive.specs.declared.end.DriveEnd.TheVariants.{Memory};
@@ -64,16 +64,17 @@ impl<A: Allocator + Copy> Connection<A> {
     }
 
     /// A frame waits for the kernel, or is set aside, and that is noted.
-    pub(crate) fn keep<N: Notes>(&mut self, frame: Vec<u8, A>, notes: &mut N)
+    pub(crate) fn keep<N: Notes<O>, O>(&mut self, frame: Vec<u8, A>, notes: &mut N, out: &mut O)
         requires { HasRoomForFrame self.old }
         ensures keeps { (kernel : KernelState) (turn : Turn)
             → (step : DriveStep (driven kernel self.old turn) (received frame.items ∷ []) (driven kernel self.new turn))
             × IsKept frame.items step }
-        ensures noted { AreNoted N.notes notes.old notes.new self.old.next frame.items }
+        ensures noted { AreNoted N.notes notes.old notes.new out.old out.new self.old.next frame.items }
+        ensures notes { HasNoted N.notes notes.old notes.new out.old out.new }
         ensures long { vec_len self.new.waiting ≤ vec_len self.old.waiting + 1 }
     {
         match other_frame_in(self.next, frame.as_slice()) {
-            Some(other_frame) => notes.note(Noted::SetAside(other_frame)),
+            Some(other_frame) => notes.note(Noted::SetAside(other_frame), out),
             None => self.have_wait(frame),
         }
     }
@@ -84,18 +85,20 @@ impl<A: Allocator + Copy> Connection<A> {
 /// # Errors
 ///
 /// The device came to its end, or memory runs out: nothing is then received.
-pub(crate) fn receive_next<A: Allocator + Copy, D: Device, N: Notes>(
+pub(crate) fn receive_next<A: Allocator + Copy, D: Device, N: Notes<O>, O>(
     connection: &mut Connection<A>,
     device: &mut D,
     notes: &mut N,
+    out: &mut O,
 ) -> Result<(), DriveEnd>
     requires { waiting_in connection.old ≡ [] }
-    ensures { (kernel : KernelState) (turn : Turn) → WentOver D.logs device.old device.new
+    ensures receives { (kernel : KernelState) (turn : Turn) → WentOver D.logs device.old device.new
         (ReceivesUntil result (driven kernel connection.new turn))
         (λ log. Runs ReceiveStep (driven kernel connection.old turn) log (driven kernel connection.new turn)) }
+    ensures noted { HasNoted N.notes notes.old notes.new out.old out.new }
 {
     connection.make_room()?;
     let frame = receive_frame(connection.alloc, device)?;
-    connection.keep(frame, notes);
+    connection.keep(frame, notes, out);
     Ok(())
 }

@@ -13,6 +13,7 @@ ghost use Rattle.fk_drive_frames.specs.OwnRequests.{ListsNode};
 ghost use Rattle.fk_drive.specs.Driven.{driven};
 ghost use Rattle.fk_drive.specs.Driving.{DrivesOver, Runs, Turn, idle, picked};
 ghost use Rattle.fk_drive.specs.Exchanges.{EndsAs, WentOver};
+ghost use Rattle.fk_drive.specs.Notings.{HasNoted};
 ghost use Rattle.fk_drive.specs.Sending.{IsAnswerRefusedAs, IsReadRefused, IsRequestSent, SendsListing, SendsNext, SendsSame, SendsUntil};
 ghost use Rattle.fk_drive.specs.Steps.{SendStep};
 ghost use Rattle.fk_kernel.specs.Picks.{IsPicked};
@@ -66,12 +67,14 @@ fn send_opened<
     Q: QueueTable<Purpose> + Drop,
     C: CountTable<Heap = Q::Heap> + Drop,
     D: Device,
-    N: Notes,
+    N: Notes<O>,
+    O,
 >(
     kernel: &mut KernelOf<Q, C>,
     connection: &mut Connection<Q::Heap>,
     device: &mut D,
     notes: &mut N,
+    out: &mut O,
     frame: &[u8],
     free_fields: FreeFields,
     listing: Listing,
@@ -80,14 +83,15 @@ fn send_opened<
     requires lists { (m : RequestMessage) × Spells frame.now m × IsListing m.content }
     requires asks { connection.old.asks ≡ true }
     requires numbers { connection.old.next < 2 ^ 63 }
-    ensures { (request : Request) → IsRequestFrame frame.now request → request.unique ≡ listing.unique
+    ensures sends { (request : Request) → IsRequestFrame frame.now request → request.unique ≡ listing.unique
         → ListsNode request.body listing.node → (turn : Turn)
         × WentOver D.logs device.old device.new (SendsUntil result (driven kernel.new connection.new turn))
         (λ log. Runs (SendStep free_fields) (driven kernel.old connection.old (picked request)) log
         (driven kernel.new connection.new turn)) }
+    ensures noted { HasNoted N.notes notes.old notes.new out.old out.new }
 {
     written_is_spelled();
-    let said = match open_directory(connection, device, notes, listing) {
+    let said = match open_directory(connection, device, notes, out, listing) {
         Awaited::Said(said) => said,
         Awaited::NotYet => return Err(DriveEnd::Memory),
         Awaited::Ended(end) => return Err(end),
@@ -123,21 +127,24 @@ fn send_read<
     Q: QueueTable<Purpose> + Drop,
     C: CountTable<Heap = Q::Heap> + Drop,
     D: Device,
-    N: Notes,
+    N: Notes<O>,
+    O,
 >(
     kernel: &mut KernelOf<Q, C>,
     connection: &mut Connection<Q::Heap>,
     device: &mut D,
     notes: &mut N,
+    out: &mut O,
     frame: &[u8],
     free_fields: FreeFields,
     unique: u64,
 ) -> Result<(), DriveEnd>
     requires short { length frame.now ≤ 4176 }
-    ensures { (request : Request) → IsRequestFrame frame.now request → request.unique ≡ unique → (turn : Turn)
+    ensures sends { (request : Request) → IsRequestFrame frame.now request → request.unique ≡ unique → (turn : Turn)
         × WentOver D.logs device.old device.new (SendsUntil result (driven kernel.new connection.new turn))
         (λ log. Runs (SendStep free_fields) (driven kernel.old connection.old (picked request)) log
         (driven kernel.new connection.new turn)) }
+    ensures noted { HasNoted N.notes notes.old notes.new out.old out.new }
 {
     written_is_spelled();
     spelled_is_decoded();
@@ -147,6 +154,7 @@ fn send_read<
             connection,
             device,
             notes,
+            out,
             frame,
             free_fields,
             Listing { unique, node },
@@ -165,12 +173,14 @@ pub fn send_next<
     Q: QueueTable<Purpose> + Drop,
     C: CountTable<Heap = Q::Heap> + Drop,
     D: Device,
-    N: Notes,
+    N: Notes<O>,
+    O,
 >(
     kernel: &mut KernelOf<Q, C>,
     connection: &mut Connection<Q::Heap>,
     device: &mut D,
     notes: &mut N,
+    out: &mut O,
     pick: Pick,
     free_fields: FreeFields,
 ) -> Result<RequestFrame<Q::Heap>, NotSent>
@@ -181,6 +191,7 @@ pub fn send_next<
         (driven kernel.old connection.old idle) (driven kernel.new connection.new turn) }
     ensures picked { IfOk result (λ frame. IsPicked kernel.old pick frame) }
     ensures refused { IfErr result (IsReadRefused kernel.old pick) }
+    ensures noted { HasNoted N.notes notes.old notes.new out.old out.new }
 {
     let frame = match kernel.read(pick) {
         Ok(frame) => frame,
@@ -192,6 +203,7 @@ pub fn send_next<
         connection,
         device,
         notes,
+        out,
         frame.bytes(),
         free_fields,
         unique,

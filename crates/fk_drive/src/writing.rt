@@ -10,6 +10,7 @@ ghost use Rattle.fk_drive.specs.Driven.{KeepsWaiting, directories_in, driven};
 ghost use Rattle.fk_drive.specs.Driving.{DrivesOver, ReleasesBehind, Runs, SendsFrame, Turn};
 ghost use Rattle.fk_drive.specs.Exchanges.{EndsAs, WentOver};
 ghost use Rattle.fk_drive.specs.KernelSteps.{IsReplyTaken};
+ghost use Rattle.fk_drive.specs.Notings.{HasNoted};
 ghost use Rattle.fk_drive.specs.Receiving.{ReceivesUntil};
 ghost use Rattle.fk_drive.specs.Steps.{ReceiveStep};
 ghost use Rattle.fk_drive.specs.WriteRefusals.{IsFirstRefused, IsWriteRefused};
@@ -60,21 +61,23 @@ fn hand_on<Q: QueueTable<Purpose> + Drop, C: CountTable<Heap = Q::Heap> + Drop>(
 }
 
 /// Receives frames until one waits for the kernel.
-fn receive_one<A: Allocator + Copy, D: Device, N: Notes>(
+fn receive_one<A: Allocator + Copy, D: Device, N: Notes<O>, O>(
     connection: &mut Connection<A>,
     device: &mut D,
     notes: &mut N,
+    out: &mut O,
 ) -> Result<(), DriveEnd>
     ensures receives { (kernel : KernelState) (turn : Turn) → WentOver D.logs device.old device.new
         (ReceivesUntil result (driven kernel connection.new turn))
         (λ log. Runs ReceiveStep (driven kernel connection.old turn) log (driven kernel connection.new turn)) }
     ensures waits { OnOk result (0 < vec_len connection.new.waiting) }
+    ensures noted { HasNoted N.notes notes.old notes.new out.old out.new }
 {
     for _frame in 0..u64::MAX {
         if connection.waiting.len() != 0 {
             return Ok(());
         }
-        receive_next(connection, device, notes)?;
+        receive_next(connection, device, notes, out)?;
     }
     if connection.waiting.len() != 0 {
         Ok(())
@@ -188,20 +191,23 @@ pub fn write_next<
     Q: QueueTable<Purpose> + Drop,
     C: CountTable<Heap = Q::Heap> + Drop,
     D: Device,
-    N: Notes,
+    N: Notes<O>,
+    O,
 >(
     kernel: &mut KernelOf<Q, C>,
     connection: &mut Connection<Q::Heap>,
     device: &mut D,
     notes: &mut N,
+    out: &mut O,
 ) -> Result<Result<Written<Q::Heap>, Refusal>, DriveEnd>
     ensures writes { (turn : Turn) → (log : List Transfer) × D.logs device.old device.new log
         × WritesNext result (driven kernel.old connection.old turn) log (driven kernel.new connection.new turn) }
     ensures drives { (turn : Turn) → DrivesOver D.logs device.old device.new (driven kernel.old connection.old turn)
         (driven kernel.new connection.new turn) }
     ensures refused { IfOk result (λ written. IfErr written (IsFirstRefused kernel.new connection.new)) }
+    ensures noted { HasNoted N.notes notes.old notes.new out.old out.new }
 {
-    receive_one(connection, device, notes)?;
+    receive_one(connection, device, notes, out)?;
     match write_first(kernel, connection) {
         Ok(mut written) => {
             written.end = release_behind(connection, device, &written.frame).err();

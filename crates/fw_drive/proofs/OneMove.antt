@@ -1,6 +1,6 @@
 -- What one call of a driver comes to, and the answers that are collected behind it.
 use Rattle.std.proofs.Common.{◌≡◌, ◌⊎◌, ◌++◌, ℕ, List, [], ◌∷◌, None, Some, refl, sym, ap, subst, ◌∙◌, append-nil, inl, inr, length, slice_get}
-use Rattle.std.specs.Prelude.{IfErr, IfNone, IfSome, Option, Result, Ok, Err}
+use Rattle.std.specs.Prelude.{IfErr, IfNone, IfSome, OnOk, Option, Result, Ok, Err}
 use Rattle.fuse_spec.specs.declared.Refusal.{Refusal}
 use Rattle.fuse_spec.specs.Calls.Answers.{Answer as KernelAnswer}
 use Rattle.fuse_spec.specs.Kernel.Kernel.{Kernel}
@@ -23,11 +23,12 @@ use Rattle.fw_drive.specs.LineMoves.{FirstThen, IsCollected, IsSentBy, IsWritten
 use Rattle.fw_drive.specs.Moves.{IsSettled, Move, Moves, sends, writes, collects}
 use Rattle.fw_drive.specs.Notes.{Note, notes_text}
 use Rattle.fw_drive.specs.Printed.{Gets, GetsAt, IsRequestLine, IsWrittenLine, of_frame, outcome_text, refusal_text}
+use Rattle.fw_drive.specs.Printing.{HasPrinted}
 use Rattle.fw_drive.specs.Runs.{Collects, EndsBehind, Goes, IsUnprinted, at, stop_of}
 use Rattle.fw_drive.specs.declared.form.Form.{Form}
 use Rattle.fw_drive.specs.declared.stop.Stop.{Stop}
 use Rattle.fw_drive.proofs.Following.{collects_behind, ended_at, on_any, one_goes, one_went, receives_keep, said_on, several, weaker}
-use Rattle.fw_drive.proofs.Texts.{own_result, said_collected, said_moves, text_said}
+use Rattle.fw_drive.proofs.Texts.{gets_all_at, own_result, said_collected, said_moves, text_said}
 use Rattle.fw_drive.proofs.LineRuns.{perhaps}
 
 -- ---- answers
@@ -191,11 +192,18 @@ module _ (A : Type 0) {D : Type 0} (logs : D → D → List Transfer → Type 0)
       (subst (λ (l : List ℕ). GetsAt stop had has l) (sym (append-nil (notes_text before))) printed))
       (perhaps {T = T} (Err stop) (FirstThen IsWritten IsCollected))
 
--- why a run ends, as it was noted
-pub ends_so : (noted stop : Stop) (end : DriveEnd) → stop ≡ stop_of end → (noted ≡ stop) ⊎ IsUnprinted noted
-    → (noted ≡ stop_of end) ⊎ IsUnprinted noted
-ends_so noted stop end is (inl same) = inl (same ∙ is)
-ends_so noted stop end is (inr own) = inr own
+-- why a run ends behind what was noted
+pub ends_behind_notes : {A : Type 0} (printed : Result (Unit {0}) Stop) (last stop : Stop) (end : DriveEnd)
+    (had has : Option (List ℕ)) → stop ≡ stop_of end → OnOk printed (last ≡ stop) → IfErr printed (λ s. last ≡ s)
+    → HasPrinted A printed had has
+    → ((last ≡ stop_of end) ⊎ IsUnprinted last) × (said : List (Note A)) × GetsAt last had has (notes_text said)
+ends_behind_notes (Ok _) last stop end had has is same _ (own, said, all) =
+    (inl (same ∙ is), said, gets_all_at last had has (notes_text said) all)
+ends_behind_notes (Err s) last stop end had has is _ same (own, said, some) = (
+  inr (subst IsUnprinted (sym same) own),
+  said,
+  subst (λ (t : Stop). GetsAt t had has (notes_text said)) (sym same) some,
+)
 
 -- ---- lines
 

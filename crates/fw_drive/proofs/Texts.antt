@@ -11,6 +11,7 @@ use Rattle.fw_script.proofs.Writes.{Appends-Keeps, Appends-append, Appends-nil, 
 use Rattle.fw_drive.specs.LineMoves.{FirstThen, IsCollected, after_note, first_move}
 use Rattle.fw_drive.specs.Moves.{GoOn, IsNote, Move, end_of, notes}
 use Rattle.fw_drive.specs.Notes.{Note, answer_said, differs, note_text, notes_text}
+use Rattle.fw_drive.specs.PrintingLaws as laws
 use Rattle.fw_drive.specs.Printed.{Gets, GetsAt, IsTextOf, next_text, no_text}
 use Rattle.fw_drive.specs.Runs.{IsOwnStop, IsUnprinted}
 use Rattle.fw_drive.specs.declared.form.Form.{Form}
@@ -40,14 +41,11 @@ gets_all (Err s) had has text all = gets_all_at s had has text all
 
 pub gets_then_at : (s : Stop) (had mid has : Option (List ℕ)) (a b : List ℕ) → Appends had mid a → GetsAt s mid has b
     → GetsAt s had has (a ++ b)
-gets_then_at stops.NoMemory had mid has a b one two = some_then had mid has a b (a ++ b) refl one two
-gets_then_at stops.OutputRefused had mid has a b one two = some_then had mid has a b (a ++ b) refl one two
-gets_then_at other had mid has a b one two = Appends-append had mid has a b one two
+gets_then_at = laws.gets_then_at
 
 pub gets_then : {T : Type 0} (r : Result T Stop) (had mid has : Option (List ℕ)) (a b : List ℕ) → Appends had mid a
     → Gets r mid has b → Gets r had has (a ++ b)
-gets_then (Ok x) had mid has a b one two = Appends-append had mid has a b one two
-gets_then (Err s) had mid has a b one two = gets_then_at s had mid has a b one two
+gets_then = laws.gets_then
 
 -- nothing more is printed, so that a beginning of the text is all
 pub gets_more : (s : Stop) (had has : Option (List ℕ)) (a b : List ℕ) → IsUnprinted s → GetsAt s had has a
@@ -108,11 +106,6 @@ SaysAll A had has = (said : List (Note A)) × Appends had has (notes_text said)
 abbrev pub Says : (A : Type 0) {T : Type 0} → Result T Stop → (had has : Option (List ℕ)) → Type 0
 Says A r had has = (said : List (Note A)) × Gets r had has (notes_text said)
 
-notes_on : {A : Type 0} (a b : List (Note A)) → notes_text (a ++ b) ≡ notes_text a ++ notes_text b
-notes_on [] b = refl
-notes_on (note ∷ a) b =
-    ap (λ (l : List ℕ). note_text note ++ l) (notes_on a b) ∙ sym (append_assoc (note_text note) (notes_text a) (notes_text b))
-
 pub says_nothing : (A : Type 0) (had : Option (List ℕ)) → SaysAll A had had
 says_nothing A had = ([], Appends-nil had)
 
@@ -129,11 +122,7 @@ says_part note had has some =
 
 pub says_then : (A : Type 0) {T : Type 0} (r : Result T Stop) (had mid has : Option (List ℕ)) → SaysAll A had mid
     → Says A r mid has → Says A r had has
-says_then A r had mid has (a, one) (b, two) = (
-  a ++ b,
-  subst (λ (l : List ℕ). Gets r had has l) (sym (notes_on a b))
-      (gets_then r had mid has (notes_text a) (notes_text b) one two),
-)
+says_then = laws.says_then
 
 -- something was said, and then a line was printed
 pub says_line : (A : Type 0) (had mid has : Option (List ℕ)) (line : List ℕ) → SaysAll A had mid → Appends mid has line

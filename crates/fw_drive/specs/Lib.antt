@@ -5,4 +5,6 @@ pub mod LineMoves
 pub mod Moves
 pub mod Notes
 pub mod Printed
+pub mod Printing
+pub mod PrintingLaws
 pub mod Runs

@@ -5,6 +5,7 @@ ghost use Rattle.fuse_spec.specs.Values.Maps.{remove};
 ghost use Rattle.fuse_device.specs.Transfers.{Transfer};
 ghost use Rattle.fk_syscalls.specs.Values.{answer_of};
 ghost use Rattle.fk_drive.specs.Driving.{Turn, first_driven, idle};
+ghost use Rattle.fk_drive.specs.Notings.{HasNoted};
 ghost use Rattle.fk_drive_frames.specs.declared.filling.FreeFields.{FreeFields as Fields};
 ghost use Rattle.fw_world.specs.Values.{counted_nodes};
 ghost use Rattle.fw_drive.specs.Acts.{Acts};
@@ -108,14 +109,16 @@ impl<T: Tables> Driver<T> {
     /// # Errors
     ///
     /// As the kernel refuses it, or the run came to its end.
-    pub(crate) fn send<D: Device, N: FrameNotes>(
+    pub(crate) fn send<D: Device, N: FrameNotes<O>, O>(
         &mut self,
         device: &mut D,
         notes: &mut N,
+        out: &mut O,
         pick: Pick,
     ) -> Result<RequestFrame<T::Heap>, NotSent>
-        ensures { (fields : Fields) × (turn : Turn) × (log : List Transfer) × D.logs device.old device.new log
+        ensures moves { (fields : Fields) × (turn : Turn) × (log : List Transfer) × D.logs device.old device.new log
             × Moves {A = T.Heap} (at self.old idle) (sends pick fields result) log (at self.new turn) }
+        ensures noted { HasNoted N.notes notes.old notes.new out.old out.new }
     {
         let free_fields = self.free_fields;
         send_next(
@@ -123,6 +126,7 @@ impl<T: Tables> Driver<T> {
             &mut self.connection,
             device,
             notes,
+            out,
             pick,
             free_fields,
         )
@@ -134,15 +138,17 @@ impl<T: Tables> Driver<T> {
     /// # Errors
     ///
     /// The run came to its end before there was one.
-    pub(crate) fn receive<D: Device, N: FrameNotes>(
+    pub(crate) fn receive<D: Device, N: FrameNotes<O>, O>(
         &mut self,
         device: &mut D,
         notes: &mut N,
+        out: &mut O,
     ) -> Result<Result<Written<T::Heap>, Refusal>, DriveEnd>
-        ensures { (log : List Transfer) × D.logs device.old device.new log
+        ensures moves { (log : List Transfer) × D.logs device.old device.new log
             × Moves {A = T.Heap} (at self.old idle) (writes result) log (at self.new idle) }
+        ensures noted { HasNoted N.notes notes.old notes.new out.old out.new }
     {
-        write_next(&mut self.kernel, &mut self.connection, device, notes)
+        write_next(&mut self.kernel, &mut self.connection, device, notes, out)
     }
 
     /// Whether a call waits for its answer.

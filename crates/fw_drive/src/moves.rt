@@ -1,12 +1,17 @@
 //! One move of a driven kernel, printed.
 
-ghost use Rattle.std.specs.Prelude.{◌≡◌, ◌⊎◌, ◌++◌, [], ℕ, IfErr, IfNone, IfSome, List, codes};
+ghost use Rattle.std.specs.Prelude.{◌≡◌, ◌++◌, [], ℕ, IfErr, IfNone, IfSome, List, OnOk, Option as OptionOf, codes};
+ghost use Rattle.fuse_device.specs.Transfers.{Transfer};
+ghost use Rattle.fk_drive.specs.Driving.{Turn, idle};
+ghost use Rattle.fk_drive_frames.specs.declared.filling.FreeFields.{FreeFields as Fields};
 ghost use Rattle.fw_script.specs.Records.{nodes_text};
 ghost use Rattle.fw_world.specs.Values.{counted_nodes};
 ghost use Rattle.fw_drive.specs.LineMoves.{FirstThen, IsCollected, IsEvent, IsSentBy, IsWritten, Perhaps};
+ghost use Rattle.fw_drive.specs.Moves.{Moves, sends, writes};
 ghost use Rattle.fw_drive.specs.Notes.{Note, notes_text};
-ghost use Rattle.fw_drive.specs.Printed.{Gets, GetsAt, IsRequestLine, IsWrittenLine, of_frame, refusal_text};
-ghost use Rattle.fw_drive.specs.Runs.{Collects, EndsBehind, Goes, GoesAlone, IsUnprinted};
+ghost use Rattle.fw_drive.specs.Printed.{Gets, IsRequestLine, IsWrittenLine, of_frame, refusal_text};
+ghost use Rattle.fw_drive.specs.Printing.{HasPrinted};
+ghost use Rattle.fw_drive.specs.Runs.{Collects, EndsBehind, Goes, GoesAlone, IsUnprinted, at};
 ghost use Rattle.fw_drive.specs.declared.form.Form.{Form as FormOf};
 
 use crate::driver::Driver;
@@ -14,7 +19,7 @@ use crate::form::Form;
 use crate::notes::Notes;
 use crate::printing::{print_frame, print_refusal, print_refused, shown_unique};
 use crate::stop::{Stop, stop_at};
-use fk_drive::{NotSent, Written};
+use fk_drive::{DriveEnd, NotSent, Written};
 use fk_wire::{Opcode, ReplyHead};
 use fuse_device::Device;
 use fuse_frames::RequestFrame;
@@ -75,23 +80,43 @@ fn unique_awaited<T: Tables>(driver: &Driver<T>, unique: u64, opcode: Opcode) ->
     }
 }
 
-/// Prints what was noted, a request that was sent, and the answers that wait. Gives the number whose reply is to come, if
-/// one is.
+/// Reads a request from the kernel, and sends it. What is noted of frames meanwhile is printed as it comes: the second
+/// part says whether it could be.
+fn send_printing<T: Tables, D: Device, W: Write>(
+    driver: &mut Driver<T>,
+    device: &mut D,
+    notes: &mut Notes<T>,
+    pick: Pick,
+    out: &mut W,
+) -> (Result<RequestFrame<T::Heap>, NotSent>, Result<(), Stop>)
+    ensures moves { (fields : Fields) × (turn : Turn) × (log : List Transfer) × D.logs device.old device.new log
+        × Moves {A = T.Heap} (at driver.old idle) (sends pick fields result.0) log (at driver.new turn) }
+    ensures printed { HasPrinted T.Heap result.1 (W.contents out.old) (W.contents out.new) }
+{
+    notes.printed = Ok(());
+    let sent = driver.send(device, notes, out, pick);
+    (sent, notes.printed)
+}
+
+/// Prints a request that was sent, behind what was noted, and the answers that wait. Gives the number whose reply is to
+/// come, if one is.
 fn note_request<T: Tables, W: Write>(
     driver: &mut Driver<T>,
     notes: &mut Notes<T>,
     form: Form,
     frame: &RequestFrame<T::Heap>,
+    printed: Result<(), Stop>,
     out: &mut W,
 ) -> Result<Moved, Stop>
-    ensures { (before : List (Note T.Heap)) × (line : List ℕ) × IsRequestLine T.Heap form frame.now line
-        × Collects T.Heap form (notes_text before ++ line) (W.contents out.old) (W.contents out.new) driver.old driver.new
-        result }
+    ensures { (had : OptionOf (List ℕ)) → HasPrinted T.Heap printed had (W.contents out.old)
+        → (before : List (Note T.Heap)) × (line : List ℕ) × IsRequestLine T.Heap form frame.now line
+        × Collects T.Heap form (notes_text before ++ line) had (W.contents out.new) driver.old driver.new result }
 {
     let (unique, opcode) = frame.head();
     let len = frame.bytes().len();
-    if let Err(stop) = notes.print_noted(out) {
-        return Err(stop);
+    match printed {
+        Ok(()) => {}
+        Err(stop) => return Err(stop),
     }
     if notes.note_sent(frame).is_err() {
         return Err(Stop::NoMemory);
@@ -113,33 +138,33 @@ fn note_request<T: Tables, W: Write>(
     }
 }
 
-/// Prints what was noted, and why the kernel refuses.
-fn note_refusal<T: Tables, W: Write>(
-    notes: &mut Notes<T>,
+/// Prints why the kernel refuses, behind what was noted.
+fn note_refusal<A: Allocator, W: Write>(
     form: Form,
     refusal: Refusal,
+    printed: Result<(), Stop>,
     out: &mut W,
 ) -> Result<Moved, Stop>
-    ensures printed { (before : List (Note T.Heap)) × Gets result (W.contents out.old) (W.contents out.new)
-        (notes_text before ++ of_frame form (refusal_text T.Heap refusal)) }
-    ensures own { IfErr result IsUnprinted }
+    ensures { (had : OptionOf (List ℕ)) → HasPrinted A printed had (W.contents out.old) → IfErr result IsUnprinted
+        × (before : List (Note A)) × Gets result had (W.contents out.new)
+        (notes_text before ++ of_frame form (refusal_text A refusal)) }
 {
-    if let Err(stop) = notes.print_noted(out) {
-        return Err(stop);
+    match printed {
+        Ok(()) => {}
+        Err(stop) => return Err(stop),
     }
-    match print_refused::<T::Heap, W>(out, form, refusal) {
+    match print_refused::<A, W>(out, form, refusal) {
         Ok(()) => Ok(Err(refusal)),
         Err(_refused) => Err(Stop::OutputRefused),
     }
 }
 
-/// Prints what was noted before a run came to its end. Gives why it ends.
-fn note_end<T: Tables, W: Write>(notes: &mut Notes<T>, stop: Stop, out: &mut W) -> Stop
-    ensures printed { (before : List (Note T.Heap)) × GetsAt result (W.contents out.old) (W.contents out.new)
-        (notes_text before) }
-    ensures own { (result ≡ stop) ⊎ IsUnprinted result }
+/// Why a run ends behind what was noted.
+fn end_behind(printed: Result<(), Stop>, stop: Stop) -> Stop
+    ensures ok { OnOk printed (result ≡ stop) }
+    ensures err { IfErr printed (λ unprinted. result ≡ unprinted) }
 {
-    match notes.print_noted(out) {
+    match printed {
         Ok(()) => stop,
         Err(unprinted) => unprinted,
     }
@@ -160,11 +185,12 @@ pub(crate) fn send<T: Tables, D: Device, W: Write>(
     if out.flush().is_err() {
         return Err(Stop::OutputRefused);
     }
-    match driver.send(device, notes, pick) {
-        Ok(frame) => note_request(driver, notes, form, &frame, out),
+    let (sent, printed) = send_printing(driver, device, notes, pick, out);
+    match sent {
+        Ok(frame) => note_request(driver, notes, form, &frame, printed, out),
         Err(not_sent) => match not_sent {
-            NotSent::Refused(refusal) => note_refusal(notes, form, refusal, out),
-            NotSent::Ended(end) => Err(note_end(notes, stop_at(end), out)),
+            NotSent::Refused(refusal) => note_refusal::<T::Heap, W>(form, refusal, printed, out),
+            NotSent::Ended(end) => Err(end_behind(printed, stop_at(end))),
         },
     }
 }
@@ -177,21 +203,43 @@ fn ended_by<A: Allocator>(written: &Written<A>) -> Option<u64> {
     }
 }
 
-/// Prints what was noted, a frame that was written to the kernel, and what is to be said of it.
+/// Writes the next frame of the server to the kernel. What is noted of frames meanwhile is printed as it comes: the second
+/// part says whether it could be.
+fn receive_printing<T: Tables, D: Device, W: Write>(
+    driver: &mut Driver<T>,
+    device: &mut D,
+    notes: &mut Notes<T>,
+    out: &mut W,
+) -> (
+    Result<Result<Written<T::Heap>, Refusal>, DriveEnd>,
+    Result<(), Stop>,
+)
+    ensures moves { (log : List Transfer) × D.logs device.old device.new log
+        × Moves {A = T.Heap} (at driver.old idle) (writes result.0) log (at driver.new idle) }
+    ensures printed { HasPrinted T.Heap result.1 (W.contents out.old) (W.contents out.new) }
+{
+    notes.printed = Ok(());
+    let received = driver.receive(device, notes, out);
+    (received, notes.printed)
+}
+
+/// Prints a frame that was written to the kernel, behind what was noted, and what is to be said of it.
 fn print_reply<T: Tables, W: Write>(
     notes: &mut Notes<T>,
     form: Form,
     written: &Written<T::Heap>,
+    printed: Result<(), Stop>,
     out: &mut W,
 ) -> Result<(), Stop>
-    ensures printed { (before after : List (Note T.Heap)) × (line : List ℕ) × IsWrittenLine form written.now line
-        × Gets result (W.contents out.old) (W.contents out.new) (notes_text before ++ (line ++ notes_text after)) }
-    ensures own { IfErr result IsUnprinted }
+    ensures { (had : OptionOf (List ℕ)) → HasPrinted T.Heap printed had (W.contents out.old) → IfErr result IsUnprinted
+        × (before after : List (Note T.Heap)) × (line : List ℕ) × IsWrittenLine form written.now line
+        × Gets result had (W.contents out.new) (notes_text before ++ (line ++ notes_text after)) }
 {
     let unique = shown_unique(written.frame.as_slice());
     let result = written.result;
-    if let Err(stop) = notes.print_noted(out) {
-        return Err(stop);
+    match printed {
+        Ok(()) => {}
+        Err(stop) => return Err(stop),
     }
     match print_frame::<T::Heap, W>(out, form, Outcome::Written { unique, result }) {
         Ok(()) => notes.note_written(written, out),
@@ -206,15 +254,17 @@ fn note_reply<T: Tables, W: Write>(
     notes: &mut Notes<T>,
     form: Form,
     written: &Written<T::Heap>,
+    printed: Result<(), Stop>,
     out: &mut W,
 ) -> Result<Moved, Stop>
-    ensures some { IfSome written.now.end (λ end. (driver.new ≡ driver.old)
-        × EndsBehind form written.now end (W.contents out.old) (W.contents out.new) result) }
-    ensures none { IfNone written.now.end ((before : List (Note T.Heap)) × (line : List ℕ) × IsWrittenLine form written.now line
-        × Collects T.Heap form (notes_text before ++ line) (W.contents out.old) (W.contents out.new) driver.old driver.new
-        result) }
+    ensures some { (had : OptionOf (List ℕ)) → HasPrinted T.Heap printed had (W.contents out.old)
+        → IfSome written.now.end (λ end. (driver.new ≡ driver.old)
+        × EndsBehind form written.now end had (W.contents out.new) result) }
+    ensures none { (had : OptionOf (List ℕ)) → HasPrinted T.Heap printed had (W.contents out.old)
+        → IfNone written.now.end ((before : List (Note T.Heap)) × (line : List ℕ) × IsWrittenLine form written.now line
+        × Collects T.Heap form (notes_text before ++ line) had (W.contents out.new) driver.old driver.new result) }
 {
-    if let Err(stop) = print_reply(notes, form, written, out) {
+    if let Err(stop) = print_reply(notes, form, written, printed, out) {
         return Err(stop);
     }
     if let Some(end) = written.end {
@@ -240,10 +290,11 @@ pub(crate) fn receive<T: Tables, D: Device, W: Write>(
     if out.flush().is_err() {
         return Err(Stop::OutputRefused);
     }
-    match driver.receive(device, notes) {
-        Ok(Ok(written)) => note_reply(driver, notes, form, &written, out),
-        Ok(Err(refusal)) => note_refusal(notes, form, refusal, out),
-        Err(end) => Err(note_end(notes, stop_at(end), out)),
+    let (received, printed) = receive_printing(driver, device, notes, out);
+    match received {
+        Ok(Ok(written)) => note_reply(driver, notes, form, &written, printed, out),
+        Ok(Err(refusal)) => note_refusal::<T::Heap, W>(form, refusal, printed, out),
+        Err(end) => Err(end_behind(printed, stop_at(end))),
     }
 }
 

@@ -5,13 +5,14 @@ ghost use Rattle.fk_syscalls.specs.declared.call.Answer.{Answer as GivenAnswer};
 ghost use Rattle.fw_script.specs.Records.{answer_text};
 ghost use Rattle.fw_drive.specs.Notes.{Note, notes_text};
 ghost use Rattle.fw_drive.specs.Printed.{Gets, outcome_text};
+ghost use Rattle.fw_drive.specs.Printing.{HasPrinted, PrintsOn};
 ghost use Rattle.fw_drive.specs.Runs.{IsUnprinted};
 
 use crate::beside::Beside;
 use crate::fault::Fault;
 use crate::form::Form;
 use crate::printing::{print_fault, print_notification, print_outcome, print_raised};
-use crate::stop::Stop;
+use crate::stop::{Stop, flush};
 use crate::watch::Watch;
 use fk_drive::{Noted, Notes as FrameNotes, OtherFrame, Written};
 use fuse_frames::RequestFrame;
@@ -21,16 +22,13 @@ use fw_world::{Answer, Event, Outcome, Record, Refusal, Tables};
 use std::alloc::AllocError;
 use std::io::Write;
 
-/// What is kept beside a driven kernel: what its server is known by, the world beside it, and what was noted of frames
-/// and is not yet printed.
+/// What is kept beside a driven kernel: what its server is known by, and the world beside it.
 #[derive(Drop)]
 pub(crate) struct Notes<T: Tables> {
-    alloc: T::Heap,
     watch: Watch<T::Heap>,
     beside: Option<Beside<T>>,
-    noted: Vec<Noted, T::Heap>,
-    /// Whether memory was out for what was noted.
-    is_lacking: bool,
+    /// Whether what was noted of frames is printed, or why it is not.
+    pub(crate) printed: Result<(), Stop>,
 }
 
 /// The minor that an agreement says, at byte 20 of its frame (`struct fuse_init_out`).
@@ -55,25 +53,20 @@ impl<T: Tables> Notes<T> {
             Form::Events | Form::Calls => None,
         };
         Ok(Notes {
-            alloc,
             watch: Watch::new(alloc),
             beside,
-            noted: Vec::new(alloc),
-            is_lacking: false,
+            printed: Ok(()),
         })
     }
 
     /// Ends the world beside, if there is one.
     pub(crate) fn end(self) {
         let Notes {
-            alloc: _,
             watch,
             beside,
-            noted,
-            is_lacking: _,
+            printed: _,
         } = self;
         drop(watch);
-        drop(noted);
         if let Some(beside) = beside {
             beside.end();
         }
@@ -246,43 +239,12 @@ impl<T: Tables> Notes<T> {
         }
     }
 
-    /// Prints these, one after another.
-    fn print_each<W: Write>(&mut self, noted: &[Noted], out: &mut W) -> Result<(), Stop>
-        ensures printed { (said : List (Note T.Heap)) × Gets result (W.contents out.old) (W.contents out.new) (notes_text said) }
-        ensures own { IfErr result IsUnprinted }
+    /// Prints a notification, or what the server did wrong at OPENDIR or RELEASEDIR, and hands it on.
+    fn print_noted<W: Write>(&mut self, noted: Noted, out: &mut W) -> Result<(), Stop>
+        ensures { HasPrinted T.Heap result (W.contents out.old) (W.contents out.new) }
     {
-        for one in noted {
-            match self.print_one(*one, out) {
-                Ok(()) => {}
-                Err(stop) => return Err(stop),
-            }
-        }
-        Ok(())
-    }
-
-    /// Whether memory was there for all that was noted.
-    fn all_noted(&self) -> Result<(), Stop>
-        ensures own { IfErr result IsUnprinted }
-    {
-        if self.is_lacking {
-            Err(Stop::NoMemory)
-        } else {
-            Ok(())
-        }
-    }
-
-    /// Prints all that was noted of frames as they came, and forgets it.
-    ///
-    /// # Errors
-    ///
-    /// The output refused, or out of memory.
-    pub(crate) fn print_noted<W: Write>(&mut self, out: &mut W) -> Result<(), Stop>
-        ensures printed { (said : List (Note T.Heap)) × Gets result (W.contents out.old) (W.contents out.new) (notes_text said) }
-        ensures own { IfErr result IsUnprinted }
-    {
-        let noted = std::mem::replace(&mut self.noted, Vec::new(self.alloc));
-        match self.print_each(noted.as_slice(), out) {
-            Ok(()) => self.all_noted(),
+        match self.print_one(noted, out) {
+            Ok(()) => flush(out),
             Err(stop) => Err(stop),
         }
     }
@@ -299,13 +261,21 @@ impl<T: Tables> Notes<T> {
     }
 }
 
-impl<T: Tables> FrameNotes for Notes<T> {
-    // Which frames are noted is tested alone.
-    ghost notes = { λ old new noted. Unit {0} };
+impl<T: Tables, W: Write> FrameNotes<W> for Notes<T> {
+    ghost use Rattle.fw_drive.specs.PrintingLaws.{prints_nothing, prints_then};
 
-    fn note(&mut self, noted: Noted) {
-        if self.noted.push(noted).is_err() {
-            self.is_lacking = true;
+    // They are printed as they come, until that fails. Which notes are printed of a frame is tested alone.
+    ghost notes = { λ old new had has noted. PrintsOn T.Heap old.printed new.printed (W.contents had) (W.contents has) };
+
+    fn note(&mut self, noted: Noted, out: &mut W) {
+        match self.printed {
+            Ok(()) => self.printed = self.print_noted(noted, out),
+            Err(_stop) => {}
         }
     }
+
+    ghost stays = { λ n o. prints_nothing T.Heap n.printed (W.contents o) };
+
+    ghost goes_on = { λ first mid last had got has h k one two. prints_then T.Heap first.printed mid.printed last.printed
+        (W.contents had) (W.contents got) (W.contents has) one two };
 }

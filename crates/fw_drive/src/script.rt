@@ -1,7 +1,6 @@
 //! The lines of a script, one after another.
 
 ghost use Rattle.std.specs.Prelude.{◌++◌, All, IfErr, List, codes};
-ghost use Rattle.std.specs.Io.KnownBytes.{Keeps as KeepsContents};
 ghost use Rattle.fw_script.specs.Records.{nodes_text};
 ghost use Rattle.fw_world.specs.Values.{counted_nodes};
 ghost use Rattle.fw_drive.specs.LineMoves.{FirstThen, IsCollected, IsMoveOf, LinesMoveAs, MayFollow, Perhaps, mount_lines};
@@ -17,7 +16,7 @@ use crate::form::Form;
 use crate::line::DriveLine;
 use crate::moves::{act, receive, send, show};
 use crate::notes::Notes;
-use crate::stop::Stop;
+use crate::stop::{Stop, flush};
 use fuse_device::Device;
 use fw_script::{is_hex_or_none, read_hex_or_none};
 use fw_world::{Call, Event, Tables};
@@ -144,17 +143,6 @@ fn do_line<T: Tables, D: Device, W: Write>(
     match run_carried(alloc, driver, device, notes, form, line, out) {
         Ok(()) => flush(out),
         Err(stop) => Err(stop),
-    }
-}
-
-/// Hands on what was printed.
-fn flush<W: Write>(out: &mut W) -> Result<(), Stop>
-    ensures keeps { KeepsContents (W.contents out.old) (W.contents out.new) }
-    ensures own { IfErr result IsUnprinted }
-{
-    match out.flush() {
-        Ok(()) => Ok(()),
-        Err(_refused) => Err(Stop::OutputRefused),
     }
 }
 

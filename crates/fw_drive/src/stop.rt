@@ -1,10 +1,10 @@
 //! Why a driven run ends before its script does.
 
-ghost use Rattle.std.specs.Prelude.{◌≡◌, ◌⊎◌, Err, OnErr, OnOk, codes};
-ghost use Rattle.std.specs.Io.KnownBytes.{Appends};
+ghost use Rattle.std.specs.Prelude.{◌≡◌, ◌⊎◌, Err, IfErr, OnErr, OnOk, codes};
+ghost use Rattle.std.specs.Io.KnownBytes.{Appends, Keeps as KeepsContents};
 ghost use Rattle.fw_script.specs.Outputs.{AppendsSome};
 ghost use Rattle.fw_drive.specs.Printed.{stop_line};
-ghost use Rattle.fw_drive.specs.Runs.{IsStatusOf, SaysStop, stop_of, stop_status};
+ghost use Rattle.fw_drive.specs.Runs.{IsStatusOf, IsUnprinted, SaysStop, stop_of, stop_status};
 
 use crate::printing::print_refusal;
 use fk_drive::DriveEnd;
@@ -106,5 +106,16 @@ impl Stop {
                 status => status,
             },
         }
+    }
+}
+
+/// Hands on what was printed.
+pub(crate) fn flush<W: Write>(out: &mut W) -> Result<(), Stop>
+    ensures keeps { KeepsContents (W.contents out.old) (W.contents out.new) }
+    ensures own { IfErr result IsUnprinted }
+{
+    match out.flush() {
+        Ok(()) => Ok(()),
+        Err(_refused) => Err(Stop::OutputRefused),
     }
 }

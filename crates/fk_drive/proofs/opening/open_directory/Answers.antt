@@ -1,4 +1,4 @@
-use Rattle.std.proofs.Common.{◌+◌, refl}
+use Rattle.std.proofs.Common.{[], ◌+◌, refl}
 use Rattle.fk_drive.specs.Driven.{driven, waiting_in}
 use Rattle.fk_drive.specs.Driving.{opening, opens, picked}
 use Rattle.fk_drive.specs.Openings.{AwaitsUntil, turn_where}
@@ -47,3 +47,6 @@ returns-in-Ok-clause-sends g c free_fields kernel request under lists =
       ),
     )
     (c.await_opendir.ensures.sends free_fields kernel request under)
+
+pub returns-in-Err-clause-noted : goal.returns-in-Err-clause-noted
+returns-in-Err-clause-noted g c = ([], g.met.N.Notes.stays c.args.notes.now c.args.out.now)

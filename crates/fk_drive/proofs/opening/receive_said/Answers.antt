@@ -9,6 +9,8 @@ use Rattle.fk_drive.specs.Steps.{SendStep}
 use Rattle.fk_drive.proofs.Drivings.{one_run}
 use Rattle.fk_drive.proofs.Ending.{no_room_ends, no_room_many, stopped_many}
 use Rattle.fk_drive.proofs.Keeping.{awaits_stopped, kept_sends}
+use Rattle.fk_drive.proofs.Noting.{noted_on}
+use Rattle.fk_drive.specs.declared.noted.Noted.TheVariants.{OpendirReply}
 use Rattle.fk_drive.proofs.opening.receive_said.Goals as goal
 
 pub returns-in-Err-clause-sends : goal.returns-in-Err-clause-sends
@@ -73,3 +75,18 @@ returns-in-None-clause-sends g c free_fields kernel request under =
           (kept_sends free_fields (driven kernel c.make_room_awaiting.new.self turn) (received frame ∷ []) after frame another
           (c.keep.ensures.keeps kernel turn))),
     )
+
+pub returns-in-Err-clause-noted : goal.returns-in-Err-clause-noted
+returns-in-Err-clause-noted g c = ([], g.met.N.Notes.stays c.args.notes.now c.args.out.now)
+
+pub returns-in-Err-receive_frame-clause-noted : goal.returns-in-Err-receive_frame-clause-noted
+returns-in-Err-receive_frame-clause-noted g c = ([], g.met.N.Notes.stays c.args.notes.now c.args.out.now)
+
+pub returns-in-Some-clause-noted : goal.returns-in-Some-clause-noted
+returns-in-Some-clause-noted g c = let (is_whole, noted, _, _) = c.note_reply.ensures in
+    (OpendirReply c.args.own is_whole ∷ [], noted)
+
+pub returns-in-None-clause-noted : goal.returns-in-None-clause-noted
+returns-in-None-clause-noted g c =
+    noted_on g.N.Notes.notes g.met.N.Notes.goes_on c.args.notes.now c.note_no_reply.new.notes c.keep.new.notes c.args.out.now c.note_no_reply.new.out c.keep.new.out
+    c.note_no_reply.ensures.noted c.keep.ensures.notes

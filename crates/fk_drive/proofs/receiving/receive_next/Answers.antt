@@ -11,8 +11,8 @@ use Rattle.fk_drive.proofs.Drivings.{one_run}
 use Rattle.fk_drive.proofs.Keeping.{kept_receives, receives_stopped}
 use Rattle.fk_drive.proofs.receiving.receive_next.Goals as goal
 
-pub returns-in_err-make_room : goal.returns-in_err-make_room
-returns-in_err-make_room g c kernel turn =
+pub returns-in_err-make_room-clause-receives : goal.returns-in_err-make_room-clause-receives
+returns-in_err-make_room-clause-receives g c kernel turn =
     let first = driven kernel c.args.connection.now turn in
     let room = driven kernel c.make_room.new.self turn in
     let same = c.make_room.ensures.same kernel turn in
@@ -25,8 +25,8 @@ returns-in_err-make_room g c kernel turn =
       subst (λ (s : Driven). Runs ReceiveStep first [] s) (sym same) nothing,
     )
 
-pub returns-in_err-frame : goal.returns-in_err-frame
-returns-in_err-frame g c kernel turn =
+pub returns-in_err-frame-clause-receives : goal.returns-in_err-frame-clause-receives
+returns-in_err-frame-clause-receives g c kernel turn =
     let room = driven kernel c.make_room.new.self turn in
     let same = c.make_room.ensures.same kernel turn in
     let none : room.waiting ≡ [] = subst (λ (s : Driven). s.waiting ≡ []) (sym same) c.requires in
@@ -39,8 +39,8 @@ returns-in_err-frame g c kernel turn =
       subst (λ (s : Driven). Runs ReceiveStep s log room) same runs,
     )
 
-pub returns : goal.returns
-returns g c kernel turn =
+pub returns-clause-receives : goal.returns-clause-receives
+returns-clause-receives g c kernel turn =
     let first = driven kernel c.args.connection.now turn in
     let room = driven kernel c.make_room.new.self turn in
     let same = c.make_room.ensures.same kernel turn in
@@ -54,3 +54,9 @@ returns g c kernel turn =
           (subst (λ (s : Driven). ReceiveStep s (received frame ∷ []) after) same
           (kept_receives room (received frame ∷ []) after frame none (c.keep.ensures.keeps kernel turn))),
     )
+
+pub returns-in_err-make_room-clause-noted : goal.returns-in_err-make_room-clause-noted
+returns-in_err-make_room-clause-noted g c = ([], g.met.N.Notes.stays c.args.notes.now c.args.out.now)
+
+pub returns-in_err-frame-clause-noted : goal.returns-in_err-frame-clause-noted
+returns-in_err-frame-clause-noted g c = ([], g.met.N.Notes.stays c.args.notes.now c.args.out.now)

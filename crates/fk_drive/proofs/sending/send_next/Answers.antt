@@ -24,7 +24,7 @@ returns-in-Err-clause-drives g c =
 pub returns-in-Ok-send_read-clause-sends : goal.returns-in-Ok-send_read-clause-sends
 returns-in-Ok-send_read-clause-sends g c =
     let (turn, (log, over, ends, runs)) =
-    c.in-Ok-send_read.ensures c.in-Ok.frame c.bytes.ensures (sym c.head-unique.ensures.unique) in (
+    c.in-Ok-send_read.ensures.sends c.in-Ok.frame c.bytes.ensures (sym c.head-unique.ensures.unique) in (
       turn,
       log,
       over,
@@ -45,7 +45,7 @@ returns-in-Ok-send_read-clause-drives g c =
 pub returns-in-Err-send_read-clause-sends : goal.returns-in-Err-send_read-clause-sends
 returns-in-Err-send_read-clause-sends g c =
     let (turn, (log, over, ends, runs)) =
-    c.in-Err-send_read.ensures c.in-Ok.frame c.bytes.ensures (sym c.head-unique.ensures.unique) in (
+    c.in-Err-send_read.ensures.sends c.in-Ok.frame c.bytes.ensures (sym c.head-unique.ensures.unique) in (
       turn,
       log,
       over,
@@ -63,3 +63,6 @@ returns-in-Err-send_read-clause-drives g c =
     over_sent g.D.Device.logs c.args.device.now c.send_read.new.device (Err (Ended c.in-Err-send_read.end)) c.args.pick
     c.args.free_fields (driven c.args.kernel.now c.args.connection.now idle) c.send_read.new.kernel
     c.send_read.new.connection refl (returns-in-Err-send_read-clause-sends g c)
+
+pub returns-in-Err-clause-noted : goal.returns-in-Err-clause-noted
+returns-in-Err-clause-noted g c = ([], g.met.N.Notes.stays c.args.notes.now c.args.out.now)

@@ -14,13 +14,13 @@ use Rattle.fk_drive.proofs.Requests.{says_of, sent_for}
 use Rattle.fk_drive.proofs.Sent.{answered, sends_then, unsaid_until}
 use Rattle.fk_drive.proofs.sending.send_opened.Goals as goal
 
-pub returns-in-NotYet : goal.returns-in-NotYet
-returns-in-NotYet g c request is under lists =
+pub returns-in-NotYet-clause-sends : goal.returns-in-NotYet-clause-sends
+returns-in-NotYet-clause-sends g c request is under lists =
     let (log, over, ends, runs) = c.in-NotYet.ensures.sends c.args.free_fields c.args.kernel.now request under lists in
     (opening request c.args.connection.now.next c.args.listing.node, (log, over, (ends, tt), runs))
 
-pub returns-in-Ended : goal.returns-in-Ended
-returns-in-Ended g c request is under lists =
+pub returns-in-Ended-clause-sends : goal.returns-in-Ended-clause-sends
+returns-in-Ended-clause-sends g c request is under lists =
     let (log, over, ends, runs) = c.in-Ended.ensures.sends c.args.free_fields c.args.kernel.now request under lists in
     let turn = opening request c.args.connection.now.next c.args.listing.node in (
       turn,
@@ -33,8 +33,8 @@ returns-in-Ended g c request is under lists =
       ),
     )
 
-pub returns-in-Handle : goal.returns-in-Handle
-returns-in-Handle g c request is under lists =
+pub returns-in-Handle-clause-sends : goal.returns-in-Handle-clause-sends
+returns-in-Handle-clause-sends g c request is under lists =
     let (log, over, ends, sent) = c.send_listing.ensures in
     let kernel = c.args.kernel.now in
     let free_fields = c.args.free_fields in
@@ -53,8 +53,8 @@ returns-in-Handle g c request is under lists =
           ),
     )
 
-pub returns-in-NotKnown : goal.returns-in-NotKnown
-returns-in-NotKnown g c request is under lists =
+pub returns-in-NotKnown-clause-sends : goal.returns-in-NotKnown-clause-sends
+returns-in-NotKnown-clause-sends g c request is under lists =
     let (log, over, ends, sent) = c.send_same.ensures in
     let kernel = c.args.kernel.now in
     let free_fields = c.args.free_fields in
@@ -76,8 +76,8 @@ returns-in-NotKnown g c request is under lists =
           ),
     )
 
-pub returns-in-Failed : goal.returns-in-Failed
-returns-in-Failed g c request is under lists =
+pub returns-in-Failed-clause-sends : goal.returns-in-Failed-clause-sends
+returns-in-Failed-clause-sends g c request is under lists =
     let kernel = c.args.kernel.now in
     let free_fields = c.args.free_fields in
     let first = driven kernel c.args.connection.now (picked request) in

@@ -1,4 +1,4 @@
-use Rattle.std.proofs.Common.{refl}
+use Rattle.std.proofs.Common.{[], refl}
 use Rattle.fk_drive.specs.Driven.{driven}
 use Rattle.fk_drive.specs.Driving.{idle, picked, sends}
 use Rattle.fk_drive.specs.Steps.{SendStep}
@@ -7,14 +7,14 @@ use Rattle.fk_drive.proofs.Requests.{lists_of, not_listed, says_of, sent_for}
 use Rattle.fk_drive.proofs.Sent.{sent_until}
 use Rattle.fk_drive.proofs.sending.send_read.Goals as goal
 
-pub returns-in-Some : goal.returns-in-Some
-returns-in-Some g c request is under =
-    c.send_opened.ensures request is under
+pub returns-in-Some-clause-sends : goal.returns-in-Some-clause-sends
+returns-in-Some-clause-sends g c request is under =
+    c.send_opened.ensures.sends request is under
     (lists_of c.spelled_is_decoded.ensures c.args.frame.now c.in-Some.node c.in-Some.ensures.listed request
     (says_of c.written_is_spelled.ensures c.args.frame.now request is))
 
-pub returns-in-None : goal.returns-in-None
-returns-in-None g c request is under =
+pub returns-in-None-clause-sends : goal.returns-in-None-clause-sends
+returns-in-None-clause-sends g c request is under =
     let (log, over, ends, sent) = c.send_same.ensures in
     let spells = c.written_is_spelled.ensures in
     let frame = c.args.frame.now in
@@ -33,3 +33,6 @@ returns-in-None g c request is under =
         ),
       ),
     )
+
+pub returns-in-None-clause-noted : goal.returns-in-None-clause-noted
+returns-in-None-clause-noted g c = ([], g.met.N.Notes.stays c.args.notes.now c.args.out.now)

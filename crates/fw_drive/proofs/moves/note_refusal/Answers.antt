@@ -1,21 +1,36 @@
+use Rattle.std.proofs.Common.{◌++◌}
+use Rattle.fw_drive.specs.Notes.{notes_text}
 use Rattle.fw_drive.specs.Printed.{of_frame, refusal_text}
-use Rattle.fw_drive.proofs.Texts.{says_before, says_line, says_some}
+use Rattle.fw_drive.specs.declared.stop.Stop.TheVariants as stops
+use Rattle.fw_script.proofs.Writes.{Appends-append}
+use Rattle.fw_drive.proofs.Texts.{gets_more, gets_then_at}
 use Rattle.fw_drive.proofs.moves.note_refusal.Goals as goal
 
-pub returns-in-Err-clause-printed : goal.returns-in-Err-clause-printed
-returns-in-Err-clause-printed g c =
-    says_before _ c.in-Err.stop _ _ (of_frame c.args.form (refusal_text g.row.T-Heap.Denot c.args.refusal))
-    c.in-Err.ensures.own c.in-Err.ensures.printed
+pub returns-in-Err : goal.returns-in-Err
+returns-in-Err g c had (own, said, some) =
+    let line = of_frame c.args.form (refusal_text g.row.A.Denot c.args.refusal) in
+    let unprinted = rw c.in-Err.is at own in (
+      unprinted,
+      said,
+      gets_more c.in-Err.stop had (g.W.Write.contents c.args.out.now) (notes_text said) line unprinted
+          (rw c.in-Err.is at some),
+    )
 
-pub returns-in-Ok-clause-printed : goal.returns-in-Ok-clause-printed
-returns-in-Ok-clause-printed g c =
-    says_line g.row.T-Heap.Denot (g.W.Write.contents c.args.out.now) (g.W.Write.contents c.print_noted.new.out)
-    (g.W.Write.contents c.print_refused.new.out)
-    (of_frame c.args.form (refusal_text g.row.T-Heap.Denot c.args.refusal)) c.in_default.ensures.printed c.in-Ok.ensures.ok
+pub returns-in-Ok-print_refused : goal.returns-in-Ok-print_refused
+returns-in-Ok-print_refused g c had (own, said, all) =
+    let line = of_frame c.args.form (refusal_text g.row.A.Denot c.args.refusal) in (
+      tt,
+      said,
+      Appends-append had (g.W.Write.contents c.args.out.now) (g.W.Write.contents c.print_refused.new.out) (notes_text said)
+          line (rw c.in-Ok.is at all) c.in-Ok-print_refused.ensures.ok,
+    )
 
-pub returns-in-Err-print_refused-clause-printed : goal.returns-in-Err-print_refused-clause-printed
-returns-in-Err-print_refused-clause-printed g c =
-    says_some g.row.T-Heap.Denot (g.W.Write.contents c.args.out.now) (g.W.Write.contents c.print_noted.new.out)
-    (g.W.Write.contents c.print_refused.new.out)
-    (of_frame c.args.form (refusal_text g.row.T-Heap.Denot c.args.refusal)) c.in_default.ensures.printed
-    c.in-Err-print_refused.ensures.refused
+pub returns-in-Err-print_refused : goal.returns-in-Err-print_refused
+returns-in-Err-print_refused g c had (own, said, all) =
+    let line = of_frame c.args.form (refusal_text g.row.A.Denot c.args.refusal) in (
+      tt,
+      said,
+      gets_then_at stops.OutputRefused had (g.W.Write.contents c.args.out.now)
+          (g.W.Write.contents c.print_refused.new.out) (notes_text said) line (rw c.in-Ok.is at all)
+          c.in-Err-print_refused.ensures.refused,
+    )

@@ -8,41 +8,39 @@ use Rattle.fw_drive.proofs.Texts.{gets_all_at}
 use Rattle.fw_drive.proofs.moves.note_reply.Goals as goal
 
 pub returns-in-Err-clause-some : goal.returns-in-Err-clause-some
-returns-in-Err-clause-some g c =
-    let (before, after, line, is, some) = c.in-Err.ensures.printed in
+returns-in-Err-clause-some g c had noted =
+    let (own, before, after, line, is, some) = c.in-Err.ensures had noted in
     if_some c.args.written.now.end _
     (λ end. (
       refl,
-      ends_behind c.args.form c.args.written.now end _ _ c.in-Err.stop (inr c.in-Err.ensures.own) before after
+      ends_behind c.args.form c.args.written.now end _ _ c.in-Err.stop (inr own) before after
           line is some,
     ))
 
 pub returns-in-Err-clause-none : goal.returns-in-Err-clause-none
-returns-in-Err-clause-none g c =
-    let (before, after, line, is, some) = c.in-Err.ensures.printed in
+returns-in-Err-clause-none g c had noted =
+    let (own, before, after, line, is, some) = c.in-Err.ensures had noted in
     if_none c.args.written.now.end _ (
       before,
       line,
       is,
       said_alone c.args.form (notes_text before ++ line) _ _ c.args.driver.now c.in-Err.stop
-          c.in-Err.ensures.own after
-          (subst (λ (l : List ℕ). GetsAt c.in-Err.stop (g.W.Write.contents c.args.out.now)
+          own after
+          (subst (λ (l : List ℕ). GetsAt c.in-Err.stop had
           (g.W.Write.contents c.print_reply.new.out) l) (sym (append_assoc (notes_text before) line (notes_text after))) some),
     )
 
 pub returns-in-Some-clause-some : goal.returns-in-Some-clause-some
-returns-in-Some-clause-some g c =
-    let (before, after, line, is, all) = c.in_default.ensures.printed in
-    let had = g.W.Write.contents c.args.out.now in
+returns-in-Some-clause-some g c had noted =
+    let (own, before, after, line, is, all) = c.in_default.ensures had noted in
     let has = g.W.Write.contents c.print_reply.new.out in
     ends_some c.args.form c.args.written.now c.args.written.now.end c.in-Some.end had has c.args.driver.now _ c.in-Some.is
     (ends_behind c.args.form c.args.written.now c.in-Some.end had has c.stop_at.result (inl c.stop_at.ensures) before after
     line is (gets_all_at c.stop_at.result had has (notes_text before ++ (line ++ notes_text after)) all))
 
 pub returns-in-Ok-clause-none : goal.returns-in-Ok-clause-none
-returns-in-Ok-clause-none g c =
-    let (before, after, line, is, all) = c.in_default.ensures.printed in
-    let had = g.W.Write.contents c.args.out.now in
+returns-in-Ok-clause-none g c had noted =
+    let (own, before, after, line, is, all) = c.in_default.ensures had noted in
     let mid = g.W.Write.contents c.print_reply.new.out in
     let has = g.W.Write.contents c.collect_answers.new.out in
     if_none c.args.written.now.end _ (
@@ -57,9 +55,8 @@ returns-in-Ok-clause-none g c =
     )
 
 pub returns-in-Err-collect_answers-clause-none : goal.returns-in-Err-collect_answers-clause-none
-returns-in-Err-collect_answers-clause-none g c =
-    let (before, after, line, is, all) = c.in_default.ensures.printed in
-    let had = g.W.Write.contents c.args.out.now in
+returns-in-Err-collect_answers-clause-none g c had noted =
+    let (own, before, after, line, is, all) = c.in_default.ensures had noted in
     let mid = g.W.Write.contents c.print_reply.new.out in
     let has = g.W.Write.contents c.collect_answers.new.out in
     if_none c.args.written.now.end _ (

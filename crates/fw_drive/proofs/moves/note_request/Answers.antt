@@ -10,42 +10,36 @@ use Rattle.fw_drive.proofs.Texts.{gets_all_at, gets_more, gets_then_at}
 use Rattle.fw_drive.proofs.moves.note_request.Goals as goal
 
 pub returns-in-Err : goal.returns-in-Err
-returns-in-Err g c =
+returns-in-Err g c had (own, said, some) =
     let A = g.row.T-Heap.Denot in
     let line = of_frame c.args.form (outcome_text A (outcome.Read c.head-unique.result.0 c.head-unique.result.1 (length c.bytes-len.result.now))) in
-    let (said, some) = c.in-Err.ensures.printed in
-    let had = g.W.Write.contents c.args.out.now in
-    let has = g.W.Write.contents c.print_noted.new.out in (
+    let has = g.W.Write.contents c.args.out.now in (
       said,
       line,
       request_line A c.args.form c.args.frame.now c.bytes-len.result.now c.head-unique.result.0 c.head-unique.result.1 (length c.bytes-len.result.now)
           c.bytes-len.ensures c.head-unique.ensures.unique c.head-unique.ensures.opcode refl,
-      none_collected c.args.form (notes_text said ++ line) had has c.args.driver.now c.in-Err.stop c.in-Err.ensures.own
-          (gets_more c.in-Err.stop had has (notes_text said) line c.in-Err.ensures.own some),
+      none_collected c.args.form (notes_text said ++ line) had has c.args.driver.now c.in-Err.stop (rw c.in-Err.is at own)
+          (gets_more c.in-Err.stop had has (notes_text said) line (rw c.in-Err.is at own) (rw c.in-Err.is at some)),
     )
 
 pub returns-then-is_err : goal.returns-then-is_err
-returns-then-is_err g c =
+returns-then-is_err g c had (own, said, all) =
     let A = g.row.T-Heap.Denot in
     let line = of_frame c.args.form (outcome_text A (outcome.Read c.head-unique.result.0 c.head-unique.result.1 (length c.bytes-len.result.now))) in
-    let (said, all) = c.in_default.ensures.printed in
-    let had = g.W.Write.contents c.args.out.now in
-    let has = g.W.Write.contents c.print_noted.new.out in (
+    let has = g.W.Write.contents c.args.out.now in (
       said,
       line,
       request_line A c.args.form c.args.frame.now c.bytes-len.result.now c.head-unique.result.0 c.head-unique.result.1 (length c.bytes-len.result.now)
           c.bytes-len.ensures c.head-unique.ensures.unique c.head-unique.ensures.opcode refl,
       none_collected c.args.form (notes_text said ++ line) had has c.args.driver.now stops.NoMemory tt
-          (gets_more stops.NoMemory had has (notes_text said) line tt (gets_all_at stops.NoMemory had has (notes_text said) all)),
+          (gets_more stops.NoMemory had has (notes_text said) line tt (gets_all_at stops.NoMemory had has (notes_text said) (rw c.in-Ok.is at all))),
     )
 
 pub returns-in-Ok-collect_answers : goal.returns-in-Ok-collect_answers
-returns-in-Ok-collect_answers g c =
+returns-in-Ok-collect_answers g c had (own, said, all) =
     let A = g.row.T-Heap.Denot in
     let line = of_frame c.args.form (outcome_text A (outcome.Read c.head-unique.result.0 c.head-unique.result.1 (length c.bytes-len.result.now))) in
-    let (said, all) = c.in_default.ensures.printed in
-    let had = g.W.Write.contents c.args.out.now in
-    let noted = g.W.Write.contents c.print_noted.new.out in
+    let noted = g.W.Write.contents c.args.out.now in
     let mid = g.W.Write.contents c.print_frame.new.out in (
       said,
       line,
@@ -53,17 +47,15 @@ returns-in-Ok-collect_answers g c =
           c.bytes-len.ensures c.head-unique.ensures.unique c.head-unique.ensures.opcode refl,
       collects_given c.args.form (notes_text said ++ line) had mid (g.W.Write.contents c.collect_answers.new.out)
           c.args.driver.now c.collect_answers.new.driver _ _
-          (Appends-append had noted mid (notes_text said) line all c.in-Ok.ensures.ok)
+          (Appends-append had noted mid (notes_text said) line (rw c.in-Ok.is at all) c.in-Ok-print_frame.ensures.ok)
           (c.in-Ok-collect_answers.ensures c.args.form),
     )
 
 pub returns-in-Err-collect_answers : goal.returns-in-Err-collect_answers
-returns-in-Err-collect_answers g c =
+returns-in-Err-collect_answers g c had (own, said, all) =
     let A = g.row.T-Heap.Denot in
     let line = of_frame c.args.form (outcome_text A (outcome.Read c.head-unique.result.0 c.head-unique.result.1 (length c.bytes-len.result.now))) in
-    let (said, all) = c.in_default.ensures.printed in
-    let had = g.W.Write.contents c.args.out.now in
-    let noted = g.W.Write.contents c.print_noted.new.out in
+    let noted = g.W.Write.contents c.args.out.now in
     let mid = g.W.Write.contents c.print_frame.new.out in (
       said,
       line,
@@ -71,22 +63,20 @@ returns-in-Err-collect_answers g c =
           c.bytes-len.ensures c.head-unique.ensures.unique c.head-unique.ensures.opcode refl,
       collects_failed c.args.form (notes_text said ++ line) had mid (g.W.Write.contents c.collect_answers.new.out)
           c.args.driver.now c.collect_answers.new.driver c.in-Err-collect_answers.stop
-          (Appends-append had noted mid (notes_text said) line all c.in-Ok.ensures.ok)
+          (Appends-append had noted mid (notes_text said) line (rw c.in-Ok.is at all) c.in-Ok-print_frame.ensures.ok)
           (c.in-Err-collect_answers.ensures c.args.form),
     )
 
 pub returns-in-Err-print_frame : goal.returns-in-Err-print_frame
-returns-in-Err-print_frame g c =
+returns-in-Err-print_frame g c had (own, said, all) =
     let A = g.row.T-Heap.Denot in
     let line = of_frame c.args.form (outcome_text A (outcome.Read c.head-unique.result.0 c.head-unique.result.1 (length c.bytes-len.result.now))) in
-    let (said, all) = c.in_default.ensures.printed in
-    let had = g.W.Write.contents c.args.out.now in
-    let noted = g.W.Write.contents c.print_noted.new.out in
+    let noted = g.W.Write.contents c.args.out.now in
     let has = g.W.Write.contents c.print_frame.new.out in (
       said,
       line,
       request_line A c.args.form c.args.frame.now c.bytes-len.result.now c.head-unique.result.0 c.head-unique.result.1 (length c.bytes-len.result.now)
           c.bytes-len.ensures c.head-unique.ensures.unique c.head-unique.ensures.opcode refl,
       none_collected c.args.form (notes_text said ++ line) had has c.args.driver.now stops.OutputRefused tt
-          (gets_then_at stops.OutputRefused had noted has (notes_text said) line all c.in-Err-print_frame.ensures.refused),
+          (gets_then_at stops.OutputRefused had noted has (notes_text said) line (rw c.in-Ok.is at all) c.in-Err-print_frame.ensures.refused),
     )

@@ -3,7 +3,7 @@ use Rattle.std.specs.Prelude.{Err}
 use Rattle.fk_drive.specs.declared.end.NotSent.{NotSent}
 use Rattle.fw_drive.specs.declared.stop.Stop.TheVariants as stops
 use Rattle.fw_drive.proofs.Following.{kept_before, unprinted}
-use Rattle.fw_drive.proofs.OneMove.{ends_so, request_collects, request_ended, request_refused}
+use Rattle.fw_drive.proofs.OneMove.{ends_behind_notes, request_collects, request_ended, request_refused}
 use Rattle.fw_drive.proofs.moves.send.Goals as goal
 
 pub returns-then-is_err : goal.returns-then-is_err
@@ -14,37 +14,39 @@ returns-then-is_err g c =
 
 pub returns-in-Ok : goal.returns-in-Ok
 returns-in-Ok g c =
-    let (before, line, says, more) = c.note_request.ensures in
+    let (before, line, says, more) = c.note_request.ensures (g.W.Write.contents c.flush.new.self) c.send_printing-sent.ensures.printed in
     let mid = g.W.Write.contents c.flush.new.self in
     let has = g.W.Write.contents c.note_request.new.out in
-    kept_before g.row.T-Heap.Denot g.D.Device.logs c.args.form c.args.device.now c.send.new.device
+    kept_before g.row.T-Heap.Denot g.D.Device.logs c.args.form c.args.device.now c.send_printing-sent.new.device
     (g.W.Write.contents c.args.out.now) mid has c.args.driver.now c.note_request.new.driver c.note_request.result _
     c.flush.ensures.bytes
-    (request_collects g.row.T-Heap.Denot g.D.Device.logs c.args.form c.args.device.now c.send.new.device c.args.pick mid has
-    c.args.driver.now c.send.new.self c.note_request.new.driver c.send.result c.in-Ok.frame c.in-Ok.is c.send.ensures
+    (request_collects g.row.T-Heap.Denot g.D.Device.logs c.args.form c.args.device.now c.send_printing-sent.new.device c.args.pick mid has
+    c.args.driver.now c.send_printing-sent.new.driver c.note_request.new.driver c.send_printing-sent.result.0 c.in-Ok.frame c.in-Ok.is c.send_printing-sent.ensures.moves
     c.note_request.result before line says more)
 
 pub returns-in-Refused : goal.returns-in-Refused
 returns-in-Refused g c =
-    let (before, printed) = c.note_refusal.ensures.printed in
+    let (own, before, printed) = c.note_refusal.ensures (g.W.Write.contents c.flush.new.self) c.send_printing-sent.ensures.printed in
     let mid = g.W.Write.contents c.flush.new.self in
     let has = g.W.Write.contents c.note_refusal.new.out in
-    kept_before g.row.T-Heap.Denot g.D.Device.logs c.args.form c.args.device.now c.send.new.device
-    (g.W.Write.contents c.args.out.now) mid has c.args.driver.now c.send.new.self c.note_refusal.result _
+    kept_before g.row.T-Heap.Denot g.D.Device.logs c.args.form c.args.device.now c.send_printing-sent.new.device
+    (g.W.Write.contents c.args.out.now) mid has c.args.driver.now c.send_printing-sent.new.driver c.note_refusal.result _
     c.flush.ensures.bytes
-    (request_refused g.row.T-Heap.Denot g.D.Device.logs c.args.form c.args.device.now c.send.new.device c.args.pick mid has
-    c.args.driver.now c.send.new.self c.send.result c.in-Refused.refusal
-    (c.in-Err.is ∙ ap (λ (n : NotSent). Err n) c.in-Refused.is) c.send.ensures c.note_refusal.result
-    c.note_refusal.ensures.own before printed)
+    (request_refused g.row.T-Heap.Denot g.D.Device.logs c.args.form c.args.device.now c.send_printing-sent.new.device c.args.pick mid has
+    c.args.driver.now c.send_printing-sent.new.driver c.send_printing-sent.result.0 c.in-Refused.refusal
+    (c.in-Err.is ∙ ap (λ (n : NotSent). Err n) c.in-Refused.is) c.send_printing-sent.ensures.moves c.note_refusal.result
+    own before printed)
 
 pub returns-in-Ended : goal.returns-in-Ended
 returns-in-Ended g c =
-    let (before, printed) = c.note_end.ensures.printed in
+    let (why, before, printed) = ends_behind_notes c.send_printing-sent.result.1 c.end_behind.result c.stop_at.result c.in-Ended.end
+    (g.W.Write.contents c.flush.new.self) (g.W.Write.contents c.send_printing-sent.new.out) c.stop_at.ensures
+    c.end_behind.ensures.ok c.end_behind.ensures.err c.send_printing-sent.ensures.printed in
     let mid = g.W.Write.contents c.flush.new.self in
-    let has = g.W.Write.contents c.note_end.new.out in
-    kept_before g.row.T-Heap.Denot g.D.Device.logs c.args.form c.args.device.now c.send.new.device
-    (g.W.Write.contents c.args.out.now) mid has c.args.driver.now c.send.new.self _ _ c.flush.ensures.bytes
-    (request_ended g.row.T-Heap.Denot g.D.Device.logs c.args.form c.args.device.now c.send.new.device c.args.pick mid has
-    c.args.driver.now c.send.new.self c.send.result c.in-Ended.end
-    (c.in-Err.is ∙ ap (λ (n : NotSent). Err n) c.in-Ended.is) c.send.ensures c.note_end.result
-    (ends_so c.note_end.result c.stop_at.result c.in-Ended.end c.stop_at.ensures c.note_end.ensures.own) before printed)
+    let has = g.W.Write.contents c.send_printing-sent.new.out in
+    kept_before g.row.T-Heap.Denot g.D.Device.logs c.args.form c.args.device.now c.send_printing-sent.new.device
+    (g.W.Write.contents c.args.out.now) mid has c.args.driver.now c.send_printing-sent.new.driver _ _ c.flush.ensures.bytes
+    (request_ended g.row.T-Heap.Denot g.D.Device.logs c.args.form c.args.device.now c.send_printing-sent.new.device c.args.pick mid has
+    c.args.driver.now c.send_printing-sent.new.driver c.send_printing-sent.result.0 c.in-Ended.end
+    (c.in-Err.is ∙ ap (λ (n : NotSent). Err n) c.in-Ended.is) c.send_printing-sent.ensures.moves c.end_behind.result
+    why before printed)

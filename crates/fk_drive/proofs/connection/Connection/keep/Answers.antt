@@ -1,6 +1,7 @@
-use Rattle.std.proofs.Common.{List, ℕ, refl, subst}
+use Rattle.std.proofs.Common.{List, ℕ, [], ◌∷◌, refl, subst}
 use Rattle.fk_drive_frames.specs.Asides.{IsOtherFrame, SaysOtherFrame}
 use Rattle.fk_drive.specs.Driving.{sets_aside}
+use Rattle.fk_drive.specs.declared.noted.Noted.TheVariants.{SetAside}
 use Rattle.fk_drive.proofs.Changes.{step_waits}
 use Rattle.fk_drive.proofs.connection.Connection.keep.Goals as goal
 
@@ -30,5 +31,11 @@ pub returns-in-None-clause-noted : goal.returns-in-None-clause-noted
 returns-in-None-clause-noted g c =
     let none = subst (λ (l : List ℕ). IsOtherFrame c.args.self.now.next l → ⊥) c.as_slice.ensures.value c.in-None.ensures.none in record {
       aside = λ other. absurd (none other);
-      waits = λ no. refl;
+      waits = λ no. (refl {a = c.args.notes.now}, refl {a = c.args.out.now});
     }
+
+pub returns-in-Some-clause-notes : goal.returns-in-Some-clause-notes
+returns-in-Some-clause-notes g c = (SetAside c.in-Some.other_frame ∷ [], c.note.ensures)
+
+pub returns-in-None-clause-notes : goal.returns-in-None-clause-notes
+returns-in-None-clause-notes g c = ([], g.met.N.Notes.stays c.args.notes.now c.args.out.now)

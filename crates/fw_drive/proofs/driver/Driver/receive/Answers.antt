@@ -1,5 +1,5 @@
 use Rattle.fk_drive.specs.Driving.{idle}
 use Rattle.fw_drive.proofs.driver.Driver.receive.Goals as goal
 
-pub returns : goal.returns
-returns g c = rw (← c.self.view_is) (c.write_next.ensures.writes idle)
+pub returns-clause-moves : goal.returns-clause-moves
+returns-clause-moves g c = rw (← c.self.view_is) (c.write_next.ensures.writes idle)
