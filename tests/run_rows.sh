@@ -94,6 +94,7 @@ END
 # The script on standard input.
 cp tests/rows/stat-of-root.script "$work/in"
 expect script-on-standard-input 0 "$(cat tests/rows/stat-of-root.expected)$newline" ""
+expect script-on-standard-input-by-a-dash 0 "$(cat tests/rows/stat-of-root.expected)$newline" "" run -
 expect_full output-refused 5 ""
 
 # One frame: a LOOKUP of `a` in node 1, and frames that are nearly one.

@@ -57,7 +57,11 @@ fn run_command<'a>(alloc: Global) -> Result<Command<'a>, AllocError>
         "hex",
         "Print each frame that is put, as a line of hex",
     );
-    let file = needed(alloc, "FILE", "The script: one event a line");
+    let file = needed(
+        alloc,
+        "FILE",
+        "The script: one event a line, or - for standard input",
+    );
     Command::new(alloc, "run")
         .about("Run a script of events and print what each comes to")
         .arg(hex)?
@@ -67,7 +71,11 @@ fn run_command<'a>(alloc: Global) -> Result<Command<'a>, AllocError>
 fn socket_command<'a>(alloc: Global) -> Result<Command<'a>, AllocError>
     ensures { IfOk result (IsCommand socket_app) }
 {
-    let file = needed(alloc, "FILE", "The script: one event a line");
+    let file = needed(
+        alloc,
+        "FILE",
+        "The script: one event a line, or - for standard input",
+    );
     let path = needed(
         alloc,
         "SOCK",

@@ -36,7 +36,7 @@ use serve::run_serve;
 use sides::run_side;
 use socket::run_socket;
 use std::fs::File;
-use std::io::{BufWriter, ErrorKind, Write};
+use std::io::{BufWriter, ErrorKind, Read, Write};
 use std::process::ExitCode;
 use version::{is_version, print_version};
 
@@ -51,37 +51,46 @@ fn run_file(rt: &HostRuntime, file: Option<&str>, hex: bool) -> u8
     }
 }
 
-/// Runs the script on standard input, or in a file, prints to a writer, and gives the exit status.
+/// Runs the script in a file, or on standard input where there is none or it is `-`, prints to a writer, and gives the
+/// exit status.
 fn run_input<W: Write>(rt: &HostRuntime, file: Option<&str>, hex: bool, out: &mut W) -> u8
     ensures { Contains (0 ∷ 1 ∷ 3 ∷ 5 ∷ []) result }
 {
     let alloc = rt.alloc();
     let mut faults = rt.stderr();
-    let Some(path) = file else {
-        let task = InputTask::Script { name: "-", hex };
+    let name = file.unwrap_or("-");
+    let task = InputTask::Script { name, hex };
+    if name == "-" {
         return do_task(alloc, task, &mut rt.reader(), out, &mut faults);
-    };
-    let task = InputTask::Script { name: path, hex };
-    match File::open(rt, path) {
+    }
+    match File::open(rt, name) {
         Ok(mut input) => do_task(alloc, task, &mut input, out, &mut faults),
         Err(error) if error.kind() == ErrorKind::OutOfMemory => no_memory(&mut faults),
-        Err(_) => cannot_read(path, &mut faults),
+        Err(_) => cannot_read(name, &mut faults),
     }
 }
 
-/// Runs the script in a file over a socket at a path, and gives the exit status.
+/// Reads a script, runs it over a socket at a path, and gives the exit status.
+fn run_read_script<R: Read>(rt: &HostRuntime, name: &str, input: &mut R, path: &str) -> u8
+    ensures { Contains (0 ∷ 1 ∷ 3 ∷ 4 ∷ 5 ∷ []) result }
+{
+    match Script::read(rt.alloc(), name, input, &mut rt.stderr()) {
+        Ok(script) => run_socket(rt, &script, path),
+        Err(status) => status,
+    }
+}
+
+/// Runs the script in a file, or on standard input where that is `-`, over a socket at a path, and gives the exit status.
 fn run_over_socket(rt: &HostRuntime, file: &str, path: &str) -> u8
     ensures { Contains (0 ∷ 1 ∷ 3 ∷ 4 ∷ 5 ∷ []) result }
 {
-    let mut faults = rt.stderr();
-    let mut input = match File::open(rt, file) {
-        Ok(input) => input,
-        Err(error) if error.kind() == ErrorKind::OutOfMemory => return no_memory(&mut faults),
-        Err(_) => return cannot_read(file, &mut faults),
-    };
-    match Script::read(rt.alloc(), file, &mut input, &mut faults) {
-        Ok(script) => run_socket(rt, &script, path),
-        Err(status) => status,
+    if file == "-" {
+        return run_read_script(rt, file, &mut rt.reader(), path);
+    }
+    match File::open(rt, file) {
+        Ok(mut input) => run_read_script(rt, file, &mut input, path),
+        Err(error) if error.kind() == ErrorKind::OutOfMemory => no_memory(&mut rt.stderr()),
+        Err(_) => cannot_read(file, &mut rt.stderr()),
     }
 }
 
