@@ -9,7 +9,7 @@ use clap::error::ErrorKind;
 use std::io::Write;
 
 /// The version, and the logic in which it is proved, as `rt version` prints it. Several toolchains have that logic.
-pub const VERSION: &str = "1.0.0 (logic dac8208d650f15bf)";
+pub const VERSION: &str = "1.1.0 (logic dac8208d650f15bf)";
 
 /// Whether the command line asks for the version.
 pub fn is_version(error: &Error) -> bool
