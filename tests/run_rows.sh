@@ -97,6 +97,15 @@ expect script-on-standard-input 0 "$(cat tests/rows/stat-of-root.expected)$newli
 expect script-on-standard-input-by-a-dash 0 "$(cat tests/rows/stat-of-root.expected)$newline" "" run -
 expect_full output-refused 5 ""
 
+# A script that somebody types, and ends at once.
+: > "$work/want-out"
+echo "fuseworld reads a script from here, one event a line; fuseworld --help lists its commands" > "$work/want-err"
+python3 -c 'import os, pty, subprocess, sys
+writer, terminal = pty.openpty()
+os.write(writer, b"\x04")
+sys.exit(subprocess.run(sys.argv[1:], stdin=terminal, timeout=10).returncode)' "$program" > "$work/out" 2> "$work/err"
+judge script-on-a-terminal "$?" 0
+
 # One frame: a LOOKUP of `a` in node 1, and frames that are nearly one.
 : > "$work/in"
 header=010000000400000000000000010000000000000000000000000000000000000000000000

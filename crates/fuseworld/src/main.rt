@@ -36,7 +36,7 @@ use serve::run_serve;
 use sides::run_side;
 use socket::run_socket;
 use std::fs::File;
-use std::io::{BufWriter, ErrorKind, Read, Write};
+use std::io::{BufWriter, ErrorKind, IsTerminal, Read, Write};
 use std::process::ExitCode;
 use version::{is_version, print_version};
 
@@ -94,12 +94,24 @@ fn run_over_socket(rt: &HostRuntime, file: &str, path: &str) -> u8
     }
 }
 
+/// Says on standard error that a script is read, where somebody types it.
+fn say_on_terminal(rt: &HostRuntime) {
+    if rt.stdin().is_terminal() {
+        let _ = eprintln!(rt;
+            "fuseworld reads a script from here, one event a line; fuseworld --help lists its commands"
+        );
+    }
+}
+
 /// Runs a task, and gives the exit status.
 fn run_task(rt: &HostRuntime, task: Task<'_>) -> u8
     ensures { EndsWith task.entry result }
 {
     match task {
-        Task::Input => run_file(rt, None, false),
+        Task::Input => {
+            say_on_terminal(rt);
+            run_file(rt, None, false)
+        }
         Task::Run { file, hex } => run_file(rt, Some(file), hex),
         Task::Socket { file, path } => run_over_socket(rt, file, path),
         Task::Draw { file } => run_draw(rt, file),
