@@ -43,7 +43,7 @@ node_of number = if nat_eq number 0 then None else Some number
 abbrev pub check_form_of : (json : Bool) → Option ℕ → Option CheckForm
 check_form_of true (Some node) = None
 check_form_of true None = Some check_form.Json
-check_form_of false node = Some check_form.Words
+check_form_of false asked = Some check_form.Words
 
 -- what is asked of it: one party alone or all, and not two alone
 abbrev pub options_in : (server kernel : Bool) → Option CheckForm → (asked : Option ℕ) → (strict : Bool) → Option CheckOptions
