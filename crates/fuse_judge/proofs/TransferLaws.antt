@@ -11,22 +11,21 @@ use Rattle.fuse_sessions.specs.Frames.{AreActs}
 use Rattle.fuse_sessions.specs.Waiting.{waits}
 use Rattle.fuse_sessions.proofs.FrameLaws.{acts_once, lead-more}
 use Rattle.fuse_judge.specs.Seen.{HasSeen}
-use Rattle.fuse_judge.specs.Transfers.{SessionState, HasSeenTransfers, AreFaults, IsJudged, IsAskedFor}
+use Rattle.fuse_judge.specs.Transfers.{SessionState, HasSeenFrom, AreFaults, IsJudged, IsAskedFor}
 use Rattle.session_frames.specs.Numbers.{IsReplyNumber}
 
-pub judged_once : (before : List Transfer) (s : Session) (j : SessionState) (t : Transfer) (acts others : List Act)
-    (next later : Known) → HasSeenTransfers before s j → AreActs j.known s t acts next → AreActs j.known s t others later
+pub judged_once : (s : Session) (j : SessionState) (t : Transfer) (acts others : List Act) (next later : Known) → AreActs j.known s t acts next → AreActs j.known s t others later
     → others ≡ acts
-judged_once before s j t acts others next later seen are them = acts_once j.known s t others acts later next them are
+judged_once s j t acts others next later are them = acts_once j.known s t others acts later next them are
 
 -- What has the acts of the next transfer, their verdicts and what is known behind it has judged it.
-pub is_judged : (before : List Transfer) (s : Session) (old new : SessionState) (t : Transfer) (acts : List Act)
-    (verdicts : List (Option Fault)) → HasSeenTransfers before s old → AreActs old.known s t acts new.known
+pub is_judged : (start : Known) (before : List Transfer) (s : Session) (old new : SessionState) (t : Transfer)
+    (acts : List Act) (verdicts : List (Option Fault)) → HasSeenFrom start before s old → AreActs old.known s t acts new.known
     → AreFaults s acts verdicts → length verdicts ≡ length acts → HasSeen (s ++ acts) new.judge
-    → IsJudged before s t old new acts verdicts
-is_judged before s old new t acts verdicts right are faults each seen = record {
+    → IsJudged start before s t old new acts verdicts
+is_judged start before s old new t acts verdicts right are faults each seen = record {
   are = are;
-  once = λ others later them. judged_once before s old t acts others new.known later right are them;
+  once = λ others later them. judged_once s old t acts others new.known later are them;
   faults = faults;
   each = each;
   seen = record { are = lead-more _ _ before _ s _ _ _ right.are are; seen = seen };

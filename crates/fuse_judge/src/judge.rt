@@ -70,13 +70,6 @@ impl<A: Allocator + Copy> Judge<A> {
     }
 
     /// The request that waits under a number: it was read, and no reply has ended it.
-    pub fn waiting(&self, unique: u64) -> Option<Asked>
-        ensures { (s : Session) → HasSeen s self.now → result ≡ waits s unique }
-    {
-        self.asked(unique).copied()
-    }
-
-    /// The same, where it stands.
     #[inline(always)]
     pub(crate) fn asked(&self, unique: u64) -> Option<&Asked>
         ensures { (s : Session) → HasSeen s self.now → option_copied result ≡ waits s unique }

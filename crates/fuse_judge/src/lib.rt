@@ -5,8 +5,6 @@
 mod change;
 mod concern;
 mod flags;
-#[cfg(test)]
-mod frame_tests;
 mod handle;
 mod judge;
 mod marks;
@@ -21,8 +19,6 @@ mod tables;
 mod tally;
 mod tally_list;
 mod tally_rows;
-#[cfg(test)]
-mod tests;
 mod unanswered;
 
 pub use judge::Judge;

@@ -2,11 +2,12 @@
 
 ghost use Rattle.std.specs.Prelude.{◌≡◌, [], List, OnErr, OnOk};
 ghost use Rattle.std.specs.Option.{option_copied};
+ghost use Rattle.fuse_sessions.specs.declared.known.Known.{Known};
 ghost use Rattle.fuse_sessions.specs.declared.transfer.Transfer.{Transfer};
 ghost use Rattle.fuse_sessions.specs.Sessions.{Session};
 ghost use Rattle.fuse_sessions.specs.Waiting.{waits};
 ghost use Rattle.fuse_judge.specs.Seen.{HasSeen};
-ghost use Rattle.fuse_judge.specs.Transfers.{HasSeenTransfers, IsAskedFor, IsJudged};
+ghost use Rattle.fuse_judge.specs.Transfers.{HasSeenFrom, HasSeenTransfers, IsAskedFor, IsJudged};
 
 use crate::judge::Judge;
 use fuse_protocol::{Agreed, BEFORE_INIT, Unjudged};
@@ -52,14 +53,24 @@ impl<A: Allocator + Copy> SessionJudge<A> {
     pub fn new(alloc: A) -> Self
         ensures { HasSeenTransfers [] [] result }
     {
-        SessionJudge {
-            judge: Judge::new(alloc),
-            known: Known {
+        SessionJudge::from_known(
+            alloc,
+            Known {
                 offered: None,
                 agreed: BEFORE_INIT,
                 has_resent: false,
                 unjudged: None,
             },
+        )
+    }
+
+    /// A judge that has seen nothing yet of a session of which this is known.
+    pub fn from_known(alloc: A, known: Known) -> Self
+        ensures { HasSeenFrom known [] [] result }
+    {
+        SessionJudge {
+            judge: Judge::new(alloc),
+            known,
         }
     }
 
@@ -79,9 +90,10 @@ impl<A: Allocator + Copy> SessionJudge<A> {
 
     /// The request that waits under a number: it was read, and no reply has ended it.
     pub fn waiting(&self, unique: u64) -> Option<Asked>
-        ensures { (before : List Transfer) (s : Session) → HasSeenTransfers before s self.now → result ≡ waits s unique }
+        ensures { (start : Known) (before : List Transfer) (s : Session) → HasSeenFrom start before s self.now
+            → result ≡ waits s unique }
     {
-        self.judge.waiting(unique)
+        self.judge.asked(unique).copied()
     }
 
     /// Sees the next transfer, writes its acts, and a verdict on each: the act's fault, or `None`. What the vectors had
@@ -96,10 +108,10 @@ impl<A: Allocator + Copy> SessionJudge<A> {
         acts: &mut Vec<Act, A>,
         verdicts: &mut Vec<Option<Fault>, A>,
     ) -> Result<(), AllocError>
-        ensures judged { OnOk result ((before : List Transfer) (s : Session) → HasSeenTransfers before s self.old
-            → IsJudged before s transfer.entry self.old self.new acts.new.items verdicts.new.items) }
-        ensures refused { OnErr result ((before : List Transfer) (s : Session) → HasSeenTransfers before s self.old
-            → HasSeenTransfers before s self.new) }
+        ensures judged { OnOk result ((start : Known) (before : List Transfer) (s : Session)
+            → HasSeenFrom start before s self.old → IsJudged start before s transfer.entry self.old self.new acts.new.items verdicts.new.items) }
+        ensures refused { OnErr result ((start : Known) (before : List Transfer) (s : Session)
+            → HasSeenFrom start before s self.old → HasSeenFrom start before s self.new) }
     {
         let asked = asked_for(&self.judge, transfer);
         let learnt = write_transfer(acts, &self.known, asked, transfer)?;

@@ -3,12 +3,13 @@
 ghost use Rattle.std.specs.Prelude.{◌≡◌, ◌≤◌, ℕ, List, filter, length, nat_eq};
 ghost use Rattle.fuse_spec.specs.Values.Maps.{get};
 ghost use Rattle.fuse_sessions.specs.declared.act.Asked.{Asked};
+ghost use Rattle.fuse_sessions.specs.declared.known.Known.{Known};
 ghost use Rattle.fuse_sessions.specs.declared.transfer.Transfer.{Transfer};
 ghost use Rattle.fuse_sessions.specs.Sessions.{Session};
 ghost use Rattle.fuse_sessions.specs.Waiting.{waiting};
 ghost use Rattle.fuse_judge.specs.Pending.{entry_of};
 ghost use Rattle.fuse_judge.specs.Seen.{HasSeen};
-ghost use Rattle.fuse_judge.specs.Transfers.{HasSeenTransfers};
+ghost use Rattle.fuse_judge.specs.Transfers.{HasSeenFrom};
 
 use crate::judge::Judge;
 use crate::pending::Waiting;
@@ -44,7 +45,7 @@ impl<A: Allocator + Copy> Judge<A> {
 impl<A: Allocator + Copy> SessionJudge<A> {
     /// How many requests wait: they were read, and no reply has ended them. Nothing changes.
     pub fn unanswered(&mut self) -> u64
-        ensures count { (before : List Transfer) (s : Session) → HasSeenTransfers before s self.old
+        ensures count { (start : Known) (before : List Transfer) (s : Session) → HasSeenFrom start before s self.old
             → result ≡ length (waiting s) }
         ensures same { self.new ≡ self.old }
     {

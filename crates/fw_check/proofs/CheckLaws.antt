@@ -1,15 +1,17 @@
 -- A check, line by line.
-use Rattle.std.proofs.Common.{◌≡◌, ◌+◌, ◌⊎◌, ◌++◌, ℕ, Bool, true, false, List, [], ◌∷◌, Option, Some, None, Result, Ok, Err, length, is_err, append_assoc, append-nil, length-append, arith, refl, sym, ap, subst, ◌∙◌, inl, inr}
+use Rattle.std.proofs.Common.{◌≡◌, ◌+◌, ◌⊎◌, ◌++◌, ℕ, Bool, true, false, List, [], ◌∷◌, Option, Some, None, Result, Ok, Err, if◌then◌else◌, length, is_err, append_assoc, append-nil, length-append, arith, refl, sym, ap, subst, ◌∙◌, inl, inr}
 use Rattle.std.specs.Prelude.{IfSome, OnOk}
 use Rattle.std.specs.Io.KnownBytes.{Appends}
 use Rattle.fuse_sessions.specs.declared.act.Act.{Act}
 use Rattle.fuse_sessions.specs.declared.fault.Fault.{Fault}
 use Rattle.fuse_sessions.specs.declared.transfer.Transfer.{Transfer}
+use Rattle.fuse_sessions.specs.declared.transfer.Transfer.TheVariants as transfer
 use Rattle.fuse_sessions.specs.Sessions.{Session}
 use Rattle.fuse_sessions.specs.Waiting.{waiting}
 use Rattle.fuse_capture.specs.declared.line.CaptureLine.{CaptureLine}
-use Rattle.fuse_capture.specs.Lines.{IsPassedOver, LineSays}
-use Rattle.fuse_capture.specs.Readings.{IsTransferOf}
+use Rattle.fuse_capture.specs.declared.line.CaptureLine.TheVariants as line
+use Rattle.fuse_capture.specs.Lines.{IsPassedOver, IsTextOf, LineSays, words_of}
+use Rattle.fuse_capture.specs.Readings.{HasTime, IsTransferOf}
 use Rattle.fw_check.specs.declared.counts.Counts.{Counts}
 use Rattle.fw_check.specs.declared.options.CheckForm.{CheckForm}
 use Rattle.fw_check.specs.declared.options.CheckForm.TheVariants.{Json, Words}
@@ -19,9 +21,10 @@ use Rattle.fw_check.specs.declared.stop.Stop.{Stop}
 use Rattle.fw_check.specs.declared.stop.Stop.TheVariants.{BadLine, CannotRead, NoMemory, OutputRefused}
 use Rattle.fw_check.specs.Checks.{Judged, Checks, passed_over, says, no_line, nothing_judged, counts_of, end_text, start_in}
 use Rattle.fw_check.specs.Endings.{lines_of}
-use Rattle.fw_check.specs.Forms.{counts_text, head_text, transfer_lines}
+use Rattle.fw_check.specs.Forms.{closing_text, counts_text, head_text, transfer_lines}
 use Rattle.fw_check.specs.Outputs.{AppendsSome}
 use Rattle.fw_check.specs.Standing.{file_count, node_count, remains_of}
+use Rattle.fw_check.specs.Summary.{LineTimeIs, TimeIs, after_asked, line_time, table_text}
 use Rattle.fw_check.specs.Running.{AllChecked, AreCounts, CheckEnds, ChecksMore, IsJudgedSo, IsKept, IsTaken, AreLeft, IsUpTo, LineEnds, NextEnds, PrintsEnd, SaidEnds, SeenState, StopsIn, judged_after}
 use Rattle.fw_check.proofs.Writes.{Appends-append, some_first, some_then}
 
@@ -48,46 +51,79 @@ line_passed_over o lines j line checks is = record {
   text = sym (append-nil j.text);
 }
 
+-- the time of a line's frame is that of its transfer
+at_frame : (words : List (List ℕ)) (l : CaptureLine) (t : Transfer) → IsTransferOf l t → HasTime words l → TimeIs words t (line_time l)
+at_frame words (line.Request f) (transfer.Request bytes) is timed = timed
+at_frame words (line.Request f) (transfer.Written bytes taken) is timed = absurd is
+at_frame words (line.Request f) transfer.SeveralReaders is timed = absurd is
+at_frame words (line.Request f) transfer.SeveralWriters is timed = absurd is
+at_frame words (line.Request f) transfer.Ended is timed = absurd is
+at_frame words (line.Written f result) (transfer.Request bytes) is timed = absurd is
+at_frame words (line.Written f result) (transfer.Written bytes taken) is timed = timed
+at_frame words (line.Written f result) transfer.SeveralReaders is timed = absurd is
+at_frame words (line.Written f result) transfer.SeveralWriters is timed = absurd is
+at_frame words (line.Written f result) transfer.Ended is timed = absurd is
+at_frame words line.SeveralReaders (transfer.Request bytes) is timed = absurd is
+at_frame words line.SeveralReaders (transfer.Written bytes taken) is timed = absurd is
+at_frame words line.SeveralReaders transfer.SeveralReaders is timed = refl
+at_frame words line.SeveralReaders transfer.SeveralWriters is timed = absurd is
+at_frame words line.SeveralReaders transfer.Ended is timed = absurd is
+at_frame words line.SeveralWriters (transfer.Request bytes) is timed = absurd is
+at_frame words line.SeveralWriters (transfer.Written bytes taken) is timed = absurd is
+at_frame words line.SeveralWriters transfer.SeveralReaders is timed = absurd is
+at_frame words line.SeveralWriters transfer.SeveralWriters is timed = refl
+at_frame words line.SeveralWriters transfer.Ended is timed = absurd is
+at_frame words line.Ended (transfer.Request bytes) is timed = absurd is
+at_frame words line.Ended (transfer.Written bytes taken) is timed = absurd is
+at_frame words line.Ended transfer.SeveralReaders is timed = absurd is
+at_frame words line.Ended transfer.SeveralWriters is timed = absurd is
+at_frame words line.Ended transfer.Ended is timed = refl
+
+pub time_said : (line : List ℕ) (l : CaptureLine) → ((text : List ℕ) → IsTextOf line text → HasTime (words_of text) l)
+    → (t : Transfer) → IsTransferOf l t → LineTimeIs line t (line_time l)
+time_said line l timed t is text of_line = at_frame (words_of text) l t is (timed text of_line)
+
 -- the lines with the one that says the transfer
 said_checks : (o : CheckOptions) (lines : List (List ℕ)) (j : Judged) (line : List ℕ) (l : CaptureLine) (acts : List Act)
     (verdicts : List (Option Fault)) (judge : SeenState) (c : Counts) → Checks o lines j
-    → (so : IsJudgedSo o j l acts verdicts judge c) → LineSays line so.transfer
+    → (so : IsJudgedSo o j l acts verdicts judge c) → LineSays line so.transfer → LineTimeIs line so.transfer (line_time l)
     → Checks o (lines ++ line ∷ []) (judged_after j so.transfer acts verdicts judge.session.known
-    (j.text ++ transfer_lines o (length lines + 1) j.known judge.session.known j.acts so.transfer acts verdicts))
-said_checks o lines j line l acts verdicts judge c checks so is =
+    (after_asked o.is_summary j.exchanges so.transfer (line_time l)) (j.text ++ transfer_lines o (length lines + 1) j.known judge.session.known j.acts so.transfer acts verdicts))
+said_checks o lines j line l acts verdicts judge c checks so is at =
     subst (λ (vs : List (Option Fault)). Checks o (lines ++ line ∷ []) (judged_after j so.transfer acts vs judge.session.known
-    (j.text ++ transfer_lines o (length lines + 1) j.known judge.session.known j.acts so.transfer acts vs)))
+    (after_asked o.is_summary j.exchanges so.transfer (line_time l)) (j.text ++ transfer_lines o (length lines + 1) j.known judge.session.known j.acts so.transfer acts vs)))
     (sym so.asked)
-    (says lines j checks line so.transfer is acts judge.session.known so.are so.all so.each so.faults)
+    (says lines j checks line so.transfer is (line_time l) at acts judge.session.known so.are so.all so.each so.faults)
 
 pub line_said : {T : Type 0} (o : CheckOptions) (r : Result T Stop) (lines : List (List ℕ)) (j : Judged) (line : List ℕ) (number : ℕ)
     (l : CaptureLine) (judge : SeenState) (c : Counts) (had has : Option (List ℕ)) → Checks o lines j
-    → ((t : Transfer) → IsTransferOf l t → LineSays line t) → number ≡ length lines + 1
+    → ((t : Transfer) → IsTransferOf l t → LineSays line t) → ((t : Transfer) → IsTransferOf l t → LineTimeIs line t (line_time l))
+    → number ≡ length lines + 1
     → SaidEnds o j number l judge c r had has → LineEnds o lines j line judge c r had has
-line_said o (Ok done) lines j line number l judge c had has checks said is (acts, verdicts, so, appends) =
+line_said o (Ok done) lines j line number l judge c had has checks said at is (acts, verdicts, so, appends) =
     let text = j.text ++ transfer_lines o (length lines + 1) j.known judge.session.known j.acts so.transfer acts verdicts in (
-      judged_after j so.transfer acts verdicts judge.session.known text,
+      judged_after j so.transfer acts verdicts judge.session.known (after_asked o.is_summary j.exchanges so.transfer (line_time l)) text,
       transfer_lines o number j.known judge.session.known j.acts so.transfer acts verdicts,
       record {
-        checks = said_checks o lines j line l acts verdicts judge c checks so (said so.transfer so.is);
+        checks = said_checks o lines j line l acts verdicts judge c checks so (said so.transfer so.is) (at so.transfer so.is);
         text = ap (λ n. j.text ++ transfer_lines o n j.known judge.session.known j.acts so.transfer acts verdicts) (sym is);
       },
       so.kept text,
       appends,
     )
-line_said o (Err OutputRefused) lines j line number l judge c had has checks said is (acts, verdicts, so, some) =
+line_said o (Err OutputRefused) lines j line number l judge c had has checks said at is (acts, verdicts, so, some) =
     let text = j.text ++ transfer_lines o (length lines + 1) j.known judge.session.known j.acts so.transfer acts verdicts in (
-      judged_after j so.transfer acts verdicts judge.session.known text,
+      judged_after j so.transfer acts verdicts judge.session.known (after_asked o.is_summary j.exchanges so.transfer (line_time l)) text,
       transfer_lines o number j.known judge.session.known j.acts so.transfer acts verdicts,
       record {
-        checks = said_checks o lines j line l acts verdicts judge c checks so (said so.transfer so.is);
+        checks = said_checks o lines j line l acts verdicts judge c checks so (said so.transfer so.is) (at so.transfer so.is);
         text = ap (λ n. j.text ++ transfer_lines o n j.known judge.session.known j.acts so.transfer acts verdicts) (sym is);
       },
       some,
     )
-line_said o (Err NoMemory) lines j line number l judge c had has checks said is h = h
-line_said o (Err CannotRead) lines j line number l judge c had has checks said is h = absurd h
-line_said o (Err (BadLine n f)) lines j line number l judge c had has checks said is h = absurd h
+line_said o (Err NoMemory) lines j line number l judge c had has checks said at is h = h
+line_said o (Err CannotRead) lines j line number l judge c had has checks said at is h = absurd h
+line_said o (Err (BadLine n f)) lines j line number l judge c had has checks said at is h = absurd h
 
 -- ---- the next line
 
@@ -176,7 +212,7 @@ module _ (o : CheckOptions) (capture : List ℕ) (known left : Option (List ℕ)
         lines = after_next (lines_of capture) upto.done line (lines_of upto.rest) following.0 upto.lines following.1;
         judged = next;
         checks = checks.checks;
-        says = some_first had has next.text (end_text o.form next) (next.text ++ end_text o.form next) refl
+        says = some_first had has next.text (end_text o next) (next.text ++ end_text o next) refl
             (some_then had mid has upto.judged.text more next.text checks.text upto.printed some);
       }
 
@@ -200,12 +236,14 @@ module _ (o : CheckOptions) (capture : List ℕ) (known left : Option (List ℕ)
   }
 
 -- what is kept says nothing of what was printed
-kept_printed : (text : List ℕ) (judge : SeenState) (c : Counts) → IsKept nothing_judged judge c
-    → IsKept (record nothing_judged { text = text }) judge c
-kept_printed text judge c kept = record {
+kept_printed : (is_joined : Bool) (text : List ℕ) (judge : SeenState) (c : Counts) → IsKept (nothing_judged is_joined) judge c
+    → IsKept (record (nothing_judged is_joined) { text = text }) judge c
+kept_printed is_joined text judge c kept = record {
+  start = kept.start;
   seen = kept.seen;
   stands = kept.stands;
   known = kept.known;
+  exchanges = kept.exchanges;
   counts = record {
     requests = kept.counts.requests;
     replies = kept.counts.replies;
@@ -222,18 +260,18 @@ kept_printed text judge c kept = record {
 
 -- before the first line
 pub at_start : (o : CheckOptions) (known had has : Option (List ℕ)) (judge : SeenState) (c : Counts)
-    → Appends had has (head_text o.form) → IsKept nothing_judged judge c
+    → Appends had has (head_text o.form) → IsKept (nothing_judged o.is_joined) judge c
     → IfSome known (λ capture. IsUpTo o capture known 1 judge c had has)
 at_start o None had has judge c begun kept = tt
 at_start o (Some capture) had has judge c begun kept = record {
   done = [];
   rest = capture;
-  judged = start_in o.form;
+  judged = start_in o;
   is_left = refl;
   lines = refl;
   count = omega arith;
   checks = no_line;
-  kept = kept_printed (head_text o.form) judge c kept;
+  kept = kept_printed o.is_joined (head_text o.form) judge c kept;
   printed = begun;
 }
 
@@ -245,10 +283,10 @@ not_begun o (Some capture) had has some = record {
   done = [];
   rest = lines_of capture;
   lines = refl;
-  judged = start_in o.form;
+  judged = start_in o;
   checks = no_line;
-  says = some_first had has (head_text o.form) (end_text o.form (start_in o.form))
-      (head_text o.form ++ end_text o.form (start_in o.form)) refl some;
+  says = some_first had has (head_text o.form) (end_text o (start_in o))
+      (head_text o.form ++ end_text o (start_in o)) refl some;
 }
 
 -- ---- the end
@@ -292,34 +330,36 @@ counts_are Json n j c are = rw (
   are.warnings,
 ) refl
 
--- with what is left
-ends_are : (form : CheckForm) (n : Remains) (j : Judged) (judge : SeenState) (c : Counts) → IsKept j judge c
-    → AreLeft judge n → counts_text form n c ≡ end_text form j
-ends_are form n j judge c kept lefts =
-    counts_are form n j c kept.counts ∙ ap (λ k. counts_text form k (counts_of j)) (lefts j.transfers j.acts kept.seen kept.stands)
+-- with the table and with what is left
+ends_are : (o : CheckOptions) (n : Remains) (j : Judged) (judge : SeenState) (c : Counts) → IsKept j judge c
+    → AreLeft judge.session judge.nodes judge.files n → closing_text o judge.exchanges n c ≡ end_text o j
+ends_are o n j judge c kept lefts =
+    ap (λ (l : List ℕ). (if o.is_summary then table_text o.form judge.exchanges else []) ++ l)
+    (counts_are o.form n j c kept.counts ∙ ap (λ k. counts_text o.form k (counts_of j)) (lefts kept.start j.transfers j.acts kept.seen kept.stands))
+    ∙ ap (λ e. closing_text o e (remains_of j.acts) (counts_of j)) (sym kept.exchanges)
 
 pub all_ends : {T : Type 0} (o : CheckOptions) (n : Remains) (r : Result T Stop) (capture : List ℕ) (judge : SeenState)
-    (c : Counts) (had mid has : Option (List ℕ)) → AreLeft judge n → AllChecked o capture judge c had mid
-    → PrintsEnd o.form n c r mid has → CheckEnds o capture c r had has
+    (c : Counts) (had mid has : Option (List ℕ)) → AreLeft judge.session judge.nodes judge.files n → AllChecked o capture judge c had mid
+    → PrintsEnd o judge.exchanges n c r mid has → CheckEnds o capture c r had has
 all_ends o n (Ok done) capture judge c had mid has lefts all appends =
-    let same = ends_are o.form n all.judged judge c all.kept lefts in
+    let same = ends_are o n all.judged judge c all.kept lefts in
     record {
       judged = all.judged;
       checks = all.checks;
       counts = all.kept.counts;
-      printed = Appends-append had mid has all.judged.text (end_text o.form all.judged) all.printed
+      printed = Appends-append had mid has all.judged.text (end_text o all.judged) all.printed
           (subst (Appends mid has) same appends);
     }
 all_ends o n (Err OutputRefused) capture judge c had mid has lefts all some =
-    let same = ends_are o.form n all.judged judge c all.kept lefts in
+    let same = ends_are o n all.judged judge c all.kept lefts in
     record {
       done = lines_of capture;
       rest = [];
       lines = sym (append-nil (lines_of capture));
       judged = all.judged;
       checks = all.checks;
-      says = some_then had mid has all.judged.text (end_text o.form all.judged)
-          (all.judged.text ++ end_text o.form all.judged) refl all.printed (subst (AppendsSome mid has) same some);
+      says = some_then had mid has all.judged.text (end_text o all.judged)
+          (all.judged.text ++ end_text o all.judged) refl all.printed (subst (AppendsSome mid has) same some);
     }
 all_ends o n (Err NoMemory) capture judge c had mid has lefts all still = record {
   done = lines_of capture;

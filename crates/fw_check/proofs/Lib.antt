@@ -2,9 +2,12 @@ mod CheckLaws
 mod CountLaws
 mod CutNumbers
 mod FaultLines
+mod FrameLaws
 mod HeldLaws
 mod LifeLaws
 mod LineFeeds
+mod OpcodeLaws
+mod RankLaws
 mod ReportLaws
 mod StandingLaws
-mod Writes
+pub mod Writes

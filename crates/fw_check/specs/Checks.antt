@@ -1,5 +1,5 @@
 -- What is printed of a capture: the faults of the session that its lines say which are asked for, or the life of a node,
--- and counts.
+-- or a table of opcodes, and counts. Of a session that is joined the faults are those that are certain.
 use Rattle.std.specs.Prelude.{◌≡◌, ◌+◌, ℕ, Bool, List, [], ◌∷◌, ◌++◌, Option, if◌then◌else◌, length, sum_by}
 use Rattle.fuse_sessions.specs.declared.act.Act.{Act}
 use Rattle.fuse_sessions.specs.declared.fault.Fault.{Fault}
@@ -8,52 +8,55 @@ use Rattle.fuse_sessions.specs.declared.fault.Party.TheVariants as party
 use Rattle.fuse_sessions.specs.declared.known.Known.{Known}
 use Rattle.fuse_sessions.specs.declared.transfer.Transfer.{Transfer}
 use Rattle.fuse_sessions.specs.Sessions.{Session}
-use Rattle.fuse_sessions.specs.Frames.{AreActs, nothing_known}
-use Rattle.fuse_judge.specs.Transfers.{AreFaults}
+use Rattle.fuse_sessions.specs.Frames.{AreActs}
+use Rattle.joined_judge.specs.Judging.{AreFaultsAs, start_known}
 use Rattle.fuse_capture.specs.Lines.{LineSays, IsPassedOver}
 use Rattle.fw_check.specs.declared.counts.Counts.{Counts}
-use Rattle.fw_check.specs.declared.options.CheckForm.{CheckForm}
 use Rattle.fw_check.specs.declared.options.CheckOptions.{CheckOptions}
 use Rattle.fw_check.specs.Asked.{asked_verdicts}
-use Rattle.fw_check.specs.Forms.{counts_text, head_text, transfer_lines}
+use Rattle.fw_check.specs.Forms.{closing_text, head_text, transfer_lines}
 use Rattle.fw_check.specs.Standing.{remains_of}
+use Rattle.fw_check.specs.Summary.{ExchangeState, LineTimeIs, after_asked, nothing_exchanged}
 use Rattle.fw_check.specs.Tallies.{entries_of, forgotten_by, is_notification, is_of, is_refused, is_reply, is_request, one_if}
 
 -- What was judged: the transfers that were said, what is known after them, their acts, the verdict on each act without a
--- fault that is not asked for, and what is printed of them.
+-- fault that is not asked for, what the table of opcodes is made of, if that is asked for, and what is printed of them.
 pub record Judged : Type 0 where
   pub transfers : List Transfer
   pub known : Known
   pub acts : Session
   pub verdicts : List (Option Fault)
+  pub exchanges : ExchangeState
   pub text : List ℕ
 
-abbrev pub nothing_judged : Judged
-nothing_judged = record {
+abbrev pub nothing_judged : (is_joined : Bool) → Judged
+nothing_judged is_joined = record {
   transfers = [];
-  known = nothing_known;
+  known = start_known is_joined;
   acts = [];
   verdicts = [];
+  exchanges = nothing_exchanged;
   text = [];
 }
 
--- nothing yet, in this form
-abbrev pub start_in : CheckForm → Judged
-start_in form = record nothing_judged { text = head_text form }
+-- nothing yet, of what is asked for
+abbrev pub start_in : CheckOptions → Judged
+start_in o = record (nothing_judged o.is_joined) { text = head_text o.form }
 
 -- Each line is judged after those before it. What is asked for changes the verdicts that are kept, and no act.
 pub data Checks (o : CheckOptions) : (lines : List (List ℕ)) → Judged → Type 0 where
-  no_line : Checks o [] (start_in o.form)
+  no_line : Checks o [] (start_in o)
   passed_over : (lines : List (List ℕ)) (j : Judged) → Checks o lines j → (line : List ℕ) → IsPassedOver line
       → Checks o (lines ++ line ∷ []) j
   says : (lines : List (List ℕ)) (j : Judged) → Checks o lines j → (line : List ℕ) (t : Transfer) → LineSays line t
-      → (acts : List Act) (known : Known) → AreActs j.known j.acts t acts known → (verdicts : List (Option Fault))
-      → length verdicts ≡ length acts → AreFaults j.acts acts verdicts
+      → (time : Option ℕ) → LineTimeIs line t time → (acts : List Act) (known : Known) → AreActs j.known j.acts t acts known → (verdicts : List (Option Fault))
+      → length verdicts ≡ length acts → AreFaultsAs o.is_joined j.acts acts verdicts
       → Checks o (lines ++ line ∷ []) (record {
         transfers = j.transfers ++ t ∷ [];
         known = known;
         acts = j.acts ++ acts;
         verdicts = j.verdicts ++ asked_verdicts o.only verdicts;
+        exchanges = after_asked o.is_summary j.exchanges t time;
         text = j.text ++ transfer_lines o (length lines + 1) j.known known j.acts t acts (asked_verdicts o.only verdicts);
       })
 
@@ -86,6 +89,7 @@ counts_of j = record {
   warnings = faults_of party.Nobody j;
 }
 
--- the counts at the end, also of what is left then: requests that wait, nodes that are counted, files that are open
-abbrev pub end_text : CheckForm → Judged → List ℕ
-end_text form j = counts_text form (remains_of j.acts) (counts_of j)
+-- the table of opcodes, if it is asked for, and the counts at the end, also of what is left then: requests that wait, nodes
+-- that are counted, files that are open
+abbrev pub end_text : CheckOptions → Judged → List ℕ
+end_text o j = closing_text o j.exchanges (remains_of j.acts) (counts_of j)

@@ -23,7 +23,7 @@ pub record PrintsChecked (o : CheckOptions) (name capture : List ℕ) (out_old o
   pub checks : Checks o done judged
   -- to the end: 0 where there is no fault that is asked for, and in a strict check no warning, and 6 where there is one
   pub ended : (status ≡ 0) ⊎ (status ≡ 6)
-      → (rest ≡ []) × Appends out_old out_new (judged.text ++ end_text o.form judged)
+      → (rest ≡ []) × Appends out_old out_new (judged.text ++ end_text o judged)
   pub right : status ≡ 0 → finding_count o.is_strict judged ≡ 0
   pub wrong : status ≡ 6 → 0 < finding_count o.is_strict judged
   -- up to a line that has a fault or cannot be read, or until memory runs out
@@ -32,7 +32,7 @@ pub record PrintsChecked (o : CheckOptions) (name capture : List ℕ) (out_old o
       ⊎ ((line : List ℕ) × (after : List (List ℕ)) × (f : CaptureFault) × (rest ≡ line ∷ after) × LineFaultIs line f
       × AppendsSome faults_old faults_new (bad_line (length done + 1) f))
   -- until the output refuses
-  pub refused : status ≡ 5 → AppendsSome out_old out_new (judged.text ++ end_text o.form judged)
+  pub refused : status ≡ 5 → AppendsSome out_old out_new (judged.text ++ end_text o judged)
 
 -- What becomes of an output and of standard error, of which `out` and `faults` say what they hold.
 pub record EndsCheck {W F : Type 0} (out : W → Option (List ℕ)) (faults : F → Option (List ℕ)) (o : CheckOptions)

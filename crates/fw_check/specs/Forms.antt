@@ -1,5 +1,5 @@
 -- What is printed in each form.
-use Rattle.std.specs.Prelude.{ℕ, List, [], ◌∷◌, ◌++◌, Option, Some, None}
+use Rattle.std.specs.Prelude.{ℕ, Bool, if◌then◌else◌, List, [], ◌∷◌, ◌++◌, Option, Some, None}
 use Rattle.fuse_protocol.specs.declared.agreed.Unjudged.{Unjudged}
 use Rattle.fuse_sessions.specs.declared.act.Act.{Act}
 use Rattle.fuse_sessions.specs.declared.fault.Fault.{Fault}
@@ -15,6 +15,7 @@ use Rattle.fw_check.specs.Counting.{counts_lines}
 use Rattle.fw_check.specs.FaultWords.{fault_line}
 use Rattle.fw_check.specs.Json.{counts_object, fault_object, head_object}
 use Rattle.fw_check.specs.Life.{doer_of, life_lines}
+use Rattle.fw_check.specs.Summary.{ExchangeState, table_text}
 use Rattle.fw_check.specs.Unjudged.{unjudged_line, unjudged_object}
 
 -- before all else
@@ -44,19 +45,27 @@ abbrev pub leaving_text : CheckForm → (number : ℕ) → (before after : Optio
 leaving_text form number None (Some why) = unjudged_text form number why
 leaving_text form number before after = []
 
--- what is printed of a transfer's acts that follow a session: their faults, or what they do to the node that is asked for
-abbrev pub act_lines : (node : Option ℕ) → CheckForm → (number : ℕ) → Session → Transfer → List Act → List (Option Fault)
-    → List ℕ
-act_lines None form number s t acts verdicts = fault_lines form number acts verdicts
-act_lines (Some node) form number s t acts verdicts = life_lines number node (doer_of s t) s acts
+-- what is printed of a transfer's acts that follow a session: what they do to the node that is asked for, or their faults,
+-- or nothing, where the table of opcodes is asked for
+abbrev pub lines_by : (node : Option ℕ) → (is_summary : Bool) → CheckForm → (number : ℕ) → Session → Transfer → List Act
+    → List (Option Fault) → List ℕ
+lines_by (Some node) is_summary form number s t acts verdicts = life_lines number node (doer_of s t) s acts
+lines_by None is_summary form number s t acts verdicts = if is_summary then [] else fault_lines form number acts verdicts
+
+abbrev pub act_lines : CheckOptions → (number : ℕ) → Session → Transfer → List Act → List (Option Fault) → List ℕ
+act_lines o number s t acts verdicts = lines_by o.node o.is_summary o.form number s t acts verdicts
 
 -- what is printed of a transfer after a session: the lines of its acts, and whether the session is not judged any more
 abbrev pub transfer_lines : CheckOptions → (number : ℕ) → (before after : Known) → Session → Transfer → List Act
     → List (Option Fault) → List ℕ
 transfer_lines o number before after s t acts verdicts =
-    act_lines o.node o.form number s t acts verdicts ++ leaving_text o.form number before.unjudged after.unjudged
+    act_lines o number s t acts verdicts ++ leaving_text o.form number before.unjudged after.unjudged
 
 -- the counts, with what is left at the end
 abbrev pub counts_text : CheckForm → Remains → Counts → List ℕ
 counts_text forms.Words r c = counts_lines r c
 counts_text forms.Json r c = counts_object r c
+
+-- what is printed at the end: the table of opcodes, if it is asked for, and the counts
+abbrev pub closing_text : CheckOptions → ExchangeState → Remains → Counts → List ℕ
+closing_text o e r c = (if o.is_summary then table_text o.form e else []) ++ counts_text o.form r c

@@ -1,5 +1,5 @@
 -- The objects of `--json`, one a line.
-use Rattle.std.specs.Prelude.{ℕ, List, [], ◌++◌, Some, None, codes, decimal}
+use Rattle.std.specs.Prelude.{ℕ, List, [], ◌++◌, Option, Some, None, codes, decimal}
 use Rattle.fuse_protocol.specs.Table.{name_of}
 use Rattle.fuse_sessions.specs.declared.act.Act.{Act}
 use Rattle.fuse_sessions.specs.declared.act.Act.TheVariants as act
@@ -18,6 +18,14 @@ key_text key = codes ",\"" ++ key ++ codes "\":"
 
 abbrev pub number_field : (key : List ℕ) → ℕ → List ℕ
 number_field key number = key_text key ++ decimal number
+
+-- a number, or null
+abbrev pub number_or_null : Option ℕ → List ℕ
+number_or_null None = codes "null"
+number_or_null (Some number) = decimal number
+
+abbrev pub option_field : (key : List ℕ) → Option ℕ → List ℕ
+option_field key number = key_text key ++ number_or_null number
 
 -- the text has no byte that JSON escapes
 abbrev pub text_field : (key text : List ℕ) → List ℕ

@@ -4,6 +4,7 @@ pub mod Counting
 pub mod Endings
 pub mod FaultWords
 pub mod Forms
+pub mod FrameLines
 pub mod Held
 pub mod Json
 pub mod Life
@@ -11,5 +12,6 @@ pub mod Outputs
 pub mod Reports
 pub mod Running
 pub mod Standing
+pub mod Summary
 pub mod Tallies
 pub mod Unjudged

@@ -8,13 +8,15 @@ use Rattle.fuse_sessions.specs.declared.known.Known.{Known}
 use Rattle.fuse_sessions.specs.declared.transfer.Transfer.{Transfer}
 use Rattle.fuse_sessions.specs.Frames.{AreActs}
 use Rattle.fuse_sessions.specs.Sessions.{Session}
-use Rattle.fuse_judge.specs.Transfers.{AreFaults, HasSeenTransfers, SessionState}
+use Rattle.fuse_judge.specs.Transfers.{HasSeenFrom, SessionState}
+use Rattle.joined_judge.specs.Judging.{AreFaultsAs}
 use Rattle.fuse_capture.specs.declared.line.CaptureLine.{CaptureLine}
 use Rattle.fuse_capture.specs.Lines.{LineFaultIs}
 use Rattle.fuse_capture.specs.Readings.{IsTransferOf}
 use Rattle.fw_check.specs.declared.counts.Counts.{Counts}
 use Rattle.fw_check.specs.declared.options.CheckForm.{CheckForm}
 use Rattle.fw_check.specs.declared.options.CheckOptions.{CheckOptions}
+use Rattle.fw_check.specs.declared.exchanges.Exchanges.{Exchanges}
 use Rattle.fw_check.specs.declared.file_key.FileKey.{FileKey}
 use Rattle.fw_check.specs.declared.life.Doer.{Doer}
 use Rattle.fw_check.specs.declared.remains.Remains.{Remains}
@@ -24,11 +26,12 @@ use Rattle.fw_check.specs.declared.stop.Stop.TheVariants as stop
 use Rattle.fw_check.specs.Asked.{asked_verdicts}
 use Rattle.fw_check.specs.Checks.{Judged, Checks, end_text, faults_of, number_of}
 use Rattle.fw_check.specs.Endings.{lines_of}
-use Rattle.fw_check.specs.Forms.{counts_text, fault_text, transfer_lines}
+use Rattle.fw_check.specs.Forms.{closing_text, fault_text, transfer_lines}
 use Rattle.fw_check.specs.Life.{doer_for}
 use Rattle.fw_check.specs.Outputs.{AppendsSome}
 use Rattle.fw_check.specs.Reports.{bad_line, unreadable}
 use Rattle.fw_check.specs.Standing.{Stands, remains_of}
+use Rattle.fw_check.specs.Summary.{ExchangeState, after_asked, exchanges_of, line_time}
 use Rattle.fw_check.specs.Tallies.{entries_of, forgotten_by, is_notification, is_refused, is_reply, is_request}
 
 -- what is printed of a verdict, where it is a fault
@@ -51,29 +54,38 @@ pub record AreCounts (j : Judged) (c : Counts) : Type 0 where
   pub device : c.device ≡ faults_of party.Device j
   pub warnings : c.warnings ≡ faults_of party.Nobody j
 
--- What contracts see of the judge, and of what stands of the session that it has seen.
+-- What contracts see of the judge, of what stands of the session that it has seen, and of what the table is made of.
 pub record SeenState : Type 0 where
   pub session : SessionState
   pub nodes : List (ℕ × ℕ)
   pub files : List (FileKey × ℕ)
+  pub exchanges : ExchangeState
 
-abbrev pub seen_by : {A : Type 0} → SessionState → Standing A → SeenState
-seen_by session t = record { session = session; nodes = t.nodes.entries; files = t.files.entries }
+abbrev pub seen_by : {A : Type 0} → SessionState → Standing A → Exchanges A → SeenState
+seen_by session t e = record {
+  session = session;
+  nodes = t.nodes.entries;
+  files = t.files.entries;
+  exchanges = exchanges_of e;
+}
 
 -- What a check keeps is right of what was judged.
 pub record IsKept (j : Judged) (w : SeenState) (c : Counts) : Type 0 where
-  pub seen : HasSeenTransfers j.transfers j.acts w.session
+  pub start : Known
+  pub seen : HasSeenFrom start j.transfers j.acts w.session
   pub stands : Stands j.acts w.nodes w.files
   pub known : j.known ≡ w.session.known
+  pub exchanges : j.exchanges ≡ w.exchanges
   pub counts : AreCounts j c
 
 -- what was judged, with one transfer more
-abbrev pub judged_after : Judged → Transfer → List Act → List (Option Fault) → Known → (text : List ℕ) → Judged
-judged_after j t acts verdicts known text = record {
+abbrev pub judged_after : Judged → Transfer → List Act → List (Option Fault) → Known → ExchangeState → (text : List ℕ) → Judged
+judged_after j t acts verdicts known exchanges text = record {
   transfers = j.transfers ++ t ∷ [];
   known = known;
   acts = j.acts ++ acts;
   verdicts = j.verdicts ++ verdicts;
+  exchanges = exchanges;
   text = text;
 }
 
@@ -86,9 +98,10 @@ pub record IsJudgedSo (o : CheckOptions) (j : Judged) (l : CaptureLine) (acts : 
   pub is : IsTransferOf l transfer
   pub are : AreActs j.known j.acts transfer acts judge.session.known
   pub each : length all ≡ length acts
-  pub faults : AreFaults j.acts acts all
+  pub faults : AreFaultsAs o.is_joined j.acts acts all
   pub asked : verdicts ≡ asked_verdicts o.only all
-  pub kept : (text : List ℕ) → IsKept (judged_after j transfer acts verdicts judge.session.known text) judge c
+  pub kept : (text : List ℕ) → IsKept (judged_after j transfer acts verdicts judge.session.known
+      (after_asked o.is_summary j.exchanges transfer (line_time l)) text) judge c
 
 -- The same, and whose its first acts are.
 abbrev pub IsJudgedBy : CheckOptions → Judged → CaptureLine → List Act → List (Option Fault) → SeenState → Counts → Doer → Type 0
@@ -156,11 +169,11 @@ pub record AllChecked (o : CheckOptions) (capture : List ℕ) (judge : SeenState
   pub printed : Appends had has judged.text
 
 -- What a stop says of the lines that were judged, and of those that are left.
-abbrev pub StopSays : CheckForm → Stop → (number : ℕ) → (rest : List (List ℕ)) → Judged → (had has : Option (List ℕ)) → Type 0
-StopSays form (stop.BadLine n f) number rest j had has = (line : List ℕ) × (after : List (List ℕ)) × (rest ≡ line ∷ after)
+abbrev pub StopSays : CheckOptions → Stop → (number : ℕ) → (rest : List (List ℕ)) → Judged → (had has : Option (List ℕ)) → Type 0
+StopSays o (stop.BadLine n f) number rest j had has = (line : List ℕ) × (after : List (List ℕ)) × (rest ≡ line ∷ after)
     × LineFaultIs line f × (n ≡ number) × Appends had has j.text
-StopSays form stop.OutputRefused number rest j had has = AppendsSome had has (j.text ++ end_text form j)
-StopSays form other number rest j had has = Appends had has j.text
+StopSays o stop.OutputRefused number rest j had has = AppendsSome had has (j.text ++ end_text o j)
+StopSays o other number rest j had has = Appends had has j.text
 
 -- A check stopped after some lines.
 pub record StopsIn (o : CheckOptions) (capture : List ℕ) (s : Stop) (had has : Option (List ℕ)) : Type 0 where
@@ -169,7 +182,7 @@ pub record StopsIn (o : CheckOptions) (capture : List ℕ) (s : Stop) (had has :
   pub lines : lines_of capture ≡ done ++ rest
   pub judged : Judged
   pub checks : Checks o done judged
-  pub says : StopSays o.form s (length done + 1) rest judged had has
+  pub says : StopSays o s (length done + 1) rest judged had has
 
 -- What became of the next line: there are more, or it was the last.
 abbrev pub NextEnds : CheckOptions → (capture : List ℕ) → (left : Option (List ℕ)) → (number : ℕ) → SeenState → Counts
@@ -188,25 +201,25 @@ pub record AllPrinted (o : CheckOptions) (capture : List ℕ) (c : Counts) (had 
   pub judged : Judged
   pub checks : Checks o (lines_of capture) judged
   pub counts : AreCounts judged c
-  pub printed : Appends had has (judged.text ++ end_text o.form judged)
+  pub printed : Appends had has (judged.text ++ end_text o judged)
 
 abbrev pub CheckEnds : {T : Type 0} → CheckOptions → (capture : List ℕ) → Counts → Result T Stop
     → (had has : Option (List ℕ)) → Type 0
 CheckEnds o capture c (Ok done) had has = AllPrinted o capture c had has
 CheckEnds o capture c (Err s) had has = StopsIn o capture s had has
 
--- What became of the counts.
-abbrev pub PrintsEnd : {T : Type 0} → CheckForm → Remains → Counts → Result T Stop
+-- What became of what stands at the end.
+abbrev pub PrintsEnd : {T : Type 0} → CheckOptions → ExchangeState → Remains → Counts → Result T Stop
     → (had has : Option (List ℕ)) → Type 0
-PrintsEnd form r c (Ok done) had has = Appends had has (counts_text form r c)
-PrintsEnd form r c (Err stop.OutputRefused) had has = AppendsSome had has (counts_text form r c)
-PrintsEnd form r c (Err stop.NoMemory) had has = Appends had has []
-PrintsEnd form r c (Err other) had has = ⊥
+PrintsEnd o e r c (Ok done) had has = Appends had has (closing_text o e r c)
+PrintsEnd o e r c (Err stop.OutputRefused) had has = AppendsSome had has (closing_text o e r c)
+PrintsEnd o e r c (Err stop.NoMemory) had has = Appends had has []
+PrintsEnd o e r c (Err other) had has = ⊥
 
 -- This is left of the session that the judge has seen.
-abbrev pub AreLeft : SeenState → Remains → Type 0
-AreLeft w r = (transfers : List Transfer) (s : Session) → HasSeenTransfers transfers s w.session
-    → Stands s w.nodes w.files → r ≡ remains_of s
+abbrev pub AreLeft : SessionState → (nodes : List (ℕ × ℕ)) → (files : List (FileKey × ℕ)) → Remains → Type 0
+AreLeft session nodes files r = (start : Known) (transfers : List Transfer) (s : Session) → HasSeenFrom start transfers s session
+    → Stands s nodes files → r ≡ remains_of s
 
 -- ---- reading
 

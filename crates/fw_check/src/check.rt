@@ -6,12 +6,14 @@ ghost use Rattle.fw_check.specs.Checks.{nothing_judged};
 ghost use Rattle.fw_check.specs.Endings.{EndsCheck};
 ghost use Rattle.fw_check.specs.Forms as words;
 ghost use Rattle.fw_check.specs.Running.{CheckEnds, IsKept, IsUpTo, LinesEnd, NextEnds, PrintsEnd, seen_by};
+ghost use Rattle.fw_check.specs.Summary.{exchanges_of};
 
 use crate::checker::{Checker, print, remains_of};
 use crate::counts::Counts;
-use crate::form::{head_text, put_counts};
+use crate::exchanges::Exchanges;
+use crate::form::{head_text, put_end};
 use crate::lines::next_line;
-use crate::options::{CheckForm, CheckOptions};
+use crate::options::CheckOptions;
 use crate::remains::Remains;
 use crate::stop::Stop;
 use std::alloc::Allocator;
@@ -30,8 +32,8 @@ fn check_next<A: Allocator + Copy, R: BufRead, W: Write>(
     out: &mut W,
 ) -> Result<bool, Stop>
     ensures { (capture : List ℕ) (had : Option (List ℕ))
-        → IsUpTo options capture (R.remaining input.old) number (seen_by checker.old.judge checker.old.standing) checker.old.counts had (W.contents out.old)
-        → NextEnds options capture (R.remaining input.new) number (seen_by checker.new.judge checker.new.standing) checker.new.counts result had
+        → IsUpTo options capture (R.remaining input.old) number (seen_by checker.old.judge checker.old.standing checker.old.exchanges) checker.old.counts had (W.contents out.old)
+        → NextEnds options capture (R.remaining input.new) number (seen_by checker.new.judge checker.new.standing checker.new.exchanges) checker.new.counts result had
         (W.contents out.new) }
 {
     match next_line(input, line) {
@@ -52,8 +54,8 @@ fn check_lines<A: Allocator + Copy, R: BufRead, W: Write>(
     out: &mut W,
 ) -> Result<(), Stop>
     ensures { (had : Option (List ℕ)) → Appends had (W.contents out.old) (words.head_text options.form)
-        → IsKept nothing_judged (seen_by checker.old.judge checker.old.standing) checker.old.counts → IfSome (R.remaining input.old)
-        (λ capture. LinesEnd options capture (seen_by checker.new.judge checker.new.standing) checker.new.counts result had (W.contents out.new)) }
+        → IsKept (nothing_judged options.is_joined) (seen_by checker.old.judge checker.old.standing checker.old.exchanges) checker.old.counts → IfSome (R.remaining input.old)
+        (λ capture. LinesEnd options capture (seen_by checker.new.judge checker.new.standing checker.new.exchanges) checker.new.counts result had (W.contents out.new)) }
 {
     let mut line = Vec::new(alloc);
     for number in 1..u64::MAX {
@@ -66,18 +68,21 @@ fn check_lines<A: Allocator + Copy, R: BufRead, W: Write>(
     Err(Stop::NoMemory)
 }
 
-/// Prints the counts. The room is for the text.
-fn print_end<A: Allocator, W: Write>(
-    form: CheckForm,
+/// Prints what stands at the end. The room is for the text.
+fn print_end<A: Allocator + Copy, W: Write>(
+    alloc: A,
+    options: CheckOptions,
+    exchanges: &Exchanges<A>,
     remains: Remains,
     counts: Counts,
     room: &mut Vec<u8, A>,
     out: &mut W,
 ) -> Result<(), Stop>
-    ensures { PrintsEnd form remains counts result (W.contents out.old) (W.contents out.new) }
+    ensures { PrintsEnd options (exchanges_of exchanges.now) remains counts result (W.contents out.old) (W.contents out.new) }
 {
     room.clear();
-    if put_counts(room, form, remains, counts).is_err() {
+    let mut buffer = Vec::new(alloc);
+    if put_end(room, &mut buffer, options, exchanges, remains, counts).is_err() {
         return Err(Stop::NoMemory);
     }
     match print(out, room.as_slice()) {
@@ -95,14 +100,16 @@ fn check_rest<A: Allocator + Copy, R: BufRead, W: Write>(
     out: &mut W,
 ) -> Result<(), Stop>
     ensures { (had : Option (List ℕ)) → Appends had (W.contents out.old) (words.head_text options.form)
-        → IsKept nothing_judged (seen_by checker.old.judge checker.old.standing) checker.old.counts → IfSome (R.remaining input.old)
+        → IsKept (nothing_judged options.is_joined) (seen_by checker.old.judge checker.old.standing checker.old.exchanges) checker.old.counts → IfSome (R.remaining input.old)
         (λ capture. CheckEnds options capture checker.new.counts result had (W.contents out.new)) }
 {
     match check_lines(alloc, options, checker, input, out) {
         Ok(()) => {
             let remains = remains_of(&mut checker.judge, &checker.standing);
             print_end(
-                options.form,
+                alloc,
+                options,
+                &checker.exchanges,
                 remains,
                 checker.counts,
                 &mut checker.text,
@@ -121,7 +128,7 @@ fn check_all<A: Allocator + Copy, R: BufRead, W: Write>(
     input: &mut R,
     out: &mut W,
 ) -> Result<(), Stop>
-    ensures { IsKept nothing_judged (seen_by checker.old.judge checker.old.standing) checker.old.counts → IfSome (R.remaining input.old)
+    ensures { IsKept (nothing_judged options.is_joined) (seen_by checker.old.judge checker.old.standing checker.old.exchanges) checker.old.counts → IfSome (R.remaining input.old)
         (λ capture. CheckEnds options capture checker.new.counts result (W.contents out.old) (W.contents out.new)) }
 {
     match print(out, head_text(options.form)) {
@@ -147,7 +154,7 @@ pub fn run_check<A: Allocator + Copy, R: BufRead, W: Write, F: Write>(
     ensures { EndsCheck W.contents F.contents options name.now (R.remaining input.old) out.old out.new faults.old faults.new
         result }
 {
-    let mut checker = Checker::new(alloc);
+    let mut checker = Checker::new(alloc, options.is_joined);
     match check_all(alloc, options, &mut checker, input, out) {
         Ok(()) => if checker.counts.has_no_finding(options.is_strict) {
             0

@@ -5,9 +5,11 @@ ghost use Rattle.std.specs.Io.KnownBytes.{Appends, Keeps};
 ghost use Rattle.fw_check.specs.Checks.{Checks, Judged, nothing_judged};
 ghost use Rattle.fw_check.specs.Outputs.{AppendsSome};
 ghost use Rattle.fw_check.specs.Running.{AreLeft, IsJudgedAs, IsJudgedBy, IsKept, LineEnds, SaidEnds, seen_by};
+ghost use Rattle.fw_check.specs.Summary.{line_time};
 
 use crate::asked::keep_asked;
 use crate::counts::{Counts, NOTHING};
+use crate::exchanges::{Exchanges, note_exchange, nothing_exchanged};
 use crate::form::{put_act_lines, put_leaving};
 use crate::life::{Doer, first_doer};
 use crate::options::CheckOptions;
@@ -20,6 +22,7 @@ use crate::stop::Stop;
 use fuse_capture::{CaptureLine, read_line, read_transfer};
 use fuse_judge::SessionJudge;
 use fuse_sessions::{Act, Fault};
+use joined_judge::{see_as, start_judge};
 use std::alloc::{AllocError, Allocator, Global};
 use std::io::Write;
 
@@ -29,6 +32,8 @@ pub(crate) struct Checker<A: Allocator = Global> {
     pub(crate) judge: SessionJudge<A>,
     /// What stands of the session that the judge has seen.
     pub(crate) standing: Standing<A>,
+    /// What the table of opcodes is made of; nothing where that is not asked for.
+    pub(crate) exchanges: Exchanges<A>,
     pub(crate) counts: Counts,
     /// The frame of a line.
     pub(crate) frame: Vec<u8, A>,
@@ -40,25 +45,37 @@ pub(crate) struct Checker<A: Allocator = Global> {
     pub(crate) text: Vec<u8, A>,
 }
 
+/// The time of a line's frame, if it has one.
+fn time_of(said: CaptureLine<'_>) -> Option<u64>
+    ensures { result ≡ line_time said.entry }
+{
+    match said {
+        CaptureLine::Request(frame) | CaptureLine::Written(frame, _) => frame.time,
+        _ => None,
+    }
+}
+
 /// Judges the transfer that a line says, leaves out the faults that are not asked for, and counts it. Gives whose its
 /// first acts are, if the life of a node is asked for.
 fn judge_said<A: Allocator + Copy>(
     options: CheckOptions,
     judge: &mut SessionJudge<A>,
     standing: &mut Standing<A>,
+    exchanges: &mut Exchanges<A>,
     counts: &mut Counts,
     frame: &mut Vec<u8, A>,
     acts: &mut Vec<Act, A>,
     verdicts: &mut Vec<Option<Fault>, A>,
     said: CaptureLine<'_>,
 ) -> Result<Doer, AllocError>
-    ensures { IfOk result (λ doer. (j : Judged) → IsKept j (seen_by judge.old standing.old) counts.old
-        → IsJudgedBy options j said.entry acts.new.items verdicts.new.items (seen_by judge.new standing.new) counts.new doer) }
+    ensures { IfOk result (λ doer. (j : Judged) → IsKept j (seen_by judge.old standing.old exchanges.old) counts.old
+        → IsJudgedBy options j said.entry acts.new.items verdicts.new.items (seen_by judge.new standing.new exchanges.new) counts.new doer) }
 {
     let transfer = read_transfer(said, frame)?;
     let doer = first_doer(options.node, judge, transfer);
-    judge.see(transfer, acts, verdicts)?;
+    see_as(judge, options.is_joined, transfer, acts, verdicts)?;
     note_acts(standing, acts.as_slice())?;
+    note_exchange(options.is_summary, exchanges, transfer, time_of(said))?;
     keep_asked(options.only, verdicts);
     match counts.after(transfer, acts.as_slice(), verdicts.as_slice()) {
         Some(more) => {
@@ -74,7 +91,7 @@ pub(crate) fn remains_of<A: Allocator + Copy>(
     judge: &mut SessionJudge<A>,
     standing: &Standing<A>,
 ) -> Remains
-    ensures { AreLeft (seen_by judge.old standing.now) result }
+    ensures { AreLeft judge.old standing.now.nodes.entries standing.now.files.entries result }
 {
     Remains {
         unanswered: judge.unanswered(),
@@ -94,7 +111,7 @@ pub(crate) fn flush<W: Write>(out: &mut W) -> Result<(), OutputRefused>
 }
 
 /// Writes a text and hands it on, if there is any.
-pub(crate) fn print<W: Write>(out: &mut W, text: &[u8]) -> Result<(), OutputRefused>
+pub fn print<W: Write>(out: &mut W, text: &[u8]) -> Result<(), OutputRefused>
     ensures ok { OnOk result (Appends (W.contents out.old) (W.contents out.new) text.now) }
     ensures refused { OnErr result (AppendsSome (W.contents out.old) (W.contents out.new) text.now) }
 {
@@ -108,13 +125,14 @@ pub(crate) fn print<W: Write>(out: &mut W, text: &[u8]) -> Result<(), OutputRefu
 }
 
 impl<A: Allocator + Copy> Checker<A> {
-    /// A check that has seen no line.
-    pub(crate) fn new(alloc: A) -> Self
-        ensures { IsKept nothing_judged (seen_by result.judge result.standing) result.counts }
+    /// A check that has seen no line of a session, which is joined or begins.
+    pub(crate) fn new(alloc: A, is_joined: bool) -> Self
+        ensures { IsKept (nothing_judged is_joined) (seen_by result.judge result.standing result.exchanges) result.counts }
     {
         Checker {
-            judge: SessionJudge::new(alloc),
+            judge: start_judge(alloc, is_joined),
             standing: nothing_stands(alloc),
+            exchanges: nothing_exchanged(alloc),
             counts: NOTHING,
             frame: Vec::new(alloc),
             acts: Vec::new(alloc),
@@ -131,8 +149,8 @@ impl<A: Allocator + Copy> Checker<A> {
         number: u64,
         said: CaptureLine<'_>,
     ) -> Result<(), AllocError>
-        ensures { OnOk result ((j : Judged) → IsKept j (seen_by self.old.judge self.old.standing) self.old.counts
-            → IsJudgedAs options j number said.entry self.new.acts.items self.new.verdicts.items (seen_by self.new.judge self.new.standing)
+        ensures { OnOk result ((j : Judged) → IsKept j (seen_by self.old.judge self.old.standing self.old.exchanges) self.old.counts
+            → IsJudgedAs options j number said.entry self.new.acts.items self.new.verdicts.items (seen_by self.new.judge self.new.standing self.new.exchanges)
             self.new.counts self.new.text.items) }
     {
         let before = self.judge.unjudged();
@@ -141,6 +159,7 @@ impl<A: Allocator + Copy> Checker<A> {
             options,
             &mut self.judge,
             &mut self.standing,
+            &mut self.exchanges,
             &mut self.counts,
             &mut self.frame,
             &mut self.acts,
@@ -169,8 +188,8 @@ impl<A: Allocator + Copy> Checker<A> {
         said: CaptureLine<'_>,
         out: &mut W,
     ) -> Result<(), Stop>
-        ensures { (j : Judged) → IsKept j (seen_by self.old.judge self.old.standing) self.old.counts
-            → SaidEnds options j number said.entry (seen_by self.new.judge self.new.standing) self.new.counts result (W.contents out.old) (W.contents out.new) }
+        ensures { (j : Judged) → IsKept j (seen_by self.old.judge self.old.standing self.old.exchanges) self.old.counts
+            → SaidEnds options j number said.entry (seen_by self.new.judge self.new.standing self.new.exchanges) self.new.counts result (W.contents out.old) (W.contents out.new) }
     {
         if self.judge_line(options, number, said).is_err() {
             return Err(Stop::NoMemory);
@@ -189,9 +208,9 @@ impl<A: Allocator + Copy> Checker<A> {
         line: &[u8],
         out: &mut W,
     ) -> Result<(), Stop>
-        ensures { (lines : List (List ℕ)) (j : Judged) → Checks options lines j → IsKept j (seen_by self.old.judge self.old.standing) self.old.counts
+        ensures { (lines : List (List ℕ)) (j : Judged) → Checks options lines j → IsKept j (seen_by self.old.judge self.old.standing self.old.exchanges) self.old.counts
             → number ≡ length lines + 1
-            → LineEnds options lines j line.now (seen_by self.new.judge self.new.standing) self.new.counts result (W.contents out.old) (W.contents out.new) }
+            → LineEnds options lines j line.now (seen_by self.new.judge self.new.standing self.new.exchanges) self.new.counts result (W.contents out.old) (W.contents out.new) }
     {
         match read_line(line) {
             Ok(None) => Ok(()),

@@ -11,7 +11,7 @@ use fuse_sessions::{Act, Fault};
 use std::alloc::{AllocError, Allocator};
 
 /// Whose fault it is, and the rule that is broken.
-fn put_rule<A: Allocator>(text: &mut Vec<u8, A>, fault: Fault) -> Result<(), AllocError>
+pub(crate) fn put_rule<A: Allocator>(text: &mut Vec<u8, A>, fault: Fault) -> Result<(), AllocError>
     ensures { OnOk result (text.new.items
         ≡ text.old.items ++ (words.party_word (party_of fault) ++ codes ": " ++ words.fault_words fault)) }
 {

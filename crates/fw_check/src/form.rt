@@ -6,13 +6,16 @@ ghost use Rattle.fw_check.specs.Forms as words;
 ghost use Rattle.fw_check.specs.Life.{doer_for};
 ghost use Rattle.fw_check.specs.Running.{verdict_text};
 ghost use Rattle.fw_check.specs.Standing.{IsCountOf};
+ghost use Rattle.fw_check.specs.Summary.{exchanges_of};
 
 use crate::counts::Counts;
+use crate::exchanges::Exchanges;
 use crate::fault_line::put_fault_line;
 use crate::json::{put_counts_object, put_fault_object, put_unjudged_object};
 use crate::life::{Doer, put_life};
 use crate::options::{CheckForm, CheckOptions};
 use crate::remains::Remains;
+use crate::rows::put_table;
 use crate::unjudged::put_unjudged_line;
 use fuse_protocol::Unjudged;
 use fuse_sessions::{Act, Fault, Transfer};
@@ -77,7 +80,7 @@ fn put_faults<A: Allocator>(
 }
 
 /// What is printed of a transfer's acts: their faults, or what they do to the node that is asked for, which is counted so
-/// often before, and whose they are at first.
+/// often before, and whose they are at first. Nothing is, where the table of opcodes is asked for.
 pub(crate) fn put_act_lines<A: Allocator>(
     text: &mut Vec<u8, A>,
     options: CheckOptions,
@@ -88,11 +91,16 @@ pub(crate) fn put_act_lines<A: Allocator>(
     verdicts: &[Option<Fault>],
 ) -> Result<(), AllocError>
     ensures { OnOk result ((s : Session) (t : Transfer) → IsCountOf s options.node count → first ≡ doer_for options.node s t
-        → text.new.items ≡ text.old.items ++ words.act_lines options.node options.form number s t acts.now verdicts.now) }
+        → text.new.items ≡ text.old.items ++ words.act_lines options number s t acts.now verdicts.now) }
 {
     match options.node {
         Some(node) => put_life(text, number, node, count, first, acts),
-        None => put_faults(text, options.form, number, acts, verdicts),
+        None => {
+            if options.is_summary {
+                return Ok(());
+            }
+            put_faults(text, options.form, number, acts, verdicts)
+        }
     }
 }
 
@@ -128,7 +136,7 @@ pub(crate) fn put_leaving<A: Allocator>(
 }
 
 /// What is printed of the counts.
-pub(crate) fn put_counts<A: Allocator>(
+fn put_counts<A: Allocator>(
     text: &mut Vec<u8, A>,
     form: CheckForm,
     remains: Remains,
@@ -140,4 +148,22 @@ pub(crate) fn put_counts<A: Allocator>(
         CheckForm::Words => counts.put(text, remains),
         CheckForm::Json => put_counts_object(text, remains, counts),
     }
+}
+
+/// What is printed at the end: the table of opcodes, if it is asked for, and the counts. The buffer is for the table.
+pub(crate) fn put_end<A: Allocator>(
+    text: &mut Vec<u8, A>,
+    buffer: &mut Vec<u64, A>,
+    options: CheckOptions,
+    exchanges: &Exchanges<A>,
+    remains: Remains,
+    counts: Counts,
+) -> Result<(), AllocError>
+    ensures { OnOk result (text.new.items
+        ≡ text.old.items ++ words.closing_text options (exchanges_of exchanges.now) remains counts) }
+{
+    if options.is_summary {
+        put_table(text, buffer, options.form, exchanges)?;
+    }
+    put_counts(text, options.form, remains, counts)
 }

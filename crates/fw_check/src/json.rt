@@ -25,11 +25,30 @@ fn put_key<A: Allocator>(text: &mut Vec<u8, A>, key: &[u8]) -> Result<(), AllocE
 }
 
 /// A key and a number.
-fn put_field<A: Allocator>(text: &mut Vec<u8, A>, key: &[u8], number: u64) -> Result<(), AllocError>
+pub(crate) fn put_field<A: Allocator>(
+    text: &mut Vec<u8, A>,
+    key: &[u8],
+    number: u64,
+) -> Result<(), AllocError>
     ensures { OnOk result (text.new.items ≡ text.old.items ++ words.number_field key.now number) }
 {
     put_key(text, key)?;
     put_number(text, number)
+}
+
+/// A key and a number, or null.
+pub(crate) fn put_option_field<A: Allocator>(
+    text: &mut Vec<u8, A>,
+    key: &[u8],
+    number: Option<u64>,
+) -> Result<(), AllocError>
+    ensures { OnOk result (text.new.items ≡ text.old.items ++ words.option_field key.now number) }
+{
+    put_key(text, key)?;
+    match number {
+        Some(number) => put_number(text, number),
+        None => put(text, b"null"),
+    }
 }
 
 /// A key and a larger number.
@@ -54,7 +73,7 @@ fn put_quoted<A: Allocator>(text: &mut Vec<u8, A>, value: &[u8]) -> Result<(), A
 }
 
 /// A key and a text, which has no byte that JSON escapes.
-fn put_text_field<A: Allocator>(
+pub(crate) fn put_text_field<A: Allocator>(
     text: &mut Vec<u8, A>,
     key: &[u8],
     value: &str,

@@ -1,7 +1,8 @@
 //! The life of one node: what gives it, names it and forgets it.
 
 ghost use Rattle.std.specs.Prelude.{◌≡◌, ◌++◌, IfSome, List, OnOk};
-ghost use Rattle.fuse_judge.specs.Transfers.{HasSeenTransfers};
+ghost use Rattle.fuse_judge.specs.Transfers.{HasSeenFrom};
+ghost use Rattle.fuse_sessions.specs.declared.known.Known.{Known};
 ghost use Rattle.fuse_sessions.specs.Counts.{most_count};
 ghost use Rattle.fuse_sessions.specs.Sessions.{Session};
 ghost use Rattle.fw_check.specs.Life as words;
@@ -47,7 +48,7 @@ fn opcode_asked(asked: Option<Asked>) -> Option<Opcode>
 
 /// Whose the acts of the next transfer are, at its first.
 fn doer_of<A: Allocator + Copy>(judge: &SessionJudge<A>, transfer: Transfer<'_>) -> Doer
-    ensures { (transfers : List Transfer) (s : Session) → HasSeenTransfers transfers s judge.now
+    ensures { (start : Known) (transfers : List Transfer) (s : Session) → HasSeenFrom start transfers s judge.now
         → result ≡ words.doer_of s transfer.entry }
 {
     match transfer {
@@ -68,7 +69,7 @@ pub(crate) fn first_doer<A: Allocator + Copy>(
     judge: &SessionJudge<A>,
     transfer: Transfer<'_>,
 ) -> Doer
-    ensures { (transfers : List Transfer) (s : Session) → HasSeenTransfers transfers s judge.now
+    ensures { (start : Known) (transfers : List Transfer) (s : Session) → HasSeenFrom start transfers s judge.now
         → result ≡ words.doer_for node s transfer.entry }
 {
     match node {

@@ -20,6 +20,10 @@ pub struct CheckOptions {
     pub form: CheckForm,
     /// The node whose life is printed in place of the faults, in words in either form.
     pub node: Option<u64>,
+    /// Whether a table of opcodes is printed in place of the faults.
+    pub is_summary: bool,
     /// Whether the exit status counts a warning as a fault.
     pub is_strict: bool,
+    /// Whether the session is joined in its middle: of its faults those alone are named that are certain whatever went before.
+    pub is_joined: bool,
 }

@@ -8,7 +8,7 @@ use std::io::{ErrorKind, Write};
 
 /// An output did not take all that was written.
 #[derive(Clone, Copy, Debug, PartialEq, Eq)]
-pub(crate) struct OutputRefused;
+pub struct OutputRefused;
 
 /// Writes bytes, and says how many were taken. What is interrupted is tried again.
 fn write_some<W: Write>(out: &mut W, bytes: &[u8]) -> Result<usize, OutputRefused>

@@ -123,7 +123,7 @@ pub(crate) fn forgotten_after(count: u128, acts: &[Act]) -> Option<u128>
 }
 
 /// A count of a party's faults, and those that verdicts are.
-pub(crate) fn faults_after(count: u64, party: Party, verdicts: &[Option<Fault>]) -> Option<u64>
+pub fn faults_after(count: u64, party: Party, verdicts: &[Option<Fault>]) -> Option<u64>
     ensures { IfSome result (λ n. n ≡ count + sum_by (λ v. words.one_if (words.is_of party v)) verdicts.now) }
 {
     let mut faults = count;

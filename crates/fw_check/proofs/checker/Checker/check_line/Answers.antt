@@ -1,5 +1,5 @@
 use Rattle.std.proofs.Common.{[]}
-use Rattle.fw_check.proofs.CheckLaws.{line_passed_over, line_said}
+use Rattle.fw_check.proofs.CheckLaws.{line_passed_over, line_said, time_said}
 use Rattle.fw_check.proofs.Writes.{Appends-nil}
 use Rattle.fw_check.proofs.checker.Checker.check_line.Goals as goal
 
@@ -11,5 +11,6 @@ returns-in-Ok-None g c lines j checks kept number =
 pub returns-in-Ok-Some : goal.returns-in-Ok-Some
 returns-in-Ok-Some g c lines j checks kept number =
     let said = rw c.in-Ok-Some.field-0-is at c.in-Ok-Some.ensures.says in
-    line_said c.args.options c.check_said.result lines j c.args.line.now c.args.number c.in-Ok-Some.said _ _ _ _ checks said number
+    let timed = rw c.in-Ok-Some.field-0-is at c.in-Ok-Some.ensures.time in
+    line_said c.args.options c.check_said.result lines j c.args.line.now c.args.number c.in-Ok-Some.said _ _ _ _ checks said (time_said c.args.line.now c.in-Ok-Some.said timed) number
     (c.check_said.ensures j kept)

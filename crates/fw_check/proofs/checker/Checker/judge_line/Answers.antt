@@ -15,13 +15,13 @@ returns g c = OnOk-map _ _ c.put_leaving.result (λ put j kept.
     let t = so.transfer in
     let lines = c.in_ok-put_act_lines.ensures j.acts t (c.count_of_node-count.ensures j.acts kept.stands) who in
     let lines_are = lines
-    ∙ ap (λ old. old ++ act_lines o.node o.form number j.acts t c.as_slice.result.now c.as_slice-2.result.now) c.clear.ensures.items
-    ∙ ap (λ l. act_lines o.node o.form number j.acts t l c.as_slice-2.result.now) c.as_slice.ensures.value
-    ∙ ap (λ l. act_lines o.node o.form number j.acts t acts l) c.as_slice-2.ensures.value in (
+    ∙ ap (λ old. old ++ act_lines o number j.acts t c.as_slice.result.now c.as_slice-2.result.now) c.clear.ensures.items
+    ∙ ap (λ l. act_lines o number j.acts t l c.as_slice-2.result.now) c.as_slice.ensures.value
+    ∙ ap (λ l. act_lines o number j.acts t acts l) c.as_slice-2.ensures.value in (
       so,
       put ∙ ap (λ l. l ++ leaving_text o.form number before after) lines_are
-          ∙ ap (λ b. act_lines o.node o.form number j.acts t acts verdicts ++ leaving_text o.form number b after)
+          ∙ ap (λ b. act_lines o number j.acts t acts verdicts ++ leaving_text o.form number b after)
           (c.unjudged-before.ensures ∙ ap (λ k. k.unjudged) (sym kept.known))
-          ∙ ap (λ a. act_lines o.node o.form number j.acts t acts verdicts ++ leaving_text o.form number j.known.unjudged a) c.unjudged-after.ensures,
+          ∙ ap (λ a. act_lines o number j.acts t acts verdicts ++ leaving_text o.form number j.known.unjudged a) c.unjudged-after.ensures,
     ))
     c.put_leaving.ensures
