@@ -1,0 +1,4 @@
+use Rattle.fw_judged.proofs.lines.FaultLines.see_written.Goals as goal
+
+pub returns-in-Judging : goal.returns-in-Judging
+returns-in-Judging g c f s right = c.judge_written.ensures f s right c.in-Judging.is
