@@ -11,4 +11,6 @@ mod stop;
 mod totals;
 
 pub use decode::run_decode;
+pub use lines::next_line;
 pub use session::Decoding;
+pub use stop::Stop;

@@ -8,7 +8,11 @@ use std::alloc::Allocator;
 use std::io::{BufRead, ErrorKind};
 
 /// Reads the next line in place of the one before, without its line feed. Says whether there was one.
-pub(crate) fn next_line<'a, A: Allocator, R: BufRead>(
+///
+/// # Errors
+///
+/// The input cannot be read, or out of memory.
+pub fn next_line<'a, A: Allocator, R: BufRead>(
     name: &'a str,
     input: &mut R,
     line: &mut Vec<u8, A>,

@@ -1,5 +1,7 @@
 //! A capture, transfer after transfer.
 
+ghost use Rattle.std.specs.Prelude.{◌≡◌};
+
 use crate::frames::{write_answered, write_unread};
 use crate::stop::{Stop, taken};
 use crate::totals::Totals;
@@ -8,7 +10,7 @@ use fuse_judge::SessionJudge;
 use fuse_protocol::Unjudged;
 use fuse_sessions::{Act, Fault, Taken, Transfer};
 use fw_check::{fault_words, party_word, unjudged_words};
-use std::alloc::Allocator;
+use std::alloc::{AllocError, Allocator};
 use std::io;
 use std::io::Write;
 
@@ -77,8 +79,12 @@ impl<A: Allocator + Copy> Decoding<A> {
         }
     }
 
-    /// Writes a transfer in words.
-    fn write_transfer<W: Write>(&self, transfer: Transfer<'_>, out: &mut W) -> io::Result<()> {
+    /// Writes a transfer in words, without what the judge says of it. Nothing is noted.
+    ///
+    /// # Errors
+    ///
+    /// What `out` refuses.
+    pub fn write_transfer<W: Write>(&self, transfer: Transfer<'_>, out: &mut W) -> io::Result<()> {
         match transfer {
             Transfer::Request(bytes) => {
                 out.write_all(b"> ")?;
@@ -96,11 +102,26 @@ impl<A: Allocator + Copy> Decoding<A> {
     }
 
     /// The judge sees the next transfer: its acts, and their faults.
-    fn see(&mut self, transfer: Transfer<'_>) -> Result<(), Stop<'static>> {
-        match self.judge.see(transfer, &mut self.acts, &mut self.verdicts) {
-            Ok(()) => Ok(()),
-            Err(_) => Err(Stop::NoMemory),
-        }
+    ///
+    /// # Errors
+    ///
+    /// Out of memory.
+    pub fn see(&mut self, transfer: Transfer<'_>) -> Result<(), AllocError> {
+        self.judge.see(transfer, &mut self.acts, &mut self.verdicts)
+    }
+
+    /// The acts of the transfer that was seen last.
+    pub fn acts(&self) -> &[Act]
+        ensures { result.now ≡ self.now.acts.items }
+    {
+        self.acts.as_slice()
+    }
+
+    /// The fault of each of these acts, or `None`.
+    pub fn verdicts(&self) -> &[Option<Fault>]
+        ensures { result.now ≡ self.now.verdicts.items }
+    {
+        self.verdicts.as_slice()
     }
 
     /// Writes the line of the next transfer, and notes it.
@@ -112,7 +133,7 @@ impl<A: Allocator + Copy> Decoding<A> {
     ) -> Result<(), Stop<'static>> {
         taken(self.write_transfer(transfer, out))?;
         let before = self.judge.unjudged();
-        self.see(transfer)?;
+        self.see(transfer).map_err(|_| Stop::NoMemory)?;
         taken(write_verdicts(out, self.verdicts.as_slice()))?;
         taken(write_leaving(out, before, self.judge.unjudged()))?;
         taken(out.write_all(b"\n"))?;

@@ -8,9 +8,9 @@ use std::io;
 use std::io::Write;
 use thiserror::Error;
 
-/// Why the command ends early.
+/// Why a command that reads a capture ends early.
 #[derive(Clone, Copy, Debug, Drop, Error)]
-pub(crate) enum Stop<'a> {
+pub enum Stop<'a> {
     #[error("cannot read {name}")]
     CannotRead { name: &'a str },
     #[error("line {number}: {fault}")]
@@ -34,7 +34,7 @@ impl Stop<'_> {
     /// printed.
     ///
     /// What `faults` refuses is lost.
-    pub(crate) fn report<F: Write>(self, faults: &mut F) -> u8
+    pub fn report<F: Write>(self, faults: &mut F) -> u8
         ensures { result ≡ status_of self.entry }
     {
         if !matches!(self, Stop::OutputRefused) {

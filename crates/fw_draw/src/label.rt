@@ -37,7 +37,11 @@ fn limit_of(column: Column) -> usize {
 }
 
 /// A text of at most this many characters: of a longer one its beginning, and `..`.
-fn cut<A: Allocator>(alloc: A, text: &[u8], limit: usize) -> Result<Vec<u8, A>, AllocError>
+///
+/// # Errors
+///
+/// Out of memory.
+pub fn cut<A: Allocator>(alloc: A, text: &[u8], limit: usize) -> Result<Vec<u8, A>, AllocError>
     ensures short { length text.now ≤ limit → IfOk result (λ short. short.items ≡ text.now) }
     ensures long { limit < length text.now → IfOk result (λ short. short.items ≡ take limit text.now ++ codes "..") }
 {

@@ -16,3 +16,5 @@ mod script;
 mod svg;
 
 pub use draw::draw_script;
+pub use label::cut;
+pub use svg::{print_svg, write_escaped};

@@ -51,7 +51,11 @@ fn write_escaped_byte<W: Write>(out: &mut W, byte: u8) -> io::Result<()>
 
 /// Writes a text, in which `&`, `<`, `>` and `"` are escaped. A byte that is no printable ASCII character is written as
 /// `?`.
-fn write_escaped<W: Write>(out: &mut W, text: &[u8]) -> io::Result<()>
+///
+/// # Errors
+///
+/// What `out` refuses.
+pub fn write_escaped<W: Write>(out: &mut W, text: &[u8]) -> io::Result<()>
     ensures { OnOk result (Appends (W.contents out.old) (W.contents out.new) (escaped text.now)) }
 {
     for byte in text {
@@ -285,7 +289,11 @@ pub(crate) fn inner_text<A: Allocator + Copy>(
 }
 
 /// Writes an SVG element, and hands all on that was written.
-pub(crate) fn print_svg<W: Write>(out: &mut W, inner: &[u8]) -> io::Result<()>
+///
+/// # Errors
+///
+/// What `out` refuses.
+pub fn print_svg<W: Write>(out: &mut W, inner: &[u8]) -> io::Result<()>
     ensures { OnOk result (Appends (W.contents out.old) (W.contents out.new) (svg_text inner.now)) }
 {
     out.write_all(b"<svg xmlns=\"http://www.w3.org/2000/svg\" ")?;
