@@ -199,7 +199,7 @@ said_line A logs f d had has driver r line made is goes =
 
 -- ---- the lines of a script
 
-mounted : {A : Type 0} (f : Form) → IsOfCalls f → (m : List (Move A)) → FirstThen (IsMoveOf mount_line) Carries m
+pub mounted : {A : Type 0} (f : Form) → IsOfCalls f → (m : List (Move A)) → FirstThen (IsMoveOf mount_line) Carries m
     → LinesMove f (mount_lines f) m
 mounted f of_calls m are =
     subst (λ (l : List DriveLine). LinesMove f l m) (sym (mounts f of_calls))

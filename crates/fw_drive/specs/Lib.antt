@@ -1,5 +1,6 @@
 pub mod Acts
 pub mod DriveLines
+pub mod Inputs
 pub mod Judging
 pub mod LineMoves
 pub mod Moves
@@ -8,3 +9,4 @@ pub mod Printed
 pub mod Printing
 pub mod PrintingLaws
 pub mod Runs
+pub mod Sources

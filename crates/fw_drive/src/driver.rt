@@ -13,6 +13,7 @@ ghost use Rattle.fw_drive.specs.Moves.{Moves, sends, writes};
 ghost use Rattle.fw_drive.specs.Runs.{Keeps, at};
 
 use crate::acting::act;
+use crate::source::Standing;
 use fk_drive::{
     Connection, DriveEnd, FreeFields, NotSent, Notes as FrameNotes, Written, send_next, write_next,
 };
@@ -154,6 +155,23 @@ impl<T: Tables> Driver<T> {
     /// Whether a call waits for its answer.
     pub(crate) fn is_asking(&self) -> bool {
         self.kernel.unanswered() != 0
+    }
+
+    /// What the kernel has just then.
+    pub(crate) fn standing(&self) -> Standing {
+        let mut pending = 0;
+        for place in 0..u64::MAX {
+            if self.kernel.read_refusal(Pick::Pending(place)).is_some() {
+                break;
+            }
+            pending = place + 1;
+        }
+        Standing {
+            calls: self.kernel.unanswered(),
+            pending,
+            is_interrupting: self.kernel.read_refusal(Pick::Interrupt).is_none(),
+            is_forgetting: self.kernel.read_refusal(Pick::Forgets(1)).is_none(),
+        }
     }
 
     /// The nodes that the kernel counts, each its id, its generation and its lookup count.

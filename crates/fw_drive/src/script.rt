@@ -127,7 +127,7 @@ fn run_carried<T: Tables, D: Device, W: Write>(
 }
 
 /// Does what a line says, and hands on what was printed.
-fn do_line<T: Tables, D: Device, W: Write>(
+pub(crate) fn do_line<T: Tables, D: Device, W: Write>(
     alloc: T::Heap,
     driver: &mut Driver<T>,
     device: &mut D,

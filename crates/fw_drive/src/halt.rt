@@ -1,0 +1,42 @@
+//! Why lines that are given one at a time are run no more.
+
+ghost use Rattle.std.specs.Prelude.{◌≡◌, Err};
+ghost use Rattle.fw_drive.specs.Sources.{EndsRun};
+
+use crate::source::NoLine;
+use crate::stop::Stop;
+use fw_script::{LineFault, bad_line, cannot_read, no_memory};
+use std::alloc::Allocator;
+use std::io::Write;
+
+/// Why lines are run no more before their source is at its end.
+#[derive(Clone, Copy, Debug, PartialEq, Eq)]
+pub(crate) enum Halt {
+    /// A line has a fault, by its number from 1.
+    BadLine { number: usize, fault: LineFault },
+    /// The source gives none.
+    NoLine(NoLine),
+    /// The run came to its end at a line.
+    Stopped(Stop),
+}
+
+impl Halt {
+    /// Says it, why the run came to its end on the output and all else on `faults`, and gives the exit status.
+    pub(crate) fn report<A: Allocator, W: Write, F: Write>(
+        self,
+        name: &str,
+        out: &mut W,
+        faults: &mut F,
+    ) -> u8
+        ensures { EndsRun A name.now (Err self) result (W.contents out.old) (W.contents out.new) (F.contents faults.old)
+            (F.contents faults.new) }
+    {
+        match self {
+            Halt::BadLine { number, fault } => bad_line(number, fault, faults),
+            Halt::NoLine(NoLine::CannotRead) => cannot_read(name, faults),
+            Halt::NoLine(NoLine::NoMemory) => no_memory(faults),
+            Halt::NoLine(NoLine::OutputRefused) => 5,
+            Halt::Stopped(stop) => stop.report::<A, W, F>(out, faults),
+        }
+    }
+}
