@@ -6,7 +6,7 @@
 
 SCRIPT ?= tests/rows/stat-of-root.script
 
-.PHONY: run try unproved test build mount watch vectors lib install uninstall dist dist-tests bench drive-tests watch-tests watch-times wrong-bodies check rows docs fmt
+.PHONY: run try unproved test build mount watch vectors lib install uninstall dist dist-tests bench explore drive-tests watch-tests watch-times wrong-bodies check rows docs fmt
 
 run: build
 	@crates/fuseworld/out/fuseworld run "$(SCRIPT)"
@@ -112,6 +112,10 @@ bench: build
 # The scripts of examples/drive, on the servers of others whose packages are there.
 drive-tests: build
 	@python3 tests/drive_servers.py
+
+# Random events before `serve`, and before the same behind a peer that has one bug of counts.
+explore: build
+	@python3 tests/explore.py
 
 # A small server on a watched mount, whose frames examples/watch writes down; one with each of 27 bugs; then servers of
 # others whose packages are there, under load. ARGS has further words for tests/watch_servers.py.

@@ -9,17 +9,17 @@ _fuseworld() {
         case ${COMP_WORDS[1]} in
             run) flags="--hex --help"; files=yes ;;
             socket) flags="--help"; files=yes ;;
-            draw) flags="--help"; files=yes ;;
+            draw) flags="--around --help"; files=yes ;;
             frame) flags="--words --any --help" ;;
             reply)
                 flags="--any --asked --help"
                 [ "$COMP_CWORD" -gt 2 ] || words="LOOKUP GETATTR MKDIR UNLINK RMDIR RENAME LINK OPEN READ WRITE RELEASE INIT READDIR CREATE INTERRUPT READDIRPLUS"
                 ;;
             decode) flags="--help"; files=yes ;;
-            check) flags="--server --kernel --json --node --strict --help"; files=yes ;;
+            check) flags="--server --kernel --json --node --summary --strict --joined --help"; files=yes ;;
             vectors) flags="--all --help" ;;
-            serve) flags="--found --missing --minor --show --trace --help"; files=yes ;;
-            drive) flags="--calls --beside --no-opendir --trace --wait --offer --help"; files=yes ;;
+            serve) flags="--found --missing --minor --show --trace --check --capture --help"; files=yes ;;
+            drive) flags="--calls --beside --no-opendir --trace --check --capture --wait --offer --random --seed --events --help"; files=yes ;;
             kernel | server) flags="--json --help" ;;
             help) words=$commands ;;
         esac

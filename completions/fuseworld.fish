@@ -11,6 +11,7 @@ complete -c fuseworld -n __fish_use_subcommand -a socket -d 'Run a script over a
 complete -c fuseworld -n '__fish_seen_subcommand_from socket' -l help -d 'Print help'
 
 complete -c fuseworld -n __fish_use_subcommand -a draw -d 'Draw a run of a script as an SVG picture'
+complete -c fuseworld -n '__fish_seen_subcommand_from draw' -l around -x -d 'Draw the frames around this line of a capture'
 complete -c fuseworld -n '__fish_seen_subcommand_from draw' -l help -d 'Print help'
 
 complete -c fuseworld -n __fish_use_subcommand -a frame -d 'Read one request frame'
@@ -31,7 +32,9 @@ complete -c fuseworld -n '__fish_seen_subcommand_from check' -l server -d 'Print
 complete -c fuseworld -n '__fish_seen_subcommand_from check' -l kernel -d 'Print the faults of the kernel alone'
 complete -c fuseworld -n '__fish_seen_subcommand_from check' -l json -d 'Print one JSON object for each line'
 complete -c fuseworld -n '__fish_seen_subcommand_from check' -l node -x -d 'Print the life of this node'
+complete -c fuseworld -n '__fish_seen_subcommand_from check' -l summary -d 'Print a table of opcodes'
 complete -c fuseworld -n '__fish_seen_subcommand_from check' -l strict -d 'Let the exit status count a warning as a fault'
+complete -c fuseworld -n '__fish_seen_subcommand_from check' -l joined -d 'Judge a session from its middle on'
 complete -c fuseworld -n '__fish_seen_subcommand_from check' -l help -d 'Print help'
 
 complete -c fuseworld -n __fish_use_subcommand -a vectors -d 'Print frames of each kind with the codec\'s verdicts'
@@ -44,6 +47,8 @@ complete -c fuseworld -n '__fish_seen_subcommand_from serve' -l missing -x -d 'H
 complete -c fuseworld -n '__fish_seen_subcommand_from serve' -l minor -x -a '15 31' -d 'The minor version'
 complete -c fuseworld -n '__fish_seen_subcommand_from serve' -l show -d 'Print the nodes that are held at the end'
 complete -c fuseworld -n '__fish_seen_subcommand_from serve' -l trace -d 'Print each frame in words'
+complete -c fuseworld -n '__fish_seen_subcommand_from serve' -l check -d 'Print each fault as its frame goes over'
+complete -c fuseworld -n '__fish_seen_subcommand_from serve' -l capture -r -F -d 'Write what goes over the device to this file'
 complete -c fuseworld -n '__fish_seen_subcommand_from serve' -l help -d 'Print help'
 
 complete -c fuseworld -n __fish_use_subcommand -a drive -d 'Drive a FUSE server by a script'
@@ -51,8 +56,13 @@ complete -c fuseworld -n '__fish_seen_subcommand_from drive' -l calls -d 'Carry 
 complete -c fuseworld -n '__fish_seen_subcommand_from drive' -l beside -d 'Compare each answer with that of this server'
 complete -c fuseworld -n '__fish_seen_subcommand_from drive' -l no-opendir -d 'Do not open a directory before it is listed'
 complete -c fuseworld -n '__fish_seen_subcommand_from drive' -l trace -d 'Print each frame in words'
+complete -c fuseworld -n '__fish_seen_subcommand_from drive' -l check -d 'Print each fault as its frame goes over'
+complete -c fuseworld -n '__fish_seen_subcommand_from drive' -l capture -r -F -d 'Write what goes over the device to this file'
 complete -c fuseworld -n '__fish_seen_subcommand_from drive' -l wait -x -d 'How many milliseconds a reply is waited for'
 complete -c fuseworld -n '__fish_seen_subcommand_from drive' -l offer -x -d 'Further flags of INIT, in hex'
+complete -c fuseworld -n '__fish_seen_subcommand_from drive' -l random -d 'Choose the events, in the place of a script'
+complete -c fuseworld -n '__fish_seen_subcommand_from drive' -l seed -x -d 'The number that chooses them'
+complete -c fuseworld -n '__fish_seen_subcommand_from drive' -l events -x -d 'How many are chosen'
 complete -c fuseworld -n '__fish_seen_subcommand_from drive' -l help -d 'Print help'
 
 complete -c fuseworld -n __fish_use_subcommand -a kernel -d 'Be the kernel alone, a line at a time'

@@ -38,7 +38,7 @@ check() {
     fi
 }
 
-start 120 --show --trace
+start 120 --show --trace --capture "$work/capture"
 
 step 'mkdir d; ls' << 'END'
 d
@@ -179,5 +179,10 @@ check "somebody broke a rule: $(grep -m 1 -E "; (kernel|server|device): " "$trac
 for opcode in INIT LOOKUP FORGET GETATTR MKDIR UNLINK RMDIR RENAME LINK OPEN READ WRITE RELEASE READDIRPLUS CREATE; do
     check "no $opcode came" grep -q "^> $opcode " "$trace"
 done
+"$program" check "$work/capture" > "$work/out" 2>&1
+status=$?
+check "the capture is judged: $(head -n 1 "$work/out")" [ "$status" = 0 ]
+check "it has another count of frames than the trace" \
+    [ "$(grep -c '^[<>] ' "$work/capture")" = "$(grep -c '^[<>] ' "$trace")" ]
 echo "$passed checks on a real mount passed, $failed failed; $(grep -c '^> ' "$trace") requests came"
 [ "$failed" = 0 ]

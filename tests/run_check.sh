@@ -153,6 +153,93 @@ echo "error: --json and --node exclude each other" > "$work/want-err"
 judged "the life of a node in JSON" 2 --json --node 2 tests/sessions/forgets.capture
 : > "$work/want-err"
 
+# The table of opcodes, in place of faults, which are counted as ever. tests/summary.py makes it by itself.
+for expected in tests/sessions/*.expected; do
+    capture=${expected%.expected}.capture
+    status=6
+    tail -n 1 "$expected" | grep -qx "faults: kernel 0 server 0 device 0, warnings [0-9]*" && status=0
+    { grep "^line [0-9]*: not judged from here on: " "$expected"; python3 -B tests/summary.py "$capture"; tail -n 2 "$expected"; } > "$work/want-out"
+    judged "the opcodes of $capture" "$status" --summary "$capture"
+    python3 tests/check_json.py "$expected" > "$work/objects"
+    { head -n 1 "$work/objects"; grep '^{"event":"unjudged"' "$work/objects"; python3 -B tests/summary.py --json "$capture"
+        tail -n 1 "$work/objects"; } > "$work/want-out"
+    judged "the opcodes of $capture in JSON" "$status" --summary --json "$capture"
+done
+
+# Times, by hand. STATFS takes 10 to 100 ns, out of order: five of ten are no longer than 50, nine than 90. One STATFS has
+# a reply whose length is wrong, and waits. LOOKUP 4 has a reply that finds no request, one with ENOENT after 400 ns, and
+# a second one; LOOKUP 6 has no time; LOOKUP 8 has a reply from before it. Opcode 99 is not known; a header is cut.
+asked() { # asked CODE UNIQUE [@TIME]: a request without a body
+    printf '> %s28000000%02x000000%02x00000000000000010000000000000000000000000000000000000000000000\n' "${3:+$3 }" "$1" "$2"
+}
+looked_up() { # looked_up UNIQUE [@TIME]: a LOOKUP of a
+    printf '> %s2a00000001000000%02x000000000000000100000000000000000000000000000000000000000000006100\n' "${2:+$2 }" "$1"
+}
+failed() { # failed ERROR UNIQUE @TIME [ERRNO]: a reply with an error
+    printf '< %s 10000000%s%02x00000000000000%s\n' "$3" "$1" "$2" "${4:+ $4}"
+}
+{
+    echo "> @100 380000001a0000000200000000000000000000000000000000000000000000000000000000000000070000001f0000000000000001000000"
+    echo "< @1600 50000000000000000200000000000000070000001f0000000000000000000000000000000010000001000000 +36"
+    looked_up 4 @2000
+    failed feffffff 4 @2010 ENOENT
+    failed feffffff 4 @2400
+    failed feffffff 4 @2500
+    looked_up 6
+    failed feffffff 6 @2600
+    looked_up 8 @3000
+    failed feffffff 8 @2900
+    unique=10
+    for time in 70 10 100 30 90 50 20 80 40 60; do
+        asked 17 $unique @4000
+        printf '< @%d 6000000000000000%02x00000000000000%0160d\n' $((4000 + time)) $unique 0
+        unique=$((unique + 2))
+    done
+    asked 17 30 @5000
+    echo "< @5001 110000000000000000001e00000000000000 EINVAL"
+    echo "> @5100 300000002400000005000000000000000000000000000000000000000000000000000000000000000400000000000000"
+    failed f5ffffff 5 @5107
+    echo "> 300000000200000020000000000000000700000000000000000000000000000000000000000000000100000000000000"
+    asked 99 34 @6000
+    failed daffffff 34 @6005
+    echo "> @7000 2800000001000000"
+} > "$work/times"
+cat > "$work/want-table" <<END
+opcode requests replies errors median p90 max
+LOOKUP 3 3 3 0 400 400
+FORGET 1 0 0 - - -
+STATFS 11 10 0 50 90 100
+INIT 1 1 0 1500 1500 1500
+INTERRUPT 1 1 1 7 7 7
+unknown 2 1 1 5 5 5
+END
+cp "$work/want-table" "$work/want-out"
+python3 -B tests/summary.py "$work/times" > "$work/out"
+judge "the opcodes of a session with times, by tests/summary.py" $? 0
+"$program" check "$work/times" > "$work/plain"
+code=$?
+{ cat "$work/want-table"; tail -n 2 "$work/plain"; } > "$work/want-out"
+judged "the opcodes of a session with times" "$code" --summary "$work/times"
+cat > "$work/want-objects" <<'END'
+{"event":"opcode","opcode":"LOOKUP","requests":3,"replies":3,"errors":3,"median":0,"p90":400,"max":400}
+{"event":"opcode","opcode":"FORGET","requests":1,"replies":0,"errors":0,"median":null,"p90":null,"max":null}
+{"event":"opcode","opcode":"STATFS","requests":11,"replies":10,"errors":0,"median":50,"p90":90,"max":100}
+{"event":"opcode","opcode":"INIT","requests":1,"replies":1,"errors":0,"median":1500,"p90":1500,"max":1500}
+{"event":"opcode","opcode":"INTERRUPT","requests":1,"replies":1,"errors":1,"median":7,"p90":7,"max":7}
+{"event":"opcode","opcode":"unknown","requests":2,"replies":1,"errors":1,"median":5,"p90":5,"max":5}
+END
+"$program" check --json "$work/times" > "$work/plain"
+{ head -n 1 "$work/plain"; cat "$work/want-objects"; tail -n 1 "$work/plain"; } > "$work/want-out"
+judged "the opcodes of a session with times in JSON" "$code" --summary --json "$work/times"
+"$program" check --server "$work/times" > "$work/plain"
+code=$?
+{ cat "$work/want-table"; tail -n 2 "$work/plain"; } > "$work/want-out"
+judged "the opcodes where the server alone is judged" "$code" --summary --server "$work/times"
+: > "$work/want-out"
+echo "error: --summary and --node exclude each other" > "$work/want-err"
+judged "the opcodes and the life of a node" 2 --summary --node 2 tests/sessions/forgets.capture
+: > "$work/want-err"
+
 # A strict check: a warning counts as a fault, and nothing else changes.
 for expected in tests/sessions/*.expected; do
     capture=${expected%.expected}.capture
@@ -164,6 +251,30 @@ done
 grep -v "^line [0-9]*: warning: \|^faults: " tests/sessions/handles-given-again.expected > "$work/want-out"
 echo "faults: kernel 0 server 0 device 0, warnings 0" >> "$work/want-out"
 judged "warnings with --strict and --server" 0 --strict --server tests/sessions/handles-given-again.capture
+
+# A session that is joined in its middle: no fault that what went before may excuse.
+: > "$work/want-out"
+python3 -B tests/joined.py --cuts 4 "$program" tests/sessions/*.capture > "$work/out"
+code=$?
+: > "$work/err"
+judge "captures that are cut, with --joined" "$code" 0
+
+# A LOOKUP that is answered twice, and a node that no entry gave: the second reply is certain, the node is not.
+cat > "$work/middle" <<END
+> 2a0000000100000004000000000000000100000000000000e8030000e80300004d000000000000006100
+< 10000000feffffff0400000000000000
+< 10000000feffffff0400000000000000 ENOENT
+> 280000000500000006000000000000000900000000000000e8030000e80300004d00000000000000
+END
+cat > "$work/want-out" <<END
+line 3: server: second reply: unique 4
+requests 2 replies 2 notifications 0 refused 1 unanswered 1 entries 0 forgotten 0 nodes 0 open 0
+faults: kernel 0 server 1 device 0, warnings 0
+END
+judged "a session from its middle on" 6 --joined "$work/middle"
+grep -v "^line " "$work/want-out" | sed "s/server 1/server 0/" > "$work/want-kernel"
+mv "$work/want-kernel" "$work/want-out"
+judged "its kernel alone" 0 --joined --kernel "$work/middle"
 
 # Each rule is broken somewhere, and there is each warning.
 cat tests/sessions/*.expected | sed -n 's/^line [0-9]*: \([a-z]*: [^:]*\).*/\1/p' | sort -u | wc -l > "$work/out"

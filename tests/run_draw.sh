@@ -109,8 +109,53 @@ code=$?
 : > "$work/want-err"
 judge "a full device" "$code" 5
 
+# The frames around the eighteenth line of a capture: those from twelve lines before it to the end.
+forgets=tests/sessions/forgets.capture
+"$program" draw --around 18 $forgets > "$work/picture" 2> "$work/err"
+code=$?
+is_picture "$work/picture" 2>> "$work/err"
+{
+    sed -n -E 's/^<text x="10" [^>]*>(line [0-9]+)<\/text>$/\1/p' "$work/picture"
+    grep -c -F 'marker-end="url(#head)"/>' "$work/picture"
+    sed -n -E 's/^<text [^>]*fill="#c00">(kernel: .*)<\/text>$/\1/p' "$work/picture"
+} > "$work/out"
+{
+    sed -n -E '/^[<>]/{=}' $forgets | sed -n -E '/^([6-9]|[12][0-9])$/s/^/line /p'
+    sed -n '6,$p' $forgets | grep -c '^[<>]'
+    "$program" check $forgets | sed -n -E 's/^line ([6-9]|[12][0-9]): (kernel: [^:]*)(: .*)?$/\2/p'
+} > "$work/want-out"
+: > "$work/want-err"
+judge "the frames around a line" "$code" 0
+
+# How often nodes are counted, worked out by hand: an entry that gives node 7, and a FORGET of it.
+{
+    printf '> 380000001a0000000200000000000000000000000000000000000000000000000000000000000000070000002d0000000000000000000000\n'
+    printf '< 18000000000000000200000000000000070000002d000000\n'
+    printf '> 2a0000000100000004000000000000000100000000000000e8030000e80300004d000000000000006100\n'
+    printf '< %s\n' 9000000000000000040000000000000007000000000000000000000000000000000000000000000000000000000000000000000000000000090000000000000000000000000000000000000000000000000000000000000000000000000000000000000000000000000000000000000000000000a4810000010000000000000000000000000000000000000000000000
+    printf '> 300000000200000006000000000000000700000000000000e8030000e80300004d000000000000000100000000000000\n'
+} > "$work/in"
+"$program" draw --around 4 - < "$work/in" > "$work/picture" 2> "$work/err"
+code=$?
+is_picture "$work/picture" 2>> "$work/err"
+sed -n -E 's/^<text x="710" [^>]*fill="#000">(.+)<\/text>$/\1/p' "$work/picture" > "$work/out"
+printf '7:1\n7:0\n' > "$work/want-out"
+judge "nodes where their counts change" "$code" 0
+
+# Of a bad line that stands near, or before, nothing is drawn; one that comes later is not read.
+{ cat $forgets; printf '> 6G\n'; } > "$work/script"
+last=$(wc -l < "$work/script")
+: > "$work/in"
+expect "a bad line near" 1 "" "line $last: bad hex$newline" draw --around "$((last - 3))" "$work/script"
+"$program" draw --around "$((last - 13))" "$work/script" > /dev/null 2> "$work/err"
+code=$?
+: > "$work/out"
+: > "$work/want-out"
+: > "$work/want-err"
+judge "a bad line that comes later" "$code" 0
+
 # The command line. Its help goes to standard error.
-for words in "draw" "draw --help" "draw a b" "draw --hex a"; do
+for words in "draw" "draw --help" "draw a b" "draw --hex a" "draw --around x a"; do
     # shellcheck disable=SC2086
     "$program" $words < /dev/null > "$work/out" 2> "$work/err"
     code=$?

@@ -448,6 +448,41 @@ def run_words():
         judge(f"{words}", (run.stdout, run.stderr), ("", line + "\n"))
 
 
+def run_input():
+    """`drive -`: each line of standard input is run, and what it comes to printed, before the next is read."""
+    with served([], ["unread"], Server().serve) as (command, gave):
+        command = [*command[:2], "-", command[3]]
+        run = subprocess.Popen(command, stdin=subprocess.PIPE, stdout=subprocess.PIPE, stderr=subprocess.PIPE, text=True, bufsize=1)
+
+        def say(line, count=1):
+            run.stdin.write(line + "\n")
+            run.stdin.flush()
+            return [run.stdout.readline().rstrip("\n") for _ in range(count)]
+
+        judge("- mounts", [say(line) for line in MOUNT], [[line] for line in MOUNTED])
+        judge("- passes over", say("# nothing", 0) + say("", 0), [])
+        judge("- runs a line", say("call create /f"), ["call 1"])
+        judge("- sends what it comes to", say("read p 0"), ["read 4 CREATE 58"])
+        answer = say("write", 2)
+        judge("- answers", answer, ["written 4 0", "answer 1 0"])
+        # The next line has the number that was answered.
+        judge("- is told what it was answered", say(f"call read {answer[1].split()[1]} 0 1"), ["call 2"])
+        judge("- refuses", say("read i"), ["refused 2 NoSuch"])
+        rest = run.communicate("read p 0\nwrite", timeout=SECONDS)
+        judge("- ends", (rest[0].splitlines(), rest[1], run.returncode),
+              (["read 6 READ 80", "written 6 0", "answer 2 0 -", "kernel 2:0:1"], "", 0))
+    for words, lines, wanted in [
+        ([], [*MOUNT, "call stat /none", "take 0", "read p 0"], ([*MOUNTED, "call 1", "line 5: unknown event"], 1)),
+        ([], ["write 0"], (["line 1: wrong words"], 1)), ([], [], (["kernel"], 0)), ([], [*MOUNT, "abort"], ([*MOUNTED, "aborted", "kernel"], 0)),
+        (["--calls"], ["call stat /", "read p 0"], (["mounted", "call 1", "answer 1 0 dir 1 0 1", "line 2: unknown event"], 1)),
+        (SHORT_WAIT, [*MOUNT, "write", "call stat /"], ([*MOUNTED, "no reply"], 4)),
+    ]:
+        with served(words, ["unread"], Server().serve) as (command, _):
+            command = [*command[:-2], "-", command[-1]]
+            run = subprocess.run(command, input="".join(line + "\n" for line in lines), capture_output=True, text=True, timeout=SECONDS)
+        judge(f"- {words} {lines}", (run.stdout.splitlines() + run.stderr.splitlines(), run.returncode), wanted)
+
+
 def run_packets():
     """On a SOCK_SEQPACKET socket as standard input and output, the lines go to standard error."""
     for answers, wanted, status in [([AGREES[0], ATTR], [*STATED, *ANSWERED], 0), (AGREES, [*STATED, "no reply"], 4)]:
@@ -494,7 +529,44 @@ def run_trace():
     ])
 
 
-for part in (run_bugs, run_otherwise, run_fields, run_frames, run_abort, run_closings, run_agreements, run_opendir, run_opendir_bugs, run_many, run_talking, run_refusals, run_waits, run_words, run_packets, run_trace):
+def on_captured(words, script, *answers):
+    """The lines that a run with a capture prints on such a peer, its status, and what `check` says of the capture but the counts."""
+    with tempfile.TemporaryDirectory() as folder:
+        path = f"{folder}/capture"
+        lines, status = on_frames([*words, "--capture", path], script, *answers)
+        run = subprocess.run([PROGRAM, "check", path], capture_output=True, text=True, timeout=SECONDS)
+        return lines, status, Path(path).read_text().splitlines(), run.stdout.splitlines()[:-2] + run.stderr.splitlines(), run.returncode
+
+
+def run_check():
+    """What breaks the rules of `check` is said as its frame goes over, and `check` of the capture says it of the same line."""
+    for words, script, wanted in [(["--beside"], CALLS, [*CALLED, "answers 12 differ 0"]), ([], SIGNAL, SIGNALLED), ([], LOSE, LOST)]:
+        for opens in (True, False):
+            judge(f"--check of what is right, OPENDIR {opens}", on_server([*words, "--check"], script, opens=opens)[:2], (wanted, 0))
+    begun = [*MOUNTED, "call 1", "read 4 GETATTR 56"]
+    two = [*ANSWERED[:2], "written 4 2", "second reply", "kernel"]
+    # Frame 1 is `= several readers`, where OPENDIRs may be sent. Then come INIT, its reply, GETATTR, its reply and that again.
+    for words, number in [([], 6), (["--no-opendir"], 5)]:
+        said = "server: second reply: unique 4"
+        lines, status, capture, judged, found = on_captured([*words, "--check"], [*STAT, "write"], AGREES, [ATTR, ATTR])
+        judge("--check of a second reply", (lines, status), ([*begun, *two[:2], f"frame {number}: {said}", *two[2:]], 6))
+        judge("its capture", (len(capture), capture[-4::2], capture[-1]), (number, [f"< {AGREES[0].hex()}", f"< {ATTR.hex()}"], f"< {ATTR.hex()} ENOENT"))
+        judge("its first line", capture[0] == "= several readers", not words)
+        judge("check of it", (judged, found), ([f"line {number}: {said}"], 6))
+    said = "server: body that is not its request's"
+    lines, status, capture, judged, found = on_captured(["--check"], STAT, AGREES, [reply(4, bytes(8))])
+    judge("--check of a short body", (lines, status),
+          ([*begun, f"frame 5: {said}", "written 4 22", "body is not its request's", "answer 1 5", "kernel"], 6))
+    judge("check of its capture", (capture[-1], judged, found), (f"< {reply(4, bytes(8)).hex()} EINVAL", [f"line 5: {said}"], 6))
+    judge("without --check", on_captured([], STAT, AGREES, [reply(4, bytes(8))])[1:], (0, capture, judged, found))
+    judge("--check of no reply", on_captured([*SHORT_WAIT, "--check"], STAT, AGREES)[:2], ([*STATED, "no reply"], 4))
+    lines = drive(["--capture", "/dev/full"], STAT, answering(AGREES, [ATTR]))
+    judge("a full file", lines[:2], ([*STATED, *ANSWERED, "capture refused"], 0))
+    lines, status = on_frames(["--capture", "/nowhere/capture"], STAT)
+    judge("no file", (lines, status), (["cannot write /nowhere/capture: No such file or directory (os error 2)"], 1))
+
+
+for part in (run_bugs, run_otherwise, run_fields, run_frames, run_abort, run_closings, run_agreements, run_opendir, run_opendir_bugs, run_many, run_talking, run_refusals, run_waits, run_words, run_input, run_packets, run_trace, run_check):
     part()
 print(f"{passed} passed, {failed} failed")
 sys.exit(bool(failed))

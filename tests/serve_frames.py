@@ -1,7 +1,8 @@
 #!/usr/bin/env python3
 """Speaks bare frames to the built program's command `serve`, over a stream socket at a path and over a pair of
 SOCK_SEQPACKET sockets on its standard input and output, and compares the replies, the lines on standard error and the
-exit status with what was worked out by hand. Each run has 10 seconds.
+exit status with what was worked out by hand. Captures are compared with what was sent and received, and judged. Each run
+has 10 seconds.
 Prints a line for each run that differs, and ends with status 1 where there is one.
 """
 import os
@@ -164,6 +165,76 @@ def without_blocking():
     judge("not blocking", ended(program), ([], 0))
 
 
+def captured(name, words, turns, lines, faults):
+    """Serves packets with a capture, and compares its lines, and what `check` says of them."""
+    with tempfile.TemporaryDirectory() as folder:
+        path = Path(folder) / "capture"
+        path.write_text("what stood there before\n")
+        on_packets(name, [*words, "--capture", path], turns, lines, 0)
+        wanted = []
+        for frame, answer in turns:
+            wanted += [f"> {frame.hex()}"] + [f"< {answer.hex()}"] * (answer is not None)
+        judge(f"{name}: its lines", path.read_text(), "\n".join([*wanted, "= ended ENODEV", ""]))
+        done = subprocess.run([PROGRAM, "check", path], capture_output=True, timeout=SECONDS, text=True)
+        judge(f"{name}: judged", (done.stdout.splitlines()[-1:], done.returncode), ([faults], 0))
+
+
+def captured_so_far():
+    """A line is in the file before the next frame is awaited, and stays where the program is killed."""
+    with tempfile.TemporaryDirectory() as folder:
+        path = Path(folder) / "capture"
+        ours, theirs = socket.socketpair(socket.AF_UNIX, socket.SOCK_SEQPACKET)
+        ours.settimeout(SECONDS)
+        program = subprocess.Popen([PROGRAM, "serve", "--capture", path], stdin=theirs, stdout=theirs)
+        theirs.close()
+        for frame, answer in [(INIT, INIT_REPLY), (MKDIR, MKDIR_REPLY)]:
+            ours.send(frame)
+            judge("so far: a reply", ours.recv(1 << 17).hex(), answer.hex())
+        wanted = "".join(f"{way} {frame.hex()}\n" for way, frame in
+                         [(">", INIT), ("<", INIT_REPLY), (">", MKDIR), ("<", MKDIR_REPLY)])
+        for _ in range(100):
+            if path.read_text() == wanted:
+                break
+            time.sleep(0.05)
+        program.kill()
+        program.wait(SECONDS)
+        ours.close()
+        judge("so far: its lines", path.read_text(), wanted)
+
+
+def captured_stream():
+    """Where a stream ends in a frame, the capture says that the device failed. A file that takes nothing disturbs nothing."""
+    with tempfile.TemporaryDirectory() as folder:
+        path = Path(folder) / "capture"
+        on_stream("the end in a frame, captured", ["--capture", path], INIT + MKDIR[:30], [INIT_REPLY], ["device failed"], 4)
+        judge("the end in a frame: its lines", path.read_text(), f"> {INIT.hex()}\n< {INIT_REPLY.hex()}\n= ended EIO\n")
+    on_packets("a full file", ["--capture", "/dev/full"], TURNS[:2], ["capture refused"], 0)
+    done = subprocess.run([PROGRAM, "serve", "--capture", "/nowhere/capture"], stdin=subprocess.DEVNULL,
+                          capture_output=True, timeout=SECONDS, text=True)
+    judge("no file", (done.returncode, done.stdout, done.stderr[:35]), (1, "", "cannot write /nowhere/capture: No s"))
+
+
+def checked(turns):
+    """A kernel that forgets more than it was given is accused as its frame comes, and `check` of the capture says the same."""
+    on_packets("judged, an honest kernel", ["--check"], turns, [], 0)
+    # Node 2 was given once.
+    greedy = [(INIT, INIT_REPLY), (MKDIR, MKDIR_REPLY), (request(2, 10, 2, struct.pack("<Q", 3)), None)]
+    fault = "kernel: forget of more than is counted: node 2 lookups 3"
+    with tempfile.TemporaryDirectory() as folder:
+        path = Path(folder) / "capture"
+        on_packets("judged", ["--check", "--capture", path], greedy, [f"frame 5: {fault}"], 6)
+        done = subprocess.run([PROGRAM, "check", path], capture_output=True, timeout=SECONDS, text=True)
+        judge("judged: its capture", (done.stdout.splitlines()[0], done.returncode), (f"line 5: {fault}", 6))
+    on_packets("not judged", [], greedy, [], 0)
+    # The fault does not hide that the device failed.
+    on_stream("judged, the end in a frame", ["--check"], b"".join(frame for frame, _ in greedy) + INIT[:30],
+              [INIT_REPLY, MKDIR_REPLY], [f"frame 5: {fault}", "device failed"], 4)
+    # The frames between are counted too: a LOOKUP in a node that nobody gave, its reply, and a LOOKUP under its number.
+    on_packets("judged, two faults", ["--check"],
+               [*greedy[:2], (request(1, 8, 9, b"a\0"), reply(8, error=5)), (request(1, 8, 1, b"none\0"), reply(8, entry(0, 0, 0, bytes(88))))],
+               ["frame 5: kernel: node that is not counted: node 9", "frame 7: kernel: number used twice: LOOKUP 8"], 6)
+
+
 TURNS = [
     (INIT, INIT_REPLY),
     (MKDIR, MKDIR_REPLY),
@@ -263,6 +334,13 @@ def run():
     on_stream("a stream", ["--trace", "--show"], b"".join(frames), replies, [*TRACE, "server"], 0)
     on_packets("blocks", [], BLOCKS, [], 0)
     without_blocking()
+    # READDIRPLUS is left out: no directory is open.
+    legal = [turn for turn in BLOCKS if turn[0][4] != 44]
+    captured("a capture", [], legal, [], "faults: kernel 0 server 0 device 0, warnings 0")
+    captured("a capture of what is traced", ["--trace"], turns[:2], TRACE[:4], "faults: kernel 0 server 0 device 0, warnings 0")
+    captured_so_far()
+    captured_stream()
+    checked(legal)
     on_packets("long names", [], LONG_NAMES, [], 0)
     on_packets("long names of 7.15", ["--minor", "15"], [(lookup(2, LONG), reply(2, error=36))], [], 0)
     on_packets("a long name, in words", ["--trace"], [(lookup(2, LONG), reply(2, error=36))],

@@ -1,8 +1,9 @@
 -- Exit statuses.
-use Rattle.std.proofs.Common.{◌≡◌, ℕ, List, [], ◌∷◌, arith, refl, subst, sym}
+use Rattle.std.proofs.Common.{◌≡◌, ◌⊎◌, ℕ, Bool, true, false, List, [], ◌∷◌, arith, inl, inr, refl, subst, sym}
 use Rattle.std.specs.Prelude.{All, Contains}
 use Rattle.fuseworld.specs.declared.capture.CaptureTask.{CaptureTask}
 use Rattle.fuseworld.specs.declared.capture.CaptureTask.TheVariants as capture
+use Rattle.fuseworld.specs.ServeStatuses.{captured_statuses, drive_statuses, served_statuses}
 use Rattle.fuseworld.specs.Statuses.{capture_statuses}
 use Rattle.std.proofs.lemmas.List.Elements.{All-cons, All-nil, All-get_or}
 
@@ -32,8 +33,90 @@ at_end status = among (1 ∷ 3 ∷ 5 ∷ []) scripts status
 -- 3 is one of a command on a capture
 pub is_out_of_memory : (task : CaptureTask) (status : ℕ) → status ≡ 3 → Contains (capture_statuses task) status
 is_out_of_memory capture.Decode status is = (2, omega arith, sym is)
+is_out_of_memory (capture.Sequence around) status is = (2, omega arith, sym is)
 is_out_of_memory (capture.Check o) status is = (2, omega arith, sym is)
 
 pub is_unreadable : (task : CaptureTask) (status : ℕ) → status ≡ 1 → Contains (capture_statuses task) status
 is_unreadable capture.Decode status is = (1, omega arith, sym is)
+is_unreadable (capture.Sequence around) status is = (1, omega arith, sym is)
 is_unreadable (capture.Check o) status is = (1, omega arith, sym is)
+
+-- ---- `serve`
+
+-- what is no fault's, of a device that is served
+pub served : (check : Bool) (status : ℕ) → Contains (0 ∷ 3 ∷ 4 ∷ []) status → Contains (served_statuses check) status
+served false status h = h
+served true status h = among (0 ∷ 3 ∷ 4 ∷ []) (0 ∷ 3 ∷ 4 ∷ 6 ∷ []) status
+    (All-cons (Contains (0 ∷ 3 ∷ 4 ∷ 6 ∷ [])) 0 (3 ∷ 4 ∷ []) (0, omega arith, refl)
+    (All-cons (Contains (0 ∷ 3 ∷ 4 ∷ 6 ∷ [])) 3 (4 ∷ []) (1, omega arith, refl)
+    (All-cons (Contains (0 ∷ 3 ∷ 4 ∷ 6 ∷ [])) 4 [] (2, omega arith, refl) (All-nil (Contains (0 ∷ 3 ∷ 4 ∷ 6 ∷ []))))))
+    h
+
+-- 6 is one where it is judged
+pub served_with : (check : Bool) (status result : ℕ) → check ≡ true → Contains (0 ∷ 3 ∷ 4 ∷ []) status
+    → (result ≡ status) ⊎ ((status ≡ 0) × (result ≡ 6)) → Contains (served_statuses check) result
+served_with check status result is h (inl same) = subst (Contains (served_statuses check)) (sym same) (served check status h)
+served_with check status result is h (inr six) =
+    subst (λ (b : Bool). Contains (served_statuses b) result) (sym is) (3, omega arith, sym six.1)
+
+-- with a capture
+pub of_capture : (check : Bool) (status : ℕ) → Contains (served_statuses check) status
+    → Contains (captured_statuses check) status
+of_capture false status = among (0 ∷ 3 ∷ 4 ∷ []) (0 ∷ 1 ∷ 3 ∷ 4 ∷ []) status
+    (All-cons (Contains (0 ∷ 1 ∷ 3 ∷ 4 ∷ [])) 0 (3 ∷ 4 ∷ []) (0, omega arith, refl)
+    (All-cons (Contains (0 ∷ 1 ∷ 3 ∷ 4 ∷ [])) 3 (4 ∷ []) (2, omega arith, refl)
+    (All-cons (Contains (0 ∷ 1 ∷ 3 ∷ 4 ∷ [])) 4 [] (3, omega arith, refl) (All-nil (Contains (0 ∷ 1 ∷ 3 ∷ 4 ∷ []))))))
+of_capture true status = among (0 ∷ 3 ∷ 4 ∷ 6 ∷ []) (0 ∷ 1 ∷ 3 ∷ 4 ∷ 6 ∷ []) status
+    (All-cons (Contains (0 ∷ 1 ∷ 3 ∷ 4 ∷ 6 ∷ [])) 0 (3 ∷ 4 ∷ 6 ∷ []) (0, omega arith, refl)
+    (All-cons (Contains (0 ∷ 1 ∷ 3 ∷ 4 ∷ 6 ∷ [])) 3 (4 ∷ 6 ∷ []) (2, omega arith, refl)
+    (All-cons (Contains (0 ∷ 1 ∷ 3 ∷ 4 ∷ 6 ∷ [])) 4 (6 ∷ []) (3, omega arith, refl)
+    (All-cons (Contains (0 ∷ 1 ∷ 3 ∷ 4 ∷ 6 ∷ [])) 6 [] (4, omega arith, refl) (All-nil (Contains (0 ∷ 1 ∷ 3 ∷ 4 ∷ 6 ∷ [])))))))
+
+-- 3 and 4 are among them
+pub served_three : (check : Bool) (status : ℕ) → status ≡ 3 → Contains (served_statuses check) status
+served_three false status is = (1, omega arith, sym is)
+served_three true status is = (1, omega arith, sym is)
+
+pub served_four : (check : Bool) (status : ℕ) → status ≡ 4 → Contains (served_statuses check) status
+served_four false status is = (2, omega arith, sym is)
+served_four true status is = (2, omega arith, sym is)
+
+pub captured_three : (check : Bool) (status : ℕ) → status ≡ 3
+    → Contains (captured_statuses check) status
+captured_three false status is = (2, omega arith, sym is)
+captured_three true status is = (2, omega arith, sym is)
+
+-- ---- `drive`
+
+abbrev judged_drive : List ℕ
+judged_drive = 0 ∷ 1 ∷ 3 ∷ 4 ∷ 5 ∷ 6 ∷ []
+
+-- what is no fault's
+pub driven : (check : Bool) (status : ℕ) → Contains (0 ∷ 1 ∷ 3 ∷ 4 ∷ 5 ∷ []) status → Contains (drive_statuses check) status
+driven false status h = h
+driven true status h = among (0 ∷ 1 ∷ 3 ∷ 4 ∷ 5 ∷ []) judged_drive status
+    (All-cons (Contains judged_drive) 0 (1 ∷ 3 ∷ 4 ∷ 5 ∷ []) (0, omega arith, refl)
+    (All-cons (Contains judged_drive) 1 (3 ∷ 4 ∷ 5 ∷ []) (1, omega arith, refl)
+    (All-cons (Contains judged_drive) 3 (4 ∷ 5 ∷ []) (2, omega arith, refl)
+    (All-cons (Contains judged_drive) 4 (5 ∷ []) (3, omega arith, refl)
+    (All-cons (Contains judged_drive) 5 [] (4, omega arith, refl) (All-nil (Contains judged_drive)))))))
+    h
+
+pub driven_with : (check : Bool) (status result : ℕ) → check ≡ true → Contains (0 ∷ 1 ∷ 3 ∷ 4 ∷ 5 ∷ []) status
+    → (result ≡ status) ⊎ ((status ≡ 0) × (result ≡ 6)) → Contains (drive_statuses check) result
+driven_with check status result is h (inl same) = subst (Contains (drive_statuses check)) (sym same) (driven check status h)
+driven_with check status result is h (inr six) =
+    subst (λ (b : Bool). Contains (drive_statuses b) result) (sym is) (5, omega arith, sym six.1)
+
+-- 3 and 4 are among them
+pub driven_three : (check : Bool) (status : ℕ) → status ≡ 3 → Contains (drive_statuses check) status
+driven_three check status is = driven check status (2, omega arith, sym is)
+
+pub driven_four : (check : Bool) (status : ℕ) → status ≡ 4 → Contains (drive_statuses check) status
+driven_four check status is = driven check status (3, omega arith, sym is)
+
+pub not_driven : (check : Bool) (status : ℕ) → Contains (1 ∷ 3 ∷ []) status → Contains (drive_statuses check) status
+not_driven check status h = driven check status (among (1 ∷ 3 ∷ []) (0 ∷ 1 ∷ 3 ∷ 4 ∷ 5 ∷ []) status
+    (All-cons (Contains (0 ∷ 1 ∷ 3 ∷ 4 ∷ 5 ∷ [])) 1 (3 ∷ []) (1, omega arith, refl)
+    (All-cons (Contains (0 ∷ 1 ∷ 3 ∷ 4 ∷ 5 ∷ [])) 3 [] (2, omega arith, refl) (All-nil (Contains (0 ∷ 1 ∷ 3 ∷ 4 ∷ 5 ∷ [])))))
+    h)

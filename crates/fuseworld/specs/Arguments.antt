@@ -30,6 +30,10 @@ number name low high by_default = record (option name by_default) { parser = Som
 abbrev pub choice : Text → Bor (List (Bor Text)) → Text → Rule
 choice name words by_default = record (option name by_default) { parser = Some (parser.Names words) }
 
+-- an option with a value, which may be left out
+abbrev pub option_or_none : Text → Rule
+option_or_none name = record (new_rule name) { long = Some name; value_names = 1 }
+
 -- the argument has this rule, for one command alone
 abbrev pub IsArgument : Rule → Arg → Type 0
 IsArgument r a = (rule_of a ≡ r) × (a.global ≡ false)

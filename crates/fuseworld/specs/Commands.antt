@@ -5,7 +5,7 @@ use Rattle.clap.specs.Words.{App, Text, app_of, new_app, new_rule, with_rule, wi
 use Rattle.clap.specs.Simple.{on_top}
 use Rattle.clap.specs.declared.builder.command.Command.{Command}
 use Rattle.clap.specs.declared.builder.command.Command.TheViews.{out-Command as fields_of}
-use Rattle.fuseworld.specs.Arguments.{choice, flag, needed, number, option}
+use Rattle.fuseworld.specs.Arguments.{choice, flag, needed, number, option, option_or_none}
 
 -- the longest time that an option takes, a day in milliseconds
 abbrev pub longest : ℕ
@@ -17,8 +17,12 @@ run_app = with_rule (with_rule (new_app (codes "run")) (flag (codes "hex"))) (ne
 abbrev pub socket_app : App
 socket_app = with_rule (with_rule (new_app (codes "socket")) (needed (codes "FILE"))) (needed (codes "SOCK"))
 
+-- the last number of a line that 64 bits have
+abbrev pub last_line : ℕ
+last_line = 18446744073709551615
+
 abbrev pub draw_app : App
-draw_app = with_rule (new_app (codes "draw")) (needed (codes "FILE"))
+draw_app = with_rule (with_rule (new_app (codes "draw")) (number (codes "around") 0 last_line (codes "0"))) (needed (codes "FILE"))
 
 -- the most bytes that a reply may have behind its header
 abbrev pub longest_reply : ℕ
@@ -40,31 +44,40 @@ abbrev pub last_node : ℕ
 last_node = 18446744073709551615
 
 abbrev pub check_app : App
-check_app = with_rule (with_rule (with_rule (with_rule (with_rule (with_rule (new_app (codes "check"))
+check_app = with_rule (with_rule (with_rule (with_rule (with_rule (with_rule (with_rule (with_rule (new_app (codes "check"))
     (flag (codes "server"))) (flag (codes "kernel"))) (flag (codes "json")))
-    (number (codes "node") 0 last_node (codes "0"))) (flag (codes "strict"))) (new_rule (codes "FILE"))
+    (number (codes "node") 0 last_node (codes "0"))) (flag (codes "summary"))) (flag (codes "strict"))) (flag (codes "joined")))
+    (new_rule (codes "FILE"))
 
 abbrev pub vectors_app : App
 vectors_app = with_rule (new_app (codes "vectors")) (flag (codes "all"))
 
 -- the minors are the words between which `--minor` chooses
 abbrev pub serve_app : Bor (List (Bor Text)) → App
-serve_app minors = with_rule (with_rule (with_rule (with_rule (with_rule (with_rule (new_app (codes "serve"))
+serve_app minors = with_rule (with_rule (with_rule (with_rule (with_rule (with_rule (with_rule (with_rule (new_app (codes "serve"))
     (number (codes "found") 0 longest (codes "1000")))
     (number (codes "missing") 0 longest (codes "0")))
     (choice (codes "minor") minors (codes "31")))
     (flag (codes "show")))
     (flag (codes "trace")))
+    (flag (codes "check")))
+    (option_or_none (codes "capture")))
     (new_rule (codes "SOCK"))
 
 abbrev pub drive_app : App
-drive_app = with_rule (with_rule (with_rule (with_rule (with_rule (with_rule (with_rule (with_rule (new_app (codes "drive"))
+drive_app = with_rule (with_rule (with_rule (with_rule (with_rule (with_rule (with_rule (with_rule (with_rule (with_rule
+    (with_rule (with_rule (with_rule (new_app (codes "drive"))
     (flag (codes "calls")))
     (flag (codes "beside")))
     (flag (codes "no-opendir")))
     (flag (codes "trace")))
+    (flag (codes "check")))
+    (option_or_none (codes "capture")))
     (number (codes "wait") 1 longest (codes "10000")))
     (option (codes "offer") (codes "0")))
+    (flag (codes "random")))
+    (number (codes "seed") 0 last_node (codes "1")))
+    (number (codes "events") 0 last_node (codes "400")))
     (needed (codes "FILE")))
     (new_rule (codes "SOCK"))
 

@@ -7,6 +7,7 @@ use Rattle.fw_draw.specs.Endings.{EndsDrawing}
 use Rattle.fw_frames.specs.Endings.{EndsFrame, EndsReply}
 use Rattle.fw_script.specs.Endings.{EndsScript}
 use Rattle.fw_script.specs.Scripts.{IsRunOf}
+use Rattle.fw_sequence.specs.Endings.{EndsSequence}
 use Rattle.fw_vectors.specs.Vectors.{EndsVectors}
 use Rattle.fuseworld.specs.declared.capture.CaptureTask.{CaptureTask}
 use Rattle.fuseworld.specs.declared.capture.CaptureTask.TheVariants as capture
@@ -33,3 +34,4 @@ abbrev pub DoesCapture : {W F : Type 0} → (out : W → Option (List ℕ)) → 
     → Type 0
 DoesCapture out faults capture.Decode = λ name input old new before after status. Unit {0}
 DoesCapture out faults (capture.Check o) = EndsCheck out faults o
+DoesCapture out faults (capture.Sequence around) = λ name input. EndsSequence out

@@ -3,4 +3,5 @@ pub mod Commands
 pub mod Values
 pub mod Tasks
 pub mod Doing
+pub mod ServeStatuses
 pub mod Statuses

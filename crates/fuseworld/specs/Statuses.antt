@@ -4,6 +4,7 @@ use Rattle.clap.specs.Words.{App, IsAmong, Text, fault_of, subcommand_of}
 use Rattle.clap.specs.declared.error.kind.ErrorKind.{ErrorKind}
 use Rattle.clap.specs.declared.error.kind.ErrorKind.TheVariants.{DisplayVersion, OutOfMemory}
 use Rattle.fw_check.specs.declared.options.CheckOptions.{CheckOptions}
+use Rattle.fuseworld.specs.ServeStatuses.{drive_statuses, serve_statuses}
 use Rattle.fuseworld.specs.Tasks.{AsksFor, options_of}
 use Rattle.fuseworld.specs.Values.{IsOffer}
 use Rattle.fuseworld.specs.declared.capture.CaptureTask.{CaptureTask}
@@ -30,9 +31,10 @@ input_statuses input.AllVectors = 0 ∷ 3 ∷ 5 ∷ []
 -- the exit statuses of a command on a capture
 abbrev pub capture_statuses : CaptureTask → List ℕ
 capture_statuses capture.Decode = 0 ∷ 1 ∷ 3 ∷ 5 ∷ []
+capture_statuses (capture.Sequence around) = 0 ∷ 1 ∷ 3 ∷ 5 ∷ []
 capture_statuses (capture.Check o) = 0 ∷ 1 ∷ 3 ∷ 5 ∷ 6 ∷ []
 
--- the exit statuses of a check: 2 where two parties alone are asked for, or the life of a node in JSON
+-- the exit statuses of a check: 2 where two parties alone are asked for, or the life of a node in JSON or beside the table
 abbrev pub statuses_with : Option CheckOptions → List ℕ
 statuses_with None = 2 ∷ []
 statuses_with (Some o) = capture_statuses (capture.Check o)
@@ -56,10 +58,10 @@ abbrev pub EndsWith : Task → ℕ → Type 0
 EndsWith task.Input = Contains (0 ∷ 1 ∷ 3 ∷ 5 ∷ [])
 EndsWith (task.Run file hex) = Contains (0 ∷ 1 ∷ 3 ∷ 5 ∷ [])
 EndsWith (task.Socket file path) = Contains (0 ∷ 1 ∷ 3 ∷ 4 ∷ 5 ∷ [])
-EndsWith (task.Draw file) = Contains (0 ∷ 1 ∷ 3 ∷ 5 ∷ [])
+EndsWith (task.Draw file around) = Contains (0 ∷ 1 ∷ 3 ∷ 5 ∷ [])
 EndsWith (task.OnFrame t) = Contains (frame_statuses t)
-EndsWith (task.Serve t) = Contains (0 ∷ 3 ∷ 4 ∷ [])
-EndsWith (task.Drive t) = λ status. (IsOffer t.offer.now → Contains (0 ∷ 1 ∷ 3 ∷ 4 ∷ 5 ∷ []) status)
+EndsWith (task.Serve t) = Contains (serve_statuses t.capture t.is_checked)
+EndsWith (task.Drive t) = λ status. (IsOffer t.offer.now → Contains (drive_statuses t.is_checked) status)
     × (¬ IsOffer t.offer.now → status ≡ 2)
 EndsWith (task.Side t) = Contains (0 ∷ 1 ∷ 3 ∷ 5 ∷ [])
 

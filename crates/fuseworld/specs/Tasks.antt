@@ -33,31 +33,36 @@ pub record AsksCheck (rows : List Row) (t : CheckTask) : Type 0 where
   pub kernel : t.kernel ≡ is_set (codes "kernel") rows
   pub json : t.json ≡ is_set (codes "json") rows
   pub node : t.node ≡ number_of (codes "node") 0 rows
+  pub summary : t.summary ≡ is_set (codes "summary") rows
   pub strict : t.strict ≡ is_set (codes "strict") rows
+  pub joined : t.joined ≡ is_set (codes "joined") rows
 
 -- the node that is asked for: 0 is none
 abbrev pub node_of : ℕ → Option ℕ
 node_of number = if nat_eq number 0 then None else Some number
 
--- the form, and the node that is asked for: no life of a node is in JSON
-abbrev pub check_form_of : (json : Bool) → Option ℕ → Option CheckForm
-check_form_of true (Some node) = None
-check_form_of true None = Some check_form.Json
-check_form_of false asked = Some check_form.Words
+-- the form: no life of a node is in JSON, or beside the table
+abbrev pub check_form_of : (json summary : Bool) → Option ℕ → Option CheckForm
+check_form_of false false asked = Some check_form.Words
+check_form_of json summary (Some asked) = None
+check_form_of true summary None = Some check_form.Json
+check_form_of false true None = Some check_form.Words
 
 -- what is asked of it: one party alone or all, and not two alone
-abbrev pub options_in : (server kernel : Bool) → Option CheckForm → (asked : Option ℕ) → (strict : Bool) → Option CheckOptions
-options_in true true form asked strict = None
-options_in server kernel None asked strict = None
-options_in true false (Some form) asked strict =
-    Some (record { only = Some party.Server; form = form; node = asked; is_strict = strict })
-options_in false true (Some form) asked strict =
-    Some (record { only = Some party.Kernel; form = form; node = asked; is_strict = strict })
-options_in false false (Some form) asked strict =
-    Some (record { only = None; form = form; node = asked; is_strict = strict })
+abbrev pub options_in : (server kernel : Bool) → Option CheckForm → (asked : Option ℕ) → (summary strict joined : Bool)
+    → Option CheckOptions
+options_in true true form asked summary strict joined = None
+options_in server kernel None asked summary strict joined = None
+options_in true false (Some form) asked summary strict joined =
+    Some (record { only = Some party.Server; form = form; node = asked; is_summary = summary; is_strict = strict; is_joined = joined })
+options_in false true (Some form) asked summary strict joined =
+    Some (record { only = Some party.Kernel; form = form; node = asked; is_summary = summary; is_strict = strict; is_joined = joined })
+options_in false false (Some form) asked summary strict joined =
+    Some (record { only = None; form = form; node = asked; is_summary = summary; is_strict = strict; is_joined = joined })
 
 abbrev pub options_of : CheckTask → Option CheckOptions
-options_of t = options_in t.server t.kernel (check_form_of t.json (node_of t.node)) (node_of t.node) t.strict
+options_of t = options_in t.server t.kernel (check_form_of t.json t.summary (node_of t.node)) (node_of t.node) t.summary t.strict
+    t.joined
 
 -- a command on frames
 abbrev pub AsksFrame : Text → List Row → FrameTask → Type 0
@@ -90,6 +95,8 @@ pub record AsksServe (rows : List Row) (t : ServeTask) : Type 0 where
   pub minor : t.mount.minor ≡ minor_of rows
   pub show : t.mount.shows_nodes ≡ is_set (codes "show") rows
   pub trace : t.is_traced ≡ is_set (codes "trace") rows
+  pub check : t.is_checked ≡ is_set (codes "check") rows
+  pub capture : option_map (λ text. text.now) t.capture ≡ first_of (codes "capture") rows
   pub socket : option_map (λ text. text.now) t.socket ≡ first_of (codes "SOCK") rows
 
 -- what a script of `drive` has in its lines
@@ -105,8 +112,13 @@ pub record AsksDrive (rows : List Row) (t : DriveTask) : Type 0 where
   pub form : t.form ≡ form_of (is_set (codes "calls") rows) (is_set (codes "beside") rows)
   pub opens : t.opens_directories ≡ not (is_set (codes "no-opendir") rows)
   pub trace : t.is_traced ≡ is_set (codes "trace") rows
+  pub check : t.is_checked ≡ is_set (codes "check") rows
+  pub capture : option_map (λ text. text.now) t.capture ≡ first_of (codes "capture") rows
   pub wait : t.wait_ms ≡ number_of (codes "wait") 10000 rows
   pub offer : t.offer.now ≡ unwrap_or (first_of (codes "offer") rows) (codes "0")
+  pub random : t.is_random ≡ is_set (codes "random") rows
+  pub seed : t.seed ≡ number_of (codes "seed") 1 rows
+  pub events : t.events ≡ number_of (codes "events") 400 rows
 
 -- how a side prints
 abbrev pub print_of : List Row → Print
@@ -138,7 +150,8 @@ AsksAt name rows (task.Run file hex) =
     (name ≡ codes "run") × (file.now ≡ text_of (codes "FILE") rows) × (hex ≡ is_set (codes "hex") rows)
 AsksAt name rows (task.Socket file path) =
     (name ≡ codes "socket") × (file.now ≡ text_of (codes "FILE") rows) × (path.now ≡ text_of (codes "SOCK") rows)
-AsksAt name rows (task.Draw file) = (name ≡ codes "draw") × (file.now ≡ text_of (codes "FILE") rows)
+AsksAt name rows (task.Draw file around) = (name ≡ codes "draw") × (file.now ≡ text_of (codes "FILE") rows)
+    × (around ≡ number_of (codes "around") 0 rows)
 AsksAt name rows (task.OnFrame t) = AsksFrame name rows t
 AsksAt name rows (task.Serve t) = (name ≡ codes "serve") × AsksServe rows t
 AsksAt name rows (task.Drive t) = (name ≡ codes "drive") × AsksDrive rows t

@@ -1,6 +1,7 @@
 //! Arguments that several commands have.
 
-ghost use Rattle.fuseworld.specs.Arguments.{IsArgument, flag, needed, number, option};
+ghost use Rattle.std.specs.Prelude.{codes};
+ghost use Rattle.fuseworld.specs.Arguments.{IsArgument, flag, needed, number, option, option_or_none};
 ghost use Rattle.fuseworld.specs.Commands.{longest};
 ghost use Rattle.clap.specs.Words.{new_rule};
 
@@ -63,4 +64,14 @@ pub fn time_argument<'a>(
     ensures { IsArgument (number name.entry.now least longest by_default.entry.now) result }
 {
     option(alloc, name, "MS", by_default, help).value_parser(ValueParser::Unsigned(least, LONGEST))
+}
+
+/// The option that names the file of a capture.
+pub fn file_argument<'a>(alloc: Global) -> Arg<'a>
+    ensures { IsArgument (option_or_none (codes "capture")) result }
+{
+    Arg::new(alloc, "capture")
+        .long("capture")
+        .value_name("FILE")
+        .help("Write what goes over the device to this file, as `check` reads it")
 }

@@ -1,4 +1,4 @@
-//! The commands on captures: `decode` and `check`.
+//! The commands on captures: `decode`, `check`, and `draw` with `--around`.
 
 ghost use Rattle.std.specs.Prelude.{Contains, codes};
 ghost use Rattle.clap.specs.Words.{new_rule};
@@ -13,6 +13,7 @@ use clap::Arg;
 use fw_check::{CheckOptions, run_check};
 use fw_decode::run_decode;
 use fw_script::no_memory;
+use fw_sequence::draw_capture;
 use std::alloc::{Allocator, Global};
 use std::fs::File;
 use std::io;
@@ -25,6 +26,8 @@ pub enum CaptureTask {
     Decode,
     /// It is judged.
     Check(CheckOptions),
+    /// The frames around a line are printed as a picture.
+    Sequence { around: u64 },
 }
 
 /// The argument that is a capture.
@@ -38,7 +41,7 @@ pub fn capture_argument<'a>(alloc: Global) -> Arg<'a>
     )
 }
 
-/// Does a task on a capture, and gives the exit status: what `run_decode` and `run_check` give.
+/// Does a task on a capture, and gives the exit status: what `run_decode`, `run_check` and `draw_capture` give.
 fn do_capture<A: Allocator + Copy, R: BufRead, W: Write, F: Write>(
     alloc: A,
     task: CaptureTask,
@@ -54,6 +57,7 @@ fn do_capture<A: Allocator + Copy, R: BufRead, W: Write, F: Write>(
     match task {
         CaptureTask::Decode => run_decode(alloc, name, input, out, faults),
         CaptureTask::Check(options) => run_check(alloc, options, name, input, out, faults),
+        CaptureTask::Sequence { around } => draw_capture(alloc, name, around, input, out, faults),
     }
 }
 

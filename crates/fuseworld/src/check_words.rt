@@ -29,8 +29,12 @@ pub struct CheckTask<'a> {
     pub json: bool,
     /// The node whose life is printed; 0 for none.
     pub node: u64,
+    /// A table of opcodes is printed.
+    pub summary: bool,
     /// A warning counts as a fault.
     pub strict: bool,
+    /// The session is joined in its middle.
+    pub joined: bool,
 }
 
 /// The option that asks for the life of a node.
@@ -55,10 +59,20 @@ pub fn check_command<'a>(alloc: Global) -> Result<Command<'a>, AllocError>
     let kernel = flag(alloc, "kernel", "Print and count the kernel's faults alone");
     let json = flag(alloc, "json", "Print one JSON object for each line");
     let node = node_argument(alloc);
+    let summary = flag(
+        alloc,
+        "summary",
+        "Print a table of the opcodes that were read, in place of faults",
+    );
     let strict = flag(
         alloc,
         "strict",
         "Let the exit status count a warning as a fault",
+    );
+    let joined = flag(
+        alloc,
+        "joined",
+        "Judge a session from its middle on: print and count what is certain alone",
     );
     Command::new(alloc, "check")
         .about("Judge a capture: which rule of the protocol is broken, in which line, and by whom")
@@ -66,7 +80,9 @@ pub fn check_command<'a>(alloc: Global) -> Result<Command<'a>, AllocError>
         .arg(kernel)?
         .arg(json)?
         .arg(node)?
+        .arg(summary)?
         .arg(strict)?
+        .arg(joined)?
         .arg(capture_argument(alloc))
 }
 
@@ -80,7 +96,9 @@ pub fn check_task<'a>(matches: &ArgMatches<'a>) -> CheckTask<'a>
         kernel: is_set(matches, "kernel"),
         json: is_set(matches, "json"),
         node: number(matches, "node", 0),
+        summary: is_set(matches, "summary"),
         strict: is_set(matches, "strict"),
+        joined: is_set(matches, "joined"),
     }
 }
 
@@ -91,7 +109,19 @@ fn node_of(number: u64) -> Option<u64>
     if number == 0 { None } else { Some(number) }
 }
 
-/// What is asked of the check; `None` where two parties alone are, or a node's life in JSON.
+/// The form of what is printed; `None` where a node's life is asked for in JSON, or beside the table.
+fn form_of(json: bool, summary: bool, node: Option<u64>) -> Option<CheckForm>
+    ensures { result ≡ words.check_form_of json summary node }
+{
+    match (json, summary, node) {
+        (false, false, _) => Some(CheckForm::Words),
+        (_, _, Some(_)) => None,
+        (true, _, None) => Some(CheckForm::Json),
+        (false, true, None) => Some(CheckForm::Words),
+    }
+}
+
+/// What is asked of the check; `None` where two parties alone are, or a node's life in JSON or beside the table.
 fn options_of(task: CheckTask<'_>) -> Option<CheckOptions>
     ensures { result ≡ words.options_of task.entry }
 {
@@ -102,16 +132,14 @@ fn options_of(task: CheckTask<'_>) -> Option<CheckOptions>
         (false, false) => None,
     };
     let node = node_of(task.node);
-    let form = match (task.json, node) {
-        (true, Some(_)) => return None,
-        (true, None) => CheckForm::Json,
-        (false, _) => CheckForm::Words,
-    };
+    let form = form_of(task.json, task.summary, node)?;
     Some(CheckOptions {
         only,
         form,
         node,
+        is_summary: task.summary,
         is_strict: task.strict,
+        is_joined: task.joined,
     })
 }
 
@@ -119,8 +147,10 @@ fn options_of(task: CheckTask<'_>) -> Option<CheckOptions>
 fn excluded(task: CheckTask<'_>) -> &'static str {
     if task.server && task.kernel {
         "--server and --kernel"
-    } else {
+    } else if task.json {
         "--json and --node"
+    } else {
+        "--summary and --node"
     }
 }
 

@@ -15,7 +15,7 @@ use crate::frame_commands::{
 use crate::serve::ServeTask;
 use crate::serve_words::{serve_command, serve_task};
 use crate::sides::{SideTask, kernel_command, server_command, side_task};
-use crate::values::{is_set, text};
+use crate::values::{is_set, number, text};
 use crate::version::VERSION;
 use clap::error::ErrorKind;
 use clap::{ArgMatches, Command, Error};
@@ -30,8 +30,9 @@ pub enum Task<'a> {
     Run { file: &'a str, hex: bool },
     /// The script in a file, over a Unix socket that is made at a path.
     Socket { file: &'a str, path: &'a str },
-    /// The picture of the run of the script in a file.
-    Draw { file: &'a str },
+    /// The picture of the run of the script in a file; or of the frames around a line of the capture in it, where that is
+    /// not 0.
+    Draw { file: &'a str, around: u64 },
     /// A command on frames.
     OnFrame(FrameTask<'a>),
     /// The server before a kernel.
@@ -139,7 +140,8 @@ fn named_task<'a>(name: &str, matches: &ArgMatches<'a>) -> Task<'a>
     }
     if name == "draw" {
         let file = text(matches, "FILE");
-        return Task::Draw { file };
+        let around = number(matches, "around", 0);
+        return Task::Draw { file, around };
     }
     if name == "serve" {
         return Task::Serve(serve_task(matches));

@@ -1,16 +1,33 @@
 //! The command `draw`: a run as a picture.
 
-ghost use Rattle.std.specs.Prelude.{◌∷◌, [], Contains, IfOk};
-ghost use Rattle.fuseworld.specs.Commands.{IsCommand, draw_app};
+ghost use Rattle.std.specs.Prelude.{◌∷◌, [], Contains, IfOk, codes};
+ghost use Rattle.fuseworld.specs.Arguments.{IsArgument, number};
+ghost use Rattle.fuseworld.specs.Commands.{IsCommand, draw_app, last_line};
 
-use crate::arguments::needed;
+use crate::arguments::{needed, option};
+use crate::capture::{CaptureTask, run_capture};
 use crate::doing::{InputTask, do_task};
 use crate::output::standard_output;
-use clap::Command;
+use clap::builder::ValueParser;
+use clap::{Arg, Command};
 use fw_script::{cannot_read, no_memory};
 use std::alloc::{AllocError, Global};
 use std::fs::File;
 use std::io::{BufWriter, ErrorKind};
+
+/// The option that asks for the frames around a line.
+fn around_argument<'a>(alloc: Global) -> Arg<'a>
+    ensures { IsArgument (number (codes "around") 0 last_line (codes "0")) result }
+{
+    option(
+        alloc,
+        "around",
+        "LINE",
+        "0",
+        "FILE is a capture: print the frames around this line; 0 for none",
+    )
+    .value_parser(ValueParser::Unsigned(0, u64::MAX))
+}
 
 /// The command `draw`.
 pub fn draw_command<'a>(alloc: Global) -> Result<Command<'a>, AllocError>
@@ -23,11 +40,12 @@ pub fn draw_command<'a>(alloc: Global) -> Result<Command<'a>, AllocError>
     );
     Command::new(alloc, "draw")
         .about("Run a script of events and print the run as a picture, in SVG")
+        .arg(around_argument(alloc))?
         .arg(file)
 }
 
 /// Draws the run of the script in a file, or on standard input, and gives the exit status.
-pub fn run_draw(rt: &HostRuntime, path: &str) -> u8
+fn draw_run(rt: &HostRuntime, path: &str) -> u8
     ensures { Contains (0 ∷ 1 ∷ 3 ∷ 5 ∷ []) result }
 {
     let alloc = rt.alloc();
@@ -43,5 +61,15 @@ pub fn run_draw(rt: &HostRuntime, path: &str) -> u8
         Ok(mut input) => do_task(alloc, task, &mut input, &mut out, &mut faults),
         Err(error) if error.kind() == ErrorKind::OutOfMemory => no_memory(&mut faults),
         Err(_) => cannot_read(path, &mut faults),
+    }
+}
+
+/// Draws the run of a script, or the frames around a line of a capture where that is not 0, and gives the exit status.
+pub fn run_draw(rt: &HostRuntime, path: &str, around: u64) -> u8
+    ensures { Contains (0 ∷ 1 ∷ 3 ∷ 5 ∷ []) result }
+{
+    match around {
+        0 => draw_run(rt, path),
+        around => run_capture(rt, CaptureTask::Sequence { around }, Some(path)),
     }
 }

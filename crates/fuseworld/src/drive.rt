@@ -3,24 +3,34 @@
 ghost use Rattle.std.specs.Prelude.{◌↔◌, ◌∷◌, [], Contains, IsTrue, ◌≡◌, IfErr, IfOk, codes, false, unwrap_or};
 ghost use Rattle.clap.specs.Words.{app_of, first_of, found_of, rows_of, with_rule, new_rule};
 ghost use Rattle.clap.specs.declared.builder.command.Command.TheViews.{out-Command as fields_of};
-ghost use Rattle.fuseworld.specs.Arguments.{IsArgument, needed, option};
-ghost use Rattle.fuseworld.specs.Commands.{IsCommand, drive_app};
+ghost use Rattle.fuseworld.specs.Arguments.{IsArgument, flag, needed, number, option};
+ghost use Rattle.fuseworld.specs.Commands.{IsCommand, drive_app, last_node};
+ghost use Rattle.fuseworld.specs.ServeStatuses.{drive_statuses};
 ghost use Rattle.fuseworld.specs.Values.{IsOffer, is_set};
 ghost use Rattle.fuseworld.specs.Tasks.{AsksDrive, form_of};
 
-use crate::arguments::{flag, needed, option, optional, time_argument};
+use crate::arguments::{file_argument, flag, needed, option, optional, time_argument};
+use crate::judged::status_with;
 use crate::output::standard_output;
-use crate::reason::{cannot_open, no_socket};
+use crate::reason::{cannot_open, cannot_write, no_socket};
+use crate::saying::SayingWriter;
 use crate::timed_socket::{Deadline, connect};
 use crate::values::{is_set, number, text, text_or_none};
+use clap::builder::ValueParser;
 use clap::{Arg, ArgMatches, Command};
 use fuse_device::{Device, PacketDevice, StreamDevice};
-use fw_drive::{DriveTrace, Form, FreeFields, Task, read_drive_script, run_drive};
+use fw_drive::{
+    DriveTrace, Form, FreeFields, InputLines, Task, read_drive_script, run_drive, run_source,
+};
+use fw_judged::JudgedServer;
+use fw_output::{LimitedWriter, room_in_file};
+use fw_random::{Commented, RandomLines};
 use fw_script::no_memory;
 use std::alloc::{AllocError, Global};
 use std::fs::File;
 use std::io;
-use std::io::{BufWriter, ErrorKind, Write};
+use std::io::{BufReader, BufWriter, ErrorKind, Write};
+use std::os::fd::AsRawFd;
 
 /// FUSE_DONT_MASK (linux/fuse.h), which is always offered.
 const DONT_MASK: u32 = 0x40;
@@ -37,9 +47,18 @@ pub struct DriveTask<'a> {
     form: Form,
     opens_directories: bool,
     is_traced: bool,
+    /// Whether what goes over the device is judged, and each fault printed.
+    is_checked: bool,
+    /// The file to which a capture is written, if one is asked for.
+    capture: Option<&'a str>,
     wait_ms: u64,
     /// The further flags of INIT, in hex.
     offer: &'a str,
+    /// Whether lines are chosen, in the place of a script.
+    is_random: bool,
+    seed: u64,
+    /// How many lines are chosen.
+    events: u64,
 }
 
 /// The option for further flags of INIT.
@@ -47,6 +66,44 @@ fn offer_argument<'a>(alloc: Global) -> Arg<'a>
     ensures { IsArgument (option (codes "offer") (codes "0")) result }
 {
     option(alloc, "offer", "HEX", "0", "Further flags that INIT offers")
+}
+
+/// An option that takes any number.
+fn number_argument<'a>(
+    alloc: Global,
+    name: &'a str,
+    value_name: &'a str,
+    by_default: &'a str,
+    help: &'a str,
+) -> Arg<'a>
+    ensures { IsArgument (number name.entry.now 0 last_node by_default.entry.now) result }
+{
+    option(alloc, name, value_name, by_default, help).value_parser(ValueParser::Unsigned(
+        0,
+        u64::MAX,
+    ))
+}
+
+/// The arguments of lines that are chosen.
+fn with_draws<'a>(alloc: Global, command: Command<'a>) -> Result<Command<'a>, AllocError>
+    ensures { IfOk result (λ all. (fields_of command.entry).has_globals ≡ false
+        → IsCommand (with_rule (with_rule (with_rule (app_of command.entry) (flag (codes "random")))
+        (number (codes "seed") 0 last_node (codes "1"))) (number (codes "events") 0 last_node (codes "400"))) all) }
+{
+    let random = flag(
+        alloc,
+        "random",
+        "Choose the events by a seed, in the place of FILE, and print them as a script",
+    );
+    let seed = number_argument(alloc, "seed", "N", "1", "The seed of --random");
+    let events = number_argument(
+        alloc,
+        "events",
+        "N",
+        "400",
+        "How many events --random chooses",
+    );
+    command.arg(random)?.arg(seed)?.arg(events)
 }
 
 /// The arguments.
@@ -102,9 +159,15 @@ pub fn drive_command<'a>(alloc: Global) -> Result<Command<'a>, AllocError>
             "trace",
             "Print each frame in words, on standard error",
         ))?
+        .arg(flag(
+            alloc,
+            "check",
+            "Print each fault in what goes over the device, among the lines",
+        ))?
+        .arg(file_argument(alloc))?
         .arg(wait)?
         .arg(offer_argument(alloc))?;
-    with_places(alloc, command)
+    with_places(alloc, with_draws(alloc, command)?)
 }
 
 /// What the script has in its lines.
@@ -139,8 +202,13 @@ pub fn drive_task<'a>(matches: &ArgMatches<'a>) -> DriveTask<'a>
         form: form(matches),
         opens_directories: !is_set(matches, "no-opendir"),
         is_traced: is_set(matches, "trace"),
+        is_checked: is_set(matches, "check"),
+        capture: text_or_none(matches, "capture"),
         wait_ms: number(matches, "wait", 10_000),
         offer: offer(matches),
+        is_random: is_set(matches, "random"),
+        seed: number(matches, "seed", 1),
+        events: number(matches, "events", 400),
     }
 }
 
@@ -173,11 +241,58 @@ fn hex_number(text: &[u8]) -> u32 {
     number
 }
 
-/// Runs a script on a device, with the lines printed on a writer, and gives the exit status.
+/// Where the lines come from.
+#[derive(Clone, Copy)]
+enum Lines<'a> {
+    /// A script whose lines are good.
+    Script(&'a [u8]),
+    /// Standard input, a line at a time.
+    Input,
+    /// What a seed chooses.
+    Random { seed: u64, events: u64 },
+}
+
+/// Runs the lines of standard input on a device, each once the one before was run, and gives the exit status.
+fn drive_input<D: Device, W: Write, F: Write>(
+    rt: &HostRuntime,
+    task: Task<'_>,
+    device: &mut D,
+    out: &mut W,
+    faults: &mut F,
+) -> u8
+    ensures { Contains (0 ∷ 1 ∷ 3 ∷ 4 ∷ 5 ∷ []) result }
+{
+    let alloc = rt.alloc();
+    let Ok(input) = BufReader::new(alloc, rt.reader()) else {
+        return no_memory(faults);
+    };
+    let mut lines = InputLines::new(input);
+    run_source(alloc, task, device, &mut lines, out, faults)
+}
+
+/// Runs lines that a seed chooses on a device, with all else that is printed as comments, and gives the exit status.
+fn drive_random<D: Device, W: Write + Drop, F: Write>(
+    rt: &HostRuntime,
+    task: Task<'_>,
+    drawn: (u64, u64),
+    device: &mut D,
+    out: W,
+    faults: &mut F,
+) -> u8
+    ensures { Contains (0 ∷ 1 ∷ 3 ∷ 4 ∷ 5 ∷ []) result }
+{
+    let alloc = rt.alloc();
+    let (seed, events) = drawn;
+    let mut out = Commented::new(alloc, out);
+    let mut lines = RandomLines::new(alloc, seed, events);
+    run_source(alloc, task, device, &mut lines, &mut out, faults)
+}
+
+/// Runs lines on a device, with what they come to printed on a writer, and gives the exit status.
 fn drive_device<D: Device, W: Write + Drop>(
     rt: &HostRuntime,
     task: Task<'_>,
-    script: &[u8],
+    lines: Lines<'_>,
     device: &mut D,
     out: W,
 ) -> u8
@@ -188,48 +303,120 @@ fn drive_device<D: Device, W: Write + Drop>(
     let Ok(mut out) = BufWriter::new(alloc, out) else {
         return no_memory(&mut faults);
     };
-    let mut input = script;
-    run_drive(alloc, task, device, &mut input, &mut out, &mut faults)
+    match lines {
+        Lines::Script(script) => {
+            let mut input = script;
+            run_drive(alloc, task, device, &mut input, &mut out, &mut faults)
+        }
+        Lines::Input => drive_input(rt, task, device, &mut out, &mut faults),
+        Lines::Random { seed, events } => {
+            drive_random(rt, task, (seed, events), device, out, &mut faults)
+        }
+    }
+}
+
+/// Drives a server over a device, judged where that is asked for, with its faults printed on a second writer.
+fn drive_judged<D: Device + Drop, W: Write + Drop, F: Write + Drop>(
+    rt: &HostRuntime,
+    asked: DriveTask<'_>,
+    task: Task<'_>,
+    script: Lines<'_>,
+    mut device: D,
+    out: W,
+    lines: F,
+) -> u8
+    ensures { Contains (drive_statuses asked.entry.is_checked) result }
+{
+    if !asked.is_checked {
+        return drive_device(rt, task, script, &mut device, out);
+    }
+    let mut judged = JudgedServer::new(rt.alloc(), device, lines);
+    if asked.opens_directories {
+        judged.say_several_readers();
+    }
+    let status = drive_device(rt, task, script, &mut judged, out);
+    status_with(status, judged.faults())
 }
 
 /// Drives a server over a device, with each frame printed on standard error where it is traced.
-fn drive_over<D: Device + Drop, W: Write + Drop>(
+fn drive_over<D: Device + Drop, W: Write + Drop, F: Write + Drop>(
     rt: &HostRuntime,
+    asked: DriveTask<'_>,
     task: Task<'_>,
-    is_traced: bool,
-    script: &[u8],
-    mut device: D,
+    script: Lines<'_>,
+    device: D,
     out: W,
+    lines: F,
 ) -> u8
-    ensures { Contains (0 ∷ 1 ∷ 3 ∷ 4 ∷ 5 ∷ []) result }
+    ensures { Contains (drive_statuses asked.entry.is_checked) result }
 {
-    if !is_traced {
-        return drive_device(rt, task, script, &mut device, out);
+    if !asked.is_traced {
+        return drive_judged(rt, asked, task, script, device, out, lines);
     }
-    let mut traced = DriveTrace::new(rt.alloc(), device, rt.stderr());
-    drive_device(rt, task, script, &mut traced, out)
+    let traced = DriveTrace::new(rt.alloc(), device, rt.stderr());
+    drive_judged(rt, asked, task, script, traced, out, lines)
+}
+
+/// Drives a server over a device, with its capture written to a file if there is one. A write beyond the limit on the size of
+/// files is refused as any other.
+fn drive_captured<D: Device + Drop, W: Write + Drop, F: Write + Drop>(
+    rt: &HostRuntime,
+    asked: DriveTask<'_>,
+    task: Task<'_>,
+    script: Lines<'_>,
+    file: Option<File>,
+    device: D,
+    out: W,
+    lines: F,
+) -> u8
+    ensures { Contains (drive_statuses asked.entry.is_checked) result }
+{
+    let Some(file) = file else {
+        return drive_over(rt, asked, task, script, device, out, lines);
+    };
+    let room = room_in_file(file.as_raw_fd());
+    let written = SayingWriter::new(LimitedWriter::new(file, room), rt.stderr());
+    let mut captured = JudgedServer::capturing(rt.alloc(), device, written);
+    if asked.opens_directories {
+        captured.say_several_readers();
+    }
+    drive_over(rt, asked, task, script, captured, out, lines)
+}
+
+/// The socket: with `--random` the first place names it.
+fn socket_of(asked: DriveTask<'_>) -> Option<&'_ str> {
+    match asked.socket {
+        None if asked.is_random => Some(asked.file),
+        socket => socket,
+    }
 }
 
 /// Drives the server on standard input and output, or on a socket, and gives the exit status.
-fn drive_place(rt: &HostRuntime, asked: DriveTask<'_>, task: Task<'_>, script: &[u8]) -> u8
-    ensures { Contains (0 ∷ 1 ∷ 3 ∷ 4 ∷ 5 ∷ []) result }
+fn drive_place(
+    rt: &HostRuntime,
+    asked: DriveTask<'_>,
+    task: Task<'_>,
+    script: Lines<'_>,
+    file: Option<File>,
+) -> u8
+    ensures { Contains (drive_statuses asked.entry.is_checked) result }
 {
-    let Some(path) = asked.socket else {
+    let Some(path) = socket_of(asked) else {
         let device = PacketDevice::giving_up(rt.reader(), io::writer(rt));
-        return drive_over(rt, task, asked.is_traced, script, device, rt.stderr());
+        let (out, lines) = (rt.stderr(), rt.stderr());
+        return drive_captured(rt, asked, task, script, file, device, out, lines);
     };
     let deadline = Deadline::new(rt, asked.wait_ms);
     match connect(&deadline, path) {
         Ok((reader, writer)) => {
             let device = StreamDevice::of_replies(reader, writer);
-            drive_over(
-                rt,
-                task,
-                asked.is_traced,
-                script,
-                device,
-                standard_output(rt),
-            )
+            let out = standard_output(rt);
+            if asked.is_random {
+                // So that what is printed stays a script.
+                return drive_captured(rt, asked, task, script, file, device, out, rt.stderr());
+            }
+            let lines = standard_output(rt);
+            drive_captured(rt, asked, task, script, file, device, out, lines)
         }
         Err(error) if error.kind() == ErrorKind::OutOfMemory => no_memory(&mut rt.stderr()),
         Err(error) => no_socket(rt, &error),
@@ -249,19 +436,56 @@ fn script_of(rt: &HostRuntime, task: Task<'_>) -> Result<Vec<u8>, u8>
     }
 }
 
-/// Drives a server by a script, and gives the exit status.
-fn drive_task_of(rt: &HostRuntime, asked: DriveTask<'_>, task: Task<'_>) -> u8
-    ensures { Contains (0 ∷ 1 ∷ 3 ∷ 4 ∷ 5 ∷ []) result }
+/// Drives a server with a capture written to the file at a path, which is made anew before anything is connected.
+fn drive_to_file(
+    rt: &HostRuntime,
+    asked: DriveTask<'_>,
+    task: Task<'_>,
+    script: Lines<'_>,
+    path: &str,
+) -> u8
+    ensures { Contains (drive_statuses asked.entry.is_checked) result }
 {
+    match File::create(rt, path) {
+        Ok(file) => drive_place(rt, asked, task, script, Some(file)),
+        Err(error) if error.kind() == ErrorKind::OutOfMemory => no_memory(&mut rt.stderr()),
+        Err(error) => cannot_write(rt, path, &error),
+    }
+}
+
+/// Drives a server by the lines of a script, with a capture where one is asked for, and gives the exit status.
+fn drive_lines(rt: &HostRuntime, asked: DriveTask<'_>, task: Task<'_>, script: Lines<'_>) -> u8
+    ensures { Contains (drive_statuses asked.entry.is_checked) result }
+{
+    match asked.capture {
+        Some(path) => drive_to_file(rt, asked, task, script, path),
+        None => drive_place(rt, asked, task, script, None),
+    }
+}
+
+/// Drives a server by a script, and gives the exit status. With SOCK the script `-` is standard input, a line at a time.
+fn drive_task_of(rt: &HostRuntime, asked: DriveTask<'_>, task: Task<'_>) -> u8
+    ensures { Contains (drive_statuses asked.entry.is_checked) result }
+{
+    if asked.is_random {
+        let lines = Lines::Random {
+            seed: asked.seed,
+            events: asked.events,
+        };
+        return drive_lines(rt, asked, task, lines);
+    }
+    if asked.file == "-" && asked.socket.is_some() {
+        return drive_lines(rt, asked, task, Lines::Input);
+    }
     match script_of(rt, task) {
-        Ok(script) => drive_place(rt, asked, task, script.as_slice()),
+        Ok(script) => drive_lines(rt, asked, task, Lines::Script(script.as_slice())),
         Err(status) => status,
     }
 }
 
 /// Drives a server, and gives the exit status.
 pub fn run_drive_task(rt: &HostRuntime, asked: DriveTask<'_>) -> u8
-    ensures statuses { IsOffer asked.entry.offer.now → Contains (0 ∷ 1 ∷ 3 ∷ 4 ∷ 5 ∷ []) result }
+    ensures statuses { IsOffer asked.entry.offer.now → Contains (drive_statuses asked.entry.is_checked) result }
     ensures refused { ¬ IsOffer asked.entry.offer.now → result ≡ 2 }
 {
     if !is_offer(asked.offer.as_bytes()) {

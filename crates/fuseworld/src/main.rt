@@ -9,8 +9,10 @@ mod doing;
 mod draw;
 mod drive;
 mod frame_commands;
+mod judged;
 mod output;
 mod reason;
+mod saying;
 mod serve;
 mod serve_words;
 mod sides;
@@ -114,7 +116,7 @@ fn run_task(rt: &HostRuntime, task: Task<'_>) -> u8
         }
         Task::Run { file, hex } => run_file(rt, Some(file), hex),
         Task::Socket { file, path } => run_over_socket(rt, file, path),
-        Task::Draw { file } => run_draw(rt, file),
+        Task::Draw { file, around } => run_draw(rt, file, around),
         Task::OnFrame(task) => run_frame_task(rt, task),
         Task::Serve(task) => run_serve(rt, task),
         Task::Drive(task) => run_drive_task(rt, task),

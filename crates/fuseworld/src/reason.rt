@@ -19,3 +19,11 @@ pub fn no_socket(rt: &HostRuntime, error: &io::Error) -> u8
     let _ = eprintln!(rt; "socket failed: {error}");
     4
 }
+
+/// Says on standard error that a file cannot be written, and why, and gives the exit status, 1.
+pub fn cannot_write(rt: &HostRuntime, name: &str, error: &io::Error) -> u8
+    ensures { result ≡ 1 }
+{
+    let _ = eprintln!(rt; "cannot write {name}: {error}");
+    1
+}

@@ -1,13 +1,20 @@
 //! The command `serve`: the server before a kernel, or whoever speaks FUSE to it.
 
-ghost use Rattle.std.specs.Prelude.{◌≤◌, ◌∷◌, [], Contains};
+ghost use Rattle.std.specs.Prelude.{◌≤◌, Contains};
 ghost use Rattle.fuse_spec.specs.Values.Numbers.{max_validity};
+ghost use Rattle.fuseworld.specs.ServeStatuses.{captured_statuses, serve_statuses, served_statuses};
 
-use crate::reason::no_socket;
+use crate::judged::status_with;
+use crate::reason::{cannot_write, no_socket};
 use fuse_device::{Device, PacketDevice, StreamDevice};
+use fw_capture::CapturedDevice;
+use fw_judged::JudgedDevice;
+use fw_output::{LimitedWriter, room_in_file};
 use fw_script::no_memory;
 use fw_serve::{Mount, TracedDevice, WaitingReader, WaitingWriter, serve_device};
+use std::fs::File;
 use std::io::{BufWriter, ErrorKind};
+use std::os::fd::AsRawFd;
 use std::os::unix::net::{UnixListener, UnixStream};
 use std::{fs, io};
 
@@ -23,26 +30,62 @@ pub struct ServeTask<'a> {
     pub mount: Mount,
     /// Whether each frame is printed.
     pub is_traced: bool,
+    /// Whether what goes over the device is judged, and each fault printed.
+    pub is_checked: bool,
+    /// The file to which a capture is written, if one is asked for.
+    pub capture: Option<&'a str>,
     /// Where a socket is made for the one connection that is served, in the place of standard input and output.
     pub socket: Option<&'a str>,
     ghost found: { mount.validity.found_ms ≤ max_validity },
     ghost missing: { mount.validity.missing_ms ≤ max_validity },
 }
 
-/// Serves a device, and gives the exit status.
-fn serve_over<D: Device + Drop>(rt: &HostRuntime, task: ServeTask<'_>, mut device: D) -> u8
-    ensures { Contains (0 ∷ 3 ∷ 4 ∷ []) result }
+/// Serves a device, judged where that is asked for, and gives the exit status.
+fn serve_judged<D: Device + Drop>(rt: &HostRuntime, task: ServeTask<'_>, mut device: D) -> u8
+    ensures { Contains (served_statuses task.entry.is_checked) result }
 {
     let alloc = rt.alloc();
     let mut faults = rt.stderr();
-    if !task.is_traced {
+    if !task.is_checked {
         return serve_device(alloc, task.mount, &mut device, &mut faults);
     }
-    let Ok(out) = BufWriter::new(alloc, rt.stderr()) else {
-        return no_memory(&mut faults);
+    let mut judged = JudgedDevice::new(alloc, device, rt.stderr());
+    let status = serve_device(alloc, task.mount, &mut judged, &mut faults);
+    status_with(status, judged.faults())
+}
+
+/// Serves a device, with each frame printed where it is traced, and gives the exit status.
+fn serve_over<D: Device + Drop>(rt: &HostRuntime, task: ServeTask<'_>, device: D) -> u8
+    ensures { Contains (served_statuses task.entry.is_checked) result }
+{
+    if !task.is_traced {
+        return serve_judged(rt, task, device);
+    }
+    match BufWriter::new(rt.alloc(), rt.stderr()) {
+        Ok(out) => serve_judged(rt, task, TracedDevice::new(rt.alloc(), device, out)),
+        Err(_) => no_memory(&mut rt.stderr()),
+    }
+}
+
+/// Serves a device, with its capture written to a file if there is one, and gives the exit status. A write beyond the limit
+/// on the size of files is refused as any other.
+fn serve_captured<D: Device + Drop>(
+    rt: &HostRuntime,
+    task: ServeTask<'_>,
+    file: Option<File>,
+    device: D,
+) -> u8
+    ensures { Contains (served_statuses task.entry.is_checked) result }
+{
+    let Some(file) = file else {
+        return serve_over(rt, task, device);
     };
-    let mut traced = TracedDevice::new(alloc, device, out);
-    serve_device(alloc, task.mount, &mut traced, &mut faults)
+    let room = room_in_file(file.as_raw_fd());
+    let out = LimitedWriter::new(file, room);
+    match CapturedDevice::new(rt.alloc(), device, out, rt.stderr()) {
+        Ok(captured) => serve_over(rt, task, captured),
+        Err(_) => no_memory(&mut rt.stderr()),
+    }
 }
 
 /// Waits at a path for one connection.
@@ -55,18 +98,41 @@ fn connect(rt: &HostRuntime, path: &str) -> io::Result<StreamDevice<UnixStream, 
     Ok(StreamDevice::new(reader, writer))
 }
 
-/// Serves what the task names, and gives the exit status. Standard input and output may be descriptors that do not block.
-pub fn run_serve(rt: &HostRuntime, task: ServeTask<'_>) -> u8
-    ensures { Contains (0 ∷ 3 ∷ 4 ∷ []) result }
+/// Serves on standard input and output, or on a socket, and gives the exit status. Standard input and output may be
+/// descriptors that do not block.
+fn serve_place(rt: &HostRuntime, task: ServeTask<'_>, file: Option<File>) -> u8
+    ensures { Contains (served_statuses task.entry.is_checked) result }
 {
     let Some(path) = task.socket else {
         let reader = WaitingReader::new(rt.reader(), STANDARD_INPUT);
         let writer = WaitingWriter::new(io::writer(rt), STANDARD_OUTPUT);
-        return serve_over(rt, task, PacketDevice::new(reader, writer));
+        return serve_captured(rt, task, file, PacketDevice::new(reader, writer));
     };
     match connect(rt, path) {
-        Ok(device) => serve_over(rt, task, device),
+        Ok(device) => serve_captured(rt, task, file, device),
         Err(error) if error.kind() == ErrorKind::OutOfMemory => no_memory(&mut rt.stderr()),
         Err(error) => no_socket(rt, &error),
+    }
+}
+
+/// Serves with a capture written to the file at a path, which is made anew before anything is served, and gives the exit
+/// status.
+fn serve_to_file(rt: &HostRuntime, task: ServeTask<'_>, path: &str) -> u8
+    ensures { Contains (captured_statuses task.entry.is_checked) result }
+{
+    match File::create(rt, path) {
+        Ok(file) => serve_place(rt, task, Some(file)),
+        Err(error) if error.kind() == ErrorKind::OutOfMemory => no_memory(&mut rt.stderr()),
+        Err(error) => cannot_write(rt, path, &error),
+    }
+}
+
+/// Serves what the task names, and gives the exit status.
+pub fn run_serve(rt: &HostRuntime, task: ServeTask<'_>) -> u8
+    ensures { Contains (serve_statuses task.entry.capture task.entry.is_checked) result }
+{
+    match task.capture {
+        Some(path) => serve_to_file(rt, task, path),
+        None => serve_place(rt, task, None),
     }
 }

@@ -6,7 +6,7 @@ ghost use Rattle.fuseworld.specs.Arguments.{IsArgument, choice};
 ghost use Rattle.fuseworld.specs.Commands.{AreMinors, IsCommand, serve_app};
 ghost use Rattle.fuseworld.specs.Tasks.{AsksServe, minor_of};
 
-use crate::arguments::{LONGEST, flag, option, optional, time_argument};
+use crate::arguments::{LONGEST, file_argument, flag, option, optional, time_argument};
 use crate::serve::ServeTask;
 use crate::values::{is_set, number, text_or_none};
 use clap::builder::ValueParser;
@@ -63,6 +63,12 @@ pub fn serve_command<'a>(alloc: Global) -> Result<Command<'a>, AllocError>
             "trace",
             "Print each frame in words, on standard error",
         ))?
+        .arg(flag(
+            alloc,
+            "check",
+            "Print each fault in what goes over the device, on standard error",
+        ))?
+        .arg(file_argument(alloc))?
         .arg(optional(
             alloc,
             "SOCK",
@@ -97,6 +103,8 @@ pub fn serve_task<'a>(matches: &ArgMatches<'a>) -> ServeTask<'a>
     ServeTask {
         mount,
         is_traced: is_set(matches, "trace"),
+        is_checked: is_set(matches, "check"),
+        capture: text_or_none(matches, "capture"),
         socket: text_or_none(matches, "SOCK"),
     }
 }

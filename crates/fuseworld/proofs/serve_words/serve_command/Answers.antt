@@ -1,7 +1,7 @@
 use Rattle.std.proofs.Common.{rules, codes}
 use Rattle.std.proofs.lemmas.Result.{IfOk-weaker}
 use Rattle.clap.specs.Words.{new_rule, new_app}
-use Rattle.fuseworld.specs.Arguments.{IsArgument, flag, number}
+use Rattle.fuseworld.specs.Arguments.{IsArgument, flag, number, option_or_none}
 use Rattle.fuseworld.specs.Commands.{IsCommand, longest}
 use Rattle.fuseworld.proofs.Adding.{adds_argument, with_about}
 use Rattle.fuseworld.proofs.serve_words.serve_command.Goals as goal
@@ -13,6 +13,8 @@ returns c =
     let minor = c.minor_argument.ensures in
     let show_is : IsArgument (flag (codes "show")) c.flag.result = search rules in
     let trace_is : IsArgument (flag (codes "trace")) c.flag-2.result = search rules in
+    let check_is : IsArgument (flag (codes "check")) c.flag-3.result = search rules in
+    let capture_is : IsArgument (option_or_none (codes "capture")) c.file_argument.result = search rules in
     let socket_is : IsArgument (new_rule (codes "SOCK")) c.optional.result = search rules in
     let new_is : IsCommand (new_app (codes "serve")) c.new.result = search rules in
     let about_is = with_about _ _ c.about.result _ c.about.ensures new_is in
@@ -21,4 +23,7 @@ returns c =
     let minors = adds_argument _ _ _ _ _ missing minor.2 c.in_ok-arg-3.ensures in
     let show = adds_argument _ _ _ _ _ minors show_is c.in_ok-arg-4.ensures in
     let trace = adds_argument _ _ _ _ _ show trace_is c.in_ok-arg-5.ensures in
-    IfOk-weaker c.arg-6.result _ _ (λ command adds. (minor.0, minor.1, adds_argument _ _ _ command _ trace socket_is adds)) c.arg-6.ensures
+    let check = adds_argument _ _ _ _ _ trace check_is c.in_ok-arg-6.ensures in
+    let capture = adds_argument _ _ _ _ _ check capture_is c.in_ok-arg-7.ensures in
+    IfOk-weaker c.arg-8.result _ _ (λ command adds. (minor.0, minor.1, adds_argument _ _ _ command _ capture socket_is adds))
+    c.arg-8.ensures

@@ -1,0 +1,21 @@
+//! The exit status of a run that was judged.
+
+ghost use Rattle.std.specs.Prelude.{◌≡◌, ◌<◌, ◌+◌, ◌⊎◌};
+
+use fw_judged::FaultCounts;
+
+/// Somebody broke a rule.
+const FAULTS: u8 = 6;
+
+/// The exit status of a run whose faults were counted: 6 where somebody broke a rule, and it ended well else.
+pub fn status_with(status: u8, faults: FaultCounts) -> u8
+    ensures fault { status ≡ 0 → 0 < faults.kernel + faults.server + faults.device → result ≡ 6 }
+    ensures other { (status ≡ 0 → faults.kernel + faults.server + faults.device ≡ 0) → result ≡ status }
+    ensures either { (result ≡ status) ⊎ ((status ≡ 0) × (result ≡ 6)) }
+{
+    if status == 0 && faults.has_fault() {
+        FAULTS
+    } else {
+        status
+    }
+}

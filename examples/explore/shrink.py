@@ -1,0 +1,156 @@
+#!/usr/bin/env python3
+"""Shrinks a script of `fuseworld drive` at which a FUSE server goes wrong, until no line of it can go.
+
+    shrink.py [OPTIONS] SERVER-WORDS .. -- SCRIPT
+
+The server is started anew for each try. It listens at the Unix stream socket whose path stands in the place of the word
+SOCK; or it has /dev/fd/N in the place of the word MOUNT, by examples/drive/launcher.c, which -l names once it is built.
+
+A fault is a line in which `drive` says what the server did wrong, or the judge of sessions does, without its numbers. The
+first fault of the whole script is kept, or the one that -f names, as "no reply". SCRIPT.short is the script that is left, with what
+`drive` prints of it as comments; SCRIPT.short.capture what went over the device, and SCRIPT.short.svg a picture of it.
+"""
+import argparse
+import os
+import re
+import subprocess
+import sys
+import tempfile
+import time
+from pathlib import Path
+
+WRONG = re.compile(r"(reply to nothing|second reply|no reply's head|body is not its request's|node \d+ under two generations"
+                   r"|node \d+ given for two files at once|the root given for a name|differs: |frame \d+: server: )")
+# The lines that name a call by its number, and which word that is.
+NAMES_CALL = {"intr": 1, "call read": 2, "call write": 2, "call close": 2}
+
+
+def parsed():
+    parser = argparse.ArgumentParser(description=__doc__.splitlines()[0], usage="shrink.py [OPTIONS] SERVER-WORDS .. -- SCRIPT")
+    parser.add_argument("-p", "--program", default="fuseworld", help="the program, if not fuseworld")
+    parser.add_argument("-l", "--launcher", default="launcher", help="the launcher, for a server that takes MOUNT")
+    parser.add_argument("-o", "--option", action="append", default=[], help="an option of drive, as -o=--beside; may come again")
+    parser.add_argument("-b", "--before", help="a command of the shell that goes before each try, as to empty a folder")
+    parser.add_argument("-f", "--fault", help="the fault to keep: a text that its line has")
+    parser.add_argument("-w", "--wait", type=int, default=2000, help="for how many milliseconds a reply is waited for")
+    parser.add_argument("server", nargs="+", metavar="SERVER-WORDS")
+    words = sys.argv[1:]
+    if "--" not in words or len(words) - words.index("--") != 2:
+        parser.error("-- and the script come last")
+    asked = parser.parse_args(words[:words.index("--")])
+    asked.script = Path(words[-1])
+    return asked
+
+
+def renumbered(lines, kept):
+    """The lines that are kept, with the numbers that the calls have then; None where a line names a call that is gone."""
+    numbers, calls, result = {}, 0, []
+    for place, line in enumerate(lines):
+        is_kept = place in kept
+        words = line.split(" ")
+        if words[0] == "call":
+            calls += 1
+            if is_kept:
+                numbers[calls] = len(numbers) + 1
+        if not is_kept:
+            continue
+        at = NAMES_CALL.get(words[0], NAMES_CALL.get(" ".join(words[:2])))
+        if at is not None and len(words) > at and words[at].isdigit():
+            if int(words[at]) not in numbers:
+                return None
+            words[at] = str(numbers[int(words[at])])
+        result.append(" ".join(words))
+    return result
+
+
+def over_socket(asked, drive, folder):
+    """Runs the server at a socket, and `drive` before it; returns what that printed."""
+    socket = folder / "socket"
+    socket.unlink(missing_ok=True)
+    words = [str(socket) if word == "SOCK" else word for word in asked.server]
+    server = subprocess.Popen(words, stdin=subprocess.DEVNULL, stdout=subprocess.DEVNULL, stderr=subprocess.DEVNULL)
+    try:
+        end = time.monotonic() + 5
+        while not socket.exists() and server.poll() is None and time.monotonic() < end:
+            time.sleep(0.01)
+        words = [*drive, "--wait", str(asked.wait), str(folder / "script"), str(socket)]
+        return subprocess.run(words, stdin=subprocess.DEVNULL, capture_output=True, text=True, timeout=60)
+    finally:
+        server.kill()
+        server.wait()
+
+
+def over_launcher(asked, drive, folder):
+    words = [asked.launcher, "-t", str(asked.wait), *drive, str(folder / "script"), "--", *asked.server]
+    return subprocess.run(words, stdin=subprocess.DEVNULL, capture_output=True, text=True, timeout=60)
+
+
+def tried(asked, script, capture=None):
+    """What `drive` prints of a script."""
+    drive = [asked.program, "drive", "--check", *asked.option, *(["--capture", str(capture)] if capture else [])]
+    with tempfile.TemporaryDirectory() as name:
+        folder = Path(name)
+        (folder / "script").write_text("".join(f"{line}\n" for line in script))
+        if asked.before:
+            subprocess.run(asked.before, shell=True, check=True)
+        ran = (over_socket if "SOCK" in asked.server else over_launcher)(asked, drive, folder)
+    if ran.returncode in (1, 2):
+        sys.exit(ran.stderr or ran.stdout)
+    return ran.stdout
+
+
+def fault_in(line, asked):
+    """The fault that a line says, without its numbers: the one that is asked for, or any; or None."""
+    is_fault = asked.fault in line if asked.fault else WRONG.match(line)
+    return re.sub(r"\d+", "N", line) if is_fault else None
+
+
+def shrunk(lines, is_wrong):
+    """The places of lines of which none can go: parts of them are left out as long as what is left is wrong."""
+    kept, part = list(range(len(lines))), max(1, len(lines) // 2)
+    while True:
+        has_changed = False
+        for start in range(0, len(kept), part):
+            rest = kept[:start] + kept[start + part:]
+            if rest and is_wrong(rest):
+                kept, has_changed = rest, True
+                break
+        if not has_changed and part == 1:
+            return kept
+        part = min(part, max(1, len(kept) // 2)) if has_changed else max(1, part // 2)
+
+
+def main():
+    asked = parsed()
+    lines = [line for line in asked.script.read_text().splitlines() if line and not line.startswith("#")]
+    said = [line for line in tried(asked, lines).splitlines() if fault_in(line, asked)]
+    if not said:
+        sys.exit("the server does nothing wrong at this script")
+    fault = fault_in(said[0], asked)
+    tries = 0
+
+    def is_wrong(kept):
+        nonlocal tries
+        script = renumbered(lines, set(kept))
+        if script is None:
+            return False
+        tries += 1
+        return any(fault_in(line, asked) == fault for line in tried(asked, script).splitlines())
+
+    script = renumbered(lines, set(shrunk(lines, is_wrong)))
+    short = Path(f"{asked.script}.short")
+    capture = Path(f"{short}.capture")
+    words = tried(asked, script, capture)
+    short.write_text("".join([*(f"{line}\n" for line in script), *(f"# {line}\n" for line in words.splitlines())]))
+    checked = subprocess.run([asked.program, "check", str(capture)], capture_output=True, text=True).stdout
+    found = re.search(r"^line (\d+): server", checked, re.M)
+    around = found[1] if found else str(len(capture.read_text().splitlines()))
+    with open(f"{short}.svg", "wb") as picture:
+        subprocess.run([asked.program, "draw", "--around", around, str(capture)], stdout=picture, check=True)
+    print(f"{said[0]}\n{len(lines)} lines, {len(script)} left after {tries} tries: {short}", file=sys.stderr)
+    print(short.read_text(), end="")
+    return 0
+
+
+if __name__ == "__main__":
+    sys.exit(main())
