@@ -1,4 +1,5 @@
 pub mod Counts
+pub mod Faultless
 pub mod Faults
 pub mod Fits
 pub mod Frames

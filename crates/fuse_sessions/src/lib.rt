@@ -7,10 +7,12 @@
 
 pub mod act;
 pub mod fault;
+pub mod faultless;
 pub mod known;
 pub mod transfer;
 
 pub use act::{Act, Asked, File, Fit, OpenFile, OpenKind, Taken};
 pub use fault::{Fault, Party};
+pub use faultless::faultless_sessions;
 pub use known::Known;
 pub use transfer::Transfer;
