@@ -6,17 +6,15 @@ use Rattle.fuse_spec.specs.Values.Maps.{Map, get, put}
 use Rattle.fuse_sessions.specs.declared.act.Act.{Act}
 use Rattle.fuse_sessions.specs.declared.act.Act.TheVariants.{Gives, Forgets}
 use Rattle.fuse_sessions.specs.declared.act.File.{File}
-use Rattle.fuse_sessions.specs.Sessions.{Session, moments, latest, or_earlier, left}
+use Rattle.fuse_sessions.specs.Sessions.{Session, or_earlier, left}
 use Rattle.fuse_sessions.specs.Counts.{gives_least, gives_most, forgets_of, least_count, most_count, first_file, known}
-use Rattle.fuse_sessions.proofs.Laws.{left-more, latest-more, moments-more}
+use Rattle.fuse_sessions.proofs.FileLaws.{known-more}
+use Rattle.fuse_sessions.proofs.Laws.{left-more}
 use Rattle.fuse_judge.specs.declared.nodes.NodeRow.{NodeRow}
 use Rattle.fuse_judge.specs.Nodes.{LeavesNode, file_given, IsRow, IsNode, AreNodes}
 use Rattle.fuse_judge.specs.Tallies.{one_if}
 use Rattle.fuse_judge.proofs.Keys.{same, differ, all_after_put}
 use Rattle.fuse_judge.proofs.PendingLaws.{sum_small, one_small}
-
-known-more : (s : Session) (a : Act) (n : ℕ) → known (s ++ a ∷ []) n ≡ or_earlier (first_file n (s, a)) (known s n)
-known-more s a n = ap (latest (first_file n)) (moments-more [] s a) ∙ latest-more (first_file n) (moments s) (s, a)
 
 pub other_node : (s : Session) (a : Act) (q : ℕ) (o : Option NodeRow) → gives_least q a ≡ 0 → gives_most q a ≡ 0
     → forgets_of q a ≡ 0 → first_file q (s, a) ≡ None → IsNode s q o → IsNode (s ++ a ∷ []) q o

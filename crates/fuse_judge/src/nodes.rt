@@ -57,7 +57,7 @@ pub(crate) fn fault_of_missing<A: Allocator + Copy>(
 }
 
 /// How often a node is counted at most.
-fn most<A: Allocator + Copy>(nodes: &RisingTable<NodeRow, A>, node: u64) -> u64
+pub(crate) fn most<A: Allocator + Copy>(nodes: &RisingTable<NodeRow, A>, node: u64) -> u64
     ensures { (s : Session) → AreNodes s nodes.now.entries → most_count s node ≡ result }
 {
     match nodes.get(node) {
@@ -66,17 +66,12 @@ fn most<A: Allocator + Copy>(nodes: &RisingTable<NodeRow, A>, node: u64) -> u64
     }
 }
 
-/// The fault of a kernel that forgets lookups of a node, which something uses or not.
-pub(crate) fn fault_of_forget<A: Allocator + Copy>(
-    nodes: &RisingTable<NodeRow, A>,
-    node: u64,
-    lookups: u64,
-    in_use: bool,
-) -> Option<Fault>
-    ensures { (s : Session) → AreNodes s nodes.now.entries → (IsTrue in_use ↔ IsInUse s node)
+/// The fault of a kernel that forgets lookups of a node, which is counted so often at most, and which something uses or
+/// not.
+pub(crate) fn fault_of_forget(most: u64, node: u64, lookups: u64, in_use: bool) -> Option<Fault>
+    ensures { (s : Session) → most_count s node ≡ most → (IsTrue in_use ↔ IsInUse s node)
         → IsFault (BreaksForget s node lookups) result }
 {
-    let most = most(nodes, node);
     if node == ROOT {
         Some(Fault::ForgetOfTheRoot)
     } else if lookups == 0 {
@@ -147,17 +142,29 @@ pub(crate) fn fault_of_attributes<A: Allocator + Copy>(
     }
 }
 
-/// The kernel forgets lookups of a node: those that it has, and no more. The row stays, for its file.
-fn forget<A: Allocator + Copy>(nodes: &mut RisingTable<NodeRow, A>, node: u64, lookups: u64)
+/// The kernel forgets lookups of a node, which something uses or not: those that it has, and no more. The row stays, for
+/// its file. Returns the fault of the kernel: so a row is looked up once for both.
+#[inline(always)]
+pub(crate) fn forget<A: Allocator + Copy>(
+    nodes: &mut RisingTable<NodeRow, A>,
+    node: u64,
+    lookups: u64,
+    in_use: bool,
+) -> Option<Fault>
     requires { 0 < nodes.old.room }
     ensures kept { (s : Session) → AreNodes s nodes.old.entries
         → AreNodes (s ++ Forgets node lookups ∷ []) nodes.new.entries }
+    ensures verdict { (s : Session) → AreNodes s nodes.old.entries → (IsTrue in_use ↔ IsInUse s node)
+        → IsFault (BreaksForget s node lookups) result }
     ensures room { nodes.old.room ≤ nodes.new.room + 1 }
 {
     if let Some(row) = nodes.get_mut(node) {
+        let most = row.most;
         row.least = row.least.saturating_sub(lookups);
-        row.most = row.most.saturating_sub(lookups);
+        row.most = most.saturating_sub(lookups);
+        return fault_of_forget(most, node, lookups, in_use);
     }
+    fault_of_forget(0, node, lookups, in_use)
 }
 
 /// The file of a node that is counted so often at least, once an entry gives one.
@@ -219,7 +226,9 @@ pub(crate) fn note_nodes<A: Allocator + Copy>(nodes: &mut RisingTable<NodeRow, A
         } => {
             let _verdict = give(nodes, nodeid, file, is_certain);
         }
-        Act::Forgets(node, lookups) => forget(nodes, node, lookups),
+        Act::Forgets(node, lookups) => {
+            let _verdict = forget(nodes, node, lookups, false);
+        }
         _ => {}
     }
 }

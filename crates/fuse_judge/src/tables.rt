@@ -19,7 +19,7 @@ use crate::handle::handle_of;
 use crate::marks::{Marks, mark_of, set_mark};
 use crate::nodes::{
     NodeRow, fault_of_attributes, fault_of_forget, fault_of_gift, fault_of_missing, fault_of_name,
-    give, note_nodes,
+    forget, give, most, note_nodes,
 };
 use crate::numbers::{fault_of_number, note_number};
 use crate::opens::{
@@ -134,7 +134,7 @@ impl<A: Allocator + Copy> Tables<A> {
             }
             Act::Names(node) => fault_of_name(&self.nodes, node),
             Act::Forgets(node, lookups) => {
-                fault_of_forget(&self.nodes, node, lookups, self.is_in_use(node))
+                fault_of_forget(most(&self.nodes, node), node, lookups, self.is_in_use(node))
             }
             Act::Uses(file) => fault_of_use(open_count(&self.opens, file), self.flags, file),
             Act::Releases(file) => fault_of_release(
@@ -242,6 +242,10 @@ impl<A: Allocator + Copy> Tables<A> {
         } = *act
         {
             return give(&mut self.nodes, nodeid, file, is_certain);
+        }
+        if let Act::Forgets(node, lookups) = *act {
+            let in_use = self.is_in_use(node);
+            return forget(&mut self.nodes, node, lookups, in_use);
         }
         if let Act::Asks { unique, asked } = act {
             note_asked(&mut self.pending, *unique, asked);

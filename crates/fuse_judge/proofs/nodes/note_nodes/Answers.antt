@@ -13,4 +13,4 @@ pub returns-in-Gives-clause-kept : goal.returns-in-Gives-clause-kept
 returns-in-Gives-clause-kept g c = λ s are. rw c.in-Gives.is (c.give-verdict.ensures.kept s are)
 
 pub returns-in-Forgets-clause-kept : goal.returns-in-Forgets-clause-kept
-returns-in-Forgets-clause-kept g c = λ s are. rw c.in-Forgets.is (c.forget.ensures.kept s are)
+returns-in-Forgets-clause-kept g c = λ s are. rw c.in-Forgets.is (c.forget-verdict.ensures.kept s are)

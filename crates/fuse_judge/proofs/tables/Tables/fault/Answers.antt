@@ -20,7 +20,7 @@ returns-in-Interrupts g c = λ s are. rw c.in-Interrupts.is
 
 pub returns-in-Forgets : goal.returns-in-Forgets
 returns-in-Forgets g c = λ s are. rw c.in-Forgets.is
-    (c.fault_of_forget.ensures s are.right_nodes (c.is_in_use.ensures s are))
+    (c.fault_of_forget.ensures s (c.most.ensures s are.right_nodes) (c.is_in_use.ensures s are))
 
 pub returns-in-Uses : goal.returns-in-Uses
 returns-in-Uses g c = λ s are. rw c.in-Uses.is

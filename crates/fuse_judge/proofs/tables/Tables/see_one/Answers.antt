@@ -1,5 +1,5 @@
 use Rattle.std.proofs.Common.{◌^◌, arith}
-use Rattle.fuse_sessions.specs.declared.act.Act.TheVariants.{Gives, Asks, Replies}
+use Rattle.fuse_sessions.specs.declared.act.Act.TheVariants.{Gives, Forgets, Asks, Replies}
 use Rattle.fuse_judge.proofs.ConcernLaws.{is_concern}
 use Rattle.fuse_judge.proofs.FlagLaws.{flags-kept}
 use Rattle.fuse_judge.proofs.NumberLaws.{quiet_numbers}
@@ -23,6 +23,22 @@ returns-in-Gives-clause-right g c = λ s are.
       right_flags = flags-kept s act _ leaves.flags (leaves.no_end s) are.right_flags;
       right_numbers = quiet_numbers s act _ leaves.numbers are.right_numbers;
       right_nodes = c.give.ensures.kept s are.right_nodes;
+      right_pending = pending_kept s act _ _ _ are.right_pending leaves.requests;
+      right_opens = left_open s act _ _ leaves.files are.right_opens;
+    })
+
+pub returns-in-Forgets-clause-verdict : goal.returns-in-Forgets-clause-verdict
+returns-in-Forgets-clause-verdict g c = λ s are.
+    rw c.in-Forgets.is (c.forget.ensures.verdict s are.right_nodes (c.is_in_use-in_use.ensures s are))
+
+pub returns-in-Forgets-clause-right : goal.returns-in-Forgets-clause-right
+returns-in-Forgets-clause-right g c = λ s are.
+    let act = Forgets c.in-Forgets.node c.in-Forgets.lookups in
+    let leaves = is_concern act in
+    rw c.in-Forgets.is (record {
+      right_flags = flags-kept s act _ leaves.flags (leaves.no_end s) are.right_flags;
+      right_numbers = quiet_numbers s act _ leaves.numbers are.right_numbers;
+      right_nodes = c.forget.ensures.kept s are.right_nodes;
       right_pending = pending_kept s act _ _ _ are.right_pending leaves.requests;
       right_opens = left_open s act _ _ leaves.files are.right_opens;
     })
