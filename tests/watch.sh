@@ -262,12 +262,12 @@ python3 "$tools/from_capture.py" "$work/capture" > "$work/pcap" && python3 "$too
 check "pcap of each kind of line" 0 $?
 cmp -s "$work/wanted" "$work/back"
 check "pcap of each kind of line, and back" 0 $?
-# The first request is the second packet: its time, the bytes that are kept and those on the wire, and its head.
+# The first request is the third packet: its time, the bytes that are kept and those on the wire, and its head.
 check "pcap: a packet's heads" "00f15365 01000000 2c000000 38000000 00010000" \
-    "$(python3 -c 'import sys; print(open(sys.argv[1], "rb").read()[59:79].hex(" ", 4))' "$work/pcap")"
+    "$(python3 -c 'import sys; print(open(sys.argv[1], "rb").read()[94:114].hex(" ", 4))' "$work/pcap")"
 if command -v tcpdump > /dev/null; then
     tcpdump -nr "$work/pcap" 2> "$work/err" > "$work/out"
-    check "tcpdump: packets" 6 "$(grep -c "^[0-9]" "$work/out")"
+    check "tcpdump: packets" 7 "$(grep -c "^[0-9]" "$work/out")"
     check "tcpdump: link type" 1 "$(grep -c "147" "$work/err")"
 else
     echo "skipped: there is no tcpdump"

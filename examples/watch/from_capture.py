@@ -30,7 +30,7 @@ def name_of(number):
 
 
 def number_of(name):
-    """The errno of a name: one of Linux, or E and a number, as watch.c writes what has no name there."""
+    """The errno of a name: one of Linux, or E and a number."""
     return int(name[1:]) if name[1:].isdigit() else getattr(errno, name)
 
 

@@ -1,9 +1,10 @@
 /* Mounts a folder by a FUSE server, stands between the device and the server, and writes down every frame: a capture.
  *
- *   watch [-l FILE] [-s BYTES] [-k] [-o OPTIONS] DIR -- SERVER-WORDS ..
+ *   watch [-l FILE] [-s BYTES] [-t] [-k] [-o OPTIONS] DIR -- SERVER-WORDS ..
  *
  *   -l FILE     the capture goes to FILE, else to standard output
  *   -s BYTES    data of WRITE requests and READ replies is cut to so many bytes behind the fixed part
+ *   -t          each frame has its time, in nanoseconds of CLOCK_MONOTONIC
  *   -k          a request is read once the server has taken the one before, so that signals find requests unread
  *   -o OPTIONS  behind the options of mount(2): max_read=.., allow_other, default_permissions
  *
@@ -35,13 +36,11 @@
 
 enum {
 	READ = 15, WRITE = 16, OUT_HEADER = 16, IN_HEADER = 40, WRITE_IN = 40,
-	/* Linux sends no packet of much more than 4 MiB. */
-	SOCKET_BUFFER = 16 << 20, ROOM = 8 << 20,
+	SOCKET_BUFFER = 16 << 20, ROOM = 8 << 20,   /* Linux sends no packet of much more than 4 MiB */
 	/* What a server splices comes in pieces of 16 pipe buffers. What is shorter is the device's to refuse. */
 	SHORTEST_PIECE = 32768,
-	/* Replies wait for a notification before them, which may wait in the kernel for one of them, until so many milliseconds
-	 * after it came. */
-	NOTIFICATION_WAIT = 20 };
+	/* Replies wait so many nanoseconds for a notification before them, which may wait in the kernel for one of them. */
+	NOTIFICATION_WAIT = 20 * 1000 * 1000 };
 
 /* A line of the capture. Those behind it wait for its result. */
 struct line { struct line *next; char *text; size_t length; int is_settled; };
@@ -52,14 +51,14 @@ static int device, server, signals;    /* descriptors; `server` is our end of th
 static pid_t server_process, guardian;
 static sigset_t told, told_before;     /* the signals that end all, blocked, and what was blocked before */
 static FILE *capture;
-static int is_keen, is_held;           /* the option -k; the server has no room for the request */
+static int is_timed, is_keen, is_held; /* the options -t and -k; the server has no room for the request */
 static size_t data_kept = SIZE_MAX, request_length, reply_length;
 static unsigned char request[ROOM] __attribute__((aligned(8))), reply[ROOM] __attribute__((aligned(8)));
 static pthread_mutex_t lines_lock = PTHREAD_MUTEX_INITIALIZER;
 static struct line *lines, **lines_end = &lines;
 static int notes[2];                   /* a pipe of notifications, each an iovec, for the second thread */
 static atomic_int notes_waiting, is_not_whole;
-static int64_t last_note;              /* when the last notification came, in milliseconds */
+static int64_t last_note;              /* when the last notification came, in nanoseconds */
 static uint64_t reads[4096];           /* numbers of READs. One that another took the place of has its reply uncut */
 
 static int fail(const char *what)
@@ -77,16 +76,14 @@ static void *need(void *memory)
 
 static const char *name_of(int number)
 {
-#define NAME(name) {name, #name}
-	static const struct { int number; const char *name; } names[] = {
-		NAME(ENOENT), NAME(EINVAL), NAME(ENODEV), NAME(ECONNABORTED), NAME(EPERM), NAME(EIO), NAME(EINTR), NAME(ENOMEM),
-		NAME(ENOTDIR), NAME(ENOTEMPTY), NAME(EBUSY), NAME(ENAMETOOLONG), NAME(EOVERFLOW)};
-	static char other[16];
-	for (size_t at = 0; at < sizeof names / sizeof *names; at++)
-		if (names[at].number == number)
-			return names[at].name;
-	snprintf(other, sizeof other, "E%d", number);
-	return other;
+	return strerrorname_np(number) ?: "EUNKNOWN";
+}
+
+static int64_t now(void)
+{
+	struct timespec time;
+	clock_gettime(CLOCK_MONOTONIC, &time);
+	return time.tv_sec * 1000000000LL + time.tv_nsec;
 }
 
 /* A line stands where this is called; `settle` ends it. */
@@ -95,15 +92,16 @@ static struct line *begin_line(char sign, const unsigned char *frame, size_t len
 	static const char digits[] = "0123456789abcdef";
 	size_t kept = length > fixed && length - fixed > data_kept ? fixed + data_kept : length;
 	struct line *line = need(malloc(sizeof *line));
-	char *text = need(malloc(2 * kept + 64));
-	*line = (struct line) {NULL, text, 2 * kept + 2, 0};
-	sprintf(text, "%c ", sign);
+	char *text = need(malloc(2 * kept + 96)), *end = text + sprintf(text, "%c ", sign);
+	if (is_timed)
+		end += sprintf(end, "@%lld ", (long long) now());
 	for (size_t at = 0; at < kept; at++) {
-		text[2 * at + 2] = digits[frame[at] >> 4];
-		text[2 * at + 3] = digits[frame[at] & 15];
+		*end++ = digits[frame[at] >> 4];
+		*end++ = digits[frame[at] & 15];
 	}
 	if (kept < length)
-		line->length += sprintf(text + line->length, " +%zu", length - kept);
+		end += sprintf(end, " +%zu", length - kept);
+	*line = (struct line) {NULL, text, end - text, 0};
 	pthread_mutex_lock(&lines_lock);
 	*lines_end = line;
 	lines_end = &line->next;
@@ -142,20 +140,11 @@ static void write_frame(const unsigned char *frame, size_t length, size_t fixed)
 /* The second writer: a notification may wait in the kernel for a lock that a request holds, whose reply we have. */
 static void *write_notes(void *unused)
 {
-	struct iovec note;
-	while (read(notes[0], &note, sizeof note) == sizeof note) {
+	for (struct iovec note; read(notes[0], &note, sizeof note) == sizeof note; notes_waiting--) {
 		write_frame(note.iov_base, note.iov_len, note.iov_len);
 		free(note.iov_base);
-		notes_waiting--;
 	}
 	return unused;
-}
-
-static int64_t now(void)
-{
-	struct timespec time;
-	clock_gettime(CLOCK_MONOTONIC, &time);
-	return time.tv_sec * 1000LL + time.tv_nsec / 1000000;
 }
 
 /* Waits until all notifications are written, or until that time. */
@@ -363,7 +352,7 @@ static int watch(char **words)
 	}
 	fcntl(notes[1], F_SETPIPE_SZ, 1 << 20);
 	const char *how = forward(&end);
-	await_notes(now() + 1000);
+	await_notes(now() + 1000000000);
 	detach();
 	close(notes[1]);
 	pthread_join(notifier, NULL);
@@ -379,17 +368,17 @@ static int watch(char **words)
 int main(int count, char **words)
 {
 	const char *file = NULL, *options = "";
-	int letter;
-	while ((letter = getopt(count, words, "+l:s:ko:")) != -1)
+	for (int letter; (letter = getopt(count, words, "+l:s:tko:")) != -1;)
 		switch (letter) {
 		case 'l': file = optarg; break;
 		case 's': data_kept = strtoul(optarg, NULL, 10); break;
+		case 't': is_timed = 1; break;
 		case 'k': is_keen = 1; break;
 		case 'o': options = optarg; break;
 		default: optind = count;
 		}
 	if (optind + 2 >= count || strcmp(words[optind + 1], "--") != 0) {
-		fprintf(stderr, "usage: watch [-l FILE] [-s BYTES] [-k] [-o OPTIONS] DIR -- SERVER-WORDS ..\n");
+		fprintf(stderr, "usage: watch [-l FILE] [-s BYTES] [-t] [-k] [-o OPTIONS] DIR -- SERVER-WORDS ..\n");
 		return 2;
 	}
 	sigemptyset(&told);
