@@ -8,6 +8,7 @@ use Rattle.fuse_device.specs.declared.device.DeviceEnd.{DeviceEnd}
 use Rattle.fuse_device.specs.declared.device.DeviceEnd.TheVariants.{Ended, TimedOut, Failed}
 use Rattle.fs_serve.specs.Sending.{GoesOver}
 use Rattle.fs_serve.specs.LookupCounts.{IsServed}
+use Rattle.served_sessions.specs.Served.{IsUnaccused}
 use Rattle.fw_serve.specs.declared.serving.Mount.{Mount}
 
 -- the server at its mount: its tree is the root alone
@@ -21,10 +22,11 @@ end_status_of (Some TimedOut) = 4
 end_status_of (Some Failed) = 4
 end_status_of None = 4
 
--- All that went over the device was served from this server on, until the device ended so.
+-- All that went over the device was served from this server on, until the device ended so. No judge accuses the server of
+-- it, as far as is proved.
 pub record ServesFrom {D : Type 0} (logs : D → D → List Transfer → Type 0) (first : Server) (old new : D) (status : ℕ)
     : Type 0 where
   pub end : Option DeviceEnd
   pub last : Server
-  pub served : GoesOver logs old new end (λ log. IsServed first log last)
+  pub served : GoesOver logs old new end (λ log. IsServed first log last × IsUnaccused log)
   pub stopped : status ≡ end_status_of end

@@ -10,6 +10,7 @@ use fs_serve::serve;
 use fs_server::ServerOf;
 use fuse_device::{Device, DeviceEnd};
 use fuse_spec::{Minor, Validity};
+use served_sessions::served_is_unaccused;
 use std::alloc::{AllocError, Allocator};
 use std::io::Write;
 
@@ -67,6 +68,7 @@ fn serve_until_end<S: NodeStore, D: Device>(
     ensures served { IfOk result (ServesFrom D.logs server.old device.old device.new) }
     ensures refused { OnErr result (device.new ≡ device.old) }
 {
+    served_is_unaccused();
     match serve(alloc, server, device) {
         Ok(end) => Ok(status_at(end)),
         Err(AllocError) => Err(AllocError),

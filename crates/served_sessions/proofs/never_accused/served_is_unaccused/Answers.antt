@@ -1,0 +1,11 @@
+use Rattle.served_sessions.proofs.Never.{bodies_never, flags_never, heads_never, notices_never, numbers_never}
+use Rattle.served_sessions.proofs.never_accused.served_is_unaccused.Goals as goal
+
+pub returns : goal.returns
+returns c = λ old log new serves. record {
+  frames = heads_never old log new serves;
+  notifications = notices_never old log new serves;
+  replies = numbers_never old log new serves;
+  flags = flags_never old log new serves;
+  bodies = bodies_never old log new serves;
+}

@@ -1,0 +1,67 @@
+-- The groups of faults of which a server is never accused, and what each asks of its kernel.
+use Rattle.std.specs.Prelude.{◌≢◌, ℕ, Bool, true, false, List}
+use Rattle.fuse_sessions.specs.declared.fault.Fault.{Fault}
+use Rattle.fuse_sessions.specs.declared.fault.Fault.TheVariants as fault
+use Rattle.fuse_sessions.specs.UnreadRequests.{opcode_in, unique_in}
+
+-- ---- faults of a server
+
+-- A frame is none, or INIT's reply is of another version.
+abbrev pub is_of_heads : Fault → Bool
+is_of_heads fault.MalformedReply = true
+is_of_heads fault.InitOfAnotherVersion = true
+is_of_heads f = false
+
+-- A frame of number 0 is no notification.
+abbrev pub is_of_notices : Fault → Bool
+is_of_notices fault.MalformedNotification = true
+is_of_notices f = false
+
+-- A reply is to no request that waits, and to no INTERRUPT of one.
+abbrev pub is_of_numbers : Fault → Bool
+is_of_numbers fault.ReplyToNothing = true
+is_of_numbers fault.SecondReply = true
+is_of_numbers fault.ReplyToForget = true
+is_of_numbers fault.ReplyToNoInterrupt = true
+is_of_numbers f = false
+
+-- INIT's reply has a flag that its request lacks.
+abbrev pub is_of_flags : Fault → Bool
+is_of_flags fault.FlagsThatWereNotOffered = true
+is_of_flags f = false
+
+-- The body of a reply is not one of its request's opcode.
+abbrev pub is_of_bodies : Fault → Bool
+is_of_bodies fault.BodyOfAnotherRequest = true
+is_of_bodies f = false
+
+-- ---- faults of a kernel that a group asks it not to have
+
+abbrev pub is_nothing : Fault → Bool
+is_nothing f = false
+
+-- An INTERRUPT is of no request that waits, or a request has an INTERRUPT's number. The server answers such an INTERRUPT as
+-- one that came before its request. (fuse.rst)
+abbrev pub is_of_interrupts : Fault → Bool
+is_of_interrupts fault.OddNumber = true
+is_of_interrupts fault.InterruptUnderAnotherNumber = true
+is_of_interrupts fault.InterruptOfNothing = true
+is_of_interrupts f = false
+
+-- There is an INIT behind another.
+abbrev pub is_of_second_init : Fault → Bool
+is_of_second_init fault.InitNotFirst = true
+is_of_second_init f = false
+
+-- ---- frames of a kernel that a group asks for, where no fault of the definitions tells others
+
+abbrev pub IsAny : List ℕ → Type 0
+IsAny frame = Unit {0}
+
+-- A request's number is not that of notifications. (linux/fs/fuse/dev.c, `fuse_dev_do_write`)
+abbrev pub HasNumber : List ℕ → Type 0
+HasNumber frame = unique_in frame ≢ 0
+
+-- It is no NOTIFY_REPLY, for which this server never asks.
+abbrev pub IsNoNotifyReply : List ℕ → Type 0
+IsNoNotifyReply frame = opcode_in frame ≢ 41

@@ -1,0 +1,4 @@
+pub mod Groups
+pub mod Exchanges
+pub mod Served
+pub mod Counterexamples

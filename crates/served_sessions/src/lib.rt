@@ -1,0 +1,16 @@
+//! Who keeps the rules is never accused: of what the server of `fs_serve` sends, over any device and whatever
+//! kernel is at its other side, the definitions of `fuse_sessions` have no fault.
+//!
+//! Both crates are proved against definitions of their own: `serve` does what `Serves` says, and a judge names
+//! exactly the faults of `Breaks`. Here the two are held against each other, group of faults by group. Where a
+//! law asks something of the kernel it says so, and `counterexamples` shows that it has to.
+#![tactic(auto)]
+
+mod counterexamples;
+mod never_accused;
+
+pub use counterexamples::{no_notify_reply_is_needed, number_is_needed};
+pub use never_accused::{
+    bodies_fit, flags_are_offered, frames_are_whole, notifications_are_whole, replies_are_awaited,
+    served_in_exchanges, served_is_unaccused,
+};

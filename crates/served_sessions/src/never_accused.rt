@@ -1,0 +1,47 @@
+//! The groups of faults of which the server is never accused.
+
+ghost use Rattle.std.specs.Prelude.{List};
+ghost use Rattle.fuse_spec.specs.Server.Server.{Server};
+ghost use Rattle.fuse_device.specs.Transfers.{Transfer};
+ghost use Rattle.fs_serve.specs.Serving.{Serves};
+ghost use Rattle.served_sessions.specs.Exchanges.{AreExchanges};
+ghost use Rattle.served_sessions.specs.Groups.{HasNumber, IsAny, IsNoNotifyReply};
+ghost use Rattle.served_sessions.specs.Groups.{is_nothing, is_of_bodies, is_of_flags, is_of_heads, is_of_interrupts, is_of_notices, is_of_numbers, is_of_second_init};
+ghost use Rattle.served_sessions.specs.Served.{IsUnaccused, NeverAccused};
+
+/// Behind each frame that is received at most one is sent, which answers it under its number.
+pub fn served_in_exchanges()
+    ensures { (old : Server) (log : List Transfer) (new : Server) → Serves old log new → AreExchanges log }
+{}
+
+/// Each frame that is sent has a whole header, and INIT's reply is of protocol 7, whatever the kernel does.
+pub fn frames_are_whole()
+    ensures { NeverAccused is_of_heads is_nothing IsAny }
+{}
+
+/// No notification is malformed, where no request has number 0. Under it each reply would be one.
+pub fn notifications_are_whole()
+    ensures { NeverAccused is_of_notices is_nothing HasNumber }
+{}
+
+/// Each reply is to a request that waits or to an INTERRUPT of one, where the kernel keeps the rules of INTERRUPTs and
+/// sends no NOTIFY_REPLY.
+pub fn replies_are_awaited()
+    ensures { NeverAccused is_of_numbers is_of_interrupts IsNoNotifyReply }
+{}
+
+/// INIT's reply has no flag that was not offered, where the kernel sends one INIT.
+pub fn flags_are_offered()
+    ensures { NeverAccused is_of_flags is_of_second_init IsAny }
+{}
+
+/// The body of each reply is one of its request's opcode, of no more bytes than were asked for, whatever the kernel does.
+pub fn bodies_fit()
+    ensures { NeverAccused is_of_bodies is_nothing IsAny }
+{}
+
+/// All of these of one log: what `serve` sends is never accused of them. A call without effect, made where a contract rests
+/// on that.
+pub fn served_is_unaccused()
+    ensures { (old : Server) (log : List Transfer) (new : Server) → Serves old log new → IsUnaccused log }
+{}
