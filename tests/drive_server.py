@@ -1,13 +1,22 @@
-"""A FUSE server in memory over a connected stream socket, with one bug or none; tests/run_drive.py drives it.
+#!/usr/bin/env python3
+"""A FUSE server in memory over a connected stream socket, with one bug or none; tests/run_drive.py and tests/explore.py drive it.
 
 A LOOKUP of the name `slow` is answered once another request has come, or EINTR once its INTERRUPT has. RENAME refuses as
 rename(2) of Linux does.
+
+    drive_server.py SOCK [BUG]
+
+serves one connection at SOCK. There the name `c` is the slow one, and is answered after a twentieth of a second too.
 """
 import errno
+import os
+import select
+import socket
 import struct
+import sys
 
-LOOKUP, FORGET, GETATTR, MKDIR, UNLINK, RENAME, OPEN, READ, WRITE, RELEASE = 1, 2, 3, 9, 10, 12, 14, 15, 16, 18
-INIT, OPENDIR, READDIR, RELEASEDIR, CREATE, INTERRUPT, BATCH_FORGET = 26, 27, 28, 29, 35, 36, 42
+LOOKUP, FORGET, GETATTR, MKDIR, UNLINK, RMDIR, RENAME, LINK, OPEN, READ, WRITE, RELEASE = 1, 2, 3, 9, 10, 11, 12, 13, 14, 15, 16, 18
+INIT, OPENDIR, READDIR, RELEASEDIR, CREATE, INTERRUPT, BATCH_FORGET, READDIRPLUS = 26, 27, 28, 29, 35, 36, 42, 44
 BUGS = ["count lost", "node reused", "two generations", "reply twice", "reply after EINTR", "wrong length", "another file",
         "root given", "reply to nothing"]
 # Those at OPENDIR and RELEASEDIR: the reply comes twice, has 8 bytes too many, or its error is out of range and it comes then.
@@ -29,8 +38,9 @@ def agreement(minor=31, flags=0x42001):
 class Server:
     """Files by inode number, a dictionary of names or bytes; inode numbers and lookup counts by node id."""
 
-    def __init__(self, bug=None, opens=True, opens_existing=False):
+    def __init__(self, bug=None, opens=True, opens_existing=False, slow=b"slow\0", patience=None):
         self.bug, self.opens, self.opens_existing = bug, opens, opens_existing
+        self.slow, self.patience = slow, patience
         self.files, self.nodes, self.counts = {1: {}}, {1: 1}, {1: 1}
         self.unlinked = None
         self.held = None
@@ -77,11 +87,23 @@ class Server:
         return ino == top or (isinstance(below, dict) and any(self.is_within(ino, inner) for inner in below.values()))
 
     def rename(self, directory, old, new_directory, new):
-        """A file is moved onto what is no directory, or onto nothing. A directory is not moved."""
+        """What is moved replaces nothing, a file by a file, or an empty directory by a directory."""
+        if not all(isinstance(self.files[ino], dict) for ino in (directory, new_directory)):
+            raise NotADirectoryError(errno.ENOTDIR, "")
         moved, there = self.files[directory][old], self.files[new_directory].get(new)
+        is_directory = isinstance(self.files[moved], dict)
+        if is_directory and self.is_within(new_directory, moved):
+            raise OSError(errno.EINVAL, "")
+        if there == moved:
+            return
         if there is not None and isinstance(self.files[there], dict):
             above = self.is_within(directory, there) or self.bug == "any directory is above"
-            raise OSError(errno.ENOTEMPTY if above else errno.EISDIR, "")
+            if above or is_directory and self.files[there]:
+                raise OSError(errno.ENOTEMPTY, "")
+            if not is_directory:
+                raise OSError(errno.EISDIR, "")
+        elif there is not None and is_directory:
+            raise NotADirectoryError(errno.ENOTDIR, "")
         del self.files[directory][old]
         self.files[new_directory][new] = moved
 
@@ -98,7 +120,7 @@ class Server:
             raise OSError(errno.ESTALE, "")
         ino = self.nodes[node]
         file = self.files[ino]
-        if opcode in (LOOKUP, MKDIR, CREATE, UNLINK):
+        if opcode in (LOOKUP, MKDIR, CREATE, UNLINK, RMDIR, LINK):
             return self.perform_on_name(opcode, file, body)
         if opcode == RENAME:
             old, new = (name + b"\0" for name in body[8:].split(b"\0")[:2])
@@ -107,6 +129,8 @@ class Server:
         if opcode == GETATTR:
             other = self.bug == "another file" and node == max(self.nodes) and node > 2
             return bytes(16) + self.attr(2 if other else ino) + bytes(8 if self.bug == "wrong length" else 0)
+        if opcode in (OPEN, OPENDIR, READDIR, READDIRPLUS) and isinstance(file, dict) != (opcode != OPEN):
+            raise OSError(errno.EISDIR if opcode == OPEN else errno.ENOTDIR, "")
         if opcode == OPEN or (opcode == OPENDIR and self.opens):
             return struct.pack("<QII", 7 if opcode == OPENDIR else ino, 0, 0)
         if opcode == READ:
@@ -114,10 +138,11 @@ class Server:
             return bytes(file[offset:offset + size])
         if opcode == WRITE:
             offset, size = struct.unpack_from("<QI", body, 8)
+            file.extend(bytes(max(0, offset - len(file)) if size else 0))
             file[offset:offset + size] = body[40:]
             return struct.pack("<II", size, 0)
-        if opcode == READDIR:
-            return self.records(file, struct.unpack_from("<Q", body, 8)[0])
+        if opcode in (READDIR, READDIRPLUS):
+            return self.records(file, struct.unpack_from("<Q", body, 8)[0], opcode == READDIRPLUS)
         if opcode in (RELEASE, RELEASEDIR):
             return b""
         raise OSError(errno.ENOSYS, "")
@@ -129,18 +154,33 @@ class Server:
             return self.entry(directory[body])
         if opcode == MKDIR:
             return self.entry(self.make(directory, body[8:], {}))
-        if opcode == UNLINK:
-            self.unlinked = directory.pop(body)
+        if opcode in (UNLINK, RMDIR):
+            self.remove(opcode, directory, body)
             return b""
+        if opcode == LINK:
+            ino = self.nodes[struct.unpack_from("<Q", body)[0]]
+            if body[8:] in directory:
+                raise FileExistsError(errno.EEXIST, "")
+            directory[body[8:]] = ino
+            return self.entry(ino)
         made = self.create(directory, body[16:])
         return self.entry(made, self.bug != "count lost") + struct.pack("<QII", made, 0, 0)
 
-    def records(self, names, after):
-        """struct fuse_dirent of each name behind an offset: the K-th name has offset K."""
+    def remove(self, opcode, directory, name):
+        file = self.files[directory[name]]
+        if isinstance(file, dict) != (opcode == RMDIR):
+            raise OSError(errno.ENOTDIR if opcode == RMDIR else errno.EISDIR, "")
+        if opcode == RMDIR and file:
+            raise OSError(errno.ENOTEMPTY, "")
+        self.unlinked = directory.pop(name)
+
+    def records(self, names, after, has_entries):
+        """struct fuse_dirent of each name behind an offset, behind its entry or not: the K-th name has offset K."""
         said = b""
         for offset, (name, ino) in enumerate(names.items(), 1):
             if offset > after:
                 kind = 4 if isinstance(self.files[ino], dict) else 8
+                said += self.entry(ino) if has_entries else b""
                 said += struct.pack("<QQII", ino, offset, len(name) - 1, kind) + name[:-1] + bytes(-(len(name) - 1) % 8)
         return said
 
@@ -156,7 +196,9 @@ class Server:
     def frames(self, opcode, unique, node, body):
         """The frames that are sent once a request has come."""
         if opcode in (FORGET, BATCH_FORGET):
-            self.forget(node, struct.unpack("<Q", body)[0])
+            pairs = [(node, *struct.unpack("<Q", body))] if opcode == FORGET else struct.iter_unpack("<QQ", body[8:])
+            for pair in pairs:
+                self.forget(*pair)
             return []
         held, self.held = self.held, None
         if opcode == INTERRUPT:
@@ -166,7 +208,7 @@ class Server:
             self.held = held if self.bug == "reply after EINTR" else None
             return [reply(held[1], error=errno.EINTR)]
         said = [self.answer(*held)] if held else []
-        if opcode == LOOKUP and body == b"slow\0":
+        if opcode == LOOKUP and body == self.slow:
             self.held = (opcode, unique, node, body)
             return said
         said.append(self.answer(opcode, unique, node, body))
@@ -184,7 +226,13 @@ class Server:
     def serve(self, connection):
         """Answers each request until the end of the connection. Gives the requests, each its opcode, node and body."""
         requests = []
-        for opcode, unique, node, body in received(connection):
+
+        def wait():
+            while self.held and not select.select([connection], [], [], self.patience)[0]:
+                held, self.held = self.held, None
+                send(connection, self.answer(*held))
+
+        for opcode, unique, node, body in received(connection, wait):
             requests.append((opcode, node, body))
             send(connection, *self.frames(opcode, unique, node, body))
         return requests
@@ -199,12 +247,32 @@ def send(connection, *parts):
         pass
 
 
-def received(connection):
+def exactly(connection, size):
+    """So many bytes, or fewer where the connection ends."""
+    said = b""
+    while len(said) < size and (part := connection.recv(size - len(said))):
+        said += part
+    return said
+
+
+def received(connection, wait=lambda: None):
     """Each request that comes, cut by its length: its opcode, unique, node and body."""
-    stream = connection.makefile("rb")
     try:
-        while len(head := stream.read(40)) == 40:
+        while (wait(), len(head := exactly(connection, 40)) == 40)[1]:
             length, opcode, unique, node = struct.unpack_from("<IIQQ", head)
-            yield opcode, unique, node, stream.read(length - 40)
+            yield opcode, unique, node, exactly(connection, length - 40)
     except ConnectionResetError:
         return
+
+
+def main():
+    listener = socket.socket(socket.AF_UNIX)
+    listener.bind(f"{sys.argv[1]}.new")
+    listener.listen()
+    os.rename(f"{sys.argv[1]}.new", sys.argv[1])
+    bug = sys.argv[2] if len(sys.argv) > 2 else None
+    Server(bug, opens_existing=bug in OPENING_BUGS, slow=b"c\0", patience=0.05).serve(listener.accept()[0])
+
+
+if __name__ == "__main__":
+    main()

@@ -566,7 +566,20 @@ def run_check():
     judge("no file", (lines, status), (["cannot write /nowhere/capture: No such file or directory (os error 2)"], 1))
 
 
-for part in (run_bugs, run_otherwise, run_fields, run_frames, run_abort, run_closings, run_agreements, run_opendir, run_opendir_bugs, run_many, run_talking, run_refusals, run_waits, run_words, run_input, run_packets, run_trace, run_check):
+# --- lines that a seed chooses
+
+def run_random():
+    """One seed is one run, what is printed runs again, and a bug is found."""
+    words = ["--random", "--seed", "2", "--events", "80"]
+    lines, status, _ = on_server(words, [])
+    judge("a seed: nothing is wrong", (status, [line for line in lines if FAULTS.search(line)], lines[-1]), (0, [], "# kernel"))
+    judge("one seed is one run", on_server(words, [])[:2], (lines, 0))
+    judge("its output runs again", on_server(["--check"], lines)[:2], ([line[2:] for line in lines if line.startswith("# ")], 0))
+    lines, status, _ = on_server(words, [], bug="count lost")
+    judge("a seed: an answer differs", (status, any(line.startswith("# differs: ") for line in lines)), (6, True))
+
+
+for part in (run_bugs, run_otherwise, run_fields, run_frames, run_abort, run_closings, run_agreements, run_opendir, run_opendir_bugs, run_many, run_talking, run_refusals, run_waits, run_words, run_input, run_packets, run_trace, run_check, run_random):
     part()
 print(f"{passed} passed, {failed} failed")
 sys.exit(bool(failed))

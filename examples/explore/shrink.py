@@ -6,8 +6,9 @@
 The server is started anew for each try. It listens at the Unix stream socket whose path stands in the place of the word
 SOCK; or it has /dev/fd/N in the place of the word MOUNT, by examples/drive/launcher.c, which -l names once it is built.
 
-A fault is a line in which `drive` says what the server did wrong, or the judge of sessions does, without its numbers. The
-first fault of the whole script is kept, or the one that -f names, as "no reply". SCRIPT.short is the script that is left, with what
+A fault is a line in which `drive` says what the server did wrong, or the judge of sessions does, without its numbers. Where
+there is none, it is the first answer that `fuseworld serve` gives otherwise at the same script, as `--random` compares answers.
+The first fault of the whole script is kept, or the one that -f names, as "no reply". SCRIPT.short is the script that is left, with what
 `drive` prints of it as comments; SCRIPT.short.capture what went over the device, and SCRIPT.short.svg a picture of it.
 """
 import argparse
@@ -39,6 +40,7 @@ def parsed():
         parser.error("-- and the script come last")
     asked = parser.parse_args(words[:words.index("--")])
     asked.script = Path(words[-1])
+    asked.is_beside = False
     return asked
 
 
@@ -74,7 +76,7 @@ def over_socket(asked, drive, folder):
         while not socket.exists() and server.poll() is None and time.monotonic() < end:
             time.sleep(0.01)
         words = [*drive, "--wait", str(asked.wait), str(folder / "script"), str(socket)]
-        return subprocess.run(words, stdin=subprocess.DEVNULL, capture_output=True, text=True, timeout=60)
+        return subprocess.run(words, stdin=subprocess.DEVNULL, capture_output=True, text=True, timeout=600)
     finally:
         server.kill()
         server.wait()
@@ -82,10 +84,39 @@ def over_socket(asked, drive, folder):
 
 def over_launcher(asked, drive, folder):
     words = [asked.launcher, "-t", str(asked.wait), *drive, str(folder / "script"), "--", *asked.server]
-    return subprocess.run(words, stdin=subprocess.DEVNULL, capture_output=True, text=True, timeout=60)
+    return subprocess.run(words, stdin=subprocess.DEVNULL, capture_output=True, text=True, timeout=600)
+
+
+def said_of(answer):
+    """What answers are compared by: not by inode numbers, links and offsets, nor by the size of a directory."""
+    words = answer.split(" ")[2:]
+    if len(words) == 5 and words[1] in ("dir", "file"):
+        return words[1:2] + (words[3:4] if words[1] == "file" else [])
+    if words[1:] and all(word.count(":") == 2 for word in words[1:]):
+        return sorted(re.sub(":.*:", ":", word) for word in words[1:] if not re.match(r"\.\.?:", word))
+    return words
+
+
+def differing(lines, others):
+    """The first answer that is another one than that to the same call on another server."""
+    answers = {line.split(" ")[1]: line for line in others if line.startswith("answer ")}
+    for line in lines:
+        here = answers.get(line.split(" ")[1]) if line.startswith("answer ") else None
+        if here and said_of(line) != said_of(here):
+            return [f"differs: {line}, here {here.split(' ', 1)[1]}"]
+    return []
 
 
 def tried(asked, script, capture=None):
+    """What `drive` prints of a script, and which answer differs where that is looked for."""
+    said = driven(asked, script, capture)
+    if not asked.is_beside:
+        return said
+    honest = argparse.Namespace(**{**vars(asked), "server": [asked.program, "serve", "SOCK"], "before": None})
+    return "\n".join([said, *differing(said.splitlines(), driven(honest, script, None).splitlines())])
+
+
+def driven(asked, script, capture):
     """What `drive` prints of a script."""
     drive = [asked.program, "drive", "--check", *asked.option, *(["--capture", str(capture)] if capture else [])]
     with tempfile.TemporaryDirectory() as name:
@@ -124,6 +155,9 @@ def main():
     asked = parsed()
     lines = [line for line in asked.script.read_text().splitlines() if line and not line.startswith("#")]
     said = [line for line in tried(asked, lines).splitlines() if fault_in(line, asked)]
+    if not said:
+        asked.is_beside = True
+        said = [line for line in tried(asked, lines).splitlines() if fault_in(line, asked)]
     if not said:
         sys.exit("the server does nothing wrong at this script")
     fault = fault_in(said[0], asked)

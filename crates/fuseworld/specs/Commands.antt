@@ -66,7 +66,7 @@ serve_app minors = with_rule (with_rule (with_rule (with_rule (with_rule (with_r
 
 abbrev pub drive_app : App
 drive_app = with_rule (with_rule (with_rule (with_rule (with_rule (with_rule (with_rule (with_rule (with_rule (with_rule
-    (with_rule (with_rule (with_rule (new_app (codes "drive"))
+    (with_rule (with_rule (with_rule (with_rule (new_app (codes "drive"))
     (flag (codes "calls")))
     (flag (codes "beside")))
     (flag (codes "no-opendir")))
@@ -76,6 +76,7 @@ drive_app = with_rule (with_rule (with_rule (with_rule (with_rule (with_rule (wi
     (number (codes "wait") 1 longest (codes "10000")))
     (option (codes "offer") (codes "0")))
     (flag (codes "random")))
+    (flag (codes "any")))
     (number (codes "seed") 0 last_node (codes "1")))
     (number (codes "events") 0 last_node (codes "400")))
     (needed (codes "FILE")))

@@ -112,11 +112,12 @@ pub record AsksDrive (rows : List Row) (t : DriveTask) : Type 0 where
   pub form : t.form ≡ form_of (is_set (codes "calls") rows) (is_set (codes "beside") rows)
   pub opens : t.opens_directories ≡ not (is_set (codes "no-opendir") rows)
   pub trace : t.is_traced ≡ is_set (codes "trace") rows
-  pub check : t.is_checked ≡ is_set (codes "check") rows
+  pub check : t.is_checked ≡ is_set (codes "check") rows || is_set (codes "random") rows
   pub capture : option_map (λ text. text.now) t.capture ≡ first_of (codes "capture") rows
   pub wait : t.wait_ms ≡ number_of (codes "wait") 10000 rows
   pub offer : t.offer.now ≡ unwrap_or (first_of (codes "offer") rows) (codes "0")
   pub random : t.is_random ≡ is_set (codes "random") rows
+  pub any : t.is_any ≡ is_set (codes "any") rows
   pub seed : t.seed ≡ number_of (codes "seed") 1 rows
   pub events : t.events ≡ number_of (codes "events") 400 rows
 

@@ -10,7 +10,7 @@ ghost use Rattle.fuseworld.specs.Values.{IsOffer, is_set};
 ghost use Rattle.fuseworld.specs.Tasks.{AsksDrive, form_of};
 
 use crate::arguments::{file_argument, flag, needed, option, optional, time_argument};
-use crate::judged::status_with;
+use crate::judged::status_beside;
 use crate::output::standard_output;
 use crate::reason::{cannot_open, cannot_write, no_socket};
 use crate::saying::SayingWriter;
@@ -56,6 +56,8 @@ pub struct DriveTask<'a> {
     offer: &'a str,
     /// Whether lines are chosen, in the place of a script.
     is_random: bool,
+    /// Whether calls are chosen too that Linux would not send.
+    is_any: bool,
     seed: u64,
     /// How many lines are chosen.
     events: u64,
@@ -87,13 +89,19 @@ fn number_argument<'a>(
 /// The arguments of lines that are chosen.
 fn with_draws<'a>(alloc: Global, command: Command<'a>) -> Result<Command<'a>, AllocError>
     ensures { IfOk result (λ all. (fields_of command.entry).has_globals ≡ false
-        → IsCommand (with_rule (with_rule (with_rule (app_of command.entry) (flag (codes "random")))
-        (number (codes "seed") 0 last_node (codes "1"))) (number (codes "events") 0 last_node (codes "400"))) all) }
+        → IsCommand (with_rule (with_rule (with_rule (with_rule (app_of command.entry) (flag (codes "random")))
+        (flag (codes "any"))) (number (codes "seed") 0 last_node (codes "1")))
+        (number (codes "events") 0 last_node (codes "400"))) all) }
 {
     let random = flag(
         alloc,
         "random",
         "Choose the events by a seed, in the place of FILE, and print them as a script",
+    );
+    let any = flag(
+        alloc,
+        "any",
+        "Choose also what Linux would not send, as CREATE of a name that is there",
     );
     let seed = number_argument(alloc, "seed", "N", "1", "The seed of --random");
     let events = number_argument(
@@ -103,7 +111,7 @@ fn with_draws<'a>(alloc: Global, command: Command<'a>) -> Result<Command<'a>, Al
         "400",
         "How many events --random chooses",
     );
-    command.arg(random)?.arg(seed)?.arg(events)
+    command.arg(random)?.arg(any)?.arg(seed)?.arg(events)
 }
 
 /// The arguments.
@@ -202,11 +210,12 @@ pub fn drive_task<'a>(matches: &ArgMatches<'a>) -> DriveTask<'a>
         form: form(matches),
         opens_directories: !is_set(matches, "no-opendir"),
         is_traced: is_set(matches, "trace"),
-        is_checked: is_set(matches, "check"),
+        is_checked: is_set(matches, "check") || is_set(matches, "random"),
         capture: text_or_none(matches, "capture"),
         wait_ms: number(matches, "wait", 10_000),
         offer: offer(matches),
         is_random: is_set(matches, "random"),
+        is_any: is_set(matches, "any"),
         seed: number(matches, "seed", 1),
         events: number(matches, "events", 400),
     }
@@ -249,7 +258,11 @@ enum Lines<'a> {
     /// Standard input, a line at a time.
     Input,
     /// What a seed chooses.
-    Random { seed: u64, events: u64 },
+    Random {
+        seed: u64,
+        events: u64,
+        is_any: bool,
+    },
 }
 
 /// Runs the lines of standard input on a device, each once the one before was run, and gives the exit status.
@@ -270,31 +283,40 @@ fn drive_input<D: Device, W: Write, F: Write>(
     run_source(alloc, task, device, &mut lines, out, faults)
 }
 
-/// Runs lines that a seed chooses on a device, with all else that is printed as comments, and gives the exit status.
+/// Runs lines that a seed chooses on a device, with all else that is printed as comments, and gives the exit status. Notes
+/// whether an answer is another than in the world beside.
 fn drive_random<D: Device, W: Write + Drop, F: Write>(
     rt: &HostRuntime,
     task: Task<'_>,
-    drawn: (u64, u64),
+    drawn: (u64, u64, bool),
     device: &mut D,
     out: W,
     faults: &mut F,
+    differs: &mut bool,
 ) -> u8
     ensures { Contains (0 ∷ 1 ∷ 3 ∷ 4 ∷ 5 ∷ []) result }
 {
     let alloc = rt.alloc();
-    let (seed, events) = drawn;
+    let (seed, events, is_any) = drawn;
     let mut out = Commented::new(alloc, out);
-    let mut lines = RandomLines::new(alloc, seed, events);
-    run_source(alloc, task, device, &mut lines, &mut out, faults)
+    let Ok(mut lines) = RandomLines::new(alloc, seed, events, !is_any) else {
+        return no_memory(faults);
+    };
+    let status = run_source(alloc, task, device, &mut lines, &mut out, faults);
+    *differs = lines.has_difference();
+    lines.end();
+    status
 }
 
-/// Runs lines on a device, with what they come to printed on a writer, and gives the exit status.
+/// Runs lines on a device, with what they come to printed on a writer, and gives the exit status. Notes whether an answer to a
+/// chosen call is another than in the world beside.
 fn drive_device<D: Device, W: Write + Drop>(
     rt: &HostRuntime,
     task: Task<'_>,
     lines: Lines<'_>,
     device: &mut D,
     out: W,
+    differs: &mut bool,
 ) -> u8
     ensures { Contains (0 ∷ 1 ∷ 3 ∷ 4 ∷ 5 ∷ []) result }
 {
@@ -309,8 +331,13 @@ fn drive_device<D: Device, W: Write + Drop>(
             run_drive(alloc, task, device, &mut input, &mut out, &mut faults)
         }
         Lines::Input => drive_input(rt, task, device, &mut out, &mut faults),
-        Lines::Random { seed, events } => {
-            drive_random(rt, task, (seed, events), device, out, &mut faults)
+        Lines::Random {
+            seed,
+            events,
+            is_any,
+        } => {
+            let drawn = (seed, events, is_any);
+            drive_random(rt, task, drawn, device, out, &mut faults, differs)
         }
     }
 }
@@ -327,15 +354,16 @@ fn drive_judged<D: Device + Drop, W: Write + Drop, F: Write + Drop>(
 ) -> u8
     ensures { Contains (drive_statuses asked.entry.is_checked) result }
 {
+    let mut differs = false;
     if !asked.is_checked {
-        return drive_device(rt, task, script, &mut device, out);
+        return drive_device(rt, task, script, &mut device, out, &mut differs);
     }
     let mut judged = JudgedServer::new(rt.alloc(), device, lines);
     if asked.opens_directories {
         judged.say_several_readers();
     }
-    let status = drive_device(rt, task, script, &mut judged, out);
-    status_with(status, judged.faults())
+    let status = drive_device(rt, task, script, &mut judged, out, &mut differs);
+    status_beside(status, judged.faults(), differs)
 }
 
 /// Drives a server over a device, with each frame printed on standard error where it is traced.
@@ -411,11 +439,12 @@ fn drive_place(
         Ok((reader, writer)) => {
             let device = StreamDevice::of_replies(reader, writer);
             let out = standard_output(rt);
+            let lines = standard_output(rt);
             if asked.is_random {
                 // So that what is printed stays a script.
-                return drive_captured(rt, asked, task, script, file, device, out, rt.stderr());
+                let lines = Commented::new(rt.alloc(), lines);
+                return drive_captured(rt, asked, task, script, file, device, out, lines);
             }
-            let lines = standard_output(rt);
             drive_captured(rt, asked, task, script, file, device, out, lines)
         }
         Err(error) if error.kind() == ErrorKind::OutOfMemory => no_memory(&mut rt.stderr()),
@@ -471,6 +500,7 @@ fn drive_task_of(rt: &HostRuntime, asked: DriveTask<'_>, task: Task<'_>) -> u8
         let lines = Lines::Random {
             seed: asked.seed,
             events: asked.events,
+            is_any: asked.is_any,
         };
         return drive_lines(rt, asked, task, lines);
     }

@@ -19,3 +19,14 @@ pub fn status_with(status: u8, faults: FaultCounts) -> u8
         status
     }
 }
+
+/// The same of a run whose answers were compared: 6 also where one is another than in the world beside.
+pub fn status_beside(status: u8, faults: FaultCounts, differs: bool) -> u8
+    ensures { (result ≡ status) ⊎ ((status ≡ 0) × (result ≡ 6)) }
+{
+    if status == 0 && differs {
+        FAULTS
+    } else {
+        status_with(status, faults)
+    }
+}

@@ -2,6 +2,7 @@
 
 use crate::chance::Chance;
 use crate::known::{Known, take_out};
+use crate::plan::Plan;
 use crate::text::{put, put_number};
 use fw_drive::NoLine;
 use std::alloc::Allocator;
@@ -12,11 +13,17 @@ const NAMES: [&[u8]; 5] = [b"a", b"b", b"c", b"d", b"longer.name"];
 /// The places of names, as often as they are chosen: few, so that calls meet.
 const LIKELY: [u64; 9] = [0, 0, 0, 1, 1, 1, 2, 3, 4];
 
-/// Offsets in a file, at the edges of pages.
-const OFFSETS: [u64; 7] = [0, 1, 4_095, 4_096, 8_191, 65_535, 131_072];
+/// Offsets that are read at, at the edges of pages and of the longest file that the world beside takes.
+const OFFSETS: [u64; 7] = [0, 0, 1, 4_095, 4_096, 65_535, 65_536];
+
+/// Offsets that are written at, so that no file is longer than the world beside takes.
+const WRITTEN: [u64; 7] = [0, 0, 1, 4_095, 4_096, 61_439, 61_440];
 
 /// How many bytes are read or written.
-const SIZES: [u64; 7] = [1, 1, 2, 7, 16, 64, 4_096];
+const SIZES: [u64; 7] = [0, 1, 2, 7, 64, 4_095, 4_096];
+
+/// How many names a path has at most.
+const DEPTH: usize = 3;
 
 /// The words that may follow the path of a file that is opened.
 const FLAGS: [&[u8]; 4] = [b"", b" r", b" w", b" rw"];
@@ -47,48 +54,78 @@ pub(crate) fn put_name_at<A: Allocator>(line: &mut Vec<u8, A>, place: u64) -> Re
     put(line, name_of(place))
 }
 
-/// Appends a path of one to three names, of one name half of the time.
-fn put_path<A: Allocator>(chance: &mut Chance, line: &mut Vec<u8, A>) -> Result<(), NoLine> {
-    let names = chance.one_of(&[1, 1, 1, 2, 2, 3]);
-    for _name in 0..names {
-        put(line, b"/")?;
-        put_name(chance, line)?;
+/// How many names a path has.
+fn depth(path: &[u8]) -> usize {
+    let mut names: usize = 0;
+    for byte in path {
+        if *byte == b'/' {
+            names = names.saturating_add(1);
+        }
     }
-    Ok(())
+    names
+}
+
+/// Appends a path: half of the time one under which something was once, else one below that, or one to three names.
+fn put_path<A: Allocator + Copy, B: Allocator>(
+    chance: &mut Chance,
+    plan: &Plan<A>,
+    line: &mut Vec<u8, B>,
+) -> Result<(), NoLine> {
+    let place = chance.below(plan.paths.len() as u64) as usize;
+    let draw = chance.below(4);
+    match plan.paths.as_slice().get(place) {
+        Some(path) if draw < 2 => put(line, path.as_slice()),
+        Some(path) if draw == 2 && depth(path.as_slice()) < DEPTH => {
+            put(line, path.as_slice())?;
+            put(line, b"/")?;
+            put_name(chance, line)
+        }
+        _ => {
+            let names = chance.one_of(&[1, 1, 1, 2, 2, 3]);
+            for _name in 0..names {
+                put(line, b"/")?;
+                put_name(chance, line)?;
+            }
+            Ok(())
+        }
+    }
 }
 
 /// Writes a call with a path.
-fn put_call<A: Allocator>(
+fn put_call<A: Allocator + Copy, B: Allocator>(
     chance: &mut Chance,
-    line: &mut Vec<u8, A>,
+    plan: &Plan<A>,
+    line: &mut Vec<u8, B>,
     call: &[u8],
 ) -> Result<(), NoLine> {
     put(line, call)?;
-    put_path(chance, line)
+    put_path(chance, plan, line)
 }
 
 /// Writes a call with two paths.
-fn put_call_of_two<A: Allocator>(
+fn put_call_of_two<A: Allocator + Copy, B: Allocator>(
     chance: &mut Chance,
-    line: &mut Vec<u8, A>,
+    plan: &Plan<A>,
+    line: &mut Vec<u8, B>,
     call: &[u8],
 ) -> Result<(), NoLine> {
-    put_call(chance, line, call)?;
+    put_call(chance, plan, line, call)?;
     put(line, b" ")?;
-    put_path(chance, line)
+    put_path(chance, plan, line)
 }
 
 /// Writes a call that lists a directory, one in four times the root.
-fn put_list<A: Allocator>(
+fn put_list<A: Allocator + Copy, B: Allocator>(
     chance: &mut Chance,
-    line: &mut Vec<u8, A>,
+    plan: &Plan<A>,
+    line: &mut Vec<u8, B>,
     call: &[u8],
 ) -> Result<(), NoLine> {
     put(line, call)?;
     if chance.is_one_in(4) {
         put(line, b"/")?;
     } else {
-        put_path(chance, line)?;
+        put_path(chance, plan, line)?;
     }
     put(line, b" 0")
 }
@@ -99,11 +136,12 @@ fn put_place<A: Allocator>(
     line: &mut Vec<u8, A>,
     call: &[u8],
     file: u64,
+    offsets: &[u64],
 ) -> Result<(), NoLine> {
     put(line, call)?;
     put_number(line, file)?;
     put(line, b" ")?;
-    put_number(line, chance.one_of(&OFFSETS))?;
+    put_number(line, chance.one_of(offsets))?;
     put(line, b" ")
 }
 
@@ -113,7 +151,7 @@ fn put_write<A: Allocator>(
     line: &mut Vec<u8, A>,
     file: u64,
 ) -> Result<(), NoLine> {
-    put_place(chance, line, b"call write ", file)?;
+    put_place(chance, line, b"call write ", file, &WRITTEN)?;
     let size = chance.one_of(&SIZES);
     let digits = b"0123456789abcdef";
     let digit = chance.below(16) as usize;
@@ -130,20 +168,32 @@ fn put_write<A: Allocator>(
     Ok(())
 }
 
-/// Writes a call on an open file: a read, a write, or its close.
-fn put_call_of_file<A: Allocator + Copy, B: Allocator>(
+/// Writes a call that reads an open file.
+fn put_read<A: Allocator>(
+    chance: &mut Chance,
+    line: &mut Vec<u8, A>,
+    file: u64,
+) -> Result<(), NoLine> {
+    put_place(chance, line, b"call read ", file, &OFFSETS)?;
+    put_number(line, chance.one_of(&SIZES))
+}
+
+/// Whether a number is one of some.
+fn is_one_of(numbers: &[u64], number: u64) -> bool {
+    numbers.iter().any(|other| *other == number)
+}
+
+/// Writes a call on an open file that changes it, or its close.
+fn put_change_of_file<A: Allocator + Copy, B: Allocator>(
     chance: &mut Chance,
     known: &mut Known<A>,
     line: &mut Vec<u8, B>,
 ) -> Result<(), NoLine> {
     let file = chance.one_of(known.open.as_slice());
-    match chance.below(5) {
-        0 | 1 => {
-            put_place(chance, line, b"call read ", file)?;
-            put_number(line, chance.one_of(&SIZES))
-        }
-        2 | 3 => put_write(chance, line, file),
-        _ => put_close(known, line, file),
+    if chance.is_one_in(3) || is_one_of(known.unwritable.as_slice(), file) {
+        put_close(known, line, file)
+    } else {
+        put_write(chance, line, file)
     }
 }
 
@@ -158,41 +208,54 @@ pub(crate) fn put_close<A: Allocator + Copy, B: Allocator>(
     put_number(line, file)
 }
 
-/// Writes a call that opens a file, or makes it.
+/// Writes a call that opens a file.
 fn put_open<A: Allocator + Copy, B: Allocator>(
     chance: &mut Chance,
-    known: &mut Known<A>,
+    plan: &Plan<A>,
     line: &mut Vec<u8, B>,
 ) -> Result<(), NoLine> {
-    known.opens = true;
-    if chance.is_one_in(3) {
-        put_call(chance, line, b"call open ")?;
-        let flags = chance.below(FLAGS.len() as u64) as usize;
-        match FLAGS.get(flags) {
-            Some(word) => put(line, word),
-            None => Ok(()),
-        }
-    } else {
-        put_call(chance, line, b"call create ")
+    put_call(chance, plan, line, b"call open ")?;
+    let flags = chance.below(FLAGS.len() as u64) as usize;
+    match FLAGS.get(flags) {
+        Some(word) => put(line, word),
+        None => Ok(()),
     }
 }
 
-/// Writes a call, which is chosen.
-pub(crate) fn put_any_call<A: Allocator + Copy, B: Allocator>(
+/// Writes a call that changes no file.
+pub(crate) fn put_reader<A: Allocator + Copy, B: Allocator>(
     chance: &mut Chance,
     known: &mut Known<A>,
+    plan: &Plan<A>,
     line: &mut Vec<u8, B>,
 ) -> Result<(), NoLine> {
-    match chance.below(24) {
-        0..=3 => put_call(chance, line, b"call stat "),
-        4..=6 => put_call(chance, line, b"call mkdir "),
-        7 | 8 => put_call(chance, line, b"call unlink "),
-        9 | 10 => put_call(chance, line, b"call rmdir "),
-        11 | 12 => put_call_of_two(chance, line, b"call rename "),
-        13 => put_call_of_two(chance, line, b"call link "),
-        14 => put_list(chance, line, b"call list "),
-        15 | 16 => put_list(chance, line, b"call listplus "),
-        17..=20 if !known.open.is_empty() => put_call_of_file(chance, known, line),
-        _ => put_open(chance, known, line),
+    let file = chance.one_of(known.open.as_slice());
+    match chance.below(8) {
+        0 => put_list(chance, plan, line, b"call list "),
+        1 => put_list(chance, plan, line, b"call listplus "),
+        2..=4 if file != 0 && !is_one_of(known.unreadable.as_slice(), file) => put_read(
+            chance, line, file,
+        ),
+        _ => put_call(chance, plan, line, b"call stat "),
+    }
+}
+
+/// Writes a call that changes files, opens one, or closes one.
+pub(crate) fn put_change<A: Allocator + Copy, B: Allocator>(
+    chance: &mut Chance,
+    known: &mut Known<A>,
+    plan: &Plan<A>,
+    line: &mut Vec<u8, B>,
+) -> Result<(), NoLine> {
+    match chance.below(20) {
+        0..=2 => put_call(chance, plan, line, b"call mkdir "),
+        3..=6 => put_call(chance, plan, line, b"call create "),
+        7 | 8 => put_call(chance, plan, line, b"call unlink "),
+        9 => put_call(chance, plan, line, b"call rmdir "),
+        10..=12 => put_call_of_two(chance, plan, line, b"call rename "),
+        13 => put_call_of_two(chance, plan, line, b"call link "),
+        14 | 15 => put_open(chance, plan, line),
+        _ if !known.open.is_empty() => put_change_of_file(chance, known, line),
+        _ => put_call(chance, plan, line, b"call create "),
     }
 }

@@ -1,19 +1,24 @@
 //! A source of lines that are chosen.
 
-use crate::calls::{name_count, put_any_call, put_close, put_name, put_name_at};
-use crate::chance::Chance;
+use crate::calls::{name_count, put_close, put_name_at};
 use crate::commented::Commented;
-use crate::known::Known;
-use crate::text::{put, put_number};
+use crate::rounds::Rounds;
+use crate::text::{put, put_number, word_at};
 use fw_drive::{LineSource, NoLine, Standing};
 use std::alloc::Allocator;
 use std::io::Write;
 
-/// The most calls at once.
-const CALLS: usize = 4;
-
 /// How many nodes the last part of a run drops names of and evicts.
 const NODES: u64 = 256;
+
+/// How many lines are chosen between two looks over the tree.
+const LOOK: u64 = 100;
+
+/// How often all is looked up again once it was forgotten: after the first time each node is counted once.
+const AGAIN: u64 = 2;
+
+/// Longer than a name is valid, in milliseconds.
+const LONG: &[u8] = b"tick 90000000";
 
 /// The parts of a run.
 #[derive(Clone, Copy, Debug, PartialEq, Eq)]
@@ -24,6 +29,8 @@ enum Part {
     Draw,
     /// Every reply is taken, and files are closed.
     Drain,
+    /// Every name is looked up.
+    Look,
     /// Every cached name is dropped.
     Drop,
     /// Every node is evicted.
@@ -33,28 +40,57 @@ enum Part {
 }
 
 /// Lines that a seed chooses one after another, from what the kernel can do just then: calls and their requests, replies,
-/// signals, time, and forgets. At last all replies are taken, names dropped and nodes evicted.
+/// signals, time, and forgets. The calls are also made in a world of this project's own, and answers that differ are printed.
+/// At last all replies are taken, names dropped and nodes evicted; each name is looked up again, and all is forgotten.
 #[derive(Drop)]
-pub struct RandomLines<A: Allocator> {
-    chance: Chance,
-    known: Known<A>,
+pub struct RandomLines<A: Allocator + Copy> {
+    rounds: Rounds<A>,
     part: Part,
-    /// How many lines were chosen in this part.
+    /// How many lines were given in this part.
     drawn: u64,
-    /// How many lines are chosen between the mount and the end.
+    /// How many lines are still chosen before the end.
     events: u64,
+    /// How many lines are chosen before the next look over the tree.
+    unlooked: u64,
+    /// How often all was forgotten.
+    forgotten: u64,
+    /// Whether calls run at once.
+    is_burst: bool,
+    differences: u64,
+}
+
+/// Whether a line begins a call.
+fn is_call(line: &[u8]) -> bool {
+    word_at(line, 0) == b"call".as_slice()
 }
 
 impl<A: Allocator + Copy> RandomLines<A> {
-    /// So many lines of a seed, and those of the mount and of the end.
-    pub fn new(alloc: A, seed: u64, events: u64) -> Self {
-        RandomLines {
-            chance: Chance::new(seed),
-            known: Known::new(alloc),
+    /// So many lines of a seed, and those of the mount, of looks over the tree and of the end.
+    ///
+    /// # Errors
+    ///
+    /// Out of memory.
+    pub fn new(alloc: A, seed: u64, events: u64, is_linux: bool) -> Result<Self, NoLine> {
+        Ok(RandomLines {
+            rounds: Rounds::new(alloc, seed, is_linux)?,
             part: Part::Mount,
             drawn: 0,
             events,
-        }
+            unlooked: LOOK,
+            forgotten: 0,
+            is_burst: false,
+            differences: 0,
+        })
+    }
+
+    /// Ends the world beside.
+    pub fn end(self) {
+        self.rounds.end();
+    }
+
+    /// Whether an answer was another than in the world beside.
+    pub fn has_difference(&self) -> bool {
+        self.differences > 0
     }
 
     /// The next part begins.
@@ -73,20 +109,39 @@ impl<A: Allocator + Copy> RandomLines<A> {
             put(line, b"read i")?;
             return Ok(true);
         }
-        if standing.pending > 0 {
+        let awaits = !self.rounds.known.sent.is_empty();
+        if standing.pending > 0 && !(awaits && self.rounds.chance.is_one_in(2)) {
             put(line, b"read p ")?;
-            put_number(line, self.chance.below(standing.pending))?;
+            put_number(line, self.rounds.chance.below(standing.pending))?;
             return Ok(true);
         }
-        if !self.known.sent.is_empty() {
+        if awaits {
             put(line, b"write")?;
             return Ok(true);
         }
-        if standing.is_forgetting {
-            put(line, b"read f 1")?;
-            return Ok(true);
-        }
         Ok(false)
+    }
+
+    /// Writes a line that sends a forget, or more up to so many, if there is one.
+    fn put_forget<B: Allocator>(
+        &mut self,
+        standing: Standing,
+        most: u64,
+        line: &mut Vec<u8, B>,
+    ) -> Result<bool, NoLine> {
+        if standing.is_forgetting {
+            put(line, b"read f ")?;
+            put_number(line, self.rounds.chance.below(most).saturating_add(1))?;
+        }
+        Ok(standing.is_forgetting)
+    }
+
+    /// Whether no call, request or reply is under way.
+    fn is_quiet(&self, standing: Standing) -> bool {
+        standing.calls == 0
+            && standing.pending == 0
+            && !standing.is_interrupting
+            && self.rounds.known.sent.is_empty()
     }
 
     /// Writes the mount, with validities, or what belongs to INIT. Says whether INIT is still to be answered.
@@ -96,57 +151,110 @@ impl<A: Allocator + Copy> RandomLines<A> {
         line: &mut Vec<u8, B>,
     ) -> Result<bool, NoLine> {
         if self.drawn == 0 {
+            self.rounds.beside.mount()?;
             put(line, b"mount 0 0")?;
             return Ok(true);
         }
         self.put_frame(standing, line)
     }
 
-    /// Writes what the kernel does between calls: time passes, a name is dropped, or a node is evicted.
-    fn put_idle<B: Allocator>(&mut self, line: &mut Vec<u8, B>) -> Result<(), NoLine> {
-        let node = self.chance.one_of(self.known.nodes.as_slice());
-        match self.chance.below(8) {
-            0 => put(line, b"show"),
-            1 | 2 if node != 0 => {
-                put(line, b"evict ")?;
-                put_number(line, node)
-            }
-            3 => {
-                put(line, b"tick ")?;
-                put_number(line, self.chance.one_of(&[1, 500, 1_000, 60_000]))
-            }
-            _ => self.put_drop(node, line),
-        }
-    }
-
-    /// Writes that a cached name is dropped, in the root or in another directory.
-    fn put_drop<B: Allocator>(&mut self, node: u64, line: &mut Vec<u8, B>) -> Result<(), NoLine> {
-        let directory = if node == 0 || self.chance.is_one_in(2) {
-            1
-        } else {
-            node
-        };
-        put(line, b"drop ")?;
-        put_number(line, directory)?;
-        put(line, b" ")?;
-        put_name(&mut self.chance, line)
-    }
-
     /// Writes that a call is signalled.
     fn put_signal<B: Allocator>(&mut self, line: &mut Vec<u8, B>) -> Result<(), NoLine> {
+        let call = self
+            .rounds
+            .chance
+            .one_of(self.rounds.known.calls.as_slice());
+        self.rounds.known.group.is_signalled = true;
         put(line, b"intr ")?;
-        put_number(line, self.chance.one_of(self.known.calls.as_slice()))?;
-        if self.chance.is_one_in(3) {
+        put_number(line, call)?;
+        if self.rounds.chance.is_one_in(3) {
             put(line, b" fatal")
         } else {
             put(line, b" soft")
         }
     }
 
-    /// Writes that forgets are sent, one or as many as make a BATCH_FORGET.
-    fn put_forgets<B: Allocator>(&mut self, line: &mut Vec<u8, B>) -> Result<(), NoLine> {
-        put(line, b"read f ")?;
-        put_number(line, self.chance.one_of(&[1, 1, 1, 2, 3]))
+    /// Writes the first of the lines that are to come, or what goes before it: a call is begun where nothing is under way.
+    /// Says whether there is one.
+    fn put_todo<B: Allocator>(
+        &mut self,
+        standing: Standing,
+        line: &mut Vec<u8, B>,
+    ) -> Result<bool, NoLine> {
+        let is_quiet = self.is_quiet(standing);
+        let waits = match self.rounds.plan.todo.as_slice() {
+            [.., next] => is_call(next.as_slice()) && !is_quiet,
+            [] => return Ok(false),
+        };
+        if waits && self.put_frame(standing, line)? {
+            return Ok(true);
+        }
+        match self.rounds.plan.todo.pop() {
+            Some(next) => {
+                put(line, next.as_slice())?;
+                Ok(true)
+            }
+            None => Ok(false),
+        }
+    }
+
+    /// Writes the next call of this round. Says whether there is one.
+    fn put_round<B: Allocator>(&mut self, line: &mut Vec<u8, B>) -> Result<bool, NoLine> {
+        match self.rounds.plan.round.pop() {
+            Some(next) => {
+                put(line, next.as_slice())?;
+                Ok(true)
+            }
+            None => Ok(false),
+        }
+    }
+
+    /// Writes a line while something is under way: of calls at once one may be signalled, and names dropped.
+    fn put_under_way<B: Allocator>(
+        &mut self,
+        standing: Standing,
+        line: &mut Vec<u8, B>,
+    ) -> Result<(), NoLine> {
+        if self.is_burst {
+            // No node is forgotten whose RELEASEDIR is under way.
+            let forgets = !self.rounds.known.group.has_listing();
+            match self.rounds.chance.below(16) {
+                0..=4 if self.put_round(line)? => return Ok(()),
+                5 if forgets => return self.rounds.put_idle(line),
+                6 | 7 if standing.calls > 0 => return self.put_signal(line),
+                8 if forgets && self.put_forget(standing, 2, line)? => return Ok(()),
+                _ => {}
+            }
+        }
+        if self.put_frame(standing, line)? || self.put_round(line)? {
+            return Ok(());
+        }
+        put(line, b"show")
+    }
+
+    /// Writes a line where nothing is under way: the next of a look or of a round, each of which begins where there is none.
+    fn put_next<B: Allocator>(
+        &mut self,
+        standing: Standing,
+        line: &mut Vec<u8, B>,
+    ) -> Result<(), NoLine> {
+        self.rounds.plan.end_look();
+        if self.rounds.chance.is_one_in(2) && self.put_forget(standing, 2, line)? {
+            return Ok(());
+        }
+        if self.rounds.plan.round.is_empty() {
+            if self.unlooked == 0 {
+                self.unlooked = LOOK;
+                self.rounds.plan.begin_look()?;
+            } else {
+                self.rounds.begin()?;
+                self.is_burst = self.rounds.plan.round.len() > 1;
+            }
+        }
+        if self.put_todo(standing, line)? || self.put_round(line)? {
+            return Ok(());
+        }
+        put(line, b"show")
     }
 
     /// Writes a line that is chosen.
@@ -155,18 +263,17 @@ impl<A: Allocator + Copy> RandomLines<A> {
         standing: Standing,
         line: &mut Vec<u8, B>,
     ) -> Result<(), NoLine> {
-        let draw = self.chance.below(20);
-        match draw {
-            0 | 1 => self.put_idle(line),
-            2 if standing.calls > 0 => self.put_signal(line),
-            3 | 4 if standing.is_forgetting => self.put_forgets(line),
-            5..=10 if standing.is_interrupting || standing.pending > 0 => {
-                self.put_frame(standing, line).map(|_| ())
-            }
-            11..=15 if !self.known.sent.is_empty() => put(line, b"write"),
-            _ if standing.calls < CALLS => put_any_call(&mut self.chance, &mut self.known, line),
-            _ if self.put_frame(standing, line)? => Ok(()),
-            _ => self.put_idle(line),
+        if !self.rounds.plan.is_looking() {
+            self.events = self.events.saturating_sub(1);
+            self.unlooked = self.unlooked.saturating_sub(1);
+        }
+        if self.put_todo(standing, line)? {
+            return Ok(());
+        }
+        if self.is_quiet(standing) {
+            self.put_next(standing, line)
+        } else {
+            self.put_under_way(standing, line)
         }
     }
 
@@ -176,15 +283,36 @@ impl<A: Allocator + Copy> RandomLines<A> {
         standing: Standing,
         line: &mut Vec<u8, B>,
     ) -> Result<bool, NoLine> {
-        if self.put_frame(standing, line)? {
+        self.rounds.plan.end_look();
+        if self.put_todo(standing, line)?
+            || self.put_frame(standing, line)?
+            || self.put_forget(standing, 1, line)?
+            || self.put_round(line)?
+        {
             return Ok(true);
         }
-        let file = match self.known.open.as_slice() {
+        let file = match self.rounds.known.open.as_slice() {
             [file, ..] => *file,
             [] => return Ok(false),
         };
-        put_close(&mut self.known, line, file)?;
+        put_close(&mut self.rounds.known, line, file)?;
         Ok(true)
+    }
+
+    /// Writes a line of the look over the tree. Says whether there is one.
+    fn put_look<B: Allocator>(
+        &mut self,
+        standing: Standing,
+        line: &mut Vec<u8, B>,
+    ) -> Result<bool, NoLine> {
+        if self.drawn == 0 {
+            self.rounds.plan.begin_look()?;
+        }
+        if self.put_todo(standing, line)? || self.put_frame(standing, line)? {
+            return Ok(true);
+        }
+        self.rounds.plan.end_look();
+        Ok(false)
     }
 
     /// Writes that the next name is dropped, of those in each node. Says whether there is one.
@@ -199,7 +327,13 @@ impl<A: Allocator + Copy> RandomLines<A> {
         let node = if directory == 0 {
             1
         } else {
-            match self.known.nodes.as_slice().get((directory - 1) as usize) {
+            match self
+                .rounds
+                .known
+                .nodes
+                .as_slice()
+                .get((directory - 1) as usize)
+            {
                 Some(node) if directory < NODES => *node,
                 _ => return Ok(false),
             }
@@ -213,7 +347,7 @@ impl<A: Allocator + Copy> RandomLines<A> {
 
     /// Writes that the next node is evicted. Says whether there is one.
     fn put_next_evict<B: Allocator>(&mut self, line: &mut Vec<u8, B>) -> Result<bool, NoLine> {
-        match self.known.nodes.as_slice().get(self.drawn as usize) {
+        match self.rounds.known.nodes.as_slice().get(self.drawn as usize) {
             Some(node) if self.drawn < NODES => {
                 put(line, b"evict ")?;
                 put_number(line, *node)?;
@@ -231,32 +365,60 @@ impl<A: Allocator + Copy> RandomLines<A> {
     ) -> Result<bool, NoLine> {
         match self.part {
             Part::Mount => self.put_mount(standing, line),
-            Part::Draw if self.drawn < self.events => {
+            Part::Draw if self.events > 0 => {
                 self.put_drawn(standing, line)?;
                 Ok(true)
             }
             Part::Draw | Part::End => Ok(false),
             Part::Drain => self.put_drain(standing, line),
+            Part::Look => self.put_look(standing, line),
             Part::Drop => self.put_next_drop(line),
             Part::Evict => {
                 if self.put_next_evict(line)? {
                     Ok(true)
                 } else {
-                    self.put_frame(standing, line)
+                    self.put_forget(standing, 1, line)
                 }
             }
         }
     }
 
-    /// The part behind this one.
-    fn next_part(&self) -> Part {
+    /// The part behind this one: all is looked up once it was forgotten.
+    fn next_part(&mut self) -> Part {
         match self.part {
             Part::Mount => Part::Draw,
             Part::Draw => Part::Drain,
-            Part::Drain => Part::Drop,
+            Part::Drain => Part::Look,
+            Part::Look => Part::Drop,
             Part::Drop => Part::Evict,
+            Part::Evict if self.forgotten < AGAIN => {
+                self.forgotten = self.forgotten.saturating_add(1);
+                Part::Look
+            }
             Part::Evict | Part::End => Part::End,
         }
+    }
+
+    /// Compares what calls were answered with what the world beside answers, once none is under way, and plans what follows.
+    fn judge<W: Write>(&mut self, out: &mut W) -> Result<(), NoLine> {
+        let rounds = &mut self.rounds;
+        if rounds.plan.evicts && word_at(rounds.known.line.as_slice(), 0) == b"show".as_slice() {
+            rounds.plan.evicts = false;
+            for node in rounds.known.nodes.as_slice() {
+                rounds.plan.put_numbered(b"evict ", *node, b"")?;
+            }
+        }
+        if !rounds.known.group.is_over() {
+            return Ok(());
+        }
+        let wrong = rounds.known.group.judge(&mut rounds.beside, out)?;
+        self.differences = self.differences.saturating_add(wrong);
+        rounds.known.group.follow(&mut rounds.plan)?;
+        if rounds.known.group.is_many() && rounds.known.group.has_change() {
+            rounds.plan.put_first(LONG)?;
+        }
+        rounds.known.group.clear();
+        Ok(())
     }
 
     /// Writes the next line, in place of what the buffer has. Says whether there is one.
@@ -266,8 +428,7 @@ impl<A: Allocator + Copy> RandomLines<A> {
         line: &mut Vec<u8, B>,
     ) -> Result<bool, NoLine> {
         line.clear();
-        self.known.opens = false;
-        for _part in 0..6 {
+        for _part in 0..13 {
             if self.put_of_part(standing, line)? {
                 self.drawn = self.drawn.saturating_add(1);
                 return Ok(true);
@@ -295,11 +456,13 @@ impl<A: Allocator + Copy, W: Write + Drop, H: Allocator> LineSource<Commented<W,
         out: &mut Commented<W, H>,
         line: &mut Vec<u8, B>,
     ) -> Result<bool, NoLine> {
-        self.known.note(out.text())?;
+        self.rounds.known.note(out.text())?;
+        self.judge(out)?;
         out.clear();
         if !self.draw(standing, line)? {
             return Ok(false);
         }
+        self.rounds.known.keep_line(line.as_slice())?;
         match out.put_line(line.as_slice()) {
             Ok(()) => Ok(true),
             Err(_) => Err(NoLine::OutputRefused),

@@ -1,6 +1,8 @@
 //! What is known of a run by what it printed.
 
-use crate::text::{number_of, split_line, split_word};
+use crate::alike::is_done;
+use crate::group::{Group, copied};
+use crate::text::{number_of, put, split_line, split_word, word_at, words_behind};
 use fw_drive::NoLine;
 use std::alloc::Allocator;
 
@@ -9,16 +11,20 @@ use std::alloc::Allocator;
 pub(crate) struct Known<A: Allocator> {
     /// The calls that wait for their answers.
     pub(crate) calls: Vec<u64, A>,
-    /// Those of them that open a file.
-    opening: Vec<u64, A>,
     /// The calls whose files are open.
     pub(crate) open: Vec<u64, A>,
+    /// Those of them that are open for reading alone, and for writing alone.
+    pub(crate) unwritable: Vec<u64, A>,
+    pub(crate) unreadable: Vec<u64, A>,
     /// The requests whose replies are to come.
     pub(crate) sent: Vec<u64, A>,
     /// The nodes that the kernel counted when they were shown last.
     pub(crate) nodes: Vec<u64, A>,
-    /// Whether the line that is run opens a file.
-    pub(crate) opens: bool,
+    /// The calls since nothing was under way.
+    pub(crate) group: Group<A>,
+    /// The line that is run.
+    pub(crate) line: Vec<u8, A>,
+    alloc: A,
     /// A listing that was sent by the line that is run.
     listing: u64,
 }
@@ -47,32 +53,49 @@ impl<A: Allocator + Copy> Known<A> {
     pub(crate) fn new(alloc: A) -> Self {
         Known {
             calls: Vec::new(alloc),
-            opening: Vec::new(alloc),
             open: Vec::new(alloc),
+            unwritable: Vec::new(alloc),
+            unreadable: Vec::new(alloc),
             sent: Vec::new(alloc),
             nodes: Vec::new(alloc),
-            opens: false,
+            group: Group::new(alloc),
+            line: Vec::new(alloc),
+            alloc,
             listing: 0,
         }
+    }
+
+    /// A line is run.
+    pub(crate) fn keep_line(&mut self, line: &[u8]) -> Result<(), NoLine> {
+        self.line.clear();
+        put(&mut self.line, line)
     }
 
     /// A call began.
     fn begun(&mut self, call: u64) -> Result<(), NoLine> {
         keep(&mut self.calls, call)?;
-        if self.opens {
-            keep(&mut self.opening, call)?;
+        self.group.begin(call, self.line.as_slice())
+    }
+
+    /// A file was opened by the words of a line.
+    fn opened(&mut self, call: u64, flags: &[u8]) -> Result<(), NoLine> {
+        match flags {
+            b"r" => keep(&mut self.unwritable, call)?,
+            b"w" => keep(&mut self.unreadable, call)?,
+            _ => {}
         }
-        Ok(())
+        keep(&mut self.open, call)
     }
 
     /// A call was answered. A listing whose directory could not be opened was not sent.
-    fn answered(&mut self, call: u64, error: u64) -> Result<(), NoLine> {
+    fn answered(&mut self, call: u64, words: &[u8]) -> Result<(), NoLine> {
         let _waited = take_out(&mut self.calls, call);
         let _sent = take_out(&mut self.sent, self.listing);
-        if take_out(&mut self.opening, call) && error == 0 {
-            keep(&mut self.open, call)?;
+        let line = copied(self.alloc, self.group.line_of(call))?;
+        if is_done(words) && matches!(word_at(line.as_slice(), 1), b"open" | b"create") {
+            self.opened(call, word_at(line.as_slice(), 3))?;
         }
-        Ok(())
+        self.group.answer(call, words)
     }
 
     /// A request was sent.
@@ -107,7 +130,7 @@ impl<A: Allocator + Copy> Known<A> {
         let (second, _) = split_word(rest_behind);
         match what {
             b"call" => self.begun(number_of(first)),
-            b"answer" => self.answered(number_of(first), number_of(second)),
+            b"answer" => self.answered(number_of(first), words_behind(line, 2)),
             b"read" => self.sent(number_of(first), second),
             b"written" => {
                 let _waited = take_out(&mut self.sent, number_of(first));

@@ -31,8 +31,8 @@ pub(crate) fn number_of(word: &[u8]) -> u64 {
     number
 }
 
-/// The first word of a text, and what stands behind the space or the line feed that ends it.
-fn split_at(text: &[u8], separator: u8) -> (&[u8], &[u8]) {
+/// What stands in a text before the first of such bytes, and behind it.
+pub(crate) fn split_at(text: &[u8], separator: u8) -> (&[u8], &[u8]) {
     match text.iter().position(|byte| *byte == separator) {
         Some(end) => (&text[..end], &text[end + 1..]),
         None => (text, b""),
@@ -47,4 +47,20 @@ pub(crate) fn split_line(text: &[u8]) -> (&[u8], &[u8]) {
 /// The first word of a line, and the words behind it.
 pub(crate) fn split_word(line: &[u8]) -> (&[u8], &[u8]) {
     split_at(line, b' ')
+}
+
+/// What stands in a line, without its line feed, behind so many words.
+pub(crate) fn words_behind(line: &[u8], count: usize) -> &[u8] {
+    let (mut rest, _) = split_line(line);
+    for _word in 0..count {
+        let (_, more) = split_word(rest);
+        rest = more;
+    }
+    rest
+}
+
+/// The word of a line behind so many others, empty where there is none.
+pub(crate) fn word_at(line: &[u8], place: usize) -> &[u8] {
+    let (word, _) = split_word(words_behind(line, place));
+    word
 }

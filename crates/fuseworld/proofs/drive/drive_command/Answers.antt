@@ -27,8 +27,9 @@ returns c =
     let wait = adds_argument _ _ _ _ _ capture wait_is c.in_ok-arg-7.ensures in
     let all = adds_argument _ _ _ _ _ wait offer_is c.in_ok-command.ensures in
     let draws = c.in_ok-with_draws.ensures all.1 in
-    let drawn = draws.0 ∙ ap (λ (a : App). with_rule (with_rule (with_rule a (flag (codes "random")))
-    (number (codes "seed") 0 last_node (codes "1"))) (number (codes "events") 0 last_node (codes "400"))) all.0 in
+    let drawn = draws.0 ∙ ap (λ (a : App). with_rule (with_rule (with_rule (with_rule a (flag (codes "random")))
+    (flag (codes "any"))) (number (codes "seed") 0 last_node (codes "1")))
+    (number (codes "events") 0 last_node (codes "400"))) all.0 in
     IfOk-weaker c.with_places.result _ _ (λ both h.
     let placed = h draws.1 in
     (placed.0 ∙ ap (λ (a : App). with_rule (with_rule a (needed (codes "FILE"))) (new_rule (codes "SOCK"))) drawn, placed.1)) c.with_places.ensures

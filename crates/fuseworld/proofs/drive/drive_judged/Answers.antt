@@ -3,5 +3,5 @@ use Rattle.fuseworld.proofs.drive.drive_judged.Goals as goal
 
 pub returns : goal.returns
 returns g c =
-    driven_with c.args.asked.is_checked c.drive_device-status.result c.status_with.result c.if-not-asked.false
-    c.drive_device-status.ensures c.status_with.ensures.either
+    driven_with c.args.asked.is_checked c.drive_device-status.result c.status_beside.result c.if-not-asked.false
+    c.drive_device-status.ensures c.status_beside.ensures

@@ -1,0 +1,148 @@
+//! Whether two servers answer a call alike, by the words of their answers.
+
+use crate::text::{split_at, split_word, word_at, words_behind};
+
+/// The word of EEXIST, EISDIR, EINTR and ENOTEMPTY (errno.h).
+const EINTR: &[u8] = b"4";
+
+const EEXIST: &[u8] = b"17";
+
+const EISDIR: &[u8] = b"21";
+
+const ENOTEMPTY: &[u8] = b"39";
+
+/// The name in a word `NAME:OFF:KIND`, and its kind.
+fn name_and_kind(word: &[u8]) -> (&[u8], &[u8]) {
+    let (name, rest) = split_at(word, b':');
+    let (_offset, kind) = split_at(rest, b':');
+    (name, kind)
+}
+
+/// Whether a word of a listing is that of the directory itself or of the one above, which not each server lists.
+fn is_dots(word: &[u8]) -> bool {
+    let (name, _) = name_and_kind(word);
+    matches!(name, b"." | b"..")
+}
+
+/// The next name of a listing with its kind, and what stands behind it.
+pub(crate) fn next_name(words: &[u8]) -> Option<((&[u8], &[u8]), &[u8])> {
+    let mut rest = words;
+    for _word in 0..words.len() {
+        if rest.is_empty() {
+            return None;
+        }
+        let (word, more) = split_word(rest);
+        if !is_dots(word) {
+            return Some((name_and_kind(word), more));
+        }
+        rest = more;
+    }
+    None
+}
+
+/// Whether a listing has a name with its kind.
+fn lists(words: &[u8], name: &[u8], kind: &[u8]) -> bool {
+    let mut rest = words;
+    for _word in 0..words.len() {
+        match next_name(rest) {
+            Some((listed, more)) => {
+                if listed.0 == name && listed.1 == kind {
+                    return true;
+                }
+                rest = more;
+            }
+            None => return false,
+        }
+    }
+    false
+}
+
+/// Whether each name of a listing is in another one.
+fn is_within(words: &[u8], others: &[u8]) -> bool {
+    let mut rest = words;
+    for _word in 0..words.len() {
+        match next_name(rest) {
+            Some((listed, more)) => {
+                if !lists(others, listed.0, listed.1) {
+                    return false;
+                }
+                rest = more;
+            }
+            None => return true,
+        }
+    }
+    true
+}
+
+/// How many names a listing has.
+fn count_names(words: &[u8]) -> usize {
+    let mut rest = words;
+    let mut count: usize = 0;
+    for _word in 0..words.len() {
+        match next_name(rest) {
+            Some((_listed, more)) => {
+                count = count.saturating_add(1);
+                rest = more;
+            }
+            None => return count,
+        }
+    }
+    count
+}
+
+/// Whether the answers have the same names in any order.
+fn have_same_names(one: &[u8], other: &[u8]) -> bool {
+    let (one, other) = (words_behind(one, 1), words_behind(other, 1));
+    count_names(one) == count_names(other) && is_within(one, other)
+}
+
+/// Whether the answers have the same kind, and the same size where it is no directory's.
+fn have_same_attributes(one: &[u8], other: &[u8]) -> bool {
+    let kind = word_at(one, 1);
+    kind == word_at(other, 1) && (kind == b"dir".as_slice() || word_at(one, 3) == word_at(other, 3))
+}
+
+/// Whether an answer is no error.
+pub(crate) fn is_done(answer: &[u8]) -> bool {
+    word_at(answer, 0) == b"0".as_slice()
+}
+
+/// Whether two answers to the call of a line say the same. Inode numbers, offsets, numbers of links, the sizes of
+/// directories and the order of names are each server's own.
+pub(crate) fn are_alike(line: &[u8], one: &[u8], other: &[u8]) -> bool {
+    if !is_done(one) || !is_done(other) {
+        return one == other;
+    }
+    match word_at(line, 1) {
+        b"stat" => have_same_attributes(one, other),
+        b"list" | b"listplus" => have_same_names(one, other),
+        _ => one == other,
+    }
+}
+
+/// Whether an answer is that of a call that a signal ended.
+pub(crate) fn is_interrupted(answer: &[u8]) -> bool {
+    answer == EINTR
+}
+
+/// Whether the file at a path lies below another path.
+pub(crate) fn is_below(path: &[u8], directory: &[u8]) -> bool {
+    match path.strip_prefix(directory) {
+        Some([first, ..]) => *first == b'/',
+        _ => false,
+    }
+}
+
+/// Whether what a server answers is right too: of what is moved onto a directory above it Linux says that this is not
+/// empty, and this project's server that it is a directory.
+pub(crate) fn is_refused_as_above(line: &[u8], answer: &[u8], here: &[u8]) -> bool {
+    word_at(line, 1) == b"rename".as_slice()
+        && is_below(word_at(line, 2), word_at(line, 3))
+        && answer == ENOTEMPTY
+        && here == EISDIR
+}
+
+/// Whether a server opens a file of CREATE whose name is there, as Linux does. This project's server refuses it.
+pub(crate) fn is_made_otherwise(line: &[u8], answer: &[u8], here: &[u8]) -> bool {
+    word_at(line, 1) == b"create".as_slice() && here == EEXIST && answer != EEXIST
+}

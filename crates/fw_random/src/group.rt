@@ -1,0 +1,248 @@
+//! The calls that are under way at once, and what they are answered.
+
+use crate::alike::{are_alike, is_interrupted, is_made_otherwise, is_refused_as_above};
+use crate::beside::Beside;
+use crate::plan::Plan;
+use crate::text::{put, put_number, word_at};
+use fw_drive::NoLine;
+use std::alloc::Allocator;
+use std::io::Write;
+
+/// A call.
+#[derive(Drop)]
+struct Called<A: Allocator> {
+    number: u64,
+    line: Vec<u8, A>,
+    /// The words of its answer, and none before it comes.
+    answer: Vec<u8, A>,
+    /// Whether its answer is right.
+    is_right: bool,
+}
+
+/// Calls that run at once, one of which at most changes files. So they are in one of two orders for each other call: that
+/// is made before the change, or behind it.
+#[derive(Drop)]
+pub(crate) struct Group<A: Allocator> {
+    alloc: A,
+    calls: Vec<Called<A>, A>,
+    /// How many of them are answered.
+    answered: usize,
+    /// Whether one was signalled.
+    pub(crate) is_signalled: bool,
+}
+
+/// Whether a call changes no file, and opens and closes none.
+pub(crate) fn is_reader(line: &[u8]) -> bool {
+    matches!(word_at(line, 1), b"stat" | b"list" | b"listplus" | b"read")
+}
+
+/// A text of its own.
+pub(crate) fn copied<A: Allocator>(alloc: A, text: &[u8]) -> Result<Vec<u8, A>, NoLine> {
+    let mut copy = Vec::new(alloc);
+    put(&mut copy, text)?;
+    Ok(copy)
+}
+
+/// Prints that an answer differs from that of the world beside.
+fn print_difference<A: Allocator, W: Write>(
+    alloc: A,
+    number: u64,
+    answer: &[u8],
+    here: &[u8],
+    out: &mut W,
+) -> Result<(), NoLine> {
+    let mut line = Vec::new(alloc);
+    put(&mut line, b"differs: answer ")?;
+    put_number(&mut line, number)?;
+    put(&mut line, b" ")?;
+    put(&mut line, answer)?;
+    put(&mut line, b", here ")?;
+    put_number(&mut line, number)?;
+    put(&mut line, b" ")?;
+    put(&mut line, here)?;
+    put(&mut line, b"\n")?;
+    match out.write_all(line.as_slice()) {
+        Ok(()) => Ok(()),
+        Err(_) => Err(NoLine::OutputRefused),
+    }
+}
+
+impl<A: Allocator + Copy> Group<A> {
+    pub(crate) fn new(alloc: A) -> Self {
+        Group {
+            alloc,
+            calls: Vec::new(alloc),
+            answered: 0,
+            is_signalled: false,
+        }
+    }
+
+    /// A call began by a line.
+    pub(crate) fn begin(&mut self, number: u64, line: &[u8]) -> Result<(), NoLine> {
+        let called = Called {
+            number,
+            line: copied(self.alloc, line)?,
+            answer: Vec::new(self.alloc),
+            is_right: false,
+        };
+        match self.calls.push(called) {
+            Ok(()) => Ok(()),
+            Err(_) => Err(NoLine::NoMemory),
+        }
+    }
+
+    /// A call was answered.
+    pub(crate) fn answer(&mut self, number: u64, words: &[u8]) -> Result<(), NoLine> {
+        for called in self.calls.iter_mut() {
+            if called.number == number {
+                put(&mut called.answer, words)?;
+                self.answered = self.answered.saturating_add(1);
+                break;
+            }
+        }
+        Ok(())
+    }
+
+    /// The line of a call.
+    pub(crate) fn line_of(&self, number: u64) -> &[u8] {
+        for called in self.calls.as_slice() {
+            if called.number == number {
+                return called.line.as_slice();
+            }
+        }
+        b""
+    }
+
+    /// Whether there are calls, and all are answered.
+    pub(crate) fn is_over(&self) -> bool {
+        self.answered > 0 && self.answered >= self.calls.len()
+    }
+
+    /// Whether one of the calls lists a directory.
+    pub(crate) fn has_listing(&self) -> bool {
+        self.calls.as_slice().iter().any(|called| {
+            matches!(word_at(called.line.as_slice(), 1), b"list" | b"listplus")
+        })
+    }
+
+    /// Whether there are several.
+    pub(crate) fn is_many(&self) -> bool {
+        self.calls.len() > 1
+    }
+
+    /// Whether one of the calls changes files.
+    pub(crate) fn has_change(&self) -> bool {
+        self.calls
+            .as_slice()
+            .iter()
+            .any(|called| !is_reader(called.line.as_slice()))
+    }
+
+    /// The calls are over, and nothing is known of them any more.
+    pub(crate) fn clear(&mut self) {
+        self.calls.clear();
+        self.answered = 0;
+        self.is_signalled = false;
+    }
+
+    /// What each call brings about.
+    pub(crate) fn follow(&self, plan: &mut Plan<A>) -> Result<(), NoLine> {
+        for called in self.calls.as_slice() {
+            plan.follow(
+                called.number,
+                called.line.as_slice(),
+                called.answer.as_slice(),
+            )?;
+        }
+        Ok(())
+    }
+
+    /// Makes the calls beside that change nothing, and notes which of the answers are right. Prints the others, where that is
+    /// asked for, and gives how many they are.
+    fn judge_readers<W: Write>(
+        &mut self,
+        beside: &mut Beside<A>,
+        says: bool,
+        out: &mut W,
+    ) -> Result<u64, NoLine> {
+        let mut wrong: u64 = 0;
+        for called in self.calls.iter_mut() {
+            let line = called.line.as_slice();
+            let answer = called.answer.as_slice();
+            if called.is_right || !is_reader(line) {
+                continue;
+            }
+            let here = beside.make(called.number, line)?;
+            called.is_right = are_alike(line, answer, here.as_slice())
+                || (self.is_signalled && is_interrupted(answer));
+            if says && !called.is_right {
+                wrong = wrong.saturating_add(1);
+                print_difference(self.alloc, called.number, answer, here.as_slice(), out)?;
+            }
+        }
+        Ok(wrong)
+    }
+
+    /// Makes the calls beside that change files, and prints each answer that differs. Gives how many those are. What a signal
+    /// ended changed nothing.
+    fn judge_changes<W: Write>(&self, beside: &mut Beside<A>, out: &mut W) -> Result<u64, NoLine> {
+        let mut wrong: u64 = 0;
+        for called in self.calls.as_slice() {
+            let line = called.line.as_slice();
+            let answer = called.answer.as_slice();
+            if is_reader(line) || (self.is_signalled && is_interrupted(answer)) {
+                continue;
+            }
+            let here = beside.make(called.number, line)?;
+            if !is_right(
+                self.alloc,
+                beside,
+                called.number,
+                line,
+                answer,
+                here.as_slice(),
+            )? {
+                wrong = wrong.saturating_add(1);
+                print_difference(self.alloc, called.number, answer, here.as_slice(), out)?;
+            }
+        }
+        Ok(wrong)
+    }
+
+    /// Compares the answers with those of the world beside. Prints each that is in no order of the calls that one, and gives
+    /// how many those are.
+    pub(crate) fn judge<W: Write>(
+        &mut self,
+        beside: &mut Beside<A>,
+        out: &mut W,
+    ) -> Result<u64, NoLine> {
+        if !self.has_change() {
+            return self.judge_readers(beside, true, out);
+        }
+        self.judge_readers(beside, false, out)?;
+        let wrong = self.judge_changes(beside, out)?;
+        let more = self.judge_readers(beside, true, out)?;
+        Ok(wrong.saturating_add(more))
+    }
+}
+
+/// Whether an answer to a call that changes files is right beside the one here.
+fn is_right<A: Allocator + Copy>(
+    alloc: A,
+    beside: &mut Beside<A>,
+    number: u64,
+    line: &[u8],
+    answer: &[u8],
+    here: &[u8],
+) -> Result<bool, NoLine> {
+    if are_alike(line, answer, here) || is_refused_as_above(line, answer, here) {
+        return Ok(true);
+    }
+    if !is_made_otherwise(line, answer, here) {
+        return Ok(false);
+    }
+    let mut open = copied(alloc, b"call open ")?;
+    put(&mut open, word_at(line, 2))?;
+    let opened = beside.make(number, open.as_slice())?;
+    Ok(are_alike(open.as_slice(), answer, opened.as_slice()))
+}
