@@ -53,7 +53,7 @@ abbrev pub is_of_second_init : Fault → Bool
 is_of_second_init fault.InitNotFirst = true
 is_of_second_init f = false
 
--- ---- frames of a kernel that a group asks for, where no fault of the definitions tells others
+-- ---- frames of a kernel that a group asks for, where no fault of the definitions rules others out
 
 abbrev pub IsAny : List ℕ → Type 0
 IsAny frame = Unit {0}
