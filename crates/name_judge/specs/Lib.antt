@@ -1,0 +1,5 @@
+pub mod Kept
+pub mod Given
+pub mod Waits
+pub mod Seen
+pub mod Judged

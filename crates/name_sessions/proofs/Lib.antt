@@ -1,0 +1,6 @@
+pub mod Examples
+pub mod FrameExamples
+pub mod NameLaws
+pub mod FaultLaws
+pub mod NameFrameLaws
+pub mod TheoremLaws
