@@ -113,15 +113,15 @@ fn change<A: Allocator + Copy>(
 fn see_record<A: Allocator + Copy>(
     tables: &mut Tables<A>,
     parent: u64,
-    record: &EntryRecord<'_>,
+    listed: &EntryRecord<'_>,
 ) -> Result<(), AllocError>
     ensures { OnOk result ((s : NameSession) → AreRight s tables.old
-        → AreRight (s ++ words.record_acts parent (entry_record_content record.now)) tables.new) }
+        → AreRight (s ++ words.record_acts parent (entry_record_content listed.now)) tables.new) }
 {
-    if record.entry.nodeid == 0 {
+    if listed.entry.nodeid == 0 {
         return Ok(());
     }
-    tables.give_bytes(parent, record.record.name)
+    tables.give_bytes(parent, listed.record.name)
 }
 
 /// The records of a listing give their names files.
