@@ -24,6 +24,7 @@ party_of fault.HandleNotOpen = Kernel
 party_of fault.ReleaseOfWhatIsNotOpen = Kernel
 party_of fault.ReleaseBesideAUse = Kernel
 party_of fault.WriteTooLarge = Kernel
+party_of fault.NameThatIsMissing = Kernel
 party_of fault.ReadAfterTheEnd = Device
 party_of fault.AcceptedAfterTheEnd = Device
 party_of fault.AcceptedReplyToNothing = Device

@@ -37,6 +37,8 @@ pub enum Fault {
     ReleaseOfWhatIsNotOpen,
     ReleaseBesideAUse,
     WriteTooLarge,
+    /// Its rule is that of `name_sessions`.
+    NameThatIsMissing,
 
     // Of the server.
     MalformedReply,
@@ -98,7 +100,8 @@ impl Fault {
             | Fault::HandleNotOpen
             | Fault::ReleaseOfWhatIsNotOpen
             | Fault::ReleaseBesideAUse
-            | Fault::WriteTooLarge => Party::Kernel,
+            | Fault::WriteTooLarge
+            | Fault::NameThatIsMissing => Party::Kernel,
             Fault::ReadAfterTheEnd
             | Fault::AcceptedAfterTheEnd
             | Fault::AcceptedReplyToNothing

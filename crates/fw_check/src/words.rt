@@ -43,6 +43,7 @@ pub fn fault_words(fault: Fault) -> &'static str
         Fault::ReleaseOfWhatIsNotOpen => "RELEASE of what is not open",
         Fault::ReleaseBesideAUse => "RELEASE beside a use",
         Fault::WriteTooLarge => "WRITE of more than was agreed",
+        Fault::NameThatIsMissing => "removal of a name that is missing",
         Fault::MalformedReply => "malformed reply",
         Fault::ReplyToNothing => "reply to nothing",
         Fault::SecondReply => "second reply",

@@ -33,6 +33,7 @@ is_certain fault.HandleNotOpen = false
 is_certain fault.ReleaseOfWhatIsNotOpen = false
 is_certain fault.ReleaseBesideAUse = false
 is_certain fault.WriteTooLarge = false
+is_certain fault.NameThatIsMissing = false
 is_certain fault.ReplyToNothing = false
 is_certain fault.FlagsThatWereNotOffered = false
 is_certain fault.MalformedNotification = false

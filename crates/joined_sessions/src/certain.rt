@@ -22,6 +22,7 @@ pub fn is_certain(fault: Fault) -> bool
         | Fault::ReleaseOfWhatIsNotOpen
         | Fault::ReleaseBesideAUse
         | Fault::WriteTooLarge
+        | Fault::NameThatIsMissing
         | Fault::ReplyToNothing
         | Fault::FlagsThatWereNotOffered
         | Fault::MalformedNotification
