@@ -162,6 +162,18 @@ impl<A: Allocator + Copy> Beside<A> {
         Ok(words)
     }
 
+    /// The bytes of a word of hex digits, or of `-` for none.
+    fn bytes_of(&self, hex: &[u8]) -> Result<Vec<u8, A>, NoLine> {
+        let mut bytes = Vec::new(self.alloc);
+        if !is_hex_or_none(hex) {
+            return Err(NoLine::NoMemory);
+        }
+        match read_hex_or_none(&mut bytes, hex) {
+            Ok(()) => Ok(bytes),
+            Err(_) => Err(NoLine::NoMemory),
+        }
+    }
+
     /// Makes the call of a line, which has this number there. Gives the words of its answer: none, if the line has no call.
     pub(crate) fn make(&mut self, number: u64, line: &[u8]) -> Result<Vec<u8, A>, NoLine> {
         if let Some(opened) = line.strip_prefix(b"call open ") {
@@ -169,7 +181,6 @@ impl<A: Allocator + Copy> Beside<A> {
             let (path, _flags) = split_word(opened);
             return self.answered(number, Call::Open { path });
         }
-        let mut bytes = Vec::new(self.alloc);
         match read_line(line) {
             Ok(Line::Event(Event::Call(call))) => self.answered(number, call),
             Ok(
@@ -179,9 +190,7 @@ impl<A: Allocator + Copy> Beside<A> {
                     hex,
                 },
             ) => {
-                if !is_hex_or_none(hex) || read_hex_or_none(&mut bytes, hex).is_err() {
-                    return Err(NoLine::NoMemory);
-                }
+                let bytes = self.bytes_of(hex)?;
                 let call = Call::Write {
                     open_call,
                     offset,
