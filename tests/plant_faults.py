@@ -223,10 +223,14 @@ def interrupt_too_often(s, line, turn):
     return unique and plan("kernel: INTERRUPT too often", [interrupt(unique + 1, unique)] * 2, 1)
 
 
+# of any removal that comes behind
+MISSING = "kernel: removal of a name that is missing: "
+
+
 def node_not_counted(s, line, turn):
     frames = [request("GETATTR", s.free(), STRANGE, getattr_body()), request("LOOKUP", s.free(), STRANGE, text("a")),
               request("RENAME", s.free(), 1, numbers("Q", STRANGE) + text("a", "b"))]
-    return plan("kernel: node that is not counted", with_reply(pick(frames, turn)))
+    return plan("kernel: node that is not counted", with_reply(pick(frames, turn)), also=(MISSING,))
 
 
 def forget(s, node, lookups):
@@ -242,10 +246,11 @@ def forget_of_no_lookup(s, line, turn):
     return node and plan("kernel: forget of no lookup", [forget(s, node, 0)])
 
 
-# A node that is not counted any more: what names it, uses it, forgets it or gives it is judged by its new count.
+# A node that is not counted any more: what names it, uses it, forgets it or gives it is judged by its new count, and the
+# kernel has no names in it.
 def of_node(node):
     return (f"kernel: node that is not counted: node {node}\n", f"kernel: forget of more than is counted: node {node} ",
-            f"kernel: forget of a node in use: node {node} ")
+            f"kernel: forget of a node in use: node {node} ", MISSING)
 
 
 def forget_of_more(s, line, turn):
@@ -294,6 +299,23 @@ def write_too_large(s, line, turn):
     size = s.max_write + 1 + turn
     frame = request("WRITE", s.free(), file[1], write_body(file[2], b"", size=size), length=80 + size)
     return plan("kernel: WRITE of more than was agreed", [Line(">", frame, size), Line("<", reply(s.free(), error=EIO))])
+
+
+# Names that no answer of the session gave.
+def name_that_is_missing(s, line, turn):
+    frames = [request("UNLINK", s.free(), 1, text("never given")), request("RMDIR", s.free(), 1, text("never given")),
+              request("RENAME", s.free(), 1, numbers("Q", 1) + text("never given", "a"))]
+    return plan("kernel: removal of a name that is missing", with_reply(pick(frames, turn)))
+
+
+def changed_name(s, line, turn):
+    """the last byte of a removal's name is changed"""
+    start = {"UNLINK": 40, "RMDIR": 40, "RENAME": 48}.get(line.opcode)
+    if not start:
+        return None
+    frame = bytearray(line.frame)
+    frame[frame.index(0, start) - 1] ^= 0x80
+    return plan("kernel: removal of a name that is missing", [Line(">", bytes(frame))], takes=1)
 
 
 def is_answer(s, line):
@@ -456,7 +478,7 @@ def request_before_init(s, line, turn):
     name = pick(names, turn)
     frame = Line(">", request(name, s.free(), 1, bodies.get(name, b"")))
     ended = [Line("<", reply(s.free(), error=EIO))] if turn >= len(names) else []
-    return plan("kernel: request before INIT", [frame, *ended])
+    return plan("kernel: request before INIT", [frame, *ended], also=(MISSING,))
 
 
 def init_not_first(s, line, turn):
@@ -487,8 +509,8 @@ FAULTS = [
     malformed_request, init_not_first, odd_number, number_used_twice, doubled_request, number_out_of_order,
     swapped_requests, interrupt_of_nothing, interrupt_under_another, interrupt_too_often, node_not_counted,
     forget_of_the_root, forget_of_no_lookup, forget_of_more, forget_of_a_node_in_use, handle_not_open,
-    release_of_what_is_not_open, release_beside_a_use, write_too_large, malformed_reply, reply_to_nothing,
-    dropped_request, second_reply, doubled_reply, reply_to_forget, reply_to_no_interrupt, body_of_another,
+    release_of_what_is_not_open, release_beside_a_use, write_too_large, name_that_is_missing, changed_name, malformed_reply,
+    reply_to_nothing, dropped_request, second_reply, doubled_reply, reply_to_forget, reply_to_no_interrupt, body_of_another,
     more_than_was_asked, entry_of_the_root, entry_of_no_node, entry_of_no_kind, entry_of_another_kind, two_generations, two_kinds,
     two_inode_numbers, malformed_notification, read_after_the_end, accepted_after_the_end, accepted_reply_to_nothing,
     accepted_wrong_body, refused_reply,

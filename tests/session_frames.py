@@ -190,7 +190,8 @@ def nodes_not_counted():
     s = Session("Nodes that requests name and no entry gave, or that were forgotten.")
     s.begin()
     s.read(request("GETATTR", 4, 9, getattr_body()), "kernel: node that is not counted: node 9")
-    s.read(request("RENAME", 6, 1, numbers("Q", 8) + text("a", "b")), "kernel: node that is not counted: node 8")
+    s.read(request("RENAME", 6, 1, numbers("Q", 8) + text("a", "b")), "kernel: node that is not counted: node 8",
+           "kernel: removal of a name that is missing: RENAME 6")
     s.read(request("LINK", 8, 7, numbers("Q", 6) + text("a")), "kernel: node that is not counted: node 7",
            "kernel: node that is not counted: node 6")
     s.ask("LOOKUP", 10, 1, text("a"), entry(2, 20))
@@ -201,6 +202,28 @@ def nodes_not_counted():
     s.write(reply(16, entry(3, 30)), "device: right reply refused: unique 16", errno="EINVAL")
     s.read(request("STATFS", 18, 3), "kernel: node that is not counted: node 3")
     return s, s.end(entries=1, forgotten=1, unanswered=5)
+
+
+def names_that_are_missing():
+    s = Session("Removals of names that no reply gave, that were removed, and in a directory that was forgotten.")
+    s.begin()
+    s.read(request("UNLINK", 4, 1, text("a")), "kernel: removal of a name that is missing: UNLINK 4")
+    s.write(reply(4, error=ENOENT))
+    s.ask("MKDIR", 6, 1, numbers("II", 0o755, 0) + text("d"), entry(2, 20, DIRECTORY))
+    s.ask("LOOKUP", 8, 2, text("a"), entry(3, 30))
+    s.ask("UNLINK", 10, 2, text("a"))
+    s.read(request("RENAME", 12, 2, numbers("Q", 1) + text("a", "b")), "kernel: removal of a name that is missing: RENAME 12")
+    s.write(reply(12, error=ENOENT))
+    s.read(request("RMDIR", 14, 1, text("b")), "kernel: removal of a name that is missing: RMDIR 14")
+    s.write(reply(14, error=ENOENT))
+    s.ask("LOOKUP", 16, 2, text("c"), entry(4, 40))
+    s.read(request("FORGET", 18, 2, numbers("Q", 1)))
+    s.ask("LOOKUP", 20, 1, text("d"), entry(2, 20, DIRECTORY))
+    s.read(request("UNLINK", 22, 2, text("c")), "kernel: removal of a name that is missing: UNLINK 22")
+    # another thread may answer before
+    s.line("= several readers")
+    s.read(request("UNLINK", 24, 1, text("a")))
+    return s, s.end(entries=4, forgotten=1, unanswered=2)
 
 
 def forgets():
@@ -742,7 +765,7 @@ def lines_of_a_capture():
 
 SESSIONS = [
     malformed_requests, later_opcodes, requests_before_init, numbers_of_requests, resends, resends_unasked, several_readers,
-    several_writers, interrupts, nodes_not_counted, forgets, open_files, files_that_are_not_opened, writes_cut_short,
+    several_writers, interrupts, nodes_not_counted, names_that_are_missing, forgets, open_files, files_that_are_not_opened, writes_cut_short,
     writes_of_a_page, replies, replies_to_interrupts, bodies, init_of_another_length, entries, entries_of_another_kind,
     exported, nodes_of_two_files, init_of_another_version, frames_of_an_old_minor, frames_of_a_later_minor,
     security_contexts_without_a_length, flags_that_were_not_offered, second_word_of_flags, notifications, device, after_the_end, after_a_lost_reply, good_names, good_attributes, good_files, good_directories, good_notifications,

@@ -19,9 +19,11 @@ use Rattle.fw_check.specs.declared.options.CheckOptions.{CheckOptions}
 use Rattle.fw_check.specs.declared.remains.Remains.{Remains}
 use Rattle.fw_check.specs.declared.stop.Stop.{Stop}
 use Rattle.fw_check.specs.declared.stop.Stop.TheVariants.{BadLine, CannotRead, NoMemory, OutputRefused}
+use Rattle.fw_check.specs.Asked.{asked_verdicts}
 use Rattle.fw_check.specs.Checks.{Judged, Checks, passed_over, says, no_line, nothing_judged, counts_of, end_text, start_in}
 use Rattle.fw_check.specs.Endings.{lines_of}
 use Rattle.fw_check.specs.Forms.{closing_text, counts_text, head_text, transfer_lines}
+use Rattle.fw_check.specs.Names.{with_names}
 use Rattle.fw_check.specs.Outputs.{AppendsSome}
 use Rattle.fw_check.specs.Standing.{file_count, node_count, remains_of}
 use Rattle.fw_check.specs.Summary.{LineTimeIs, TimeIs, after_asked, line_time, table_text}
@@ -83,44 +85,57 @@ pub time_said : (line : List ℕ) (l : CaptureLine) → ((text : List ℕ) → I
     → (t : Transfer) → IsTransferOf l t → LineTimeIs line t (line_time l)
 time_said line l timed t is text of_line = at_frame (words_of text) l t is (timed text of_line)
 
+module _ (o : CheckOptions) (number : ℕ) (j : Judged) (l : CaptureLine) (shown : List Act) (verdicts : List (Option Fault))
+    (judge : SeenState) (c : Counts) (so : IsJudgedSo o j l shown verdicts judge c) where
+  -- what was judged with the transfer that a line says, and the text of these acts and verdicts
+  abbrev judged_as : List Act → List (Option Fault) → Judged
+  judged_as acts vs = judged_after j so.transfer so.acts so.names vs judge.session.known
+      (after_asked o.is_summary j.exchanges so.transfer (line_time l))
+      (j.text ++ transfer_lines o number j.known judge.session.known j.acts so.transfer acts vs)
+
+  abbrev judged_with : Judged
+  judged_with = judged_as shown verdicts
+
 -- the lines with the one that says the transfer
-said_checks : (o : CheckOptions) (lines : List (List ℕ)) (j : Judged) (line : List ℕ) (l : CaptureLine) (acts : List Act)
+said_checks : (o : CheckOptions) (lines : List (List ℕ)) (j : Judged) (line : List ℕ) (l : CaptureLine) (shown : List Act)
     (verdicts : List (Option Fault)) (judge : SeenState) (c : Counts) → Checks o lines j
-    → (so : IsJudgedSo o j l acts verdicts judge c) → LineSays line so.transfer → LineTimeIs line so.transfer (line_time l)
-    → Checks o (lines ++ line ∷ []) (judged_after j so.transfer acts verdicts judge.session.known
-    (after_asked o.is_summary j.exchanges so.transfer (line_time l)) (j.text ++ transfer_lines o (length lines + 1) j.known judge.session.known j.acts so.transfer acts verdicts))
-said_checks o lines j line l acts verdicts judge c checks so is at =
-    subst (λ (vs : List (Option Fault)). Checks o (lines ++ line ∷ []) (judged_after j so.transfer acts vs judge.session.known
-    (after_asked o.is_summary j.exchanges so.transfer (line_time l)) (j.text ++ transfer_lines o (length lines + 1) j.known judge.session.known j.acts so.transfer acts vs)))
+    → (so : IsJudgedSo o j l shown verdicts judge c) → LineSays line so.transfer → LineTimeIs line so.transfer (line_time l)
+    → Checks o (lines ++ line ∷ []) (judged_with o (length lines + 1) j l shown verdicts judge c so)
+said_checks o lines j line l shown verdicts judge c checks so is at =
+    let n = length lines + 1 in
+    let asked = asked_verdicts o.only (with_names so.is_missing so.all) in
+    subst (λ (vs : List (Option Fault)). Checks o (lines ++ line ∷ []) (judged_as o n j l shown verdicts judge c so shown vs))
     (sym so.asked)
-    (says lines j checks line so.transfer is (line_time l) at acts judge.session.known so.are so.all so.each so.faults)
+    (subst (λ (acts : List Act). Checks o (lines ++ line ∷ []) (judged_as o n j l shown verdicts judge c so acts asked))
+    (sym so.removal)
+    (says lines j checks line so.transfer is (line_time l) at so.acts judge.session.known so.are so.all so.each so.faults
+    so.names so.is_missing so.removes))
 
 pub line_said : {T : Type 0} (o : CheckOptions) (r : Result T Stop) (lines : List (List ℕ)) (j : Judged) (line : List ℕ) (number : ℕ)
     (l : CaptureLine) (judge : SeenState) (c : Counts) (had has : Option (List ℕ)) → Checks o lines j
     → ((t : Transfer) → IsTransferOf l t → LineSays line t) → ((t : Transfer) → IsTransferOf l t → LineTimeIs line t (line_time l))
     → number ≡ length lines + 1
     → SaidEnds o j number l judge c r had has → LineEnds o lines j line judge c r had has
-line_said o (Ok done) lines j line number l judge c had has checks said at is (acts, verdicts, so, appends) =
-    let text = j.text ++ transfer_lines o (length lines + 1) j.known judge.session.known j.acts so.transfer acts verdicts in (
-      judged_after j so.transfer acts verdicts judge.session.known (after_asked o.is_summary j.exchanges so.transfer (line_time l)) text,
-      transfer_lines o number j.known judge.session.known j.acts so.transfer acts verdicts,
+line_said o (Ok done) lines j line number l judge c had has checks said at is (shown, verdicts, so, appends) =
+    let text = j.text ++ transfer_lines o (length lines + 1) j.known judge.session.known j.acts so.transfer shown verdicts in (
+      judged_with o (length lines + 1) j l shown verdicts judge c so,
+      transfer_lines o number j.known judge.session.known j.acts so.transfer shown verdicts,
       record {
-        checks = said_checks o lines j line l acts verdicts judge c checks so (said so.transfer so.is) (at so.transfer so.is);
-        text = ap (λ n. j.text ++ transfer_lines o n j.known judge.session.known j.acts so.transfer acts verdicts) (sym is);
+        checks = said_checks o lines j line l shown verdicts judge c checks so (said so.transfer so.is) (at so.transfer so.is);
+        text = ap (λ n. j.text ++ transfer_lines o n j.known judge.session.known j.acts so.transfer shown verdicts) (sym is);
       },
       so.kept text,
       appends,
     )
-line_said o (Err OutputRefused) lines j line number l judge c had has checks said at is (acts, verdicts, so, some) =
-    let text = j.text ++ transfer_lines o (length lines + 1) j.known judge.session.known j.acts so.transfer acts verdicts in (
-      judged_after j so.transfer acts verdicts judge.session.known (after_asked o.is_summary j.exchanges so.transfer (line_time l)) text,
-      transfer_lines o number j.known judge.session.known j.acts so.transfer acts verdicts,
-      record {
-        checks = said_checks o lines j line l acts verdicts judge c checks so (said so.transfer so.is) (at so.transfer so.is);
-        text = ap (λ n. j.text ++ transfer_lines o n j.known judge.session.known j.acts so.transfer acts verdicts) (sym is);
-      },
-      some,
-    )
+line_said o (Err OutputRefused) lines j line number l judge c had has checks said at is (shown, verdicts, so, some) = (
+  judged_with o (length lines + 1) j l shown verdicts judge c so,
+  transfer_lines o number j.known judge.session.known j.acts so.transfer shown verdicts,
+  record {
+    checks = said_checks o lines j line l shown verdicts judge c checks so (said so.transfer so.is) (at so.transfer so.is);
+    text = ap (λ n. j.text ++ transfer_lines o n j.known judge.session.known j.acts so.transfer shown verdicts) (sym is);
+  },
+  some,
+)
 line_said o (Err NoMemory) lines j line number l judge c had has checks said at is h = h
 line_said o (Err CannotRead) lines j line number l judge c had has checks said at is h = absurd h
 line_said o (Err (BadLine n f)) lines j line number l judge c had has checks said at is h = absurd h
@@ -241,6 +256,7 @@ kept_printed : (is_joined : Bool) (text : List ℕ) (judge : SeenState) (c : Cou
 kept_printed is_joined text judge c kept = record {
   start = kept.start;
   seen = kept.seen;
+  named = kept.named;
   stands = kept.stands;
   known = kept.known;
   exchanges = kept.exchanges;

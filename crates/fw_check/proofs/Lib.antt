@@ -6,6 +6,7 @@ mod FrameLaws
 mod HeldLaws
 mod LifeLaws
 mod LineFeeds
+mod NameLaws
 mod OpcodeLaws
 mod RankLaws
 mod ReportLaws

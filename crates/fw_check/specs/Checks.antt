@@ -10,21 +10,26 @@ use Rattle.fuse_sessions.specs.declared.transfer.Transfer.{Transfer}
 use Rattle.fuse_sessions.specs.Sessions.{Session}
 use Rattle.fuse_sessions.specs.Frames.{AreActs}
 use Rattle.joined_judge.specs.Judging.{AreFaultsAs, start_known}
+use Rattle.name_sessions.specs.NameFrames.{AreNamesAfter, start_names}
+use Rattle.name_sessions.specs.NameSessions.{NameSession}
 use Rattle.fuse_capture.specs.Lines.{LineSays, IsPassedOver}
 use Rattle.fw_check.specs.declared.counts.Counts.{Counts}
 use Rattle.fw_check.specs.declared.options.CheckOptions.{CheckOptions}
 use Rattle.fw_check.specs.Asked.{asked_verdicts}
 use Rattle.fw_check.specs.Forms.{closing_text, head_text, transfer_lines}
+use Rattle.fw_check.specs.Names.{with_names, with_removal}
 use Rattle.fw_check.specs.Standing.{remains_of}
 use Rattle.fw_check.specs.Summary.{ExchangeState, LineTimeIs, after_asked, nothing_exchanged}
 use Rattle.fw_check.specs.Tallies.{entries_of, forgotten_by, is_notification, is_of, is_refused, is_reply, is_request, one_if}
 
--- What was judged: the transfers that were said, what is known after them, their acts, the verdict on each act without a
--- fault that is not asked for, what the table of opcodes is made of, if that is asked for, and what is printed of them.
+-- What was judged: the transfers that were said, what is known after them, their acts and their name acts, the verdicts
+-- without the faults that are not asked for, what the table of opcodes is made of, if that is asked for, and what is
+-- printed of them. A verdict is on each act, and on a name that is missing.
 pub record Judged : Type 0 where
   pub transfers : List Transfer
   pub known : Known
   pub acts : Session
+  pub names : NameSession
   pub verdicts : List (Option Fault)
   pub exchanges : ExchangeState
   pub text : List ℕ
@@ -34,6 +39,7 @@ nothing_judged is_joined = record {
   transfers = [];
   known = start_known is_joined;
   acts = [];
+  names = start_names is_joined;
   verdicts = [];
   exchanges = nothing_exchanged;
   text = [];
@@ -51,13 +57,16 @@ pub data Checks (o : CheckOptions) : (lines : List (List ℕ)) → Judged → Ty
   says : (lines : List (List ℕ)) (j : Judged) → Checks o lines j → (line : List ℕ) (t : Transfer) → LineSays line t
       → (time : Option ℕ) → LineTimeIs line t time → (acts : List Act) (known : Known) → AreActs j.known j.acts t acts known → (verdicts : List (Option Fault))
       → length verdicts ≡ length acts → AreFaultsAs o.is_joined j.acts acts verdicts
+      → (names : NameSession) (is_missing : Bool) → AreNamesAfter j.known j.names j.acts t acts names is_missing
       → Checks o (lines ++ line ∷ []) (record {
         transfers = j.transfers ++ t ∷ [];
         known = known;
         acts = j.acts ++ acts;
-        verdicts = j.verdicts ++ asked_verdicts o.only verdicts;
+        names = names;
+        verdicts = j.verdicts ++ asked_verdicts o.only (with_names is_missing verdicts);
         exchanges = after_asked o.is_summary j.exchanges t time;
-        text = j.text ++ transfer_lines o (length lines + 1) j.known known j.acts t acts (asked_verdicts o.only verdicts);
+        text = j.text ++ transfer_lines o (length lines + 1) j.known known j.acts t (with_removal is_missing acts)
+            (asked_verdicts o.only (with_names is_missing verdicts));
       })
 
 -- ---- counts

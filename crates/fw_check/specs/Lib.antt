@@ -8,6 +8,7 @@ pub mod FrameLines
 pub mod Held
 pub mod Json
 pub mod Life
+pub mod Names
 pub mod Outputs
 pub mod Reports
 pub mod Running

@@ -10,17 +10,19 @@ use Rattle.fuse_sessions.specs.Frames.{AreActs}
 use Rattle.fuse_sessions.specs.Sessions.{Session}
 use Rattle.fuse_judge.specs.Transfers.{HasSeenFrom, SessionState}
 use Rattle.joined_judge.specs.Judging.{AreFaultsAs}
+use Rattle.name_sessions.specs.NameFrames.{AreNamesAfter}
+use Rattle.name_sessions.specs.NameSessions.{NameSession}
+use Rattle.name_judge.specs.Judged.{HasSeen}
 use Rattle.fuse_capture.specs.declared.line.CaptureLine.{CaptureLine}
 use Rattle.fuse_capture.specs.Lines.{LineFaultIs}
 use Rattle.fuse_capture.specs.Readings.{IsTransferOf}
 use Rattle.fw_check.specs.declared.counts.Counts.{Counts}
 use Rattle.fw_check.specs.declared.options.CheckForm.{CheckForm}
 use Rattle.fw_check.specs.declared.options.CheckOptions.{CheckOptions}
-use Rattle.fw_check.specs.declared.exchanges.Exchanges.{Exchanges}
 use Rattle.fw_check.specs.declared.file_key.FileKey.{FileKey}
 use Rattle.fw_check.specs.declared.life.Doer.{Doer}
 use Rattle.fw_check.specs.declared.remains.Remains.{Remains}
-use Rattle.fw_check.specs.declared.standing.Standing.{Standing}
+use Rattle.fw_check.specs.declared.seen.Seen.{Seen}
 use Rattle.fw_check.specs.declared.stop.Stop.{Stop}
 use Rattle.fw_check.specs.declared.stop.Stop.TheVariants as stop
 use Rattle.fw_check.specs.Asked.{asked_verdicts}
@@ -28,6 +30,7 @@ use Rattle.fw_check.specs.Checks.{Judged, Checks, end_text, faults_of, number_of
 use Rattle.fw_check.specs.Endings.{lines_of}
 use Rattle.fw_check.specs.Forms.{closing_text, fault_text, transfer_lines}
 use Rattle.fw_check.specs.Life.{doer_for}
+use Rattle.fw_check.specs.Names.{with_names, with_removal}
 use Rattle.fw_check.specs.Outputs.{AppendsSome}
 use Rattle.fw_check.specs.Reports.{bad_line, unreadable}
 use Rattle.fw_check.specs.Standing.{Stands, remains_of}
@@ -54,75 +57,101 @@ pub record AreCounts (j : Judged) (c : Counts) : Type 0 where
   pub device : c.device ≡ faults_of party.Device j
   pub warnings : c.warnings ≡ faults_of party.Nobody j
 
--- What contracts see of the judge, of what stands of the session that it has seen, and of what the table is made of.
-pub record SeenState : Type 0 where
+-- What contracts see of what was seen of a session: the judge, which name acts the judge of names has seen, what stands,
+-- and what the table is made of.
+pub record SeenState : Type 1 where
   pub session : SessionState
+  pub names : NameSession → Type 0
   pub nodes : List (ℕ × ℕ)
   pub files : List (FileKey × ℕ)
   pub exchanges : ExchangeState
 
-abbrev pub seen_by : {A : Type 0} → SessionState → Standing A → Exchanges A → SeenState
-seen_by session t e = record {
-  session = session;
-  nodes = t.nodes.entries;
-  files = t.files.entries;
-  exchanges = exchanges_of e;
+abbrev pub seen_by : {A : Type 0} → Seen A → SeenState
+seen_by seen = record {
+  session = seen.judge;
+  names = λ n. HasSeen n seen.names;
+  nodes = seen.standing.nodes.entries;
+  files = seen.standing.files.entries;
+  exchanges = exchanges_of seen.exchanges;
 }
 
 -- What a check keeps is right of what was judged.
 pub record IsKept (j : Judged) (w : SeenState) (c : Counts) : Type 0 where
   pub start : Known
   pub seen : HasSeenFrom start j.transfers j.acts w.session
+  pub named : w.names j.names
   pub stands : Stands j.acts w.nodes w.files
   pub known : j.known ≡ w.session.known
   pub exchanges : j.exchanges ≡ w.exchanges
   pub counts : AreCounts j c
 
+-- The next transfer was seen: these are its acts and the verdict on each, and it is said whether the kernel takes away a
+-- name that is missing.
+pub record IsSeenSo (is_joined : Bool) (j : Judged) (t : Transfer) (acts : List Act) (verdicts : List (Option Fault))
+    (is_missing : Bool) (w : SeenState) : Type 0 where
+  pub start : Known
+  pub names : NameSession
+  pub are : AreActs j.known j.acts t acts w.session.known
+  pub each : length verdicts ≡ length acts
+  pub faults : AreFaultsAs is_joined j.acts acts verdicts
+  pub removes : AreNamesAfter j.known j.names j.acts t acts names is_missing
+  pub seen : HasSeenFrom start (j.transfers ++ t ∷ []) (j.acts ++ acts) w.session
+  pub named : w.names names
+  pub stands : Stands (j.acts ++ acts) w.nodes w.files
+  pub exchanges : j.exchanges ≡ w.exchanges
+
 -- what was judged, with one transfer more
-abbrev pub judged_after : Judged → Transfer → List Act → List (Option Fault) → Known → ExchangeState → (text : List ℕ) → Judged
-judged_after j t acts verdicts known exchanges text = record {
+abbrev pub judged_after : Judged → Transfer → List Act → NameSession → List (Option Fault) → Known → ExchangeState
+    → (text : List ℕ) → Judged
+judged_after j t acts names verdicts known exchanges text = record {
   transfers = j.transfers ++ t ∷ [];
   known = known;
   acts = j.acts ++ acts;
+  names = names;
   verdicts = j.verdicts ++ verdicts;
   exchanges = exchanges;
   text = text;
 }
 
--- The transfer that a line says was judged: these are its acts, and these their verdicts without the faults that are not
--- asked for.
-pub record IsJudgedSo (o : CheckOptions) (j : Judged) (l : CaptureLine) (acts : List Act)
+-- The transfer that a line says was judged: these are its acts with a removal's behind them, and these their verdicts
+-- without the faults that are not asked for.
+pub record IsJudgedSo (o : CheckOptions) (j : Judged) (l : CaptureLine) (shown : List Act)
     (verdicts : List (Option Fault)) (judge : SeenState) (c : Counts) : Type 0 where
   pub transfer : Transfer
+  pub acts : List Act
   pub all : List (Option Fault)
+  pub names : NameSession
+  pub is_missing : Bool
   pub is : IsTransferOf l transfer
   pub are : AreActs j.known j.acts transfer acts judge.session.known
   pub each : length all ≡ length acts
   pub faults : AreFaultsAs o.is_joined j.acts acts all
-  pub asked : verdicts ≡ asked_verdicts o.only all
-  pub kept : (text : List ℕ) → IsKept (judged_after j transfer acts verdicts judge.session.known
+  pub removes : AreNamesAfter j.known j.names j.acts transfer acts names is_missing
+  pub removal : shown ≡ with_removal is_missing acts
+  pub asked : verdicts ≡ asked_verdicts o.only (with_names is_missing all)
+  pub kept : (text : List ℕ) → IsKept (judged_after j transfer acts names verdicts judge.session.known
       (after_asked o.is_summary j.exchanges transfer (line_time l)) text) judge c
 
 -- The same, and whose its first acts are.
-abbrev pub IsJudgedBy : CheckOptions → Judged → CaptureLine → List Act → List (Option Fault) → SeenState → Counts → Doer → Type 0
-IsJudgedBy o j l acts verdicts judge c who =
-    (so : IsJudgedSo o j l acts verdicts judge c) × (who ≡ doer_for o.node j.acts so.transfer)
+abbrev pub IsJudgedBy : CheckOptions → Judged → CaptureLine → (shown : List Act) → List (Option Fault) → SeenState → Counts → Doer → Type 0
+IsJudgedBy o j l shown verdicts judge c who =
+    (so : IsJudgedSo o j l shown verdicts judge c) × (who ≡ doer_for o.node j.acts so.transfer)
 
 -- The same, and what is printed of it.
-abbrev pub IsJudgedAs : CheckOptions → Judged → (number : ℕ) → CaptureLine → List Act → List (Option Fault) → SeenState → Counts
+abbrev pub IsJudgedAs : CheckOptions → Judged → (number : ℕ) → CaptureLine → (shown : List Act) → List (Option Fault) → SeenState → Counts
     → (text : List ℕ) → Type 0
-IsJudgedAs o j number l acts verdicts judge c text = (so : IsJudgedSo o j l acts verdicts judge c)
-    × (text ≡ transfer_lines o number j.known judge.session.known j.acts so.transfer acts verdicts)
+IsJudgedAs o j number l shown verdicts judge c text = (so : IsJudgedSo o j l shown verdicts judge c)
+    × (text ≡ transfer_lines o number j.known judge.session.known j.acts so.transfer shown verdicts)
 
 -- What became of a line that says a transfer, and of the output.
 abbrev pub SaidEnds : {T : Type 0} → CheckOptions → Judged → (number : ℕ) → CaptureLine → SeenState → Counts → Result T Stop
     → (had has : Option (List ℕ)) → Type 0
-SaidEnds o j number l judge c (Ok done) had has = (acts : List Act) × (verdicts : List (Option Fault))
-    × (so : IsJudgedSo o j l acts verdicts judge c)
-    × Appends had has (transfer_lines o number j.known judge.session.known j.acts so.transfer acts verdicts)
-SaidEnds o j number l judge c (Err stop.OutputRefused) had has = (acts : List Act) × (verdicts : List (Option Fault))
-    × (so : IsJudgedSo o j l acts verdicts judge c)
-    × AppendsSome had has (transfer_lines o number j.known judge.session.known j.acts so.transfer acts verdicts)
+SaidEnds o j number l judge c (Ok done) had has = (shown : List Act) × (verdicts : List (Option Fault))
+    × (so : IsJudgedSo o j l shown verdicts judge c)
+    × Appends had has (transfer_lines o number j.known judge.session.known j.acts so.transfer shown verdicts)
+SaidEnds o j number l judge c (Err stop.OutputRefused) had has = (shown : List Act) × (verdicts : List (Option Fault))
+    × (so : IsJudgedSo o j l shown verdicts judge c)
+    × AppendsSome had has (transfer_lines o number j.known judge.session.known j.acts so.transfer shown verdicts)
 SaidEnds o j number l judge c (Err stop.NoMemory) had has = Appends had has []
 SaidEnds o j number l judge c (Err other) had has = ⊥
 

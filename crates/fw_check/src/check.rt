@@ -32,8 +32,8 @@ fn check_next<A: Allocator + Copy, R: BufRead, W: Write>(
     out: &mut W,
 ) -> Result<bool, Stop>
     ensures { (capture : List ℕ) (had : Option (List ℕ))
-        → IsUpTo options capture (R.remaining input.old) number (seen_by checker.old.judge checker.old.standing checker.old.exchanges) checker.old.counts had (W.contents out.old)
-        → NextEnds options capture (R.remaining input.new) number (seen_by checker.new.judge checker.new.standing checker.new.exchanges) checker.new.counts result had
+        → IsUpTo options capture (R.remaining input.old) number (seen_by checker.old.seen) checker.old.counts had (W.contents out.old)
+        → NextEnds options capture (R.remaining input.new) number (seen_by checker.new.seen) checker.new.counts result had
         (W.contents out.new) }
 {
     match next_line(input, line) {
@@ -54,8 +54,8 @@ fn check_lines<A: Allocator + Copy, R: BufRead, W: Write>(
     out: &mut W,
 ) -> Result<(), Stop>
     ensures { (had : Option (List ℕ)) → Appends had (W.contents out.old) (words.head_text options.form)
-        → IsKept (nothing_judged options.is_joined) (seen_by checker.old.judge checker.old.standing checker.old.exchanges) checker.old.counts → IfSome (R.remaining input.old)
-        (λ capture. LinesEnd options capture (seen_by checker.new.judge checker.new.standing checker.new.exchanges) checker.new.counts result had (W.contents out.new)) }
+        → IsKept (nothing_judged options.is_joined) (seen_by checker.old.seen) checker.old.counts → IfSome (R.remaining input.old)
+        (λ capture. LinesEnd options capture (seen_by checker.new.seen) checker.new.counts result had (W.contents out.new)) }
 {
     let mut line = Vec::new(alloc);
     for number in 1..u64::MAX {
@@ -100,16 +100,16 @@ fn check_rest<A: Allocator + Copy, R: BufRead, W: Write>(
     out: &mut W,
 ) -> Result<(), Stop>
     ensures { (had : Option (List ℕ)) → Appends had (W.contents out.old) (words.head_text options.form)
-        → IsKept (nothing_judged options.is_joined) (seen_by checker.old.judge checker.old.standing checker.old.exchanges) checker.old.counts → IfSome (R.remaining input.old)
+        → IsKept (nothing_judged options.is_joined) (seen_by checker.old.seen) checker.old.counts → IfSome (R.remaining input.old)
         (λ capture. CheckEnds options capture checker.new.counts result had (W.contents out.new)) }
 {
     match check_lines(alloc, options, checker, input, out) {
         Ok(()) => {
-            let remains = remains_of(&mut checker.judge, &checker.standing);
+            let remains = remains_of(&mut checker.seen.judge, &checker.seen.standing);
             print_end(
                 alloc,
                 options,
-                &checker.exchanges,
+                &checker.seen.exchanges,
                 remains,
                 checker.counts,
                 &mut checker.text,
@@ -128,7 +128,7 @@ fn check_all<A: Allocator + Copy, R: BufRead, W: Write>(
     input: &mut R,
     out: &mut W,
 ) -> Result<(), Stop>
-    ensures { IsKept (nothing_judged options.is_joined) (seen_by checker.old.judge checker.old.standing checker.old.exchanges) checker.old.counts → IfSome (R.remaining input.old)
+    ensures { IsKept (nothing_judged options.is_joined) (seen_by checker.old.seen) checker.old.counts → IfSome (R.remaining input.old)
         (λ capture. CheckEnds options capture checker.new.counts result (W.contents out.old) (W.contents out.new)) }
 {
     match print(out, head_text(options.form)) {

@@ -9,37 +9,34 @@ ghost use Rattle.fw_check.specs.Summary.{line_time};
 
 use crate::asked::keep_asked;
 use crate::counts::{Counts, NOTHING};
-use crate::exchanges::{Exchanges, note_exchange, nothing_exchanged};
+use crate::exchanges::{note_exchange, nothing_exchanged};
 use crate::form::{put_act_lines, put_leaving};
 use crate::life::{Doer, first_doer};
+use crate::names::{put_missing, put_removal};
 use crate::options::CheckOptions;
 use crate::output::{OutputRefused, write_text};
 use crate::remains::Remains;
-use crate::standing::{
-    Standing, count_of_node, counted_nodes, note_acts, nothing_stands, open_files,
-};
+use crate::seen::{Seen, see_transfer};
+use crate::standing::{Standing, count_of_node, counted_nodes, nothing_stands, open_files};
 use crate::stop::Stop;
 use fuse_capture::{CaptureLine, read_line, read_transfer};
 use fuse_judge::SessionJudge;
 use fuse_sessions::{Act, Fault};
-use joined_judge::{see_as, start_judge};
+use joined_judge::start_judge;
+use name_judge::NameJudge;
 use std::alloc::{AllocError, Allocator, Global};
 use std::io::Write;
 
-/// What a check keeps of the lines before: the judge, what stands, and the counts. The buffers are kept so that few lines take memory.
+/// What a check keeps of the lines before: what was seen, and the counts. The buffers are kept so that few lines take memory.
 #[derive(Drop)]
 pub(crate) struct Checker<A: Allocator = Global> {
-    pub(crate) judge: SessionJudge<A>,
-    /// What stands of the session that the judge has seen.
-    pub(crate) standing: Standing<A>,
-    /// What the table of opcodes is made of; nothing where that is not asked for.
-    pub(crate) exchanges: Exchanges<A>,
+    pub(crate) seen: Seen<A>,
     pub(crate) counts: Counts,
     /// The frame of a line.
     pub(crate) frame: Vec<u8, A>,
-    /// The acts of its transfer.
+    /// The acts of its transfer, and behind them the one that takes a missing name away.
     pub(crate) acts: Vec<Act, A>,
-    /// The verdict on each act.
+    /// The verdict on each.
     pub(crate) verdicts: Vec<Option<Fault>, A>,
     /// What is printed of a line.
     pub(crate) text: Vec<u8, A>,
@@ -59,27 +56,31 @@ fn time_of(said: CaptureLine<'_>) -> Option<u64>
 /// first acts are, if the life of a node is asked for.
 fn judge_said<A: Allocator + Copy>(
     options: CheckOptions,
-    judge: &mut SessionJudge<A>,
-    standing: &mut Standing<A>,
-    exchanges: &mut Exchanges<A>,
+    seen: &mut Seen<A>,
     counts: &mut Counts,
     frame: &mut Vec<u8, A>,
     acts: &mut Vec<Act, A>,
     verdicts: &mut Vec<Option<Fault>, A>,
     said: CaptureLine<'_>,
 ) -> Result<Doer, AllocError>
-    ensures { IfOk result (λ doer. (j : Judged) → IsKept j (seen_by judge.old standing.old exchanges.old) counts.old
-        → IsJudgedBy options j said.entry acts.new.items verdicts.new.items (seen_by judge.new standing.new exchanges.new) counts.new doer) }
+    ensures { IfOk result (λ doer. (j : Judged) → IsKept j (seen_by seen.old) counts.old
+        → IsJudgedBy options j said.entry acts.new.items verdicts.new.items (seen_by seen.new) counts.new doer) }
 {
     let transfer = read_transfer(said, frame)?;
-    let doer = first_doer(options.node, judge, transfer);
-    see_as(judge, options.is_joined, transfer, acts, verdicts)?;
-    note_acts(standing, acts.as_slice())?;
-    note_exchange(options.is_summary, exchanges, transfer, time_of(said))?;
+    let doer = first_doer(options.node, &seen.judge, transfer);
+    let is_missing = see_transfer(seen, options.is_joined, transfer, acts, verdicts)?;
+    note_exchange(
+        options.is_summary,
+        &mut seen.exchanges,
+        transfer,
+        time_of(said),
+    )?;
+    put_missing(verdicts, is_missing)?;
     keep_asked(options.only, verdicts);
     match counts.after(transfer, acts.as_slice(), verdicts.as_slice()) {
         Some(more) => {
             *counts = more;
+            put_removal(acts, is_missing)?;
             Ok(doer)
         }
         None => Err(AllocError),
@@ -127,12 +128,15 @@ pub fn print<W: Write>(out: &mut W, text: &[u8]) -> Result<(), OutputRefused>
 impl<A: Allocator + Copy> Checker<A> {
     /// A check that has seen no line of a session, which is joined or begins.
     pub(crate) fn new(alloc: A, is_joined: bool) -> Self
-        ensures { IsKept (nothing_judged is_joined) (seen_by result.judge result.standing result.exchanges) result.counts }
+        ensures { IsKept (nothing_judged is_joined) (seen_by result.seen) result.counts }
     {
         Checker {
-            judge: start_judge(alloc, is_joined),
-            standing: nothing_stands(alloc),
-            exchanges: nothing_exchanged(alloc),
+            seen: Seen {
+                judge: start_judge(alloc, is_joined),
+                names: NameJudge::start(alloc, is_joined),
+                standing: nothing_stands(alloc),
+                exchanges: nothing_exchanged(alloc),
+            },
             counts: NOTHING,
             frame: Vec::new(alloc),
             acts: Vec::new(alloc),
@@ -149,17 +153,15 @@ impl<A: Allocator + Copy> Checker<A> {
         number: u64,
         said: CaptureLine<'_>,
     ) -> Result<(), AllocError>
-        ensures { OnOk result ((j : Judged) → IsKept j (seen_by self.old.judge self.old.standing self.old.exchanges) self.old.counts
-            → IsJudgedAs options j number said.entry self.new.acts.items self.new.verdicts.items (seen_by self.new.judge self.new.standing self.new.exchanges)
+        ensures { OnOk result ((j : Judged) → IsKept j (seen_by self.old.seen) self.old.counts
+            → IsJudgedAs options j number said.entry self.new.acts.items self.new.verdicts.items (seen_by self.new.seen)
             self.new.counts self.new.text.items) }
     {
-        let before = self.judge.unjudged();
-        let count = count_of_node(&self.standing, options.node);
+        let before = self.seen.judge.unjudged();
+        let count = count_of_node(&self.seen.standing, options.node);
         let doer = judge_said(
             options,
-            &mut self.judge,
-            &mut self.standing,
-            &mut self.exchanges,
+            &mut self.seen,
             &mut self.counts,
             &mut self.frame,
             &mut self.acts,
@@ -176,7 +178,7 @@ impl<A: Allocator + Copy> Checker<A> {
             self.acts.as_slice(),
             self.verdicts.as_slice(),
         )?;
-        let after = self.judge.unjudged();
+        let after = self.seen.judge.unjudged();
         put_leaving(&mut self.text, options.form, number, before, after)
     }
 
@@ -188,8 +190,8 @@ impl<A: Allocator + Copy> Checker<A> {
         said: CaptureLine<'_>,
         out: &mut W,
     ) -> Result<(), Stop>
-        ensures { (j : Judged) → IsKept j (seen_by self.old.judge self.old.standing self.old.exchanges) self.old.counts
-            → SaidEnds options j number said.entry (seen_by self.new.judge self.new.standing self.new.exchanges) self.new.counts result (W.contents out.old) (W.contents out.new) }
+        ensures { (j : Judged) → IsKept j (seen_by self.old.seen) self.old.counts
+            → SaidEnds options j number said.entry (seen_by self.new.seen) self.new.counts result (W.contents out.old) (W.contents out.new) }
     {
         if self.judge_line(options, number, said).is_err() {
             return Err(Stop::NoMemory);
@@ -208,9 +210,9 @@ impl<A: Allocator + Copy> Checker<A> {
         line: &[u8],
         out: &mut W,
     ) -> Result<(), Stop>
-        ensures { (lines : List (List ℕ)) (j : Judged) → Checks options lines j → IsKept j (seen_by self.old.judge self.old.standing self.old.exchanges) self.old.counts
+        ensures { (lines : List (List ℕ)) (j : Judged) → Checks options lines j → IsKept j (seen_by self.old.seen) self.old.counts
             → number ≡ length lines + 1
-            → LineEnds options lines j line.now (seen_by self.new.judge self.new.standing self.new.exchanges) self.new.counts result (W.contents out.old) (W.contents out.new) }
+            → LineEnds options lines j line.now (seen_by self.new.seen) self.new.counts result (W.contents out.old) (W.contents out.new) }
     {
         match read_line(line) {
             Ok(None) => Ok(()),

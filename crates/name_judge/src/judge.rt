@@ -2,7 +2,7 @@
 
 ghost use Rattle.std.specs.Prelude.{◌≡◌, ◌∷◌, ◌++◌, [], IfOk, OnOk, OnErr, List, false};
 ghost use Rattle.name_sessions.specs.NameActs.{NameAct, Unsure, Leaves};
-ghost use Rattle.name_sessions.specs.NameFrames.{AreNameActs, has_fault};
+ghost use Rattle.name_sessions.specs.NameFrames.{AreNameActs, has_fault, start_names};
 ghost use Rattle.name_sessions.specs.NameSessions.{NameSession, is_unsure};
 ghost use Rattle.name_judge.specs.Judged.{HasSeen};
 
@@ -36,6 +36,17 @@ impl<A: Allocator + Copy> NameJudge<A> {
             unsure: false,
             tables: Tables::new(alloc),
         }
+    }
+
+    /// A judge that has seen nothing of a session, which is joined or begins: of one that is joined nothing is certain.
+    pub fn start(alloc: A, is_joined: bool) -> Self
+        ensures { HasSeen (start_names is_joined) result }
+    {
+        let mut judge = NameJudge::new(alloc);
+        if is_joined {
+            judge.doubt();
+        }
+        judge
     }
 
     /// Nothing is certain from here on.

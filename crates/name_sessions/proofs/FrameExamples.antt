@@ -1,14 +1,16 @@
 -- Frames worked out: what replies say of names, and what a FORGET leaves.
 use Rattle.std.proofs.Common.{◌≡◌, ℕ, true, List, [], ◌∷◌, ◌++◌, Some, None, refl}
 use Rattle.std.specs.Prelude.{replicate}
+use Rattle.std.specs.List.{flat_map}
 use Rattle.fk_fields.specs.Fields.{number_at}
+use Rattle.fuse_sessions.specs.declared.act.Act.{Act}
 use Rattle.fuse_sessions.specs.declared.act.Act.TheVariants as act
 use Rattle.fuse_sessions.specs.declared.act.File.{File}
 use Rattle.fuse_sessions.specs.declared.act.Taken.TheVariants as taken
 use Rattle.name_sessions.specs.Names.{Name}
 use Rattle.name_sessions.specs.NameActs.{NamesAsked, Ends, Gives, Loses, Leaves}
 use Rattle.name_sessions.specs.ReplyNames.{written_acts}
-use Rattle.name_sessions.specs.NameFrames.{leaving}
+use Rattle.name_sessions.specs.NameFrames.{leaves}
 
 abbrev a : Name
 a = (1, 97 ∷ [])
@@ -69,12 +71,25 @@ of_no_names = refl
 abbrev directory : File
 directory = record { generation = 0; kind = 16384; ino = 2 }
 
-forgotten : leaving (act.Gives 2 directory true ∷ []) (act.Forgets 2 1) ≡ Leaves 2 ∷ []
+-- the session with a FORGET of one lookup
+abbrev forgotten_after : (given : List Act) → List Act
+forgotten_after given = given ++ act.Forgets 2 1 ∷ []
+
+forgotten : leaves (forgotten_after (act.Gives 2 directory true ∷ [])) (act.Forgets 2 1) ≡ Leaves 2 ∷ []
 forgotten = refl
 
 -- it was looked up once more
-forgotten_in_part : leaving (act.Gives 2 directory true ∷ act.Gives 2 directory true ∷ []) (act.Forgets 2 1) ≡ []
+forgotten_in_part : leaves (forgotten_after (act.Gives 2 directory true ∷ act.Gives 2 directory true ∷ [])) (act.Forgets 2 1)
+    ≡ []
 forgotten_in_part = refl
 
-the_root : leaving [] (act.Forgets 1 1) ≡ []
+the_root : leaves (act.Forgets 1 1 ∷ []) (act.Forgets 1 1) ≡ []
 the_root = refl
+
+-- a BATCH_FORGET of a node in two parts, of which each leaves it
+abbrev parts : List Act
+parts = act.Forgets 2 1 ∷ act.Forgets 2 1 ∷ []
+
+forgotten_in_parts : flat_map (leaves (act.Gives 2 directory true ∷ act.Gives 2 directory true ∷ parts)) parts
+    ≡ Leaves 2 ∷ Leaves 2 ∷ []
+forgotten_in_parts = refl

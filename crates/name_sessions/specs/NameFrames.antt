@@ -1,9 +1,11 @@
 -- What went over a device, as name acts.
-use Rattle.std.specs.Prelude.{◌≡◌, ◌⊎◌, ℕ, Bool, false, ◌||◌, ◌&&◌, not, List, [], ◌∷◌, ◌++◌, nat_eq, if◌then◌else◌}
+use Rattle.std.specs.Prelude.{◌≡◌, ◌⊎◌, ℕ, Bool, true, false, MatchOption, ◌||◌, ◌&&◌, not, List, [], ◌∷◌, ◌++◌, nat_eq, if◌then◌else◌}
+use Rattle.std.specs.List.{flat_map}
 use Rattle.fuse_protocol.specs.declared.agreed.Agreed.{Agreed}
 use Rattle.fuse_sessions.specs.declared.act.Act.{Act}
 use Rattle.fuse_sessions.specs.declared.act.Act.TheVariants.{Forgets}
 use Rattle.fuse_sessions.specs.declared.act.Taken.{Taken}
+use Rattle.fuse_sessions.specs.declared.known.Known.{Known}
 use Rattle.fuse_sessions.specs.declared.transfer.Transfer.{Transfer}
 use Rattle.fuse_sessions.specs.declared.transfer.Transfer.TheVariants as transfer
 use Rattle.fuse_sessions.specs.Counts.{most_count}
@@ -37,8 +39,23 @@ abbrev pub has_fault : NameSession → List NameAct → Bool
 has_fault s [] = false
 has_fault s (act ∷ acts) = is_fault s act || has_fault (s ++ act ∷ []) acts
 
--- What an act says to the judge of names: a FORGET of the last lookup of a node, but the root, leaves nothing of it.
-abbrev pub leaving : Session → Act → List NameAct
-leaving s (Forgets node lookups) =
-    if not (nat_eq node 1) && nat_eq (most_count (s ++ Forgets node lookups ∷ []) node) 0 then Leaves node ∷ [] else []
-leaving s act = []
+-- A FORGET after which a node has no lookup leaves nothing of it, but of the root. `later` is the session with the
+-- transfer.
+abbrev pub leaves : (later : Session) → Act → List NameAct
+leaves later (Forgets node lookups) =
+    if not (nat_eq node 1) && nat_eq (most_count later node) 0 then Leaves node ∷ [] else []
+leaves later act = []
+
+-- One transfer more, by what was known before it: its name acts, and behind them what its forgets leave. Of a session that
+-- is not judged any more no name is.
+abbrev pub AreNamesAfter : Known → NameSession → Session → Transfer → List Act → (after : NameSession)
+    → (is_missing : Bool) → Type 0
+AreNamesAfter k names s t acts after is_missing = MatchOption k.unjudged
+    ((said : List NameAct) × AreNameActs k.agreed names t said × (is_missing ≡ has_fault names said)
+    × (after ≡ names ++ (said ++ flat_map (leaves (s ++ acts)) acts)))
+    (λ why. (is_missing ≡ false) × (after ≡ names))
+
+-- Of a session that is joined nothing is certain.
+abbrev pub start_names : (is_joined : Bool) → NameSession
+start_names true = Unsure ∷ []
+start_names false = []

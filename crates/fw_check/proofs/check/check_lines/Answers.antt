@@ -7,7 +7,7 @@ use Rattle.fw_check.proofs.check.check_lines.Goals as goal
 pub loop-number-init : goal.loop-number-init
 loop-number-init g c had begun kept =
     at_start c.args.options (g.R.Read.remaining c.args.input.now) had (g.W.Write.contents c.args.out.now)
-    (seen_by c.args.checker.now.judge c.args.checker.now.standing c.args.checker.now.exchanges) c.args.checker.now.counts begun kept
+    (seen_by c.args.checker.now.seen) c.args.checker.now.counts begun kept
 
 pub returns : goal.returns
 returns g c had begun kept =
@@ -15,10 +15,10 @@ returns g c had begun kept =
     let left = g.R.Read.remaining c.loop-number.input in
     let has = g.W.Write.contents c.loop-number.out in
     map_some
-    (λ capture. IsUpTo c.args.options capture left c.loop-number.number (seen_by c.loop-number.checker.judge c.loop-number.checker.standing c.loop-number.checker.exchanges)
+    (λ capture. IsUpTo c.args.options capture left c.loop-number.number (seen_by c.loop-number.checker.seen)
     c.loop-number.checker.counts had has)
     (λ capture. StopsIn c.args.options capture NoMemory had has) known
-    (λ capture upto. next_unread c.args.options capture left left c.loop-number.number (seen_by c.loop-number.checker.judge c.loop-number.checker.standing c.loop-number.checker.exchanges)
+    (λ capture upto. next_unread c.args.options capture left left c.loop-number.number (seen_by c.loop-number.checker.seen)
     c.loop-number.checker.counts had has upto NoMemory (inr refl))
     (c.loop-number.invariant had begun kept)
 
@@ -26,8 +26,8 @@ pub loop-number-preserved : goal.loop-number-preserved
 loop-number-preserved g c had begun kept =
     let o = c.args.options in
     let known = g.R.Read.remaining c.args.input.now in
-    let before = seen_by c.loop-number.checker.judge c.loop-number.checker.standing c.loop-number.checker.exchanges in
-    let after = seen_by c.check_next.new.checker.judge c.check_next.new.checker.standing c.check_next.new.checker.exchanges in
+    let before = seen_by c.loop-number.checker.seen in
+    let after = seen_by c.check_next.new.checker.seen in
     let left = g.R.Read.remaining c.check_next.new.input in
     let has = g.W.Write.contents c.check_next.new.out in
     let n = c.loop-number.number in

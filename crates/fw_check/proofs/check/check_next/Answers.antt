@@ -11,8 +11,8 @@ returns-in-Ok-check_line g c capture had upto =
     let mid = g.W.Write.contents c.args.out.now in
     let taken = subst (λ (l : List ℕ). IfSome known (λ bytes. IsTaken bytes c.in-Ok.is_more l left))
     (sym c.as_slice.ensures.value) c.in-Ok.ensures.taken in
-    next_done c.args.options capture known left c.args.number (seen_by c.args.checker.now.judge c.args.checker.now.standing c.args.checker.now.exchanges) c.args.checker.now.counts had mid upto
-    c.in-Ok.is_more c.as_slice.result.now (seen_by c.check_line.new.self.judge c.check_line.new.self.standing c.check_line.new.self.exchanges) c.check_line.new.self.counts
+    next_done c.args.options capture known left c.args.number (seen_by c.args.checker.now.seen) c.args.checker.now.counts had mid upto
+    c.in-Ok.is_more c.as_slice.result.now (seen_by c.check_line.new.self.seen) c.check_line.new.self.counts
     (g.W.Write.contents c.check_line.new.out) taken
     (c.in-Ok-check_line.ensures upto.done upto.judged upto.checks upto.kept upto.count)
 
@@ -23,7 +23,7 @@ returns-in-Err-check_line g c capture had upto =
     let mid = g.W.Write.contents c.args.out.now in
     let taken = subst (λ (l : List ℕ). IfSome known (λ bytes. IsTaken bytes c.in-Ok.is_more l left))
     (sym c.as_slice.ensures.value) c.in-Ok.ensures.taken in
-    next_stopped c.args.options capture known left c.args.number (seen_by c.args.checker.now.judge c.args.checker.now.standing c.args.checker.now.exchanges) c.args.checker.now.counts had mid upto
-    c.in-Ok.is_more c.as_slice.result.now (seen_by c.check_line.new.self.judge c.check_line.new.self.standing c.check_line.new.self.exchanges) c.check_line.new.self.counts
+    next_stopped c.args.options capture known left c.args.number (seen_by c.args.checker.now.seen) c.args.checker.now.counts had mid upto
+    c.in-Ok.is_more c.as_slice.result.now (seen_by c.check_line.new.self.seen) c.check_line.new.self.counts
     (g.W.Write.contents c.check_line.new.out) c.in-Err-check_line.stop taken
     (c.in-Err-check_line.ensures upto.done upto.judged upto.checks upto.kept upto.count)

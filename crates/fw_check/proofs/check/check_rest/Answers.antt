@@ -6,7 +6,7 @@ pub returns-in-Ok : goal.returns-in-Ok
 returns-in-Ok g c had begun kept =
     let mid = g.W.Write.contents c.check_lines.new.out in
     let has = g.W.Write.contents c.print_end.new.out in
-    let judge = seen_by c.check_lines.new.checker.judge c.check_lines.new.checker.standing c.check_lines.new.checker.exchanges in
+    let judge = seen_by c.check_lines.new.checker.seen in
     let counts = c.check_lines.new.checker.counts in
     map_some (λ capture. AllChecked c.args.options capture judge counts had mid)
     (λ capture. CheckEnds c.args.options capture counts c.print_end.result had has)
