@@ -56,6 +56,10 @@ const FORGET: &str =
 const FORGET_THREE: &str =
     "> 300000000200000006000000000000000700000000000000000000000000000000000000000000000300000000000000";
 
+/// UNLINK 4 of the name `a` in the root.
+const UNLINK: &str =
+    "> 2a0000000a00000004000000000000000100000000000000000000000000000000000000000000006100";
+
 /// Everybody's faults.
 const EVERYONE: CheckOptions = CheckOptions {
     only: None,
@@ -86,6 +90,16 @@ const OF_OPCODES: CheckOptions = CheckOptions {
     is_joined: false,
 };
 
+/// The certain faults of a session that is joined.
+const OF_A_REST: CheckOptions = CheckOptions {
+    only: None,
+    form: CheckForm::Words,
+    node: None,
+    is_summary: false,
+    is_strict: false,
+    is_joined: true,
+};
+
 /// A capture, and what is printed of it.
 #[derive(Clone, Copy)]
 struct Row {
@@ -97,7 +111,7 @@ struct Row {
     faults: &'static str,
 }
 
-static ROWS: [Row; 13] = [
+static ROWS: [Row; 14] = [
     // A session with no fault: comments and the server's end are no transfers.
     Row {
         lines: &[
@@ -166,6 +180,14 @@ static ROWS: [Row; 13] = [
         output: "line 4: device: read after the end\nrequests 2 replies 1 notifications 0 refused 0 unanswered 1 entries 0 forgotten 0 nodes 0 open 0\nfaults: kernel 0 server 0 device 1, warnings 0\n",
         faults: "",
     },
+    // No reply gave the name a file.
+    Row {
+        lines: &[INIT, ANSWER, UNLINK],
+        feed: "\n",
+        status: 6,
+        output: "line 3: kernel: removal of a name that is missing: UNLINK 4\nrequests 2 replies 1 notifications 0 refused 0 unanswered 1 entries 0 forgotten 0 nodes 0 open 0\nfaults: kernel 1 server 0 device 0, warnings 0\n",
+        faults: "",
+    },
     // Frames of 7.8 are not judged: this one comes twice, and gives a node.
     Row {
         lines: &[INIT, OLD_ANSWER, LOOKUP, ENTRY, UNASKED_ENTRY],
@@ -219,6 +241,15 @@ const LIFE: Row = Row {
     feed: "\n",
     status: 6,
     output: "line 4: LOOKUP 4 gives node 7: count 1\nline 5: FORGET 6 forgets node 7: lookups 3 count 0\nrequests 3 replies 2 notifications 0 refused 0 unanswered 0 entries 1 forgotten 3 nodes 0 open 0\nfaults: kernel 1 server 0 device 0, warnings 0\n",
+    faults: "",
+};
+
+/// A removal in a session that is joined: the name may have been given before.
+const JOINED: Row = Row {
+    lines: &[UNLINK],
+    feed: "\n",
+    status: 0,
+    output: "requests 1 replies 0 notifications 0 refused 0 unanswered 1 entries 0 forgotten 0 nodes 0 open 0\nfaults: kernel 0 server 0 device 0, warnings 0\n",
     faults: "",
 };
 
@@ -278,6 +309,12 @@ fn life_of_a_node(rt: HostRuntime) -> Result<(), Fail> {
 }
 
 #[test]
+fn a_session_that_is_joined(rt: HostRuntime) -> Result<(), Fail> {
+    assert!(rt; is_right(rt.alloc(), OF_A_REST, JOINED)?);
+    Ok(())
+}
+
+#[test]
 fn table_of_opcodes(rt: HostRuntime) -> Result<(), Fail> {
     assert!(rt; is_right(rt.alloc(), OF_OPCODES, TIMES)?);
     Ok(())
@@ -325,7 +362,11 @@ fn refused_growths(
 
 #[test]
 fn each_growth_refused(rt: HostRuntime) -> Result<(), Fail> {
-    for (options, row) in [(EVERYONE, ROWS[3]), (OF_OPCODES, TIMES)] {
+    for (options, row) in [
+        (EVERYONE, ROWS[3]),
+        (EVERYONE, ROWS[7]),
+        (OF_OPCODES, TIMES),
+    ] {
         let runs = refused_growths(rt.alloc(), options, row)?.unwrap_or(0);
         assert!(rt; 5 < runs && runs < 200, "{runs}");
     }
