@@ -35,6 +35,19 @@ abbrev pub is_of_bodies : Fault → Bool
 is_of_bodies fault.BodyOfAnotherRequest = true
 is_of_bodies f = false
 
+-- A reply says of a WRITE that more was written than it has.
+abbrev pub is_of_counts : Fault → Bool
+is_of_counts fault.MoreThanWasAsked = true
+is_of_counts f = false
+
+-- An entry is of no node, or of the root, or its file is of no kind, or of another than its request makes.
+abbrev pub is_of_entries : Fault → Bool
+is_of_entries fault.EntryOfTheRoot = true
+is_of_entries fault.EntryOfNoNode = true
+is_of_entries fault.EntryOfNoKind = true
+is_of_entries fault.EntryOfAnotherKind = true
+is_of_entries f = false
+
 -- ---- faults of a kernel that a group asks it not to have
 
 abbrev pub is_nothing : Fault → Bool
