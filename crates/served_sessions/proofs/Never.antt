@@ -1,6 +1,8 @@
 -- No session of exchanges shows a fault of the groups, and so no session of a server.
-use Rattle.std.proofs.Common.{◌≡◌, arith, ℕ, Bool, true, List, [], ◌++◌, Some, refl, sym, subst}
+use Rattle.std.proofs.Common.{◌≡◌, arith, ℕ, Bool, true, false, List, [], ◌++◌, Some, refl, sym, subst}
 use Rattle.std.proofs.lemmas.Bool.{false≢true}
+use Rattle.fuse_spec.specs.Server.Server.{Server}
+use Rattle.fuse_theorem.proofs.Lookups.RowCounts.{count_of}
 use Rattle.fuse_device.specs.Transfers.{Transfer}
 use Rattle.fuse_protocol.specs.declared.init.InitRequest.{InitRequest}
 use Rattle.fuse_sessions.specs.declared.act.Act.{Act}
@@ -12,10 +14,11 @@ use Rattle.fuse_sessions.specs.Sessions.{Session}
 use Rattle.fuse_sessions.specs.Frames.{AreRequestActs, IsOffered, nothing_known}
 use Rattle.served_sessions.specs.Exchanges.{AreExchangesBy, IsAnswer}
 use Rattle.served_sessions.specs.Entries.{IsSoundAnswer}
-use Rattle.served_sessions.specs.Groups.{HasNumber, IsAny, IsNoNotifyReply, is_of_bodies, is_of_counts, is_of_entries, is_of_heads, is_of_notices, is_of_numbers, is_of_flags, is_nothing, is_of_second_init, is_of_interrupts}
+use Rattle.served_sessions.specs.Groups.{HasFewForgets, HasNumber, IsAny, IsNoNotifyReply, is_of_bodies, is_of_counts, is_of_entries, is_of_generations, is_of_heads, is_of_notices, is_of_numbers, is_of_flags, is_nothing, is_of_second_init, is_of_interrupts}
 use Rattle.served_sessions.specs.Served.{FreshNeverAccused, IsFreeOf, NeverAccused}
 use Rattle.served_sessions.proofs.Acts.{is_of_frames}
 use Rattle.served_sessions.proofs.Free.{free_if, never_at, AreFree}
+use Rattle.served_sessions.proofs.Generations.{trace_free}
 use Rattle.served_sessions.proofs.Heads.{heads_keep, heads_within, notices_keep, notices_within, flags_keep, flags_within}
 use Rattle.served_sessions.proofs.Numbering.{numbers_keep, numbers_within}
 use Rattle.served_sessions.proofs.Bodied.{bodies_keep, bodies_within}
@@ -24,6 +27,8 @@ use Rattle.served_sessions.proofs.Entered.{entries_keep, entries_within}
 use Rattle.served_sessions.proofs.Exchanged.{exchanges, sound_exchanges}
 use Rattle.served_sessions.proofs.Kept.{Kept}
 use Rattle.served_sessions.proofs.Sessions.{exchanges_free}
+use Rattle.served_sessions.proofs.Traced.{traces}
+use Rattle.served_sessions.proofs.Tracked.{Tracks}
 use Rattle.served_sessions.proofs.Written.{Keeps}
 
 kept_first : (even : Bool) → Kept even nothing_known []
@@ -86,3 +91,13 @@ counts_never = never_accused is_of_counts is_nothing counts_within IsAny counts_
 pub entries_never : FreshNeverAccused is_of_entries is_nothing IsAny
 entries_never old log new serves mounted = never is_of_entries is_nothing entries_within IsAny IsSoundAnswer
     (λ request reply answer. answer.answers) entries_keep log (sound_exchanges old mounted log new serves)
+
+-- before anything nothing is counted
+tracks_first : (s : Server) → Tracks s.nodes (λ n. count_of s.nodes n) []
+tracks_first s = record { counts = λ n low. omega arith; held = λ n f low some is. absurd (omega (arith, some)) }
+
+pub generations_never : FreshNeverAccused is_of_generations is_nothing HasFewForgets
+generations_never old log new serves mounted such ts said k s is keeps place f has of =
+    let ends = trace_free k s old new log (traces old mounted log new serves) ts said such nothing_known [] (kept_first false)
+    (tracks_first old) is in
+    never_at is_of_generations [] s (subst (AreFree is_of_generations []) (sym ends.all_is) ends.free) place f has of

@@ -30,7 +30,7 @@ extends k s (t ∷ ts) later all (acts, next, are, leads) =
     let more : (rest : List Act) × (all ≡ s ++ acts ++ rest) = extends next (s ++ acts) ts later all leads in
     (acts ++ more.0, more.1 ∙ append_assoc s acts more.0)
 
-by_judged : (Goal : Type 0) (o : Option Unjudged) (P : Type 0) (R : Unjudged → Type 0) → (o ≡ None → P → Goal)
+pub by_judged : (Goal : Type 0) (o : Option Unjudged) (P : Type 0) (R : Unjudged → Type 0) → (o ≡ None → P → Goal)
     → ((why : Unjudged) → o ≡ Some why → R why → Goal) → MatchOption o P R → Goal
 by_judged Goal None P R judged unjudged is = judged refl is
 by_judged Goal (Some why) P R judged unjudged is = unjudged why refl is

@@ -1,4 +1,4 @@
-use Rattle.served_sessions.proofs.Never.{bodies_never, counts_never, entries_never, flags_never, heads_never, notices_never, numbers_never}
+use Rattle.served_sessions.proofs.Never.{bodies_never, counts_never, entries_never, flags_never, generations_never, heads_never, notices_never, numbers_never}
 use Rattle.served_sessions.proofs.never_accused.served_is_unaccused.Goals as goal
 
 pub returns : goal.returns
@@ -10,4 +10,5 @@ returns c = λ old log new serves. record {
   bodies = bodies_never old log new serves;
   counts = counts_never old log new serves;
   entries = entries_never old log new serves;
+  generations = generations_never old log new serves;
 }
