@@ -84,7 +84,6 @@ HasNumber frame = unique_in frame ≢ 0
 abbrev pub IsNoNotifyReply : List ℕ → Type 0
 IsNoNotifyReply frame = opcode_in frame ≢ 41
 
--- A BATCH_FORGET has 64 pairs at most. The server takes a longer one in parts: whether it could be accused then is not
--- known, but of more bytes than a request may have, which the definitions do not count.
+-- A BATCH_FORGET has 64 pairs at most, which the server takes at once. Whether the law needs that is not known.
 abbrev pub HasFewForgets : List ℕ → Type 0
 HasFewForgets frame = opcode_in frame ≡ 42 → length frame ≤ 1072
