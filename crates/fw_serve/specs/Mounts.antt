@@ -28,5 +28,5 @@ pub record ServesFrom {D : Type 0} (logs : D → D → List Transfer → Type 0)
     : Type 0 where
   pub end : Option DeviceEnd
   pub last : Server
-  pub served : GoesOver logs old new end (λ log. IsServed first log last × IsUnaccused log)
+  pub served : GoesOver logs old new end (λ log. IsServed first log last × IsUnaccused first log)
   pub stopped : status ≡ end_status_of end

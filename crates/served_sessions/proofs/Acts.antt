@@ -1,5 +1,5 @@
 -- The acts that are beside the frames of a server: by none of them is one of these faults shown.
-use Rattle.std.proofs.Common.{◌≡◌, ◌≢◌, ℕ, Bool, true, false, not, ◌&&◌, ◌||◌, codes, List, [], ◌∷◌, ◌++◌, Option, Some, None, refl, sym, ◌∙◌, ap, subst, map, flat_map, nat_eq, nat_lt, nat_le, ◌^◌, if◌then◌else◌}
+use Rattle.std.proofs.Common.{◌≡◌, ℕ, Bool, true, false, not, ◌&&◌, List, [], ◌∷◌, ◌++◌, Option, Some, None, refl, sym, ◌∙◌, ap, nat_eq, nat_le, ◌^◌, if◌then◌else◌}
 use Rattle.std.specs.List.{list_all}
 use Rattle.std.proofs.lemmas.Bool.{and_from, and_parts}
 use Rattle.fuse_protocol.specs.declared.init.InitRequest.{InitRequest}
@@ -10,11 +10,6 @@ use Rattle.fuse_protocol.specs.declared.request.OpenHandle.TheVariants as handle
 use Rattle.fuse_protocol.specs.Pairs.{pairs_of_row}
 use Rattle.fuse_protocol.specs.Requests.{RequestMessage}
 use Rattle.fuse_protocol.specs.Table.{row_at}
-use Rattle.fuse_replies.specs.declared.entry.Entry.{Entry}
-use Rattle.fuse_replies.specs.Record.{EntryRecordContent}
-use Rattle.fuse_replies.specs.Records.{entry_records_from}
-use Rattle.fuse_replies.specs.Replies.{AnswerContent}
-use Rattle.fuse_replies.specs.Replies as answer
 use Rattle.fuse_sessions.specs.declared.act.Act.{Act}
 use Rattle.fuse_sessions.specs.declared.act.Act.TheVariants as act
 use Rattle.fuse_sessions.specs.declared.act.Asked.{Asked}
@@ -27,13 +22,12 @@ use Rattle.fuse_sessions.specs.declared.act.Taken.TheVariants as taken
 use Rattle.fuse_sessions.specs.declared.fault.Fault.{Fault}
 use Rattle.fuse_sessions.specs.declared.fault.Fault.TheVariants as fault
 use Rattle.fuse_sessions.specs.Sessions.{Session}
-use Rattle.fuse_sessions.specs.Warnings.{listing_acts, missing_acts, is_offset, last_behind, repeats_behind, is_of_node, is_missing}
-use Rattle.fuse_sessions.specs.RequestActs.{request_acts, doing, asking, asked_of, resent, naming, using, releasing, writing, forgets_in, is_name}
+use Rattle.fuse_sessions.specs.RequestActs.{request_acts, doing, asking, asked_of, resent, naming, using, releasing, writing, forgets_in}
 use Rattle.fuse_sessions.specs.UnreadRequests.{unread_acts, malformed, asking_unread, may_be_known, has_header, takes_no_reply, opcode_in}
-use Rattle.fuse_sessions.specs.ReplyActs.{answer_acts, entry_acts, gift_acts, kind_acts, root_acts, record_acts, opening, opening_none, failed_acts, counting, is_kind, is_made, is_opened, may_be_missing, kind_of}
 use Rattle.fuse_sessions.specs.Faults.{BreaksArrival, BreaksBeginning, BreaksForget, BreaksGift, BreaksAttributes, BreaksInterrupt, BreaksName, BreaksNumber, BreaksRelease, BreaksResent, BreaksTaking, BreaksUse, BreaksWrite, WarnsOfError, WarnsOfMissing, WarnsOfOpening, Breaks}
 
--- the faults that a frame of a server shows by its header, by its number, by its shape, and by what INIT's reply agrees on
+-- the faults that a frame of a server shows by its header, by its number, by its shape, by what INIT's reply agrees on, and
+-- by what else it says for itself
 abbrev pub is_of_frames : Fault → Bool
 is_of_frames fault.MalformedReply = true
 is_of_frames fault.MalformedNotification = true
@@ -44,6 +38,11 @@ is_of_frames fault.ReplyToNoInterrupt = true
 is_of_frames fault.InitOfAnotherVersion = true
 is_of_frames fault.FlagsThatWereNotOffered = true
 is_of_frames fault.BodyOfAnotherRequest = true
+is_of_frames fault.MoreThanWasAsked = true
+is_of_frames fault.EntryOfTheRoot = true
+is_of_frames fault.EntryOfNoNode = true
+is_of_frames fault.EntryOfNoKind = true
+is_of_frames fault.EntryOfAnotherKind = true
 is_of_frames f = false
 
 -- an act that is no reply, and no such fault of a frame
@@ -284,98 +283,3 @@ pub unread_beside : (offered : Option InitRequest) (bytes : List ℕ) → AreBes
 unread_beside offered bytes = each_of is_beside (malformed offered bytes) (asking_unread bytes)
     (plain_are_beside (malformed offered bytes) (malformed_plain offered bytes))
     (either is_beside (has_header bytes && not (takes_no_reply (opcode_in bytes))) _ [] refl refl)
-
--- ---- and those of what a reply says
-
--- an act of what a reply says
-abbrev pub is_told : Act → Bool
-is_told (act.Faulty f) = not (is_of_frames f)
-is_told (act.Agrees max_write) = true
-is_told (act.Gives node file certain) = true
-is_told (act.Describes node kind ino) = true
-is_told (act.Missing node errno) = true
-is_told (act.Opens file) = true
-is_told (act.OpensNone kind) = true
-is_told a = false
-
-told_beside : (a : Act) → is_told a ≡ true → is_beside a ≡ true
-told_beside (act.Faulty f) is = is
-told_beside (act.Replies unique t) is = is
-told_beside (act.RepliesToInterrupt original again t) is = is
-told_beside a is = refl
-
-pub told_are_beside : (acts : List Act) → list_all is_told acts ≡ true → list_all is_beside acts ≡ true
-told_are_beside [] is = refl
-told_are_beside (a ∷ acts) is =
-    let both = and_parts (is_told a) (list_all is_told acts) is in
-    and_from (is_beside a) (list_all is_beside acts) (told_beside a both.0) (told_are_beside acts both.1)
-
-abbrev AreTold : List Act → Type 0
-AreTold acts = list_all is_told acts ≡ true
-
-fails : (o : Opcode) → AreTold (opening_none o)
-fails op.Open = refl
-fails op.Opendir = refl
-fails o = refl
-
-failed_told : (o : Opcode) (node errno : ℕ) → AreTold (failed_acts o node errno)
-failed_told o node errno =
-    let opened : List Act = if nat_eq errno 38 then opening_none o else [] in
-    each_of is_told opened (missing_acts o node errno)
-    (either is_told (nat_eq errno 38) (opening_none o) [] (fails o) refl)
-    (either is_told (is_of_node o && is_missing errno) _ [] refl refl)
-
-kind_told : (a : Asked) (e : Entry) → AreTold (kind_acts a e)
-kind_told a e = either is_told (is_kind (kind_of e.attributes)) _ _ (either is_told (is_made a e) [] _ refl refl) refl
-
-gift_told : (certain : Bool) (a : Asked) (e : Entry) → AreTold (gift_acts certain a e)
-gift_told certain a e = each_of is_told (kind_acts a e) _ (kind_told a e) refl
-
-entry_told : (certain : Bool) (o : Opcode) (a : Asked) (e : Entry) → AreTold (entry_acts certain o a e)
-entry_told certain o a e = either is_told (nat_eq e.nodeid 1) (root_acts a) _ (either is_told a.is_dots [] _ refl refl)
-    (either is_told (nat_eq e.nodeid 0) _ _ (either is_told (may_be_missing o) [] _ refl refl) (gift_told certain a e))
-
-opening_told : (o : Opcode) (node fh : ℕ) → AreTold (opening o node fh)
-opening_told op.Open node fh = refl
-opening_told op.Opendir node fh = refl
-opening_told op.Create node fh = refl
-opening_told op.Tmpfile node fh = refl
-opening_told o node fh = refl
-
-counting_told : (o : Opcode) (said most : ℕ) → AreTold (counting o said most)
-counting_told op.Write said most = either is_told (nat_lt most said) _ [] refl refl
-counting_told op.CopyFileRange said most = either is_told (nat_lt most said) _ [] refl refl
-counting_told op.CopyFileRange64 said most = either is_told (nat_lt most said) _ [] refl refl
-counting_told o said most = refl
-
-listing_told : (asked : ℕ) (offsets : List ℕ) → AreTold (listing_acts asked offsets)
-listing_told asked offsets =
-    let twice : List Act = act.Faulty fault.OffsetGivenTwice ∷ [] in
-    let endless : List Act = act.Faulty fault.ListingWithoutEnd ∷ [] in
-    let ends : Bool = is_offset asked (last_behind None offsets) in
-    each_of is_told (if repeats_behind None offsets then twice else []) (if ends then endless else [])
-    (either is_told (repeats_behind None offsets) twice [] refl refl) (either is_told ends endless [] refl refl)
-
-record_told : (certain : Bool) (a : Asked) (r : EntryRecordContent) → AreTold (record_acts certain a r)
-record_told certain a r = either is_told (is_name r.said.name (codes ".") || is_name r.said.name (codes "..")) []
-    (entry_acts certain op.Readdirplus a r.entry) refl (entry_told certain op.Readdirplus a r.entry)
-
-pub records_told : (certain : Bool) (a : Asked) (rs : List EntryRecordContent)
-    → AreTold (flat_map (record_acts certain a) rs)
-records_told certain a [] = refl
-records_told certain a (r ∷ rs) =
-    each_of is_told (record_acts certain a r) _ (record_told certain a r) (records_told certain a rs)
-
-pub answer_told : (o : Opcode) (a : Asked) (content : AnswerContent) → AreTold (answer_acts o a content)
-answer_told o a (answer.failed errno) = failed_told o a.nodeid errno
-answer_told o a (answer.entry e) = entry_told true o a e
-answer_told o a (answer.attributes v) = refl
-answer_told o a (answer.opened file) = opening_told o a.nodeid file.handle
-answer_told o a (answer.created e file) = each_of is_told (entry_acts true o a e) _ (entry_told true o a e)
-    (either is_told (is_opened a e) (opening o e.nodeid file.handle) [] (opening_told o e.nodeid file.handle) refl)
-answer_told o a (answer.number n) = counting_told o n a.writes
-answer_told o a (answer.records rs) = listing_told a.lists_from (map (λ r. r.off) rs)
-answer_told o a (answer.entry_records rs) = each_of is_told (flat_map (record_acts true a) rs) _
-    (records_told true a rs) (listing_told a.lists_from (map (λ r. r.said.off) rs))
-answer_told o a (answer.init i) = refl
-answer_told o a other = refl

@@ -1,23 +1,24 @@
 -- What is sent behind a frame that is served answers it.
-use Rattle.std.proofs.Common.{◌≡◌, ◌≢◌, ◌≤◌, ◌⊎◌, inl, inr, ℕ, zero, suc, map, ℤ, pos, negsuc, ◌-◌, ◌||◌, Bool, true, false, cond, List, [], ◌∷◌, length, Option, Some, None, refl, sym, ◌∙◌, ap, subst, bit_and, nat_eq, arith, rules}
-use Rattle.std.proofs.lemmas.Bool.{true≢false, false≢true, or_parts}
-use Rattle.std.specs.Int.{cast_unsigned, w32}
+use Rattle.std.proofs.Common.{◌≡◌, ◌≢◌, ◌≤◌, ◌⊎◌, inl, inr, ℕ, zero, suc, map, ℤ, negsuc, ◌-◌, Bool, true, false, cond, List, [], ◌∷◌, length, Option, Some, None, refl, sym, ◌∙◌, ap, subst, subst₂, bit_and, nat_eq, arith, rules}
+use Rattle.std.proofs.lemmas.Bool.{true≢false, false≢true}
+use Rattle.std.proofs.lemmas.List.Elements.{All-nil}
+use Rattle.fuse_spec.specs.declared.Entry.{Entry}
+use Rattle.fuse_spec.specs.declared.WriteResult.TheVariants.{Accepted}
 use Rattle.fuse_spec.specs.declared.Minor.{Minor}
-use Rattle.fuse_spec.specs.declared.Opened.{Opened}
 use Rattle.fuse_spec.specs.declared.Refusal.{Refusal}
 use Rattle.fuse_spec.specs.declared.Refusal.TheVariants.{NoMemory}
-use Rattle.fuse_spec.specs.declared.Taken.{Taken}
-use Rattle.fuse_spec.specs.declared.Taken.TheVariants.{Held, Forgot, Marked, Ignored, Again}
-use Rattle.fuse_spec.specs.declared.WriteResult.{WriteResult}
-use Rattle.fuse_spec.specs.Values.Maps.{get, put, remove}
+use Rattle.fuse_spec.specs.declared.Taken.TheVariants.{Held}
+use Rattle.fuse_spec.specs.Values.Maps.{get, remove}
 use Rattle.fuse_spec.specs.Values.Numbers.{eagain, eintr, eio}
 use Rattle.fuse_spec.specs.Files.Operations as operation
 use Rattle.fuse_spec.specs.Files.Operations.{Operation, agreed, failed}
 use Rattle.fuse_spec.specs.Kernel.Messages.{Request, RequestBody, WireReply, init, asks, release, forget, batch_forget, interrupt}
 use Rattle.fuse_spec.specs.Server.Memory.{word_takes_memory}
-use Rattle.fuse_spec.specs.Server.Performs.{flags_known, init_reply, is_still_held, minor_number, performed, performing, served}
+use Rattle.fuse_spec.specs.Server.Performs.{init_reply, is_still_held, minor_number, performed, performing, served}
 use Rattle.fuse_spec.specs.Server.Server.{HeldRequest, Kept, Server, generation_in, holding, nodes_of_body}
-use Rattle.fuse_spec.specs.Server.Nodes.{row_of}
+use Rattle.fuse_spec.specs.Server.Nodes.{NodeTable, row_of}
+use Rattle.fuse_theorem.specs.Lookups.{IsHeldAs}
+use Rattle.fuse_theorem.proofs.Lookups.RowCounts.{count_of}
 use Rattle.fuse_spec.specs.Server.Taking.{interrupting, taking}
 use Rattle.fuse_spec.specs.World.Worlds.{Sent}
 use Rattle.fuse_spec.proofs.Tables.{get_put_here}
@@ -29,29 +30,33 @@ use Rattle.fk_wire.specs.Opcodes.{code_of, reply_kind_of, shape_of}
 use Rattle.fk_wire.specs.Replies.{WrittenReply, empty_reply, kind_of_content}
 use Rattle.fk_wire.specs.Requests.{RequestContent, known_flags, opcode_of}
 use Rattle.fk_wire.specs.Requests as wire
-use Rattle.fuse_frames.specs.ReplyTies.{Framed, IsReplyFrame, SaysReply, message_of, reply_content_of}
+use Rattle.fuse_frames.specs.ReplyTies.{reply_content_of}
 use Rattle.fuse_frames.specs.RequestTies.{SaysRequest, asked_opcode}
-use Rattle.fuse_device.specs.Transfers.{Transfer, sent, unsent}
+use Rattle.fuse_device.specs.Transfers.{Transfer, sent}
 use Rattle.fs_server.specs.declared.server.ServerFault.{ServerFault}
-use Rattle.fs_server.specs.Effects.{CanTake, PerformsHeld, TakingNeedsMemory, copy_of, first_copy}
+use Rattle.fs_server.specs.Effects.{PerformsHeld, copy_of, first_copy}
 use Rattle.fs_server.specs.Faults.{IsErrorOf, is_unanswered}
-use Rattle.fs_server.specs.Releasing.{bare_reply, release_copy}
-use Rattle.fs_serve.specs.Blocks.{with_blocks}
-use Rattle.fs_serve.specs.LongNames.{HasLongNames, IsNameTooLong}
+use Rattle.fs_server.specs.Releasing.{bare_reply}
+use Rattle.fs_serve.specs.LongNames.{HasLongNames}
 use Rattle.fs_serve.specs.Sending.{Delivers, IsFilledFrame, RepliesToRelease, SendsBytes, SendsError, SendsFault, at_end, framed_of, settled, unsettled, with_result}
 use Rattle.fs_serve.specs.Sending as sending
 use Rattle.fs_serve.specs.Serving.{ServesFrame, ServesHeld, done_at_once, dropped, error_for, input_output, is_interrupt, name_too_long, out_of_memory, performed as is_performed, refused, released, replied, replied_at_once, too_long_name, uninterrupted, unreleased, unreplied, untaken}
-use Rattle.fuse_replies.specs.Replies.{IsFrame, IsErrorWord}
-use Rattle.fuse_sessions.specs.Frames.{number_in, error_in}
+use Rattle.fuse_sessions.specs.Frames.{error_in}
 use Rattle.fuse_sessions.specs.UnreadRequests.{opcode_in, unique_in, takes_no_reply}
+use Rattle.served_sessions.specs.Entries.{HasEntriesIn}
 use Rattle.served_sessions.specs.Exchanges.{AgreesOn, IsAnswer}
 use Rattle.served_sessions.proofs.Bodies.{GoesFor, served_goes}
 use Rattle.served_sessions.proofs.Bodies.{fails as fails_for}
+use Rattle.served_sessions.proofs.Fine.{IsFine, held_fine}
 use Rattle.served_sessions.proofs.Flags.{taken_up}
-use Rattle.served_sessions.proofs.Heading.{IsHeadOf, error_head, error_length, head_of, written_head}
+use Rattle.served_sessions.proofs.Gained.{GainsIn}
+use Rattle.served_sessions.proofs.Given.{WireGives, gives_done, gives_none, served_gives}
+use Rattle.served_sessions.proofs.Heading.{error_head, error_length, head_of, written_head}
 use Rattle.served_sessions.proofs.InitReplies.{agrees_with}
-use Rattle.served_sessions.proofs.Requests.{asked_alike, frame_header, frame_opcode, frame_unique, init_flags_are, interrupt_length, is_room}
-use Rattle.served_sessions.proofs.Shaped.{has_body}
+use Rattle.served_sessions.proofs.Performed.{accepted_nodes, performed_gains, released_more}
+use Rattle.served_sessions.proofs.Requests.{asked_alike, frame_header, frame_opcode, frame_unique, init_flags_are, interrupt_length, is_measured}
+use Rattle.served_sessions.proofs.Shaped.{has_body, has_entries, has_gains}
+use Rattle.served_sessions.proofs.Turned.{WireGains}
 
 -- A received frame has the header and the flags of the frame that it is read as.
 pub record IsHeadedAs (bytes frame : List ℕ) : Type 0 where
@@ -64,10 +69,12 @@ pub record IsHeadedAs (bytes frame : List ℕ) : Type 0 where
 pub as_itself : (frame : List ℕ) → IsHeadedAs frame frame
 as_itself frame = record { header = λ h. h; opcode = refl; unique = refl; flags = refl; whole = λ other. refl }
 
--- A reply that answers is sent.
-pub record SendsAnswer (bytes : List ℕ) (log : List Transfer) : Type 0 where
+-- A reply that answers is sent. Of a sound server its entries are sound, and where it is accepted they are counted.
+pub record SendsAnswer (Sound : Type 0) (t u : NodeTable) (bytes : List ℕ) (log : List Transfer) : Type 0 where
   pub reply : List ℕ
   pub answers : IsAnswer bytes reply
+  pub entries : Sound → HasEntriesIn bytes reply
+  pub gains : Sound → log ≡ sent reply Accepted ∷ [] → GainsIn t u bytes reply
   pub sends : SendsBytes reply log
 
 some_copy : (a b : Sent) → ◌≡◌ {A = Option Sent} (Some a) (Some b) → a ≡ b
@@ -82,10 +89,11 @@ no_copy a e = cc
 
 -- ---- opcodes
 
-init_apart : (o : Opcode) → is_room o ≡ true → code_of o ≡ 26 → ⊥
+init_apart : (o : Opcode) → is_measured o ≡ true → code_of o ≡ 26 → ⊥
 init_apart op.Read room e = omega (arith, e)
 init_apart op.Readdir room e = omega (arith, e)
 init_apart op.Readdirplus room e = omega (arith, e)
+init_apart op.Write room e = omega (arith, e)
 init_apart o room e = cc
 
 code_apart : (a b : ℕ) → nat_eq a b ≡ false → a ≡ b → ⊥
@@ -106,7 +114,7 @@ forgets_apart code e = (
     of_two e = cc
 
 -- a body that is held takes a reply
-held_server : (s : Server) (u : ℕ) (body : RequestBody) → (taking s u body).word ≡ Held
+pub held_server : (s : Server) (u : ℕ) (body : RequestBody) → (taking s u body).word ≡ Held
     → (taking s u body).server ≡ holding s u body
 held_server s u (init flags) is = refl
 held_server s u (asks operation') is = refl
@@ -159,7 +167,7 @@ long_name_takes_reply op.Link bytes h = refl
 long_name_takes_reply op.Create bytes h = refl
 long_name_takes_reply o bytes h = absurd h
 
-of_init : (body : RequestBody) → code_of (asked_opcode body) ≡ 26 → (flags : ℕ) × (body ≡ init flags)
+pub of_init : (body : RequestBody) → code_of (asked_opcode body) ≡ 26 → (flags : ℕ) × (body ≡ init flags)
 of_init (init flags) e = (flags, refl)
 of_init (asks (operation.lookup d name)) e = absurd (omega (arith, e))
 of_init (asks operation') e = absurd (omega (arith, e))
@@ -197,9 +205,29 @@ bare_goes (interrupt original) is errno = absurd cc
 bare_goes (asks (operation.lookup d name)) is errno = absurd cc
 bare_goes (asks operation') is errno = absurd cc
 
+bare_gains : {t u : NodeTable} (errno : ℕ) → ((n : ℕ) → count_of t n ≤ count_of u n) → WireGains t u (bare_reply errno)
+bare_gains {u = u} zero more = record {
+  held = All-nil (λ (e : Entry). IsHeldAs u e.nodeid e.generation);
+  counts = λ n. let m = more n in omega (arith, m);
+}
+bare_gains {u = u} (suc k) more = record {
+  held = All-nil (λ (e : Entry). IsHeldAs u e.nodeid e.generation);
+  counts = λ n. let m = more n in omega (arith, m);
+}
+
+bare_gives : (o : Opcode) (errno : ℕ) → WireGives o (bare_reply errno)
+bare_gives o zero = gives_done o
+bare_gives o (suc n) = gives_none o (suc n)
+
 -- ---- the error replies
 
-module _ (bytes frame : List ℕ) (as_read : IsHeadedAs bytes frame) where
+module _ (Sound : Type 0) (t u : NodeTable) (bytes frame : List ℕ) (as_read : IsHeadedAs bytes frame) where
+  -- an error names nothing
+  error_entries : (unique n : ℕ) (reply : List ℕ)
+      → WrittenReply (record { unique = unique; error = negsuc n; content = empty_reply }) reply → Sound
+      → HasEntriesIn bytes reply
+  error_entries unique n reply w sound fine = absurd (error_head unique n reply w fine)
+
   error_answers : (n : ℕ) (reply : List ℕ) → HasLength frame → IsAnswered (opcode_in frame)
       → WrittenReply (record { unique = unique_in frame; error = negsuc n; content = empty_reply }) reply
       → IsAnswer bytes reply
@@ -217,21 +245,27 @@ module _ (bytes frame : List ℕ) (as_read : IsHeadedAs bytes frame) where
         body = record {
           bare = λ some. error_length (unique_in frame) n reply w;
           fits = λ fine. absurd (shows fine);
+          few = λ fine. absurd (shows fine);
         };
         init = λ is fine. absurd (shows fine);
       }
 
   sends_error : (unique n : ℕ) (error : ℤ) (log : List Transfer) → HasLength frame
       → IsAnswered (opcode_in frame) → unique ≡ unique_in frame → error ≡ negsuc n
-      → SendsError unique error log → SendsAnswer bytes log
-  sends_error unique n error log header apart number is sends = record {
-    reply = sends.bytes;
-    answers = error_answers n sends.bytes header apart
-        (subst (λ (u : ℕ). WrittenReply (record { unique = u; error = negsuc n; content = empty_reply }) sends.bytes) number
-        (subst (λ (z : ℤ). WrittenReply (record { unique = unique; error = z; content = empty_reply }) sends.bytes) is
-        sends.written));
-    sends = sends.sends;
-  }
+      → SendsError unique error log → SendsAnswer Sound t u bytes log
+  sends_error unique n error log header apart number is sends =
+      let written : WrittenReply (record { unique = unique; error = negsuc n; content = empty_reply }) sends.bytes =
+      subst (λ (z : ℤ). WrittenReply (record { unique = unique; error = z; content = empty_reply }) sends.bytes) is
+      sends.written in
+      record {
+        reply = sends.bytes;
+        answers = error_answers n sends.bytes header apart
+            (subst (λ (u : ℕ). WrittenReply (record { unique = u; error = negsuc n; content = empty_reply }) sends.bytes)
+            number written);
+        entries = error_entries unique n sends.bytes written;
+        gains = λ sound accepted fine. absurd (error_head unique n sends.bytes written fine);
+        sends = sends.sends;
+      }
 
   -- ---- a copy's frame
 
@@ -241,7 +275,7 @@ module _ (bytes frame : List ℕ) (as_read : IsHeadedAs bytes frame) where
     request_apart e = forgets_apart (opcode_in frame) (ap takes_no_reply (frame_opcode frame request says) ∙ e)
 
     request_error : (n : ℕ) (error : ℤ) (log : List Transfer) → takes_no_reply (code_of (asked_opcode request.body)) ≡ false
-        → error ≡ negsuc n → SendsError request.unique error log → SendsAnswer bytes log
+        → error ≡ negsuc n → SendsError request.unique error log → SendsAnswer Sound t u bytes log
     request_error n error log takes is sends = sends_error request.unique n error log (frame_header frame request says)
         (request_apart takes) (sym (frame_unique frame request says)) is sends
 
@@ -252,6 +286,31 @@ module _ (bytes frame : List ℕ) (as_read : IsHeadedAs bytes frame) where
         subst (λ (w : WireReply). IsFilledFrame o reply (record { unique = request.unique; wire = w })) is filled in
         let shows : error_in now.written ≢ 0 = error_head request.unique (errno - 1) now.written now.frame.written in
         subst (λ (b : List ℕ). error_in b ≢ 0) (sym now.filled) shows
+
+    no_room : opcode_in frame ≡ 26 → is_measured (asked_opcode request.body) ≡ true → ⊥
+    no_room is room = init_apart (asked_opcode request.body) room (sym (frame_opcode frame request says) ∙ is)
+
+    kind_of : (o : Opcode) (reply : List ℕ) (wire' : WireReply)
+        → IsFilledFrame o reply (record { unique = request.unique; wire = wire' })
+        → ((errno : ℕ) × (wire' ≡ failed errno))
+        ⊎ (reply_kind_of (asked_opcode request.body) ≡ Some (kind_of_content (reply_content_of wire')))
+        → error_in reply ≡ 0 → reply_kind_of (asked_opcode request.body) ≡ Some (kind_of_content (reply_content_of wire'))
+    kind_of o reply wire' filled (inl (errno, is)) fine = absurd (failed_frame o reply errno wire' is filled fine)
+    kind_of o reply wire' filled (inr is) fine = is
+
+    filled_entries : (o : Opcode) (reply : List ℕ) (wire' : WireReply)
+        → IsFilledFrame o reply (record { unique = request.unique; wire = wire' }) → GoesFor request.body wire'
+        → WireGives (asked_opcode request.body) wire' → HasEntriesIn bytes reply
+    filled_entries o reply wire' filled goes = has_entries bytes frame request says as_read.opcode
+        (λ room. as_read.whole (λ is. no_room is room)) o reply wire' filled.says goes
+        (kind_of o reply wire' filled goes.kind)
+
+    filled_gains : (o : Opcode) (reply : List ℕ) (wire' : WireReply)
+        → IsFilledFrame o reply (record { unique = request.unique; wire = wire' }) → GoesFor request.body wire'
+        → (error_in reply ≡ 0 → WireGains t u wire') → GainsIn t u bytes reply
+    filled_gains o reply wire' filled goes gains = has_gains bytes frame request says as_read.opcode
+        (λ room. as_read.whole (λ is. no_room is room)) o reply wire' filled.says goes
+        (kind_of o reply wire' filled goes.kind) t u gains
 
     filled_answers : (o : Opcode) (reply : List ℕ) (wire' : WireReply)
         → IsFilledFrame o reply (record { unique = request.unique; wire = wire' })
@@ -273,19 +332,10 @@ module _ (bytes frame : List ℕ) (as_read : IsHeadedAs bytes frame) where
           interrupt = λ is. interrupt_long (sym as_read.opcode ∙ is);
           body = has_body bytes frame request says as_read.opcode
               (λ room. as_read.whole (λ is. no_room is room)) o reply wire' filled.says goes
-              (λ fine. kind_of fine goes.kind);
+              (kind_of o reply wire' filled goes.kind);
           init = λ is. agrees (sym as_read.opcode ∙ is);
         }
       where
-        no_room : opcode_in frame ≡ 26 → is_room (asked_opcode request.body) ≡ true → ⊥
-        no_room is room = init_apart (asked_opcode request.body) room (sym (frame_opcode frame request says) ∙ is)
-
-        kind_of : error_in reply ≡ 0 → ((errno : ℕ) × (wire' ≡ failed errno))
-            ⊎ (reply_kind_of (asked_opcode request.body) ≡ Some (kind_of_content (reply_content_of wire')))
-            → reply_kind_of (asked_opcode request.body) ≡ Some (kind_of_content (reply_content_of wire'))
-        kind_of fine (inl (errno, is)) = absurd (failed_frame o reply errno wire' is filled fine)
-        kind_of fine (inr is) = is
-
         interrupt_long : opcode_in frame ≡ 36 → length bytes ≡ 48
         interrupt_long is = ap (λ (b : List ℕ). length b) (as_read.whole (λ other. code_apart 36 26 refl (sym is ∙ other)))
             ∙ long is
@@ -301,12 +351,21 @@ module _ (bytes frame : List ℕ) (as_read : IsHeadedAs bytes frame) where
         → ((o : Opcode) (reply : List ℕ) → IsFilledFrame o reply (record { unique = request.unique; wire = copy.wire })
         → (takes_no_reply (opcode_in frame) ≡ true → error_in reply ≢ 0)
         × (opcode_in frame ≡ 26 → error_in reply ≡ 0 → AgreesOn bytes reply)) → GoesFor request.body copy.wire
-        → SendsAnswer bytes log
-    sends_copy copy log under (o, reply, filled, sends) apart long says' goes =
+        → (Sound → WireGives (asked_opcode request.body) copy.wire)
+        → ((o : Opcode) (reply : List ℕ) → IsFilledFrame o reply (record { unique = request.unique; wire = copy.wire })
+        → Sound → log ≡ sent reply Accepted ∷ [] → error_in reply ≡ 0 → WireGains t u copy.wire)
+        → SendsAnswer Sound t u bytes log
+    sends_copy copy log under (o, reply, filled, sends) apart long says' goes gives gains =
         let now : IsFilledFrame o reply (record { unique = request.unique; wire = copy.wire }) =
         subst (λ (u : ℕ). IsFilledFrame o reply (record { unique = u; wire = copy.wire })) under filled in
         let both = says' o reply now in
-        record { reply = reply; answers = filled_answers o reply copy.wire now apart long both.0 both.1 goes; sends = sends }
+        record {
+          reply = reply;
+          answers = filled_answers o reply copy.wire now apart long both.0 both.1 goes;
+          entries = λ sound. filled_entries o reply copy.wire now goes (gives sound);
+          gains = λ sound accepted. filled_gains o reply copy.wire now goes (gains o reply now sound accepted);
+          sends = sends;
+        }
 
     -- ---- an INTERRUPT that is answered at once
 
@@ -334,7 +393,7 @@ module _ (bytes frame : List ℕ) (as_read : IsHeadedAs bytes frame) where
 
     replies_at_once : (s taken : Server) (copy : Sent) (log : List Transfer) (new : Server)
         → Some copy ≡ copy_of s.next_copy request.unique (taking s request.unique request.body).reply
-        → Delivers copy taken log new → SendsAnswer bytes log
+        → Delivers copy taken log new → SendsAnswer Sound t u bytes log
     replies_at_once s taken copy log new is delivers =
         let a = at_once s copy request.body is in
         let code : opcode_in frame ≡ 36 = interrupt_code a.0 in
@@ -346,6 +405,8 @@ module _ (bytes frame : List ℕ) (as_read : IsHeadedAs bytes frame) where
           λ init_code. absurd (code_apart 36 26 refl (sym code ∙ init_code)),
         ))
         (subst (GoesFor request.body) (sym a.2) (fails_for request.body eagain))
+        (λ sound. subst (WireGives (asked_opcode request.body)) (sym a.2) (gives_none (asked_opcode request.body) eagain))
+        (λ o reply filled sound accepted fine. absurd (failed_frame o reply eagain copy.wire a.2 filled fine))
 
     -- ---- INIT, performed
 
@@ -378,10 +439,11 @@ module _ (bytes frame : List ℕ) (as_read : IsHeadedAs bytes frame) where
         (agrees_with request.unique (minor_number minor) minor (number_at 52 4 frame) now.written now.frame.written bytes
         as_read.flags)
 
-    performs : (s taken : Server) (errno : ℕ) (copy : Sent) (did : Server) → taken ≡ (taking s request.unique request.body).server
+    performs : (s taken : Server) → (Sound → IsFine s) → (errno : ℕ) (copy : Sent) (did : Server) → taken ≡ (taking s request.unique request.body).server
         → (taking s request.unique request.body).word ≡ Held → PerformsHeld taken request.unique errno (Some copy) did
-        → (log : List Transfer) (new : Server) → Delivers copy did log new → SendsAnswer bytes log
-    performs s taken errno copy did after held p log new delivers =
+        → (log : List Transfer) (new : Server) → Delivers copy did log new → t ≡ s.nodes
+        → u ≡ new.nodes → SendsAnswer Sound t u bytes log
+    performs s taken fine errno copy did after held p log new delivers before later =
         let takes : takes_no_reply (code_of (asked_opcode request.body)) ≡ false =
         held_takes_reply s request.unique request.body held in
         let c = copied taken.aborted p.copy_is in
@@ -395,7 +457,28 @@ module _ (bytes frame : List ℕ) (as_read : IsHeadedAs bytes frame) where
         (subst (λ (b : RequestBody). GoesFor b (served p.choice taken request.unique p.held).wire)
         (held_body s taken request.unique request.body p.held held after p.there)
         (served_goes p.choice taken request.unique p.held)))
+        (λ sound. subst (WireGives (asked_opcode request.body)) (sym c.1)
+        (subst (λ (b : RequestBody). WireGives (asked_opcode b) (served p.choice taken request.unique p.held).wire)
+        (held_body s taken request.unique request.body p.held held after p.there) (given sound)))
+        (λ o reply filled sound accepted fine'. gained sound reply accepted)
       where
+        here_fine : Sound → IsFine taken
+        here_fine sound = subst IsFine (sym (after ∙ held_server s request.unique request.body held))
+            (held_fine s (fine sound) request.unique request.body)
+
+        gained : Sound → (reply : List ℕ) → log ≡ sent reply Accepted ∷ [] → WireGains t u copy.wire
+        gained sound reply accepted =
+            let same : taken.nodes ≡ s.nodes =
+            ap (λ (x : Server). x.nodes) (after ∙ held_server s request.unique request.body held) in
+            let now : u ≡ did.nodes = later ∙ accepted_nodes copy did log new delivers reply accepted in
+            subst₂ (λ (x y : NodeTable). WireGains x y copy.wire) (same ∙ sym before) (sym now)
+            (performed_gains taken (here_fine sound) request.unique errno copy did p)
+
+        given : Sound → WireGives (asked_opcode p.held.body) (served p.choice taken request.unique p.held).wire
+        given sound =
+            let here = here_fine sound in
+            served_gives p.choice taken here.sound.nodes here.sound.tree here.stands request.unique p.held p.may
+
         copied : (aborted : Bool) → Some copy ≡ first_copy aborted taken.next_copy request.unique
             (served p.choice taken request.unique p.held).wire
             → (copy.unique ≡ request.unique) × (copy.wire ≡ (served p.choice taken request.unique p.held).wire)
@@ -432,23 +515,24 @@ module _ (bytes frame : List ℕ) (as_read : IsHeadedAs bytes frame) where
     error_negative NoMemory = (11, refl)
     error_negative refusal = (4, refl)
 
-    serves_held : (s taken : Server) (log : List Transfer) (new : Server) → taken ≡ (taking s request.unique request.body).server
-        → (taking s request.unique request.body).word ≡ Held → ServesHeld taken request.unique log new
-        → (log ≡ []) ⊎ SendsAnswer bytes log
-    serves_held s taken log new after held (replied errno copy did p log' new' delivers) =
-        inr (performs s taken errno copy did after held p log new delivers)
-    serves_held s taken log new after held (unreplied errno new' p) = inl refl
-    serves_held s taken log new after held (dropped refusal why log' sends) =
+    serves_held : (s taken : Server) → (Sound → IsFine s) → (log : List Transfer) (new : Server) → taken ≡ (taking s request.unique request.body).server
+        → (taking s request.unique request.body).word ≡ Held → ServesHeld taken request.unique log new → t ≡ s.nodes
+        → u ≡ new.nodes → (log ≡ []) ⊎ SendsAnswer Sound t u bytes log
+    serves_held s taken fine log new after held (replied errno copy did p log' new' delivers) before later =
+        inr (performs s taken fine errno copy did after held p log new delivers before later)
+    serves_held s taken fine log new after held (unreplied errno new' p) before later = inl refl
+    serves_held s taken fine log new after held (dropped refusal why log' sends) before later =
         let n = error_negative refusal in
         inr (request_error n.0 (error_for refusal) log (held_takes_reply s request.unique request.body held) n.1 sends)
 
     -- ---- RELEASE
 
-    released_answer : (aborted : Bool) (number errno : ℕ) (log : List Transfer) → asked_opcode request.body ≡ op.Release
+    released_answer : (aborted : Bool) (number errno : ℕ) (log : List Transfer)
+        → (Sound → (n : ℕ) → count_of t n ≤ count_of u n) → asked_opcode request.body ≡ op.Release
         → RepliesToRelease (first_copy aborted number request.unique (bare_reply errno)) log
-        → (log ≡ []) ⊎ SendsAnswer bytes log
-    released_answer true number errno log is none = inl none
-    released_answer false number errno log is (reply, filled, sends) =
+        → (log ≡ []) ⊎ SendsAnswer Sound t u bytes log
+    released_answer true number errno log more is none = inl none
+    released_answer false number errno log more is (reply, filled, sends) =
         let takes : takes_no_reply (code_of (asked_opcode request.body)) ≡ false = ap (λ (o : Opcode). takes_no_reply (code_of o)) is in
         let code : opcode_in frame ≡ 18 = frame_opcode frame request says ∙ ap code_of is in
         inr (record {
@@ -457,6 +541,10 @@ module _ (bytes frame : List ℕ) (as_read : IsHeadedAs bytes frame) where
               (λ is. absurd ((request_apart takes).2 is))
               (λ none. absurd (false≢true (sym (ap takes_no_reply code) ∙ none)))
               (λ init_code. absurd (code_apart 18 26 refl (sym code ∙ init_code))) (bare_goes request.body is errno);
+          entries = λ sound. filled_entries op.Release reply (bare_reply errno) filled (bare_goes request.body is errno)
+              (bare_gives (asked_opcode request.body) errno);
+          gains = λ sound accepted. filled_gains op.Release reply (bare_reply errno) filled
+              (bare_goes request.body is errno) (λ fine. bare_gains errno (more sound));
           sends = sends;
         })
 
@@ -477,7 +565,7 @@ module _ (bytes frame : List ℕ) (as_read : IsHeadedAs bytes frame) where
   error_of_fault minor code error (inr (none, is)) = (_, is)
 
   sends_fault : (minor : Minor) (fault : ServerFault) (log : List Transfer) → SendsFault minor frame fault log
-      → (log ≡ []) ⊎ SendsAnswer bytes log
+      → (log ≡ []) ⊎ SendsAnswer Sound t u bytes log
   sends_fault minor fault log (sending.replied reply is log' sends) =
       let n = error_of_fault minor (opcode_in frame) is.error is.of_opcode in
       inr (record {
@@ -485,29 +573,36 @@ module _ (bytes frame : List ℕ) (as_read : IsHeadedAs bytes frame) where
         answers = error_answers n.0 reply is.answerable.header (unanswered_apart (opcode_in frame) is.answerable.of_opcode)
             (subst (λ (z : ℤ). WrittenReply (record { unique = unique_in frame; error = z; content = empty_reply }) reply) n.1
             is.written);
+        gains = λ sound accepted fine. absurd (error_head (unique_in frame) n.0 reply
+            (subst (λ (z : ℤ). WrittenReply (record { unique = unique_in frame; error = z; content = empty_reply }) reply) n.1
+            is.written) fine);
+        entries = error_entries (unique_in frame) n.0 reply
+            (subst (λ (z : ℤ). WrittenReply (record { unique = unique_in frame; error = z; content = empty_reply }) reply) n.1
+            is.written);
         sends = sends;
       })
   sends_fault minor fault log (sending.unreplied none) = inl refl
 
-  pub serves_answer : (old : Server) (log : List Transfer) (new : Server) → ServesFrame old frame log new
-      → (log ≡ []) ⊎ SendsAnswer bytes log
-  serves_answer old log new (done_at_once request new' took silent not_held) = inl refl
-  serves_answer old log new (replied_at_once request taken took copy is log' new' delivers) =
+  pub serves_answer : (old : Server) → (Sound → IsFine old) → (log : List Transfer) (new : Server) → ServesFrame old frame log new
+      → t ≡ old.nodes → u ≡ new.nodes → (log ≡ []) ⊎ SendsAnswer Sound t u bytes log
+  serves_answer old fine log new (done_at_once request new' took silent not_held) before later = inl refl
+  serves_answer old fine log new (replied_at_once request taken took copy is log' new' delivers) before later =
       inr (replies_at_once request took.says old taken copy log new is delivers)
-  serves_answer old log new (released unique opened says errno new' releases log' replies) =
-      released_answer (record { unique = unique; body = release opened }) says old.aborted old.next_copy errno log refl replies
-  serves_answer old log new (unreleased unique opened says refuses log' sends) =
+  serves_answer old fine log new (released unique opened says errno new' releases log' replies) before later =
+      released_answer (record { unique = unique; body = release opened }) says old.aborted old.next_copy errno log
+      (λ sound n. released_more old (fine sound) unique opened errno new releases before later n) refl replies
+  serves_answer old fine log new (unreleased unique opened says refuses log' sends) before later =
       inr (request_error (record { unique = unique; body = release opened }) says 4 input_output log refl refl sends)
-  serves_answer old log new (is_performed request taken took held other log' new' serves) =
-      serves_held request took.says old taken log new took.after held serves
-  serves_answer old log new (untaken can wants other not_interrupt log' sends) =
+  serves_answer old fine log new (is_performed request taken took held other log' new' serves) before later =
+      serves_held request took.says old taken fine log new took.after held serves before later
+  serves_answer old fine log new (untaken can wants other not_interrupt log' sends) before later =
       let apart : asked_opcode can.request.body ≢ op.Interrupt = λ is. true≢false (sym (interrupt_content
       can.says.message.content (sym (asked_alike frame can.request can.says) ∙ is)) ∙ not_interrupt) in
       inr (request_error can.request can.says 11 out_of_memory log
       (memory_takes_reply old can.request.unique can.request.body (wants can.request can.says) apart) refl sends)
-  serves_answer old log new (uninterrupted can wants is) = inl refl
-  serves_answer old log new (name_too_long refuses long low log' sends) =
+  serves_answer old fine log new (uninterrupted can wants is) before later = inl refl
+  serves_answer old fine log new (name_too_long refuses long low log' sends) before later =
       inr (sends_error (number_at 8 8 frame) 35 too_long_name log long.header
       (forgets_apart (opcode_in frame) (ap takes_no_reply (sym long.asks)
       ∙ long_name_takes_reply long.opcode frame long.names)) refl refl sends)
-  serves_answer old log new (refused fault refuses not_memory other low log' sends) = sends_fault old.minor fault log sends
+  serves_answer old fine log new (refused fault refuses not_memory other low log' sends) before later = sends_fault old.minor fault log sends

@@ -1,14 +1,13 @@
 -- Frames that answer keep to their header, and to what INIT's request and reply say.
-use Rattle.std.proofs.Common.{◌≡◌, ◌≢◌, ◌⊎◌, inl, inr, ℕ, ◌==◌, Bool, true, false, List, [], ◌∷◌, ◌++◌, Option, Some, None, refl, sym, ◌∙◌, ap, subst, nat_eq, bit_and, if◌then◌else◌, arith, rules}
+use Rattle.std.proofs.Common.{◌≡◌, ◌⊎◌, inl, inr, ℕ, ◌==◌, Bool, true, false, List, [], ◌∷◌, ◌++◌, Option, Some, None, refl, sym, ◌∙◌, ap, subst, nat_eq, bit_and, if◌then◌else◌, arith, rules}
 use Rattle.std.specs.Prelude.{MatchBool, drop}
 use Rattle.fk_fields.specs.Fields.{number_at}
-use Rattle.std.proofs.lemmas.Bool.{true≢false, false≢true, false_from_ne_true, true_from_ne_false}
+use Rattle.std.proofs.lemmas.Bool.{true≢false, false_from_ne_true}
 use Rattle.fuse_protocol.specs.declared.agreed.Agreed.{Agreed}
 use Rattle.fuse_protocol.specs.declared.init.InitRequest.{InitRequest}
 use Rattle.fuse_protocol.specs.declared.init.InitReply.{InitReply}
 use Rattle.fuse_protocol.specs.declared.opcode.Opcode.{Opcode}
 use Rattle.fuse_protocol.specs.declared.opcode.Opcode.TheVariants as op
-use Rattle.fuse_protocol.specs.Agreement.{before_init}
 use Rattle.fuse_protocol.specs.Init.{init_request_at, init_reply_at}
 use Rattle.fuse_protocol.specs.Inits.{IsInit}
 use Rattle.fuse_protocol.specs.Requests.{RequestMessage, IsRequest}
@@ -25,17 +24,16 @@ use Rattle.fuse_sessions.specs.declared.known.Known.{Known}
 use Rattle.fuse_sessions.specs.Sessions.{Session}
 use Rattle.fuse_sessions.specs.Waiting.{waits}
 use Rattle.fuse_sessions.specs.Numbers.{was_anything_read, is_reading}
-use Rattle.fuse_sessions.specs.Faults.{Breaks, BreaksReply, BreaksReplyToInterrupt}
+use Rattle.fuse_sessions.specs.Faults.{BreaksReply, BreaksReplyToInterrupt}
 use Rattle.fuse_sessions.specs.Frames.{number_in, error_in, of_version, of_offered, AreRequestActs, IsRequestOf, IsOffered, IsHead}
 use Rattle.fuse_sessions.specs.RequestActs.{asked_of, request_acts}
 use Rattle.fuse_sessions.specs.UnreadRequests.{opcode_in, unique_in, takes_no_reply}
 use Rattle.served_sessions.specs.Exchanges.{AgreesOn, IsAnswer, IsPlainInit}
-use Rattle.served_sessions.specs.Groups.{is_of_heads, is_of_notices, is_of_numbers, is_of_flags, is_nothing, is_of_second_init}
-use Rattle.served_sessions.proofs.Free.{free_append, AreFree}
+use Rattle.served_sessions.specs.Groups.{is_of_numbers}
+use Rattle.served_sessions.proofs.Free.{AreFree}
 use Rattle.served_sessions.proofs.Asking.{waits_now, one_number}
 use Rattle.served_sessions.proofs.Kept.{Kept, any_before}
 use Rattle.served_sessions.proofs.Requested.{AsksBy, request_asks}
-use Rattle.served_sessions.proofs.Written.{Keeps}
 
 pub is_head : (request reply : List ℕ) → IsAnswer request reply → IsHead reply
 is_head request reply answer = (answer.frame, by (number_in reply == 0))

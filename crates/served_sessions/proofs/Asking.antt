@@ -1,27 +1,20 @@
 -- What a request that is answered does: it asks under its number, as its last act.
-use Rattle.std.proofs.Common.{◌≡◌, ◌≢◌, ◌⊎◌, inl, inr, ℕ, ◌%◌, Bool, true, false, not, ◌&&◌, ◌||◌, List, [], ◌∷◌, ◌++◌, Option, Some, None, refl, sym, ◌∙◌, ap, subst, append_assoc, nat_eq, nat_le, cond, arith, rules}
+use Rattle.std.proofs.Common.{◌≡◌, ℕ, Bool, true, false, not, ◌||◌, List, [], ◌∷◌, ◌++◌, Option, Some, None, refl, sym, ◌∙◌, ap, subst, append_assoc, nat_eq, cond, arith, rules}
 use Rattle.std.specs.List.{list_any, list_all}
-use Rattle.std.proofs.lemmas.Bool.{and_from, and_parts, or_parts, or_left, or_right, or_from}
+use Rattle.std.proofs.lemmas.Bool.{and_from, and_parts, or_left, or_right, or_from}
 use Rattle.std.proofs.lemmas.List.Folds.{list_any-append}
-use Rattle.fk_fields.specs.Fields.{number_at}
-use Rattle.fuse_protocol.specs.declared.agreed.Agreed.{Agreed}
 use Rattle.fuse_protocol.specs.declared.init.InitRequest.{InitRequest}
 use Rattle.fuse_protocol.specs.declared.opcode.Opcode.{Opcode}
 use Rattle.fuse_protocol.specs.declared.opcode.Opcode.TheVariants as op
-use Rattle.fuse_protocol.specs.declared.request.OpenHandle.{OpenHandle}
-use Rattle.fuse_protocol.specs.Pairs.{pairs_of_row}
 use Rattle.fuse_protocol.specs.Requests.{RequestMessage}
-use Rattle.fuse_protocol.specs.Table.{row_at, code_of}
 use Rattle.fuse_sessions.specs.declared.act.Act.{Act}
 use Rattle.fuse_sessions.specs.declared.act.Act.TheVariants as act
 use Rattle.fuse_sessions.specs.declared.act.Asked.{Asked}
-use Rattle.fuse_sessions.specs.declared.act.OpenFile.{OpenFile}
-use Rattle.fuse_sessions.specs.declared.known.Known.{Known}
 use Rattle.fuse_sessions.specs.Sessions.{Session}
 use Rattle.std.specs.Map.{lookup}
 use Rattle.fuse_sessions.specs.Waiting.{ends, waiting, waits}
 use Rattle.fuse_sessions.specs.Numbers.{asks_under, reads, is_reading}
-use Rattle.fuse_sessions.specs.RequestActs.{request_acts, doing, asking, asked_of, resent, naming, using, releasing, writing, forgets_in}
+use Rattle.fuse_sessions.specs.RequestActs.{request_acts, asking, asked_of}
 use Rattle.fuse_sessions.specs.UnreadRequests.{unread_acts, unjudged, malformed, asking_unread, has_header, takes_no_reply, opcode_in, unique_in}
 use Rattle.fuse_sessions.specs.declared.fault.Fault.{Fault}
 use Rattle.fuse_sessions.specs.Faults.{BreaksNumber}

@@ -1,5 +1,5 @@
 -- The reply that performing a request gives is of its opcode's kind, and of no more bytes than were asked for.
-use Rattle.std.proofs.Common.{◌≡◌, ◌≢◌, ◌≤◌, ◌⊎◌, inl, inr, ℕ, ℤ, pos, negsuc, ◌+◌, ◌-◌, ◌*◌, ◌/◌, Bool, true, false, cond, List, [], ◌∷◌, Option, Some, None, length, map, min, take, drop, nat_le, sum_by, refl, sym, ◌∙◌, ap, subst, arith, length-take, length-drop}
+use Rattle.std.proofs.Common.{◌≡◌, ◌≢◌, ◌≤◌, ◌⊎◌, inl, inr, ℕ, ℤ, pos, negsuc, ◌+◌, ◌-◌, ◌*◌, ◌/◌, Bool, true, false, cond, List, [], ◌∷◌, Option, Some, None, length, map, min, drop, nat_le, sum_by, refl, sym, ◌∙◌, ap, arith, length-take}
 use Rattle.std.proofs.lemmas.Bool.{leb-true}
 use Rattle.std.proofs.lemmas.List.Sums.{sum_by-cons}
 use Rattle.std.specs.Int.{cast_unsigned, w32}
@@ -16,28 +16,30 @@ use Rattle.fuse_spec.specs.Kernel.Messages.{RequestBody, WireReply, asks, batch_
 use Rattle.fuse_spec.specs.Server.Nodes.{NodeTable, all_given, file_of, handle_back, is_open}
 use Rattle.fuse_spec.specs.Server.Performs.{doing, entry_for, file_operation_of, is_open_for, is_still_held, performing, refusing, served, wire_of}
 use Rattle.fuse_spec.specs.Server.Server.{HeldRequest, Server}
-use Rattle.fk_fields.specs.Fields.{ReadsAs, number_at}
-use Rattle.fk_wire.specs.Dirents.{DirentContent, DirentPlusContent, HaveEntries, direntpluses, dirent_fields}
-use Rattle.fk_wire.specs.Entries.{EntryContent, found, missing}
+use Rattle.fk_fields.specs.Fields.{ReadsAs}
+use Rattle.fk_wire.specs.Dirents.{DirentPlusContent, HaveEntries, direntpluses, dirent_fields}
+use Rattle.fk_wire.specs.Entries.{found, missing}
 use Rattle.fk_wire.specs.RecordEnds.{padding}
 use Rattle.fk_wire.specs.Opcodes.{reply_kind_of}
-use Rattle.fk_wire.specs.Replies.{IsReplyContent, ReplyContent, attr_reply, bytes_reply, create_reply, empty_reply, entry_reply, init_reply, kind_of_content, open_reply, plus_reply, records_reply, reply_body, write_reply}
+use Rattle.fk_wire.specs.Replies.{IsReplyContent, ReplyContent, bytes_reply, create_reply, empty_reply, entry_reply, kind_of_content, plus_reply, records_reply, reply_body}
 use Rattle.fk_wire.proofs.EntryFields.{entry_is}
-use Rattle.fuse_frames.specs.ReplyTies.{dirent_read, pair_in, reply_content_of, wire_body, wire_said}
+use Rattle.fuse_frames.specs.ReplyTies.{pair_in, reply_content_of, wire_body, wire_said}
 use Rattle.fuse_frames.specs.RequestTies.{asked_opcode}
 use Rattle.fs_files.proofs.Listing.{records_end}
 
--- how many bytes it has, where its request says how many there may be
+-- how many bytes it has, or says that were written, where its request says how many there may be
 abbrev pub wire_length : WireReply → ℕ
 wire_length (reply.content bytes) = length bytes
 wire_length (reply.listed records) = sum_by record_length records
 wire_length (reply.listed_plus pairs) = sum_by (pair_length {F = Entry}) pairs
+wire_length (reply.written size) = size
 wire_length wire = 0
 
 abbrev pub asked_bytes : RequestBody → ℕ
 asked_bytes (asks (readdir d after size)) = size
 asked_bytes (asks (readdirplus d after size)) = size
 asked_bytes (asks (read o offset size)) = size
+asked_bytes (asks (write o offset bytes)) = length bytes
 asked_bytes body = 0
 
 -- A reply is an error, or of the request's kind, and no longer than was asked for.

@@ -1,5 +1,5 @@
 -- The flags of INIT's reply are among those of its request.
-use Rattle.std.proofs.Common.{◌≡◌, ◌≢◌, ◌≤◌, ◌<◌, ℕ, ◌+◌, ◌-◌, ◌*◌, ◌%◌, ◌^◌, ◌==◌, Bool, true, false, refl, sym, ◌∙◌, ap, subst, bit_and, if◌then◌else◌, mod-eq_of_lt, arith}
+use Rattle.std.proofs.Common.{◌≡◌, ◌<◌, ℕ, ◌+◌, ◌-◌, ◌*◌, ◌%◌, ◌^◌, ◌==◌, Bool, true, false, refl, sym, ◌∙◌, ap, bit_and, if◌then◌else◌, mod-eq_of_lt, arith}
 use Rattle.std.proofs.lemmas.Nat.{and_assoc, and_comm, and_le_r, and_mask}
 use Rattle.std.proofs.lemmas.Grind.{common_steps}
 use Rattle.fk_wire.specs.Requests.{known_flags}

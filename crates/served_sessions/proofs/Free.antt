@@ -1,5 +1,5 @@
--- Acts that are free of a group of faults, in parts and xs a whole.
-use Rattle.std.proofs.Common.{◌≡◌, ℕ, zero, suc, Bool, true, false, ◌&&◌, List, [], ◌∷◌, ◌++◌, Option, Some, None, refl, sym, ◌∙◌, ap, subst, append_assoc, append-nil, take, slice_get}
+-- Acts that are free of a group of faults, in parts and as a whole.
+use Rattle.std.proofs.Common.{◌≡◌, ℕ, zero, suc, Bool, true, List, [], ◌∷◌, ◌++◌, Option, Some, None, refl, sym, ap, subst, append_assoc, append-nil, take, slice_get}
 use Rattle.std.specs.List.{list_all}
 use Rattle.std.proofs.lemmas.Bool.{and_parts}
 use Rattle.fuse_sessions.specs.declared.act.Act.{Act}
@@ -55,15 +55,20 @@ module _ (group : Fault → Bool) where
     breaks = subst (λ t. Breaks t has.act f) (sym (append_assoc s (a ∷ []) (take place acts))) has.breaks;
   })
 
+  -- acts that pass a test by which none shows such a fault
+  pub all_free : (test : Act → Bool)
+      → ((s : Session) (a : Act) (f : Fault) → test a ≡ true → Breaks s a f → group f ≡ true → ⊥)
+      → (s : Session) (acts : List Act) → list_all test acts ≡ true → AreFree group s acts
+  all_free test law s [] are = tt
+  all_free test law s (a ∷ acts) are =
+      let both = and_parts (test a) (list_all test acts) are in
+      (λ f b is. law s a f both.0 b is, all_free test law (s ++ a ∷ []) acts both.1)
+
   -- acts that are beside have none of the faults of frames
   pub beside_free : ((f : Fault) → group f ≡ true → is_of_frames f ≡ true) → (s : Session) (acts : List Act)
       → list_all is_beside acts ≡ true → AreFree group s acts
-  beside_free within s [] beside = tt
-  beside_free within s (a ∷ acts) beside =
-      let both = and_parts (is_beside a) (list_all is_beside acts) beside in (
-        λ f b is. beside_law s a f both.0 b (within f is),
-        beside_free within (s ++ a ∷ []) acts both.1,
-      )
+  beside_free within s acts beside =
+      all_free is_beside (λ s a f is b of. beside_law s a f is b (within f of)) s acts beside
 
   -- and none has one at its moment if none has one at its place
   pub free_if : (s : Session) (acts : List Act)

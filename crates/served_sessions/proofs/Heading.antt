@@ -1,8 +1,8 @@
 -- The header of a reply of the codec's, as the definitions of sessions read it.
-use Rattle.std.proofs.Common.{◌≡◌, ◌≢◌, ◌≤◌, ◌⊎◌, inl, inr, ℕ, ℤ, pos, negsuc, ◌+◌, ◌-◌, ◌^◌, ◌==◌, Bool, true, false, List, [], ◌∷◌, ◌++◌, length, refl, sym, ◌∙◌, ap, subst, arith}
+use Rattle.std.proofs.Common.{◌≡◌, ◌≢◌, ◌≤◌, inl, inr, ℕ, ℤ, pos, negsuc, List, [], length, sym, ◌∙◌, subst, arith}
 use Rattle.std.proofs.lemmas.Int.{ints}
 use Rattle.std.specs.Int.{cast_unsigned, w32}
-use Rattle.fk_fields.specs.Fields.{number_at, ReadsAs}
+use Rattle.fk_fields.specs.Fields.{ReadsAs}
 use Rattle.fk_wire.specs.Replies.{ReplyMessage, WrittenReply, empty_reply, reply_body, reply_fields, IsErrorNumber}
 use Rattle.fk_wire.specs.Requests.{max_frame}
 use Rattle.fk_wire.proofs.Frames.{reads_back}

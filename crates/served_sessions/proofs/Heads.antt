@@ -1,6 +1,6 @@
 -- A server's frames are frames, and its INIT is of protocol 7, whatever the kernel does.
 use Rattle.std.proofs.Common.{◌≡◌, ◌≢◌, ◌⊎◌, inl, inr, ℕ, ◌==◌, Bool, true, false, List, [], ◌∷◌, ◌++◌, Option, Some, None, refl, sym, ◌∙◌, ap, subst, bit_and, if◌then◌else◌}
-use Rattle.std.proofs.lemmas.Bool.{true≢false, false≢true}
+use Rattle.std.proofs.lemmas.Bool.{false≢true}
 use Rattle.fuse_protocol.specs.declared.init.InitRequest.{InitRequest}
 use Rattle.fuse_protocol.specs.declared.init.InitReply.{InitReply}
 use Rattle.fuse_protocol.specs.Init.{init_request_at, init_reply_at}
@@ -11,7 +11,7 @@ use Rattle.fuse_sessions.specs.declared.fault.Fault.{Fault}
 use Rattle.fuse_sessions.specs.declared.fault.Fault.TheVariants as fault
 use Rattle.fuse_sessions.specs.declared.known.Known.{Known}
 use Rattle.fuse_sessions.specs.Sessions.{Session}
-use Rattle.fuse_sessions.specs.Frames.{number_in, error_in, of_version, of_offered, AreRequestActs, IsOffered}
+use Rattle.fuse_sessions.specs.Frames.{number_in, of_version, of_offered, AreRequestActs, IsOffered}
 use Rattle.fuse_sessions.specs.UnreadRequests.{unique_in}
 use Rattle.served_sessions.specs.Exchanges.{IsAnswer}
 use Rattle.served_sessions.specs.Groups.{is_of_heads, is_of_notices, is_of_numbers, is_of_flags, is_nothing, is_of_second_init}
@@ -20,6 +20,8 @@ use Rattle.served_sessions.proofs.Asking.{one_number}
 use Rattle.served_sessions.proofs.Free.{free_append, AreFree}
 use Rattle.served_sessions.proofs.Answering.{agrees_on, init_said, plain_init, interrupt_faults, is_head, offered_none, offered_now, reply_faults, version_none}
 use Rattle.served_sessions.proofs.Kept.{Kept}
+use Rattle.served_sessions.proofs.Replied.{reply_read}
+use Rattle.served_sessions.proofs.Told.{no_answer, told_free}
 use Rattle.served_sessions.proofs.Written.{Keeps}
 
 -- a group that has no fault of numbers
@@ -100,7 +102,9 @@ heads_keep k later s request reply t acts kept such answers does offers free = r
       (flags_free is_of_heads (λ e. false≢true e) before r i);
   tells = λ a o m waits by is i says.
       plain_init is_nothing k later s request reply t acts kept answers does offers free a o m waits by is i says;
-  fits = λ a o waits by is. absurd (false≢true is);
+  fits = λ a o waits by. reply_read is_nothing k later s request reply t acts kept answers does offers free a o waits by;
+  says = λ a o m waits by is before. told_free is_of_heads heads_within
+      (no_answer is_of_heads heads_within refl refl refl refl refl) before o a m.answer;
 }
 
 pub notices_keep : (k later : Known) (s : Session) (request reply : List ℕ) (t : Taken) (acts : List Act)
@@ -118,7 +122,9 @@ notices_keep k later s request reply t acts kept such answers does offers free =
       (flags_free is_of_notices (λ e. false≢true e) (before ++ of_version i) r i);
   tells = λ a o m waits by is i says.
       plain_init is_nothing k later s request reply t acts kept answers does offers free a o m waits by is i says;
-  fits = λ a o waits by is. absurd (false≢true is);
+  fits = λ a o waits by. reply_read is_nothing k later s request reply t acts kept answers does offers free a o waits by;
+  says = λ a o m waits by is before. told_free is_of_notices notices_within
+      (no_answer is_of_notices notices_within refl refl refl refl refl) before o a m.answer;
 }
 
 pub flags_keep : (k later : Known) (s : Session) (request reply : List ℕ) (t : Taken) (acts : List Act)
@@ -140,5 +146,7 @@ flags_keep k later s request reply t acts kept such answers does offers free = r
       (free_append is_of_flags before (of_version i) [] (version_free is_of_flags (λ e. false≢true e) before i) tt);
   tells = λ a o m waits by is i says.
       plain_init is_of_second_init k later s request reply t acts kept answers does offers free a o m waits by is i says;
-  fits = λ a o waits by is. absurd (false≢true is);
+  fits = λ a o waits by. reply_read is_of_second_init k later s request reply t acts kept answers does offers free a o waits by;
+  says = λ a o m waits by is before. told_free is_of_flags flags_within
+      (no_answer is_of_flags flags_within refl refl refl refl refl) before o a m.answer;
 }

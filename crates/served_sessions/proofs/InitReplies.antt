@@ -1,7 +1,7 @@
 -- What the frame of a reply to INIT says by the places of its struct.
-use Rattle.std.proofs.Common.{◌≡◌, ◌≤◌, ◌<◌, ℕ, ℤ, pos, ◌+◌, ◌^◌, Bool, true, false, List, [], ◌∷◌, length, refl, sym, ◌∙◌, ap, subst, bit_and, arith}
+use Rattle.std.proofs.Common.{◌≡◌, ◌≤◌, ◌<◌, ℕ, pos, ◌+◌, ◌^◌, Bool, true, false, List, [], ◌∷◌, length, sym, ◌∙◌, ap, subst, bit_and, arith}
 use Rattle.std.proofs.lemmas.Bool.{le-ltb}
-use Rattle.fk_fields.specs.Fields.{Field, number_at, u32, u64, free, free32, ReadsAs, InRange, HaveNames, spellings}
+use Rattle.fk_fields.specs.Fields.{Field, number_at, u32, u64, free, free32, ReadsAs, InRange}
 use Rattle.fk_wire.specs.Replies.{WrittenReply, init_reply, init_end, states_15}
 use Rattle.fk_wire.proofs.Frames.{reads_back}
 use Rattle.fuse_protocol.specs.Init.{init_request_at, init_reply_at, number_or_none, wide_flags}

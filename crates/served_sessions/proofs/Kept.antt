@@ -1,7 +1,7 @@
 -- What holds between the transfers of a session whose server never asks for requests once more.
-use Rattle.std.proofs.Common.{◌≡◌, ◌≢◌, ◌⊎◌, inl, inr, ℕ, ◌+◌, ◌%◌, ◌^◌, ◌≤◌, ◌<◌, ◌==◌, Bool, true, false, not, ◌&&◌, ◌||◌, List, [], ◌∷◌, ◌++◌, Option, Some, None, refl, sym, ◌∙◌, ap, subst, nat_eq, nat_lt, bit_and, append-nil, arith, rules, mod-lt, if◌then◌else◌}
+use Rattle.std.proofs.Common.{◌≡◌, ◌⊎◌, inl, inr, ℕ, ◌+◌, ◌%◌, ◌^◌, ◌≤◌, ◌==◌, Bool, true, false, not, ◌&&◌, ◌||◌, List, [], ◌∷◌, ◌++◌, Option, Some, None, refl, sym, ◌∙◌, ap, subst, nat_eq, nat_lt, bit_and, arith, if◌then◌else◌}
 use Rattle.std.specs.List.{list_any, list_all}
-use Rattle.std.proofs.lemmas.Bool.{and_from, and_parts, or_parts, or_left, or_right, or_from, true≢false, false≢true, false_from_ne_true}
+use Rattle.std.proofs.lemmas.Bool.{and_from, and_parts, or_left, or_right, or_from, false≢true, false_from_ne_true}
 use Rattle.std.proofs.lemmas.List.Folds.{list_any-append}
 use Rattle.fuse_protocol.specs.declared.agreed.Agreed.{Agreed}
 use Rattle.fuse_protocol.specs.declared.init.InitRequest.{InitRequest}
@@ -11,7 +11,7 @@ use Rattle.fuse_protocol.specs.declared.opcode.Opcode.TheVariants as op
 use Rattle.fuse_protocol.specs.Agreement.{IsAgreement, before_init, create_supp_group, flags_of_both, has_any, max_pages, security_ctx}
 use Rattle.fuse_protocol.specs.Init.{init_request_at}
 use Rattle.fuse_protocol.specs.Inits.{IsInit}
-use Rattle.fuse_protocol.specs.Requests.{RequestMessage, IsRequest}
+use Rattle.fuse_protocol.specs.Requests.{IsRequest}
 use Rattle.fuse_protocol.specs.Table.{row_at}
 use Rattle.fuse_protocol.proofs.Codes.{same_opcode}
 use Rattle.fuse_replies.specs.Replies.{AnswerContent, IsErrorWord}
@@ -27,7 +27,6 @@ use Rattle.fuse_sessions.specs.declared.known.Known.{Known}
 use Rattle.fuse_sessions.specs.Sessions.{Session}
 use Rattle.fuse_sessions.specs.Waiting.{waits}
 use Rattle.fuse_sessions.specs.Numbers.{asks_under, reads, was_read, is_reading, was_anything_read, has_several_readers, has_several_writers, has_several_threads, is_of_several, is_of_writers}
-use Rattle.fuse_sessions.specs.Faults.{Breaks}
 use Rattle.fuse_sessions.specs.Frames.{number_in, error_in, is_resend, is_to_interrupt, known_resent, AreRequestActs, IsRequestOf, IsOffered, IsNotified, IsAgreed, IsTold, IsReplyBy, IsReplyTo, IsWritten}
 use Rattle.fuse_sessions.specs.RequestActs.{request_acts}
 use Rattle.served_sessions.proofs.Free.{AreFree}

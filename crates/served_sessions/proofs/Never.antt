@@ -1,6 +1,8 @@
 -- No session of exchanges shows a fault of the groups, and so no session of a server.
-use Rattle.std.proofs.Common.{◌≡◌, ◌≢◌, arith, ℕ, Bool, true, false, List, [], ◌∷◌, ◌++◌, Some, None, Option, refl, sym, ◌∙◌, ap, subst}
+use Rattle.std.proofs.Common.{◌≡◌, arith, ℕ, Bool, true, false, List, [], ◌++◌, Some, refl, sym, subst}
 use Rattle.std.proofs.lemmas.Bool.{false≢true}
+use Rattle.fuse_spec.specs.Server.Server.{Server}
+use Rattle.fuse_theorem.proofs.Lookups.RowCounts.{count_of}
 use Rattle.fuse_device.specs.Transfers.{Transfer}
 use Rattle.fuse_protocol.specs.declared.init.InitRequest.{InitRequest}
 use Rattle.fuse_sessions.specs.declared.act.Act.{Act}
@@ -8,20 +10,25 @@ use Rattle.fuse_sessions.specs.declared.act.Taken.{Taken}
 use Rattle.fuse_sessions.specs.declared.fault.Fault.{Fault}
 use Rattle.fuse_sessions.specs.declared.fault.Fault.TheVariants as fault
 use Rattle.fuse_sessions.specs.declared.known.Known.{Known}
-use Rattle.fuse_sessions.specs.declared.transfer.Transfer.{Transfer as Said}
 use Rattle.fuse_sessions.specs.Sessions.{Session}
-use Rattle.fuse_sessions.specs.Frames.{AreRequestActs, IsOffered, IsSession, nothing_known}
-use Rattle.served_sessions.specs.Exchanges.{AllReceived, AreExchanges, AreSaid, IsAnswer}
-use Rattle.served_sessions.specs.Groups.{HasNumber, IsAny, IsNoNotifyReply, is_of_bodies, is_of_heads, is_of_notices, is_of_numbers, is_of_flags, is_nothing, is_of_second_init, is_of_interrupts}
-use Rattle.served_sessions.specs.Served.{NeverAccused, ShowsNone}
+use Rattle.fuse_sessions.specs.Frames.{AreRequestActs, IsOffered, nothing_known}
+use Rattle.served_sessions.specs.Exchanges.{AreExchangesBy, IsAnswer}
+use Rattle.served_sessions.specs.Entries.{IsSoundAnswer}
+use Rattle.served_sessions.specs.Groups.{HasFewForgets, HasNumber, IsAny, IsNoNotifyReply, is_of_bodies, is_of_counts, is_of_entries, is_of_generations, is_of_heads, is_of_notices, is_of_numbers, is_of_flags, is_nothing, is_of_second_init, is_of_interrupts}
+use Rattle.served_sessions.specs.Served.{FreshNeverAccused, IsFreeOf, NeverAccused}
 use Rattle.served_sessions.proofs.Acts.{is_of_frames}
 use Rattle.served_sessions.proofs.Free.{free_if, never_at, AreFree}
+use Rattle.served_sessions.proofs.Generations.{trace_free}
 use Rattle.served_sessions.proofs.Heads.{heads_keep, heads_within, notices_keep, notices_within, flags_keep, flags_within}
 use Rattle.served_sessions.proofs.Numbering.{numbers_keep, numbers_within}
 use Rattle.served_sessions.proofs.Bodied.{bodies_keep, bodies_within}
-use Rattle.served_sessions.proofs.Exchanged.{exchanges}
+use Rattle.served_sessions.proofs.Counted.{counts_keep, counts_within}
+use Rattle.served_sessions.proofs.Entered.{entries_keep, entries_within}
+use Rattle.served_sessions.proofs.Exchanged.{exchanges, sound_exchanges}
 use Rattle.served_sessions.proofs.Kept.{Kept}
-use Rattle.served_sessions.proofs.Sessions.{EndsFree, exchanges_free}
+use Rattle.served_sessions.proofs.Sessions.{exchanges_free}
+use Rattle.served_sessions.proofs.Traced.{traces}
+use Rattle.served_sessions.proofs.Tracked.{Tracks}
 use Rattle.served_sessions.proofs.Written.{Keeps}
 
 kept_first : (even : Bool) → Kept even nothing_known []
@@ -41,23 +48,27 @@ kept_first even = record {
     none_offered r is = cc
 
 module _ (group asked : Fault → Bool) (within : (f : Fault) → group f ≡ true → is_of_frames f ≡ true)
-    (IsSuch : List ℕ → Type 0)
+    (IsSuch : List ℕ → Type 0) (Answers : List ℕ → List ℕ → Type 0)
+    (head : (request reply : List ℕ) → Answers request reply → IsAnswer request reply)
     (answers : (k later : Known) (s : Session) (request reply : List ℕ) (t : Taken) (acts : List Act)
-    → Kept (asked fault.OddNumber) k s → IsSuch request → IsAnswer request reply → AreRequestActs k request acts
+    → Kept (asked fault.OddNumber) k s → IsSuch request → Answers request reply → AreRequestActs k request acts
     → IsOffered k request later → AreFree asked s acts → Keeps group later (s ++ acts) reply t) where
-  never : (log : List Transfer) → AreExchanges log → AllReceived IsSuch log → (ts : List Said) → AreSaid log ts
-      → (k : Known) (s : Session) → IsSession ts k s → ShowsNone asked s → ShowsNone group s
+  never : (log : List Transfer) → AreExchangesBy Answers log → IsFreeOf group asked IsSuch log
   never log ex such ts said k s is keeps place f has of =
       let asked_free : (rest : List Act) → s ≡ [] ++ rest → AreFree asked [] rest =
       λ rest same. subst (AreFree asked []) same (free_if asked [] s keeps) in
-      let ends = exchanges_free group asked within IsSuch answers k s log ex ts said such nothing_known []
+      let ends = exchanges_free group asked within IsSuch Answers head answers k s log ex ts said such nothing_known []
       (kept_first (asked fault.OddNumber)) is asked_free in
       never_at group [] s (subst (AreFree group []) (sym ends.all_is) ends.free) place f has of
 
-  -- nor does what a server sends
-  never_accused : NeverAccused group asked IsSuch
-  never_accused old log new serves such ts said k s is keeps =
-      never log (exchanges old log new serves) such ts said k s is keeps
+-- nor does what a server sends
+never_accused : (group asked : Fault → Bool) → ((f : Fault) → group f ≡ true → is_of_frames f ≡ true)
+    → (IsSuch : List ℕ → Type 0) → ((k later : Known) (s : Session) (request reply : List ℕ) (t : Taken) (acts : List Act)
+    → Kept (asked fault.OddNumber) k s → IsSuch request → IsAnswer request reply → AreRequestActs k request acts
+    → IsOffered k request later → AreFree asked s acts → Keeps group later (s ++ acts) reply t)
+    → NeverAccused group asked IsSuch
+never_accused group asked within IsSuch answers old log new serves =
+    never group asked within IsSuch IsAnswer (λ request reply answer. answer) answers log (exchanges old log new serves)
 
 pub heads_never : NeverAccused is_of_heads is_nothing IsAny
 heads_never = never_accused is_of_heads is_nothing heads_within IsAny heads_keep
@@ -73,3 +84,20 @@ flags_never = never_accused is_of_flags is_of_second_init flags_within IsAny fla
 
 pub bodies_never : NeverAccused is_of_bodies is_nothing IsAny
 bodies_never = never_accused is_of_bodies is_nothing bodies_within IsAny bodies_keep
+
+pub counts_never : NeverAccused is_of_counts is_nothing IsAny
+counts_never = never_accused is_of_counts is_nothing counts_within IsAny counts_keep
+
+pub entries_never : FreshNeverAccused is_of_entries is_nothing IsAny
+entries_never old log new serves mounted = never is_of_entries is_nothing entries_within IsAny IsSoundAnswer
+    (λ request reply answer. answer.answers) entries_keep log (sound_exchanges old mounted log new serves)
+
+-- before anything nothing is counted
+tracks_first : (s : Server) → Tracks s.nodes (λ n. count_of s.nodes n) []
+tracks_first s = record { counts = λ n low. omega arith; held = λ n f low some is. absurd (omega (arith, some)) }
+
+pub generations_never : FreshNeverAccused is_of_generations is_nothing HasFewForgets
+generations_never old log new serves mounted such ts said k s is keeps place f has of =
+    let ends = trace_free k s old new log (traces old mounted log new serves) ts said such nothing_known [] (kept_first false)
+    (tracks_first old) is in
+    never_at is_of_generations [] s (subst (AreFree is_of_generations []) (sym ends.all_is) ends.free) place f has of

@@ -1,21 +1,19 @@
 -- A server that answers a request of number 0 is accused, and its kernel is not.
-use Rattle.std.proofs.Common.{◌≡◌, ◌≢◌, ◌≤◌, ◌⊎◌, inl, inr, ℕ, ℤ, pos, negsuc, ◌+◌, ◌^◌, Bool, true, false, List, [], ◌∷◌, ◌++◌, Option, Some, None, length, refl, sym, ◌∙◌, ap, subst, nat_eq, arith, rules, slice_range}
-use Rattle.std.proofs.lemmas.Bool.{true≢false, false≢true}
+use Rattle.std.proofs.Common.{◌≡◌, inl, inr, ℕ, true, false, List, [], ◌∷◌, ◌++◌, Some, None, refl, sym, ◌∙◌, ap, arith, slice_range}
+use Rattle.std.proofs.lemmas.Bool.{false≢true}
 use Rattle.std.proofs.lemmas.Int.{ints}
 use Rattle.std.specs.Borrow.{Bor}
 use Rattle.fk_fields.specs.Fields.{number_at, bytes_of}
-use Rattle.fk_wire.specs.Replies.{WrittenReply, empty_reply}
 use Rattle.fk_wire.specs.Requests as wire
 use Rattle.fk_wire.specs.Requests.{Spells}
 use Rattle.fk_wire.specs.Requests.{RequestMessage as RequestSpelled}
 use Rattle.fuse_spec.specs.declared.WriteResult.TheVariants.{Accepted}
 use Rattle.fuse_spec.specs.Kernel.Messages.{Request, init}
 use Rattle.fuse_spec.specs.Server.Memory.{word_takes_memory}
-use Rattle.fuse_spec.specs.Server.Server.{Server}
 use Rattle.fuse_spec.specs.Server.Taking.{taking}
-use Rattle.fuse_frames.specs.RequestTies.{SaysRequest, request_in}
+use Rattle.fuse_frames.specs.RequestTies.{SaysRequest}
 use Rattle.fuse_frames.proofs.RequestLemmas.{one_request}
-use Rattle.fuse_device.specs.Transfers.{Transfer, received, sent}
+use Rattle.fuse_device.specs.Transfers.{sent}
 use Rattle.fs_server.specs.Effects.{CanTake}
 use Rattle.fs_serve.specs.LongBatches.{IsLongBatch}
 use Rattle.fs_serve.specs.LongInits.{IsLongInit}
@@ -40,13 +38,12 @@ use Rattle.fuse_sessions.specs.declared.fault.Fault.TheVariants as fault
 use Rattle.fuse_sessions.specs.declared.known.Known.{Known}
 use Rattle.fuse_sessions.specs.declared.transfer.Transfer.{Transfer as Said}
 use Rattle.fuse_sessions.specs.declared.transfer.Transfer.TheVariants as said
-use Rattle.fuse_sessions.specs.Sessions.{Session}
-use Rattle.fuse_sessions.specs.Faults.{Breaks, BreaksArrival, BreaksBeginning, BreaksNumber}
+use Rattle.fuse_sessions.specs.Faults.{BreaksArrival, BreaksBeginning, BreaksNumber}
 use Rattle.fuse_sessions.specs.Frames.{IsHead, IsSession, nothing_known}
 use Rattle.fuse_sessions.specs.RequestActs.{request_acts}
 use Rattle.served_sessions.specs.Counterexamples.{fresh_server, init_of_no_number, is_of_kernel, log_of_no_number, reply_of_no_number}
 use Rattle.served_sessions.specs.Groups.{IsAny, is_of_notices}
-use Rattle.served_sessions.specs.Served.{NeverAccused, ShowsNone}
+use Rattle.served_sessions.specs.Served.{NeverAccused}
 use Rattle.served_sessions.proofs.Free.{AreFree, never_at}
 
 -- ---- the server

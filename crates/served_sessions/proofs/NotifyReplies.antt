@@ -1,20 +1,18 @@
 -- A server that answers a NOTIFY_REPLY is accused of a reply to nothing.
-use Rattle.std.proofs.Common.{◌≡◌, ◌≢◌, ◌⊎◌, inl, inr, ℕ, ℤ, negsuc, Bool, true, false, List, [], ◌∷◌, ◌++◌, Option, Some, None, refl, sym, ◌∙◌, ap, subst, arith, slice_range}
-use Rattle.std.proofs.lemmas.Bool.{false≢true}
+use Rattle.std.proofs.Common.{◌≡◌, inl, inr, ℕ, negsuc, true, List, [], ◌∷◌, ◌++◌, None, refl, sym, ◌∙◌, arith, slice_range}
 use Rattle.std.proofs.lemmas.Int.{ints}
 use Rattle.std.specs.Borrow.{Bor}
 use Rattle.fk_fields.specs.Fields.{number_at, bytes_of}
 use Rattle.fk_wire.specs.declared.opcode.Opcode.{Opcode as Codec}
 use Rattle.fk_wire.specs.declared.opcode.Opcode.TheVariants as codec
 use Rattle.fk_wire.specs.Opcodes.{code_of}
-use Rattle.fk_wire.specs.Replies.{WrittenReply, empty_reply}
 use Rattle.fuse_spec.specs.declared.Minor.TheVariants.{M31}
 use Rattle.fuse_spec.specs.declared.WriteResult.TheVariants.{NoEntry}
 use Rattle.fuse_spec.specs.Kernel.Messages.{Request}
 use Rattle.fuse_frames.specs.RequestTies.{SaysRequest}
-use Rattle.fuse_device.specs.Transfers.{Transfer, received, sent}
+use Rattle.fuse_device.specs.Transfers.{sent}
 use Rattle.fs_server.specs.declared.server.ServerFault.TheVariants.{Wire}
-use Rattle.fs_server.specs.Effects.{RefusesFrame, refused_for}
+use Rattle.fs_server.specs.Effects.{RefusesFrame}
 use Rattle.fs_server.specs.Faults.{IsFaultReply}
 use Rattle.fs_serve.specs.LongBatches.{IsLongBatch}
 use Rattle.fs_serve.specs.LongInits.{IsLongInit}
@@ -39,7 +37,6 @@ use Rattle.fuse_sessions.specs.declared.transfer.Transfer.{Transfer as Said}
 use Rattle.fuse_sessions.specs.declared.transfer.Transfer.TheVariants as said
 use Rattle.fuse_sessions.specs.Faults.{BreaksArrival, BreaksBeginning, BreaksReply}
 use Rattle.fuse_sessions.specs.Frames.{IsHead, IsSession, nothing_known}
-use Rattle.fuse_sessions.specs.RequestActs.{request_acts}
 use Rattle.served_sessions.specs.Counterexamples.{fresh_server, log_of_notify_reply, reply_to_notify_reply, unasked_notify_reply}
 use Rattle.served_sessions.specs.Groups.{IsAny, is_of_interrupts, is_of_numbers}
 use Rattle.served_sessions.specs.Served.{NeverAccused}

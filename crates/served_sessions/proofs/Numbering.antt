@@ -1,10 +1,9 @@
 -- A server replies to requests that wait, where its kernel keeps the rules of INTERRUPTs.
-use Rattle.std.proofs.Common.{◌≡◌, ◌≢◌, ◌⊎◌, inl, inr, ℕ, ◌+◌, ◌-◌, ◌%◌, ◌==◌, Bool, true, false, ◌||◌, List, [], ◌∷◌, ◌++◌, Option, Some, None, refl, sym, ◌∙◌, ap, subst, append_assoc, nat_eq, cond, arith, rules}
+use Rattle.std.proofs.Common.{◌≡◌, ◌≢◌, ◌⊎◌, inl, inr, ℕ, ◌+◌, ◌-◌, ◌%◌, ◌==◌, Bool, true, false, List, [], ◌∷◌, ◌++◌, Option, Some, None, refl, sym, ◌∙◌, ap, subst, append_assoc, nat_eq, arith, rules}
 use Rattle.std.specs.Prelude.{sum_by}
 use Rattle.std.specs.List.{list_any}
 use Rattle.std.specs.Map.{lookup}
-use Rattle.std.proofs.lemmas.Bool.{true≢false, false≢true, false_from_ne_true}
-use Rattle.fuse_protocol.specs.declared.init.InitRequest.{InitRequest}
+use Rattle.std.proofs.lemmas.Bool.{true≢false, false≢true}
 use Rattle.fuse_protocol.specs.declared.opcode.Opcode.TheVariants as op
 use Rattle.fuse_sessions.specs.declared.act.Act.{Act}
 use Rattle.fuse_sessions.specs.declared.act.Act.TheVariants as act
@@ -16,7 +15,7 @@ use Rattle.fuse_sessions.specs.declared.known.Known.{Known}
 use Rattle.fuse_sessions.specs.Sessions.{Session, since}
 use Rattle.fuse_sessions.specs.Waiting.{waiting, waits}
 use Rattle.fuse_sessions.specs.Numbers.{asks_under, reads, was_read, has_several_threads, interrupts, interrupts_of}
-use Rattle.fuse_sessions.specs.Faults.{Breaks, BreaksReply, BreaksReplyToInterrupt, BreaksInterrupt}
+use Rattle.fuse_sessions.specs.Faults.{BreaksReply, BreaksReplyToInterrupt, BreaksInterrupt}
 use Rattle.fuse_sessions.specs.Frames.{number_in, error_in, eagain, is_to_interrupt, of_version, of_offered, AreRequestActs, IsOffered}
 use Rattle.fuse_sessions.specs.UnreadRequests.{opcode_in, unique_in, takes_no_reply}
 use Rattle.fuse_sessions.proofs.Laws.{since-more, sum-more, waiting-more}
@@ -29,6 +28,8 @@ use Rattle.served_sessions.proofs.Free.{free_append, AreFree}
 use Rattle.served_sessions.proofs.Heads.{flags_free, version_free}
 use Rattle.served_sessions.proofs.Kept.{Kept, any_before, threads_alike}
 use Rattle.served_sessions.proofs.Requested.{interrupt_does}
+use Rattle.served_sessions.proofs.Replied.{reply_read}
+use Rattle.served_sessions.proofs.Told.{no_answer, told_free}
 use Rattle.served_sessions.proofs.Written.{Keeps, all_kept}
 
 pub numbers_within : (f : Fault) → is_of_numbers f ≡ true → is_of_frames f ≡ true
@@ -208,5 +209,7 @@ module _ (k later : Known) (s : Session) (request reply : List ℕ) (t : Taken) 
         (flags_free is_of_numbers (λ e. false≢true e) (before ++ of_version i) r i);
     tells = λ a o m waits by is i says.
         plain_init is_of_interrupts k later s request reply t acts kept answers does offers free a o m waits by is i says;
-    fits = λ a o waits by is. absurd (false≢true is);
+    fits = λ a o waits by. reply_read is_of_interrupts k later s request reply t acts kept answers does offers free a o waits by;
+    says = λ a o m waits by is before. told_free is_of_numbers numbers_within
+        (no_answer is_of_numbers numbers_within refl refl refl refl refl) before o a m.answer;
   }

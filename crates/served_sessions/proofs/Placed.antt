@@ -1,7 +1,7 @@
 -- Numbers at places of a frame that is read by its beginning, or in parts.
-use Rattle.std.proofs.Common.{◌≡◌, ◌≤◌, ◌<◌, ℕ, ◌+◌, ◌-◌, ◌*◌, ◌/◌, List, [], ◌∷◌, ◌++◌, length, take, drop, drop-drop, refl, sym, ◌∙◌, ap, subst, arith, length-append, length-drop, length-take}
+use Rattle.std.proofs.Common.{◌≡◌, ◌≤◌, ℕ, ◌+◌, ◌-◌, List, ◌∷◌, ◌++◌, length, take, drop, drop-drop, refl, sym, ◌∙◌, ap, subst, arith, length-append, length-drop, length-take}
 use Rattle.std.proofs.lemmas.List.{drop-take}
-use Rattle.byteorder.specs.Endian.{little_bytes, little_from, little_number}
+use Rattle.byteorder.specs.Endian.{little_bytes, little_from}
 use Rattle.byteorder.specs.Numbers.{little_from-append, little_from-take}
 use Rattle.fk_fields.specs.Fields.{number_at}
 
@@ -19,6 +19,11 @@ taken_from front start most place width bytes start_is fits =
     drop-drop place front bytes ∙ ap (λ (n : ℕ). drop n bytes) (sym start_is) in
     ap (little_from 0 width) one ∙ little_from-take 0 width rest (drop place (drop front bytes)) enough
     ∙ ap (little_from 0 width) two
+
+pub number_from : (front start most place width : ℕ) (bytes : List ℕ) → start ≡ front + place → place + width ≤ most
+    → number_at place width (take most (drop front bytes)) ≡ number_at start width bytes
+unfolding number_at
+number_from front start most place width bytes start_is fits = taken_from front start most place width bytes start_is fits
 
 -- The first 56 bytes of a longer INIT, with 56 as their len: its opcode, its number and its flags are the same.
 module _ (bytes : List ℕ) where

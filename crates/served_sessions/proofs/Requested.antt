@@ -1,34 +1,25 @@
 -- What the frame of a request is read as: by its opcode it asks for a reply, or not.
-use Rattle.std.proofs.Common.{◌≡◌, ◌≢◌, ◌⊎◌, inl, inr, ℕ, ◌==◌, Bool, true, false, not, ◌&&◌, ◌||◌, List, [], ◌∷◌, ◌++◌, Option, Some, None, refl, sym, ◌∙◌, ap, subst, nat_eq, nat_lt, nat_le, ◌+◌, ◌≤◌, drop, slice_range, length, arith, rules}
-use Rattle.std.specs.List.{list_any, list_all}
-use Rattle.std.proofs.lemmas.Bool.{false≢true}
+use Rattle.std.proofs.Common.{◌≡◌, ◌⊎◌, inl, inr, ℕ, Bool, true, false, not, ◌&&◌, List, [], ◌∷◌, ◌++◌, Option, Some, None, refl, sym, ◌∙◌, ap, subst, ◌+◌, ◌≤◌, slice_range, length, arith, rules}
+use Rattle.std.specs.List.{list_all}
 use Rattle.std.proofs.lemmas.List.{drop_all}
 use Rattle.fk_fields.specs.Fields.{number_at}
 use Rattle.fk_wire.specs.Faults.{HasLength}
 use Rattle.fuse_protocol.specs.declared.agreed.Agreed.{Agreed}
-use Rattle.fuse_protocol.specs.declared.init.InitRequest.{InitRequest}
 use Rattle.fuse_protocol.specs.declared.opcode.Opcode.{Opcode}
 use Rattle.fuse_protocol.specs.declared.opcode.Opcode.TheVariants as op
-use Rattle.fuse_protocol.specs.Agreement.{before_init}
-use Rattle.fuse_protocol.specs.Init.{init_request_at}
-use Rattle.fuse_protocol.specs.Inits.{IsInit}
 use Rattle.fuse_protocol.specs.Pairs.{pairs_of_row}
 use Rattle.fuse_protocol.specs.Places.{number_in, places_at}
 use Rattle.fuse_protocol.specs.declared.request.OpenHandle.TheVariants as opened
-use Rattle.fuse_protocol.specs.Requests.{RequestMessage, IsRequest, extension_size}
+use Rattle.fuse_protocol.specs.Requests.{RequestMessage, extension_size}
 use Rattle.fuse_protocol.specs.Table.{row_at, code_of}
 use Rattle.fuse_protocol.proofs.Codes.{same_opcode}
 use Rattle.fuse_sessions.specs.declared.act.Act.{Act}
 use Rattle.fuse_sessions.specs.declared.act.Act.TheVariants as act
 use Rattle.fuse_sessions.specs.declared.act.Asked.{Asked}
-use Rattle.fuse_sessions.specs.declared.fault.Fault.{Fault}
-use Rattle.fuse_sessions.specs.declared.fault.Fault.TheVariants as fault
 use Rattle.fuse_sessions.specs.declared.known.Known.{Known}
-use Rattle.fuse_sessions.specs.Sessions.{Session}
 use Rattle.fuse_sessions.specs.Frames.{AreRequestActs, IsRequestOf}
-use Rattle.fuse_sessions.specs.RequestActs.{request_acts, asked_of, number_of, forgets_in}
-use Rattle.fuse_sessions.specs.UnreadRequests.{unread_acts, unjudged, malformed, asking_unread, may_be_known, has_header, is_later, takes_no_reply, opcode_in, unique_in}
-use Rattle.served_sessions.proofs.Free.{AreFree}
+use Rattle.fuse_sessions.specs.RequestActs.{request_acts, asked_of, number_of}
+use Rattle.fuse_sessions.specs.UnreadRequests.{unjudged, malformed, asking_unread, has_header, takes_no_reply, opcode_in, unique_in}
 use Rattle.served_sessions.proofs.Acts.{each_of, is_plain, is_beside, request_beside, unread_beside, forgets_plain, malformed_plain}
 use Rattle.served_sessions.proofs.Asking.{Ask, asks, asks_unread, is_asking, is_wanted}
 

@@ -1,5 +1,5 @@
 -- What the frame of a request says by its header.
-use Rattle.std.proofs.Common.{◌≡◌, ◌≢◌, ◌≤◌, ℕ, Bool, true, false, List, [], ◌∷◌, ◌++◌, Option, Some, None, length, refl, sym, ◌∙◌, ap, subst, bit_and}
+use Rattle.std.proofs.Common.{◌≡◌, ℕ, Bool, true, false, List, ◌∷◌, Option, Some, length, refl, sym, ◌∙◌, ap, bit_and}
 use Rattle.fk_fields.specs.Fields.{Field, number_at, free32, ReadsAs}
 use Rattle.fk_wire.specs.declared.opcode.Opcode.{Opcode}
 use Rattle.fk_wire.specs.declared.opcode.Opcode.TheVariants as op
@@ -8,7 +8,7 @@ use Rattle.fk_wire.specs.Opcodes.{code_of, has_node}
 use Rattle.fk_wire.specs.Requests.{RequestContent, RequestMessage, known_flags, nodeid_field, opcode_of, request_body, request_fields}
 use Rattle.fk_wire.specs.Requests as wire
 use Rattle.fk_wire.proofs.OneRequest.{within}
-use Rattle.fuse_spec.specs.Kernel.Messages.{Request, RequestBody, init, asks, release, forget, batch_forget, interrupt}
+use Rattle.fuse_spec.specs.Kernel.Messages.{Request, RequestBody, init}
 use Rattle.fuse_frames.specs.RequestTies.{SaysRequest, asked_opcode, body_in, body_or}
 use Rattle.fuse_sessions.specs.UnreadRequests.{opcode_in, unique_in}
 use Rattle.served_sessions.proofs.Bodies.{asked_bytes}
@@ -19,6 +19,20 @@ is_room op.Read = true
 is_room op.Readdir = true
 is_room op.Readdirplus = true
 is_room o = false
+
+-- whether they say how many, or how many bytes they have themselves
+abbrev pub is_measured : Opcode → Bool
+is_measured op.Read = true
+is_measured op.Readdir = true
+is_measured op.Readdirplus = true
+is_measured op.Write = true
+is_measured o = false
+
+pub room_measured : (o : Opcode) → is_room o ≡ true → is_measured o ≡ true
+room_measured op.Read room = refl
+room_measured op.Readdir room = refl
+room_measured op.Readdirplus room = refl
+room_measured o room = cc
 
 past_node : (b : Bool) (node : ℕ) (fs : List Field) (bytes : List ℕ)
     → ReadsAs 16 (nodeid_field b node ∷ free32 0 ∷ free32 0 ∷ free32 0 ∷ free32 0 ∷ fs) bytes → ReadsAs 40 fs bytes
@@ -34,7 +48,7 @@ module _ (frame : List ℕ) (request : Request) (says : SaysRequest frame reques
   abbrev content : RequestContent
   content = says.message.content
 
-  body_reads : ReadsAs 40 (request_body says.message.content) frame
+  pub body_reads : ReadsAs 40 (request_body says.message.content) frame
   body_reads = past_node (has_node (opcode_of says.message.content)) says.message.nodeid
       (request_body says.message.content) frame says.spells.3.1.1.1
 
@@ -79,14 +93,16 @@ module _ (frame : List ℕ) (request : Request) (says : SaysRequest frame reques
   pub interrupt_length : asked_opcode request.body ≡ op.Interrupt → length frame ≡ 48
   interrupt_length is = length_of says.message.content (sym asked_alike ∙ is) body_reads
 
-  -- how many bytes are asked for
+  -- how many bytes are asked for, or written
   room_of : (c : RequestContent) (body : RequestBody) → body_in says.message.nodeid c ≡ Some body
-      → is_room (opcode_of c) ≡ true → ReadsAs 40 (request_body c) frame → number_at 56 4 frame ≡ asked_bytes body
+      → is_measured (opcode_of c) ≡ true → ReadsAs 40 (request_body c) frame → number_at 56 4 frame ≡ asked_bytes body
   room_of (wire.read fh offset size) body is room reads = reads.1.1.0 ∙ ap (λ (b : Option RequestBody). asked_bytes (body_or b)) is
   room_of (wire.readdir offset size) body is room reads = reads.1.0 ∙ ap (λ (b : Option RequestBody). asked_bytes (body_or b)) is
   room_of (wire.readdirplus offset size) body is room reads =
       reads.1.0 ∙ ap (λ (b : Option RequestBody). asked_bytes (body_or b)) is
+  room_of (wire.write fh offset bytes) body is room reads =
+      reads.1.1.0 ∙ ap (λ (b : Option RequestBody). asked_bytes (body_or b)) is
   room_of c body is room reads = cc
 
-  pub frame_room : is_room (asked_opcode request.body) ≡ true → number_at 56 4 frame ≡ asked_bytes request.body
-  frame_room room = room_of says.message.content request.body says.says (ap is_room (sym asked_alike) ∙ room) body_reads
+  pub frame_room : is_measured (asked_opcode request.body) ≡ true → number_at 56 4 frame ≡ asked_bytes request.body
+  frame_room room = room_of says.message.content request.body says.says (ap is_measured (sym asked_alike) ∙ room) body_reads

@@ -1,13 +1,9 @@
 -- A session of exchanges is free of a group of faults, if each frame that answers keeps its header, number and agreement.
-use Rattle.std.proofs.Common.{◌≡◌, ◌≢◌, ◌⊎◌, inl, inr, ℕ, Bool, true, false, List, [], ◌∷◌, ◌++◌, Option, Some, None, refl, sym, ◌∙◌, ap, subst, subst₂, append_assoc, append-nil}
+use Rattle.std.proofs.Common.{◌≡◌, ℕ, Bool, true, List, [], ◌∷◌, ◌++◌, Option, Some, None, refl, sym, ◌∙◌, ap, subst, subst₂, append_assoc, append-nil}
 use Rattle.std.specs.Prelude.{MatchOption}
-use Rattle.std.specs.List.{list_all}
 use Rattle.std.specs.Borrow.{Bor}
-use Rattle.fuse_spec.specs.declared.WriteResult.{WriteResult}
-use Rattle.fuse_device.specs.Transfers.{Transfer, received, sent, unsent, stopped}
+use Rattle.fuse_device.specs.Transfers.{Transfer}
 use Rattle.fuse_protocol.specs.declared.agreed.Unjudged.{Unjudged}
-use Rattle.fuse_protocol.specs.declared.init.InitRequest.{InitRequest}
-use Rattle.fuse_protocol.specs.Agreement.{before_init}
 use Rattle.fuse_replies.specs.Replies.{IsErrorWord}
 use Rattle.fuse_sessions.specs.declared.act.Act.{Act}
 use Rattle.fuse_sessions.specs.declared.act.Act.TheVariants as act
@@ -18,9 +14,9 @@ use Rattle.fuse_sessions.specs.declared.known.Known.{Known}
 use Rattle.fuse_sessions.specs.declared.transfer.Transfer.{Transfer as Said}
 use Rattle.fuse_sessions.specs.declared.transfer.Transfer.TheVariants as said
 use Rattle.fuse_sessions.specs.Sessions.{Session}
-use Rattle.fuse_sessions.specs.Frames.{error_in, AreRequestActs, IsOffered, AreReadActs, AreActs, Lead, IsSession, nothing_known}
-use Rattle.served_sessions.specs.Exchanges.{AllReceived, AreExchanges, AreSaid, IsAnswer, answered, cut_off, ended, nothing, taken_of, unanswered}
-use Rattle.served_sessions.proofs.Acts.{is_beside, is_of_frames}
+use Rattle.fuse_sessions.specs.Frames.{error_in, AreRequestActs, IsOffered, AreReadActs, AreActs, Lead}
+use Rattle.served_sessions.specs.Exchanges.{AllReceived, AreExchangesBy, AreSaid, IsAnswer, answered, cut_off, ended, nothing, unanswered}
+use Rattle.served_sessions.proofs.Acts.{is_of_frames}
 use Rattle.served_sessions.proofs.Free.{beside_free, free_append, free_first, free_last, AreFree}
 use Rattle.served_sessions.proofs.Kept.{Kept, kept_end, kept_request, kept_written}
 use Rattle.served_sessions.proofs.Requested.{acts_beside}
@@ -34,7 +30,7 @@ extends k s (t ∷ ts) later all (acts, next, are, leads) =
     let more : (rest : List Act) × (all ≡ s ++ acts ++ rest) = extends next (s ++ acts) ts later all leads in
     (acts ++ more.0, more.1 ∙ append_assoc s acts more.0)
 
-by_judged : (Goal : Type 0) (o : Option Unjudged) (P : Type 0) (R : Unjudged → Type 0) → (o ≡ None → P → Goal)
+pub by_judged : (Goal : Type 0) (o : Option Unjudged) (P : Type 0) (R : Unjudged → Type 0) → (o ≡ None → P → Goal)
     → ((why : Unjudged) → o ≡ Some why → R why → Goal) → MatchOption o P R → Goal
 by_judged Goal None P R judged unjudged is = judged refl is
 by_judged Goal (Some why) P R judged unjudged is = unjudged why refl is
@@ -46,9 +42,10 @@ pub record EndsFree (group : Fault → Bool) (s all : Session) : Type 0 where
   pub free : AreFree group s rest
 
 module _ (group asked : Fault → Bool) (within : (f : Fault) → group f ≡ true → is_of_frames f ≡ true)
-    (IsSuch : List ℕ → Type 0)
+    (IsSuch : List ℕ → Type 0) (Answers : List ℕ → List ℕ → Type 0)
+    (head : (request reply : List ℕ) → Answers request reply → IsAnswer request reply)
     (answers : (k later : Known) (s : Session) (request reply : List ℕ) (t : Taken) (acts : List Act)
-    → Kept (asked fault.OddNumber) k s → IsSuch request → IsAnswer request reply → AreRequestActs k request acts
+    → Kept (asked fault.OddNumber) k s → IsSuch request → Answers request reply → AreRequestActs k request acts
     → IsOffered k request later → AreFree asked s acts → Keeps group later (s ++ acts) reply t) where
   abbrev even : Bool
   even = asked fault.OddNumber
@@ -93,7 +90,7 @@ module _ (group asked : Fault → Bool) (within : (f : Fault) → group f ≡ tr
       }) (λ why unjudged. no_step k next s acts kept) is
 
   keeps_behind : (k next : Known) (s : Session) (request reply : Bor (List ℕ)) (t : Taken) (acts : List Act)
-      → Kept even k s → IsSuch request.now → IsAnswer request.now reply.now → AreFree asked s acts
+      → Kept even k s → IsSuch request.now → Answers request.now reply.now → AreFree asked s acts
       → AreActs k s (said.Request request) acts next → next.unjudged ≡ None → Keeps group next (s ++ acts) reply.now t
   keeps_behind k next s request reply t acts kept such answer free is judged_next =
       by_judged (Keeps group next (s ++ acts) reply.now t) k.unjudged
@@ -129,7 +126,7 @@ module _ (group asked : Fault → Bool) (within : (f : Fault) → group f ≡ tr
       free = free_append group s acts more.rest free more.free;
     }
 
-    pub exchanges_free : (log : List Transfer) → AreExchanges log → (ts : List Said) → AreSaid log ts
+    pub exchanges_free : (log : List Transfer) → AreExchangesBy Answers log → (ts : List Said) → AreSaid log ts
         → AllReceived IsSuch log → (k : Known) (s : Session) → Kept even k s → Lead k s ts later all
         → ((rest : List Act) → all ≡ s ++ rest → AreFree asked s rest) → EndsFree group s all
     exchanges_free log nothing [] is such k s kept (known, same) free =
@@ -143,10 +140,10 @@ module _ (group asked : Fault → Bool) (within : (f : Fault) → group f ≡ tr
         s kept (acts, next, are, (acts', next', are', leads)) free =
         let first = asked_next s acts next (said.Written c t ∷ ts) free (acts', next', are', leads) in
         let step = request_step k next s b acts kept first are in
-        let answer' : IsAnswer b.now c.now = subst₂ IsAnswer (sym is.0) (sym is.1.0.0) answer in
+        let answer' : Answers b.now c.now = subst₂ Answers (sym is.0) (sym is.1.0.0) answer in
         let such' : IsSuch b.now = subst IsSuch (sym is.0) such.0 in
         let keeps = keeps_behind k next s b c t acts kept such' answer' first are in
-        let step' = written_step next next' (s ++ acts) c t acts' step.kept answer'.error keeps are' in
+        let step' = written_step next next' (s ++ acts) c t acts' step.kept (head b.now c.now answer').error keeps are' in
         behind s acts step.free (behind (s ++ acts) acts' step'.free
         (exchanges_free more ex ts is.1.1 such.1 next' (s ++ acts ++ acts') step'.kept leads
         (asked_later (s ++ acts) acts' (asked_later s acts free))))

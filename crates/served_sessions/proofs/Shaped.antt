@@ -1,16 +1,17 @@
 -- The body of a reply's frame is one of its request's opcode.
-use Rattle.std.proofs.Common.{◌≡◌, ◌≢◌, ◌≤◌, ℕ, ℤ, negsuc, ◌+◌, ◌-◌, ◌==◌, Bool, true, false, List, [], ◌∷◌, length, Option, Some, None, refl, sym, ◌∙◌, ap, subst, arith}
+use Rattle.std.proofs.Common.{◌≡◌, ◌≢◌, ◌≤◌, ℕ, negsuc, ◌-◌, ◌==◌, Bool, true, false, List, [], ◌∷◌, length, Some, refl, sym, ◌∙◌, ap, subst, arith}
 use Rattle.std.specs.Prelude.{MatchBool}
 use Rattle.std.proofs.lemmas.Bool.{eqb-true}
 use Rattle.std.specs.Int.{cast_unsigned, w32}
-use Rattle.fk_fields.specs.Fields.{number_at}
+use Rattle.fk_fields.specs.Fields.{ReadsAs, number_at}
 use Rattle.fk_wire.specs.declared.opcode.Opcode.{Opcode as Codec}
 use Rattle.fk_wire.specs.declared.opcode.Opcode.TheVariants as codec
 use Rattle.fk_wire.specs.Opcodes.{latest_minor, reply_kind_of}
 use Rattle.fk_wire.specs.Opcodes as codecs
-use Rattle.fk_wire.specs.Replies.{IsErrorNumber, ReplyContent, SpellsReply, bytes_reply, kind_of_content, plus_reply, records_reply}
+use Rattle.fk_wire.specs.Replies.{IsErrorNumber, ReplyContent, SpellsReply, bytes_reply, kind_of_content, plus_reply, records_reply, reply_body, write_reply}
 use Rattle.fk_wire.specs.Replies.{ReplyMessage as CodecReply}
 use Rattle.fuse_spec.specs.Kernel.Messages.{Request, WireReply}
+use Rattle.fuse_spec.specs.Server.Nodes.{NodeTable}
 use Rattle.fuse_frames.specs.ReplyTies.{SaysReply, reply_content_of, wire_body}
 use Rattle.fuse_frames.specs.RequestTies.{SaysRequest, asked_opcode}
 use Rattle.fuse_protocol.specs.declared.agreed.Agreed.{Agreed}
@@ -25,16 +26,21 @@ use Rattle.fuse_protocol.specs.Table.{code_of, row_at}
 use Rattle.fuse_protocol.proofs.Codes.{same_opcode}
 use Rattle.fuse_replies.specs.Record.{EntryRecordContent, RecordContent}
 use Rattle.fuse_replies.specs.Records.{AreListed, AreListedPlus, entry_records_from, records_from}
-use Rattle.fuse_replies.specs.Replies.{HasNames, HasSize, IsReply, ReplyMessage, answer_at}
+use Rattle.fuse_replies.specs.Replies.{HasNames, HasSize, IsReply, ReplyMessage, answer_at, content_at}
 use Rattle.fuse_sessions.specs.Frames.{error_in}
 use Rattle.fuse_sessions.specs.UnreadRequests.{opcode_in}
 use Rattle.protocol_law.specs.Law.{Carries}
-use Rattle.protocol_law.specs.ReplyLaw.{table_opcode}
+use Rattle.protocol_law.specs.ReplyLaw.{SayTheSame, table_opcode}
 use Rattle.protocol_law.proofs.RepliedAlike.{replied_alike}
-use Rattle.served_sessions.specs.Exchanges.{HasBodyOf}
+use Rattle.served_sessions.specs.Entries.{HasEntries, HasEntriesIn}
+use Rattle.served_sessions.specs.Exchanges.{HasBodyOf, SaysFew}
 use Rattle.served_sessions.proofs.Bodies.{GoesFor, asked_bytes, frame_length, is_sized, kind_said, wire_length}
+use Rattle.served_sessions.proofs.Entering.{content_entries, entries_of_any}
+use Rattle.served_sessions.proofs.Gained.{Gains, GainsIn, content_gains, entries_of, gains_of_any}
+use Rattle.served_sessions.proofs.Given.{WireGives}
 use Rattle.served_sessions.proofs.Heading.{error_shows}
-use Rattle.served_sessions.proofs.Requests.{frame_opcode, frame_room, is_room}
+use Rattle.served_sessions.proofs.Turned.{WireGains}
+use Rattle.served_sessions.proofs.Requests.{frame_opcode, frame_room, is_measured, is_room, room_measured}
 
 -- ---- behind an error
 
@@ -75,6 +81,20 @@ sized_kind codec.Read content is e = absurd cc
 sized_kind codec.Readdir content is e = absurd cc
 sized_kind codec.Readdirplus content is e = absurd cc
 sized_kind o content is e = absurd cc
+
+no_copies : (o : Codec) → (codecs.code_of o ≢ 47) × (codecs.code_of o ≢ 53)
+no_copies codec.Lookup = (λ e. omega (arith, e), λ e. omega (arith, e))
+no_copies o = (λ e. omega (arith, e), λ e. omega (arith, e))
+
+written_by : (o : Codec) → codecs.code_of o ≡ 16 → o ≡ codec.Write
+written_by codec.Lookup e = absurd (omega (arith, e))
+written_by codec.Write e = refl
+written_by o e = absurd (omega (arith, e))
+
+size_said : (content : ReplyContent) (reply : List ℕ) → reply_kind_of codec.Write ≡ Some (kind_of_content content)
+    → ReadsAs 16 (reply_body content) reply → number_at 16 4 reply ≡ wire_length (wire_body content)
+size_said (write_reply size) reply e reads = reads.0
+size_said content reply e reads = absurd cc
 
 size_fits : (o : Codec) (n m size : ℕ) → (is_room o ≡ true → size ≤ m) → HasSize (row_at (table_opcode o)).reply n size
     → HasSize (row_at (table_opcode o)).reply m size
@@ -143,7 +163,7 @@ named_alike a b s asked bytes r same is = record {
     by false h = tt
 
 module _ (bytes frame : List ℕ) (request : Request) (says : SaysRequest frame request)
-    (opcode : opcode_in bytes ≡ opcode_in frame) (whole : is_room (asked_opcode request.body) ≡ true → bytes ≡ frame)
+    (opcode : opcode_in bytes ≡ opcode_in frame) (whole : is_measured (asked_opcode request.body) ≡ true → bytes ≡ frame)
     (o : Codec) (reply : List ℕ) (wire : WireReply) (said : SaysReply o reply request.unique wire)
     (goes : GoesFor request.body wire)
     (kind : error_in reply ≡ 0
@@ -174,6 +194,27 @@ module _ (bytes frame : List ℕ) (request : Request) (says : SaysRequest frame 
       said.spells.5,
     )
 
+    size_asked : is_measured (asked_opcode request.body) ≡ true → number_at 56 4 bytes ≡ asked_bytes request.body
+    size_asked is = ap (λ (b : List ℕ). number_at 56 4 b) (whole is) ∙ frame_room frame request says is
+
+    -- no more is said to be written than was
+    few_written : opcode_in bytes ≡ 16 → number_at 16 4 reply ≤ number_at 56 4 bytes
+    few_written code =
+        let is : asked_opcode request.body ≡ codec.Write =
+        written_by (asked_opcode request.body) (sym (frame_opcode frame request says) ∙ sym opcode ∙ code) in
+        let body = (kind_said said.message.error said.message.content wire (no_error zero) said.says shows).1 in
+        let number = size_said said.message.content reply (ap reply_kind_of (sym is) ∙ same_kind) said.spells.5.1.1.1 in
+        let same : wire_length (wire_body said.message.content) ≡ wire_length wire = ap wire_length body in
+        let most : number_at 56 4 bytes ≡ asked_bytes request.body = size_asked (ap is_measured is) in
+        omega (arith, number, same, most, goes.fits)
+
+    says_few : SaysFew bytes reply
+    says_few =
+        let none = no_copies (asked_opcode request.body) in
+        let code : opcode_in bytes ≡ codecs.code_of (asked_opcode request.body) =
+        opcode ∙ frame_opcode frame request says in
+        record { written = few_written; no_copy = (λ is. none.0 (sym code ∙ is), λ is. none.1 (sym code ∙ is)) }
+
     -- no more than was asked for
     few : is_room (asked_opcode request.body) ≡ true
         → length reply - 16 ≤ asked_at (row_at (table_opcode (asked_opcode request.body))).reply bytes
@@ -183,8 +224,7 @@ module _ (bytes frame : List ℕ) (request : Request) (says : SaysRequest frame 
         let long = frame_length said.message.content reply said.spells.3 said.spells.5.1.1.1 sized in
         let is : wire_length (wire_body said.message.content) ≡ wire_length wire = ap wire_length body in
         let most : asked_at (row_at (table_opcode (asked_opcode request.body))).reply bytes ≡ asked_bytes request.body =
-        room_at (asked_opcode request.body) bytes room ∙ ap (λ (b : List ℕ). number_at 56 4 b) (whole room)
-        ∙ frame_room frame request says room in
+        room_at (asked_opcode request.body) bytes room ∙ size_asked (room_measured (asked_opcode request.body) room) in
         omega (arith, long, is, most, goes.fits)
 
     fits_as : (agreed : Agreed) → 255 ≤ agreed.max_name → (p : Opcode) → code_of p ≡ opcode_in bytes
@@ -203,5 +243,50 @@ module _ (bytes frame : List ℕ) (request : Request) (says : SaysRequest frame 
         (named_alike carried agreed (row_at (table_opcode (asked_opcode request.body))).reply (length reply) reply one.0 refl
         one.1))
 
+    -- what the table reads is what the codec wrote
+    said_alike : SayTheSame said.message.error said.message.content
+        (content_at (row_at (table_opcode (asked_opcode request.body))).reply (length reply) reply)
+    said_alike =
+        let one = replied_alike latest_minor before_init (asked_opcode request.body) (length reply) reply said.message
+        carries_first (omega arith) spells in
+        let now : content_at (row_at (table_opcode (asked_opcode request.body))).reply (length reply) reply ≡ one.0.answer =
+        rw zero at one.1.answer in
+        subst (SayTheSame said.message.error said.message.content) (sym now) one.2.1
+
+    entries_as : WireGives (asked_opcode request.body) wire → (p : Opcode) → code_of p ≡ opcode_in bytes
+        → HasEntries p (content_at (row_at p).reply (asked_at (row_at p).reply bytes) reply)
+    entries_as gives p code =
+        let same : table_opcode (asked_opcode request.body) ≡ p = same_opcode (table_opcode (asked_opcode request.body)) p
+        (table_code (asked_opcode request.body) ∙ sym (frame_opcode frame request says) ∙ sym opcode ∙ sym code) in
+        let body = (kind_said said.message.error said.message.content wire (no_error zero) said.says shows).1 in
+        let here : HasEntries (table_opcode (asked_opcode request.body))
+        (content_at (row_at (table_opcode (asked_opcode request.body))).reply (length reply) reply) =
+        content_entries (asked_opcode request.body) said.message.error said.message.content
+        (content_at (row_at (table_opcode (asked_opcode request.body))).reply (length reply) reply) said_alike said.spells.4
+        (subst (WireGives (asked_opcode request.body)) (sym body) gives) in
+        entries_of_any p (row_at p).reply (length reply) (asked_at (row_at p).reply bytes) reply
+        (subst (λ (q : Opcode). HasEntries q (content_at (row_at q).reply (length reply) reply)) same here)
+
+    gains_as : (t u : NodeTable) → WireGains t u wire → (p : Opcode) → code_of p ≡ opcode_in bytes
+        → Gains t u (entries_of (content_at (row_at p).reply (asked_at (row_at p).reply bytes) reply))
+    gains_as t u gains p code =
+        let same : table_opcode (asked_opcode request.body) ≡ p = same_opcode (table_opcode (asked_opcode request.body)) p
+        (table_code (asked_opcode request.body) ∙ sym (frame_opcode frame request says) ∙ sym opcode ∙ sym code) in
+        let body = (kind_said said.message.error said.message.content wire (no_error zero) said.says shows).1 in
+        let here : Gains t u (entries_of (content_at (row_at (table_opcode (asked_opcode request.body))).reply (length reply)
+        reply)) = content_gains t u said.message.error said.message.content
+        (content_at (row_at (table_opcode (asked_opcode request.body))).reply (length reply) reply) said_alike said.spells.4
+        (subst (WireGains t u) (sym body) gains) in
+        gains_of_any t u (row_at p).reply (length reply) (asked_at (row_at p).reply bytes) reply
+        (subst (λ (q : Opcode). Gains t u (entries_of (content_at (row_at q).reply (length reply) reply))) same here)
+        (λ n low. let more = gains.counts n in omega (arith, more))
+
+  pub has_gains : (t u : NodeTable) → (error_in reply ≡ 0 → WireGains t u wire) → GainsIn t u bytes reply
+  has_gains t u gains fine p code = gains_as fine t u (gains fine) p code
+
+  -- Its entries are those that are given.
+  pub has_entries : WireGives (asked_opcode request.body) wire → HasEntriesIn bytes reply
+  has_entries gives fine p code = entries_as fine gives p code
+
   pub has_body : HasBodyOf bytes reply
-  has_body = record { bare = bare_of o reply said.message said.spells; fits = fits_as }
+  has_body = record { bare = bare_of o reply said.message said.spells; fits = fits_as; few = says_few }

@@ -1,5 +1,5 @@
 -- What a frame that a server wrote shows by its header, by its number, and by what INIT's reply agrees on.
-use Rattle.std.proofs.Common.{◌≡◌, ◌⊎◌, inl, inr, ℕ, ◌-◌, ◌==◌, Bool, true, false, ◌&&◌, List, [], ◌∷◌, ◌++◌, Option, Some, None, append-nil, refl, sym, ◌∙◌, ap, subst, drop, filter, flat_map, nat_eq, bit_and, if◌then◌else◌}
+use Rattle.std.proofs.Common.{◌≡◌, inl, inr, ℕ, ◌-◌, ◌==◌, Bool, true, false, List, [], ◌∷◌, ◌++◌, Option, Some, None, append-nil, refl, sym, ◌∙◌, ap, subst, drop, filter, flat_map, nat_eq, bit_and, if◌then◌else◌}
 use Rattle.std.specs.Prelude.{MatchBool}
 use Rattle.std.specs.List.{list_all}
 use Rattle.std.specs.Map.{lookup}
@@ -9,7 +9,6 @@ use Rattle.fuse_protocol.specs.declared.init.InitReply.{InitReply}
 use Rattle.fuse_protocol.specs.declared.opcode.Opcode.{Opcode}
 use Rattle.fuse_protocol.specs.declared.opcode.Opcode.TheVariants as op
 use Rattle.fuse_protocol.specs.Table.{row_at}
-use Rattle.fuse_replies.specs.Notifications.{IsNotification, NotificationContent}
 use Rattle.fuse_replies.specs.Records.{entry_records_from}
 use Rattle.fuse_replies.specs.Replies.{AnswerContent, ReplyMessage, IsReply}
 use Rattle.fuse_replies.specs.Replies as answer
@@ -25,14 +24,15 @@ use Rattle.fuse_sessions.specs.declared.fault.Fault.TheVariants as fault
 use Rattle.fuse_sessions.specs.declared.known.Known.{Known}
 use Rattle.fuse_sessions.specs.Sessions.{Session}
 use Rattle.fuse_sessions.specs.Waiting.{waiting, waits}
-use Rattle.fuse_sessions.specs.Faults.{Breaks, BreaksReply, BreaksReplyToInterrupt}
-use Rattle.fuse_sessions.specs.Frames.{number_in, error_in, is_resend, eagain, eintr, eintr_acts, replied, init_acts, of_version, of_offered, said_acts, listed_acts, is_to_interrupt, IsHead, IsHeaded, IsNotified, IsReplyBy, IsReplyOf, IsReplyTo, IsWritten}
+use Rattle.fuse_sessions.specs.Faults.{BreaksReply, BreaksReplyToInterrupt}
+use Rattle.fuse_sessions.specs.Frames.{number_in, error_in, is_resend, eagain, eintr, eintr_acts, replied, init_acts, of_version, of_offered, said_acts, listed_acts, is_to_interrupt, IsHead, IsNotified, IsReplyBy, IsReplyOf, IsReplyTo, IsWritten}
 use Rattle.fuse_sessions.specs.Fits.{fit_in, fit_of_another}
 use Rattle.fuse_sessions.specs.ReplyActs.{answer_acts, record_acts}
 use Rattle.fuse_sessions.proofs.Laws.{waiting-more}
 use Rattle.served_sessions.specs.Exchanges.{IsPlainInit}
-use Rattle.served_sessions.proofs.Acts.{either, each_of, is_beside, is_told, told_are_beside, records_told, answer_told, is_of_frames}
+use Rattle.served_sessions.proofs.Acts.{either, each_of, is_beside, is_of_frames}
 use Rattle.served_sessions.proofs.Free.{beside_free, free_append, AreFree}
+use Rattle.served_sessions.proofs.Told.{answer_told, is_told, records_told}
 
 -- ---- what waits stays
 
@@ -90,8 +90,10 @@ pub record Keeps (group : Fault → Bool) (k : Known) (s : Session) (bytes : Lis
   pub tells : (a : Asked) (o : Opcode) (m : ReplyMessage) → waits s (number_in bytes) ≡ Some a → a.opcode ≡ Some o
       → IsReply k.agreed (row_at o).reply a.asked bytes m → (i : InitReply) → m.answer ≡ answer.init i → IsPlainInit i
   pub fits : (a : Asked) (o : Opcode) → waits s (number_in bytes) ≡ Some a → a.opcode ≡ Some o
-      → group fault.BodyOfAnotherRequest ≡ true
       → (m : ReplyMessage) × IsReply k.agreed (row_at o).reply a.asked bytes m
+  pub says : (a : Asked) (o : Opcode) (m : ReplyMessage) → waits s (number_in bytes) ≡ Some a → a.opcode ≡ Some o
+      → IsReply k.agreed (row_at o).reply a.asked bytes m → (before : Session)
+      → AreFree group before (answer_acts o a m.answer)
 
 module _ (group : Fault → Bool) (within : (f : Fault) → group f ≡ true → is_of_frames f ≡ true)
     (k : Known) (s : Session) (bytes : List ℕ) (t : Taken) (keeps : Keeps group k s bytes t) where
@@ -128,38 +130,25 @@ module _ (group : Fault → Bool) (within : (f : Fault) → group f ≡ true →
 
   said_free : (before : Session) (o : Opcode) (a : Asked) (content : AnswerContent) (t : Taken)
       → ((r : InitRequest) (i : InitReply) → k.offered ≡ Some r → content ≡ answer.init i
-      → AreFree group before (of_version i ++ of_offered r i)) → AreFree group before (said_acts k o a t content)
-  said_free before o a content taken.Accepted free = free_append group before (init_acts k.offered content)
-      (answer_acts o a content) (init_free before k.offered content free)
-      (beside (before ++ init_acts k.offered content) (answer_acts o a content) (told_are_beside (answer_acts o a content) (answer_told o a content)))
-  said_free before o a content taken.NoEntry free = tt
-  said_free before o a content taken.Invalid free = tt
-  said_free before o a content taken.Failed free = tt
+      → AreFree group before (of_version i ++ of_offered r i))
+      → ((later : Session) → AreFree group later (answer_acts o a content)) → AreFree group before (said_acts k o a t content)
+  said_free before o a content taken.Accepted free says = free_append group before (init_acts k.offered content)
+      (answer_acts o a content) (init_free before k.offered content free) (says (before ++ init_acts k.offered content))
+  said_free before o a content taken.NoEntry free says = tt
+  said_free before o a content taken.Invalid free says = tt
+  said_free before o a content taken.Failed free says = tt
 
   module _ (some : (u == 0) ≡ false) (other : is_to_interrupt u (waits s u) ≡ false) where
-    wrong_free : (a : Asked) (o : Opcode) → waits s u ≡ Some a → a.opcode ≡ Some o
-        → ((m : ReplyMessage) → IsReply k.agreed (row_at o).reply a.asked bytes m → ⊥) → (f : Fault)
-        → f ≡ fault.BodyOfAnotherRequest → group f ≡ true → ⊥
-    wrong_free a o waiting' by none f b is =
-        let one = keeps.fits a o waiting' by (ap group (sym b) ∙ is) in none one.0 one.1
-
     of_free : (o : Opcode) (a : Asked) (acts : List Act) (later : Known) → waits s u ≡ Some a → a.opcode ≡ Some o
         → IsReplyOf k bytes t o a acts later → AreFree group s acts
     of_free o a acts later waiting' by (inl (m, is, says)) =
         let body : Fit = fit_in (row_at o).reply a.asked bytes in
         subst (AreFree group s) (sym says.0) (free_append group s (replied bytes t body)
         (said_acts k o a t m.answer) (replied_free some other s refl body) (said_free (s ++ replied bytes t body) o a m.answer t
-        (λ r i offers says'. keeps.agrees a o m waiting' by is r i offers says' (s ++ replied bytes t body))))
+        (λ r i offers says'. keeps.agrees a o m waiting' by is r i offers says' (s ++ replied bytes t body))
+        (keeps.says a o m waiting' by is)))
     of_free o a acts later waiting' by (inr (none, is)) =
-        let body : Fit = fit_of_another (fit_in (row_at o).reply a.asked bytes) in
-        let wrong : List Act = act.Faulty fault.BodyOfAnotherRequest ∷ [] in
-        subst (AreFree group s) (sym is.0) (
-          wrong_free a o waiting' by none,
-          free_append group (s ++ wrong) (replied bytes t body)
-              (listed_acts o a t bytes)
-              (replied_free some other (s ++ wrong) (waits_past_faulty s u fault.BodyOfAnotherRequest) body)
-              (beside (s ++ wrong ++ replied bytes t body) (listed_acts o a t bytes) (told_are_beside (listed_acts o a t bytes) (listed_told bytes o a t))),
-        )
+        let one = keeps.fits a o waiting' by in absurd (none one.0 one.1)
 
     by_free : (o : Option Opcode) (a : Asked) (acts : List Act) (later : Known) → waits s u ≡ Some a → a.opcode ≡ o
         → IsReplyBy k bytes t o a acts later → AreFree group s acts

@@ -1,6 +1,5 @@
 -- Why something is asked of a kernel: sessions in which the definitions accuse a server of what its kernel did.
 use Rattle.std.specs.Prelude.{ℕ, Bool, true, false, List, [], ◌∷◌, ◌++◌, replicate}
-use Rattle.fuse_spec.specs.declared.Validity.{Validity}
 use Rattle.fuse_spec.specs.declared.Minor.TheVariants.{M31}
 use Rattle.fuse_spec.specs.declared.WriteResult.TheVariants.{Accepted, NoEntry}
 use Rattle.fuse_spec.specs.Server.Copies.{remounted}

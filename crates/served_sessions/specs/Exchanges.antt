@@ -4,6 +4,7 @@ use Rattle.fuse_spec.specs.declared.WriteResult.{WriteResult}
 use Rattle.fuse_spec.specs.declared.WriteResult.TheVariants.{Accepted, NoEntry, Invalid}
 use Rattle.fuse_device.specs.Transfers.{Transfer, received, sent, unsent, stopped}
 use Rattle.fuse_device.specs.declared.device.DeviceEnd.{DeviceEnd}
+use Rattle.fk_fields.specs.Fields.{number_at}
 use Rattle.fk_wire.specs.Faults.{HasLength}
 use Rattle.fuse_protocol.specs.declared.init.InitReply.{InitReply}
 use Rattle.fuse_protocol.specs.Init.{init_request_at, init_reply_at}
@@ -29,12 +30,19 @@ pub record AgreesOn (request reply : List ℕ) : Type 0 where
   pub plain : IsPlainInit (init_reply_at reply)
   pub flags : bit_and (init_reply_at reply).flags (init_request_at request).flags ≡ (init_reply_at reply).flags
 
+-- A body says of a WRITE that no more was written than its bytes, and of a copy of a range nothing: this server answers
+-- an error to it. (linux/fuse.h, struct fuse_write_in, struct fuse_write_out)
+pub record SaysFew (request reply : List ℕ) : Type 0 where
+  pub written : opcode_in request ≡ 16 → number_at 16 4 reply ≤ number_at 56 4 request
+  pub no_copy : (opcode_in request ≢ 47) × (opcode_in request ≢ 53)
+
 -- A frame has no body behind an error, and else the body of a reply to the request's opcode, whatever was agreed on but
 -- names of 255 bytes: of the shape of its row, and of no more bytes than were asked for.
 pub record HasBodyOf (request reply : List ℕ) : Type 0 where
   pub bare : error_in reply ≢ 0 → length reply ≡ 16
   pub fits : error_in reply ≡ 0 → (agreed : Agreed) → 255 ≤ agreed.max_name → (o : Opcode) → code_of o ≡ opcode_in request
       → (m : ReplyMessage) × IsReply agreed (row_at o).reply (asked_at (row_at o).reply request) reply m
+  pub few : error_in reply ≡ 0 → SaysFew request reply
 
 -- A frame answers the frame of a request: its header is whole, with an error or none, and its number is the request's.
 -- FORGET and BATCH_FORGET are not answered, and INTERRUPT and NOTIFY_REPLY by an error alone. An INTERRUPT has its
@@ -50,16 +58,20 @@ pub record IsAnswer (request reply : List ℕ) : Type 0 where
   pub body : HasBodyOf request reply
   pub init : opcode_in request ≡ 26 → error_in reply ≡ 0 → AgreesOn request reply
 
--- Behind each frame that was received at most one was sent, which answers it, or the device came to its end.
-pub data AreExchanges : List Transfer → Type 0 where
-  nothing : AreExchanges []
-  unanswered : (request : List ℕ) (later : List Transfer) → AreExchanges later
-      → AreExchanges (received request ∷ later)
-  answered : (request reply : List ℕ) → IsAnswer request reply → (result : WriteResult) (later : List Transfer)
-      → AreExchanges later → AreExchanges (received request ∷ sent reply result ∷ later)
-  cut_off : (request reply : List ℕ) (end : DeviceEnd) (later : List Transfer) → AreExchanges later
-      → AreExchanges (received request ∷ unsent reply end ∷ later)
-  ended : (end : DeviceEnd) (later : List Transfer) → AreExchanges later → AreExchanges (stopped end ∷ later)
+-- Behind each frame that was received at most one was sent, which answers it so, or the device came to its end.
+pub data AreExchangesBy (Answers : List ℕ → List ℕ → Type 0) : List Transfer → Type 0 where
+  nothing : AreExchangesBy Answers []
+  unanswered : (request : List ℕ) (later : List Transfer) → AreExchangesBy Answers later
+      → AreExchangesBy Answers (received request ∷ later)
+  answered : (request reply : List ℕ) → Answers request reply → (result : WriteResult) (later : List Transfer)
+      → AreExchangesBy Answers later → AreExchangesBy Answers (received request ∷ sent reply result ∷ later)
+  cut_off : (request reply : List ℕ) (end : DeviceEnd) (later : List Transfer) → AreExchangesBy Answers later
+      → AreExchangesBy Answers (received request ∷ unsent reply end ∷ later)
+  ended : (end : DeviceEnd) (later : List Transfer) → AreExchangesBy Answers later
+      → AreExchangesBy Answers (stopped end ∷ later)
+
+abbrev pub AreExchanges : List Transfer → Type 0
+AreExchanges log = AreExchangesBy IsAnswer log
 
 -- what the device made of a frame
 abbrev pub taken_of : WriteResult → Taken

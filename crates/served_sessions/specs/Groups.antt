@@ -1,5 +1,5 @@
 -- The groups of faults of which a server is never accused, and what each asks of its kernel.
-use Rattle.std.specs.Prelude.{◌≢◌, ℕ, Bool, true, false, List}
+use Rattle.std.specs.Prelude.{◌≡◌, ◌≢◌, ◌≤◌, ℕ, Bool, true, false, List, length}
 use Rattle.fuse_sessions.specs.declared.fault.Fault.{Fault}
 use Rattle.fuse_sessions.specs.declared.fault.Fault.TheVariants as fault
 use Rattle.fuse_sessions.specs.UnreadRequests.{opcode_in, unique_in}
@@ -35,6 +35,24 @@ abbrev pub is_of_bodies : Fault → Bool
 is_of_bodies fault.BodyOfAnotherRequest = true
 is_of_bodies f = false
 
+-- A reply says of a WRITE that more was written than it has.
+abbrev pub is_of_counts : Fault → Bool
+is_of_counts fault.MoreThanWasAsked = true
+is_of_counts f = false
+
+-- An entry is of no node, or of the root, or its file is of no kind, or of another than its request makes.
+abbrev pub is_of_entries : Fault → Bool
+is_of_entries fault.EntryOfTheRoot = true
+is_of_entries fault.EntryOfNoNode = true
+is_of_entries fault.EntryOfNoKind = true
+is_of_entries fault.EntryOfAnotherKind = true
+is_of_entries f = false
+
+-- A node that is counted is given under another generation.
+abbrev pub is_of_generations : Fault → Bool
+is_of_generations fault.NodeOfTwoGenerations = true
+is_of_generations f = false
+
 -- ---- faults of a kernel that a group asks it not to have
 
 abbrev pub is_nothing : Fault → Bool
@@ -65,3 +83,7 @@ HasNumber frame = unique_in frame ≢ 0
 -- It is no NOTIFY_REPLY, for which this server never asks.
 abbrev pub IsNoNotifyReply : List ℕ → Type 0
 IsNoNotifyReply frame = opcode_in frame ≢ 41
+
+-- A BATCH_FORGET has 64 pairs at most, which the server takes at once. Whether the law needs that is not known.
+abbrev pub HasFewForgets : List ℕ → Type 0
+HasFewForgets frame = opcode_in frame ≡ 42 → length frame ≤ 1072

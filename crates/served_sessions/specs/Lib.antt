@@ -1,4 +1,5 @@
 pub mod Groups
 pub mod Exchanges
+pub mod Entries
 pub mod Served
 pub mod Counterexamples

@@ -2,6 +2,7 @@
 use Rattle.std.specs.Prelude.{◌≡◌, ℕ, Bool, true, List, []}
 use Rattle.fuse_spec.specs.Server.Server.{Server}
 use Rattle.fuse_device.specs.Transfers.{Transfer}
+use Rattle.fs_serve.specs.LookupCounts.{IsFresh}
 use Rattle.fs_serve.specs.Serving.{Serves}
 use Rattle.fuse_sessions.specs.declared.fault.Fault.{Fault}
 use Rattle.fuse_sessions.specs.declared.known.Known.{Known}
@@ -10,7 +11,7 @@ use Rattle.fuse_sessions.specs.Sessions.{Session}
 use Rattle.fuse_sessions.specs.Faults.{HasFaultAt}
 use Rattle.fuse_sessions.specs.Frames.{IsSession}
 use Rattle.served_sessions.specs.Exchanges.{AllReceived, AreSaid}
-use Rattle.served_sessions.specs.Groups.{HasNumber, IsAny, IsNoNotifyReply, is_nothing, is_of_bodies, is_of_flags, is_of_heads, is_of_interrupts, is_of_notices, is_of_numbers, is_of_second_init}
+use Rattle.served_sessions.specs.Groups.{HasFewForgets, HasNumber, IsAny, IsNoNotifyReply, is_nothing, is_of_bodies, is_of_counts, is_of_entries, is_of_flags, is_of_generations, is_of_heads, is_of_interrupts, is_of_notices, is_of_numbers, is_of_second_init}
 
 -- No act of a session has, at its moment, a fault of this group.
 abbrev pub ShowsNone : (Fault → Bool) → Session → Type 0
@@ -27,10 +28,18 @@ abbrev pub NeverAccused : (group asked : Fault → Bool) → (List ℕ → Type 
 NeverAccused group asked IsSuch =
     (old : Server) (log : List Transfer) (new : Server) → Serves old log new → IsFreeOf group asked IsSuch log
 
--- What went over a server's device shows no fault of the server, of each of these groups.
-pub record IsUnaccused (log : List Transfer) : Type 0 where
+-- The same of a server that was just mounted, whose tree is the root alone.
+abbrev pub FreshNeverAccused : (group asked : Fault → Bool) → (List ℕ → Type 0) → Type 0
+FreshNeverAccused group asked IsSuch =
+    (old : Server) (log : List Transfer) (new : Server) → Serves old log new → IsFresh old → IsFreeOf group asked IsSuch log
+
+-- What went over a device from this server on shows no fault of the server, of each of these groups.
+pub record IsUnaccused (old : Server) (log : List Transfer) : Type 0 where
   pub frames : IsFreeOf is_of_heads is_nothing IsAny log
   pub notifications : IsFreeOf is_of_notices is_nothing HasNumber log
   pub replies : IsFreeOf is_of_numbers is_of_interrupts IsNoNotifyReply log
   pub flags : IsFreeOf is_of_flags is_of_second_init IsAny log
   pub bodies : IsFreeOf is_of_bodies is_nothing IsAny log
+  pub counts : IsFreeOf is_of_counts is_nothing IsAny log
+  pub entries : IsFresh old → IsFreeOf is_of_entries is_nothing IsAny log
+  pub generations : IsFresh old → IsFreeOf is_of_generations is_nothing HasFewForgets log

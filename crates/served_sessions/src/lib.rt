@@ -11,6 +11,7 @@ mod never_accused;
 
 pub use counterexamples::{no_notify_reply_is_needed, number_is_needed};
 pub use never_accused::{
-    bodies_fit, flags_are_offered, frames_are_whole, notifications_are_whole, replies_are_awaited,
+    bodies_fit, entries_are_of_files, flags_are_offered, frames_are_whole, no_more_is_counted,
+    nodes_stay_of_one_generation, notifications_are_whole, replies_are_awaited,
     served_in_exchanges, served_is_unaccused,
 };

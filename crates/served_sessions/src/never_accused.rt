@@ -5,9 +5,9 @@ ghost use Rattle.fuse_spec.specs.Server.Server.{Server};
 ghost use Rattle.fuse_device.specs.Transfers.{Transfer};
 ghost use Rattle.fs_serve.specs.Serving.{Serves};
 ghost use Rattle.served_sessions.specs.Exchanges.{AreExchanges};
-ghost use Rattle.served_sessions.specs.Groups.{HasNumber, IsAny, IsNoNotifyReply};
-ghost use Rattle.served_sessions.specs.Groups.{is_nothing, is_of_bodies, is_of_flags, is_of_heads, is_of_interrupts, is_of_notices, is_of_numbers, is_of_second_init};
-ghost use Rattle.served_sessions.specs.Served.{IsUnaccused, NeverAccused};
+ghost use Rattle.served_sessions.specs.Groups.{HasFewForgets, HasNumber, IsAny, IsNoNotifyReply};
+ghost use Rattle.served_sessions.specs.Groups.{is_nothing, is_of_bodies, is_of_counts, is_of_entries, is_of_flags, is_of_generations, is_of_heads, is_of_interrupts, is_of_notices, is_of_numbers, is_of_second_init};
+ghost use Rattle.served_sessions.specs.Served.{FreshNeverAccused, IsUnaccused, NeverAccused};
 
 /// Behind each frame that is received at most one is sent, which answers it under its number.
 pub fn served_in_exchanges()
@@ -40,8 +40,25 @@ pub fn bodies_fit()
     ensures { NeverAccused is_of_bodies is_nothing IsAny }
 {}
 
+/// No reply says of a WRITE that more was written than it has, whatever the kernel does.
+pub fn no_more_is_counted()
+    ensures { NeverAccused is_of_counts is_nothing IsAny }
+{}
+
+/// Each entry of a server that was just mounted is of a node, and not of the root, and its file is of a kind, that which
+/// its request makes, whatever the kernel does.
+pub fn entries_are_of_files()
+    ensures { FreshNeverAccused is_of_entries is_nothing IsAny }
+{}
+
+/// A node that is counted is given under one generation by a server that was just mounted, where each BATCH_FORGET has 64
+/// pairs at most.
+pub fn nodes_stay_of_one_generation()
+    ensures { FreshNeverAccused is_of_generations is_nothing HasFewForgets }
+{}
+
 /// All of these of one log: what `serve` sends is never accused of them. A call without effect, made where a contract rests
 /// on that.
 pub fn served_is_unaccused()
-    ensures { (old : Server) (log : List Transfer) (new : Server) → Serves old log new → IsUnaccused log }
+    ensures { (old : Server) (log : List Transfer) (new : Server) → Serves old log new → IsUnaccused old log }
 {}

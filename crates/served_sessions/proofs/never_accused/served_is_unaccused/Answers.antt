@@ -1,4 +1,4 @@
-use Rattle.served_sessions.proofs.Never.{bodies_never, flags_never, heads_never, notices_never, numbers_never}
+use Rattle.served_sessions.proofs.Never.{bodies_never, counts_never, entries_never, flags_never, generations_never, heads_never, notices_never, numbers_never}
 use Rattle.served_sessions.proofs.never_accused.served_is_unaccused.Goals as goal
 
 pub returns : goal.returns
@@ -8,4 +8,7 @@ returns c = λ old log new serves. record {
   replies = numbers_never old log new serves;
   flags = flags_never old log new serves;
   bodies = bodies_never old log new serves;
+  counts = counts_never old log new serves;
+  entries = entries_never old log new serves;
+  generations = generations_never old log new serves;
 }
