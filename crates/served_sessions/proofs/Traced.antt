@@ -21,8 +21,8 @@ use Rattle.served_sessions.proofs.Gained.{GainsIn}
 use Rattle.served_sessions.proofs.Requests.{frame_opcode}
 use Rattle.served_sessions.proofs.Turns.{GivesBack, Turned, frame_turns}
 
--- From one server on to another: behind each frame at most one is sent, which answers it, and each node that is counted
--- stays as it was but for what the frame gives back, and for what an accepted reply gives. A long BATCH_FORGET is left open.
+-- From one server on to another. Behind each frame at most one is sent, which answers it. Each node that is counted stays
+-- as it was, but for what the frame gives back and what an accepted reply gives. A long BATCH_FORGET is left open.
 pub data Trace : Server → List Transfer → Server → Type 0 where
   ready : (s : Server) → Trace s [] s
   silent : (s mid last : Server) (request : List ℕ) (later : List Transfer) → Turned s mid request → Trace mid later last
