@@ -7,8 +7,8 @@ The server is started anew for each try. It listens at the Unix stream socket wh
 SOCK; or it has /dev/fd/N in the place of the word MOUNT, by examples/drive/launcher.c, which -l names once it is built.
 
 A fault is a line in which `drive` says what the server did wrong, or the judge of sessions does, without its numbers. Where
-there is none, it is the first answer that `fuseworld serve` gives otherwise at the same script, as `--random` compares answers.
-The first fault of the whole script is kept, or the one that -f names, as "no reply". SCRIPT.short is the script that is left, with what
+there is none, it is the first answer that `fuseworld serve` gives otherwise at the same script, as `--random` compares answers;
+and where all are alike, what the judge warns of. The first fault of the whole script is kept, or the one that -f names, as "no reply". SCRIPT.short is the script that is left, with what
 `drive` prints of it as comments; SCRIPT.short.capture what went over the device, and SCRIPT.short.svg a picture of it.
 """
 import argparse
@@ -22,6 +22,7 @@ from pathlib import Path
 
 WRONG = re.compile(r"(reply to nothing|second reply|no reply's head|body is not its request's|node \d+ under two generations"
                    r"|node \d+ given for two files at once|the root given for a name|differs: |frame \d+: server: )")
+ODD = re.compile(r"frame \d+: warning: ")
 # The lines that name a call by its number, and which word that is.
 NAMES_CALL = {"intr": 1, "call read": 2, "call write": 2, "call close": 2}
 
@@ -40,7 +41,7 @@ def parsed():
         parser.error("-- and the script come last")
     asked = parser.parse_args(words[:words.index("--")])
     asked.script = Path(words[-1])
-    asked.is_beside = False
+    asked.is_beside = asked.is_odd = False
     return asked
 
 
@@ -132,7 +133,7 @@ def driven(asked, script, capture):
 
 def fault_in(line, asked):
     """The fault that a line says, without its numbers: the one that is asked for, or any; or None."""
-    is_fault = asked.fault in line if asked.fault else WRONG.match(line)
+    is_fault = asked.fault in line if asked.fault else (ODD if asked.is_odd else WRONG).match(line)
     return re.sub(r"\d+", "N", line) if is_fault else None
 
 
@@ -140,25 +141,26 @@ def shrunk(lines, is_wrong):
     """The places of lines of which none can go: parts of them are left out as long as what is left is wrong."""
     kept, part = list(range(len(lines))), max(1, len(lines) // 2)
     while True:
-        has_changed = False
-        for start in range(0, len(kept), part):
+        before, start = len(kept), 0
+        while start < len(kept):
             rest = kept[:start] + kept[start + part:]
             if rest and is_wrong(rest):
-                kept, has_changed = rest, True
-                break
-        if not has_changed and part == 1:
+                kept = rest
+            else:
+                start += part
+        if part == 1 and len(kept) == before:
             return kept
-        part = min(part, max(1, len(kept) // 2)) if has_changed else max(1, part // 2)
+        part = max(1, part // 2)
 
 
 def main():
     asked = parsed()
     lines = [line for line in asked.script.read_text().splitlines() if line and not line.startswith("#")]
-    said = [line for line in tried(asked, lines).splitlines() if fault_in(line, asked)]
-    if not said:
-        asked.is_beside = True
+    for asked.is_beside, asked.is_odd in ((False, False), (True, False), (False, True)):
         said = [line for line in tried(asked, lines).splitlines() if fault_in(line, asked)]
-    if not said:
+        if said:
+            break
+    else:
         sys.exit("the server does nothing wrong at this script")
     fault = fault_in(said[0], asked)
     tries = 0
