@@ -84,7 +84,7 @@ def try_bug(program, built, folder, word):
     if line is None:
         return "the wrong frame did not come"
     wanted = f"line {line}: server: {WANTED[word]}"
-    faults = [re.match(r"line \d+: \w+: [^:]*", text)[0] for text in said.stdout.splitlines() if text.startswith("line ")]
+    faults = [found[0] for text in said.stdout.splitlines() if (found := re.match(r"line \d+: \w+: [^:]*", text))]
     other = [fault for fault in faults if fault != wanted and ": warning: " not in fault]
     if said.returncode != 6 or wanted not in faults or other:
         return f"wanted {wanted}\n{said.stdout}{said.stderr}"

@@ -139,18 +139,29 @@ def fault_in(line, asked):
 
 def shrunk(lines, is_wrong):
     """The places of lines of which none can go: parts of them are left out as long as what is left is wrong."""
-    kept, part = list(range(len(lines))), max(1, len(lines) // 2)
-    while True:
-        before, start = len(kept), 0
+    kept = list(range(len(lines)))
+
+    def leave_out(part, step):
+        nonlocal kept
+        start = 0
         while start < len(kept):
             rest = kept[:start] + kept[start + part:]
             if rest and is_wrong(rest):
                 kept = rest
             else:
-                start += part
-        if part == 1 and len(kept) == before:
+                start += step
+
+    part = len(lines) // 2
+    while part > 8:
+        leave_out(part, part)
+        part //= 2
+    while True:
+        before = len(kept)
+        # What a call takes are some lines that go together or not at all.
+        for part in (8, 6, 4, 3, 2, 1):
+            leave_out(part, 1)
+        if len(kept) == before:
             return kept
-        part = max(1, part // 2)
 
 
 def main():
