@@ -139,7 +139,15 @@ def fault_in(line, asked):
 
 def shrunk(lines, is_wrong):
     """The places of lines of which none can go: parts of them are left out as long as what is left is wrong."""
-    kept = list(range(len(lines)))
+    # Nothing behind the fault is needed.
+    without, wrong = 0, len(lines)
+    while without + 1 < wrong:
+        middle = (without + wrong) // 2
+        if is_wrong(list(range(middle))):
+            wrong = middle
+        else:
+            without = middle
+    kept = list(range(wrong))
 
     def leave_out(part, step):
         nonlocal kept
@@ -151,7 +159,7 @@ def shrunk(lines, is_wrong):
             else:
                 start += step
 
-    part = len(lines) // 2
+    part = len(kept) // 2
     while part > 8:
         leave_out(part, part)
         part //= 2
