@@ -27,6 +27,8 @@ from pathlib import Path
 
 sys.dont_write_bytecode = True
 import drive_server
+import judging
+from judging import judge
 
 TOP = Path(__file__).resolve().parent.parent
 PROGRAM = Path(sys.argv[1] if len(sys.argv) > 1 else TOP / "crates/fuseworld/out/fuseworld").resolve()
@@ -47,16 +49,6 @@ BUGS = [
 ]
 # The server keeps a node too long, and no frame is another one.
 UNSEEN = BUGS[4:]
-passed = failed = 0
-
-
-def judge(name, got, wanted):
-    global passed, failed
-    if got == wanted:
-        passed += 1
-        return
-    failed += 1
-    print(f"not ok: {name}\n  wanted {wanted}\n  got    {got}")
 
 
 def frames(stream):
@@ -299,8 +291,8 @@ def main():
         run_honest(folder, "tests/drive_server.py", TESTED)
         for bug in [*drive_server.BUGS, *drive_server.OPENDIR_BUGS, *drive_server.OPENING_BUGS, *BUGS]:
             run_bug(folder, bug)
-    print(f"{passed} passed, {failed} failed")
-    return bool(failed)
+    print(f"{judging.passed} passed, {judging.failed} failed")
+    return bool(judging.failed)
 
 
 sys.exit(main())

@@ -22,21 +22,13 @@ from pathlib import Path
 sys.dont_write_bytecode = True
 from drive_server import (BUGS, CREATE, FORGET, INIT, OPEN, OPENDIR, OPENDIR_BUGS, OPENING_BUGS, READDIR, RELEASEDIR, Server, agreement, received,
                           reply, send)
+import judging
+from judging import judge
 
 TOP = Path(__file__).resolve().parent.parent
 PROGRAM = Path(sys.argv[1] if len(sys.argv) > 1 else TOP / "crates/fuseworld/out/fuseworld").resolve()
 SECONDS = 10
 FAULTS = re.compile(r"reply to nothing|second reply|body is not|no reply's head|node \d+ (under|given)|the root given|differs: ")
-passed = failed = 0
-
-
-def judge(name, got, wanted):
-    global passed, failed
-    if got == wanted:
-        passed += 1
-        return
-    failed += 1
-    print(f"not ok: {name}\n  wanted {wanted}\n  got    {got}")
 
 
 @contextmanager
@@ -581,5 +573,5 @@ def run_random():
 
 for part in (run_bugs, run_otherwise, run_fields, run_frames, run_abort, run_closings, run_agreements, run_opendir, run_opendir_bugs, run_many, run_talking, run_refusals, run_waits, run_words, run_input, run_packets, run_trace, run_check, run_random):
     part()
-print(f"{passed} passed, {failed} failed")
-sys.exit(bool(failed))
+print(f"{judging.passed} passed, {judging.failed} failed")
+sys.exit(bool(judging.failed))

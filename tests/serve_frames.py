@@ -14,11 +14,13 @@ import tempfile
 import time
 from pathlib import Path
 
+sys.dont_write_bytecode = True
+import judging
+from judging import judge
+
 TOP = Path(__file__).resolve().parent.parent
 PROGRAM = TOP / "crates/fuseworld/out/fuseworld"
 SECONDS = 10
-wrong = []
-right = 0
 
 
 def request(opcode, unique, node, body=b""):
@@ -65,15 +67,6 @@ LOOKUP = request(1, 6, 1, b"none\0")
 FLUSH = request(25, 8, 2, bytes(24))
 FORGET = request(2, 10, 2, struct.pack("<Q", 1))
 RMDIR = request(11, 12, 1, b"a\0")
-
-
-def judge(name, got, wanted):
-    global right
-    if got == wanted:
-        right += 1
-        return
-    wrong.append(name)
-    print(f"not ok: {name}\n  wanted {wanted}\n  got    {got}")
 
 
 def ended(program):
@@ -389,5 +382,5 @@ def run():
 
 
 run()
-print(f"{right} checks of `serve` passed, {len(wrong)} failed")
-sys.exit(bool(wrong))
+print(f"{judging.passed} checks of `serve` passed, {judging.failed} failed")
+sys.exit(bool(judging.failed))
