@@ -1,6 +1,8 @@
 -- Another value at a key that has one: what becomes of a table's rows and late values.
-use Rattle.std.proofs.Common.{◌≡◌, ℕ, ◌+◌, true, false, true≢false, cond, List, length, Option, Some, None, is_some, refl, sym, ap, subst, ◌∙◌, T}
+use Rattle.std.proofs.Common.{◌≡◌, ℕ, ◌+◌, Bool, true, false, true≢false, cond, List, [], ◌∷◌, length, Option, Some, None, is_some, refl, sym, ap, subst, ◌∙◌, T}
 use Rattle.std.specs.Prelude.{slice_set, slice_index_or}
+use Rattle.std.specs.Map.{set_value}
+use Rattle.std.specs.BTreeMap.{is_at}
 use Rattle.std.specs.Ordering.{nat_cmp}
 use Rattle.std.specs.FinMap.{is_sorted}
 use Rattle.std.specs.FinMap.Entries.{length-put}
@@ -12,7 +14,7 @@ use Rattle.fuse_tables.specs.LiveRows.{live}
 use Rattle.fuse_tables.specs.TableState.{TableState, IsRowOf}
 use Rattle.fuse_tables.proofs.Rows.{replaced_there, sorted_with}
 use Rattle.fuse_tables.proofs.Live.{live_put, sorted_live, held, get_live, value_at_row}
-use Rattle.fuse_tables.proofs.LateEntries.{Updated, over, get_late, late_put, row_put, row_none, value_row, kept_late, kept_row_put, sorted_entries}
+use Rattle.fuse_tables.proofs.LateEntries.{Updated, over, get_late, late_put, row_put, value_row, kept_late, kept_row_put, sorted_entries}
 
 module _ {V : Type 0} where
   abbrev pub table_of : ℕ → List (ℕ × V) → TableState V
@@ -22,9 +24,19 @@ module _ {V : Type 0} where
   not_some None e = refl
   not_some (Some v) e = absurd (true≢false e)
 
-  over_some : (late row : Option V) → is_some late ≡ true → over late row ≡ late
-  over_some None row some = absurd (true≢false (sym some))
-  over_some (Some v) row some = refl
+  over_row : (late : Option V) → over late None ≡ late
+  over_row None = refl
+  over_row (Some v) = refl
+
+  -- nothing is written at a key that has no late value
+  late_absent : (os : List (ℕ × V)) (k : ℕ) (w : V) → late_at os k ≡ None → set_value (is_at (nat_cmp k)) os w ≡ os
+  late_absent [] k w none = refl
+  late_absent (o ∷ os) k w none =
+      elim (is_at (nat_cmp k) o.0) as (λ b. cond b (Some o.1) (late_at os k) ≡ None
+      → cond b ((o.0, w) ∷ os) (o ∷ set_value (is_at (nat_cmp k)) os w) ≡ o ∷ os) [
+        | true ↦ λ e. absurd (true≢false (ap is_some e))
+        | false ↦ λ e. ap (λ l. o ∷ l) (late_absent os k w e)
+      ] none
 
   length_written : (es : List (ℕ × V)) (k : ℕ) (v : V) → T (is_sorted nat_cmp es) → is_some (get es k) ≡ true
       → length (put es k v) ≡ length es
@@ -39,30 +51,29 @@ module _ {V : Type 0} where
   module _ {rows : List (ℕ × Option V)} {os : List (ℕ × V)} {count capacity : ℕ} (t : IsRisingTable rows os count capacity) where
     -- ---- a late value
 
-    pub late_is : (k : ℕ) → is_some (late_at os k) ≡ true → get (entries_of rows os) k ≡ late_at os k
-    late_is k some = get_late (live rows) os k ∙ over_some (late_at os k) (get (live rows) k) some
+    pub late_is : (k : ℕ) → get (live rows) k ≡ None → get (entries_of rows os) k ≡ late_at os k
+    late_is k absent = get_late (live rows) os k ∙ ap (over (late_at os k)) absent ∙ over_row (late_at os k)
 
     pub late_entries : (new : List (ℕ × V)) (k : ℕ) (w : V) → Updated os k (Some w) new
         → entries_of rows new ≡ put (entries_of rows os) k w
     late_entries new k w has = late_put (live rows) os new k w (sorted_live rows t.kept.sorted) has
 
-    absent_row : (k : ℕ) → is_some (late_at os k) ≡ true → get (live rows) k ≡ None
-    absent_row k some = by (late_at os k) refl some
+    pub late_written : (new : List (ℕ × V)) (k : ℕ) (w : V) → get (live rows) k ≡ None
+        → new ≡ set_value (is_at (nat_cmp k)) os w → (is_some (late_at os k) ≡ true → Updated os k (Some w) new)
+        → IsRisingTable rows new count capacity
+    late_written new k w absent set has = by (is_some (late_at os k)) refl
       where
-        by : (o : Option V) → late_at os k ≡ o → is_some o ≡ true → get (live rows) k ≡ None
-        by None e s = absurd (true≢false (sym s))
-        by (Some v) e s = row_none t.kept k v e
-
-    pub late_written : (new : List (ℕ × V)) (k : ℕ) (w : V) → is_some (late_at os k) ≡ true
-        → Updated os k (Some w) new → IsRisingTable rows new count capacity
-    late_written new k w some has =
-        let long = ap length (late_entries new k w has) ∙ length_written (entries_of rows os) k w (sorted_entries t.kept)
-        (ap is_some (late_is k some) ∙ some) in
-        record {
-          kept = kept_late t.kept new k (Some w) (absent_row k some) has;
-          counted = t.counted ∙ sym long;
-          half = t.half;
-        }
+        by : (b : Bool) → is_some (late_at os k) ≡ b → IsRisingTable rows new count capacity
+        by false none = subst (λ l. IsRisingTable rows l count capacity)
+            (sym (set ∙ late_absent os k w (not_some _ none))) t
+        by true some =
+            let long = ap length (late_entries new k w (has some)) ∙ length_written (entries_of rows os) k w
+            (sorted_entries t.kept) (ap is_some (late_is k absent) ∙ some) in
+            record {
+              kept = kept_late t.kept new k (Some w) absent (has some);
+              counted = t.counted ∙ sym long;
+              half = t.half;
+            }
 
     -- ---- a value among the rows
 

@@ -1,10 +1,10 @@
 //! Rows in rising key, and beside them the values whose keys came late.
 
-ghost use Rattle.std.specs.Prelude.{◌≡◌, ℕ, Bool, ◌<◌, ◌≤◌, IsSome, None, if◌then◌else◌, is_some, length};
+ghost use Rattle.std.specs.Prelude.{◌≡◌, ℕ, Bool, ◌<◌, ◌≤◌, IsSome, None, if◌then◌else◌, length};
 ghost use Rattle.std.specs.Option.{option_copied};
 ghost use Rattle.std.specs.VecDeque.{deque_capacity, deque_len};
 ghost use Rattle.fuse_spec.specs.Values.Maps.{get as value_at, put as with_value, remove as without_key};
-ghost use Rattle.fuse_tables.specs.LateValues.{AreKept, entries_of, late_at};
+ghost use Rattle.fuse_tables.specs.LateValues.{AreKept, entries_of};
 ghost use Rattle.fuse_tables.specs.KeyTests.{Tells, kept_by};
 
 use crate::live_rows::{
@@ -20,14 +20,6 @@ pub(crate) type Late<V, A> = BTreeMap<u64, V, A>;
 
 /// A table that holds no more rows than this has no map: a value that is put between others moves at most half of them.
 const FEW: usize = 32;
-
-/// Whether a key has a late value.
-#[inline(always)]
-pub(crate) fn has_late<V, A: Allocator>(late: &Late<V, A>, key: u64) -> bool
-    ensures { result ≡ is_some (late_at late.now.entries key) }
-{
-    !late.is_empty() && late.contains_key(&key)
-}
 
 /// The value at a key where some came late.
 #[inline(never)]

@@ -1,6 +1,6 @@
 //! Rows in rising key, of which some are empty.
 
-ghost use Rattle.std.specs.Prelude.{◌≡◌, ◌+◌, ◌-◌, ◌<◌, ◌≤◌, ◌↔◌, IsSome, None, T, length, true};
+ghost use Rattle.std.specs.Prelude.{◌≡◌, ◌+◌, ◌-◌, ◌<◌, ◌≤◌, ◌↔◌, IsSome, MatchOption, None, T, is_some, length, true};
 ghost use Rattle.std.specs.Option.{option_copied};
 ghost use Rattle.std.specs.Ordering.{nat_cmp};
 ghost use Rattle.std.specs.FinMap.{is_sorted};
@@ -39,6 +39,21 @@ fn search_value<V, A: Allocator>(rows: &Rows<V, A>, key: u64) -> Option<&V>
     };
     let row = &rows[place];
     row.1.as_ref()
+}
+
+/// Where the row of a key stands, if it has a value.
+#[inline(always)]
+pub(crate) fn find_live<V, A: Allocator>(rows: &Rows<V, A>, key: u64) -> Option<usize>
+    requires { T (is_sorted nat_cmp rows.now.items) }
+    ensures { MatchOption result (value_at (live rows.now.items) key ≡ None) (λ place.
+        IsRowOf rows.now.items key place × (is_some (value_at (live rows.now.items) key) ≡ true)) }
+{
+    let place = find_row(rows, key)?;
+    if rows[place].1.is_some() {
+        Some(place)
+    } else {
+        None
+    }
 }
 
 /// The value at a key. Where the row stands at one of the two places at which `find_row` looks first, the value is read

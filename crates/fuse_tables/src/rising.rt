@@ -8,9 +8,8 @@ ghost use Rattle.std.specs.FinMap.{is_sorted};
 ghost use Rattle.fuse_spec.specs.Values.Maps.{get as value_at, put as with_value, remove as without_key};
 ghost use Rattle.fuse_tables.specs.KeyTests.{Tells, kept_by};
 
-use crate::late::{Late, has_late, put_value, replace_value, retain_values, take_value, value_of};
-use crate::live_rows::{Rows, is_above};
-use crate::rows_by_key::find_row;
+use crate::late::{Late, put_value, replace_value, retain_values, take_value, value_of};
+use crate::live_rows::{Rows, find_live, is_above};
 use std::alloc::{AllocError, Allocator, Global};
 use std::collections::{BTreeMap, VecDeque};
 use std::marker::Model;
@@ -113,10 +112,9 @@ impl<V: Drop, A: Allocator + Copy> RisingTable<V, A> {
         ensures value { option_copied_mut result ≡ value_at self.old.entries key }
         ensures sorted { T (is_sorted nat_cmp self.old.entries) }
     {
-        if has_late(&self.late, key) {
+        let Some(place) = find_live(&self.rows, key) else {
             return self.late.get_mut(&key);
-        }
-        let place = find_row(&self.rows, key)?;
+        };
         let row = &mut self.rows[place];
         let value = row.1.as_mut()?;
         Some(value)
