@@ -411,12 +411,33 @@ fn drive_captured<D: Device + Drop, W: Write + Drop, F: Write + Drop>(
     drive_over(rt, asked, task, script, captured, out, lines)
 }
 
-/// The socket: with `--random` the first place names it.
+/// The socket: with `--random` the first place names it, where that is not `-`.
 fn socket_of(asked: DriveTask<'_>) -> Option<&'_ str> {
     match asked.socket {
-        None if asked.is_random => Some(asked.file),
+        None if asked.is_random && asked.file != "-" => Some(asked.file),
         socket => socket,
     }
+}
+
+/// Drives a server over a device. What the judge says of lines that are chosen goes among them as comments, so that what is
+/// printed stays a script.
+fn drive_said<D: Device + Drop, W: Write + Drop, F: Write + Drop>(
+    rt: &HostRuntime,
+    asked: DriveTask<'_>,
+    task: Task<'_>,
+    script: Lines<'_>,
+    file: Option<File>,
+    device: D,
+    out: W,
+    lines: F,
+) -> u8
+    ensures { Contains (drive_statuses asked.entry.is_checked) result }
+{
+    if asked.is_random {
+        let lines = Commented::new(rt.alloc(), lines);
+        return drive_captured(rt, asked, task, script, file, device, out, lines);
+    }
+    drive_captured(rt, asked, task, script, file, device, out, lines)
 }
 
 /// Drives the server on standard input and output, or on a socket, and gives the exit status.
@@ -432,20 +453,14 @@ fn drive_place(
     let Some(path) = socket_of(asked) else {
         let device = PacketDevice::giving_up(rt.reader(), io::writer(rt));
         let (out, lines) = (rt.stderr(), rt.stderr());
-        return drive_captured(rt, asked, task, script, file, device, out, lines);
+        return drive_said(rt, asked, task, script, file, device, out, lines);
     };
     let deadline = Deadline::new(rt, asked.wait_ms);
     match connect(&deadline, path) {
         Ok((reader, writer)) => {
             let device = StreamDevice::of_replies(reader, writer);
-            let out = standard_output(rt);
-            let lines = standard_output(rt);
-            if asked.is_random {
-                // So that what is printed stays a script.
-                let lines = Commented::new(rt.alloc(), lines);
-                return drive_captured(rt, asked, task, script, file, device, out, lines);
-            }
-            drive_captured(rt, asked, task, script, file, device, out, lines)
+            let (out, lines) = (standard_output(rt), standard_output(rt));
+            drive_said(rt, asked, task, script, file, device, out, lines)
         }
         Err(error) if error.kind() == ErrorKind::OutOfMemory => no_memory(&mut rt.stderr()),
         Err(error) => no_socket(rt, &error),
