@@ -136,17 +136,17 @@ module _ (old : Server) (fine : IsFine old) where
       })
   settled_fine number result new (inr (refusal, absent, same)) = subst IsFine (sym same) fine
 
-  delivered_fine : (copy : Sent) (log : List Transfer) (new : Server) → Delivers copy old log new → IsFine new
+  pub delivered_fine : (copy : Sent) (log : List Transfer) (new : Server) → Delivers copy old log new → IsFine new
   delivered_fine copy log new (settled opcode bytes frame result new' is) = settled_fine copy.number result new is
   delivered_fine copy log new (unsettled opcode bytes frame end) = fine
 
-  taken_fine : (unique : ℕ) (body : RequestBody) → IsFine (taking old unique body).server
+  pub taken_fine : (unique : ℕ) (body : RequestBody) → IsFine (taking old unique body).server
   taken_fine unique body = record {
     sound = taking_sound old fine.sound unique body;
     stands = taking_stands old fine.stands unique body;
   }
 
-  performed_fine : (unique errno : ℕ) (copy : Option Sent) (did : Server) → PerformsHeld old unique errno copy did → IsFine did
+  pub performed_fine : (unique errno : ℕ) (copy : Option Sent) (did : Server) → PerformsHeld old unique errno copy did → IsFine did
   performed_fine unique errno copy did p =
       let sound = fine.sound in
       subst IsFine (sym p.server_is) (record {
@@ -172,7 +172,7 @@ released_fine : (did : Server) → IsFine did → (copy : Option Sent) (new : Se
 released_fine did fine None new same = subst IsFine (sym same) fine
 released_fine did fine (Some copy) new settles = settled_fine did fine copy.number Accepted new (inl (settles Accepted))
 
-frame_fine : (old : Server) → IsFine old → (frame : List ℕ) (log : List Transfer) (new : Server)
+pub frame_fine : (old : Server) → IsFine old → (frame : List ℕ) (log : List Transfer) (new : Server)
     → ServesFrame old frame log new → IsFine new
 frame_fine old fine frame log new (done_at_once request new' took silent not_held) =
     subst IsFine (sym took.after) (taken_fine old fine request.unique request.body)
@@ -194,13 +194,13 @@ frame_fine old fine frame log new (refused fault refuses not_memory other low lo
 
 -- ---- frame after frame
 
-pairs_fine : (bytes : List ℕ) (old : Server) → IsFine old → (pairs : List ℕ) (log : List Transfer) (new : Server)
+pub pairs_fine : (bytes : List ℕ) (old : Server) → IsFine old → (pairs : List ℕ) (log : List Transfer) (new : Server)
     → ServesPairs bytes old pairs log new → IsFine new
 pairs_fine bytes old fine pairs log new no_pairs = fine
 pairs_fine bytes old fine pairs log new (more_pairs served before mid serves going left split log' new' more) =
     frame_fine mid (pairs_fine bytes old fine served before mid serves) _ log' new more
 
-next_fine : (old : Server) → IsFine old → (log : List Transfer) (new : Server) → ServesNext old log new → IsFine new
+pub next_fine : (old : Server) → IsFine old → (log : List Transfer) (new : Server) → ServesNext old log new → IsFine new
 next_fine old fine log new (one bytes frame read log' new' serves) = frame_fine old fine frame log' new serves
 next_fine old fine log new (batch bytes long log' new' serves) =
     pairs_fine bytes old fine serves.pairs log' new serves.serves

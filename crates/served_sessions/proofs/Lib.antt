@@ -17,7 +17,11 @@ mod InitReplies
 mod Bodies
 mod Requests
 mod Standing
+mod FileKinds
+mod HeldFiles
+mod Onward
 mod Given
+mod Shown
 mod Fine
 mod Entering
 mod Turned
