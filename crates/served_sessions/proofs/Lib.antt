@@ -19,11 +19,12 @@ mod Requests
 mod Standing
 mod FileKinds
 mod HeldFiles
-mod Onward
 mod Given
 mod Shown
 mod Fine
+mod Onward
 mod Entering
+mod NodeFiles
 mod Turned
 mod Gained
 mod Shaped

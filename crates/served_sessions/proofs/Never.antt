@@ -14,9 +14,10 @@ use Rattle.fuse_sessions.specs.Sessions.{Session}
 use Rattle.fuse_sessions.specs.Frames.{AreRequestActs, IsOffered, nothing_known}
 use Rattle.served_sessions.specs.Exchanges.{AreExchangesBy, IsAnswer}
 use Rattle.served_sessions.specs.Entries.{IsSoundAnswer}
-use Rattle.served_sessions.specs.Groups.{HasFewForgets, HasNumber, IsAny, IsNoNotifyReply, is_of_bodies, is_of_counts, is_of_entries, is_of_generations, is_of_heads, is_of_notices, is_of_numbers, is_of_flags, is_nothing, is_of_second_init, is_of_interrupts}
+use Rattle.served_sessions.specs.Groups.{HasFewForgets, HasNumber, IsAny, IsNoNotifyReply, is_of_bodies, is_of_counts, is_of_entries, is_of_files, is_of_generations, is_of_heads, is_of_pairs, is_of_notices, is_of_numbers, is_of_flags, is_nothing, is_of_second_init, is_of_interrupts}
 use Rattle.served_sessions.specs.Served.{FreshNeverAccused, IsFreeOf, NeverAccused}
 use Rattle.served_sessions.proofs.Acts.{is_of_frames}
+use Rattle.served_sessions.proofs.Fine.{fresh_fine}
 use Rattle.served_sessions.proofs.Free.{free_if, never_at, AreFree}
 use Rattle.served_sessions.proofs.Generations.{trace_free}
 use Rattle.served_sessions.proofs.Heads.{heads_keep, heads_within, notices_keep, notices_within, flags_keep, flags_within}
@@ -28,7 +29,7 @@ use Rattle.served_sessions.proofs.Exchanged.{exchanges, sound_exchanges}
 use Rattle.served_sessions.proofs.Kept.{Kept}
 use Rattle.served_sessions.proofs.Sessions.{exchanges_free}
 use Rattle.served_sessions.proofs.Traced.{traces}
-use Rattle.served_sessions.proofs.Tracked.{Tracks}
+use Rattle.served_sessions.proofs.Tracked.{Tracks, is_of_nodes}
 use Rattle.served_sessions.proofs.Written.{Keeps}
 
 kept_first : (even : Bool) → Kept even nothing_known []
@@ -93,11 +94,39 @@ entries_never old log new serves mounted = never is_of_entries is_nothing entrie
     (λ request reply answer. answer.answers) entries_keep log (sound_exchanges old mounted log new serves)
 
 -- before anything nothing is counted
-tracks_first : (s : Server) → Tracks s.nodes (λ n. count_of s.nodes n) []
-tracks_first s = record { counts = λ n low. omega arith; held = λ n f low some is. absurd (omega (arith, some)) }
+tracks_first : (s : Server) → Tracks s (λ n. count_of s.nodes n) []
+tracks_first s = record {
+  counts = λ n low. omega arith;
+  none = λ n low. refl;
+  held = λ n f low some is. absurd (omega (arith, some));
+  files = λ n f low is. absurd cc;
+}
+
+nodes_never : (group : Fault → Bool) → ((f : Fault) → group f ≡ true → is_of_nodes f ≡ true)
+    → FreshNeverAccused group is_nothing HasFewForgets
+nodes_never group within old log new serves mounted such ts said k s is keeps place f has of =
+    let ends = trace_free k s old new (fresh_fine old mounted) log (traces old mounted log new serves) ts said such
+    nothing_known [] (kept_first false) (tracks_first old) is in
+    never_at is_of_nodes [] s (subst (AreFree is_of_nodes []) (sym ends.all_is) ends.free) place f has (within f of)
+
+generations_within : (f : Fault) → is_of_generations f ≡ true → is_of_nodes f ≡ true
+generations_within fault.NodeOfTwoGenerations is = refl
+generations_within f is = absurd (false≢true is)
+
+files_within : (f : Fault) → is_of_files f ≡ true → is_of_nodes f ≡ true
+files_within fault.NodeOfTwoKinds is = refl
+files_within fault.NodeOfTwoInodeNumbers is = refl
+files_within f is = absurd (false≢true is)
+
+pairs_within : (f : Fault) → is_of_pairs f ≡ true → is_of_nodes f ≡ true
+pairs_within fault.NodeGivenAgain is = refl
+pairs_within f is = absurd (false≢true is)
 
 pub generations_never : FreshNeverAccused is_of_generations is_nothing HasFewForgets
-generations_never old log new serves mounted such ts said k s is keeps place f has of =
-    let ends = trace_free k s old new log (traces old mounted log new serves) ts said such nothing_known [] (kept_first false)
-    (tracks_first old) is in
-    never_at is_of_generations [] s (subst (AreFree is_of_generations []) (sym ends.all_is) ends.free) place f has of
+generations_never = nodes_never is_of_generations generations_within
+
+pub files_never : FreshNeverAccused is_of_files is_nothing HasFewForgets
+files_never = nodes_never is_of_files files_within
+
+pub pairs_never : FreshNeverAccused is_of_pairs is_nothing HasFewForgets
+pairs_never = nodes_never is_of_pairs pairs_within

@@ -10,7 +10,7 @@ use Rattle.fuse_spec.specs.Files.Operations.{Operation, Reply, errno_of, failed,
 use Rattle.fuse_spec.specs.Files.FileOperations.{FileOperation, reply_by, tree_after}
 use Rattle.fuse_spec.specs.Files.Trees.{Tree, attributes_of, kind_of}
 use Rattle.fuse_spec.specs.Kernel.Messages.{RequestBody, WireReply, asks, batch_forget, forget, init, interrupt, release}
-use Rattle.fuse_spec.specs.Server.Nodes.{HeldNode, MayChoose, NodeTable, all_given, file_of, handle_back, is_open, root_row}
+use Rattle.fuse_spec.specs.Server.Nodes.{HeldNode, MayChoose, NodeTable, all_given, file_of, handle_back, is_open, root_row, row_of}
 use Rattle.fuse_spec.specs.Server.Performs.{doing, entry_for, file_operation_of, files_by, files_given, is_open_for, is_still_held, performed, performing, refusing, served, wire_of}
 use Rattle.fuse_spec.specs.Server.Server.{HeldRequest, Server, without_unheld_files}
 use Rattle.fuse_spec.specs.Claim.Denotes.{Denotes}
@@ -48,15 +48,9 @@ pub row_held : (t : NodeTable) (id generation file : ℕ) → 2 ≤ id → (d : 
 row_held t id generation file low d = sym (ap (λ (b : Bool). cond b (Some root_row) (get t.rows id))
     (other_is id 1 (λ is_root. omega (arith, is_root, low)))) ∙ d.there
 
-pub held_denotes : (t : NodeTable) (id : ℕ) (row : HeldNode) → 2 ≤ id → get t.rows id ≡ Some row
-    → Denotes t id row.generation row.file
-held_denotes t id row low at = record {
-  row = row;
-  there = ap (λ (b : Bool). cond b (Some root_row) (get t.rows id))
-      (other_is id 1 (λ is_root. omega (arith, is_root, low))) ∙ at;
-  same_generation = refl;
-  same_file = refl;
-}
+pub row_there : (t : NodeTable) (id : ℕ) (row : HeldNode) → 2 ≤ id → get t.rows id ≡ Some row → row_of t id ≡ Some row
+row_there t id row low at = ap (λ (b : Bool). cond b (Some root_row) (get t.rows id))
+    (other_is id 1 (λ is_root. omega (arith, is_root, low))) ∙ at
 
 -- the file of a node stays where nameless files go
 pub node_stays : (s : Server) (id generation file : ℕ) → 2 ≤ id → Denotes s.nodes id generation file

@@ -53,6 +53,17 @@ abbrev pub is_of_generations : Fault → Bool
 is_of_generations fault.NodeOfTwoGenerations = true
 is_of_generations f = false
 
+-- A node that is counted is given, or described, with another kind or inode number.
+abbrev pub is_of_files : Fault → Bool
+is_of_files fault.NodeOfTwoKinds = true
+is_of_files fault.NodeOfTwoInodeNumbers = true
+is_of_files f = false
+
+-- A warning: a node that is counted no more is given again under its generation, for another file.
+abbrev pub is_of_pairs : Fault → Bool
+is_of_pairs fault.NodeGivenAgain = true
+is_of_pairs f = false
+
 -- ---- faults of a kernel that a group asks it not to have
 
 abbrev pub is_nothing : Fault → Bool

@@ -13,6 +13,6 @@ mod never_accused;
 pub use counterexamples::{no_notify_reply_is_needed, number_is_needed};
 pub use never_accused::{
     bodies_fit, entries_are_of_files, flags_are_offered, frames_are_whole, no_more_is_counted,
-    nodes_stay_of_one_generation, notifications_are_whole, replies_are_awaited,
-    served_in_exchanges, served_is_unaccused,
+    nodes_stay_of_one_file, nodes_stay_of_one_generation, notifications_are_whole,
+    pairs_stay_of_one_file, replies_are_awaited, served_in_exchanges, served_is_unaccused,
 };

@@ -6,7 +6,7 @@ ghost use Rattle.fuse_device.specs.Transfers.{Transfer};
 ghost use Rattle.fs_serve.specs.Serving.{Serves};
 ghost use Rattle.served_sessions.specs.Exchanges.{AreExchanges};
 ghost use Rattle.served_sessions.specs.Groups.{HasFewForgets, HasNumber, IsAny, IsNoNotifyReply};
-ghost use Rattle.served_sessions.specs.Groups.{is_nothing, is_of_bodies, is_of_counts, is_of_entries, is_of_flags, is_of_generations, is_of_heads, is_of_interrupts, is_of_notices, is_of_numbers, is_of_second_init};
+ghost use Rattle.served_sessions.specs.Groups.{is_nothing, is_of_bodies, is_of_counts, is_of_entries, is_of_files, is_of_flags, is_of_generations, is_of_heads, is_of_interrupts, is_of_notices, is_of_numbers, is_of_pairs, is_of_second_init};
 ghost use Rattle.served_sessions.specs.Served.{FreshNeverAccused, IsUnaccused, NeverAccused};
 
 /// Behind each frame that is received at most one is sent, which answers it under its number.
@@ -55,6 +55,18 @@ pub fn entries_are_of_files()
 /// pairs at most.
 pub fn nodes_stay_of_one_generation()
     ensures { FreshNeverAccused is_of_generations is_nothing HasFewForgets }
+{}
+
+/// A node that is counted is given, and described, with one kind and one inode number by a server that was just mounted,
+/// where each BATCH_FORGET has 64 pairs at most.
+pub fn nodes_stay_of_one_file()
+    ensures { FreshNeverAccused is_of_files is_nothing HasFewForgets }
+{}
+
+/// A node that is counted no more is given again under its generation for the same file alone by a server that was just
+/// mounted, where each BATCH_FORGET has 64 pairs at most.
+pub fn pairs_stay_of_one_file()
+    ensures { FreshNeverAccused is_of_pairs is_nothing HasFewForgets }
 {}
 
 /// All of these of one log: what `serve` sends is never accused of them. A call without effect, made where a contract rests
