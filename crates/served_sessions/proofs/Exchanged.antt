@@ -64,7 +64,7 @@ part_silent bytes left long old log new serves =
     by (inr a) = absurd (a.answers.no_forget.1 (same_opcode_of_part (48 + length pairs) (length pairs / 16) bytes pairs
         long.header.0 ∙ long.opcode))
 
-pairs_silent : (bytes : List ℕ) → IsLongBatch bytes → (old : Server) (pairs : List ℕ) (log : List Transfer) (new : Server)
+pub pairs_silent : (bytes : List ℕ) → IsLongBatch bytes → (old : Server) (pairs : List ℕ) (log : List Transfer) (new : Server)
     → ServesPairs bytes old pairs log new → log ≡ []
 pairs_silent bytes long old pairs log new no_pairs = refl
 pairs_silent bytes long old pairs log new (more_pairs served before mid serves going left split log' new' more) =

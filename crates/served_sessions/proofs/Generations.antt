@@ -10,7 +10,6 @@ use Rattle.fuse_spec.specs.Server.Server.{Server}
 use Rattle.fuse_spec.specs.Claim.Denotes.{Denotes}
 use Rattle.fuse_theorem.proofs.Lookups.RowCounts.{count_of}
 use Rattle.fuse_device.specs.Transfers.{Transfer}
-use Rattle.fs_serve.specs.LongBatches.{IsLongBatch}
 use Rattle.fuse_protocol.specs.declared.agreed.Unjudged.{Unjudged}
 use Rattle.fuse_protocol.specs.declared.init.InitRequest.{InitRequest}
 use Rattle.fk_fields.specs.Fields.{number_at}
@@ -54,10 +53,12 @@ use Rattle.served_sessions.proofs.Gifts.{answer_tracks, weaker, weaker_calm}
 use Rattle.served_sessions.proofs.Kept.{Kept, kept_end, kept_request, kept_written}
 use Rattle.served_sessions.proofs.Requested.{asks_or_plain}
 use Rattle.served_sessions.proofs.Sessions.{EndsFree, by_judged}
-use Rattle.served_sessions.proofs.Traced.{Moved, Trace, cut, long, ready, silent, stop}
+use Rattle.served_sessions.proofs.Traced.{Moved, Trace, cut, ready, silent, stop}
 use Rattle.served_sessions.proofs.Traced as traced
 use Rattle.served_sessions.proofs.Tracked.{Calm, Tracks, calm_acts, forgets_less, is_calm, is_of_nodes, known_same, then_calm}
-use Rattle.served_sessions.proofs.Turns.{GivesBack, Turned}
+use Rattle.served_sessions.proofs.BatchTurns.{GivesPairsBack}
+use Rattle.served_sessions.proofs.Batches.{batch_read}
+use Rattle.served_sessions.proofs.Turns.{GivesBack}
 use Rattle.served_sessions.proofs.Written.{Keeps, by_bool}
 
 nothing_free : (s : Session) (acts : List Act) → AreFree is_nothing s acts
@@ -101,24 +102,25 @@ counted s n = count_of s.nodes n
 
 module _ (old mid : Server) (k : Known) (s : Session) (bytes : List ℕ) (acts : List Act) (kept : Kept false k s)
     (tracks : Tracks old (λ n. count_of old.nodes n) s) (moved : Moved old mid bytes)
-    (does : AreRequestActs k bytes acts) where
+    (does : AreRequestActs k bytes acts) (short : HasFewForgets bytes) where
   are_calm : list_all is_calm acts ≡ true
   are_calm = request_calm k bytes acts kept.not_resent does
 
-  abbrev turned : Turned old mid bytes
-  turned = moved.turned
-
-  back_few : (n : ℕ) → turned.back n ≤ sum_by (forgets_of n) acts
-  back_few n = by turned.backs
+  back_few : (n : ℕ) → moved.back n ≤ sum_by (forgets_of n) acts
+  back_few n = by moved.backs
     where
-      by : GivesBack bytes turned.back → turned.back n ≤ sum_by (forgets_of n) acts
-      by (inl none) = let no = none n in omega (arith, no)
-      by (inr (request, says, is)) =
+      by : GivesBack bytes moved.back ⊎ GivesPairsBack bytes moved.back → moved.back n ≤ sum_by (forgets_of n) acts
+      by (inl (inl none)) = let no = none n in omega (arith, no)
+      by (inl (inr (request, says, is))) =
           let same = is n in
           let few = forgets_read k bytes acts kept.extensions does request says n in
           omega (arith, same, few)
+      by (inr (batch, less)) =
+          let same = batch_read k bytes acts kept.extensions does batch (short batch.opcode) n in
+          let few = less n in
+          omega (arith, same, few)
 
-  few_left : (n : ℕ) → 2 ≤ n → least_count (s ++ acts) n ≤ count_of old.nodes n - turned.back n
+  few_left : (n : ℕ) → 2 ≤ n → least_count (s ++ acts) n ≤ count_of old.nodes n - moved.back n
   few_left n low =
       let less = forgets_less n s acts are_calm in
       let few = back_few n in
@@ -126,7 +128,7 @@ module _ (old mid : Server) (k : Known) (s : Session) (bytes : List ℕ) (acts :
       omega (arith, less, few, was)
 
   -- So what the session counts behind it the server holds on.
-  request_tracks : Calm mid (λ n. count_of old.nodes n - turned.back n) s acts
+  request_tracks : Calm mid (λ n. count_of old.nodes n - moved.back n) s acts
   request_tracks = record {
     free = (calm_acts old moved.old_fine (λ n. count_of old.nodes n) s acts are_calm tracks).free;
     tracks = record {
@@ -134,9 +136,9 @@ module _ (old mid : Server) (k : Known) (s : Session) (bytes : List ℕ) (acts :
       held = λ n f low some is.
           let few = few_left n low in
           let less = forgets_less n s acts are_calm in
-          let fell = turned.turns.counts n in
+          let fell = moved.turns.counts n in
           let before = tracks.held n f low (omega (arith, less, some)) (sym (known_same n s acts are_calm) ∙ is) in
-          turned.turns.held n f.generation low before (omega (arith, few, fell, some));
+          moved.turns.held n f.generation low before (omega (arith, few, fell, some));
       none = λ n low.
           let less = forgets_less n s acts are_calm in
           let was = tracks.none n low in
@@ -146,8 +148,8 @@ module _ (old mid : Server) (k : Known) (s : Session) (bytes : List ℕ) (acts :
     };
   }
 
-  left_few : (n : ℕ) → 2 ≤ n → count_of old.nodes n - turned.back n ≤ count_of mid.nodes n
-  left_few n low = let fell = turned.turns.counts n in omega (arith, fell)
+  left_few : (n : ℕ) → 2 ≤ n → count_of old.nodes n - moved.back n ≤ count_of mid.nodes n
+  left_few n low = let fell = moved.turns.counts n in omega (arith, fell)
 
 -- ---- what is written gives what the server counts
 
@@ -252,9 +254,9 @@ named_so mid o k n content so same = tt
 module _ (old mid : Server) (k next : Known) (s : Session) (request reply : List ℕ) (t : Taken) (acts : List Act)
     (kept : Kept false k s) (tracks : Tracks old (λ n. count_of old.nodes n) s) (answers : IsAnswer request reply)
     (moved : Moved old mid request) (gains : t ≡ taken.Accepted → GainsIn old.nodes mid request reply)
-    (does : AreRequestActs k request acts) (offers : IsOffered k request next) where
+    (does : AreRequestActs k request acts) (offers : IsOffered k request next) (short : HasFewForgets request) where
   abbrev backs : ℕ → ℕ
-  backs = let turned = moved.turned in turned.back
+  backs = moved.back
 
   keeps_now : Keeps is_of_bodies next (s ++ acts) reply t
   keeps_now = bodies_keep k next s request reply t acts kept tt answers does offers (nothing_free s acts)
@@ -266,7 +268,7 @@ module _ (old mid : Server) (k next : Known) (s : Session) (request reply : List
   gives_now accepted a o m waiting by_row is = by (error_in reply == 0) refl is.answer
     where
       left : (n : ℕ) → 2 ≤ n → count_of old.nodes n - backs n ≤ count_of mid.nodes n
-      left = left_few old mid k s request acts kept tracks moved does
+      left = left_few old mid k s request acts kept tracks moved does short
 
       of_body : error_in reply ≡ 0
           → GivesSo mid (λ n. count_of old.nodes n - backs n) o a.nodeid (content_at (row_at o).reply a.asked reply)
@@ -301,8 +303,8 @@ module _ (old mid : Server) (k next : Known) (s : Session) (request reply : List
   reply_so : (acts' : List Act) (later : Known) → IsWritten next (s ++ acts) reply t acts' later
       → Calm mid (λ n. count_of mid.nodes n) (s ++ acts) acts'
   reply_so acts' later is = written_so mid moved.new_fine (λ n. count_of old.nodes n - backs n)
-      (left_few old mid k s request acts kept tracks moved does) next reply t (s ++ acts)
-      (request_tracks old mid k s request acts kept tracks moved does).tracks keeps_now gives_now acts' later is
+      (left_few old mid k s request acts kept tracks moved does short) next reply t (s ++ acts)
+      (request_tracks old mid k s request acts kept tracks moved does short).tracks keeps_now gives_now acts' later is
 
   reply_kept : (acts' : List Act) (later : Known) → IsWritten next (s ++ acts) reply t acts' later
       → Kept false later (s ++ acts ++ acts')
@@ -348,15 +350,15 @@ module _ (later : Known) (all : Session) where
 
   behind_request : (old mid : Server) (k next : Known) (s : Session) (b : Bor (List ℕ)) (acts : List Act)
       → (kept : Kept false k s) (tracks : Tracks old (λ n. count_of old.nodes n) s) → Moved old mid b.now
-      → AreRequestActs k b.now acts → IsOffered k b.now next
+      → AreRequestActs k b.now acts → HasFewForgets b.now → IsOffered k b.now next
       → (Kept false next (s ++ acts) → Tracks mid (λ n. count_of mid.nodes n) (s ++ acts)
       → EndsFree is_of_nodes (s ++ acts) all)
       → EndsFree is_of_nodes s all
-  behind_request old mid k next s b acts kept tracks moved does offers rest =
-      let calm = request_tracks old mid k s b.now acts kept tracks moved does in
+  behind_request old mid k next s b acts kept tracks moved does short offers rest =
+      let calm = request_tracks old mid k s b.now acts kept tracks moved does short in
       behind s acts all calm.free (rest (kept_request is_nothing k s b.now acts next kept does offers (nothing_free s acts))
-      (weaker mid (λ n. count_of old.nodes n - (let x = moved.turned in x.back n)) (λ n. count_of mid.nodes n) (s ++ acts)
-      (left_few old mid k s b.now acts kept tracks moved does) calm.tracks))
+      (weaker mid (λ n. count_of old.nodes n - moved.back n) (λ n. count_of mid.nodes n) (s ++ acts)
+      (left_few old mid k s b.now acts kept tracks moved does short) calm.tracks))
 
   behind_end : (s0 : Server) → IsFine s0 → (k next : Known) (s : Session) (acts : List Act) → Kept false k s
       → Tracks s0 (λ n. count_of s0.nodes n) s → (acts ≡ act.Ends ∷ []) × (next ≡ k)
@@ -372,47 +374,44 @@ module _ (later : Known) (all : Session) where
   behind_reply : (old mid : Server) (k next next' : Known) (s : Session) (b c : Bor (List ℕ)) (t : Taken)
       (ts : List Said) (acts acts' : List Act) → Kept false k s → Tracks old (λ n. count_of old.nodes n) s
       → IsAnswer b.now c.now → Moved old mid b.now
-      → (t ≡ taken.Accepted → GainsIn old.nodes mid b.now c.now) → AreRequestActs k b.now acts → IsOffered k b.now next
+      → (t ≡ taken.Accepted → GainsIn old.nodes mid b.now c.now) → AreRequestActs k b.now acts → HasFewForgets b.now → IsOffered k b.now next
       → AreActs next (s ++ acts) (said.Written c t) acts' next' → Lead next' (s ++ acts ++ acts') ts later all
       → (Kept false next' (s ++ acts ++ acts') → Tracks mid (λ n. count_of mid.nodes n) (s ++ acts ++ acts')
       → EndsFree is_of_nodes (s ++ acts ++ acts') all)
       → EndsFree is_of_nodes s all
-  behind_reply old mid k next next' s b c t ts acts acts' kept tracks answers moved gains does offers are leads rest =
-      behind s acts all (request_tracks old mid k s b.now acts kept tracks moved does).free
+  behind_reply old mid k next next' s b c t ts acts acts' kept tracks answers moved gains does short offers are leads rest =
+      behind s acts all (request_tracks old mid k s b.now acts kept tracks moved does short).free
       (either_judged next (s ++ acts) (said.Written c t) ts acts' next' are leads (λ is.
-      let calm = reply_so old mid k next s b.now c.now t acts kept tracks answers moved gains does offers acts' next' is in
+      let calm = reply_so old mid k next s b.now c.now t acts kept tracks answers moved gains does offers short acts' next' is in
       behind (s ++ acts) acts' all calm.free (rest
-      (reply_kept old mid k next s b.now c.now t acts kept tracks answers moved gains does offers acts' next' is) calm.tracks)))
-
-  no_long : (b : List ℕ) → IsLongBatch b → HasFewForgets b → ⊥
-  no_long b is few = let short = few is.opcode in let more = is.long in omega (arith, short, more)
+      (reply_kept old mid k next s b.now c.now t acts kept tracks answers moved gains does offers short acts' next' is) calm.tracks)))
 
   pub trace_free : (s0 last : Server) → IsFine s0 → (log : List Transfer) → Trace s0 log last → (ts : List Said) → AreSaid log ts
       → AllReceived HasFewForgets log → (k : Known) (s : Session) → Kept false k s
       → Tracks s0 (λ n. count_of s0.nodes n) s → Lead k s ts later all → EndsFree is_of_nodes s all
   trace_free s0 last fine log (ready s') [] is such k s kept tracks (known', same) = ends_here s all same
   trace_free s0 last fine log (ready s') (t ∷ ts) is such k s kept tracks leads = absurd is
-  trace_free s0 last fine log (silent s' mid l request more turned trace) (said.Request b ∷ ts) is such k s kept tracks
+  trace_free s0 last fine log (silent s' mid l request more moves trace) (said.Request b ∷ ts) is such k s kept tracks
       (acts, next, are, leads) =
-      let moved : Moved s0 mid b.now = subst (Moved s0 mid) (sym is.0) turned in
+      let moved : Moved s0 mid b.now = subst (Moved s0 mid) (sym is.0) moves in
       either_judged k s (said.Request b) ts acts next are leads (λ does.
-      behind_request s0 mid k next s b acts kept tracks moved does.0 does.1
+      behind_request s0 mid k next s b acts kept tracks moved does.0 (subst HasFewForgets (sym is.0) such.0) does.1
       (λ kept' tracks'. trace_free mid last moved.new_fine more trace ts is.1 such.1 next (s ++ acts) kept' tracks' leads))
-  trace_free s0 last fine log (traced.replied s' mid l request reply r more answers turned gains trace)
+  trace_free s0 last fine log (traced.replied s' mid l request reply r more answers moves gains trace)
       (said.Request b ∷ said.Written c t ∷ ts) is such k s kept tracks (acts, next, are, (acts', next', are', leads)) =
-      let moved : Moved s0 mid b.now = subst (Moved s0 mid) (sym is.0) turned in
+      let moved : Moved s0 mid b.now = subst (Moved s0 mid) (sym is.0) moves in
       let answers' : IsAnswer b.now c.now = subst₂ IsAnswer (sym is.0) (sym is.1.0.0) answers in
       let gains' : t ≡ taken.Accepted → GainsIn s0.nodes mid b.now c.now =
       λ accepted. subst₂ (GainsIn s0.nodes mid) (sym is.0) (sym is.1.0.0)
       (gains (accepted_of r (sym is.1.0.1 ∙ accepted))) in
       either_judged k s (said.Request b) (said.Written c t ∷ ts) acts next are (acts', next', are', leads) (λ does.
-      behind_reply s0 mid k next next' s b c t ts acts acts' kept tracks answers' moved gains' does.0 does.1 are' leads
+      behind_reply s0 mid k next next' s b c t ts acts acts' kept tracks answers' moved gains' does.0 (subst HasFewForgets (sym is.0) such.0) does.1 are' leads
       (λ kept' tracks'. trace_free mid last moved.new_fine more trace ts is.1.1 such.1 next' (s ++ acts ++ acts') kept' tracks' leads))
-  trace_free s0 last fine log (cut s' mid l request reply end more turned trace) (said.Request b ∷ said.Ended ∷ ts) is such k s
+  trace_free s0 last fine log (cut s' mid l request reply end more moves trace) (said.Request b ∷ said.Ended ∷ ts) is such k s
       kept tracks (acts, next, are, (acts', next', are', leads)) =
-      let moved : Moved s0 mid b.now = subst (Moved s0 mid) (sym is.0) turned in
+      let moved : Moved s0 mid b.now = subst (Moved s0 mid) (sym is.0) moves in
       either_judged k s (said.Request b) (said.Ended ∷ ts) acts next are (acts', next', are', leads) (λ does.
-      behind_request s0 mid k next s b acts kept tracks moved does.0 does.1 (λ kept' tracks'.
+      behind_request s0 mid k next s b acts kept tracks moved does.0 (subst HasFewForgets (sym is.0) such.0) does.1 (λ kept' tracks'.
       either_judged next (s ++ acts) said.Ended ts acts' next' are' leads (λ ends.
       behind_end mid moved.new_fine next next' (s ++ acts) acts' kept' tracks' ends (λ kept'' tracks''.
       trace_free mid last moved.new_fine more trace ts is.1.1 such.1 next' (s ++ acts ++ acts') kept'' tracks'' leads))))
@@ -420,10 +419,8 @@ module _ (later : Known) (all : Session) where
       either_judged k s said.Ended ts acts next are leads (λ ends.
       behind_end s0 fine k next s acts kept tracks ends (λ kept' tracks'.
       trace_free s0 last fine more trace ts is.1 such next (s ++ acts) kept' tracks' leads))
-  trace_free s0 last fine log (long s' l request more long_so) ts is such k s kept tracks leads =
-      absurd (no_long request long_so such.0)
-  trace_free s0 last fine log (silent s' mid l request more turned trace) ts is such k s kept tracks leads = absurd search
-  trace_free s0 last fine log (traced.replied s' mid l request reply r more answers turned gains trace) ts is such k s kept tracks
+  trace_free s0 last fine log (silent s' mid l request more moves trace) ts is such k s kept tracks leads = absurd search
+  trace_free s0 last fine log (traced.replied s' mid l request reply r more answers moves gains trace) ts is such k s kept tracks
       leads = absurd search
-  trace_free s0 last fine log (cut s' mid l request reply end more turned trace) ts is such k s kept tracks leads = absurd search
+  trace_free s0 last fine log (cut s' mid l request reply end more moves trace) ts is such k s kept tracks leads = absurd search
   trace_free s0 last fine log (stop s' l end more trace) ts is such k s kept tracks leads = absurd search

@@ -36,8 +36,10 @@ mod Counted
 mod Entered
 mod Tracked
 mod Forgotten
+mod Batches
 mod Gifts
 mod Turns
+mod BatchTurns
 mod Traced
 mod Generations
 mod Never

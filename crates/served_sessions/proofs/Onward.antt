@@ -21,10 +21,10 @@ pub record Onward (old new : Server) : Type 0 where
   pub nodes : Later old.nodes new.nodes
   pub files : FilesOn old new
 
-same_onward : (s : Server) → Onward s s
+pub same_onward : (s : Server) → Onward s s
 same_onward s = record { nodes = same_later s.nodes; files = same_files s.tree.files s.tree.next_inode }
 
-then_onward : (a b c : Server) → Onward a b → Onward b c → Onward a c
+pub then_onward : (a b c : Server) → Onward a b → Onward b c → Onward a c
 then_onward a b c first second = record {
   nodes = later_still a.nodes b.nodes c.nodes first.nodes second.nodes;
   files = then_files a.tree.files b.tree.files c.tree.files a.tree.next_inode b.tree.next_inode c.tree.next_inode

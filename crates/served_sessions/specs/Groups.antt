@@ -95,6 +95,6 @@ HasNumber frame = unique_in frame ≢ 0
 abbrev pub IsNoNotifyReply : List ℕ → Type 0
 IsNoNotifyReply frame = opcode_in frame ≢ 41
 
--- A BATCH_FORGET has 64 pairs at most, which the server takes at once. Whether the law needs that is not known.
+-- A BATCH_FORGET is no longer than the definitions read: 16 MiB, a million pairs. Of a longer one they see no forgets.
 abbrev pub HasFewForgets : List ℕ → Type 0
-HasFewForgets frame = opcode_in frame ≡ 42 → length frame ≤ 1072
+HasFewForgets frame = opcode_in frame ≡ 42 → length frame ≤ 16777216

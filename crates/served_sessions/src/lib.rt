@@ -3,8 +3,7 @@
 //!
 //! Both crates are proved against definitions of their own: `serve` does what `Serves` says, and a judge names
 //! exactly the faults of `Breaks`. Here the two are held against each other, group of faults by group. Where a
-//! law asks something of the kernel it says so, and `counterexamples` shows that it has to; but of short BATCH_FORGETs
-//! that is not known.
+//! law asks something of the kernel it says so, and `counterexamples` shows for some that it has to.
 #![tactic(auto)]
 
 mod counterexamples;

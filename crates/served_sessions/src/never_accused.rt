@@ -51,20 +51,20 @@ pub fn entries_are_of_files()
     ensures { FreshNeverAccused is_of_entries is_nothing IsAny }
 {}
 
-/// A node that is counted is given under one generation by a server that was just mounted, where each BATCH_FORGET has 64
-/// pairs at most.
+/// A node that is counted is given under one generation by a server that was just mounted, where no BATCH_FORGET has more
+/// than 16 MiB.
 pub fn nodes_stay_of_one_generation()
     ensures { FreshNeverAccused is_of_generations is_nothing HasFewForgets }
 {}
 
 /// A node that is counted is given, and described, with one kind and one inode number by a server that was just mounted,
-/// where each BATCH_FORGET has 64 pairs at most.
+/// where no BATCH_FORGET has more than 16 MiB.
 pub fn nodes_stay_of_one_file()
     ensures { FreshNeverAccused is_of_files is_nothing HasFewForgets }
 {}
 
 /// A node that is counted no more is given again under its generation for the same file alone by a server that was just
-/// mounted, where each BATCH_FORGET has 64 pairs at most.
+/// mounted, where no BATCH_FORGET has more than 16 MiB.
 pub fn pairs_stay_of_one_file()
     ensures { FreshNeverAccused is_of_pairs is_nothing HasFewForgets }
 {}
