@@ -1,21 +1,25 @@
 -- No session of exchanges shows a fault of the groups, and so no session of a server.
-use Rattle.std.proofs.Common.{◌≡◌, arith, ℕ, Bool, true, false, List, [], ◌++◌, Some, refl, sym, subst}
+use Rattle.std.proofs.Common.{◌≡◌, arith, ℕ, Bool, true, false, List, [], ◌∷◌, ◌++◌, Some, refl, sym, subst}
 use Rattle.std.proofs.lemmas.Bool.{false≢true}
 use Rattle.fuse_spec.specs.Server.Server.{Server}
 use Rattle.fuse_theorem.proofs.Lookups.RowCounts.{count_of}
-use Rattle.fuse_device.specs.Transfers.{Transfer}
+use Rattle.fuse_device.specs.Transfers.{Transfer, received, sent, stopped, unsent}
+use Rattle.fs_serve.specs.LookupCounts.{IsFresh}
+use Rattle.fs_serve.specs.Serving.{Serves}
 use Rattle.fuse_protocol.specs.declared.init.InitRequest.{InitRequest}
 use Rattle.fuse_sessions.specs.declared.act.Act.{Act}
 use Rattle.fuse_sessions.specs.declared.act.Taken.{Taken}
 use Rattle.fuse_sessions.specs.declared.fault.Fault.{Fault}
 use Rattle.fuse_sessions.specs.declared.fault.Fault.TheVariants as fault
 use Rattle.fuse_sessions.specs.declared.known.Known.{Known}
+use Rattle.fuse_sessions.specs.declared.transfer.Transfer.{Transfer as Said}
+use Rattle.fuse_sessions.specs.Faults.{HasFaultAt}
 use Rattle.fuse_sessions.specs.Sessions.{Session}
-use Rattle.fuse_sessions.specs.Frames.{AreRequestActs, IsOffered, nothing_known}
-use Rattle.served_sessions.specs.Exchanges.{AreExchangesBy, IsAnswer}
+use Rattle.fuse_sessions.specs.Frames.{AreRequestActs, IsOffered, IsSession, nothing_known}
+use Rattle.served_sessions.specs.Exchanges.{AllReceived, AreExchangesBy, AreSaid, IsAnswer}
 use Rattle.served_sessions.specs.Entries.{IsSoundAnswer}
-use Rattle.served_sessions.specs.Groups.{HasFewForgets, HasNumber, IsAny, IsNoNotifyReply, is_of_bodies, is_of_counts, is_of_entries, is_of_files, is_of_generations, is_of_heads, is_of_pairs, is_of_notices, is_of_numbers, is_of_flags, is_nothing, is_of_second_init, is_of_interrupts}
-use Rattle.served_sessions.specs.Served.{FreshNeverAccused, IsFreeOf, NeverAccused}
+use Rattle.served_sessions.specs.Groups.{HasFewForgets, HasNumber, IsAny, IsNoNotifyReply, IsOrdinary, is_nothing, is_of_bodies, is_of_counts, is_of_entries, is_of_files, is_of_flags, is_of_generations, is_of_heads, is_of_interrupts, is_of_kernel, is_of_notices, is_of_numbers, is_of_pairs, is_of_second_init, is_of_server}
+use Rattle.served_sessions.specs.Served.{FreshNeverAccused, IsFreeOf, NeverAccused, ShowsNone}
 use Rattle.served_sessions.proofs.Acts.{is_of_frames}
 use Rattle.served_sessions.proofs.Fine.{fresh_fine}
 use Rattle.served_sessions.proofs.Free.{free_if, never_at, AreFree}
@@ -130,3 +134,89 @@ files_never = nodes_never is_of_files files_within
 
 pub pairs_never : FreshNeverAccused is_of_pairs is_nothing HasFewForgets
 pairs_never = nodes_never is_of_pairs pairs_within
+
+-- ---- every fault of a server
+
+-- what holds of each frame that was received, with less
+received_less : (IsThis IsThat : List ℕ → Type 0) → ((frame : List ℕ) → IsThis frame → IsThat frame)
+    → (log : List Transfer) → AllReceived IsThis log → AllReceived IsThat log
+received_less IsThis IsThat less [] all = tt
+received_less IsThis IsThat less (received frame ∷ log) all =
+    (less frame all.0, received_less IsThis IsThat less log all.1)
+received_less IsThis IsThat less (sent frame result ∷ log) all = received_less IsThis IsThat less log all
+received_less IsThis IsThat less (unsent frame end ∷ log) all = received_less IsThis IsThat less log all
+received_less IsThis IsThat less (stopped end ∷ log) all = received_less IsThis IsThat less log all
+
+-- a law of a group is one of each of its faults
+free_of : (group asked : Fault → Bool) (IsSuch : List ℕ → Type 0)
+    → ((f : Fault) → asked f ≡ true → is_of_kernel f ≡ true) → ((frame : List ℕ) → IsOrdinary frame → IsSuch frame)
+    → (log : List Transfer) → IsFreeOf group asked IsSuch log → (f : Fault) → group f ≡ true
+    → AllReceived IsOrdinary log → (ts : List Said) → AreSaid log ts → (k : Known) (s : Session) → IsSession ts k s
+    → ShowsNone is_of_kernel s → (place : ℕ) → HasFaultAt [] s place f → ⊥
+free_of group asked IsSuch of_kernel such log free f of all ts said k s is keeps place has =
+    free (received_less IsOrdinary IsSuch such log all) ts said k s is
+    (λ at g broken asks. keeps at g broken (of_kernel g asks)) place f has of
+
+none_asked : (f : Fault) → is_nothing f ≡ true → is_of_kernel f ≡ true
+none_asked f is = absurd (false≢true is)
+
+interrupts_asked : (f : Fault) → is_of_interrupts f ≡ true → is_of_kernel f ≡ true
+interrupts_asked fault.OddNumber is = refl
+interrupts_asked fault.InterruptUnderAnotherNumber is = refl
+interrupts_asked fault.InterruptOfNothing is = refl
+interrupts_asked f is = absurd (false≢true is)
+
+init_asked : (f : Fault) → is_of_second_init f ≡ true → is_of_kernel f ≡ true
+init_asked fault.InitNotFirst is = refl
+init_asked f is = absurd (false≢true is)
+
+module _ (old : Server) (log : List Transfer) (new : Server) (serves : Serves old log new) (mounted : IsFresh old) where
+  plain : (group : Fault → Bool) → IsFreeOf group is_nothing IsAny log → (f : Fault) → group f ≡ true
+      → AllReceived IsOrdinary log → (ts : List Said) → AreSaid log ts → (k : Known) (s : Session) → IsSession ts k s
+      → ShowsNone is_of_kernel s → (place : ℕ) → HasFaultAt [] s place f → ⊥
+  plain group free = free_of group is_nothing IsAny none_asked (λ frame is. tt) log free
+
+  counted : (group : Fault → Bool) → IsFreeOf group is_nothing HasFewForgets log → (f : Fault) → group f ≡ true
+      → AllReceived IsOrdinary log → (ts : List Said) → AreSaid log ts → (k : Known) (s : Session) → IsSession ts k s
+      → ShowsNone is_of_kernel s → (place : ℕ) → HasFaultAt [] s place f → ⊥
+  counted group free = free_of group is_nothing HasFewForgets none_asked (λ frame is. is.forgets) log free
+
+  numbered : (f : Fault) → is_of_numbers f ≡ true
+      → AllReceived IsOrdinary log → (ts : List Said) → AreSaid log ts → (k : Known) (s : Session) → IsSession ts k s
+      → ShowsNone is_of_kernel s → (place : ℕ) → HasFaultAt [] s place f → ⊥
+  numbered = free_of is_of_numbers is_of_interrupts IsNoNotifyReply interrupts_asked (λ frame is. is.asked_for) log
+      (numbers_never old log new serves)
+
+  each_fault : (f : Fault) → is_of_server f ≡ true → AllReceived IsOrdinary log → (ts : List Said) → AreSaid log ts
+      → (k : Known) (s : Session) → IsSession ts k s → ShowsNone is_of_kernel s → (place : ℕ)
+      → HasFaultAt [] s place f → ⊥
+  each_fault fault.MalformedReply of = plain is_of_heads (heads_never old log new serves) fault.MalformedReply refl
+  each_fault fault.InitOfAnotherVersion of =
+      plain is_of_heads (heads_never old log new serves) fault.InitOfAnotherVersion refl
+  each_fault fault.MalformedNotification of = free_of is_of_notices is_nothing HasNumber none_asked
+      (λ frame is. is.number) log (notices_never old log new serves) fault.MalformedNotification refl
+  each_fault fault.ReplyToNothing of = numbered fault.ReplyToNothing refl
+  each_fault fault.SecondReply of = numbered fault.SecondReply refl
+  each_fault fault.ReplyToForget of = numbered fault.ReplyToForget refl
+  each_fault fault.ReplyToNoInterrupt of = numbered fault.ReplyToNoInterrupt refl
+  each_fault fault.FlagsThatWereNotOffered of = free_of is_of_flags is_of_second_init IsAny init_asked
+      (λ frame is. tt) log (flags_never old log new serves) fault.FlagsThatWereNotOffered refl
+  each_fault fault.BodyOfAnotherRequest of =
+      plain is_of_bodies (bodies_never old log new serves) fault.BodyOfAnotherRequest refl
+  each_fault fault.MoreThanWasAsked of = plain is_of_counts (counts_never old log new serves) fault.MoreThanWasAsked refl
+  each_fault fault.EntryOfTheRoot of =
+      plain is_of_entries (entries_never old log new serves mounted) fault.EntryOfTheRoot refl
+  each_fault fault.EntryOfNoNode of = plain is_of_entries (entries_never old log new serves mounted) fault.EntryOfNoNode refl
+  each_fault fault.EntryOfNoKind of = plain is_of_entries (entries_never old log new serves mounted) fault.EntryOfNoKind refl
+  each_fault fault.EntryOfAnotherKind of =
+      plain is_of_entries (entries_never old log new serves mounted) fault.EntryOfAnotherKind refl
+  each_fault fault.NodeOfTwoGenerations of =
+      counted is_of_generations (generations_never old log new serves mounted) fault.NodeOfTwoGenerations refl
+  each_fault fault.NodeOfTwoKinds of = counted is_of_files (files_never old log new serves mounted) fault.NodeOfTwoKinds refl
+  each_fault fault.NodeOfTwoInodeNumbers of =
+      counted is_of_files (files_never old log new serves mounted) fault.NodeOfTwoInodeNumbers refl
+  each_fault f of = absurd (false≢true of)
+
+pub server_never : FreshNeverAccused is_of_server is_of_kernel IsOrdinary
+server_never old log new serves mounted all ts said k s is keeps place f has of =
+    each_fault old log new serves mounted f of all ts said k s is keeps place has

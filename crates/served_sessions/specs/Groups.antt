@@ -2,6 +2,9 @@
 use Rattle.std.specs.Prelude.{◌≡◌, ◌≢◌, ◌≤◌, ℕ, Bool, true, false, List, length}
 use Rattle.fuse_sessions.specs.declared.fault.Fault.{Fault}
 use Rattle.fuse_sessions.specs.declared.fault.Fault.TheVariants as fault
+use Rattle.fuse_sessions.specs.declared.fault.Party.{Party}
+use Rattle.fuse_sessions.specs.declared.fault.Party.TheVariants.{Kernel, Server}
+use Rattle.fuse_sessions.specs.Parties.{party_of}
 use Rattle.fuse_sessions.specs.UnreadRequests.{opcode_in, unique_in}
 
 -- ---- faults of a server
@@ -64,7 +67,23 @@ abbrev pub is_of_pairs : Fault → Bool
 is_of_pairs fault.NodeGivenAgain = true
 is_of_pairs f = false
 
+-- A fault is the server's.
+abbrev pub is_server : Party → Bool
+is_server Server = true
+is_server other = false
+
+abbrev pub is_of_server : Fault → Bool
+is_of_server f = is_server (party_of f)
+
 -- ---- faults of a kernel that a group asks it not to have
+
+-- A fault is the kernel's.
+abbrev pub is_kernel : Party → Bool
+is_kernel Kernel = true
+is_kernel other = false
+
+abbrev pub is_of_kernel : Fault → Bool
+is_of_kernel f = is_kernel (party_of f)
 
 abbrev pub is_nothing : Fault → Bool
 is_nothing f = false
@@ -98,3 +117,9 @@ IsNoNotifyReply frame = opcode_in frame ≢ 41
 -- A BATCH_FORGET is no longer than the definitions read: 16 MiB, a million pairs. Of a longer one they see no forgets.
 abbrev pub HasFewForgets : List ℕ → Type 0
 HasFewForgets frame = opcode_in frame ≡ 42 → length frame ≤ 16777216
+
+-- A request is all of this.
+pub record IsOrdinary (frame : List ℕ) : Type 0 where
+  pub number : HasNumber frame
+  pub asked_for : IsNoNotifyReply frame
+  pub forgets : HasFewForgets frame

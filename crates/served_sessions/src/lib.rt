@@ -14,4 +14,5 @@ pub use never_accused::{
     bodies_fit, entries_are_of_files, flags_are_offered, frames_are_whole, no_more_is_counted,
     nodes_stay_of_one_file, nodes_stay_of_one_generation, notifications_are_whole,
     pairs_stay_of_one_file, replies_are_awaited, served_in_exchanges, served_is_unaccused,
+    server_has_no_fault,
 };

@@ -5,8 +5,8 @@ ghost use Rattle.fuse_spec.specs.Server.Server.{Server};
 ghost use Rattle.fuse_device.specs.Transfers.{Transfer};
 ghost use Rattle.fs_serve.specs.Serving.{Serves};
 ghost use Rattle.served_sessions.specs.Exchanges.{AreExchanges};
-ghost use Rattle.served_sessions.specs.Groups.{HasFewForgets, HasNumber, IsAny, IsNoNotifyReply};
-ghost use Rattle.served_sessions.specs.Groups.{is_nothing, is_of_bodies, is_of_counts, is_of_entries, is_of_files, is_of_flags, is_of_generations, is_of_heads, is_of_interrupts, is_of_notices, is_of_numbers, is_of_pairs, is_of_second_init};
+ghost use Rattle.served_sessions.specs.Groups.{HasFewForgets, HasNumber, IsAny, IsNoNotifyReply, IsOrdinary};
+ghost use Rattle.served_sessions.specs.Groups.{is_nothing, is_of_bodies, is_of_counts, is_of_entries, is_of_files, is_of_flags, is_of_generations, is_of_heads, is_of_interrupts, is_of_kernel, is_of_notices, is_of_numbers, is_of_pairs, is_of_second_init, is_of_server};
 ghost use Rattle.served_sessions.specs.Served.{FreshNeverAccused, IsUnaccused, NeverAccused};
 
 /// Behind each frame that is received at most one is sent, which answers it under its number.
@@ -67,6 +67,12 @@ pub fn nodes_stay_of_one_file()
 /// mounted, where no BATCH_FORGET has more than 16 MiB.
 pub fn pairs_stay_of_one_file()
     ensures { FreshNeverAccused is_of_pairs is_nothing HasFewForgets }
+{}
+
+/// Where the kernel has no fault, a server that was just mounted has none, whichever the definitions know: if no request
+/// has number 0, is a NOTIFY_REPLY, or is a BATCH_FORGET of more than 16 MiB.
+pub fn server_has_no_fault()
+    ensures { FreshNeverAccused is_of_server is_of_kernel IsOrdinary }
 {}
 
 /// All of these of one log: what `serve` sends is never accused of them. A call without effect, made where a contract rests
