@@ -1,5 +1,6 @@
 -- A long BATCH_FORGET, served in parts, leaves the nodes that a server counts as they were, but for what it gives back.
 use Rattle.std.proofs.Common.{◌≡◌, ◌≤◌, inl, inr, ℕ, ◌+◌, ◌-◌, ◌*◌, ◌/◌, List, ◌++◌, length, drop, min, Option, None, Some, refl, sym, ◌∙◌, ap, subst, arith, length-append, length-drop, length-take}
+use Rattle.fuse_spec.specs.declared.Opened.{Opened}
 use Rattle.fuse_spec.specs.declared.Taken.TheVariants.{Held}
 use Rattle.fuse_spec.specs.Files.Operations as operation
 use Rattle.fuse_spec.specs.Kernel.Messages.{Forget, Request, RequestBody, asks, batch_forget, release}
@@ -44,7 +45,7 @@ module _ (old : Server) (frame : List ℕ) (code : opcode_in frame ≡ 42) where
   body_of : (request : Request) → SaysRequest frame request → (fs : List Forget) × (request.body ≡ batch_forget fs)
   body_of request says = of_batch request.body (sym (frame_opcode frame request says) ∙ code)
 
-  no_release : (unique : ℕ) (opened : _) → SaysRequest frame (record { unique = unique; body = release opened }) → ⊥
+  no_release : (unique : ℕ) (opened : Opened) → SaysRequest frame (record { unique = unique; body = release opened }) → ⊥
   no_release unique opened says =
       let other = frame_opcode frame (record { unique = unique; body = release opened }) says in omega (arith, other, code)
 

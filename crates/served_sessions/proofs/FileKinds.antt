@@ -94,7 +94,7 @@ IsFit tree (write file offset bytes) = IsRegular tree.files file
 IsFit tree (opening file) = IsThere tree file
 IsFit tree operation = Unit {0}
 
-regular_there : (o : Option Content) → kind_of o ≡ Regular → o ≢ None
+pub regular_there : (o : Option Content) → kind_of o ≡ Regular → o ≢ None
 regular_there o regular none = let other : Other ≡ Regular = sym (ap kind_of none) ∙ regular in cc
 
 module _ (tree : Tree) where

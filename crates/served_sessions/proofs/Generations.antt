@@ -1,4 +1,4 @@
--- A server gives each node that is counted under one generation.
+-- A server gives each node that is counted under one generation and for one file, and describes it so.
 use Rattle.std.proofs.Common.{◌≡◌, ◌≤◌, ◌⊎◌, inl, inr, ℕ, ◌+◌, ◌-◌, ◌==◌, Bool, true, false, List, [], ◌∷◌, ◌++◌, Option, Some, None, refl, sym, ◌∙◌, ap, subst, subst₂, append_assoc, append-nil, bit_and, if◌then◌else◌, arith}
 use Rattle.std.specs.Prelude.{MatchOption, sum_by}
 use Rattle.std.specs.List.{list_all}

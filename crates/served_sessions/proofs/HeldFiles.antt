@@ -8,7 +8,7 @@ use Rattle.fuse_spec.specs.declared.Entry.{Entry}
 use Rattle.fuse_spec.specs.declared.Opened.{Opened}
 use Rattle.fuse_spec.specs.declared.WriteResult.{WriteResult}
 use Rattle.fuse_spec.specs.declared.WriteResult.TheVariants.{Accepted, Invalid, NoEntry}
-use Rattle.fuse_spec.specs.Values.Maps.{get, put, remove, values}
+use Rattle.fuse_spec.specs.Values.Maps.{Map, get, put, remove, values}
 use Rattle.fuse_spec.specs.Files.Operations.{Operation, create, done, files_in_reply, getattr, link, lookup, mkdir, opening, opens_in_reply, read, readdir, readdirplus, rename, rmdir, unlink, write}
 use Rattle.fuse_spec.specs.Files.Trees.{Content, a_directory, kind_of}
 use Rattle.fuse_spec.specs.Files.FileOperations.{FileOperation, reply_by, tree_after}
@@ -23,7 +23,7 @@ use Rattle.fuse_theorem.proofs.Calls.Finding.{other_is, same_is}
 use Rattle.fuse_theorem.proofs.Nodes.NodesSound.{left_found, put_found}
 use Rattle.fuse_theorem.proofs.Refining.Settling.{handle_back_left}
 use Rattle.fuse_theorem.proofs.Trees.NamelessDiscarded.{found_any}
-use Rattle.served_sessions.proofs.FileKinds.{AreNumbered, FilesLater, IsFit, IsRegular, WasThere, discarded_later, held_stays, later_after, opens_after, same_files, there_after, then_files}
+use Rattle.served_sessions.proofs.FileKinds.{AreNumbered, FilesLater, IsFit, IsRegular, WasThere, discarded_later, held_stays, later_after, opens_after, regular_there, same_files, there_after, then_files}
 use Rattle.served_sessions.proofs.Standing.{IsThere, Stands, given_there}
 
 -- each file of which there is a node is such
@@ -135,9 +135,6 @@ pub node_holds : (s : Server) (id : ℕ) (row : HeldNode) → get s.nodes.rows i
 node_holds s id row at = first (list_any (λ (r : HeldNode). nat_eq r.file row.file) (values s.nodes.rows))
     (found_any (λ (r : HeldNode). nat_eq r.file row.file) s.nodes.rows id row at (same_is row.file))
   where
-    handles : Bool
-    handles = list_any (λ (h : FileHandle). nat_eq h.file row.file) (values s.handles.handles)
-
     first : (b : Bool) → b ≡ true
         → (b || list_any (λ (h : FileHandle). nat_eq h.file row.file) (values s.handles.handles)) ≡ true
     first true is = refl
@@ -214,16 +211,12 @@ taking_keeping s firm unique (interrupt original) = by (get s.held original) (ge
 
 -- ---- a request is performed
 
-regular_after : (m : _) (n : ℕ) (m' : _) (n' : ℕ) → FilesLater m n m' n' → AreNumbered m n → (file : ℕ)
+regular_after : (m : Map Content) (n : ℕ) (m' : Map Content) (n' : ℕ) → FilesLater m n m' n' → AreNumbered m n → (file : ℕ)
     → IsRegular m file → get m' file ≢ None → IsRegular m' file
 regular_after m n m' n' later numbered file regular there = by (later.kinds file there)
   where
-    was_there : get m file ≢ None
-    was_there none = let no_kind : kind_of None ≡ kind_of (get m file) = ap kind_of (sym none) in
-        let not_regular = no_kind ∙ regular in cc
-
     by : (n ≤ file) ⊎ WasThere m file (get m' file) → IsRegular m' file
-    by (inl fresh) = let low = numbered file was_there in absurd (omega (arith, low, fresh))
+    by (inl fresh) = let low = numbered file (regular_there (get m file) regular) in absurd (omega (arith, low, fresh))
     by (inr was) = was.1 ∙ regular
 
 module _ (choice : ℕ → ℕ) (s : Server) (sound : TreeSound s.tree) (stands : Stands s.tree) (firm : IsFirm s) where
@@ -276,16 +269,12 @@ module _ (choice : ℕ → ℕ) (s : Server) (sound : TreeSound s.tree) (stands 
       old_nodes : EachNode (IsThere (tree_after s.tree operation)) s.nodes
       old_nodes id row at = there_after s.tree operation row.file (firm.nodes id row at)
 
-      regular_there : (file : ℕ) → IsRegular s.tree.files file → IsThere s.tree file
-      regular_there file regular none = let no_kind : kind_of None ≡ kind_of (get s.tree.files file) = ap kind_of (sym none) in
-          let not_regular = no_kind ∙ regular in cc
-
       old_handles : EachHandle (IsRegular (tree_after s.tree operation).files) s.handles
       old_handles fh handle at =
           let regular = firm.handles fh handle at in
           regular_after s.tree.files s.tree.next_inode (tree_after s.tree operation).files
           (tree_after s.tree operation).next_inode later firm.numbered handle.file regular
-          (there_after s.tree operation handle.file (regular_there handle.file regular))
+          (there_after s.tree operation handle.file (regular_there (get s.tree.files handle.file) regular))
 
       by_nodes : (b : Bool) → EachNode (IsThere (tree_after s.tree operation)) (cond b s.nodes
           (all_given choice s.nodes (files_in_reply (reply_by s.validity s.tree operation))))

@@ -80,9 +80,6 @@ module _ (choice : ℕ → ℕ) (s : Server) (nodes : NodesSound s.nodes) (tree 
       (files_in_reply (doing choice s operation).wire)
   doing_entries operation may = by s.aborted may
     where
-      said : Reply ℕ ℕ
-      said = reply_by s.validity s.tree operation
-
       by : (b : Bool) → MayChoose choice s.nodes (cond b [] (files_in_reply (reply_by s.validity s.tree operation)))
           → All (IsEntryOf (cond b s.nodes (all_given choice s.nodes (files_in_reply
           (reply_by s.validity s.tree operation)))) (tree_after s.tree operation))

@@ -136,9 +136,6 @@ module _ (v : Server) (fine : IsFine v) (most : ℕ → ℕ) (s : Session) (trac
 
   -- with an entry of a node that is held for its file
   module _ (m : ℕ) (file : File) (low : 2 ≤ m) (node : IsNodeOf v m file) where
-    abbrev now : Session
-    now = s ++ act.Gives m file true ∷ []
-
     abbrev node_of : Act → ℕ
     node_of (act.Gives k x c) = k
     node_of a = m

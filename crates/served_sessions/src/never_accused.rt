@@ -69,8 +69,8 @@ pub fn pairs_stay_of_one_file()
     ensures { FreshNeverAccused is_of_pairs is_nothing HasFewForgets }
 {}
 
-/// Where the kernel has no fault, a server that was just mounted has none, whichever the definitions know: if no request
-/// has number 0, is a NOTIFY_REPLY, or is a BATCH_FORGET of more than 16 MiB.
+/// Where the kernel has no fault, a server that was just mounted has none of those that the definitions know. No request
+/// may have number 0, be a NOTIFY_REPLY, or be a BATCH_FORGET of more than 16 MiB.
 pub fn server_has_no_fault()
     ensures { FreshNeverAccused is_of_server is_of_kernel IsOrdinary }
 {}
