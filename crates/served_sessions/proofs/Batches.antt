@@ -1,5 +1,5 @@
 -- The pairs of a long BATCH_FORGET, as its parts have them, and as a session reads them.
-use Rattle.std.proofs.Common.{◌≡◌, ◌≤◌, ℕ, zero, suc, ◌+◌, ◌*◌, ◌/◌, false, cond, List, [], ◌∷◌, ◌++◌, length, take, drop, min, Option, None, refl, sym, ◌∙◌, ap, nat_eq, arith, append-nil, length-append, length-drop, length-take, drop-drop, drop_at}
+use Rattle.std.proofs.Common.{◌≡◌, ◌≤◌, ℕ, zero, suc, ◌+◌, ◌*◌, ◌/◌, ◌==◌, ◌&&◌, Bool, true, false, cond, List, [], ◌∷◌, ◌++◌, length, take, drop, min, Option, None, refl, sym, ◌∙◌, ap, subst, nat_eq, arith, append-nil, length-append, length-drop, length-take, drop-drop, drop_at, inl, inr, nat_lt, if◌then◌else◌}
 use Rattle.std.specs.Prelude.{slice_range, sum_by}
 use Rattle.std.proofs.lemmas.List.Sums.{sum_by-append}
 use Rattle.byteorder.specs.Endian.{little_bytes}
@@ -21,12 +21,17 @@ use Rattle.fuse_protocol.specs.Pairs.{pairs_from}
 use Rattle.fuse_protocol.specs.Requests.{IsRequest, RequestMessage, extension_size}
 use Rattle.fuse_protocol.specs.Table.{row_at}
 use Rattle.fuse_sessions.specs.declared.act.Act.{Act}
+use Rattle.fuse_sessions.specs.declared.act.Act.TheVariants as act
+use Rattle.fuse_sessions.specs.declared.fault.Fault.{Fault}
+use Rattle.fuse_sessions.specs.declared.fault.Fault.TheVariants as fault
 use Rattle.fuse_sessions.specs.declared.known.Known.{Known}
+use Rattle.fuse_sessions.specs.Sessions.{Session}
 use Rattle.fuse_sessions.specs.Counts.{forgets_of}
 use Rattle.fuse_sessions.specs.Frames.{AreRequestActs}
 use Rattle.fuse_sessions.specs.RequestActs.{forgets_in}
-use Rattle.fuse_sessions.specs.UnreadRequests.{opcode_in}
+use Rattle.fuse_sessions.specs.UnreadRequests.{asking_unread, has_header, is_later, may_be_known, opcode_in, unread_acts}
 use Rattle.served_sessions.proofs.Forgotten.{acts_of, behind_reading, sums_alike}
+use Rattle.served_sessions.proofs.Free.{AreFree}
 use Rattle.served_sessions.proofs.Placed.{number_from, same_opcode_of_part}
 use Rattle.served_sessions.proofs.Requests.{asked_alike, body_reads, frame_opcode}
 
@@ -214,3 +219,32 @@ batch_read k bytes acts plain does is short n =
     let pairs : List Pair = pairs_from (length (drop 48 bytes) / 16) 0 (drop 48 bytes) in
     ap (sum_by (forgets_of n)) (acts_of k bytes acts plain does op.BatchForget (batch_in bytes) row)
     ∙ behind_reading n (number_at 8 8 bytes) op.BatchForget (forgets_in pairs) ∙ sym (sums_alike n pairs)
+
+-- One that is longer is malformed.
+module _ (k : Known) (bytes : List ℕ) (acts : List Act) (does : AreRequestActs k bytes acts) (is : IsLongBatch bytes)
+    (group : Fault → Bool) (of : group fault.MalformedRequest ≡ true) (s : Session) (free : AreFree group s acts) where
+  unknown : may_be_known k.offered bytes ≡ false
+  unknown = by (has_header bytes) (is_later k.offered) (number_at 0 4 bytes == length bytes)
+    where
+      below : nat_lt 53 (opcode_in bytes) ≡ false
+      below = ap (nat_lt 53) is.opcode
+
+      by : (b c d : Bool) → (b && (c && (nat_lt 53 (opcode_in bytes) && d))) ≡ false
+      by false c d = refl
+      by true false d = refl
+      by true true d = ap (λ (x : Bool). x && d) below
+
+  pub free_short : length bytes ≤ 16777216
+  free_short = by does
+    where
+      by : AreRequestActs k bytes acts → length bytes ≤ 16777216
+      by (inl ((o, r), as_row, as_acts)) = as_row.short
+      by (inr (none, unread)) = absurd (shown (subst (AreFree group s) unread free))
+        where
+          faulty : (b : Bool) → b ≡ false → AreFree group (s ++ act.Arrives ∷ [])
+              ((if b then [] else act.Faulty fault.MalformedRequest ∷ []) ++ asking_unread bytes) → ⊥
+          faulty true no_one clear = cc
+          faulty false no_one clear = clear.0 fault.MalformedRequest refl of
+
+          shown : AreFree group s (unread_acts k.offered bytes) → ⊥
+          shown clear = faulty (may_be_known k.offered bytes) unknown clear.1

@@ -1,5 +1,5 @@
 -- A server gives each node that is counted under one generation and for one file, and describes it so.
-use Rattle.std.proofs.Common.{◌≡◌, ◌≤◌, ◌⊎◌, inl, inr, ℕ, ◌+◌, ◌-◌, ◌==◌, Bool, true, false, List, [], ◌∷◌, ◌++◌, Option, Some, None, refl, sym, ◌∙◌, ap, subst, subst₂, append_assoc, append-nil, bit_and, if◌then◌else◌, arith}
+use Rattle.std.proofs.Common.{length, ◌≡◌, ◌≤◌, ◌⊎◌, inl, inr, ℕ, ◌+◌, ◌-◌, ◌==◌, Bool, true, false, List, [], ◌∷◌, ◌++◌, Option, Some, None, refl, sym, ◌∙◌, ap, subst, subst₂, append_assoc, append-nil, bit_and, if◌then◌else◌, arith}
 use Rattle.std.specs.Prelude.{MatchOption, sum_by}
 use Rattle.std.specs.List.{list_all}
 use Rattle.std.specs.Borrow.{Bor}
@@ -10,6 +10,7 @@ use Rattle.fuse_spec.specs.Server.Server.{Server}
 use Rattle.fuse_spec.specs.Claim.Denotes.{Denotes}
 use Rattle.fuse_theorem.proofs.Lookups.RowCounts.{count_of}
 use Rattle.fuse_device.specs.Transfers.{Transfer}
+use Rattle.fs_serve.specs.LongBatches.{IsLongBatch}
 use Rattle.fuse_protocol.specs.declared.agreed.Unjudged.{Unjudged}
 use Rattle.fuse_protocol.specs.declared.init.InitRequest.{InitRequest}
 use Rattle.fk_fields.specs.Fields.{number_at}
@@ -26,6 +27,7 @@ use Rattle.fuse_sessions.specs.declared.act.Fit.{Fit}
 use Rattle.fuse_sessions.specs.declared.act.Fit.TheVariants as fit
 use Rattle.fuse_sessions.specs.declared.act.Taken.{Taken}
 use Rattle.fuse_sessions.specs.declared.act.Taken.TheVariants as taken
+use Rattle.fuse_sessions.specs.declared.fault.Fault.{Fault}
 use Rattle.fuse_sessions.specs.declared.fault.Fault.TheVariants as fault
 use Rattle.fuse_sessions.specs.declared.known.Known.{Known}
 use Rattle.fuse_sessions.specs.declared.transfer.Transfer.{Transfer as Said}
@@ -39,7 +41,7 @@ use Rattle.fuse_sessions.specs.RequestActs.{node_asked}
 use Rattle.fuse_sessions.specs.UnreadRequests.{opcode_in, takes_no_reply}
 use Rattle.fuse_sessions.specs.Waiting.{waits}
 use Rattle.served_sessions.specs.Exchanges.{AllReceived, AreSaid, IsAnswer, taken_of}
-use Rattle.served_sessions.specs.Groups.{HasFewForgets, is_nothing, is_of_bodies}
+use Rattle.served_sessions.specs.Groups.{is_nothing, is_of_bodies}
 use Rattle.served_sessions.proofs.Acts.{each_of, either, is_plain}
 use Rattle.served_sessions.proofs.Answering.{row_asked}
 use Rattle.served_sessions.proofs.Asking.{Ask, is_wanted}
@@ -52,7 +54,7 @@ use Rattle.served_sessions.proofs.NodeFiles.{IsFileAs, may_still}
 use Rattle.served_sessions.proofs.Gifts.{answer_tracks, weaker, weaker_calm}
 use Rattle.served_sessions.proofs.Kept.{Kept, kept_end, kept_request, kept_written}
 use Rattle.served_sessions.proofs.Requested.{asks_or_plain}
-use Rattle.served_sessions.proofs.Sessions.{EndsFree, by_judged}
+use Rattle.served_sessions.proofs.Sessions.{EndsFree, asked_later, asked_next, by_judged}
 use Rattle.served_sessions.proofs.Traced.{Moved, Trace, cut, ready, silent, stop}
 use Rattle.served_sessions.proofs.Traced as traced
 use Rattle.served_sessions.proofs.Tracked.{Calm, Tracks, calm_acts, forgets_less, is_calm, is_of_nodes, known_same, then_calm}
@@ -61,7 +63,7 @@ use Rattle.served_sessions.proofs.Batches.{batch_read}
 use Rattle.served_sessions.proofs.Turns.{GivesBack}
 use Rattle.served_sessions.proofs.Written.{Keeps, by_bool}
 
-nothing_free : (s : Session) (acts : List Act) → AreFree is_nothing s acts
+pub nothing_free : (s : Session) (acts : List Act) → AreFree is_nothing s acts
 nothing_free s [] = tt
 nothing_free s (a ∷ acts) = (λ f b is. false≢true is, nothing_free (s ++ a ∷ []) acts)
 
@@ -102,7 +104,7 @@ counted s n = count_of s.nodes n
 
 module _ (old mid : Server) (k : Known) (s : Session) (bytes : List ℕ) (acts : List Act) (kept : Kept false k s)
     (tracks : Tracks old (λ n. count_of old.nodes n) s) (moved : Moved old mid bytes)
-    (does : AreRequestActs k bytes acts) (short : HasFewForgets bytes) where
+    (does : AreRequestActs k bytes acts) (short : IsLongBatch bytes → length bytes ≤ 16777216) where
   are_calm : list_all is_calm acts ≡ true
   are_calm = request_calm k bytes acts kept.not_resent does
 
@@ -116,7 +118,7 @@ module _ (old mid : Server) (k : Known) (s : Session) (bytes : List ℕ) (acts :
           let few = forgets_read k bytes acts kept.extensions does request says n in
           omega (arith, same, few)
       by (inr (batch, less)) =
-          let same = batch_read k bytes acts kept.extensions does batch (short batch.opcode) n in
+          let same = batch_read k bytes acts kept.extensions does batch (short batch) n in
           let few = less n in
           omega (arith, same, few)
 
@@ -254,7 +256,7 @@ named_so mid o k n content so same = tt
 module _ (old mid : Server) (k next : Known) (s : Session) (request reply : List ℕ) (t : Taken) (acts : List Act)
     (kept : Kept false k s) (tracks : Tracks old (λ n. count_of old.nodes n) s) (answers : IsAnswer request reply)
     (moved : Moved old mid request) (gains : t ≡ taken.Accepted → GainsIn old.nodes mid request reply)
-    (does : AreRequestActs k request acts) (offers : IsOffered k request next) (short : HasFewForgets request) where
+    (does : AreRequestActs k request acts) (offers : IsOffered k request next) (short : IsLongBatch request → length request ≤ 16777216) where
   abbrev backs : ℕ → ℕ
   backs = moved.back
 
@@ -339,7 +341,9 @@ accepted_of result.Accepted e = refl
 accepted_of result.NoEntry e = cc
 accepted_of result.Invalid e = cc
 
-module _ (later : Known) (all : Session) where
+module _ (asked : Fault → Bool) (IsSuch : List ℕ → Type 0) (short : (k : Known) (s : Session) (bytes : List ℕ)
+    (acts : List Act) → AreRequestActs k bytes acts → AreFree asked s acts → IsSuch bytes → IsLongBatch bytes
+    → length bytes ≤ 16777216) (later : Known) (all : Session) where
   -- the rest is judged, or there is none
   either_judged : (k : Known) (s : Session) (t : Said) (ts : List Said) (acts : List Act) (next : Known)
       → AreActs k s t acts next → Lead next (s ++ acts) ts later all
@@ -350,15 +354,15 @@ module _ (later : Known) (all : Session) where
 
   behind_request : (old mid : Server) (k next : Known) (s : Session) (b : Bor (List ℕ)) (acts : List Act)
       → (kept : Kept false k s) (tracks : Tracks old (λ n. count_of old.nodes n) s) → Moved old mid b.now
-      → AreRequestActs k b.now acts → HasFewForgets b.now → IsOffered k b.now next
+      → AreRequestActs k b.now acts → (IsLongBatch b.now → length b.now ≤ 16777216) → IsOffered k b.now next
       → (Kept false next (s ++ acts) → Tracks mid (λ n. count_of mid.nodes n) (s ++ acts)
       → EndsFree is_of_nodes (s ++ acts) all)
       → EndsFree is_of_nodes s all
-  behind_request old mid k next s b acts kept tracks moved does short offers rest =
-      let calm = request_tracks old mid k s b.now acts kept tracks moved does short in
+  behind_request old mid k next s b acts kept tracks moved does few offers rest =
+      let calm = request_tracks old mid k s b.now acts kept tracks moved does few in
       behind s acts all calm.free (rest (kept_request is_nothing k s b.now acts next kept does offers (nothing_free s acts))
       (weaker mid (λ n. count_of old.nodes n - moved.back n) (λ n. count_of mid.nodes n) (s ++ acts)
-      (left_few old mid k s b.now acts kept tracks moved does short) calm.tracks))
+      (left_few old mid k s b.now acts kept tracks moved does few) calm.tracks))
 
   behind_end : (s0 : Server) → IsFine s0 → (k next : Known) (s : Session) (acts : List Act) → Kept false k s
       → Tracks s0 (λ n. count_of s0.nodes n) s → (acts ≡ act.Ends ∷ []) × (next ≡ k)
@@ -374,53 +378,58 @@ module _ (later : Known) (all : Session) where
   behind_reply : (old mid : Server) (k next next' : Known) (s : Session) (b c : Bor (List ℕ)) (t : Taken)
       (ts : List Said) (acts acts' : List Act) → Kept false k s → Tracks old (λ n. count_of old.nodes n) s
       → IsAnswer b.now c.now → Moved old mid b.now
-      → (t ≡ taken.Accepted → GainsIn old.nodes mid b.now c.now) → AreRequestActs k b.now acts → HasFewForgets b.now → IsOffered k b.now next
+      → (t ≡ taken.Accepted → GainsIn old.nodes mid b.now c.now) → AreRequestActs k b.now acts
+      → (IsLongBatch b.now → length b.now ≤ 16777216) → IsOffered k b.now next
       → AreActs next (s ++ acts) (said.Written c t) acts' next' → Lead next' (s ++ acts ++ acts') ts later all
       → (Kept false next' (s ++ acts ++ acts') → Tracks mid (λ n. count_of mid.nodes n) (s ++ acts ++ acts')
       → EndsFree is_of_nodes (s ++ acts ++ acts') all)
       → EndsFree is_of_nodes s all
-  behind_reply old mid k next next' s b c t ts acts acts' kept tracks answers moved gains does short offers are leads rest =
-      behind s acts all (request_tracks old mid k s b.now acts kept tracks moved does short).free
+  behind_reply old mid k next next' s b c t ts acts acts' kept tracks answers moved gains does few offers are leads rest =
+      behind s acts all (request_tracks old mid k s b.now acts kept tracks moved does few).free
       (either_judged next (s ++ acts) (said.Written c t) ts acts' next' are leads (λ is.
-      let calm = reply_so old mid k next s b.now c.now t acts kept tracks answers moved gains does offers short acts' next' is in
+      let calm = reply_so old mid k next s b.now c.now t acts kept tracks answers moved gains does offers few acts' next' is in
       behind (s ++ acts) acts' all calm.free (rest
-      (reply_kept old mid k next s b.now c.now t acts kept tracks answers moved gains does offers short acts' next' is) calm.tracks)))
+      (reply_kept old mid k next s b.now c.now t acts kept tracks answers moved gains does offers few acts' next' is) calm.tracks)))
 
   pub trace_free : (s0 last : Server) → IsFine s0 → (log : List Transfer) → Trace s0 log last → (ts : List Said) → AreSaid log ts
-      → AllReceived HasFewForgets log → (k : Known) (s : Session) → Kept false k s
-      → Tracks s0 (λ n. count_of s0.nodes n) s → Lead k s ts later all → EndsFree is_of_nodes s all
-  trace_free s0 last fine log (ready s') [] is such k s kept tracks (known', same) = ends_here s all same
-  trace_free s0 last fine log (ready s') (t ∷ ts) is such k s kept tracks leads = absurd is
+      → AllReceived IsSuch log → (k : Known) (s : Session) → Kept false k s
+      → Tracks s0 (λ n. count_of s0.nodes n) s → Lead k s ts later all
+      → ((rest : List Act) → all ≡ s ++ rest → AreFree asked s rest) → EndsFree is_of_nodes s all
+  trace_free s0 last fine log (ready s') [] is such k s kept tracks (known', same) asks = ends_here s all same
+  trace_free s0 last fine log (ready s') (t ∷ ts) is such k s kept tracks leads asks = absurd is
   trace_free s0 last fine log (silent s' mid l request more moves trace) (said.Request b ∷ ts) is such k s kept tracks
-      (acts, next, are, leads) =
+      (acts, next, are, leads) asks =
       let moved : Moved s0 mid b.now = subst (Moved s0 mid) (sym is.0) moves in
+      let first = asked_next asked later all s acts next ts asks leads in
       either_judged k s (said.Request b) ts acts next are leads (λ does.
-      behind_request s0 mid k next s b acts kept tracks moved does.0 (subst HasFewForgets (sym is.0) such.0) does.1
-      (λ kept' tracks'. trace_free mid last moved.new_fine more trace ts is.1 such.1 next (s ++ acts) kept' tracks' leads))
+      behind_request s0 mid k next s b acts kept tracks moved does.0 (short k s b.now acts does.0 first (subst IsSuch (sym is.0) such.0)) does.1
+      (λ kept' tracks'. trace_free mid last moved.new_fine more trace ts is.1 such.1 next (s ++ acts) kept' tracks' leads (asked_later asked later all s acts asks)))
   trace_free s0 last fine log (traced.replied s' mid l request reply r more answers moves gains trace)
-      (said.Request b ∷ said.Written c t ∷ ts) is such k s kept tracks (acts, next, are, (acts', next', are', leads)) =
+      (said.Request b ∷ said.Written c t ∷ ts) is such k s kept tracks (acts, next, are, (acts', next', are', leads)) asks =
       let moved : Moved s0 mid b.now = subst (Moved s0 mid) (sym is.0) moves in
+      let first = asked_next asked later all s acts next (said.Written c t ∷ ts) asks (acts', next', are', leads) in
       let answers' : IsAnswer b.now c.now = subst₂ IsAnswer (sym is.0) (sym is.1.0.0) answers in
       let gains' : t ≡ taken.Accepted → GainsIn s0.nodes mid b.now c.now =
       λ accepted. subst₂ (GainsIn s0.nodes mid) (sym is.0) (sym is.1.0.0)
       (gains (accepted_of r (sym is.1.0.1 ∙ accepted))) in
       either_judged k s (said.Request b) (said.Written c t ∷ ts) acts next are (acts', next', are', leads) (λ does.
-      behind_reply s0 mid k next next' s b c t ts acts acts' kept tracks answers' moved gains' does.0 (subst HasFewForgets (sym is.0) such.0) does.1 are' leads
-      (λ kept' tracks'. trace_free mid last moved.new_fine more trace ts is.1.1 such.1 next' (s ++ acts ++ acts') kept' tracks' leads))
+      behind_reply s0 mid k next next' s b c t ts acts acts' kept tracks answers' moved gains' does.0 (short k s b.now acts does.0 first (subst IsSuch (sym is.0) such.0)) does.1 are' leads
+      (λ kept' tracks'. trace_free mid last moved.new_fine more trace ts is.1.1 such.1 next' (s ++ acts ++ acts') kept' tracks' leads (asked_later asked later all (s ++ acts) acts' (asked_later asked later all s acts asks))))
   trace_free s0 last fine log (cut s' mid l request reply end more moves trace) (said.Request b ∷ said.Ended ∷ ts) is such k s
-      kept tracks (acts, next, are, (acts', next', are', leads)) =
+      kept tracks (acts, next, are, (acts', next', are', leads)) asks =
       let moved : Moved s0 mid b.now = subst (Moved s0 mid) (sym is.0) moves in
+      let first = asked_next asked later all s acts next (said.Ended ∷ ts) asks (acts', next', are', leads) in
       either_judged k s (said.Request b) (said.Ended ∷ ts) acts next are (acts', next', are', leads) (λ does.
-      behind_request s0 mid k next s b acts kept tracks moved does.0 (subst HasFewForgets (sym is.0) such.0) does.1 (λ kept' tracks'.
+      behind_request s0 mid k next s b acts kept tracks moved does.0 (short k s b.now acts does.0 first (subst IsSuch (sym is.0) such.0)) does.1 (λ kept' tracks'.
       either_judged next (s ++ acts) said.Ended ts acts' next' are' leads (λ ends.
       behind_end mid moved.new_fine next next' (s ++ acts) acts' kept' tracks' ends (λ kept'' tracks''.
-      trace_free mid last moved.new_fine more trace ts is.1.1 such.1 next' (s ++ acts ++ acts') kept'' tracks'' leads))))
-  trace_free s0 last fine log (stop s' l end more trace) (said.Ended ∷ ts) is such k s kept tracks (acts, next, are, leads) =
+      trace_free mid last moved.new_fine more trace ts is.1.1 such.1 next' (s ++ acts ++ acts') kept'' tracks'' leads (asked_later asked later all (s ++ acts) acts' (asked_later asked later all s acts asks))))))
+  trace_free s0 last fine log (stop s' l end more trace) (said.Ended ∷ ts) is such k s kept tracks (acts, next, are, leads) asks =
       either_judged k s said.Ended ts acts next are leads (λ ends.
       behind_end s0 fine k next s acts kept tracks ends (λ kept' tracks'.
-      trace_free s0 last fine more trace ts is.1 such next (s ++ acts) kept' tracks' leads))
-  trace_free s0 last fine log (silent s' mid l request more moves trace) ts is such k s kept tracks leads = absurd search
+      trace_free s0 last fine more trace ts is.1 such next (s ++ acts) kept' tracks' leads (asked_later asked later all s acts asks)))
+  trace_free s0 last fine log (silent s' mid l request more moves trace) ts is such k s kept tracks leads asks = absurd search
   trace_free s0 last fine log (traced.replied s' mid l request reply r more answers moves gains trace) ts is such k s kept tracks
-      leads = absurd search
-  trace_free s0 last fine log (cut s' mid l request reply end more moves trace) ts is such k s kept tracks leads = absurd search
-  trace_free s0 last fine log (stop s' l end more trace) ts is such k s kept tracks leads = absurd search
+      leads asks = absurd search
+  trace_free s0 last fine log (cut s' mid l request reply end more moves trace) ts is such k s kept tracks leads asks = absurd search
+  trace_free s0 last fine log (stop s' l end more trace) ts is such k s kept tracks leads asks = absurd search

@@ -22,8 +22,9 @@ use Rattle.served_sessions.specs.Groups.{HasFewForgets, HasNumber, IsAny, IsNoNo
 use Rattle.served_sessions.specs.Served.{FreshNeverAccused, IsFreeOf, NeverAccused, ShowsNone}
 use Rattle.served_sessions.proofs.Acts.{is_of_frames}
 use Rattle.served_sessions.proofs.Fine.{fresh_fine}
+use Rattle.served_sessions.proofs.Batches.{free_short}
 use Rattle.served_sessions.proofs.Free.{free_if, never_at, AreFree}
-use Rattle.served_sessions.proofs.Generations.{trace_free}
+use Rattle.served_sessions.proofs.Generations.{nothing_free, trace_free}
 use Rattle.served_sessions.proofs.Heads.{heads_keep, heads_within, notices_keep, notices_within, flags_keep, flags_within}
 use Rattle.served_sessions.proofs.Numbering.{numbers_keep, numbers_within}
 use Rattle.served_sessions.proofs.Bodied.{bodies_keep, bodies_within}
@@ -109,8 +110,19 @@ tracks_first s = record {
 nodes_never : (group : Fault → Bool) → ((f : Fault) → group f ≡ true → is_of_nodes f ≡ true)
     → FreshNeverAccused group is_nothing HasFewForgets
 nodes_never group within old log new serves mounted such ts said k s is keeps place f has of =
-    let ends = trace_free k s old new (fresh_fine old mounted) log (traces old mounted log new serves) ts said such
-    nothing_known [] (kept_first false) (tracks_first old) is in
+    let ends = trace_free is_nothing HasFewForgets (λ known before bytes acts does free few batch. few batch.opcode) k s
+    old new (fresh_fine old mounted) log (traces old mounted log new serves) ts said such nothing_known []
+    (kept_first false) (tracks_first old) is (λ rest same. nothing_free [] rest) in
+    never_at is_of_nodes [] s (subst (AreFree is_of_nodes []) (sym ends.all_is) ends.free) place f has (within f of)
+
+-- a longer BATCH_FORGET than is read would be a fault of the kernel
+honest_never : (group : Fault → Bool) → ((f : Fault) → group f ≡ true → is_of_nodes f ≡ true)
+    → FreshNeverAccused group is_of_kernel IsAny
+honest_never group within old log new serves mounted such ts said k s is keeps place f has of =
+    let ends = trace_free is_of_kernel IsAny (λ known before bytes acts does free any batch.
+    free_short known bytes acts does batch is_of_kernel refl before free) k s old new (fresh_fine old mounted) log
+    (traces old mounted log new serves) ts said such nothing_known [] (kept_first false) (tracks_first old) is
+    (λ rest same. subst (AreFree is_of_kernel []) same (free_if is_of_kernel [] s keeps)) in
     never_at is_of_nodes [] s (subst (AreFree is_of_nodes []) (sym ends.all_is) ends.free) place f has (within f of)
 
 generations_within : (f : Fault) → is_of_generations f ≡ true → is_of_nodes f ≡ true
@@ -176,15 +188,16 @@ module _ (old : Server) (log : List Transfer) (new : Server) (serves : Serves ol
       → ShowsNone is_of_kernel s → (place : ℕ) → HasFaultAt [] s place f → ⊥
   plain group free = free_of group is_nothing IsAny none_asked (λ frame is. tt) log free
 
-  counted : (group : Fault → Bool) → IsFreeOf group is_nothing HasFewForgets log → (f : Fault) → group f ≡ true
-      → AllReceived IsOrdinary log → (ts : List Said) → AreSaid log ts → (k : Known) (s : Session) → IsSession ts k s
-      → ShowsNone is_of_kernel s → (place : ℕ) → HasFaultAt [] s place f → ⊥
-  counted group free = free_of group is_nothing HasFewForgets none_asked (λ frame is. is.forgets) log free
+  honest : (group : Fault → Bool) → ((f : Fault) → group f ≡ true → is_of_nodes f ≡ true) → (f : Fault)
+      → group f ≡ true → AllReceived IsOrdinary log → (ts : List Said) → AreSaid log ts → (k : Known) (s : Session)
+      → IsSession ts k s → ShowsNone is_of_kernel s → (place : ℕ) → HasFaultAt [] s place f → ⊥
+  honest group within = free_of group is_of_kernel IsAny (λ f is. is) (λ frame is. tt) log
+      (honest_never group within old log new serves mounted)
 
   numbered : (f : Fault) → is_of_numbers f ≡ true
       → AllReceived IsOrdinary log → (ts : List Said) → AreSaid log ts → (k : Known) (s : Session) → IsSession ts k s
       → ShowsNone is_of_kernel s → (place : ℕ) → HasFaultAt [] s place f → ⊥
-  numbered = free_of is_of_numbers is_of_interrupts IsNoNotifyReply interrupts_asked (λ frame is. is.asked_for) log
+  numbered = free_of is_of_numbers is_of_interrupts IsNoNotifyReply interrupts_asked (λ frame is. is.other) log
       (numbers_never old log new serves)
 
   each_fault : (f : Fault) → is_of_server f ≡ true → AllReceived IsOrdinary log → (ts : List Said) → AreSaid log ts
@@ -211,10 +224,10 @@ module _ (old : Server) (log : List Transfer) (new : Server) (serves : Serves ol
   each_fault fault.EntryOfAnotherKind of =
       plain is_of_entries (entries_never old log new serves mounted) fault.EntryOfAnotherKind refl
   each_fault fault.NodeOfTwoGenerations of =
-      counted is_of_generations (generations_never old log new serves mounted) fault.NodeOfTwoGenerations refl
-  each_fault fault.NodeOfTwoKinds of = counted is_of_files (files_never old log new serves mounted) fault.NodeOfTwoKinds refl
+      honest is_of_generations generations_within fault.NodeOfTwoGenerations refl
+  each_fault fault.NodeOfTwoKinds of = honest is_of_files files_within fault.NodeOfTwoKinds refl
   each_fault fault.NodeOfTwoInodeNumbers of =
-      counted is_of_files (files_never old log new serves mounted) fault.NodeOfTwoInodeNumbers refl
+      honest is_of_files files_within fault.NodeOfTwoInodeNumbers refl
   each_fault f of = absurd (false≢true of)
 
 pub server_never : FreshNeverAccused is_of_server is_of_kernel IsOrdinary

@@ -101,7 +101,7 @@ abbrev pub is_of_second_init : Fault → Bool
 is_of_second_init fault.InitNotFirst = true
 is_of_second_init f = false
 
--- ---- frames of a kernel that a group asks for, where no fault of the definitions rules others out
+-- ---- frames of a kernel that a group asks for
 
 abbrev pub IsAny : List ℕ → Type 0
 IsAny frame = Unit {0}
@@ -114,12 +114,12 @@ HasNumber frame = unique_in frame ≢ 0
 abbrev pub IsNoNotifyReply : List ℕ → Type 0
 IsNoNotifyReply frame = opcode_in frame ≢ 41
 
--- A BATCH_FORGET is no longer than the definitions read: 16 MiB, a million pairs. Of a longer one they see no forgets.
+-- A BATCH_FORGET is no longer than the definitions read: 16 MiB, a million pairs. A longer one is malformed to them, and
+-- they see no forgets.
 abbrev pub HasFewForgets : List ℕ → Type 0
 HasFewForgets frame = opcode_in frame ≡ 42 → length frame ≤ 16777216
 
--- A request is all of this.
+-- A request has a number, and is no NOTIFY_REPLY.
 pub record IsOrdinary (frame : List ℕ) : Type 0 where
   pub number : HasNumber frame
-  pub asked_for : IsNoNotifyReply frame
-  pub forgets : HasFewForgets frame
+  pub other : IsNoNotifyReply frame

@@ -70,7 +70,7 @@ pub fn pairs_stay_of_one_file()
 {}
 
 /// Where the kernel has no fault, a server that was just mounted has none of those that the definitions know. No request
-/// may have number 0, be a NOTIFY_REPLY, or be a BATCH_FORGET of more than 16 MiB.
+/// may have number 0 or be a NOTIFY_REPLY.
 pub fn server_has_no_fault()
     ensures { FreshNeverAccused is_of_server is_of_kernel IsOrdinary }
 {}
