@@ -6,7 +6,7 @@ mod Forgetting
 mod HeldCounts
 mod LongNames
 mod LookupCounts
-mod NodesLater
+pub mod NodesLater
 mod PairsOnce
 mod FilledReplies
 mod ReplyKinds

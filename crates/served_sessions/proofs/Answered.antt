@@ -2,7 +2,6 @@
 use Rattle.std.proofs.Common.{◌≡◌, ◌≢◌, ◌≤◌, ◌⊎◌, inl, inr, ℕ, zero, suc, map, ℤ, negsuc, ◌-◌, Bool, true, false, cond, List, [], ◌∷◌, length, Option, Some, None, refl, sym, ◌∙◌, ap, subst, subst₂, bit_and, nat_eq, arith, rules}
 use Rattle.std.proofs.lemmas.Bool.{true≢false, false≢true}
 use Rattle.std.proofs.lemmas.List.Elements.{All-nil}
-use Rattle.fuse_spec.specs.declared.Entry.{Entry}
 use Rattle.fuse_spec.specs.declared.WriteResult.TheVariants.{Accepted}
 use Rattle.fuse_spec.specs.declared.Minor.{Minor}
 use Rattle.fuse_spec.specs.declared.Refusal.{Refusal}
@@ -17,7 +16,6 @@ use Rattle.fuse_spec.specs.Server.Memory.{word_takes_memory}
 use Rattle.fuse_spec.specs.Server.Performs.{init_reply, is_still_held, minor_number, performed, performing, served}
 use Rattle.fuse_spec.specs.Server.Server.{HeldRequest, Kept, Server, generation_in, holding, nodes_of_body}
 use Rattle.fuse_spec.specs.Server.Nodes.{NodeTable, row_of}
-use Rattle.fuse_theorem.specs.Lookups.{IsHeldAs}
 use Rattle.fuse_theorem.proofs.Lookups.RowCounts.{count_of}
 use Rattle.fuse_spec.specs.Server.Taking.{interrupting, taking}
 use Rattle.fuse_spec.specs.World.Worlds.{Sent}
@@ -53,10 +51,11 @@ use Rattle.served_sessions.proofs.Gained.{GainsIn}
 use Rattle.served_sessions.proofs.Given.{WireGives, gives_done, gives_none, served_gives}
 use Rattle.served_sessions.proofs.Heading.{error_head, error_length, head_of, written_head}
 use Rattle.served_sessions.proofs.InitReplies.{agrees_with}
-use Rattle.served_sessions.proofs.Performed.{accepted_nodes, performed_gains, released_more}
+use Rattle.served_sessions.proofs.Performed.{accepted_same, performed_gains, released_more}
 use Rattle.served_sessions.proofs.Requests.{asked_alike, frame_header, frame_opcode, frame_unique, init_flags_are, interrupt_length, is_measured}
 use Rattle.served_sessions.proofs.Shaped.{has_body, has_entries, has_gains}
-use Rattle.served_sessions.proofs.Turned.{WireGains}
+use Rattle.served_sessions.proofs.Turned.{WireGains, gains_still}
+use Rattle.served_sessions.proofs.Shown.{IsEntryOf}
 
 -- A received frame has the header and the flags of the frame that it is read as.
 pub record IsHeadedAs (bytes frame : List ℕ) : Type 0 where
@@ -70,7 +69,7 @@ pub as_itself : (frame : List ℕ) → IsHeadedAs frame frame
 as_itself frame = record { header = λ h. h; opcode = refl; unique = refl; flags = refl; whole = λ other. refl }
 
 -- A reply that answers is sent. Of a sound server its entries are sound, and where it is accepted they are counted.
-pub record SendsAnswer (Sound : Type 0) (t u : NodeTable) (bytes : List ℕ) (log : List Transfer) : Type 0 where
+pub record SendsAnswer (Sound : Type 0) (t : NodeTable) (u : Server) (bytes : List ℕ) (log : List Transfer) : Type 0 where
   pub reply : List ℕ
   pub answers : IsAnswer bytes reply
   pub entries : Sound → HasEntriesIn bytes reply
@@ -205,13 +204,14 @@ bare_goes (interrupt original) is errno = absurd cc
 bare_goes (asks (operation.lookup d name)) is errno = absurd cc
 bare_goes (asks operation') is errno = absurd cc
 
-bare_gains : {t u : NodeTable} (errno : ℕ) → ((n : ℕ) → count_of t n ≤ count_of u n) → WireGains t u (bare_reply errno)
-bare_gains {u = u} zero more = record {
-  held = All-nil (λ (e : Entry). IsHeldAs u e.nodeid e.generation);
+bare_gains : {t : NodeTable} {u : Server} (body : RequestBody) (errno : ℕ)
+    → ((n : ℕ) → count_of t n ≤ count_of u.nodes n) → WireGains t u body (bare_reply errno)
+bare_gains {u = u} body zero more = record {
+  shows = record { entries = All-nil (IsEntryOf u.nodes u.tree); described = λ n a is says. absurd cc };
   counts = λ n. let m = more n in omega (arith, m);
 }
-bare_gains {u = u} (suc k) more = record {
-  held = All-nil (λ (e : Entry). IsHeldAs u e.nodeid e.generation);
+bare_gains {u = u} body (suc k) more = record {
+  shows = record { entries = All-nil (IsEntryOf u.nodes u.tree); described = λ n a is says. absurd cc };
   counts = λ n. let m = more n in omega (arith, m);
 }
 
@@ -221,7 +221,7 @@ bare_gives o (suc n) = gives_none o (suc n)
 
 -- ---- the error replies
 
-module _ (Sound : Type 0) (t u : NodeTable) (bytes frame : List ℕ) (as_read : IsHeadedAs bytes frame) where
+module _ (Sound : Type 0) (t : NodeTable) (u : Server) (bytes frame : List ℕ) (as_read : IsHeadedAs bytes frame) where
   -- an error names nothing
   error_entries : (unique n : ℕ) (reply : List ℕ)
       → WrittenReply (record { unique = unique; error = negsuc n; content = empty_reply }) reply → Sound
@@ -290,6 +290,10 @@ module _ (Sound : Type 0) (t u : NodeTable) (bytes frame : List ℕ) (as_read : 
     no_room : opcode_in frame ≡ 26 → is_measured (asked_opcode request.body) ≡ true → ⊥
     no_room is room = init_apart (asked_opcode request.body) room (sym (frame_opcode frame request says) ∙ is)
 
+    no_getattr : asked_opcode request.body ≡ op.Getattr → opcode_in frame ≡ 26 → ⊥
+    no_getattr is init_code =
+        code_apart 3 26 refl (sym (frame_opcode frame request says ∙ ap code_of is) ∙ init_code)
+
     kind_of : (o : Opcode) (reply : List ℕ) (wire' : WireReply)
         → IsFilledFrame o reply (record { unique = request.unique; wire = wire' })
         → ((errno : ℕ) × (wire' ≡ failed errno))
@@ -307,10 +311,10 @@ module _ (Sound : Type 0) (t u : NodeTable) (bytes frame : List ℕ) (as_read : 
 
     filled_gains : (o : Opcode) (reply : List ℕ) (wire' : WireReply)
         → IsFilledFrame o reply (record { unique = request.unique; wire = wire' }) → GoesFor request.body wire'
-        → (error_in reply ≡ 0 → WireGains t u wire') → GainsIn t u bytes reply
+        → (error_in reply ≡ 0 → WireGains t u request.body wire') → GainsIn t u bytes reply
     filled_gains o reply wire' filled goes gains = has_gains bytes frame request says as_read.opcode
         (λ room. as_read.whole (λ is. no_room is room)) o reply wire' filled.says goes
-        (kind_of o reply wire' filled goes.kind) t u gains
+        (kind_of o reply wire' filled goes.kind) t u (λ is. as_read.whole (λ init_code. no_getattr is init_code)) gains
 
     filled_answers : (o : Opcode) (reply : List ℕ) (wire' : WireReply)
         → IsFilledFrame o reply (record { unique = request.unique; wire = wire' })
@@ -353,7 +357,7 @@ module _ (Sound : Type 0) (t u : NodeTable) (bytes frame : List ℕ) (as_read : 
         × (opcode_in frame ≡ 26 → error_in reply ≡ 0 → AgreesOn bytes reply)) → GoesFor request.body copy.wire
         → (Sound → WireGives (asked_opcode request.body) copy.wire)
         → ((o : Opcode) (reply : List ℕ) → IsFilledFrame o reply (record { unique = request.unique; wire = copy.wire })
-        → Sound → log ≡ sent reply Accepted ∷ [] → error_in reply ≡ 0 → WireGains t u copy.wire)
+        → Sound → log ≡ sent reply Accepted ∷ [] → error_in reply ≡ 0 → WireGains t u request.body copy.wire)
         → SendsAnswer Sound t u bytes log
     sends_copy copy log under (o, reply, filled, sends) apart long says' goes gives gains =
         let now : IsFilledFrame o reply (record { unique = request.unique; wire = copy.wire }) =
@@ -442,7 +446,7 @@ module _ (Sound : Type 0) (t u : NodeTable) (bytes frame : List ℕ) (as_read : 
     performs : (s taken : Server) → (Sound → IsFine s) → (errno : ℕ) (copy : Sent) (did : Server) → taken ≡ (taking s request.unique request.body).server
         → (taking s request.unique request.body).word ≡ Held → PerformsHeld taken request.unique errno (Some copy) did
         → (log : List Transfer) (new : Server) → Delivers copy did log new → t ≡ s.nodes
-        → u ≡ new.nodes → SendsAnswer Sound t u bytes log
+        → u ≡ new → SendsAnswer Sound t u bytes log
     performs s taken fine errno copy did after held p log new delivers before later =
         let takes : takes_no_reply (code_of (asked_opcode request.body)) ≡ false =
         held_takes_reply s request.unique request.body held in
@@ -466,13 +470,17 @@ module _ (Sound : Type 0) (t u : NodeTable) (bytes frame : List ℕ) (as_read : 
         here_fine sound = subst IsFine (sym (after ∙ held_server s request.unique request.body held))
             (held_fine s (fine sound) request.unique request.body)
 
-        gained : Sound → (reply : List ℕ) → log ≡ sent reply Accepted ∷ [] → WireGains t u copy.wire
+        gained : Sound → (reply : List ℕ) → log ≡ sent reply Accepted ∷ [] → WireGains t u request.body copy.wire
         gained sound reply accepted =
             let same : taken.nodes ≡ s.nodes =
             ap (λ (x : Server). x.nodes) (after ∙ held_server s request.unique request.body held) in
-            let now : u ≡ did.nodes = later ∙ accepted_nodes copy did log new delivers reply accepted in
-            subst₂ (λ (x y : NodeTable). WireGains x y copy.wire) (same ∙ sym before) (sym now)
-            (performed_gains taken (here_fine sound) request.unique errno copy did p)
+            let now = accepted_same copy did log new delivers reply accepted in
+            let asked : (let h = p.held in h.body) ≡ request.body =
+            held_body s taken request.unique request.body p.held held after p.there in
+            subst₂ (λ (x : NodeTable) (y : Server). WireGains x y request.body copy.wire) (same ∙ sym before) (sym later)
+            (gains_still taken.nodes did new request.body copy.wire now.0 now.1
+            (subst (λ (b : RequestBody). WireGains taken.nodes did b copy.wire) asked
+            (performed_gains taken (here_fine sound) request.unique errno copy did p)))
 
         given : Sound → WireGives (asked_opcode p.held.body) (served p.choice taken request.unique p.held).wire
         given sound =
@@ -517,7 +525,7 @@ module _ (Sound : Type 0) (t u : NodeTable) (bytes frame : List ℕ) (as_read : 
 
     serves_held : (s taken : Server) → (Sound → IsFine s) → (log : List Transfer) (new : Server) → taken ≡ (taking s request.unique request.body).server
         → (taking s request.unique request.body).word ≡ Held → ServesHeld taken request.unique log new → t ≡ s.nodes
-        → u ≡ new.nodes → (log ≡ []) ⊎ SendsAnswer Sound t u bytes log
+        → u ≡ new → (log ≡ []) ⊎ SendsAnswer Sound t u bytes log
     serves_held s taken fine log new after held (replied errno copy did p log' new' delivers) before later =
         inr (performs s taken fine errno copy did after held p log new delivers before later)
     serves_held s taken fine log new after held (unreplied errno new' p) before later = inl refl
@@ -528,7 +536,7 @@ module _ (Sound : Type 0) (t u : NodeTable) (bytes frame : List ℕ) (as_read : 
     -- ---- RELEASE
 
     released_answer : (aborted : Bool) (number errno : ℕ) (log : List Transfer)
-        → (Sound → (n : ℕ) → count_of t n ≤ count_of u n) → asked_opcode request.body ≡ op.Release
+        → (Sound → (n : ℕ) → count_of t n ≤ count_of u.nodes n) → asked_opcode request.body ≡ op.Release
         → RepliesToRelease (first_copy aborted number request.unique (bare_reply errno)) log
         → (log ≡ []) ⊎ SendsAnswer Sound t u bytes log
     released_answer true number errno log more is none = inl none
@@ -544,7 +552,7 @@ module _ (Sound : Type 0) (t u : NodeTable) (bytes frame : List ℕ) (as_read : 
           entries = λ sound. filled_entries op.Release reply (bare_reply errno) filled (bare_goes request.body is errno)
               (bare_gives (asked_opcode request.body) errno);
           gains = λ sound accepted. filled_gains op.Release reply (bare_reply errno) filled
-              (bare_goes request.body is errno) (λ fine. bare_gains errno (more sound));
+              (bare_goes request.body is errno) (λ fine. bare_gains request.body errno (more sound));
           sends = sends;
         })
 
@@ -584,13 +592,13 @@ module _ (Sound : Type 0) (t u : NodeTable) (bytes frame : List ℕ) (as_read : 
   sends_fault minor fault log (sending.unreplied none) = inl refl
 
   pub serves_answer : (old : Server) → (Sound → IsFine old) → (log : List Transfer) (new : Server) → ServesFrame old frame log new
-      → t ≡ old.nodes → u ≡ new.nodes → (log ≡ []) ⊎ SendsAnswer Sound t u bytes log
+      → t ≡ old.nodes → u ≡ new → (log ≡ []) ⊎ SendsAnswer Sound t u bytes log
   serves_answer old fine log new (done_at_once request new' took silent not_held) before later = inl refl
   serves_answer old fine log new (replied_at_once request taken took copy is log' new' delivers) before later =
       inr (replies_at_once request took.says old taken copy log new is delivers)
   serves_answer old fine log new (released unique opened says errno new' releases log' replies) before later =
       released_answer (record { unique = unique; body = release opened }) says old.aborted old.next_copy errno log
-      (λ sound n. released_more old (fine sound) unique opened errno new releases before later n) refl replies
+      (λ sound n. released_more old (fine sound) unique opened errno new releases before (ap (λ (x : Server). x.nodes) later) n) refl replies
   serves_answer old fine log new (unreleased unique opened says refuses log' sends) before later =
       inr (request_error (record { unique = unique; body = release opened }) says 4 input_output log refl refl sends)
   serves_answer old fine log new (is_performed request taken took held other log' new' serves) before later =

@@ -31,7 +31,7 @@ use Rattle.served_sessions.proofs.Given.{IsGood, MadeKind, WireGives}
 -- ---- kinds
 
 -- the kind by a mode's bits
-abbrev by_bits : ℕ → Kind
+abbrev pub by_bits : ℕ → Kind
 by_bits bits = cond (nat_eq bits 16384) Directory (cond (nat_eq bits 32768) Regular Other)
 
 of_kind : (bits : ℕ) → by_bits bits ≢ Other → is_kind bits ≡ true
@@ -43,7 +43,7 @@ of_kind bits some = by (nat_eq bits 16384) (nat_eq bits 32768) refl refl some
     by false true is other some = ap is_kind (one_number bits 32768 other)
     by false false is other some = absurd (some refl)
 
-directory_bits : (bits : ℕ) → by_bits bits ≡ Directory → bits ≡ 16384
+pub directory_bits : (bits : ℕ) → by_bits bits ≡ Directory → bits ≡ 16384
 directory_bits bits same = by (nat_eq bits 16384) (nat_eq bits 32768) refl same
   where
     by : (b c : Bool) → nat_eq bits 16384 ≡ b → cond b Directory (cond c Regular Other) ≡ Directory → bits ≡ 16384
@@ -51,7 +51,7 @@ directory_bits bits same = by (nat_eq bits 16384) (nat_eq bits 32768) refl same
     by false true is same = cc
     by false false is same = cc
 
-regular_bits : (bits : ℕ) → by_bits bits ≡ Regular → bits ≡ 32768
+pub regular_bits : (bits : ℕ) → by_bits bits ≡ Regular → bits ≡ 32768
 regular_bits bits same = by (nat_eq bits 16384) (nat_eq bits 32768) refl same
   where
     by : (b c : Bool) → nat_eq bits 32768 ≡ c → cond b Directory (cond c Regular Other) ≡ Regular → bits ≡ 32768

@@ -51,7 +51,7 @@ read_as bytes frame (inr (no_init, no_batch, is)) = subst (λ (f : List ℕ). Is
 part_silent : (bytes left : List ℕ) → IsLongBatch bytes → (old : Server) (log : List Transfer) (new : Server)
     → ServesFrame old (part_of bytes (first_pairs left)) log new → log ≡ []
 part_silent bytes left long old log new serves =
-    by (serves_answer ⊥ old.nodes new.nodes part part (as_itself part) old (λ none. absurd none) log new serves refl refl)
+    by (serves_answer ⊥ old.nodes new part part (as_itself part) old (λ none. absurd none) log new serves refl refl)
   where
     pairs : List ℕ
     pairs = first_pairs left
@@ -59,12 +59,12 @@ part_silent bytes left long old log new serves =
     part : List ℕ
     part = part_of bytes (first_pairs left)
 
-    by : (log ≡ []) ⊎ SendsAnswer ⊥ old.nodes new.nodes part log → log ≡ []
+    by : (log ≡ []) ⊎ SendsAnswer ⊥ old.nodes new part log → log ≡ []
     by (inl silent) = silent
     by (inr a) = absurd (a.answers.no_forget.1 (same_opcode_of_part (48 + length pairs) (length pairs / 16) bytes pairs
         long.header.0 ∙ long.opcode))
 
-pairs_silent : (bytes : List ℕ) → IsLongBatch bytes → (old : Server) (pairs : List ℕ) (log : List Transfer) (new : Server)
+pub pairs_silent : (bytes : List ℕ) → IsLongBatch bytes → (old : Server) (pairs : List ℕ) (log : List Transfer) (new : Server)
     → ServesPairs bytes old pairs log new → log ≡ []
 pairs_silent bytes long old pairs log new no_pairs = refl
 pairs_silent bytes long old pairs log new (more_pairs served before mid serves going left split log' new' more) =
@@ -76,7 +76,7 @@ pairs_silent bytes long old pairs log new (more_pairs served before mid serves g
 module _ (Answers : List ℕ → List ℕ → Type 0) (Sound : Type 0) (start : Server)
     (fine : (log : List Transfer) (mid : Server) → Serves start log mid → Sound → IsFine mid)
     (as_such : (bytes reply : List ℕ) → IsAnswer bytes reply → (Sound → HasEntriesIn bytes reply) → Answers bytes reply) where
-  frame_exchange : (t u : NodeTable) (bytes : List ℕ) (log : List Transfer) → (log ≡ []) ⊎ SendsAnswer Sound t u bytes log
+  frame_exchange : (t : NodeTable) (u : Server) (bytes : List ℕ) (log : List Transfer) → (log ≡ []) ⊎ SendsAnswer Sound t u bytes log
       → AreExchangesBy Answers (received bytes ∷ log)
   frame_exchange t u bytes log (inl silent) = subst (λ (l : List Transfer). AreExchangesBy Answers (received bytes ∷ l))
       (sym silent) (unanswered bytes [] nothing)
@@ -85,9 +85,9 @@ module _ (Answers : List ℕ → List ℕ → Type 0) (Sound : Type 0) (start : 
   next_exchange : (old : Server) → (Sound → IsFine old) → (log : List Transfer) (new : Server) → ServesNext old log new
       → AreExchangesBy Answers log
   next_exchange old is log new (one bytes frame read log' new' serves) =
-      frame_exchange old.nodes new.nodes bytes log'
-      (serves_answer Sound old.nodes new.nodes bytes frame (read_as bytes frame read) old is log' new' serves refl refl)
-  next_exchange old is log new (batch bytes long log' new' serves) = frame_exchange old.nodes new.nodes bytes log'
+      frame_exchange old.nodes new bytes log'
+      (serves_answer Sound old.nodes new bytes frame (read_as bytes frame read) old is log' new' serves refl refl)
+  next_exchange old is log new (batch bytes long log' new' serves) = frame_exchange old.nodes new bytes log'
       (inl (pairs_silent bytes long old serves.pairs log' new' serves.serves))
   next_exchange old is log new (none end) = ended end [] nothing
 

@@ -1,18 +1,20 @@
 -- A server that was just mounted stays sound, and each name of its tree leads to a file.
-use Rattle.std.proofs.Common.{◌≢◌, ℕ, Bool, true, false, cond, List, [], ◌∷◌, Option, Some, None, refl, sym, subst, inl, inr}
+use Rattle.std.proofs.Common.{◌≢◌, ◌<◌, arith, ℕ, Bool, true, false, cond, List, [], ◌∷◌, Option, Some, None, refl, sym, subst, inl, inr}
+use Rattle.std.proofs.lemmas.Bool.{cases_eq}
 use Rattle.std.proofs.lemmas.List.Elements.{All-nil}
 use Rattle.fuse_spec.specs.declared.WriteResult.{WriteResult}
 use Rattle.fuse_spec.specs.declared.WriteResult.TheVariants.{Accepted, Invalid, NoEntry}
 use Rattle.fuse_spec.specs.Values.Maps.{get, remove}
 use Rattle.fuse_spec.specs.Files.Operations.{done, files_in_reply, opens_in_reply}
-use Rattle.fuse_spec.specs.Files.Trees.{Named}
+use Rattle.fuse_spec.specs.Files.Trees.{Named, a_directory}
 use Rattle.fuse_spec.specs.Kernel.Messages.{RequestBody, WireReply, asks, batch_forget, forget, init, interrupt, release}
 use Rattle.fuse_spec.specs.Server.Copies.{after_result, handles_back, kept_after, rows_back}
 use Rattle.fuse_spec.specs.Server.Nodes.{file_of, handle_back, is_open}
 use Rattle.fuse_spec.specs.Server.Performs.{doing, file_operation_of, is_open_for, is_still_held, performed, performing, refusing, served}
 use Rattle.fuse_spec.specs.Server.Server.{HeldRequest, Kept, Server, all_taken_back, holding}
 use Rattle.fuse_spec.specs.Server.Taking.{interrupting, taking}
-use Rattle.fuse_spec.specs.World.Worlds.{Sent}
+use Rattle.fuse_spec.specs.World.Worlds.{Sent, first_server}
+use Rattle.fuse_spec.proofs.Tables.{get_put_there}
 use Rattle.fuse_theorem.specs.ServerTables.{ServerSound, TreeSound}
 use Rattle.fuse_theorem.proofs.Nodes.NodesSound.{left_none}
 use Rattle.fuse_theorem.proofs.Nodes.ServerSound.{first_sound, result_sound, served_sound, taking_sound}
@@ -22,12 +24,28 @@ use Rattle.fuse_device.specs.Transfers.{Transfer}
 use Rattle.fs_serve.specs.LookupCounts.{IsFresh, fresh}
 use Rattle.fs_serve.specs.Sending.{Delivers, IsSettled, settled, unsettled}
 use Rattle.fs_serve.specs.Serving.{Serves, ServesFrame, ServesHeld, ServesNext, ServesPairs, batch, done_at_once, dropped, more_pairs, name_too_long, next, no_pairs, none, nothing, one, performed as is_performed, refused, released, replied, replied_at_once, uninterrupted, unreleased, unreplied, untaken}
+use Rattle.served_sessions.proofs.HeldFiles.{IsFirm, discarded_firm, served_keeping, settled_keeping, taking_keeping}
 use Rattle.served_sessions.proofs.Standing.{Stands, discarded_stands, stands_after}
 
--- The server is sound, and the names of its tree stand.
+-- The server is sound, and the names of its tree stand, as do the files that nodes and file handles hold.
 pub record IsFine (s : Server) : Type 0 where
   pub sound : ServerSound s
   pub stands : Stands s.tree
+  pub firm : IsFirm s
+
+-- a server's first tree has the root alone
+first_numbered : (file : ℕ) → get ((0, a_directory) ∷ []) file ≢ None → file < 1
+first_numbered file there = elim (cases_eq file 0) [
+  | inl e ↦ omega (arith, e)
+  | inr ne ↦ absurd (there (get_put_there [] 0 a_directory file ne))
+]
+
+fresh_firm : (s : Server) → IsFresh s → IsFirm s
+fresh_firm s (fresh validity minor) = discarded_firm (record first_server { validity = validity; minor = minor }) (record {
+  nodes = λ id row at. absurd cc;
+  handles = λ fh handle at. absurd cc;
+  numbered = first_numbered;
+})
 
 pub fresh_fine : (s : Server) → IsFresh s → IsFine s
 fresh_fine s (fresh validity minor) = record {
@@ -38,6 +56,7 @@ fresh_fine s (fresh validity minor) = record {
     copies = λ number later. refl;
   };
   stands = All-nil (λ (n : Named). get s.tree.files n.file ≢ None);
+  firm = fresh_firm s (fresh validity minor);
 }
 
 -- ---- a request is taken
@@ -46,9 +65,11 @@ fresh_fine s (fresh validity minor) = record {
 pub held_fine : (s : Server) → IsFine s → (unique : ℕ) (body : RequestBody) → IsFine (holding s unique body)
 held_fine s fine unique body =
     let sound = fine.sound in
+    let firm = fine.firm in
     record {
       sound = record { tree = sound.tree; nodes = sound.nodes; handles = sound.handles; copies = sound.copies };
       stands = fine.stands;
+      firm = record { nodes = firm.nodes; handles = firm.handles; numbered = firm.numbered };
     }
 
 taking_stands : (s : Server) → Stands s.tree → (unique : ℕ) (body : RequestBody)
@@ -133,6 +154,7 @@ module _ (old : Server) (fine : IsFine old) where
           copies = remove old.copies number;
           kept = kept_after old.kept settles.copy (get old.kept (let c = settles.copy in c.unique));
         }) fine.stands (let c = settles.copy in c.wire) result;
+        firm = (settled_keeping old fine.firm number settles.copy result).firm;
       })
   settled_fine number result new (inr (refusal, absent, same)) = subst IsFine (sym same) fine
 
@@ -140,18 +162,20 @@ module _ (old : Server) (fine : IsFine old) where
   delivered_fine copy log new (settled opcode bytes frame result new' is) = settled_fine copy.number result new is
   delivered_fine copy log new (unsettled opcode bytes frame end) = fine
 
-  taken_fine : (unique : ℕ) (body : RequestBody) → IsFine (taking old unique body).server
+  pub taken_fine : (unique : ℕ) (body : RequestBody) → IsFine (taking old unique body).server
   taken_fine unique body = record {
     sound = taking_sound old fine.sound unique body;
     stands = taking_stands old fine.stands unique body;
+    firm = (taking_keeping old fine.firm unique body).firm;
   }
 
-  performed_fine : (unique errno : ℕ) (copy : Option Sent) (did : Server) → PerformsHeld old unique errno copy did → IsFine did
+  pub performed_fine : (unique errno : ℕ) (copy : Option Sent) (did : Server) → PerformsHeld old unique errno copy did → IsFine did
   performed_fine unique errno copy did p =
       let sound = fine.sound in
       subst IsFine (sym p.server_is) (record {
         sound = served_sound p.choice old sound unique p.held p.may;
         stands = served_stands p.choice old sound.tree fine.stands unique p.held;
+        firm = (served_keeping p.choice old sound.tree fine.stands fine.firm unique p.held).firm;
       })
 
 -- ---- a frame is served
@@ -163,16 +187,18 @@ held_served_fine old fine unique log new (replied errno copy did p log' new' del
 held_served_fine old fine unique log new (unreplied errno new' p) = performed_fine old fine unique errno None new p
 held_served_fine old fine unique log new (dropped refusal why log' sends) =
     let sound = fine.sound in
+    let firm = fine.firm in
     record {
       sound = record { tree = sound.tree; nodes = sound.nodes; handles = sound.handles; copies = sound.copies };
       stands = fine.stands;
+      firm = record { nodes = firm.nodes; handles = firm.handles; numbered = firm.numbered };
     }
 
 released_fine : (did : Server) → IsFine did → (copy : Option Sent) (new : Server) → SettlesAnyhow did copy new → IsFine new
 released_fine did fine None new same = subst IsFine (sym same) fine
 released_fine did fine (Some copy) new settles = settled_fine did fine copy.number Accepted new (inl (settles Accepted))
 
-frame_fine : (old : Server) → IsFine old → (frame : List ℕ) (log : List Transfer) (new : Server)
+pub frame_fine : (old : Server) → IsFine old → (frame : List ℕ) (log : List Transfer) (new : Server)
     → ServesFrame old frame log new → IsFine new
 frame_fine old fine frame log new (done_at_once request new' took silent not_held) =
     subst IsFine (sym took.after) (taken_fine old fine request.unique request.body)

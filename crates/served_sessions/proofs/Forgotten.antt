@@ -33,7 +33,7 @@ use Rattle.served_sessions.proofs.Placed.{number_from}
 use Rattle.served_sessions.proofs.Requests.{body_reads}
 
 -- the forgets of a request are acts of the session
-sums_alike : (n : ℕ) (pairs : List (ℕ × ℕ)) → forgotten n pairs ≡ sum_by (forgets_of n) (forgets_in pairs)
+pub sums_alike : (n : ℕ) (pairs : List (ℕ × ℕ)) → forgotten n pairs ≡ sum_by (forgets_of n) (forgets_in pairs)
 sums_alike n [] = refl
 sums_alike n (p ∷ pairs) =
     let one = sum_by-cons (λ (f : ℕ × ℕ). cond (nat_eq f.0 n) f.1 0) p pairs in
@@ -42,7 +42,7 @@ sums_alike n (p ∷ pairs) =
     omega (arith, one, two, rest)
 
 -- behind the acts of reading it
-behind_reading : (n u : ℕ) (o : Opcode) (acts : List Act)
+pub behind_reading : (n u : ℕ) (o : Opcode) (acts : List Act)
     → sum_by (forgets_of n) (act.Arrives ∷ act.Begins o ∷ act.Read (Some o) u ∷ acts) ≡ sum_by (forgets_of n) acts
 behind_reading n u o acts =
     let one = sum_by-cons (forgets_of n) act.Arrives (act.Begins o ∷ act.Read (Some o) u ∷ acts) in
@@ -116,7 +116,7 @@ module _ (k : Known) (bytes : List ℕ) (acts : List Act) (plain : k.agreed.has_
   carries = record { from_umask = omega arith; no_extensions = refl; names = omega arith }
 
   -- the acts are those of this request
-  acts_of : (o : Opcode) (r : RequestMessage) → IsRequest k.agreed bytes (row_at o) r
+  pub acts_of : (o : Opcode) (r : RequestMessage) → IsRequest k.agreed bytes (row_at o) r
       → acts ≡ request_acts k.has_resent o r
   acts_of o r is = by does
     where

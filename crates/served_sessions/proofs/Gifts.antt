@@ -14,29 +14,33 @@ use Rattle.fuse_sessions.specs.declared.fault.Fault.TheVariants as fault
 use Rattle.fuse_sessions.specs.Sessions.{Session}
 use Rattle.fuse_sessions.specs.Warnings.{is_missing, is_of_node, is_offset, last_behind, listing_acts, missing_acts, repeats_behind}
 use Rattle.fuse_sessions.specs.ReplyActs.{answer_acts, counting, entry_acts, failed_acts, file_of, gift_acts, is_counted, is_kind, is_made, is_opened, kind_acts, kind_of, may_be_missing, opening, opening_none, record_acts, root_acts}
-use Rattle.fuse_spec.specs.Server.Nodes.{NodeTable}
-use Rattle.fuse_theorem.specs.Lookups.{IsHeldAs}
+use Rattle.fuse_spec.specs.Server.Server.{Server}
+use Rattle.fuse_spec.specs.Claim.Denotes.{Denotes}
 use Rattle.served_sessions.specs.Entries.{is_dots}
 use Rattle.served_sessions.proofs.Acts.{each_of, either}
-use Rattle.served_sessions.proofs.Gained.{AllHeld, entries_of, listed_entries, record_entries, times_given}
-use Rattle.served_sessions.proofs.Tracked.{Calm, Tracks, calm_acts, given, given_free, is_calm, none_given, one_more, then_calm}
+use Rattle.served_sessions.proofs.Fine.{IsFine}
+use Rattle.served_sessions.proofs.Gained.{AllHeld, IsDescribed, entries_of, listed_entries, record_entries, times_given}
+use Rattle.served_sessions.proofs.NodeFiles.{IsFileAs, IsNodeOf}
+use Rattle.served_sessions.proofs.Tracked.{Calm, Tracks, calm_acts, described, described_free, given, given_free, is_calm, none_given, one_more, then_calm}
 
 abbrev AreCalm : List Act → Type 0
 AreCalm acts = list_all is_calm acts ≡ true
 
-pub weaker : (t : NodeTable) (most more : ℕ → ℕ) (s : Session) → ((n : ℕ) → 2 ≤ n → most n ≤ more n) → Tracks t most s
-    → Tracks t more s
-weaker t most more s few tracks = record {
+pub weaker : (v : Server) (most more : ℕ → ℕ) (s : Session) → ((n : ℕ) → 2 ≤ n → most n ≤ more n) → Tracks v most s
+    → Tracks v more s
+weaker v most more s few tracks = record {
   counts = λ n low. let one = tracks.counts n low in let two = few n low in omega (arith, one, two);
+  none = tracks.none;
   held = tracks.held;
+  files = tracks.files;
 }
 
-pub weaker_calm : (t : NodeTable) (most more : ℕ → ℕ) (s : Session) (acts : List Act)
+pub weaker_calm : (v : Server) (most more : ℕ → ℕ) (s : Session) (acts : List Act)
     → ((n : ℕ) → 2 ≤ n → most n ≤ more n)
-    → Calm t most s acts → Calm t more s acts
-weaker_calm t most more s acts few calm = record {
+    → Calm v most s acts → Calm v more s acts
+weaker_calm v most more s acts few calm = record {
   free = calm.free;
-  tracks = weaker t most more (s ++ acts) few calm.tracks;
+  tracks = weaker v most more (s ++ acts) few calm.tracks;
 }
 
 -- ---- acts that give nothing
@@ -82,19 +86,19 @@ opened_calm o a e fh = either is_calm (is_opened a e) (opening o e.nodeid fh) []
 
 -- ---- an entry
 
-module _ (t : NodeTable) where
-  gift_tracks : (most : ℕ → ℕ) (s : Session) → Tracks t most s → (a : Asked) (e : Entry) → 2 ≤ e.nodeid
-      → IsHeldAs t e.nodeid e.generation → Calm t (one_more e.nodeid most) s (gift_acts true a e)
+module _ (v : Server) (fine : IsFine v) where
+  gift_tracks : (most : ℕ → ℕ) (s : Session) → Tracks v most s → (a : Asked) (e : Entry) → 2 ≤ e.nodeid
+      → IsNodeOf v e.nodeid (file_of e) → Calm v (one_more e.nodeid most) s (gift_acts true a e)
   gift_tracks most s tracks a e low held =
-      let first = calm_acts t most s (kind_acts a e) (kind_calm a e) tracks in
-      then_calm t most (one_more e.nodeid most) s (kind_acts a e)
+      let first = calm_acts v fine most s (kind_acts a e) (kind_calm a e) tracks in
+      then_calm v most (one_more e.nodeid most) s (kind_acts a e)
       (act.Gives e.nodeid (file_of e) (true && is_counted a e) ∷ []) first.free (record {
-        free = (given_free t most (s ++ kind_acts a e) first.tracks e.nodeid (file_of e) (true && is_counted a e) low held, tt);
-        tracks = given t most (s ++ kind_acts a e) first.tracks e.nodeid (file_of e) (true && is_counted a e) held;
+        free = (given_free v fine most (s ++ kind_acts a e) first.tracks e.nodeid (file_of e) low held (true && is_counted a e), tt);
+        tracks = given v fine most (s ++ kind_acts a e) first.tracks e.nodeid (file_of e) low held (true && is_counted a e);
       })
 
-  entry_tracks : (most : ℕ → ℕ) (s : Session) → Tracks t most s → (o : Opcode) (a : Asked) (e : Entry)
-      → (2 ≤ e.nodeid → IsHeldAs t e.nodeid e.generation) → Calm t (one_more e.nodeid most) s (entry_acts true o a e)
+  entry_tracks : (most : ℕ → ℕ) (s : Session) → Tracks v most s → (o : Opcode) (a : Asked) (e : Entry)
+      → (2 ≤ e.nodeid → IsNodeOf v e.nodeid (file_of e)) → Calm v (one_more e.nodeid most) s (entry_acts true o a e)
   entry_tracks most s tracks o a e held = by (nat_eq e.nodeid 1) (nat_eq e.nodeid 0) refl refl
     where
       more : (n : ℕ) → 2 ≤ n → most n ≤ one_more e.nodeid most n
@@ -104,75 +108,86 @@ module _ (t : NodeTable) where
       two_up n one zero = grind (arith, one, zero)
 
       by : (root none : Bool) → nat_eq e.nodeid 1 ≡ root → nat_eq e.nodeid 0 ≡ none
-          → Calm t (one_more e.nodeid most) s (if root then root_acts a else (if none then
+          → Calm v (one_more e.nodeid most) s (if root then root_acts a else (if none then
           (if may_be_missing o then [] else act.Faulty fault.EntryOfNoNode ∷ []) else gift_acts true a e))
-      by true none is_root is_none = weaker_calm t most (one_more e.nodeid most) s (root_acts a) more
-          (calm_acts t most s (root_acts a) (either is_calm a.is_dots [] _ refl refl) tracks)
-      by false true is_root is_none = weaker_calm t most (one_more e.nodeid most) s _ more
-          (calm_acts t most s _ (either is_calm (may_be_missing o) [] _ refl refl) tracks)
+      by true none is_root is_none = weaker_calm v most (one_more e.nodeid most) s (root_acts a) more
+          (calm_acts v fine most s (root_acts a) (either is_calm a.is_dots [] _ refl refl) tracks)
+      by false true is_root is_none = weaker_calm v most (one_more e.nodeid most) s _ more
+          (calm_acts v fine most s _ (either is_calm (may_be_missing o) [] _ refl refl) tracks)
       by false false is_root is_none =
           let low : 2 ≤ e.nodeid = two_up e.nodeid is_root is_none in gift_tracks most s tracks a e low (held low)
 
   -- ---- a listing
 
-  record_tracks : (most : ℕ → ℕ) (s : Session) → Tracks t most s → (a : Asked) (r : EntryRecordContent) (dots : Bool)
-      (es : List Entry) (later : List Act) → AllHeld t (record_entries dots r.entry ++ es)
-      → ((more : ℕ → ℕ) (u : Session) → Tracks t more u → AllHeld t es → Calm t (λ n. more n + times_given n es) u later)
-      → Calm t (λ n. most n + times_given n (record_entries dots r.entry ++ es)) s
+  record_tracks : (most : ℕ → ℕ) (s : Session) → Tracks v most s → (a : Asked) (r : EntryRecordContent) (dots : Bool)
+      (es : List Entry) (later : List Act) → AllHeld v (record_entries dots r.entry ++ es)
+      → ((more : ℕ → ℕ) (u : Session) → Tracks v more u → AllHeld v es → Calm v (λ n. more n + times_given n es) u later)
+      → Calm v (λ n. most n + times_given n (record_entries dots r.entry ++ es)) s
       ((if dots then [] else entry_acts true op.Readdirplus a r.entry) ++ later)
   record_tracks most s tracks a r true es later held rest = rest most s tracks held
   record_tracks most s tracks a r false es later held rest =
       let first = entry_tracks most s tracks op.Readdirplus a r.entry held.0 in
       let after = rest (one_more r.entry.nodeid most) (s ++ entry_acts true op.Readdirplus a r.entry) first.tracks held.1 in
-      then_calm t most (λ n. most n + (cond (nat_eq r.entry.nodeid n) 1 0 + times_given n es)) s
+      then_calm v most (λ n. most n + (cond (nat_eq r.entry.nodeid n) 1 0 + times_given n es)) s
       (entry_acts true op.Readdirplus a r.entry) later first.free
-      (weaker_calm t (λ n. one_more r.entry.nodeid most n + times_given n es)
+      (weaker_calm v (λ n. one_more r.entry.nodeid most n + times_given n es)
       (λ n. most n + (cond (nat_eq r.entry.nodeid n) 1 0 + times_given n es))
       (s ++ entry_acts true op.Readdirplus a r.entry) later (λ n low. omega arith) after)
 
-  records_track : (most : ℕ → ℕ) (s : Session) → Tracks t most s → (a : Asked) (rs : List EntryRecordContent)
-      → AllHeld t (listed_entries rs)
-      → Calm t (λ n. most n + times_given n (listed_entries rs)) s (flat_map (record_acts true a) rs)
-  records_track most s tracks a [] held = weaker_calm t most (λ n. most n + 0) s [] (λ n low. omega arith)
-      (none_given t most s tracks)
+  records_track : (most : ℕ → ℕ) (s : Session) → Tracks v most s → (a : Asked) (rs : List EntryRecordContent)
+      → AllHeld v (listed_entries rs)
+      → Calm v (λ n. most n + times_given n (listed_entries rs)) s (flat_map (record_acts true a) rs)
+  records_track most s tracks a [] held = weaker_calm v most (λ n. most n + 0) s [] (λ n low. omega arith)
+      (none_given v most s tracks)
   records_track most s tracks a (r ∷ rs) held = record_tracks most s tracks a r (is_dots r.said.name) (listed_entries rs)
       (flat_map (record_acts true a) rs) held (λ more u are have. records_track more u are a rs have)
 
   -- ---- a reply
 
-  given_calm : (most : ℕ → ℕ) (s : Session) (acts : List Act) → AreCalm acts → Tracks t most s
-      → Calm t (λ n. most n + 0) s acts
-  given_calm most s acts calm tracks = weaker_calm t most (λ n. most n + 0) s acts (λ n low. omega arith)
-      (calm_acts t most s acts calm tracks)
+  given_calm : (most : ℕ → ℕ) (s : Session) (acts : List Act) → AreCalm acts → Tracks v most s
+      → Calm v (λ n. most n + 0) s acts
+  given_calm most s acts calm tracks = weaker_calm v most (λ n. most n + 0) s acts (λ n low. omega arith)
+      (calm_acts v fine most s acts calm tracks)
 
-  -- Its acts show no other generation.
-  pub answer_tracks : (most : ℕ → ℕ) (s : Session) → Tracks t most s → (o : Opcode) (a : Asked) (content : AnswerContent)
-      → AllHeld t (entries_of content)
-      → Calm t (λ n. most n + times_given n (entries_of content)) s (answer_acts o a content)
-  answer_tracks most s tracks o a (answer.entry e) held =
-      weaker_calm t (one_more e.nodeid most) (λ n. most n + (cond (nat_eq e.nodeid n) 1 0 + 0)) s (entry_acts true o a e)
+  described_calm : (most : ℕ → ℕ) (s : Session) → Tracks v most s → (n kind ino : ℕ) → (2 ≤ n → (generation file : ℕ)
+      → Denotes v.nodes n generation file → IsFileAs v.tree file kind ino)
+      → Calm v most s (act.Describes n kind ino ∷ [])
+  described_calm most s tracks n kind ino so = record {
+    free = (described_free v fine most s tracks n kind ino so, tt);
+    tracks = described v fine most s tracks n kind ino;
+  }
+
+  -- Its acts show no other generation or file.
+  pub answer_tracks : (most : ℕ → ℕ) (s : Session) → Tracks v most s → (o : Opcode) (a : Asked) (content : AnswerContent)
+      → AllHeld v (entries_of content) → IsDescribed v o a.nodeid content
+      → Calm v (λ n. most n + times_given n (entries_of content)) s (answer_acts o a content)
+  answer_tracks most s tracks o a (answer.entry e) held so =
+      weaker_calm v (one_more e.nodeid most) (λ n. most n + (cond (nat_eq e.nodeid n) 1 0 + 0)) s (entry_acts true o a e)
       (λ n low. omega arith) (entry_tracks most s tracks o a e held.0)
-  answer_tracks most s tracks o a (answer.created e file) held =
+  answer_tracks most s tracks o a (answer.created e file) held so =
       let first = entry_tracks most s tracks o a e held.0 in
       let opened : List Act = if is_opened a e then opening o e.nodeid file.handle else [] in
-      weaker_calm t (one_more e.nodeid most) (λ n. most n + (cond (nat_eq e.nodeid n) 1 0 + 0)) s
+      weaker_calm v (one_more e.nodeid most) (λ n. most n + (cond (nat_eq e.nodeid n) 1 0 + 0)) s
       (entry_acts true o a e ++ opened) (λ n low. omega arith)
-      (then_calm t most (one_more e.nodeid most) s (entry_acts true o a e) opened first.free
-      (calm_acts t (one_more e.nodeid most) (s ++ entry_acts true o a e) opened (opened_calm o a e file.handle) first.tracks))
-  answer_tracks most s tracks o a (answer.entry_records rs) held =
+      (then_calm v most (one_more e.nodeid most) s (entry_acts true o a e) opened first.free
+      (calm_acts v fine (one_more e.nodeid most) (s ++ entry_acts true o a e) opened (opened_calm o a e file.handle) first.tracks))
+  answer_tracks most s tracks o a (answer.entry_records rs) held so =
       let first = records_track most s tracks a rs held in
       let listing : List Act = listing_acts a.lists_from (map (λ r. r.said.off) rs) in
-      then_calm t most _ s (flat_map (record_acts true a) rs) listing first.free
-      (calm_acts t _ (s ++ flat_map (record_acts true a) rs) listing
+      then_calm v most _ s (flat_map (record_acts true a) rs) listing first.free
+      (calm_acts v fine _ (s ++ flat_map (record_acts true a) rs) listing
       (listing_calm a.lists_from (map (λ r. r.said.off) rs)) first.tracks)
-  answer_tracks most s tracks o a (answer.failed errno) held =
+  answer_tracks most s tracks o a (answer.failed errno) held so =
       given_calm most s (failed_acts o a.nodeid errno) (failed_calm o a.nodeid errno) tracks
-  answer_tracks most s tracks o a (answer.attributes v) held = given_calm most s _ refl tracks
-  answer_tracks most s tracks o a (answer.opened file) held =
+  answer_tracks most s tracks o a (answer.attributes x) held so =
+      weaker_calm v most (λ n. most n + 0) s (act.Describes a.nodeid (kind_of x.attributes) x.attributes.ino ∷ [])
+      (λ n low. omega arith)
+      (described_calm most s tracks a.nodeid (kind_of x.attributes) x.attributes.ino so.1)
+  answer_tracks most s tracks o a (answer.opened file) held so =
       given_calm most s (opening o a.nodeid file.handle) (opening_calm o a.nodeid file.handle) tracks
-  answer_tracks most s tracks o a (answer.number n) held =
+  answer_tracks most s tracks o a (answer.number n) held so =
       given_calm most s (counting o n a.writes) (counting_calm o n a.writes) tracks
-  answer_tracks most s tracks o a (answer.records rs) held = given_calm most s
+  answer_tracks most s tracks o a (answer.records rs) held so = given_calm most s
       (listing_acts a.lists_from (map (λ r. r.off) rs)) (listing_calm a.lists_from (map (λ r. r.off) rs)) tracks
-  answer_tracks most s tracks o a (answer.init i) held = given_calm most s _ refl tracks
-  answer_tracks most s tracks o a other held = given_calm most s [] refl tracks
+  answer_tracks most s tracks o a (answer.init i) held so = given_calm most s _ refl tracks
+  answer_tracks most s tracks o a other held so = given_calm most s [] refl tracks

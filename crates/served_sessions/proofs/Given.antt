@@ -62,7 +62,7 @@ gives_none o errno = record { entries = All-nil IsGood; made = tt }
 pub gives_done : (o : Opcode) → WireGives o reply.done
 gives_done o = record { entries = All-nil IsGood; made = tt }
 
-kind_there : (content : Option Content) → content ≢ None → kind_of content ≢ Other
+pub kind_there : (content : Option Content) → content ≢ None → kind_of content ≢ Other
 kind_there None there is = there refl
 kind_there (Some a_directory) there is = cc
 kind_there (Some (a_file bytes)) there is = cc

@@ -17,9 +17,14 @@ mod InitReplies
 mod Bodies
 mod Requests
 mod Standing
+mod FileKinds
+mod HeldFiles
 mod Given
+mod Shown
 mod Fine
+mod Onward
 mod Entering
+mod NodeFiles
 mod Turned
 mod Gained
 mod Shaped
@@ -31,8 +36,10 @@ mod Counted
 mod Entered
 mod Tracked
 mod Forgotten
+mod Batches
 mod Gifts
 mod Turns
+mod BatchTurns
 mod Traced
 mod Generations
 mod Never

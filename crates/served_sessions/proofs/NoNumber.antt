@@ -41,8 +41,8 @@ use Rattle.fuse_sessions.specs.declared.transfer.Transfer.TheVariants as said
 use Rattle.fuse_sessions.specs.Faults.{BreaksArrival, BreaksBeginning, BreaksNumber}
 use Rattle.fuse_sessions.specs.Frames.{IsHead, IsSession, nothing_known}
 use Rattle.fuse_sessions.specs.RequestActs.{request_acts}
-use Rattle.served_sessions.specs.Counterexamples.{fresh_server, init_of_no_number, is_of_kernel, log_of_no_number, reply_of_no_number}
-use Rattle.served_sessions.specs.Groups.{IsAny, is_of_notices}
+use Rattle.served_sessions.specs.Counterexamples.{fresh_server, init_of_no_number, log_of_no_number, reply_of_no_number}
+use Rattle.served_sessions.specs.Groups.{IsAny, is_of_kernel, is_of_notices}
 use Rattle.served_sessions.specs.Served.{NeverAccused}
 use Rattle.served_sessions.proofs.Free.{AreFree, never_at}
 

@@ -26,6 +26,8 @@ use Rattle.fs_serve.specs.Sending.{Delivers, IsSettled, unsettled}
 use Rattle.fs_serve.specs.Sending as sending
 use Rattle.fs_serve.specs.Serving.{ServesHeld, dropped, replied, unreplied}
 use Rattle.served_sessions.proofs.Fine.{IsFine, held_fine}
+use Rattle.served_sessions.proofs.HeldFiles.{file_there}
+use Rattle.served_sessions.proofs.Shown.{served_shows}
 use Rattle.served_sessions.proofs.Turned.{Turns, WireGains, back_counts, back_held, nothing_back, same_turns}
 
 -- ---- a copy is delivered
@@ -188,27 +190,37 @@ result_of bytes reply result e = ap of e
     of (sent b r ∷ log) = r
     of log = Accepted
 
-settled_nodes : (copy : Sent) (old : Server) (result : WriteResult) (new : Server) → result ≡ Accepted
-    → IsSettled old copy.number result new → new.nodes ≡ old.nodes
-settled_nodes copy old result new accepted (inl settles) = ap (λ (s : Server). s.nodes)
-    (settles.after ∙ ap (λ (r : WriteResult). settled old copy.number settles.copy r) accepted)
-settled_nodes copy old result new accepted (inr (refusal, absent, same)) = ap (λ (s : Server). s.nodes) same
+-- nodes and files are as they were
+abbrev pub IsAsBefore : Server → Server → Type 0
+IsAsBefore old new = (new.nodes ≡ old.nodes) × (new.tree ≡ old.tree)
 
-pub accepted_nodes : (copy : Sent) (old : Server) (log : List Transfer) (new : Server) → Delivers copy old log new
-    → (reply : List ℕ) → log ≡ sent reply Accepted ∷ [] → new.nodes ≡ old.nodes
-accepted_nodes copy old log new (sending.settled opcode bytes frame result new' is) reply accepted =
-    settled_nodes copy old result new (result_of bytes reply result accepted) is
-accepted_nodes copy old log new (unsettled opcode bytes frame end) reply accepted = absurd (wrong_end bytes reply end accepted)
+settled_same : (copy : Sent) (old : Server) (result : WriteResult) (new : Server) → result ≡ Accepted
+    → IsSettled old copy.number result new → IsAsBefore old new
+settled_same copy old result new accepted (inl settles) =
+    let after : new ≡ settled old copy.number settles.copy Accepted =
+    settles.after ∙ ap (λ (r : WriteResult). settled old copy.number settles.copy r) accepted in
+    (ap (λ (s : Server). s.nodes) after, ap (λ (s : Server). s.tree) after)
+settled_same copy old result new accepted (inr (refusal, absent, same)) =
+    (ap (λ (s : Server). s.nodes) same, ap (λ (s : Server). s.tree) same)
 
--- What an accepted reply names is held, and counted.
+pub accepted_same : (copy : Sent) (old : Server) (log : List Transfer) (new : Server) → Delivers copy old log new
+    → (reply : List ℕ) → log ≡ sent reply Accepted ∷ [] → IsAsBefore old new
+accepted_same copy old log new (sending.settled opcode bytes frame result new' is) reply accepted =
+    settled_same copy old result new (result_of bytes reply result accepted) is
+accepted_same copy old log new (unsettled opcode bytes frame end) reply accepted = absurd (wrong_end bytes reply end accepted)
+
+-- What an accepted reply says is so, and what it names is counted.
 pub performed_gains : (taken : Server) → IsFine taken → (unique errno : ℕ) (copy : Sent) (did : Server)
-    → PerformsHeld taken unique errno (Some copy) did → WireGains taken.nodes did.nodes copy.wire
+    → (p : PerformsHeld taken unique errno (Some copy) did)
+    → WireGains taken.nodes did (let held = p.held in held.body) copy.wire
 performed_gains taken fine unique errno copy did p =
     let first = is_first taken unique errno copy did p in
     let all = counted taken fine unique errno (Some copy) did p in
-    let nodes = did_nodes taken fine unique errno (Some copy) did p in
-    subst₂ (λ (x : NodeTable) (w : WireReply). WireGains taken.nodes x w) (sym nodes) (sym first.wire_is) (record {
-      held = λ i d lt. (all.held i d lt).1;
+    let sound = fine.sound in
+    subst₂ (λ (x : Server) (w : WireReply). WireGains taken.nodes x (let held = p.held in held.body) w) (sym p.server_is)
+    (sym first.wire_is) (record {
+      shows = served_shows p.choice taken sound.nodes sound.tree fine.stands
+          (file_there p.choice taken sound.tree fine.stands fine.firm) unique p.held p.may;
       counts = λ n. let more = all.counts first.live n in omega (arith, more);
     })
 

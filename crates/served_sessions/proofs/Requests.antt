@@ -8,7 +8,8 @@ use Rattle.fk_wire.specs.Opcodes.{code_of, has_node}
 use Rattle.fk_wire.specs.Requests.{RequestContent, RequestMessage, known_flags, nodeid_field, opcode_of, request_body, request_fields}
 use Rattle.fk_wire.specs.Requests as wire
 use Rattle.fk_wire.proofs.OneRequest.{within}
-use Rattle.fuse_spec.specs.Kernel.Messages.{Request, RequestBody, init}
+use Rattle.fuse_spec.specs.Files.Operations.{getattr}
+use Rattle.fuse_spec.specs.Kernel.Messages.{Request, RequestBody, asks, init}
 use Rattle.fuse_frames.specs.RequestTies.{SaysRequest, asked_opcode, body_in, body_or}
 use Rattle.fuse_sessions.specs.UnreadRequests.{opcode_in, unique_in}
 use Rattle.served_sessions.proofs.Bodies.{asked_bytes}
@@ -106,3 +107,24 @@ module _ (frame : List ℕ) (request : Request) (says : SaysRequest frame reques
 
   pub frame_room : is_measured (asked_opcode request.body) ≡ true → number_at 56 4 frame ≡ asked_bytes request.body
   frame_room room = room_of says.message.content request.body says.says (ap is_measured (sym asked_alike) ∙ room) body_reads
+
+  -- GETATTR's node
+  node_of : (c : RequestContent) (n : ℕ) → body_in says.message.nodeid c ≡ Some (asks (getattr n))
+      → ReadsAs 16 (nodeid_field (has_node (opcode_of c)) says.message.nodeid
+      ∷ free32 0 ∷ free32 0 ∷ free32 0 ∷ free32 0 ∷ request_body says.message.content) frame → number_at 16 8 frame ≡ n
+  node_of wire.getattr n is reads = reads.0 ∙ ap of is
+    where
+      of : Option RequestBody → ℕ
+      of (Some (asks (getattr k))) = k
+      of b = n
+  node_of c n is reads = absurd (none (ap of is))
+    where
+      of : Option RequestBody → Bool
+      of (Some (asks (getattr k))) = true
+      of b = false
+
+      none : false ≡ true → ⊥
+      none e = cc
+
+  pub frame_node : (n : ℕ) → request.body ≡ asks (getattr n) → number_at 16 8 frame ≡ n
+  frame_node n is = node_of says.message.content n (says.says ∙ ap Some is) says.spells.3.1.1.1

@@ -35,6 +35,19 @@ pub by_judged : (Goal : Type 0) (o : Option Unjudged) (P : Type 0) (R : Unjudged
 by_judged Goal None P R judged unjudged is = judged refl is
 by_judged Goal (Some why) P R judged unjudged is = unjudged why refl is
 
+-- If the session is free of what is asked of the kernel, so are its next acts, and those behind them.
+module _ (asked : Fault → Bool) (later : Known) (all : Session) where
+  pub asked_next : (s : Session) (acts : List Act) (k : Known) (ts : List Said) → ((rest : List Act) → all ≡ s ++ rest
+      → AreFree asked s rest) → Lead k (s ++ acts) ts later all → AreFree asked s acts
+  asked_next s acts k ts is leads =
+      let more : (rest : List Act) × (all ≡ s ++ acts ++ rest) = extends k (s ++ acts) ts later all leads in
+      free_first asked s acts more.0 (is (acts ++ more.0) (more.1 ∙ append_assoc s acts more.0))
+
+  pub asked_later : (s : Session) (acts : List Act) → ((rest : List Act) → all ≡ s ++ rest → AreFree asked s rest)
+      → (rest : List Act) → all ≡ s ++ acts ++ rest → AreFree asked (s ++ acts) rest
+  asked_later s acts is rest same =
+      free_last asked s acts rest (is (acts ++ rest) (same ∙ append_assoc s acts rest))
+
 -- The session ends in acts that are free of the group's faults.
 pub record EndsFree (group : Fault → Bool) (s all : Session) : Type 0 where
   pub rest : List Act
@@ -107,17 +120,6 @@ module _ (group asked : Fault → Bool) (within : (f : Fault) → group f ≡ tr
   IsAsked s all = (rest : List Act) → all ≡ s ++ rest → AreFree asked s rest
 
   module _ (later : Known) (all : Session) where
-    asked_next : (s : Session) (acts : List Act) (k : Known) (ts : List Said) → ((rest : List Act) → all ≡ s ++ rest
-        → AreFree asked s rest) → Lead k (s ++ acts) ts later all → AreFree asked s acts
-    asked_next s acts k ts is leads =
-        let more : (rest : List Act) × (all ≡ s ++ acts ++ rest) = extends k (s ++ acts) ts later all leads in
-        free_first asked s acts more.0 (is (acts ++ more.0) (more.1 ∙ append_assoc s acts more.0))
-
-    asked_later : (s : Session) (acts : List Act) → ((rest : List Act) → all ≡ s ++ rest → AreFree asked s rest)
-        → (rest : List Act) → all ≡ s ++ acts ++ rest → AreFree asked (s ++ acts) rest
-    asked_later s acts is rest same =
-        free_last asked s acts rest (is (acts ++ rest) (same ∙ append_assoc s acts rest))
-
     behind : (s : Session) (acts : List Act) → AreFree group s acts → EndsFree group (s ++ acts) all
         → EndsFree group s all
     behind s acts free more = record {
@@ -133,12 +135,12 @@ module _ (group asked : Fault → Bool) (within : (f : Fault) → group f ≡ tr
         record { rest = []; all_is = same ∙ sym (append-nil s); free = tt }
     exchanges_free log nothing (t ∷ ts) is such k s kept leads free = absurd is
     exchanges_free log (unanswered request more ex) (said.Request b ∷ ts) is such k s kept (acts, next, are, leads) free =
-        let step = request_step k next s b acts kept (asked_next s acts next ts free leads) are in
+        let step = request_step k next s b acts kept (asked_next asked later all s acts next ts free leads) are in
         behind s acts step.free (exchanges_free more ex ts is.1 such.1 next (s ++ acts) step.kept leads
-        (asked_later s acts free))
+        (asked_later asked later all s acts free))
     exchanges_free log (answered request reply answer result more ex) (said.Request b ∷ said.Written c t ∷ ts) is such k
         s kept (acts, next, are, (acts', next', are', leads)) free =
-        let first = asked_next s acts next (said.Written c t ∷ ts) free (acts', next', are', leads) in
+        let first = asked_next asked later all s acts next (said.Written c t ∷ ts) free (acts', next', are', leads) in
         let step = request_step k next s b acts kept first are in
         let answer' : Answers b.now c.now = subst₂ Answers (sym is.0) (sym is.1.0.0) answer in
         let such' : IsSuch b.now = subst IsSuch (sym is.0) such.0 in
@@ -146,19 +148,19 @@ module _ (group asked : Fault → Bool) (within : (f : Fault) → group f ≡ tr
         let step' = written_step next next' (s ++ acts) c t acts' step.kept (head b.now c.now answer').error keeps are' in
         behind s acts step.free (behind (s ++ acts) acts' step'.free
         (exchanges_free more ex ts is.1.1 such.1 next' (s ++ acts ++ acts') step'.kept leads
-        (asked_later (s ++ acts) acts' (asked_later s acts free))))
+        (asked_later asked later all (s ++ acts) acts' (asked_later asked later all s acts free))))
     exchanges_free log (cut_off request reply end more ex) (said.Request b ∷ said.Ended ∷ ts) is such k s kept
         (acts, next, are, (acts', next', are', leads)) free =
-        let first = asked_next s acts next (said.Ended ∷ ts) free (acts', next', are', leads) in
+        let first = asked_next asked later all s acts next (said.Ended ∷ ts) free (acts', next', are', leads) in
         let step = request_step k next s b acts kept first are in
         let step' = end_step next next' (s ++ acts) acts' step.kept are' in
         behind s acts step.free (behind (s ++ acts) acts' step'.free
         (exchanges_free more ex ts is.1.1 such.1 next' (s ++ acts ++ acts') step'.kept leads
-        (asked_later (s ++ acts) acts' (asked_later s acts free))))
+        (asked_later asked later all (s ++ acts) acts' (asked_later asked later all s acts free))))
     exchanges_free log (ended end more ex) (said.Ended ∷ ts) is such k s kept (acts, next, are, leads) free =
         let step = end_step k next s acts kept are in
         behind s acts step.free (exchanges_free more ex ts is.1 such next (s ++ acts) step.kept leads
-        (asked_later s acts free))
+        (asked_later asked later all s acts free))
     exchanges_free log (unanswered request more ex) ts is such k s kept leads free = absurd search
     exchanges_free log (answered request reply answer result more ex) ts is such k s kept leads free = absurd search
     exchanges_free log (cut_off request reply end more ex) ts is such k s kept leads free = absurd search

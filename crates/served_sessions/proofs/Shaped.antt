@@ -12,6 +12,7 @@ use Rattle.fk_wire.specs.Replies.{IsErrorNumber, ReplyContent, SpellsReply, byte
 use Rattle.fk_wire.specs.Replies.{ReplyMessage as CodecReply}
 use Rattle.fuse_spec.specs.Kernel.Messages.{Request, WireReply}
 use Rattle.fuse_spec.specs.Server.Nodes.{NodeTable}
+use Rattle.fuse_spec.specs.Server.Server.{Server}
 use Rattle.fuse_frames.specs.ReplyTies.{SaysReply, reply_content_of, wire_body}
 use Rattle.fuse_frames.specs.RequestTies.{SaysRequest, asked_opcode}
 use Rattle.fuse_protocol.specs.declared.agreed.Agreed.{Agreed}
@@ -36,11 +37,11 @@ use Rattle.served_sessions.specs.Entries.{HasEntries, HasEntriesIn}
 use Rattle.served_sessions.specs.Exchanges.{HasBodyOf, SaysFew}
 use Rattle.served_sessions.proofs.Bodies.{GoesFor, asked_bytes, frame_length, is_sized, kind_said, wire_length}
 use Rattle.served_sessions.proofs.Entering.{content_entries, entries_of_any}
-use Rattle.served_sessions.proofs.Gained.{Gains, GainsIn, content_gains, entries_of, gains_of_any}
+use Rattle.served_sessions.proofs.Gained.{Gains, GainsIn, IsDescribed, content_described, content_gains, described_of_any, entries_of, gains_of_any}
 use Rattle.served_sessions.proofs.Given.{WireGives}
 use Rattle.served_sessions.proofs.Heading.{error_shows}
 use Rattle.served_sessions.proofs.Turned.{WireGains}
-use Rattle.served_sessions.proofs.Requests.{frame_opcode, frame_room, is_measured, is_room, room_measured}
+use Rattle.served_sessions.proofs.Requests.{frame_node, frame_opcode, frame_room, is_measured, is_room, room_measured}
 
 -- ---- behind an error
 
@@ -267,22 +268,41 @@ module _ (bytes frame : List ℕ) (request : Request) (says : SaysRequest frame 
         entries_of_any p (row_at p).reply (length reply) (asked_at (row_at p).reply bytes) reply
         (subst (λ (q : Opcode). HasEntries q (content_at (row_at q).reply (length reply) reply)) same here)
 
-    gains_as : (t u : NodeTable) → WireGains t u wire → (p : Opcode) → code_of p ≡ opcode_in bytes
+    gains_as : (t : NodeTable) (u : Server) → WireGains t u request.body wire → (p : Opcode) → code_of p ≡ opcode_in bytes
         → Gains t u (entries_of (content_at (row_at p).reply (asked_at (row_at p).reply bytes) reply))
     gains_as t u gains p code =
         let same : table_opcode (asked_opcode request.body) ≡ p = same_opcode (table_opcode (asked_opcode request.body)) p
         (table_code (asked_opcode request.body) ∙ sym (frame_opcode frame request says) ∙ sym opcode ∙ sym code) in
         let body = (kind_said said.message.error said.message.content wire (no_error zero) said.says shows).1 in
         let here : Gains t u (entries_of (content_at (row_at (table_opcode (asked_opcode request.body))).reply (length reply)
-        reply)) = content_gains t u said.message.error said.message.content
+        reply)) = content_gains t u request.body said.message.error said.message.content
         (content_at (row_at (table_opcode (asked_opcode request.body))).reply (length reply) reply) said_alike said.spells.4
-        (subst (WireGains t u) (sym body) gains) in
+        (subst (WireGains t u request.body) (sym body) gains) in
         gains_of_any t u (row_at p).reply (length reply) (asked_at (row_at p).reply bytes) reply
         (subst (λ (q : Opcode). Gains t u (entries_of (content_at (row_at q).reply (length reply) reply))) same here)
         (λ n low. let more = gains.counts n in omega (arith, more))
 
-  pub has_gains : (t u : NodeTable) → (error_in reply ≡ 0 → WireGains t u wire) → GainsIn t u bytes reply
-  has_gains t u gains fine p code = gains_as fine t u (gains fine) p code
+    described_as : (t : NodeTable) (u : Server) → WireGains t u request.body wire
+        → (asked_opcode request.body ≡ codec.Getattr → bytes ≡ frame) → (p : Opcode) → code_of p ≡ opcode_in bytes
+        → IsDescribed u p (number_at 16 8 bytes) (content_at (row_at p).reply (asked_at (row_at p).reply bytes) reply)
+    described_as t u gains is_frame p code =
+        let same : table_opcode (asked_opcode request.body) ≡ p = same_opcode (table_opcode (asked_opcode request.body)) p
+        (table_code (asked_opcode request.body) ∙ sym (frame_opcode frame request says) ∙ sym opcode ∙ sym code) in
+        let body = (kind_said said.message.error said.message.content wire (no_error zero) said.says shows).1 in
+        let here : IsDescribed u (table_opcode (asked_opcode request.body)) (number_at 16 8 bytes)
+        (content_at (row_at (table_opcode (asked_opcode request.body))).reply (length reply) reply) =
+        content_described t u request.body said.message.error said.message.content
+        (content_at (row_at (table_opcode (asked_opcode request.body))).reply (length reply) reply) said_alike same_kind
+        (subst (WireGains t u request.body) (sym body) gains) (number_at 16 8 bytes)
+        (λ n is. ap (number_at 16 8) (is_frame (ap asked_opcode is)) ∙ frame_node frame request says n is) in
+        described_of_any u p (number_at 16 8 bytes) (row_at p).reply (length reply) (asked_at (row_at p).reply bytes) reply
+        (subst (λ (q : Opcode). IsDescribed u q (number_at 16 8 bytes) (content_at (row_at q).reply (length reply) reply)) same
+        here)
+
+  pub has_gains : (t : NodeTable) (u : Server) → (asked_opcode request.body ≡ codec.Getattr → bytes ≡ frame)
+      → (error_in reply ≡ 0 → WireGains t u request.body wire) → GainsIn t u bytes reply
+  has_gains t u is_frame gains fine p code =
+      (gains_as fine t u (gains fine) p code, described_as fine t u (gains fine) is_frame p code)
 
   -- Its entries are those that are given.
   pub has_entries : WireGives (asked_opcode request.body) wire → HasEntriesIn bytes reply

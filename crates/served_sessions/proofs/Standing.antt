@@ -25,7 +25,7 @@ IsThere tree file = get tree.files file ≢ None
 abbrev pub Stands : Tree → Type 0
 Stands tree = All (λ (n : Named). get tree.files n.file ≢ None) tree.names
 
-put_there : (m : Map Content) (k : ℕ) (x : Content) (q : ℕ) → get m q ≢ None → get (put m k x) q ≢ None
+pub put_there : (m : Map Content) (k : ℕ) (x : Content) (q : ℕ) → get m q ≢ None → get (put m k x) q ≢ None
 put_there m k x q there none = elim (cases_eq q k) [
   | inl e ↦ let no : ◌≡◌ {A = Option Content} (Some x) None =
       sym (get_put_here m k x) ∙ ap (λ (n : ℕ). get (put m k x) n) (sym e) ∙ none in cc
@@ -36,7 +36,7 @@ put_now : (m : Map Content) (k : ℕ) (x : Content) → get (put m k x) k ≢ No
 put_now m k x none = let no : ◌≡◌ {A = Option Content} (Some x) None = sym (get_put_here m k x) ∙ none in cc
 
 -- the first check does not refuse, nor do the others
-passes : (check : Check) (rest : List Check) → first_refusal (check ∷ rest) ≡ None
+pub passes : (check : Check) (rest : List Check) → first_refusal (check ∷ rest) ≡ None
     → (check.0 ≡ false) × (first_refusal rest ≡ None)
 passes check rest e = by check.0 refl e
   where

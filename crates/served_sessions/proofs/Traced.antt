@@ -7,7 +7,6 @@ use Rattle.fuse_spec.specs.Server.Server.{Server, forgets_of, forgotten}
 use Rattle.fuse_frames.specs.RequestTies.{SaysRequest}
 use Rattle.fuse_device.specs.Transfers.{Transfer, received, sent, stopped, unsent}
 use Rattle.fuse_device.specs.declared.device.DeviceEnd.{DeviceEnd}
-use Rattle.fs_serve.specs.LongBatches.{IsLongBatch}
 use Rattle.fs_serve.specs.LookupCounts.{IsFresh}
 use Rattle.fs_serve.specs.Sending.{SendsBytes, at_end, with_result}
 use Rattle.fs_serve.specs.Serving.{Serves, ServesFrame, ServesNext, ServesPairs, batch, next, none, one}
@@ -15,28 +14,38 @@ use Rattle.fs_serve.specs.Serving as serving
 use Rattle.fuse_sessions.specs.UnreadRequests.{opcode_in}
 use Rattle.served_sessions.specs.Exchanges.{IsAnswer}
 use Rattle.served_sessions.proofs.Answered.{IsHeadedAs, SendsAnswer, of_init, serves_answer}
-use Rattle.served_sessions.proofs.Exchanged.{read_as}
-use Rattle.served_sessions.proofs.Fine.{IsFine, fresh_fine, serves_fine}
+use Rattle.served_sessions.proofs.Exchanged.{pairs_silent, read_as}
+use Rattle.served_sessions.proofs.Fine.{IsFine, frame_fine, fresh_fine, serves_fine}
 use Rattle.served_sessions.proofs.Gained.{GainsIn}
+use Rattle.served_sessions.proofs.Onward.{Onward, frame_onward}
 use Rattle.served_sessions.proofs.Requests.{frame_opcode}
-use Rattle.served_sessions.proofs.Turns.{GivesBack, Turned, frame_turns}
+use Rattle.served_sessions.proofs.BatchTurns.{GivesPairsBack, batch_turns}
+use Rattle.served_sessions.proofs.Turned.{Turns}
+use Rattle.served_sessions.proofs.Turns.{GivesBack, frame_turns}
+
+-- What a frame makes of a server: counts fall by what it gives back, and nodes stay of their files.
+pub record Moved (old new : Server) (frame : List ℕ) : Type 0 where
+  pub back : ℕ → ℕ
+  pub backs : GivesBack frame back ⊎ GivesPairsBack frame back
+  pub turns : Turns old.nodes new.nodes back
+  pub old_fine : IsFine old
+  pub new_fine : IsFine new
+  pub on : Onward old new
 
 -- From one server on to another. Behind each frame at most one is sent, which answers it. Each node that is counted stays
--- as it was, but for what the frame gives back and what an accepted reply gives. A long BATCH_FORGET is left open.
+-- as it was, but for what the frame gives back and what an accepted reply gives.
 pub data Trace : Server → List Transfer → Server → Type 0 where
   ready : (s : Server) → Trace s [] s
-  silent : (s mid last : Server) (request : List ℕ) (later : List Transfer) → Turned s mid request → Trace mid later last
+  silent : (s mid last : Server) (request : List ℕ) (later : List Transfer) → Moved s mid request → Trace mid later last
       → Trace s (received request ∷ later) last
   replied : (s mid last : Server) (request reply : List ℕ) (result : WriteResult) (later : List Transfer)
-      → IsAnswer request reply → Turned s mid request
-      → (result ≡ Accepted → GainsIn s.nodes mid.nodes request reply) → Trace mid later last
+      → IsAnswer request reply → Moved s mid request
+      → (result ≡ Accepted → GainsIn s.nodes mid request reply) → Trace mid later last
       → Trace s (received request ∷ sent reply result ∷ later) last
-  cut : (s mid last : Server) (request reply : List ℕ) (end : DeviceEnd) (later : List Transfer) → Turned s mid request
+  cut : (s mid last : Server) (request reply : List ℕ) (end : DeviceEnd) (later : List Transfer) → Moved s mid request
       → Trace mid later last → Trace s (received request ∷ unsent reply end ∷ later) last
   stop : (s last : Server) (end : DeviceEnd) (later : List Transfer) → Trace s later last
       → Trace s (stopped end ∷ later) last
-  long : (s last : Server) (request : List ℕ) (later : List Transfer) → IsLongBatch request
-      → Trace s (received request ∷ later) last
 
 then_trace : (s mid last : Server) (before later : List Transfer) → Trace s before mid → Trace mid later last
     → Trace s (before ++ later) last
@@ -49,7 +58,6 @@ then_trace s mid last before later (cut s' m l request reply end rest turned tra
     cut s m last request reply end (rest ++ later) turned (then_trace m mid last rest later trace more)
 then_trace s mid last before later (stop s' l end rest trace) more =
     stop s last end (rest ++ later) (then_trace s mid last rest later trace more)
-then_trace s mid last before later (long s' l request rest is) more = long s last request (rest ++ later) is
 
 -- ---- by the bytes that are received
 
@@ -76,15 +84,15 @@ same_back bytes frame as_read back (inr (request, says, is)) = by (nat_eq (opcod
     )
 
 module _ (old new : Server) (bytes : List ℕ) where
-  sends_trace : (reply : List ℕ) (log : List Transfer) → IsAnswer bytes reply → Turned old new bytes
-      → (log ≡ sent reply Accepted ∷ [] → GainsIn old.nodes new.nodes bytes reply) → SendsBytes reply log
+  sends_trace : (reply : List ℕ) (log : List Transfer) → IsAnswer bytes reply → Moved old new bytes
+      → (log ≡ sent reply Accepted ∷ [] → GainsIn old.nodes new bytes reply) → SendsBytes reply log
       → Trace old (received bytes ∷ log) new
   sends_trace reply log answers turned gains (with_result result) = replied old new new bytes reply result [] answers turned
       (λ accepted. gains (ap (λ (r : WriteResult). sent reply r ∷ []) accepted)) (ready new)
   sends_trace reply log answers turned gains (at_end end) = cut old new new bytes reply end [] turned (ready new)
 
-  frame_trace : (log : List Transfer) → Turned old new bytes
-      → (log ≡ []) ⊎ SendsAnswer (Unit {0}) old.nodes new.nodes bytes log → Trace old (received bytes ∷ log) new
+  frame_trace : (log : List Transfer) → Moved old new bytes
+      → (log ≡ []) ⊎ SendsAnswer (Unit {0}) old.nodes new bytes log → Trace old (received bytes ∷ log) new
   frame_trace log turned (inl quiet) = subst (λ (l : List Transfer). Trace old (received bytes ∷ l) new) (sym quiet)
       (silent old new new bytes [] turned (ready new))
   frame_trace log turned (inr a) = sends_trace a.reply log a.answers turned (a.gains tt) a.sends
@@ -97,11 +105,23 @@ next_trace old fine log new (one bytes frame read log' new' serves) =
     let turned = frame_turns old fine frame log' new serves in
     frame_trace old new bytes log' (record {
       back = turned.back;
-      backs = same_back bytes frame (read_as bytes frame read) turned.back turned.backs;
+      backs = inl (same_back bytes frame (read_as bytes frame read) turned.back turned.backs);
       turns = turned.turns;
-    }) (serves_answer (Unit {0}) old.nodes new.nodes bytes frame (read_as bytes frame read) old (λ sound. fine) log' new serves
+      old_fine = fine;
+      new_fine = frame_fine old fine frame log' new serves;
+      on = frame_onward old fine frame log' new serves;
+    }) (serves_answer (Unit {0}) old.nodes new bytes frame (read_as bytes frame read) old (λ sound. fine) log' new serves
     refl refl)
-next_trace old fine log new (batch bytes is log' new' serves) = long old new bytes log' is
+next_trace old fine log new (batch bytes is log' new' serves) =
+    let turned = batch_turns old fine bytes is log' new serves in
+    frame_trace old new bytes log' (record {
+      back = turned.back;
+      backs = inr turned.backs;
+      turns = turned.turns;
+      old_fine = fine;
+      new_fine = turned.fine;
+      on = turned.on;
+    }) (inl (pairs_silent bytes is old serves.pairs log' new serves.serves))
 next_trace old fine log new (none end) = stop old old end [] (ready old)
 
 all_trace : (start : Server) → IsFine start → (log : List Transfer) (new : Server) → Serves start log new

@@ -1,19 +1,20 @@
 -- A node that a server counts stays of one generation, over all that it does for a frame.
-use Rattle.std.proofs.Common.{◌≤◌, ℕ, ◌+◌, Bool, true, false, cond, List, [], ◌∷◌, count_by, nat_eq, All, arith}
+use Rattle.std.proofs.Common.{◌≡◌, ◌≤◌, sym, ap, subst₂, ℕ, ◌+◌, Bool, true, false, cond, List, [], ◌∷◌, count_by, nat_eq, arith}
 use Rattle.std.proofs.lemmas.List.Sums.{sum_by-cons}
 use Rattle.fuse_spec.specs.declared.Entry.{Entry}
 use Rattle.fuse_spec.specs.Claim.Counts.{times_named}
-use Rattle.fuse_spec.specs.Files.Operations.{files_in_reply}
-use Rattle.fuse_spec.specs.Kernel.Messages.{Forget, WireReply}
+use Rattle.fuse_spec.specs.Files.Trees.{Tree}
+use Rattle.fuse_spec.specs.Kernel.Messages.{Forget, RequestBody, WireReply}
 use Rattle.fuse_spec.specs.Server.Copies.{row_back, rows_back}
 use Rattle.fuse_spec.specs.Server.Nodes.{NodeTable, is_held, taken_back}
-use Rattle.fuse_spec.specs.Server.Server.{all_taken_back, forgotten}
+use Rattle.fuse_spec.specs.Server.Server.{Server, all_taken_back, forgotten}
 use Rattle.fuse_spec.proofs.QueueCounts.{count_by-cons}
 use Rattle.fuse_theorem.specs.Lookups.{IsHeldAs}
 use Rattle.fuse_theorem.proofs.Lookups.Lookups.{held_still}
 use Rattle.fuse_theorem.proofs.Lookups.RowCounts.{count_of, taken_count}
 use Rattle.fuse_theorem.proofs.Refining.Forgetting.{all_less_denotes}
 use Rattle.fuse_theorem.proofs.Refining.Settling.{rows_back_denotes}
+use Rattle.served_sessions.proofs.Shown.{Shows}
 
 -- Each count falls by so much at most, and what is still counted is held under its generation.
 pub record Turns (t u : NodeTable) (back : ℕ → ℕ) : Type 0 where
@@ -74,7 +75,17 @@ back_held es t n g low held some = held_still t (rows_back t es) (rows_back_deno
 
 -- ---- a reply is accepted
 
--- Each node that it names is held under its entry's generation, and counted once more for each entry.
-pub record WireGains (t u : NodeTable) (wire : WireReply) : Type 0 where
-  pub held : All (λ (e : Entry). IsHeldAs u e.nodeid e.generation) (files_in_reply wire)
-  pub counts : (n : ℕ) → count_of t n + times_named n wire ≤ count_of u n
+-- What it says of files is so, and each node that it names is counted once more for each entry.
+pub record WireGains (t : NodeTable) (u : Server) (body : RequestBody) (wire : WireReply) : Type 0 where
+  pub shows : Shows u.nodes u.tree body wire
+  pub counts : (n : ℕ) → count_of t n + times_named n wire ≤ count_of u.nodes n
+
+pub gains_still : (t : NodeTable) (u v : Server) (body : RequestBody) (wire : WireReply) → v.nodes ≡ u.nodes
+    → v.tree ≡ u.tree → WireGains t u body wire → WireGains t v body wire
+gains_still t u v body wire nodes tree gains = record {
+  shows = subst₂ (λ (x : NodeTable) (y : Tree). Shows x y body wire) (sym nodes) (sym tree) gains.shows;
+  counts = λ n.
+      let more = gains.counts n in
+      let same = ap (λ (x : NodeTable). count_of x n) nodes in
+      omega (arith, more, same);
+}

@@ -1,24 +1,11 @@
 -- Why something is asked of a kernel: sessions in which the definitions accuse a server of what its kernel did.
-use Rattle.std.specs.Prelude.{ℕ, Bool, true, false, List, [], ◌∷◌, ◌++◌, replicate}
+use Rattle.std.specs.Prelude.{ℕ, List, [], ◌∷◌, ◌++◌, replicate}
 use Rattle.fuse_spec.specs.declared.Minor.TheVariants.{M31}
 use Rattle.fuse_spec.specs.declared.WriteResult.TheVariants.{Accepted, NoEntry}
 use Rattle.fuse_spec.specs.Server.Copies.{remounted}
 use Rattle.fuse_spec.specs.Server.Server.{Server}
 use Rattle.fuse_spec.specs.World.Worlds.{first_server}
 use Rattle.fuse_device.specs.Transfers.{Transfer, received, sent}
-use Rattle.fuse_sessions.specs.declared.fault.Fault.{Fault}
-use Rattle.fuse_sessions.specs.declared.fault.Party.{Party}
-use Rattle.fuse_sessions.specs.declared.fault.Party.TheVariants.{Kernel}
-use Rattle.fuse_sessions.specs.Parties.{party_of}
-
--- it is the kernel
-abbrev pub is_kernel : Party → Bool
-is_kernel Kernel = true
-is_kernel other = false
-
--- The faults of a kernel: in the first session it has none.
-abbrev pub is_of_kernel : Fault → Bool
-is_of_kernel f = is_kernel (party_of f)
 
 -- A server that was just mounted, at 7.31.
 abbrev pub fresh_server : Server

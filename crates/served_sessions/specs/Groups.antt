@@ -2,6 +2,9 @@
 use Rattle.std.specs.Prelude.{◌≡◌, ◌≢◌, ◌≤◌, ℕ, Bool, true, false, List, length}
 use Rattle.fuse_sessions.specs.declared.fault.Fault.{Fault}
 use Rattle.fuse_sessions.specs.declared.fault.Fault.TheVariants as fault
+use Rattle.fuse_sessions.specs.declared.fault.Party.{Party}
+use Rattle.fuse_sessions.specs.declared.fault.Party.TheVariants.{Kernel, Server}
+use Rattle.fuse_sessions.specs.Parties.{party_of}
 use Rattle.fuse_sessions.specs.UnreadRequests.{opcode_in, unique_in}
 
 -- ---- faults of a server
@@ -53,7 +56,34 @@ abbrev pub is_of_generations : Fault → Bool
 is_of_generations fault.NodeOfTwoGenerations = true
 is_of_generations f = false
 
+-- A node that is counted is given, or described, with another kind or inode number.
+abbrev pub is_of_files : Fault → Bool
+is_of_files fault.NodeOfTwoKinds = true
+is_of_files fault.NodeOfTwoInodeNumbers = true
+is_of_files f = false
+
+-- A warning: a node that is counted no more is given again under its generation, for another file.
+abbrev pub is_of_pairs : Fault → Bool
+is_of_pairs fault.NodeGivenAgain = true
+is_of_pairs f = false
+
+-- A fault is the server's.
+abbrev pub is_server : Party → Bool
+is_server Server = true
+is_server other = false
+
+abbrev pub is_of_server : Fault → Bool
+is_of_server f = is_server (party_of f)
+
 -- ---- faults of a kernel that a group asks it not to have
+
+-- A fault is the kernel's.
+abbrev pub is_kernel : Party → Bool
+is_kernel Kernel = true
+is_kernel other = false
+
+abbrev pub is_of_kernel : Fault → Bool
+is_of_kernel f = is_kernel (party_of f)
 
 abbrev pub is_nothing : Fault → Bool
 is_nothing f = false
@@ -71,7 +101,7 @@ abbrev pub is_of_second_init : Fault → Bool
 is_of_second_init fault.InitNotFirst = true
 is_of_second_init f = false
 
--- ---- frames of a kernel that a group asks for, where no fault of the definitions rules others out
+-- ---- frames of a kernel that a group asks for
 
 abbrev pub IsAny : List ℕ → Type 0
 IsAny frame = Unit {0}
@@ -84,6 +114,12 @@ HasNumber frame = unique_in frame ≢ 0
 abbrev pub IsNoNotifyReply : List ℕ → Type 0
 IsNoNotifyReply frame = opcode_in frame ≢ 41
 
--- A BATCH_FORGET has 64 pairs at most, which the server takes at once. Whether the law needs that is not known.
+-- A BATCH_FORGET is no longer than the definitions read: 16 MiB, a million pairs. A longer one is malformed to them, and
+-- they see no forgets.
 abbrev pub HasFewForgets : List ℕ → Type 0
-HasFewForgets frame = opcode_in frame ≡ 42 → length frame ≤ 1072
+HasFewForgets frame = opcode_in frame ≡ 42 → length frame ≤ 16777216
+
+-- A request has a number, and is no NOTIFY_REPLY.
+pub record IsOrdinary (frame : List ℕ) : Type 0 where
+  pub number : HasNumber frame
+  pub other : IsNoNotifyReply frame

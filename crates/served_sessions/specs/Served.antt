@@ -11,7 +11,7 @@ use Rattle.fuse_sessions.specs.Sessions.{Session}
 use Rattle.fuse_sessions.specs.Faults.{HasFaultAt}
 use Rattle.fuse_sessions.specs.Frames.{IsSession}
 use Rattle.served_sessions.specs.Exchanges.{AllReceived, AreSaid}
-use Rattle.served_sessions.specs.Groups.{HasFewForgets, HasNumber, IsAny, IsNoNotifyReply, is_nothing, is_of_bodies, is_of_counts, is_of_entries, is_of_flags, is_of_generations, is_of_heads, is_of_interrupts, is_of_notices, is_of_numbers, is_of_second_init}
+use Rattle.served_sessions.specs.Groups.{HasFewForgets, HasNumber, IsAny, IsNoNotifyReply, IsOrdinary, is_nothing, is_of_bodies, is_of_counts, is_of_entries, is_of_files, is_of_flags, is_of_generations, is_of_heads, is_of_interrupts, is_of_kernel, is_of_notices, is_of_numbers, is_of_pairs, is_of_second_init, is_of_server}
 
 -- No act of a session has, at its moment, a fault of this group.
 abbrev pub ShowsNone : (Fault → Bool) → Session → Type 0
@@ -43,3 +43,7 @@ pub record IsUnaccused (old : Server) (log : List Transfer) : Type 0 where
   pub counts : IsFreeOf is_of_counts is_nothing IsAny log
   pub entries : IsFresh old → IsFreeOf is_of_entries is_nothing IsAny log
   pub generations : IsFresh old → IsFreeOf is_of_generations is_nothing HasFewForgets log
+  pub files : IsFresh old → IsFreeOf is_of_files is_nothing HasFewForgets log
+  pub pairs : IsFresh old → IsFreeOf is_of_pairs is_nothing HasFewForgets log
+  -- the server has no fault at all where the kernel has none, and sends what is ordinary
+  pub all : IsFresh old → IsFreeOf is_of_server is_of_kernel IsOrdinary log

@@ -1,7 +1,6 @@
 //! What a law asks of the kernel is needed: without it there is a session that breaks the law.
 
-ghost use Rattle.served_sessions.specs.Counterexamples.{is_of_kernel};
-ghost use Rattle.served_sessions.specs.Groups.{IsAny, is_of_interrupts, is_of_notices, is_of_numbers};
+ghost use Rattle.served_sessions.specs.Groups.{IsAny, is_of_interrupts, is_of_kernel, is_of_notices, is_of_numbers};
 ghost use Rattle.served_sessions.specs.Served.{NeverAccused};
 
 /// A kernel that has no fault may send INIT under number 0. A server that answers it is accused of a malformed

@@ -3,8 +3,7 @@
 //!
 //! Both crates are proved against definitions of their own: `serve` does what `Serves` says, and a judge names
 //! exactly the faults of `Breaks`. Here the two are held against each other, group of faults by group. Where a
-//! law asks something of the kernel it says so, and `counterexamples` shows that it has to; but of short BATCH_FORGETs
-//! that is not known.
+//! law asks something of the kernel it says so, and `counterexamples` shows for some that it has to.
 #![tactic(auto)]
 
 mod counterexamples;
@@ -13,6 +12,7 @@ mod never_accused;
 pub use counterexamples::{no_notify_reply_is_needed, number_is_needed};
 pub use never_accused::{
     bodies_fit, entries_are_of_files, flags_are_offered, frames_are_whole, no_more_is_counted,
-    nodes_stay_of_one_generation, notifications_are_whole, replies_are_awaited,
-    served_in_exchanges, served_is_unaccused,
+    nodes_stay_of_one_file, nodes_stay_of_one_generation, notifications_are_whole,
+    pairs_stay_of_one_file, replies_are_awaited, served_in_exchanges, served_is_unaccused,
+    server_has_no_fault,
 };

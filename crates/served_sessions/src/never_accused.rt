@@ -5,8 +5,8 @@ ghost use Rattle.fuse_spec.specs.Server.Server.{Server};
 ghost use Rattle.fuse_device.specs.Transfers.{Transfer};
 ghost use Rattle.fs_serve.specs.Serving.{Serves};
 ghost use Rattle.served_sessions.specs.Exchanges.{AreExchanges};
-ghost use Rattle.served_sessions.specs.Groups.{HasFewForgets, HasNumber, IsAny, IsNoNotifyReply};
-ghost use Rattle.served_sessions.specs.Groups.{is_nothing, is_of_bodies, is_of_counts, is_of_entries, is_of_flags, is_of_generations, is_of_heads, is_of_interrupts, is_of_notices, is_of_numbers, is_of_second_init};
+ghost use Rattle.served_sessions.specs.Groups.{HasFewForgets, HasNumber, IsAny, IsNoNotifyReply, IsOrdinary};
+ghost use Rattle.served_sessions.specs.Groups.{is_nothing, is_of_bodies, is_of_counts, is_of_entries, is_of_files, is_of_flags, is_of_generations, is_of_heads, is_of_interrupts, is_of_kernel, is_of_notices, is_of_numbers, is_of_pairs, is_of_second_init, is_of_server};
 ghost use Rattle.served_sessions.specs.Served.{FreshNeverAccused, IsUnaccused, NeverAccused};
 
 /// Behind each frame that is received at most one is sent, which answers it under its number.
@@ -51,10 +51,28 @@ pub fn entries_are_of_files()
     ensures { FreshNeverAccused is_of_entries is_nothing IsAny }
 {}
 
-/// A node that is counted is given under one generation by a server that was just mounted, where each BATCH_FORGET has 64
-/// pairs at most.
+/// A node that is counted is given under one generation by a server that was just mounted, where no BATCH_FORGET has more
+/// than 16 MiB.
 pub fn nodes_stay_of_one_generation()
     ensures { FreshNeverAccused is_of_generations is_nothing HasFewForgets }
+{}
+
+/// A node that is counted is given, and described, with one kind and one inode number by a server that was just mounted,
+/// where no BATCH_FORGET has more than 16 MiB.
+pub fn nodes_stay_of_one_file()
+    ensures { FreshNeverAccused is_of_files is_nothing HasFewForgets }
+{}
+
+/// A node that is counted no more is given again under its generation for the same file alone by a server that was just
+/// mounted, where no BATCH_FORGET has more than 16 MiB.
+pub fn pairs_stay_of_one_file()
+    ensures { FreshNeverAccused is_of_pairs is_nothing HasFewForgets }
+{}
+
+/// Where the kernel has no fault, a server that was just mounted has none of those that the definitions know. No request
+/// may have number 0 or be a NOTIFY_REPLY.
+pub fn server_has_no_fault()
+    ensures { FreshNeverAccused is_of_server is_of_kernel IsOrdinary }
 {}
 
 /// All of these of one log: what `serve` sends is never accused of them. A call without effect, made where a contract rests

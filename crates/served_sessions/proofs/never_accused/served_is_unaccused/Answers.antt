@@ -1,4 +1,4 @@
-use Rattle.served_sessions.proofs.Never.{bodies_never, counts_never, entries_never, flags_never, generations_never, heads_never, notices_never, numbers_never}
+use Rattle.served_sessions.proofs.Never.{bodies_never, counts_never, entries_never, files_never, flags_never, generations_never, heads_never, notices_never, numbers_never, pairs_never, server_never}
 use Rattle.served_sessions.proofs.never_accused.served_is_unaccused.Goals as goal
 
 pub returns : goal.returns
@@ -11,4 +11,7 @@ returns c = λ old log new serves. record {
   counts = counts_never old log new serves;
   entries = entries_never old log new serves;
   generations = generations_never old log new serves;
+  files = files_never old log new serves;
+  pairs = pairs_never old log new serves;
+  all = server_never old log new serves;
 }
