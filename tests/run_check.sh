@@ -51,7 +51,7 @@ for expected in tests/sessions/*.expected; do
 done
 cat > "$work/want-out" <<END
 line 4: server: reply to nothing: unique 90
-line 7: server: second reply: unique 4
+line 7: server: second reply: unique 4; STATFS read at line 5; answered at line 6
 line 9: server: body that is not its request's
 requests 5 replies 7 notifications 0 refused 2 unanswered 0 entries 0 forgotten 0 nodes 0 open 0
 faults: kernel 0 server 3 device 0, warnings 0
@@ -72,11 +72,11 @@ cat > "$work/want-out" <<'END'
 {"event":"check","schema":1}
 {"event":"fault","line":4,"party":"device","rule":"reply to nothing accepted","unique":90}
 {"event":"fault","line":4,"party":"server","rule":"reply to nothing","unique":90}
-{"event":"fault","line":7,"party":"device","rule":"reply to nothing accepted","unique":4}
-{"event":"fault","line":7,"party":"server","rule":"second reply","unique":4}
+{"event":"fault","line":7,"party":"device","rule":"reply to nothing accepted","unique":4,"read_line":5,"read_opcode":"STATFS","answered_line":6}
+{"event":"fault","line":7,"party":"server","rule":"second reply","unique":4,"read_line":5,"read_opcode":"STATFS","answered_line":6}
 {"event":"fault","line":9,"party":"server","rule":"body that is not its request's"}
-{"event":"fault","line":9,"party":"device","rule":"body of another request accepted","unique":6}
-{"event":"fault","line":11,"party":"device","rule":"right reply refused","unique":8}
+{"event":"fault","line":9,"party":"device","rule":"body of another request accepted","unique":6,"read_line":8,"read_opcode":"STATFS"}
+{"event":"fault","line":11,"party":"device","rule":"right reply refused","unique":8,"read_line":10,"read_opcode":"STATFS"}
 {"event":"counts","requests":5,"replies":7,"notifications":0,"refused":2,"unanswered":0,"entries":0,"forgotten":0,"nodes":0,"open":0,"kernel":0,"server":3,"device":4,"warnings":0}
 END
 judged "a session in JSON" 6 --json tests/sessions/device.capture
@@ -267,7 +267,7 @@ cat > "$work/middle" <<END
 > 280000000500000006000000000000000900000000000000e8030000e80300004d00000000000000
 END
 cat > "$work/want-out" <<END
-line 3: server: second reply: unique 4
+line 3: server: second reply: unique 4; LOOKUP read at line 1; answered at line 2
 requests 2 replies 2 notifications 0 refused 1 unanswered 1 entries 0 forgotten 0 nodes 0 open 0
 faults: kernel 0 server 1 device 0, warnings 0
 END
