@@ -276,6 +276,30 @@ grep -v "^line " "$work/want-out" | sed "s/server 1/server 0/" > "$work/want-ker
 mv "$work/want-kernel" "$work/want-out"
 judged "its kernel alone" 0 --joined --kernel "$work/middle"
 
+# A LOOKUP, whose last reply is a second one, and between them STATFS N times, read and answered: each is remembered, up to
+# 4,096 in all.
+remembering() {
+    python3 -B - "$1" > "$work/capture" <<END
+import sys
+sys.path.insert(0, "tests")
+from fuse_frames import EIO, init_reply, init_request, reply, request, text
+print(">", init_request().hex())
+print("<", init_reply().hex())
+print(">", request("LOOKUP", 4, 1, text("a")).hex())
+print("<", reply(4, error=EIO).hex())
+for half in range(int(sys.argv[1])):
+    print(*("<", reply(6 + half - 1, error=EIO).hex()) if half % 2 else (">", request("STATFS", 6 + half, 1).hex()))
+print("<", reply(4, error=EIO).hex(), "ENOENT")
+END
+    "$program" check --server "$work/capture" 2> "$work/err" | sed -n 's/^line [0-9]*: server: second reply: unique 4//p' > "$work/out"
+}
+for pair in "4094; LOOKUP read at line 3; answered at line 4" "4095; answered at line 4" "4096"; do
+    count=${pair%%;*}
+    echo "${pair#"$count"}" > "$work/want-out"
+    remembering "$count"
+    judge "what is remembered behind $count more" 0 0
+done
+
 # Each rule is broken somewhere, and there is each warning.
 cat tests/sessions/*.expected | sed -n 's/^line [0-9]*: \([a-z]*: [^:]*\).*/\1/p' | sort -u | wc -l > "$work/out"
 echo 49 > "$work/want-out"
