@@ -21,7 +21,6 @@ class Past(Standing):
         self.traces = []
         self.is_asked_again = self.is_malformed = False
         self.is_judged = True
-        self.opcode = None
 
     def trace(self, kind, key, words, behind=""):
         self.traces.append((kind, key, f"; {words} at line {self.number}{behind}"))
