@@ -25,12 +25,24 @@ ABOUT = [
 ]
 
 
+# What the lines before say, in words, and the keys of its values.
+BEHIND = [
+    (r"request read at line (\d+)", ("read_line",)),
+    (r"([A-Z_0-9]+) read at line (\d+)", ("read_opcode", "read_line")),
+    (r"answered at line (\d+)", ("answered_line",)),
+    (r"given at line (\d+), inode (\d+), count (\d+)", ("given_line", "given_ino", "given_count")),
+    (r"forgotten at line (\d+), count (\d+)", ("forgotten_line", "forgotten_count")),
+    (r"opened at line (\d+)", ("opened_line",)),
+    (r"released at line (\d+)", ("released_line",)),
+]
+
+
 def number(word):
     return int(word) if word.isdigit() else word
 
 
-def about(words):
-    for form, keys in ABOUT:
+def about(words, forms=ABOUT):
+    for form, keys in forms:
         found = re.fullmatch(form, words)
         if found:
             return dict(zip(keys, map(number, found.groups())))
@@ -41,8 +53,12 @@ def fault(line):
     place, unjudged, why = line.removeprefix("line ").partition(": not judged from here on: ")
     if unjudged:
         return {"event": "unjudged", "line": int(place), "why": why}
+    line, *behind = line.split("; ")
     _, place, party, rule, *rest = re.fullmatch(r"(line (\d+)): (\w+): ([^:]*)(?:: (.*))?", line).groups()
     named = about(rest[0]) if rest[0] else {}
+    for words in behind:
+        said = about(words, BEHIND)
+        named |= {key: said[key] for key in ("read_line", *said) if key in said}
     if party == "warning":
         return {"event": "warning", "line": int(place), "rule": rule} | named
     return {"event": "fault", "line": int(place), "party": party, "rule": rule} | named

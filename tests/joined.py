@@ -13,7 +13,8 @@ import subprocess
 import sys
 import tempfile
 
-LINE = re.compile(r"line (\d+): (.*)")
+# What the lines before say is left out: the rest has not all of them.
+LINE = re.compile(r"line (\d+): ([^;]*)")
 TWO_FILES = ("node of two generations", "node of two kinds", "node of two inode numbers")
 
 

@@ -1,5 +1,6 @@
 """A capture that is written a transfer at a time, and what `fuseworld check` has to print of it."""
 from fuse_frames import init_reply, init_request, reply, request
+from past import Past
 from standing import Standing
 
 
@@ -9,12 +10,15 @@ class Session:
     def __init__(self, about):
         self.lines = [f"# {about}"]
         self.faults = []
+        self.past = Past()
+        self.past.line(self.lines[0])
         self.counted = dict.fromkeys(("requests", "replies", "notifications", "refused"), 0)
 
     def line(self, words, *faults):
-        """A line, and its faults, each as `PARTY: RULE` and what it is about."""
+        """A line, and its faults, each as `PARTY: RULE` and what it is about; what the lines before say comes behind that."""
         self.lines.append(words)
-        self.faults += [f"line {len(self.lines)}: {fault}" for fault in faults]
+        self.faults += [f"line {len(self.lines)}: {fault}{self.past.behind(words, fault)}" for fault in faults]
+        self.past.line(words, faults)
 
     def read(self, frame, *faults, more=0):
         self.counted["requests"] += 1

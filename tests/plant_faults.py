@@ -526,8 +526,8 @@ def judged(program, lines, folder):
     file = Path(folder) / "planted.capture"
     file.write_text("".join(f"{spelled(line)}\n" for line in lines))
     ran = subprocess.run([program, "check", file], capture_output=True, text=True)
-    # a warning is no fault
-    return ran.returncode, [f"{line}\n" for line in ran.stdout.splitlines()[:-2] if ": warning: " not in line]
+    # a warning is no fault, and what the lines before say is not looked at
+    return ran.returncode, [f"{line.partition(';')[0]}\n" for line in ran.stdout.splitlines()[:-2] if ": warning: " not in line]
 
 
 def try_plan(program, folder, lines, place, planned):

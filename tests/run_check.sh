@@ -51,7 +51,7 @@ for expected in tests/sessions/*.expected; do
 done
 cat > "$work/want-out" <<END
 line 4: server: reply to nothing: unique 90
-line 7: server: second reply: unique 4
+line 7: server: second reply: unique 4; STATFS read at line 5; answered at line 6
 line 9: server: body that is not its request's
 requests 5 replies 7 notifications 0 refused 2 unanswered 0 entries 0 forgotten 0 nodes 0 open 0
 faults: kernel 0 server 3 device 0, warnings 0
@@ -72,11 +72,11 @@ cat > "$work/want-out" <<'END'
 {"event":"check","schema":1}
 {"event":"fault","line":4,"party":"device","rule":"reply to nothing accepted","unique":90}
 {"event":"fault","line":4,"party":"server","rule":"reply to nothing","unique":90}
-{"event":"fault","line":7,"party":"device","rule":"reply to nothing accepted","unique":4}
-{"event":"fault","line":7,"party":"server","rule":"second reply","unique":4}
+{"event":"fault","line":7,"party":"device","rule":"reply to nothing accepted","unique":4,"read_line":5,"read_opcode":"STATFS","answered_line":6}
+{"event":"fault","line":7,"party":"server","rule":"second reply","unique":4,"read_line":5,"read_opcode":"STATFS","answered_line":6}
 {"event":"fault","line":9,"party":"server","rule":"body that is not its request's"}
-{"event":"fault","line":9,"party":"device","rule":"body of another request accepted","unique":6}
-{"event":"fault","line":11,"party":"device","rule":"right reply refused","unique":8}
+{"event":"fault","line":9,"party":"device","rule":"body of another request accepted","unique":6,"read_line":8,"read_opcode":"STATFS"}
+{"event":"fault","line":11,"party":"device","rule":"right reply refused","unique":8,"read_line":10,"read_opcode":"STATFS"}
 {"event":"counts","requests":5,"replies":7,"notifications":0,"refused":2,"unanswered":0,"entries":0,"forgotten":0,"nodes":0,"open":0,"kernel":0,"server":3,"device":4,"warnings":0}
 END
 judged "a session in JSON" 6 --json tests/sessions/device.capture
@@ -267,7 +267,7 @@ cat > "$work/middle" <<END
 > 280000000500000006000000000000000900000000000000e8030000e80300004d00000000000000
 END
 cat > "$work/want-out" <<END
-line 3: server: second reply: unique 4
+line 3: server: second reply: unique 4; LOOKUP read at line 1; answered at line 2
 requests 2 replies 2 notifications 0 refused 1 unanswered 1 entries 0 forgotten 0 nodes 0 open 0
 faults: kernel 0 server 1 device 0, warnings 0
 END
@@ -275,6 +275,30 @@ judged "a session from its middle on" 6 --joined "$work/middle"
 grep -v "^line " "$work/want-out" | sed "s/server 1/server 0/" > "$work/want-kernel"
 mv "$work/want-kernel" "$work/want-out"
 judged "its kernel alone" 0 --joined --kernel "$work/middle"
+
+# A LOOKUP, whose last reply is a second one, and between them STATFS N times, read and answered: each is remembered, up to
+# 4,096 in all.
+remembering() {
+    python3 -B - "$1" > "$work/capture" <<END
+import sys
+sys.path.insert(0, "tests")
+from fuse_frames import EIO, init_reply, init_request, reply, request, text
+print(">", init_request().hex())
+print("<", init_reply().hex())
+print(">", request("LOOKUP", 4, 1, text("a")).hex())
+print("<", reply(4, error=EIO).hex())
+for half in range(int(sys.argv[1])):
+    print(*("<", reply(6 + half - 1, error=EIO).hex()) if half % 2 else (">", request("STATFS", 6 + half, 1).hex()))
+print("<", reply(4, error=EIO).hex(), "ENOENT")
+END
+    "$program" check --server "$work/capture" 2> "$work/err" | sed -n 's/^line [0-9]*: server: second reply: unique 4//p' > "$work/out"
+}
+for pair in "4094; LOOKUP read at line 3; answered at line 4" "4095; answered at line 4" "4096"; do
+    count=${pair%%;*}
+    echo "${pair#"$count"}" > "$work/want-out"
+    remembering "$count"
+    judge "what is remembered behind $count more" 0 0
+done
 
 # Each rule is broken somewhere, and there is each warning.
 cat tests/sessions/*.expected | sed -n 's/^line [0-9]*: \([a-z]*: [^:]*\).*/\1/p' | sort -u | wc -l > "$work/out"

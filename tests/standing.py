@@ -25,6 +25,16 @@ class Standing:
         self.forgotten += lookups
         self.nodes[node] = max(0, self.nodes[node] - lookups)
 
+    def given(self, node, ino):
+        self.entries += 1
+        self.nodes[node] += 1
+
+    def opened(self, file):
+        self.files[file] += 1
+
+    def released(self, file):
+        self.files[file] = max(0, self.files[file] - 1)
+
     def read(self, frame):
         if len(frame) < 40 or struct.unpack_from("<I", frame)[0] != len(frame):
             return
@@ -36,8 +46,7 @@ class Standing:
             for at in range(8, len(body), 16):
                 self.forget(*struct.unpack_from("<QQ", body, at))
         elif name in ("RELEASE", "RELEASEDIR") and len(body) == 24:
-            file = name == "RELEASEDIR", node, *struct.unpack_from("<Q", body)
-            self.files[file] = max(0, self.files[file] - 1)
+            self.released((name == "RELEASEDIR", node, *struct.unpack_from("<Q", body)))
         if name not in ("FORGET", "BATCH_FORGET", "INTERRUPT"):
             self.waiting[unique] = name, node, body
 
@@ -45,8 +54,7 @@ class Standing:
         """The node that an entry gives, if it gives one."""
         node = struct.unpack_from("<Q", body)[0]
         if node not in (0, 1):
-            self.entries += 1
-            self.nodes[node] += 1
+            self.given(node, *struct.unpack_from("<Q", body, 40))
         return node
 
     def records(self, body):
@@ -61,7 +69,7 @@ class Standing:
         node = self.entry(body)
         size, mode = struct.unpack_from("<Q", body, 48)[0], struct.unpack_from("<I", body, 100)[0]
         if node not in (0, 1) and mode & 0o170000 == 0o100000 and size < 1 << 63:
-            self.files[False, node, *struct.unpack_from("<Q", body, 128)] += 1
+            self.opened((False, node, *struct.unpack_from("<Q", body, 128)))
 
     def write(self, frame, refusal):
         unique = struct.unpack_from("<Q", frame.ljust(16, b"\0"), 8)[0]
@@ -76,7 +84,7 @@ class Standing:
         elif name in CREATIONS and len(body) == 144:
             self.created(body)
         elif name in OPENINGS and len(body) == 16:
-            self.files[name == "OPENDIR", node, *struct.unpack_from("<Q", body)] += 1
+            self.opened((name == "OPENDIR", node, *struct.unpack_from("<Q", body)))
         elif name == "READDIRPLUS":
             self.records(body)
 

@@ -25,6 +25,7 @@ use Rattle.fw_check.specs.Endings.{lines_of}
 use Rattle.fw_check.specs.Forms.{closing_text, counts_text, head_text, transfer_lines}
 use Rattle.fw_check.specs.Names.{with_names}
 use Rattle.fw_check.specs.Outputs.{AppendsSome}
+use Rattle.fw_check.specs.Past.{traces_of}
 use Rattle.fw_check.specs.Standing.{file_count, node_count, remains_of}
 use Rattle.fw_check.specs.Summary.{LineTimeIs, TimeIs, after_asked, line_time, table_text}
 use Rattle.fw_check.specs.Running.{AllChecked, AreCounts, CheckEnds, ChecksMore, IsJudgedSo, IsKept, IsTaken, AreLeft, IsUpTo, LineEnds, NextEnds, PrintsEnd, SaidEnds, SeenState, StopsIn, judged_after}
@@ -86,12 +87,12 @@ pub time_said : (line : List ℕ) (l : CaptureLine) → ((text : List ℕ) → I
 time_said line l timed t is text of_line = at_frame (words_of text) l t is (timed text of_line)
 
 module _ (o : CheckOptions) (number : ℕ) (j : Judged) (l : CaptureLine) (shown : List Act) (verdicts : List (Option Fault))
-    (judge : SeenState) (c : Counts) (so : IsJudgedSo o j l shown verdicts judge c) where
+    (judge : SeenState) (c : Counts) (so : IsJudgedSo o j number l shown verdicts judge c) where
   -- what was judged with the transfer that a line says, and the text of these acts and verdicts
   abbrev judged_as : List Act → List (Option Fault) → Judged
   judged_as acts vs = judged_after j so.transfer so.acts so.names vs judge.session.known
-      (after_asked o.is_summary j.exchanges so.transfer (line_time l))
-      (j.text ++ transfer_lines o number j.known judge.session.known j.acts so.transfer acts vs)
+      (after_asked o.is_summary j.exchanges so.transfer (line_time l)) (j.past ++ traces_of number j.acts so.acts)
+      (j.text ++ transfer_lines o number j.past j.known judge.session.known j.acts so.transfer acts vs)
 
   abbrev judged_with : Judged
   judged_with = judged_as shown verdicts
@@ -99,7 +100,8 @@ module _ (o : CheckOptions) (number : ℕ) (j : Judged) (l : CaptureLine) (shown
 -- the lines with the one that says the transfer
 said_checks : (o : CheckOptions) (lines : List (List ℕ)) (j : Judged) (line : List ℕ) (l : CaptureLine) (shown : List Act)
     (verdicts : List (Option Fault)) (judge : SeenState) (c : Counts) → Checks o lines j
-    → (so : IsJudgedSo o j l shown verdicts judge c) → LineSays line so.transfer → LineTimeIs line so.transfer (line_time l)
+    → (so : IsJudgedSo o j (length lines + 1) l shown verdicts judge c) → LineSays line so.transfer
+    → LineTimeIs line so.transfer (line_time l)
     → Checks o (lines ++ line ∷ []) (judged_with o (length lines + 1) j l shown verdicts judge c so)
 said_checks o lines j line l shown verdicts judge c checks so is at =
     let n = length lines + 1 in
@@ -111,34 +113,51 @@ said_checks o lines j line l shown verdicts judge c checks so is at =
     (says lines j checks line so.transfer is (line_time l) at so.acts judge.session.known so.are so.all so.each so.faults
     so.names so.is_missing so.removes))
 
+module _ (o : CheckOptions) (lines : List (List ℕ)) (j : Judged) (line : List ℕ) (l : CaptureLine) (shown : List Act)
+    (verdicts : List (Option Fault)) (judge : SeenState) (c : Counts) (checks : Checks o lines j)
+    (so : IsJudgedSo o j (length lines + 1) l shown verdicts judge c) (is : LineSays line so.transfer)
+    (at : LineTimeIs line so.transfer (line_time l)) where
+  abbrev after_line : Judged
+  after_line = judged_with o (length lines + 1) j l shown verdicts judge c so
+
+  abbrev text_of_line : List ℕ
+  text_of_line = transfer_lines o (length lines + 1) j.past j.known judge.session.known j.acts so.transfer shown verdicts
+
+  one_more : ChecksMore o (lines ++ line ∷ []) j after_line text_of_line
+  one_more = record { checks = said_checks o lines j line l shown verdicts judge c checks so is at; text = refl }
+
+next_said : {T : Type 0} (o : CheckOptions) (r : Result T Stop) (lines : List (List ℕ)) (j : Judged) (line : List ℕ)
+    (l : CaptureLine) (judge : SeenState) (c : Counts) (had has : Option (List ℕ)) → Checks o lines j
+    → ((t : Transfer) → IsTransferOf l t → LineSays line t) → ((t : Transfer) → IsTransferOf l t → LineTimeIs line t (line_time l))
+    → SaidEnds o j (length lines + 1) l judge c r had has → LineEnds o lines j line judge c r had has
+next_said o (Ok done) lines j line l judge c had has checks said at (shown, verdicts, so, appends) =
+    let is = said so.transfer so.is in
+    let time = at so.transfer so.is in (
+      after_line o lines j line l shown verdicts judge c checks so is time,
+      text_of_line o lines j line l shown verdicts judge c checks so is time,
+      one_more o lines j line l shown verdicts judge c checks so is time,
+      so.kept (j.text ++ text_of_line o lines j line l shown verdicts judge c checks so is time),
+      appends,
+    )
+next_said o (Err OutputRefused) lines j line l judge c had has checks said at (shown, verdicts, so, some) =
+    let is = said so.transfer so.is in
+    let time = at so.transfer so.is in (
+      after_line o lines j line l shown verdicts judge c checks so is time,
+      text_of_line o lines j line l shown verdicts judge c checks so is time,
+      one_more o lines j line l shown verdicts judge c checks so is time,
+      some,
+    )
+next_said o (Err NoMemory) lines j line l judge c had has checks said at h = h
+next_said o (Err CannotRead) lines j line l judge c had has checks said at h = absurd h
+next_said o (Err (BadLine n f)) lines j line l judge c had has checks said at h = absurd h
+
 pub line_said : {T : Type 0} (o : CheckOptions) (r : Result T Stop) (lines : List (List ℕ)) (j : Judged) (line : List ℕ) (number : ℕ)
     (l : CaptureLine) (judge : SeenState) (c : Counts) (had has : Option (List ℕ)) → Checks o lines j
     → ((t : Transfer) → IsTransferOf l t → LineSays line t) → ((t : Transfer) → IsTransferOf l t → LineTimeIs line t (line_time l))
     → number ≡ length lines + 1
     → SaidEnds o j number l judge c r had has → LineEnds o lines j line judge c r had has
-line_said o (Ok done) lines j line number l judge c had has checks said at is (shown, verdicts, so, appends) =
-    let text = j.text ++ transfer_lines o (length lines + 1) j.known judge.session.known j.acts so.transfer shown verdicts in (
-      judged_with o (length lines + 1) j l shown verdicts judge c so,
-      transfer_lines o number j.known judge.session.known j.acts so.transfer shown verdicts,
-      record {
-        checks = said_checks o lines j line l shown verdicts judge c checks so (said so.transfer so.is) (at so.transfer so.is);
-        text = ap (λ n. j.text ++ transfer_lines o n j.known judge.session.known j.acts so.transfer shown verdicts) (sym is);
-      },
-      so.kept text,
-      appends,
-    )
-line_said o (Err OutputRefused) lines j line number l judge c had has checks said at is (shown, verdicts, so, some) = (
-  judged_with o (length lines + 1) j l shown verdicts judge c so,
-  transfer_lines o number j.known judge.session.known j.acts so.transfer shown verdicts,
-  record {
-    checks = said_checks o lines j line l shown verdicts judge c checks so (said so.transfer so.is) (at so.transfer so.is);
-    text = ap (λ n. j.text ++ transfer_lines o n j.known judge.session.known j.acts so.transfer shown verdicts) (sym is);
-  },
-  some,
-)
-line_said o (Err NoMemory) lines j line number l judge c had has checks said at is h = h
-line_said o (Err CannotRead) lines j line number l judge c had has checks said at is h = absurd h
-line_said o (Err (BadLine n f)) lines j line number l judge c had has checks said at is h = absurd h
+line_said o r lines j line number l judge c had has checks said at is h =
+    next_said o r lines j line l judge c had has checks said at (subst (λ n. SaidEnds o j n l judge c r had has) is h)
 
 -- ---- the next line
 
@@ -260,6 +279,7 @@ kept_printed is_joined text judge c kept = record {
   stands = kept.stands;
   known = kept.known;
   exchanges = kept.exchanges;
+  past = kept.past;
   counts = record {
     requests = kept.counts.requests;
     replies = kept.counts.replies;

@@ -10,6 +10,7 @@ use Rattle.fuse_sessions.specs.declared.known.Known.{Known}
 use Rattle.fuse_sessions.specs.declared.transfer.Transfer.{Transfer}
 use Rattle.name_sessions.specs.NameSessions.{NameSession}
 use Rattle.fw_check.specs.declared.counts.Counts.{Counts}
+use Rattle.fw_check.specs.declared.past.Trace.{Trace}
 use Rattle.fw_check.specs.Checks.{Judged}
 use Rattle.fw_check.specs.Counting.{CountsMore}
 use Rattle.fw_check.specs.Running.{AreCounts, judged_after}
@@ -25,10 +26,10 @@ with_one : {T : Type 0} (f : T → ℕ) (xs : List T) (y : T) (old new : ℕ) �
     → new ≡ sum_by f (xs ++ y ∷ [])
 with_one f xs y old new was is = is ∙ ap (λ n. n + f y) was ∙ sym (sum_by_push f xs y)
 
-pub counts_after : (j : Judged) (t : Transfer) (acts : List Act) (names : NameSession) (verdicts : List (Option Fault)) (known : Known) (exchanges : ExchangeState) (text : List ℕ)
+pub counts_after : (j : Judged) (t : Transfer) (acts : List Act) (names : NameSession) (verdicts : List (Option Fault)) (known : Known) (exchanges : ExchangeState) (past : List Trace) (text : List ℕ)
     (old new : Counts) → AreCounts j old → CountsMore old t acts verdicts new
-    → AreCounts (judged_after j t acts names verdicts known exchanges text) new
-counts_after j t acts names verdicts known exchanges text old new are more = record {
+    → AreCounts (judged_after j t acts names verdicts known exchanges past text) new
+counts_after j t acts names verdicts known exchanges past text old new are more = record {
   requests = with_one (λ x. one_if (is_request x)) j.transfers t _ _ are.requests more.requests;
   replies = with_one (λ x. one_if (is_reply x)) j.transfers t _ _ are.replies more.replies;
   notifications = with_one (λ x. one_if (is_notification x)) j.transfers t _ _ are.notifications more.notifications;

@@ -8,6 +8,7 @@ mod LifeLaws
 mod LineFeeds
 mod NameLaws
 mod OpcodeLaws
+mod PastLaws
 mod RankLaws
 mod ReportLaws
 mod StandingLaws

@@ -15,16 +15,18 @@ use Rattle.name_sessions.specs.NameSessions.{NameSession}
 use Rattle.fuse_capture.specs.Lines.{LineSays, IsPassedOver}
 use Rattle.fw_check.specs.declared.counts.Counts.{Counts}
 use Rattle.fw_check.specs.declared.options.CheckOptions.{CheckOptions}
+use Rattle.fw_check.specs.declared.past.Trace.{Trace}
 use Rattle.fw_check.specs.Asked.{asked_verdicts}
 use Rattle.fw_check.specs.Forms.{closing_text, head_text, transfer_lines}
 use Rattle.fw_check.specs.Names.{with_names, with_removal}
+use Rattle.fw_check.specs.Past.{traces_of}
 use Rattle.fw_check.specs.Standing.{remains_of}
 use Rattle.fw_check.specs.Summary.{ExchangeState, LineTimeIs, after_asked, nothing_exchanged}
 use Rattle.fw_check.specs.Tallies.{entries_of, forgotten_by, is_notification, is_of, is_refused, is_reply, is_request, one_if}
 
 -- What was judged: the transfers that were said, what is known after them, their acts and their name acts, the verdicts
--- without the faults that are not asked for, what the table of opcodes is made of, if that is asked for, and what is
--- printed of them. A verdict is on each act, and on a name that is missing.
+-- without the faults that are not asked for, what the table of opcodes is made of, if that is asked for, the traces that
+-- the acts leave, and what is printed of them. A verdict is on each act, and on a name that is missing.
 pub record Judged : Type 0 where
   pub transfers : List Transfer
   pub known : Known
@@ -32,6 +34,7 @@ pub record Judged : Type 0 where
   pub names : NameSession
   pub verdicts : List (Option Fault)
   pub exchanges : ExchangeState
+  pub past : List Trace
   pub text : List ℕ
 
 abbrev pub nothing_judged : (is_joined : Bool) → Judged
@@ -42,6 +45,7 @@ nothing_judged is_joined = record {
   names = start_names is_joined;
   verdicts = [];
   exchanges = nothing_exchanged;
+  past = [];
   text = [];
 }
 
@@ -65,7 +69,8 @@ pub data Checks (o : CheckOptions) : (lines : List (List ℕ)) → Judged → Ty
         names = names;
         verdicts = j.verdicts ++ asked_verdicts o.only (with_names is_missing verdicts);
         exchanges = after_asked o.is_summary j.exchanges t time;
-        text = j.text ++ transfer_lines o (length lines + 1) j.known known j.acts t (with_removal is_missing acts)
+        past = j.past ++ traces_of (length lines + 1) j.acts acts;
+        text = j.text ++ transfer_lines o (length lines + 1) j.past j.known known j.acts t (with_removal is_missing acts)
             (asked_verdicts o.only (with_names is_missing verdicts));
       })
 

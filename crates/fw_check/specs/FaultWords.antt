@@ -1,5 +1,6 @@
 -- The line of a fault, or of a warning.
-use Rattle.std.specs.Prelude.{ℕ, List, [], ◌++◌, Some, None, codes, decimal}
+use Rattle.std.specs.Prelude.{ℕ, true, false, List, [], ◌++◌, Option, Some, None, codes, decimal}
+use Rattle.fuse_protocol.specs.declared.opcode.Opcode.{Opcode}
 use Rattle.fuse_protocol.specs.Table.{name_of}
 use Rattle.fuse_sessions.specs.declared.act.Act.{Act}
 use Rattle.fuse_sessions.specs.declared.act.Act.TheVariants as act
@@ -8,6 +9,10 @@ use Rattle.fuse_sessions.specs.declared.fault.Fault.TheVariants as fault
 use Rattle.fuse_sessions.specs.declared.fault.Party.{Party}
 use Rattle.fuse_sessions.specs.declared.fault.Party.TheVariants as party
 use Rattle.fuse_sessions.specs.Parties.{party_of}
+use Rattle.fw_check.specs.declared.past.PastDeed.{PastDeed}
+use Rattle.fw_check.specs.declared.past.PastDeed.TheVariants as deed
+use Rattle.fw_check.specs.declared.past.Trace.{Trace}
+use Rattle.fw_check.specs.Past.{last_of, topic_of}
 
 abbrev pub party_word : Party → List ℕ
 party_word party.Kernel = codes "kernel"
@@ -94,7 +99,40 @@ act_words (act.Missing node errno) = codes ":" ++ said (codes "node") node ++ sa
 act_words (act.Opens file) = codes ":" ++ said (codes "node") file.nodeid ++ said (codes "file handle") file.fh
 act_words a = []
 
--- `line N: PARTY: RULE` or `line N: warning: ..`, and what the act is about
-abbrev pub fault_line : (number : ℕ) → Act → Fault → List ℕ
-fault_line number a f = codes "line " ++ decimal number ++ codes ": " ++ party_word (party_of f) ++ codes ": "
-    ++ fault_words f ++ act_words a ++ codes "\n"
+-- ---- what the lines before say
+
+abbrev pub request_word : Option Opcode → List ℕ
+request_word None = codes "request"
+request_word (Some opcode) = name_of opcode
+
+-- what was done
+abbrev pub deed_words : PastDeed → List ℕ
+deed_words (deed.Read opcode unique) = request_word opcode ++ codes " read"
+deed_words (deed.Answered unique) = codes "answered"
+deed_words (deed.Given node ino) = codes "given"
+deed_words (deed.Forgotten node) = codes "forgotten"
+deed_words (deed.Opened file) = codes "opened"
+deed_words (deed.Released file) = codes "released"
+
+abbrev pub count_words : (count : ℕ) → List ℕ
+count_words count = codes "," ++ said (codes "count") count
+
+-- of which file the node was then, and how often it was counted
+abbrev pub node_words : PastDeed → (count : ℕ) → List ℕ
+node_words (deed.Given node ino) count = codes "," ++ said (codes "inode") ino ++ count_words count
+node_words (deed.Forgotten node) count = count_words count
+node_words d count = []
+
+-- `; DEED at line N`
+abbrev pub trace_words : Option Trace → List ℕ
+trace_words None = []
+trace_words (Some t) = codes "; " ++ deed_words t.deed ++ said (codes "at line") t.line ++ node_words t.deed t.count
+
+-- of what an act is about: what began it last, and what ended it last
+abbrev pub past_words : (past : List Trace) → Act → List ℕ
+past_words past a = trace_words (last_of false (topic_of a) past) ++ trace_words (last_of true (topic_of a) past)
+
+-- `line N: PARTY: RULE` or `line N: warning: ..`, what the act is about, and what is remembered of that
+abbrev pub fault_line : (number : ℕ) → (past : List Trace) → Act → Fault → List ℕ
+fault_line number past a f = codes "line " ++ decimal number ++ codes ": " ++ party_word (party_of f) ++ codes ": "
+    ++ fault_words f ++ act_words a ++ past_words past a ++ codes "\n"

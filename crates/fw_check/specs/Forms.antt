@@ -10,11 +10,13 @@ use Rattle.fw_check.specs.declared.counts.Counts.{Counts}
 use Rattle.fw_check.specs.declared.options.CheckForm.{CheckForm}
 use Rattle.fw_check.specs.declared.options.CheckForm.TheVariants as forms
 use Rattle.fw_check.specs.declared.options.CheckOptions.{CheckOptions}
+use Rattle.fw_check.specs.declared.past.Trace.{Trace}
 use Rattle.fw_check.specs.declared.remains.Remains.{Remains}
 use Rattle.fw_check.specs.Counting.{counts_lines}
 use Rattle.fw_check.specs.FaultWords.{fault_line}
 use Rattle.fw_check.specs.Json.{counts_object, fault_object, head_object}
 use Rattle.fw_check.specs.Life.{doer_of, life_lines}
+use Rattle.fw_check.specs.Past.{remembered}
 use Rattle.fw_check.specs.Summary.{ExchangeState, table_text}
 use Rattle.fw_check.specs.Unjudged.{unjudged_line, unjudged_object}
 
@@ -23,17 +25,17 @@ abbrev pub head_text : CheckForm → List ℕ
 head_text forms.Words = []
 head_text forms.Json = head_object
 
--- a fault of a line
-abbrev pub fault_text : CheckForm → (number : ℕ) → Act → Fault → List ℕ
-fault_text forms.Words number a f = fault_line number a f
-fault_text forms.Json number a f = fault_object number a f
+-- a fault of a line, and what is remembered of the lines before
+abbrev pub fault_text : CheckForm → (number : ℕ) → (past : List Trace) → Act → Fault → List ℕ
+fault_text forms.Words number past a f = fault_line number past a f
+fault_text forms.Json number past a f = fault_object number past a f
 
 -- the faults of a transfer's acts, in their order
-abbrev pub fault_lines : CheckForm → (number : ℕ) → List Act → List (Option Fault) → List ℕ
-fault_lines form number (a ∷ acts) (Some f ∷ verdicts) =
-    fault_text form number a f ++ fault_lines form number acts verdicts
-fault_lines form number (a ∷ acts) (None ∷ verdicts) = fault_lines form number acts verdicts
-fault_lines form number acts verdicts = []
+abbrev pub fault_lines : CheckForm → (number : ℕ) → (past : List Trace) → List Act → List (Option Fault) → List ℕ
+fault_lines form number past (a ∷ acts) (Some f ∷ verdicts) =
+    fault_text form number past a f ++ fault_lines form number past acts verdicts
+fault_lines form number past (a ∷ acts) (None ∷ verdicts) = fault_lines form number past acts verdicts
+fault_lines form number past acts verdicts = []
 
 -- why nothing is judged any more
 abbrev pub unjudged_text : CheckForm → (number : ℕ) → Unjudged → List ℕ
@@ -45,21 +47,23 @@ abbrev pub leaving_text : CheckForm → (number : ℕ) → (before after : Optio
 leaving_text form number None (Some why) = unjudged_text form number why
 leaving_text form number before after = []
 
--- what is printed of a transfer's acts that follow a session: what they do to the node that is asked for, or their faults,
--- or nothing, where the table of opcodes is asked for
-abbrev pub lines_by : (node : Option ℕ) → (is_summary : Bool) → CheckForm → (number : ℕ) → Session → Transfer → List Act
-    → List (Option Fault) → List ℕ
-lines_by (Some node) is_summary form number s t acts verdicts = life_lines number node (doer_of s t) s acts
-lines_by None is_summary form number s t acts verdicts = if is_summary then [] else fault_lines form number acts verdicts
+-- what is printed of a transfer's acts that follow a session, and the traces of the lines before: what they do to the node
+-- that is asked for, or their faults, or nothing, where the table of opcodes is asked for
+abbrev pub lines_by : (node : Option ℕ) → (is_summary : Bool) → CheckForm → (number : ℕ) → (past : List Trace) → Session
+    → Transfer → List Act → List (Option Fault) → List ℕ
+lines_by (Some node) is_summary form number past s t acts verdicts = life_lines number node (doer_of s t) s acts
+lines_by None is_summary form number past s t acts verdicts =
+    if is_summary then [] else fault_lines form number (remembered past) acts verdicts
 
-abbrev pub act_lines : CheckOptions → (number : ℕ) → Session → Transfer → List Act → List (Option Fault) → List ℕ
-act_lines o number s t acts verdicts = lines_by o.node o.is_summary o.form number s t acts verdicts
+abbrev pub act_lines : CheckOptions → (number : ℕ) → (past : List Trace) → Session → Transfer → List Act
+    → List (Option Fault) → List ℕ
+act_lines o number past s t acts verdicts = lines_by o.node o.is_summary o.form number past s t acts verdicts
 
 -- what is printed of a transfer after a session: the lines of its acts, and whether the session is not judged any more
-abbrev pub transfer_lines : CheckOptions → (number : ℕ) → (before after : Known) → Session → Transfer → List Act
-    → List (Option Fault) → List ℕ
-transfer_lines o number before after s t acts verdicts =
-    act_lines o number s t acts verdicts ++ leaving_text o.form number before.unjudged after.unjudged
+abbrev pub transfer_lines : CheckOptions → (number : ℕ) → (past : List Trace) → (before after : Known) → Session → Transfer
+    → List Act → List (Option Fault) → List ℕ
+transfer_lines o number past before after s t acts verdicts =
+    act_lines o number past s t acts verdicts ++ leaving_text o.form number before.unjudged after.unjudged
 
 -- the counts, with what is left at the end
 abbrev pub counts_text : CheckForm → Remains → Counts → List ℕ

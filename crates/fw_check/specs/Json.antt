@@ -1,5 +1,6 @@
 -- The objects of `--json`, one a line.
-use Rattle.std.specs.Prelude.{ℕ, List, [], ◌++◌, Option, Some, None, codes, decimal}
+use Rattle.std.specs.Prelude.{ℕ, true, false, List, [], ◌++◌, Option, Some, None, codes, decimal}
+use Rattle.fuse_protocol.specs.declared.opcode.Opcode.{Opcode}
 use Rattle.fuse_protocol.specs.Table.{name_of}
 use Rattle.fuse_sessions.specs.declared.act.Act.{Act}
 use Rattle.fuse_sessions.specs.declared.act.Act.TheVariants as act
@@ -9,8 +10,12 @@ use Rattle.fuse_sessions.specs.declared.fault.Party.{Party}
 use Rattle.fuse_sessions.specs.declared.fault.Party.TheVariants as party
 use Rattle.fuse_sessions.specs.Parties.{party_of}
 use Rattle.fw_check.specs.declared.counts.Counts.{Counts}
+use Rattle.fw_check.specs.declared.past.PastDeed.{PastDeed}
+use Rattle.fw_check.specs.declared.past.PastDeed.TheVariants as deed
+use Rattle.fw_check.specs.declared.past.Trace.{Trace}
 use Rattle.fw_check.specs.declared.remains.Remains.{Remains}
 use Rattle.fw_check.specs.FaultWords.{fault_words, party_word}
+use Rattle.fw_check.specs.Past.{last_of, topic_of}
 
 -- a key behind another
 abbrev pub key_text : List ℕ → List ℕ
@@ -65,6 +70,30 @@ act_fields (act.Missing node errno) = node_fields node (codes "error") errno
 act_fields (act.Opens file) = file_fields file
 act_fields a = []
 
+-- the opcode of a request that was read, if it is known
+abbrev pub opcode_field : Option Opcode → List ℕ
+opcode_field None = []
+opcode_field (Some opcode) = text_field (codes "read_opcode") (name_of opcode)
+
+-- what was done at a line, and how often its node was counted then
+abbrev pub deed_fields : (line : ℕ) → PastDeed → (count : ℕ) → List ℕ
+deed_fields line (deed.Read opcode unique) count = number_field (codes "read_line") line ++ opcode_field opcode
+deed_fields line (deed.Answered unique) count = number_field (codes "answered_line") line
+deed_fields line (deed.Given node ino) count = number_field (codes "given_line") line
+    ++ number_field (codes "given_ino") ino ++ number_field (codes "given_count") count
+deed_fields line (deed.Forgotten node) count =
+    number_field (codes "forgotten_line") line ++ number_field (codes "forgotten_count") count
+deed_fields line (deed.Opened file) count = number_field (codes "opened_line") line
+deed_fields line (deed.Released file) count = number_field (codes "released_line") line
+
+abbrev pub trace_fields : Option Trace → List ℕ
+trace_fields None = []
+trace_fields (Some t) = deed_fields t.line t.deed t.count
+
+-- of what an act is about: what began it last, and what ended it last
+abbrev pub past_fields : (past : List Trace) → Act → List ℕ
+past_fields past a = trace_fields (last_of false (topic_of a) past) ++ trace_fields (last_of true (topic_of a) past)
+
 -- a warning is nobody's fault
 abbrev pub event_text : Party → List ℕ
 event_text party.Nobody = codes "{\"event\":\"warning\""
@@ -77,9 +106,9 @@ party_field p = text_field (codes "party") (party_word p)
 abbrev pub rule_fields : Fault → List ℕ
 rule_fields f = party_field (party_of f) ++ text_field (codes "rule") (fault_words f)
 
-abbrev pub fault_object : (number : ℕ) → Act → Fault → List ℕ
-fault_object number a f = event_text (party_of f) ++ number_field (codes "line") number ++ rule_fields f ++ act_fields a
-    ++ codes "}\n"
+abbrev pub fault_object : (number : ℕ) → (past : List Trace) → Act → Fault → List ℕ
+fault_object number past a f = event_text (party_of f) ++ number_field (codes "line") number ++ rule_fields f
+    ++ act_fields a ++ past_fields past a ++ codes "}\n"
 
 -- ---- the first and the last object
 

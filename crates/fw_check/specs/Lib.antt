@@ -10,6 +10,7 @@ pub mod Json
 pub mod Life
 pub mod Names
 pub mod Outputs
+pub mod Past
 pub mod Reports
 pub mod Running
 pub mod Standing

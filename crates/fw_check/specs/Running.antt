@@ -21,6 +21,7 @@ use Rattle.fw_check.specs.declared.options.CheckForm.{CheckForm}
 use Rattle.fw_check.specs.declared.options.CheckOptions.{CheckOptions}
 use Rattle.fw_check.specs.declared.file_key.FileKey.{FileKey}
 use Rattle.fw_check.specs.declared.life.Doer.{Doer}
+use Rattle.fw_check.specs.declared.past.Trace.{Trace}
 use Rattle.fw_check.specs.declared.remains.Remains.{Remains}
 use Rattle.fw_check.specs.declared.seen.Seen.{Seen}
 use Rattle.fw_check.specs.declared.stop.Stop.{Stop}
@@ -32,15 +33,16 @@ use Rattle.fw_check.specs.Forms.{closing_text, fault_text, transfer_lines}
 use Rattle.fw_check.specs.Life.{doer_for}
 use Rattle.fw_check.specs.Names.{with_names, with_removal}
 use Rattle.fw_check.specs.Outputs.{AppendsSome}
+use Rattle.fw_check.specs.Past.{remembered, traces_of}
 use Rattle.fw_check.specs.Reports.{bad_line, unreadable}
 use Rattle.fw_check.specs.Standing.{Stands, remains_of}
 use Rattle.fw_check.specs.Summary.{ExchangeState, after_asked, exchanges_of, line_time}
 use Rattle.fw_check.specs.Tallies.{entries_of, forgotten_by, is_notification, is_refused, is_reply, is_request}
 
 -- what is printed of a verdict, where it is a fault
-abbrev pub verdict_text : CheckForm → (number : ℕ) → Act → Option Fault → List ℕ
-verdict_text form number a (Some f) = fault_text form number a f
-verdict_text form number a None = []
+abbrev pub verdict_text : CheckForm → (number : ℕ) → (past : List Trace) → Act → Option Fault → List ℕ
+verdict_text form number past a (Some f) = fault_text form number past a f
+verdict_text form number past a None = []
 
 -- ---- one transfer more
 
@@ -58,13 +60,14 @@ pub record AreCounts (j : Judged) (c : Counts) : Type 0 where
   pub warnings : c.warnings ≡ faults_of party.Nobody j
 
 -- What contracts see of what was seen of a session: the judge, which name acts the judge of names has seen, what stands,
--- and what the table is made of.
+-- what the table is made of, and which traces are remembered.
 pub record SeenState : Type 1 where
   pub session : SessionState
   pub names : NameSession → Type 0
   pub nodes : List (ℕ × ℕ)
   pub files : List (FileKey × ℕ)
   pub exchanges : ExchangeState
+  pub past : List Trace
 
 abbrev pub seen_by : {A : Type 0} → Seen A → SeenState
 seen_by seen = record {
@@ -73,7 +76,12 @@ seen_by seen = record {
   nodes = seen.standing.nodes.entries;
   files = seen.standing.files.entries;
   exchanges = exchanges_of seen.exchanges;
+  past = seen.past.items;
 }
+
+-- The same, and these traces are remembered.
+abbrev pub remembering : List Trace → SeenState → SeenState
+remembering past w = record w { past = past }
 
 -- What a check keeps is right of what was judged.
 pub record IsKept (j : Judged) (w : SeenState) (c : Counts) : Type 0 where
@@ -83,12 +91,13 @@ pub record IsKept (j : Judged) (w : SeenState) (c : Counts) : Type 0 where
   pub stands : Stands j.acts w.nodes w.files
   pub known : j.known ≡ w.session.known
   pub exchanges : j.exchanges ≡ w.exchanges
+  pub past : w.past ≡ remembered j.past
   pub counts : AreCounts j c
 
--- The next transfer was seen: these are its acts and the verdict on each, and it is said whether the kernel takes away a
--- name that is missing.
-pub record IsSeenSo (is_joined : Bool) (j : Judged) (t : Transfer) (acts : List Act) (verdicts : List (Option Fault))
-    (is_missing : Bool) (w : SeenState) : Type 0 where
+-- The next transfer was seen: these are its acts, the verdict on each and the traces that they leave, and it is said
+-- whether the kernel takes away a name that is missing.
+pub record IsSeenSo (is_joined : Bool) (j : Judged) (number : ℕ) (t : Transfer) (acts : List Act)
+    (verdicts : List (Option Fault)) (traces : List Trace) (is_missing : Bool) (w : SeenState) : Type 0 where
   pub start : Known
   pub names : NameSession
   pub are : AreActs j.known j.acts t acts w.session.known
@@ -99,23 +108,25 @@ pub record IsSeenSo (is_joined : Bool) (j : Judged) (t : Transfer) (acts : List 
   pub named : w.names names
   pub stands : Stands (j.acts ++ acts) w.nodes w.files
   pub exchanges : j.exchanges ≡ w.exchanges
+  pub traced : traces ≡ traces_of number j.acts acts
 
 -- what was judged, with one transfer more
 abbrev pub judged_after : Judged → Transfer → List Act → NameSession → List (Option Fault) → Known → ExchangeState
-    → (text : List ℕ) → Judged
-judged_after j t acts names verdicts known exchanges text = record {
+    → (past : List Trace) → (text : List ℕ) → Judged
+judged_after j t acts names verdicts known exchanges past text = record {
   transfers = j.transfers ++ t ∷ [];
   known = known;
   acts = j.acts ++ acts;
   names = names;
   verdicts = j.verdicts ++ verdicts;
   exchanges = exchanges;
+  past = past;
   text = text;
 }
 
 -- The transfer that a line says was judged: these are its acts with a removal's behind them, and these their verdicts
 -- without the faults that are not asked for.
-pub record IsJudgedSo (o : CheckOptions) (j : Judged) (l : CaptureLine) (shown : List Act)
+pub record IsJudgedSo (o : CheckOptions) (j : Judged) (number : ℕ) (l : CaptureLine) (shown : List Act)
     (verdicts : List (Option Fault)) (judge : SeenState) (c : Counts) : Type 0 where
   pub transfer : Transfer
   pub acts : List Act
@@ -130,28 +141,29 @@ pub record IsJudgedSo (o : CheckOptions) (j : Judged) (l : CaptureLine) (shown :
   pub removal : shown ≡ with_removal is_missing acts
   pub asked : verdicts ≡ asked_verdicts o.only (with_names is_missing all)
   pub kept : (text : List ℕ) → IsKept (judged_after j transfer acts names verdicts judge.session.known
-      (after_asked o.is_summary j.exchanges transfer (line_time l)) text) judge c
+      (after_asked o.is_summary j.exchanges transfer (line_time l)) (j.past ++ traces_of number j.acts acts) text) judge c
 
 -- The same, and whose its first acts are.
-abbrev pub IsJudgedBy : CheckOptions → Judged → CaptureLine → (shown : List Act) → List (Option Fault) → SeenState → Counts → Doer → Type 0
-IsJudgedBy o j l shown verdicts judge c who =
-    (so : IsJudgedSo o j l shown verdicts judge c) × (who ≡ doer_for o.node j.acts so.transfer)
+abbrev pub IsJudgedBy : CheckOptions → Judged → (number : ℕ) → CaptureLine → (shown : List Act) → List (Option Fault)
+    → SeenState → Counts → Doer → Type 0
+IsJudgedBy o j number l shown verdicts judge c who =
+    (so : IsJudgedSo o j number l shown verdicts judge c) × (who ≡ doer_for o.node j.acts so.transfer)
 
 -- The same, and what is printed of it.
 abbrev pub IsJudgedAs : CheckOptions → Judged → (number : ℕ) → CaptureLine → (shown : List Act) → List (Option Fault) → SeenState → Counts
     → (text : List ℕ) → Type 0
-IsJudgedAs o j number l shown verdicts judge c text = (so : IsJudgedSo o j l shown verdicts judge c)
-    × (text ≡ transfer_lines o number j.known judge.session.known j.acts so.transfer shown verdicts)
+IsJudgedAs o j number l shown verdicts judge c text = (so : IsJudgedSo o j number l shown verdicts judge c)
+    × (text ≡ transfer_lines o number j.past j.known judge.session.known j.acts so.transfer shown verdicts)
 
 -- What became of a line that says a transfer, and of the output.
 abbrev pub SaidEnds : {T : Type 0} → CheckOptions → Judged → (number : ℕ) → CaptureLine → SeenState → Counts → Result T Stop
     → (had has : Option (List ℕ)) → Type 0
 SaidEnds o j number l judge c (Ok done) had has = (shown : List Act) × (verdicts : List (Option Fault))
-    × (so : IsJudgedSo o j l shown verdicts judge c)
-    × Appends had has (transfer_lines o number j.known judge.session.known j.acts so.transfer shown verdicts)
+    × (so : IsJudgedSo o j number l shown verdicts judge c)
+    × Appends had has (transfer_lines o number j.past j.known judge.session.known j.acts so.transfer shown verdicts)
 SaidEnds o j number l judge c (Err stop.OutputRefused) had has = (shown : List Act) × (verdicts : List (Option Fault))
-    × (so : IsJudgedSo o j l shown verdicts judge c)
-    × AppendsSome had has (transfer_lines o number j.known judge.session.known j.acts so.transfer shown verdicts)
+    × (so : IsJudgedSo o j number l shown verdicts judge c)
+    × AppendsSome had has (transfer_lines o number j.past j.known judge.session.known j.acts so.transfer shown verdicts)
 SaidEnds o j number l judge c (Err stop.NoMemory) had has = Appends had has []
 SaidEnds o j number l judge c (Err other) had has = ⊥
 

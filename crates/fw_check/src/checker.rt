@@ -4,7 +4,8 @@ ghost use Rattle.std.specs.Prelude.{◌≡◌, ◌+◌, ◌++◌, ℕ, List, IfO
 ghost use Rattle.std.specs.Io.KnownBytes.{Appends, Keeps};
 ghost use Rattle.fw_check.specs.Checks.{Checks, Judged, nothing_judged};
 ghost use Rattle.fw_check.specs.Outputs.{AppendsSome};
-ghost use Rattle.fw_check.specs.Running.{AreLeft, IsJudgedAs, IsJudgedBy, IsKept, LineEnds, SaidEnds, seen_by};
+ghost use Rattle.fw_check.specs.Past.{remembered};
+ghost use Rattle.fw_check.specs.Running.{AreLeft, IsJudgedAs, IsJudgedBy, IsKept, LineEnds, SaidEnds, remembering, seen_by};
 ghost use Rattle.fw_check.specs.Summary.{line_time};
 
 use crate::asked::keep_asked;
@@ -15,6 +16,7 @@ use crate::life::{Doer, first_doer};
 use crate::names::{put_missing, put_removal};
 use crate::options::CheckOptions;
 use crate::output::{OutputRefused, write_text};
+use crate::past::{Trace, remember};
 use crate::remains::Remains;
 use crate::seen::{Seen, see_transfer};
 use crate::standing::{Standing, count_of_node, counted_nodes, nothing_stands, open_files};
@@ -25,6 +27,7 @@ use fuse_sessions::{Act, Fault};
 use joined_judge::start_judge;
 use name_judge::NameJudge;
 use std::alloc::{AllocError, Allocator, Global};
+use std::collections::VecDeque;
 use std::io::Write;
 
 /// What a check keeps of the lines before: what was seen, and the counts. The buffers are kept so that few lines take memory.
@@ -53,9 +56,10 @@ fn time_of(said: CaptureLine<'_>) -> Option<u64>
 }
 
 /// Judges the transfer that a line says, leaves out the faults that are not asked for, and counts it. Gives whose its
-/// first acts are, if the life of a node is asked for.
+/// first acts are, if the life of a node is asked for. Its traces are written, and not remembered yet.
 fn judge_said<A: Allocator + Copy>(
     options: CheckOptions,
+    number: u64,
     seen: &mut Seen<A>,
     counts: &mut Counts,
     frame: &mut Vec<u8, A>,
@@ -63,12 +67,14 @@ fn judge_said<A: Allocator + Copy>(
     verdicts: &mut Vec<Option<Fault>, A>,
     said: CaptureLine<'_>,
 ) -> Result<Doer, AllocError>
-    ensures { IfOk result (λ doer. (j : Judged) → IsKept j (seen_by seen.old) counts.old
-        → IsJudgedBy options j said.entry acts.new.items verdicts.new.items (seen_by seen.new) counts.new doer) }
+    ensures judged { IfOk result (λ doer. (j : Judged) (past : List Trace) → IsKept j (seen_by seen.old) counts.old
+        → past ≡ remembered (j.past ++ seen.new.traces.items)
+        → IsJudgedBy options j number said.entry acts.new.items verdicts.new.items (remembering past (seen_by seen.new)) counts.new doer) }
+    ensures past { seen.new.past.items ≡ seen.old.past.items }
 {
     let transfer = read_transfer(said, frame)?;
     let doer = first_doer(options.node, &seen.judge, transfer);
-    let is_missing = see_transfer(seen, options.is_joined, transfer, acts, verdicts)?;
+    let is_missing = see_transfer(seen, options.is_joined, number, transfer, acts, verdicts)?;
     note_exchange(
         options.is_summary,
         &mut seen.exchanges,
@@ -136,6 +142,8 @@ impl<A: Allocator + Copy> Checker<A> {
                 names: NameJudge::start(alloc, is_joined),
                 standing: nothing_stands(alloc),
                 exchanges: nothing_exchanged(alloc),
+                past: VecDeque::new(alloc),
+                traces: Vec::new(alloc),
             },
             counts: NOTHING,
             frame: Vec::new(alloc),
@@ -146,7 +154,7 @@ impl<A: Allocator + Copy> Checker<A> {
     }
 
     /// Judges the transfer that a line says, and makes the text of its acts, in the form that is asked for, and of why the
-    /// session is not judged any more.
+    /// session is not judged any more. Its traces are remembered behind those of the lines before.
     fn judge_line(
         &mut self,
         options: CheckOptions,
@@ -161,6 +169,7 @@ impl<A: Allocator + Copy> Checker<A> {
         let count = count_of_node(&self.seen.standing, options.node);
         let doer = judge_said(
             options,
+            number,
             &mut self.seen,
             &mut self.counts,
             &mut self.frame,
@@ -175,9 +184,11 @@ impl<A: Allocator + Copy> Checker<A> {
             number,
             count,
             doer,
+            &self.seen.past,
             self.acts.as_slice(),
             self.verdicts.as_slice(),
         )?;
+        remember(&mut self.seen.past, self.seen.traces.as_slice())?;
         let after = self.seen.judge.unjudged();
         put_leaving(&mut self.text, options.form, number, before, after)
     }

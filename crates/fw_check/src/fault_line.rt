@@ -5,6 +5,8 @@ ghost use Rattle.fuse_sessions.specs.Parties.{party_of};
 ghost use Rattle.fw_check.specs.FaultWords as words;
 
 use crate::act_words::put_act;
+use crate::past::Past;
+use crate::past_words::put_past;
 use crate::text::{put, put_counted};
 use crate::words::{fault_words, party_word};
 use fuse_sessions::{Act, Fault};
@@ -31,17 +33,19 @@ pub(crate) fn put_number_of_line<A: Allocator>(
     put(text, b": ")
 }
 
-/// The line of a fault.
+/// The line of a fault, with what is remembered of the lines before.
 pub(crate) fn put_fault_line<A: Allocator>(
     text: &mut Vec<u8, A>,
     number: u64,
+    past: &Past<A>,
     act: Act,
     fault: Fault,
 ) -> Result<(), AllocError>
-    ensures { OnOk result (text.new.items ≡ text.old.items ++ words.fault_line number act fault) }
+    ensures { OnOk result (text.new.items ≡ text.old.items ++ words.fault_line number past.now.items act fault) }
 {
     put_number_of_line(text, number)?;
     put_rule(text, fault)?;
     put_act(text, act)?;
+    put_past(text, past, act)?;
     put(text, b"\n")
 }

@@ -1,9 +1,10 @@
 //! What is printed in each form.
 
-ghost use Rattle.std.specs.Prelude.{◌≡◌, ◌++◌, OnOk};
+ghost use Rattle.std.specs.Prelude.{◌≡◌, ◌++◌, List, OnOk};
 ghost use Rattle.fuse_sessions.specs.Sessions.{Session};
 ghost use Rattle.fw_check.specs.Forms as words;
 ghost use Rattle.fw_check.specs.Life.{doer_for};
+ghost use Rattle.fw_check.specs.Past.{remembered};
 ghost use Rattle.fw_check.specs.Running.{verdict_text};
 ghost use Rattle.fw_check.specs.Standing.{IsCountOf};
 ghost use Rattle.fw_check.specs.Summary.{exchanges_of};
@@ -14,6 +15,7 @@ use crate::fault_line::put_fault_line;
 use crate::json::{put_counts_object, put_fault_object, put_unjudged_object};
 use crate::life::{Doer, put_life};
 use crate::options::{CheckForm, CheckOptions};
+use crate::past::{Past, Trace};
 use crate::remains::Remains;
 use crate::rows::put_table;
 use crate::unjudged::put_unjudged_line;
@@ -36,14 +38,15 @@ fn put_fault<A: Allocator>(
     text: &mut Vec<u8, A>,
     form: CheckForm,
     number: u64,
+    past: &Past<A>,
     act: Act,
     fault: Fault,
 ) -> Result<(), AllocError>
-    ensures { OnOk result (text.new.items ≡ text.old.items ++ words.fault_text form number act fault) }
+    ensures { OnOk result (text.new.items ≡ text.old.items ++ words.fault_text form number past.now.items act fault) }
 {
     match form {
-        CheckForm::Words => put_fault_line(text, number, act, fault),
-        CheckForm::Json => put_fault_object(text, number, act, fault),
+        CheckForm::Words => put_fault_line(text, number, past, act, fault),
+        CheckForm::Json => put_fault_object(text, number, past, act, fault),
     }
 }
 
@@ -52,13 +55,14 @@ fn put_verdict<A: Allocator>(
     text: &mut Vec<u8, A>,
     form: CheckForm,
     number: u64,
+    past: &Past<A>,
     act: Act,
     verdict: Option<Fault>,
 ) -> Result<(), AllocError>
-    ensures { OnOk result (text.new.items ≡ text.old.items ++ verdict_text form number act verdict) }
+    ensures { OnOk result (text.new.items ≡ text.old.items ++ verdict_text form number past.now.items act verdict) }
 {
     match verdict {
-        Some(fault) => put_fault(text, form, number, act, fault),
+        Some(fault) => put_fault(text, form, number, past, act, fault),
         None => Ok(()),
     }
 }
@@ -68,30 +72,35 @@ fn put_faults<A: Allocator>(
     text: &mut Vec<u8, A>,
     form: CheckForm,
     number: u64,
+    past: &Past<A>,
     acts: &[Act],
     verdicts: &[Option<Fault>],
 ) -> Result<(), AllocError>
-    ensures { OnOk result (text.new.items ≡ text.old.items ++ words.fault_lines form number acts.now verdicts.now) }
+    ensures { OnOk result (text.new.items
+        ≡ text.old.items ++ words.fault_lines form number past.now.items acts.now verdicts.now) }
 {
     for place in 0..acts.len().min(verdicts.len()) {
-        put_verdict(text, form, number, acts[place], verdicts[place])?;
+        put_verdict(text, form, number, past, acts[place], verdicts[place])?;
     }
     Ok(())
 }
 
-/// What is printed of a transfer's acts: their faults, or what they do to the node that is asked for, which is counted so
-/// often before, and whose they are at first. Nothing is, where the table of opcodes is asked for.
+/// What is printed of a transfer's acts: their faults, with what is remembered of the lines before, or what they do to the
+/// node that is asked for, which is counted so often before, and whose they are at first. Nothing is, where the table of
+/// opcodes is asked for.
 pub(crate) fn put_act_lines<A: Allocator>(
     text: &mut Vec<u8, A>,
     options: CheckOptions,
     number: u64,
     count: u64,
     first: Doer,
+    past: &Past<A>,
     acts: &[Act],
     verdicts: &[Option<Fault>],
 ) -> Result<(), AllocError>
-    ensures { OnOk result ((s : Session) (t : Transfer) → IsCountOf s options.node count → first ≡ doer_for options.node s t
-        → text.new.items ≡ text.old.items ++ words.act_lines options number s t acts.now verdicts.now) }
+    ensures { OnOk result ((s : Session) (t : Transfer) (all : List Trace) → IsCountOf s options.node count
+        → first ≡ doer_for options.node s t → past.now.items ≡ remembered all
+        → text.new.items ≡ text.old.items ++ words.act_lines options number all s t acts.now verdicts.now) }
 {
     match options.node {
         Some(node) => put_life(text, number, node, count, first, acts),
@@ -99,7 +108,7 @@ pub(crate) fn put_act_lines<A: Allocator>(
             if options.is_summary {
                 return Ok(());
             }
-            put_faults(text, options.form, number, acts, verdicts)
+            put_faults(text, options.form, number, past, acts, verdicts)
         }
     }
 }

@@ -7,6 +7,7 @@ ghost use Rattle.fw_check.specs.Json as words;
 ghost use Rattle.fw_check.specs.Unjudged.{unjudged_fields, unjudged_object};
 
 use crate::counts::Counts;
+use crate::past::{Past, PastDeed, Trace, last_of, topic_of};
 use crate::remains::Remains;
 use crate::text::{put, put_number, put_wide};
 use crate::unjudged::unjudged_words;
@@ -166,6 +167,88 @@ fn put_act<A: Allocator>(text: &mut Vec<u8, A>, act: Act) -> Result<(), AllocErr
     }
 }
 
+/// A request that was read at a line.
+fn put_read_at<A: Allocator>(
+    text: &mut Vec<u8, A>,
+    line: u64,
+    opcode: Option<Opcode>,
+) -> Result<(), AllocError>
+    ensures { OnOk result (text.new.items ≡ text.old.items
+        ++ (words.number_field (codes "read_line") line ++ words.opcode_field opcode)) }
+{
+    put_field(text, b"read_line", line)?;
+    match opcode {
+        Some(opcode) => put_text_field(text, b"read_opcode", opcode.name()),
+        None => Ok(()),
+    }
+}
+
+/// A node that was given at a line, the inode number of its file, and how often it was counted then.
+fn put_given_at<A: Allocator>(
+    text: &mut Vec<u8, A>,
+    line: u64,
+    ino: u64,
+    count: u64,
+) -> Result<(), AllocError>
+    ensures { OnOk result (text.new.items ≡ text.old.items ++ (words.number_field (codes "given_line") line
+        ++ words.number_field (codes "given_ino") ino ++ words.number_field (codes "given_count") count)) }
+{
+    put_field(text, b"given_line", line)?;
+    put_field(text, b"given_ino", ino)?;
+    put_field(text, b"given_count", count)
+}
+
+/// A node that was forgotten at a line, and how often it was counted then.
+fn put_forgotten_at<A: Allocator>(
+    text: &mut Vec<u8, A>,
+    line: u64,
+    count: u64,
+) -> Result<(), AllocError>
+    ensures { OnOk result (text.new.items ≡ text.old.items
+        ++ (words.number_field (codes "forgotten_line") line ++ words.number_field (codes "forgotten_count") count)) }
+{
+    put_field(text, b"forgotten_line", line)?;
+    put_field(text, b"forgotten_count", count)
+}
+
+/// What was done at a line, and how often its node was counted then.
+fn put_deed<A: Allocator>(
+    text: &mut Vec<u8, A>,
+    line: u64,
+    deed: PastDeed,
+    count: u64,
+) -> Result<(), AllocError>
+    ensures { OnOk result (text.new.items ≡ text.old.items ++ words.deed_fields line deed count) }
+{
+    match deed {
+        PastDeed::Read { opcode, .. } => put_read_at(text, line, opcode),
+        PastDeed::Answered { .. } => put_field(text, b"answered_line", line),
+        PastDeed::Given { ino, .. } => put_given_at(text, line, ino, count),
+        PastDeed::Forgotten { .. } => put_forgotten_at(text, line, count),
+        PastDeed::Opened(_) => put_field(text, b"opened_line", line),
+        PastDeed::Released(_) => put_field(text, b"released_line", line),
+    }
+}
+
+/// The same, of a trace.
+fn put_trace<A: Allocator>(text: &mut Vec<u8, A>, trace: Option<Trace>) -> Result<(), AllocError>
+    ensures { OnOk result (text.new.items ≡ text.old.items ++ words.trace_fields trace) }
+{
+    match trace {
+        Some(trace) => put_deed(text, trace.line, trace.deed, trace.count),
+        None => Ok(()),
+    }
+}
+
+/// What began last of what an act is about, and what ended last.
+fn put_past<A: Allocator>(text: &mut Vec<u8, A>, past: &Past<A>, act: Act) -> Result<(), AllocError>
+    ensures { OnOk result (text.new.items ≡ text.old.items ++ words.past_fields past.now.items act) }
+{
+    let topic = topic_of(act);
+    put_trace(text, last_of(false, topic, past))?;
+    put_trace(text, last_of(true, topic, past))
+}
+
 /// What the object of a fault begins with, or that of a warning.
 fn event_text(party: Party) -> &'static [u8]
     ensures { result.now ≡ words.event_text party }
@@ -194,19 +277,21 @@ fn put_rule<A: Allocator>(text: &mut Vec<u8, A>, fault: Fault) -> Result<(), All
     put_text_field(text, b"rule", fault_words(fault))
 }
 
-/// The object of a fault.
+/// The object of a fault, with what is remembered of the lines before.
 pub(crate) fn put_fault_object<A: Allocator>(
     text: &mut Vec<u8, A>,
     number: u64,
+    past: &Past<A>,
     act: Act,
     fault: Fault,
 ) -> Result<(), AllocError>
-    ensures { OnOk result (text.new.items ≡ text.old.items ++ words.fault_object number act fault) }
+    ensures { OnOk result (text.new.items ≡ text.old.items ++ words.fault_object number past.now.items act fault) }
 {
     put(text, event_text(fault.party()))?;
     put_field(text, b"line", number)?;
     put_rule(text, fault)?;
     put_act(text, act)?;
+    put_past(text, past, act)?;
     put(text, b"}\n")
 }
 

@@ -24,6 +24,8 @@ mod names;
 mod number_in;
 mod options;
 mod output;
+mod past;
+mod past_words;
 mod percentile;
 mod remains;
 mod rows;

@@ -59,30 +59,15 @@ pub(crate) fn nothing_stands<A: Allocator + Copy>(alloc: A) -> Standing<A>
 /// # Errors
 ///
 /// Out of memory.
-fn note_act<A: Allocator + Copy>(standing: &mut Standing<A>, act: Act) -> Result<(), AllocError>
+pub(crate) fn note_act<A: Allocator + Copy>(
+    standing: &mut Standing<A>,
+    act: Act,
+) -> Result<(), AllocError>
     ensures { OnOk result ((s : Session) → Stands s standing.old.nodes.entries standing.old.files.entries
         → Stands (s ++ act ∷ []) standing.new.nodes.entries standing.new.files.entries) }
 {
     note_step(&mut standing.nodes, node_step(act))?;
     note_step(&mut standing.files, file_step(act))
-}
-
-/// Writes down the next acts.
-///
-/// # Errors
-///
-/// Out of memory.
-pub(crate) fn note_acts<A: Allocator + Copy>(
-    standing: &mut Standing<A>,
-    acts: &[Act],
-) -> Result<(), AllocError>
-    ensures { OnOk result ((s : Session) → Stands s standing.old.nodes.entries standing.old.files.entries
-        → Stands (s ++ acts.now) standing.new.nodes.entries standing.new.files.entries) }
-{
-    for act in acts {
-        note_act(standing, *act)?;
-    }
-    Ok(())
 }
 
 /// How many nodes are counted.

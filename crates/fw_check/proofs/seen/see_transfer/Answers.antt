@@ -3,11 +3,12 @@ use Rattle.fuse_sessions.specs.declared.act.Act.{Act}
 use Rattle.fuse_sessions.specs.Frames.{AreActs}
 use Rattle.name_sessions.specs.NameFrames.{AreNamesAfter}
 use Rattle.name_judge.proofs.Results.{if_ok}
+use Rattle.fw_check.specs.Past.{traces_of}
 use Rattle.fw_check.specs.Standing.{Stands}
 use Rattle.fw_check.proofs.seen.see_transfer.Goals as goal
 
-pub returns : goal.returns
-returns g c = if_ok _ _ c.see_names.result (λ is_missing named j counts kept.
+pub returns-clause-seen : goal.returns-clause-seen
+returns-clause-seen g c = if_ok _ _ c.see_names.result (λ is_missing named j counts kept.
     let t = c.args.transfer in
     let known = c.see_as.new.judge.known in
     let acts = c.see_as.new.acts.items in
@@ -16,8 +17,8 @@ returns g c = if_ok _ _ c.see_names.result (λ is_missing named j counts kept.
     let files = c.note_acts.new.standing.files.entries in
     let seen = c.in_ok-see_as.ensures.judged kept.start j.transfers j.acts kept.seen in
     let are = subst (λ k. AreActs k j.acts t acts known) (sym kept.known) seen.are in
-    let stands = subst (λ (l : List Act). Stands (j.acts ++ l) nodes files) c.as_slice.ensures.value
-    (c.in_ok-note_acts.ensures j.acts kept.stands) in
+    let noted = c.in_ok-note_acts.ensures j.acts kept.stands in
+    let stands = subst (λ (l : List Act). Stands (j.acts ++ l) nodes files) c.as_slice.ensures.value noted.0 in
     let (after, removes, of_names) = named j.known known j.names j.acts
     (c.agreed-agreed.ensures ∙ ap (λ k. k.agreed) (sym kept.known))
     (c.unjudged-unjudged.ensures ∙ ap (λ k. k.unjudged) (sym kept.known)) kept.named
@@ -35,4 +36,5 @@ returns g c = if_ok _ _ c.see_names.result (λ is_missing named j counts kept.
       named = of_names;
       stands = stands;
       exchanges = kept.exchanges;
+      traced = noted.1 ∙ ap (traces_of c.args.number j.acts) c.as_slice.ensures.value;
     }) c.see_names.ensures
