@@ -24,6 +24,7 @@ use Rattle.fw_drive.specs.declared.line.DriveLine.{DriveLine}
 use Rattle.fw_drive.specs.declared.line.DriveLine.TheVariants as line
 use Rattle.fw_drive.specs.declared.source.NoLine.TheVariants as no_lines
 use Rattle.fw_drive.specs.declared.stop.Stop.{Stop}
+use Rattle.fw_drive.specs.declared.stop.Stop.TheVariants as stops
 use Rattle.fw_drive.proofs.Following.{failed, goes_drive, kept_before, none_goes, none_went, shows_nodes, then, weaker}
 use Rattle.fw_drive.proofs.LineRuns.{lines_on, mounts_not, note_follows, one_line, perhaps}
 use Rattle.fw_drive.proofs.Texts.{all_said}
@@ -227,6 +228,8 @@ halt_among A name only moves (halts.BadLine number fault) s had has fault_had fa
 halt_among A name only moves (halts.NoLine no_lines.CannotRead) s had has fault_had fault_has (is, same, said) = (1, omega arith, sym is)
 halt_among A name only moves (halts.NoLine no_lines.NoMemory) s had has fault_had fault_has (is, same, said) = (2, omega arith, sym is)
 halt_among A name only moves (halts.NoLine no_lines.OutputRefused) s had has fault_had fault_has (is, same, said) = (4, omega arith, sym is)
+halt_among A name only moves (halts.NoLine (no_lines.Refused refusal)) s had has fault_had fault_has (is, written, memory, rest) =
+    among_all s (stop_among (stops.Refused refusal) s is)
 halt_among A name only moves (halts.Stopped stop) s had has fault_had fault_has (is, written, memory, rest) = among_all s (stop_among stop s is)
 
 pub halt_at_3 : (A : Type 0) (name : List ℕ) (is_report_only : Bool) (moves : List (Move A)) (halt : Halt) (s : ℕ)
@@ -236,6 +239,7 @@ halt_at_3 A name only moves (halts.BadLine number fault) s had has fault_had fau
 halt_at_3 A name only moves (halts.NoLine no_lines.CannotRead) s had has fault_had fault_has (is, same, said) three = absurd (omega (arith, is, three))
 halt_at_3 A name only moves (halts.NoLine no_lines.NoMemory) s had has fault_had fault_has (is, same, said) three = said
 halt_at_3 A name only moves (halts.NoLine no_lines.OutputRefused) s had has fault_had fault_has (is, same, said) three = absurd (omega (arith, is, three))
+halt_at_3 A name only moves (halts.NoLine (no_lines.Refused refusal)) s had has fault_had fault_has (is, written, memory, rest) three = memory three
 halt_at_3 A name only moves (halts.Stopped stop) s had has fault_had fault_has (is, written, memory, rest) three = memory three
 
 pub halt_quiet : (A : Type 0) (name : List ℕ) (is_report_only : Bool) (moves : List (Move A)) (halt : Halt) (s : ℕ)
@@ -254,6 +258,10 @@ halt_quiet A name only moves (halts.NoLine no_lines.NoMemory) s had has fault_ha
 halt_quiet A name only moves (halts.NoLine no_lines.NoMemory) s had has fault_had fault_has (is, same, said) (inr (inr (inl h))) = absurd (omega (arith, is, h))
 halt_quiet A name only moves (halts.NoLine no_lines.NoMemory) s had has fault_had fault_has (is, same, said) (inr (inr (inr h))) = absurd (omega (arith, is, h))
 halt_quiet A name only moves (halts.NoLine no_lines.OutputRefused) s had has fault_had fault_has (is, same, said) run = said
+halt_quiet A name only moves (halts.NoLine (no_lines.Refused refusal)) s had has fault_had fault_has (is, written, memory, rest) (inl none) =
+    absurd (never_0 s (stop_among (stops.Refused refusal) s is) none)
+halt_quiet A name only moves (halts.NoLine (no_lines.Refused refusal)) s had has fault_had fault_has (is, written, memory, rest) (inr run) =
+    rest (or_6 s (stop_among (stops.Refused refusal) s is) run)
 halt_quiet A name only moves (halts.Stopped stop) s had has fault_had fault_has (is, written, memory, rest) (inl none) = absurd (never_0 s (stop_among stop s is) none)
 halt_quiet A name only moves (halts.Stopped stop) s had has fault_had fault_has (is, written, memory, rest) (inr run) =
     rest (or_6 s (stop_among stop s is) run)

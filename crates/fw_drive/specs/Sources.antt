@@ -16,6 +16,7 @@ use Rattle.fw_drive.specs.declared.halt.Halt.TheVariants as halts
 use Rattle.fw_drive.specs.declared.line.DriveLine.{DriveLine}
 use Rattle.fw_drive.specs.declared.source.NoLine.TheVariants as no_line
 use Rattle.fw_drive.specs.declared.stop.Stop.{Stop}
+use Rattle.fw_drive.specs.declared.stop.Stop.TheVariants as stops
 
 -- A source gave these lines. Where it failed, what it is then is not known.
 abbrev pub Gave : {S T : Type 0} → (S → S → List (List ℕ) → Type 0) → Result T Halt → (old new : S) → List (List ℕ) → Type 0
@@ -90,6 +91,14 @@ abbrev pub moves_to_end : (A : Type 0) {D : Type 0} (logs : D → D → List Tra
 moves_to_end A logs f before after had has old new (Ok _) lines (said, say, ran) = ran.moves
 moves_to_end A logs f before after had has old new (Err halt) lines runs = []
 
+-- What is said of a run that came to its end before its source, and its exit status.
+abbrev pub EndsStopped : (A : Type 0) → Stop → (status : ℕ) → (had has fault_had fault_has : Option (List ℕ)) → Type 0
+EndsStopped A stop status had has fault_had fault_has =
+    let r : Result (Unit {0}) Stop = Err stop in
+    IsStopStatus stop status × SaysStop A r status had has
+    × (status ≡ 3 → AppendsSome fault_had fault_has (codes "no memory\n"))
+    × ((status ≡ 4) ⊎ (status ≡ 5) → fault_has ≡ fault_had)
+
 -- What is said of the end of a run, and its exit status.
 abbrev pub EndsRun : (A : Type 0) → (name : List ℕ) → (is_report_only : Bool) → List (Move A) → Result (Unit {0}) Halt
     → (status : ℕ) → (had has fault_had fault_has : Option (List ℕ)) → Type 0
@@ -103,11 +112,10 @@ EndsRun A name is_report_only moves (Err (halts.NoLine no_line.NoMemory)) status
     (status ≡ 3) × (has ≡ had) × AppendsSome fault_had fault_has (codes "no memory\n")
 EndsRun A name is_report_only moves (Err (halts.NoLine no_line.OutputRefused)) status had has fault_had fault_has =
     (status ≡ 5) × (has ≡ had) × (fault_has ≡ fault_had)
+EndsRun A name is_report_only moves (Err (halts.NoLine (no_line.Refused refusal))) status had has fault_had fault_has =
+    EndsStopped A (stops.Refused refusal) status had has fault_had fault_has
 EndsRun A name is_report_only moves (Err (halts.Stopped stop)) status had has fault_had fault_has =
-    let r : Result (Unit {0}) Stop = Err stop in
-    IsStopStatus stop status × SaysStop A r status had has
-    × (status ≡ 3 → AppendsSome fault_had fault_has (codes "no memory\n"))
-    × ((status ≡ 4) ⊎ (status ≡ 5) → fault_has ≡ fault_had)
+    EndsStopped A stop status had has fault_had fault_has
 
 -- Lines are run on a first kernel as their source gives them, in their order: all of them where the status is 0 or 6.
 pub record RunsSource (A : Type 0) {D S : Type 0} (logs : D → D → List Transfer → Type 0)

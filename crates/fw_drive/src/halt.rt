@@ -37,6 +37,9 @@ impl Halt {
             Halt::NoLine(NoLine::CannotRead) => cannot_read(name, faults),
             Halt::NoLine(NoLine::NoMemory) => no_memory(faults),
             Halt::NoLine(NoLine::OutputRefused) => 5,
+            Halt::NoLine(NoLine::Refused(refusal)) => {
+                Stop::Refused(refusal).report::<A, W, F>(out, faults)
+            }
             Halt::Stopped(stop) => stop.report::<A, W, F>(out, faults),
         }
     }
