@@ -1,8 +1,8 @@
 -- How the moves of a driven run follow one another.
-use Rattle.std.proofs.Common.{codes, ◌≡◌, ◌<◌, ◌≤◌, ◌⊎◌, Bool, true, false, not, cond, arith, inl, inr, length, slice_get, nat_eq, eq-eqb, filter, lit≤, ℕ, List, [], ◌∷◌, ◌++◌, None, Some, refl, sym, ap, subst, ◌∙◌, append-nil, append_assoc}
+use Rattle.std.proofs.Common.{codes, ◌≡◌, ◌<◌, ◌≤◌, ◌⊎◌, ◌||◌, Bool, true, false, not, cond, arith, length, slice_get, nat_eq, eq-eqb, filter, lit≤, ℕ, List, [], ◌∷◌, ◌++◌, None, Some, refl, sym, ap, subst, ◌∙◌, append-nil, append_assoc}
 use Rattle.std.specs.Prelude.{All, IfErr, Option, Result, Ok, Err, OnOk}
 use Rattle.std.specs.Io.KnownBytes.{Appends, Keeps as KeepsContents}
-use Rattle.std.proofs.lemmas.List.Elements.{All-append, All-cons, All-nil, All-push, All-weaker}
+use Rattle.std.proofs.lemmas.List.Elements.{All-append, All-cons, All-nil, All-weaker}
 use Rattle.fuse_spec.specs.declared.Refusal.{Refusal}
 use Rattle.fuse_spec.specs.Kernel.Kernel.{Kernel}
 use Rattle.fuse_spec.specs.Values.Maps.{Map, remove}
@@ -11,7 +11,6 @@ use Rattle.fuse_device.specs.Transfers.{Transfer}
 use Rattle.fk_drive.specs.Driving.{Driven, DriveStep, Drives, DrivesOver, Runs, Turn, alone, first_driven, idle, next, nothing, waits, sets_aside, ends}
 use Rattle.fk_drive.specs.KernelSteps.{ActsAlone, gives_answer}
 use Rattle.fk_drive.specs.Steps.{IsReceiving, ReceiveStep}
-use Rattle.fk_drive.specs.Receiving.{ReceivesUntil}
 use Rattle.fk_drive.specs.declared.end.DriveEnd.{DriveEnd}
 use Rattle.fk_drive.specs.declared.end.NotSent.TheVariants.{Refused, Ended}
 use Rattle.fk_drive.proofs.Drivings.{drives_on, one_step}
@@ -22,11 +21,12 @@ use Rattle.fw_world.specs.Values.{counted_nodes}
 use Rattle.fw_world.specs.declared.event.Event.{Event}
 use Rattle.fw_world.specs.declared.event.Outcome.{Outcome}
 use Rattle.fw_drive.specs.Acts.{Acts}
-use Rattle.fw_drive.specs.LineMoves.{FirstThen, IsCollected, IsMoveOf, LinesMoveAs, Perhaps, all_lines, first_move}
+use Rattle.fw_drive.specs.Findings.{Tells, Told, end_status, is_any_move_wrong, is_any_wrong, is_wrong_move}
+use Rattle.fw_drive.specs.LineMoves.{FirstThen, IsCollected, IsMoveOf, LinesMoveAs, all_lines, first_move}
 use Rattle.fw_drive.specs.Moves.{GoOn, IsDue, IsNote, IsSettled, Move, Moves, MovesOn, acts, sends, writes, collects, shows, notes, end_of, no_move, next_move}
 use Rattle.fw_drive.specs.Notes.{Note, notes_text}
 use Rattle.fw_drive.specs.Printed.{Gets, GetsAt, IsLineOf, IsTextOf, next_text, no_text}
-use Rattle.fw_drive.specs.Runs.{Collects, EndsAs, Goes, GoesAlone, IsOwnStop, IsUnprinted, Keeps, IsStatusOf, NothingOver, RunsScript, SaysStop, StopsAt, at, by_itself, at_end, stop_of}
+use Rattle.fw_drive.specs.Runs.{Collects, EndsAs, Goes, GoesAlone, IsOwnStop, IsUnprinted, Keeps, IsStatusOf, IsStopStatus, NothingOver, RunsScript, SaysStop, StopsAt, at, by_itself, at_end, stop_of}
 use Rattle.fw_script.specs.Scripts.{lines_of}
 use Rattle.fw_drive.specs.Judging.{Say}
 use Rattle.fw_drive.specs.declared.form.Form.{Form}
@@ -35,7 +35,8 @@ use Rattle.fw_drive.specs.declared.line.DriveLine.TheVariants as line
 use Rattle.fw_drive.specs.declared.stop.Stop.{Stop}
 use Rattle.fw_script.proofs.Writes.{Appends-Keeps, Appends-append, Appends-nil}
 use Rattle.fw_drive.proofs.ActsAlone.{acts_alone}
-use Rattle.fw_drive.proofs.Texts.{after_said, all_said, gets_all, gets_all_at, gets_none, gets_then, own_result, own_stop, said_collected, said_goes, said_moves, text_on, text_said}
+use Rattle.fw_drive.proofs.Texts.{after_said, all_said, gets_all, gets_all_at, gets_then, moves_tell, one_wrong_then, or_false, own_result, said_collected, said_goes, said_moves, said_wrong, said_wrong_then, tells_nothing, tells_then, text_on, text_said, told_given}
+use Rattle.fw_drive.specs.PrintingLaws.{or_assoc}
 
 -- the kernel did something without its server
 alone_drives : (old new : Driven) (k : Kernel) (log : List Transfer) → log ≡ [] → ActsAlone old.kernel k
@@ -150,12 +151,12 @@ said_on driver (note ∷ said) =
 
 -- a part of a call, which did not fail
 abbrev pub Went : (A : Type 0) {D : Type 0} → (D → D → List Transfer → Type 0) → Form → D → D
-    → (had has : Option (List ℕ)) → Driven → Driven → (List (Move A) → Type 0) → Type 0
+    → (had has : Told) → Driven → Driven → (List (Move A) → Type 0) → Type 0
 Went A logs f d e had has old new P = let r : Result (Unit {0}) Stop = Ok tt in Goes A logs f d e had has old new r P
 
 module _ (A : Type 0) {D : Type 0} (logs : D → D → List Transfer → Type 0) (f : Form) where
   -- the same call, of whose moves less is said
-  pub weaker : {T : Type 0} (d e : D) (had has : Option (List ℕ)) (old new : Driven) (r : Result T Stop)
+  pub weaker : {T : Type 0} (d e : D) (had has : Told) (old new : Driven) (r : Result T Stop)
       (P Q : List (Move A) → Type 0) → Goes A logs f d e had has old new r P → ((m : List (Move A)) → P m → Q m)
       → Goes A logs f d e had has old new r Q
   weaker d e had has old new r P Q one less = record {
@@ -171,10 +172,11 @@ module _ (A : Type 0) {D : Type 0} (logs : D → D → List Transfer → Type 0)
     text = one.text;
     lines = one.lines;
     printed = one.printed;
+    told = one.told;
   }
 
   -- what a call gave is given otherwise, or not at all
-  pub given : {T U : Type 0} (d e : D) (had has : Option (List ℕ)) (old new : Driven) (x : T) (r : Result U Stop)
+  pub given : {T U : Type 0} (d e : D) (had has : Told) (old new : Driven) (x : T) (r : Result U Stop)
       → IfErr r IsOwnStop → (P Q : List (Move A) → Type 0) → Goes A logs f d e had has old new (Ok x) P
       → ((m : List (Move A)) → P m → Q m) → Goes A logs f d e had has old new r Q
   given d e had has old new x r own P Q one less = record {
@@ -189,14 +191,15 @@ module _ (A : Type 0) {D : Type 0} (logs : D → D → List Transfer → Type 0)
     on = one.on;
     text = one.text;
     lines = one.lines;
-    printed = gets_all r had has one.text one.printed;
+    printed = gets_all r had.0 has.0 one.text one.printed;
+    told = told_given r had.1 has.1 (is_any_move_wrong one.moves) one.told;
   }
 
   -- what was printed before was handed on first
-  pub kept_before : {T : Type 0} (d e : D) (had mid has : Option (List ℕ)) (old new : Driven) (r : Result T Stop)
-      (P : List (Move A) → Type 0) → KeepsContents had mid → Goes A logs f d e mid has old new r P
-      → Goes A logs f d e had has old new r P
-  kept_before d e had mid has old new r P keeps one = record {
+  pub kept_before : {T : Type 0} (d e : D) (had mid : Option (List ℕ)) (told : Bool) (has : Told) (old new : Driven)
+      (r : Result T Stop) (P : List (Move A) → Type 0) → KeepsContents had mid
+      → Goes A logs f d e (mid, told) has old new r P → Goes A logs f d e (had, told) has old new r P
+  kept_before d e had mid told has old new r P keeps one = record {
     moves = one.moves;
     are = one.are;
     ends = one.ends;
@@ -208,14 +211,16 @@ module _ (A : Type 0) {D : Type 0} (logs : D → D → List Transfer → Type 0)
     on = one.on;
     text = one.text;
     lines = one.lines;
-    printed = gets_then r had mid has [] one.text (Appends-Keeps had had mid [] (Appends-nil had) keeps) one.printed;
+    printed = gets_then r had mid has.0 [] one.text (Appends-Keeps had had mid [] (Appends-nil had) keeps) one.printed;
+    told = one.told;
   }
 
   -- what was printed was handed on
-  pub handed_on : {T U : Type 0} (d e : D) (had mid has : Option (List ℕ)) (old new : Driven) (x : T) (r : Result U Stop)
-      → IfErr r IsOwnStop → (P Q : List (Move A) → Type 0) → Goes A logs f d e had mid old new (Ok x) P
-      → KeepsContents mid has → ((m : List (Move A)) → P m → Q m) → Goes A logs f d e had has old new r Q
-  handed_on d e had mid has old new x r own P Q one keeps less = record {
+  pub handed_on : {T U : Type 0} (d e : D) (had : Told) (mid has : Option (List ℕ)) (told : Bool) (old new : Driven) (x : T)
+      (r : Result U Stop) → IfErr r IsOwnStop → (P Q : List (Move A) → Type 0)
+      → Goes A logs f d e had (mid, told) old new (Ok x) P → KeepsContents mid has → ((m : List (Move A)) → P m → Q m)
+      → Goes A logs f d e had (has, told) old new r Q
+  handed_on d e had mid has told old new x r own P Q one keeps less = record {
     moves = one.moves;
     are = less one.moves one.are;
     ends = went r one.moves own one.ends;
@@ -227,11 +232,12 @@ module _ (A : Type 0) {D : Type 0} (logs : D → D → List Transfer → Type 0)
     on = one.on;
     text = one.text;
     lines = one.lines;
-    printed = gets_all r had has one.text (Appends-Keeps had mid has one.text one.printed keeps);
+    printed = gets_all r had.0 has one.text (Appends-Keeps had.0 mid has one.text one.printed keeps);
+    told = told_given r had.1 told (is_any_move_wrong one.moves) one.told;
   }
 
   -- a call failed, and the one that made it
-  pub failed : {T U : Type 0} (d e : D) (had has : Option (List ℕ)) (old new : Driven) (stop : Stop)
+  pub failed : {T U : Type 0} (d e : D) (had has : Told) (old new : Driven) (stop : Stop)
       (P Q : List (Move A) → Type 0) → Goes A {T = T} logs f d e had has old new (Err stop) P
       → ((m : List (Move A)) → P m → Q m) → Goes A {T = U} logs f d e had has old new (Err stop) Q
   failed d e had has old new stop P Q one less = record {
@@ -247,15 +253,17 @@ module _ (A : Type 0) {D : Type 0} (logs : D → D → List Transfer → Type 0)
     text = one.text;
     lines = one.lines;
     printed = one.printed;
+    told = tt;
   }
 
   -- one move was made, before which something was said
-  pub one_goes : {T : Type 0} (d e : D) (had has : Option (List ℕ)) (old new : Driven) (turn : Turn)
+  pub one_goes : {T : Type 0} (d e : D) (had has : Told) (old new : Driven) (turn : Turn)
       (said : List (Note A)) (move : Move A) (line : List ℕ) → IsLineOf f move line → (log : List Transfer)
       (First Rest : Move A → Type 0) → First move → logs d e log → Moves (at old idle) move log (at new turn)
       → (r : Result T Stop) → EndsAs r (move ∷ []) → OnOk r (turn ≡ idle) → (IsSettled old → OnOk r (IsSettled new))
-      → Gets r had has (notes_text said ++ line) → Goes A logs f d e had has old new r (FirstThen First Rest)
-  one_goes d e had has old new turn said move line is log First Rest first over moves r came between settled printed = record {
+      → Gets r had.0 has.0 (notes_text said ++ line) → is_wrong_move move ≡ false → Tells r had.1 has.1 (is_any_wrong said)
+      → Goes A logs f d e had has old new r (FirstThen First Rest)
+  one_goes d e had has old new turn said move line is log First Rest first over moves r came between settled printed right told = record {
     moves = said_moves said ++ move ∷ [];
     are = after_said First Rest said (move ∷ []) (first_move move first [] (All-nil Rest));
     ends = ends_then (said_moves said) (move ∷ []) r (said_goes said) came;
@@ -272,17 +280,22 @@ module _ (A : Type 0) {D : Type 0} (logs : D → D → List Transfer → Type 0)
         text_on f (said_moves said) (move ∷ []) (notes_text said) (line ++ []) (text_said f said)
         (next_text move line is [] [] no_text);
     printed =
-        subst (λ (l : List ℕ). Gets r had has (notes_text said ++ l)) (sym (append-nil line)) printed;
+        subst (λ (l : List ℕ). Gets r had.0 has.0 (notes_text said ++ l)) (sym (append-nil line)) printed;
+    told =
+        subst (λ (any : Bool). Tells r had.1 has.1 any)
+        (sym (one_wrong_then said move [] right ∙ or_false (is_any_wrong said))) told;
   }
 
   -- one was made between requests, and others that do nothing with the device
-  pub several : {T : Type 0} (d e : D) (had has : Option (List ℕ)) (old mid new : Driven) (said : List (Note A))
+  pub several : {T : Type 0} (d e : D) (had has : Told) (old mid new : Driven) (said : List (Note A))
       (move : Move A) (line : List ℕ) → IsLineOf f move line → (log : List Transfer) (First Rest : Move A → Type 0)
       → First move → logs d e log → Moves (at old idle) move log (at mid idle) → (more : List (Move A)) → All Rest more
       → MovesOn (at mid idle) more [] (at new idle) → (text : List ℕ) → IsTextOf f more text → (r : Result T Stop)
       → EndsAs r (move ∷ more) → (IsSettled old → OnOk r (IsSettled new))
-      → Gets r had has (notes_text said ++ (line ++ text)) → Goes A logs f d e had has old new r (FirstThen First Rest)
-  several d e had has old mid new said move line is log First Rest first over moves more are on text lines r came settled printed = record {
+      → Gets r had.0 has.0 (notes_text said ++ (line ++ text)) → is_wrong_move move ≡ false
+      → Tells r had.1 has.1 (is_any_wrong said || is_any_move_wrong more)
+      → Goes A logs f d e had has old new r (FirstThen First Rest)
+  several d e had has old mid new said move line is log First Rest first over moves more are on text lines r came settled printed right told = record {
     moves = said_moves said ++ move ∷ more;
     are = after_said First Rest said (move ∷ more) (first_move move first more are);
     ends = ends_then (said_moves said) (move ∷ more) r (said_goes said) came;
@@ -301,13 +314,14 @@ module _ (A : Type 0) {D : Type 0} (logs : D → D → List Transfer → Type 0)
         text_on f (said_moves said) (move ∷ more) (notes_text said) (line ++ text) (text_said f said)
         (next_text move line is more text lines);
     printed = printed;
+    told = subst (λ (any : Bool). Tells r had.1 has.1 any) (sym (one_wrong_then said move more right)) told;
   }
 
 module _ (A : Type 0) {D : Type 0} (logs : D → D → List Transfer → Type 0)
     (goes_on : (first mid last : D) (h k : List Transfer) → logs first mid h → logs mid last k → logs first last (h ++ k))
     (f : Form) where
   -- one call after another
-  pub then : {T U : Type 0} (d e g : D) (had got has : Option (List ℕ)) (old mid new : Driven) (x : T) (r : Result U Stop)
+  pub then : {T U : Type 0} (d e g : D) (had got has : Told) (old mid new : Driven) (x : T) (r : Result U Stop)
       (P Q S : List (Move A) → Type 0) → Goes A logs f d e had got old mid (Ok x) P
       → Goes A logs f e g got has mid new r Q → ((m n : List (Move A)) → P m → Q n → S (m ++ n))
       → Goes A logs f d g had has old new r S
@@ -326,29 +340,31 @@ module _ (A : Type 0) {D : Type 0} (logs : D → D → List Transfer → Type 0)
         (two.on (one.settled is));
     text = one.text ++ two.text;
     lines = text_on f one.moves two.moves one.text two.text one.lines two.lines;
-    printed = gets_then r had got has one.text two.text one.printed two.printed;
+    printed = gets_then r had.0 got.0 has.0 one.text two.text one.printed two.printed;
+    told = moves_tell r had.1 got.1 has.1 one.moves two.moves one.told two.told;
   }
 
 module _ (A : Type 0) {D : Type 0} (logs : D → D → List Transfer → Type 0) (f : Form) where
   -- one was made, and then answers were collected
-  pub collects_behind : {T : Type 0} (d e : D) (had has : Option (List ℕ)) (old mid new : Driven) (turn : Turn)
+  pub collects_behind : {T : Type 0} (d e : D) (had has : Told) (old mid new : Driven) (turn : Turn)
       (said : List (Note A)) (move : Move A) (line : List ℕ) → IsLineOf f move line → (log : List Transfer)
-      (First : Move A → Type 0) → First move → end_of move ≡ None → logs d e log
+      (First : Move A → Type 0) → First move → end_of move ≡ None → is_wrong_move move ≡ false → logs d e log
       → Moves (at old idle) move log (at mid turn) → turn ≡ idle → (r : Result T Stop)
-      → Collects A f (notes_text said ++ line) had has mid new r
+      → Collects A f (notes_text said ++ line) (is_any_wrong said) had has mid new r
       → Goes A logs f d e had has old new r (FirstThen First IsCollected)
-  collects_behind d e had has old mid new turn said move line says log First first none over moves is r more =
+  collects_behind d e had has old mid new turn said move line says log First first none right over moves is r more =
       several A logs f d e had has old mid new said move line says log First IsCollected first over
       (subst (λ (t : Turn). Moves (at old idle) move log (at mid t)) is moves) more.moves more.are more.on more.text
       more.lines r
       (went r (move ∷ more.moves) (own_result r more.own)
       (All-cons (λ move. end_of move ≡ None) move more.moves none (collected_go more.moves more.are)))
       (λ waits. more.settled)
-      (subst (λ (l : List ℕ). Gets r had has l) (append_assoc (notes_text said) line more.text) more.printed)
+      (subst (λ (l : List ℕ). Gets r had.0 has.0 l) (append_assoc (notes_text said) line more.text) more.printed) right
+      more.told
 
 module _ (A : Type 0) {D : Type 0} (logs : D → D → List Transfer → Type 0) (stays : (d : D) → logs d d []) (f : Form) where
   -- nothing was done
-  pub none_goes : {T : Type 0} (d : D) (had : Option (List ℕ)) (driver : Driven) (r : Result T Stop) → IfErr r IsOwnStop
+  pub none_goes : {T : Type 0} (d : D) (had : Told) (driver : Driven) (r : Result T Stop) → IfErr r IsOwnStop
       → (P : List (Move A) → Type 0) → P [] → Goes A logs f d d had had driver driver r P
   none_goes d had driver r own P are = record {
     moves = [];
@@ -362,12 +378,14 @@ module _ (A : Type 0) {D : Type 0} (logs : D → D → List Transfer → Type 0)
     on = λ is. no_move;
     text = [];
     lines = no_text;
-    printed = gets_all r had had [] (Appends-nil had);
+    printed = gets_all r had.0 had.0 [] (Appends-nil had.0);
+    told = tells_nothing r had.1;
   }
 
   -- nothing more was printed
-  pub unprinted : {T : Type 0} (d : D) (had has : Option (List ℕ)) (driver : Driven) (s : Stop) → IsOwnStop s
-      → KeepsContents had has → (P : List (Move A) → Type 0) → P [] → Goes A {T = T} logs f d d had has driver driver (Err s) P
+  pub unprinted : {T : Type 0} (d : D) (had has : Told) (driver : Driven) (s : Stop) → IsOwnStop s
+      → KeepsContents had.0 has.0 → (P : List (Move A) → Type 0) → P []
+      → Goes A {T = T} logs f d d had has driver driver (Err s) P
   unprinted d had has driver s own keeps P are = record {
     moves = [];
     are = are;
@@ -380,11 +398,12 @@ module _ (A : Type 0) {D : Type 0} (logs : D → D → List Transfer → Type 0)
     on = λ is. no_move;
     text = [];
     lines = no_text;
-    printed = gets_all_at s had has [] (Appends-Keeps had had has [] (Appends-nil had) keeps);
+    printed = gets_all_at s had.0 has.0 [] (Appends-Keeps had.0 had.0 has.0 [] (Appends-nil had.0) keeps);
+    told = tt;
   }
 
   -- what was done with no device
-  pub lifts : {T : Type 0} (d : D) (had has : Option (List ℕ)) (old new : Driven) (r : Result T Stop)
+  pub lifts : {T : Type 0} (d : D) (had has : Told) (old new : Driven) (r : Result T Stop)
       (P : List (Move A) → Type 0) → GoesAlone A f had has old new r P → Goes A logs f d d had has old new r P
   lifts d had has old new r P one = record {
     moves = one.moves;
@@ -399,24 +418,26 @@ module _ (A : Type 0) {D : Type 0} (logs : D → D → List Transfer → Type 0)
     text = one.text;
     lines = one.lines;
     printed = one.printed;
+    told = one.told;
   }
 
-  pub none_went : (d : D) (had : Option (List ℕ)) (driver : Driven) (P : List (Move A) → Type 0) → P []
+  pub none_went : (d : D) (had : Told) (driver : Driven) (P : List (Move A) → Type 0) → P []
       → Went A logs f d d had had driver driver P
   none_went d had driver P are = none_goes d had driver (Ok tt) tt P are
 
-  -- the nodes were shown, and something was said, or printing failed
-  pub shows_nodes : {T : Type 0} (d : D) (had has : Option (List ℕ)) (driver : Driven) (r : Result T Stop)
+  -- the nodes were shown, and something was said, but nothing wrong, or printing failed
+  pub shows_nodes : {T : Type 0} (d : D) (had has : Option (List ℕ)) (told : Bool) (driver : Driven) (r : Result T Stop)
       → IfErr r IsUnprinted → (Rest : Move A → Type 0) (said : List (Note A)) → All Rest (said_moves said)
       → Gets r had has (nodes_text (codes "kernel") (counted_nodes driver.kernel.nodes) ++ notes_text said)
-      → Goes A logs f d d had has driver driver r (FirstThen (IsMoveOf line.Show) Rest)
-  shows_nodes d had has driver r own Rest said rest printed =
-      several A logs f d d had has driver driver driver [] (shows (counted_nodes driver.kernel.nodes))
+      → is_any_wrong said ≡ false → Goes A logs f d d (had, told) (has, told) driver driver r (FirstThen (IsMoveOf line.Show) Rest)
+  shows_nodes d had has told driver r own Rest said rest printed right =
+      several A logs f d d (had, told) (has, told) driver driver driver [] (shows (counted_nodes driver.kernel.nodes))
       (nodes_text (codes "kernel") (counted_nodes driver.kernel.nodes)) refl [] (IsMoveOf line.Show) Rest tt (stays d)
       (refl, refl, refl) (said_moves said) rest (said_on driver said) (notes_text said) (text_said f said) r
       (went r (shows (counted_nodes driver.kernel.nodes) ∷ said_moves said) (own_result r own)
       (All-cons (λ move. end_of move ≡ None) (shows (counted_nodes driver.kernel.nodes)) (said_moves said) refl (said_goes said)))
-      (λ is. on_any r (IsSettled driver) is) printed
+      (λ is. on_any r (IsSettled driver) is) printed refl
+      (subst (λ (any : Bool). Tells r told told any) (sym (said_wrong said ∙ right)) (tells_nothing r told))
 
 -- ---- what is done with no device
 
@@ -427,7 +448,7 @@ pub nothing_stays : (a : Unit {0}) → NothingOver a a []
 nothing_stays a = refl
 
 -- what is driven stayed the same before it
-pub kept_alone : (A : Type 0) (f : Form) {T : Type 0} (had has : Option (List ℕ)) (old mid new : Driven)
+pub kept_alone : (A : Type 0) (f : Form) {T : Type 0} (had has : Told) (old mid new : Driven)
     (r : Result T Stop) (P : List (Move A) → Type 0) → Keeps old mid → GoesAlone A f had has mid new r P
     → GoesAlone A f had has old new r P
 kept_alone A f had has old mid new r P keeps one =
@@ -444,6 +465,7 @@ kept_alone A f had has old mid new r P keeps one =
       text = one.text;
       lines = one.lines;
       printed = one.printed;
+      told = one.told;
     }
 
 -- an event happened
@@ -464,10 +486,10 @@ one_went r move own none =
     went r (move ∷ []) own (All-cons (λ move. end_of move ≡ None) move [] none (All-nil (λ move. end_of move ≡ None)))
 
 -- something was said behind what was printed first, and nothing was collected, as something failed
-pub said_alone : {A T : Type 0} (f : Form) (first : List ℕ) (had has : Option (List ℕ)) (driver : Driven) (stop : Stop)
-    → IsUnprinted stop → (said : List (Note A)) → GetsAt stop had has (first ++ notes_text said)
-    → Collects A {T = T} f first had has driver driver (Err stop)
-said_alone f first had has driver stop own said printed = record {
+pub said_alone : {A T : Type 0} (f : Form) (first : List ℕ) (is_first : Bool) (had has : Told) (driver : Driven) (stop : Stop)
+    → IsUnprinted stop → (said : List (Note A)) → GetsAt stop had.0 has.0 (first ++ notes_text said)
+    → Collects A {T = T} f first is_first had has driver driver (Err stop)
+said_alone f first is_first had has driver stop own said printed = record {
   moves = said_moves said;
   are = said_collected said;
   own = own;
@@ -476,34 +498,38 @@ said_alone f first had has driver stop own said printed = record {
   text = notes_text said;
   lines = text_said f said;
   printed = printed;
+  told = tt;
 }
 
 -- nothing was collected, as something failed
-pub none_collected : {A T : Type 0} (f : Form) (first : List ℕ) (had has : Option (List ℕ)) (driver : Driven) (stop : Stop)
-    → IsUnprinted stop → GetsAt stop had has first → Collects A {T = T} f first had has driver driver (Err stop)
-none_collected f first had has driver stop own printed =
-    said_alone f first had has driver stop own []
-    (subst (λ (l : List ℕ). GetsAt stop had has l) (sym (append-nil first)) printed)
+pub none_collected : {A T : Type 0} (f : Form) (first : List ℕ) (is_first : Bool) (had has : Told) (driver : Driven)
+    (stop : Stop) → IsUnprinted stop → GetsAt stop had.0 has.0 first
+    → Collects A {T = T} f first is_first had has driver driver (Err stop)
+none_collected f first is_first had has driver stop own printed =
+    said_alone f first is_first had has driver stop own []
+    (subst (λ (l : List ℕ). GetsAt stop had.0 has.0 l) (sym (append-nil first)) printed)
 
 -- answers were collected, and another result is given
-pub collects_given : {A T U : Type 0} (f : Form) (first : List ℕ) (had mid has : Option (List ℕ)) (old new : Driven)
-    (x : T) (y : U) → Appends had mid first → Collects A f [] mid has old new (Ok x)
-    → Collects A f first had has old new (Ok y)
-collects_given f first had mid has old new x y before one = record {
-  moves = one.moves;
-  are = one.are;
-  own = tt;
-  settled = one.settled;
-  on = one.on;
-  text = one.text;
-  lines = one.lines;
-  printed = Appends-append had mid has first one.text before one.printed;
-}
+pub collects_given : {A T U : Type 0} (f : Form) (first : List ℕ) (is_first : Bool) (had mid has : Told) (old new : Driven)
+    (x : T) (y : U) → Appends had.0 mid.0 first → mid.1 ≡ (had.1 || is_first)
+    → Collects A f [] false mid has old new (Ok x) → Collects A f first is_first had has old new (Ok y)
+collects_given {U} f first is_first had mid has old new x y before told one =
+    let r : Result U Stop = Ok y in record {
+      moves = one.moves;
+      are = one.are;
+      own = tt;
+      settled = one.settled;
+      on = one.on;
+      text = one.text;
+      lines = one.lines;
+      printed = Appends-append had.0 mid.0 has.0 first one.text before one.printed;
+      told = tells_then r had.1 mid.1 has.1 is_first (is_any_move_wrong one.moves) told one.told;
+    }
 
-pub collects_failed : {A T U : Type 0} (f : Form) (first : List ℕ) (had mid has : Option (List ℕ)) (old new : Driven)
-    (stop : Stop) → Appends had mid first → Collects A {T = T} f [] mid has old new (Err stop)
-    → Collects A {T = U} f first had has old new (Err stop)
-collects_failed {A} {T} f first had mid has old new stop before one =
+pub collects_failed : {A T U : Type 0} (f : Form) (first : List ℕ) (is_first : Bool) (had mid has : Told) (old new : Driven)
+    (stop : Stop) → Appends had.0 mid.0 first → Collects A {T = T} f [] false mid has old new (Err stop)
+    → Collects A {T = U} f first is_first had has old new (Err stop)
+collects_failed {A} {T} f first is_first had mid has old new stop before one =
     let r : Result T Stop = Err stop in record {
       moves = one.moves;
       are = one.are;
@@ -512,20 +538,24 @@ collects_failed {A} {T} f first had mid has old new stop before one =
       on = one.on;
       text = one.text;
       lines = one.lines;
-      printed = gets_then r had mid has first one.text before one.printed;
+      printed = gets_then r had.0 mid.0 has.0 first one.text before one.printed;
+      told = tt;
     }
 
-pub collects_after : {A T : Type 0} (f : Form) (first : List ℕ) (had mid has : Option (List ℕ)) (old new : Driven)
-    (r : Result T Stop) → Appends had mid first → Collects A f [] mid has old new r → Collects A f first had has old new r
-collects_after f first had mid has old new (Ok x) before one = collects_given f first had mid has old new x x before one
-collects_after f first had mid has old new (Err stop) before one =
-    collects_failed f first had mid has old new stop before one
+pub collects_after : {A T : Type 0} (f : Form) (first : List ℕ) (is_first : Bool) (had mid has : Told) (old new : Driven)
+    (r : Result T Stop) → Appends had.0 mid.0 first → mid.1 ≡ (had.1 || is_first) → Collects A f [] false mid has old new r
+    → Collects A f first is_first had has old new r
+collects_after f first is_first had mid has old new (Ok x) before told one =
+    collects_given f first is_first had mid has old new x x before told one
+collects_after f first is_first had mid has old new (Err stop) before told one =
+    collects_failed f first is_first had mid has old new stop before one
 
 -- the last of what was printed first is what was said
-pub said_within : {A T : Type 0} (f : Form) (had has : Option (List ℕ)) (old new : Driven) (r : Result T Stop)
-    (first : List ℕ) (said : List (Note A)) → Collects A f (first ++ notes_text said) had has old new r
-    → Collects A f first had has old new r
-said_within f had has old new r first said one = record {
+pub said_within : {A T : Type 0} (f : Form) (had has : Told) (old new : Driven) (r : Result T Stop) (first : List ℕ)
+    (is_first : Bool) (said : List (Note A))
+    → Collects A f (first ++ notes_text said) (is_first || is_any_wrong said) had has old new r
+    → Collects A f first is_first had has old new r
+said_within f had has old new r first is_first said one = record {
   moves = said_moves said ++ one.moves;
   are = All-append IsCollected (said_moves said) one.moves (said_collected said) one.are;
   own = one.own;
@@ -534,26 +564,32 @@ said_within f had has old new r first said one = record {
       moves_on (at old idle) (at old idle) (at new idle) (said_moves said) one.moves [] [] (said_on old said) one.on;
   text = notes_text said ++ one.text;
   lines = text_on f (said_moves said) one.moves (notes_text said) one.text (text_said f said) one.lines;
-  printed = subst (λ (l : List ℕ). Gets r had has l) (append_assoc first (notes_text said) one.text) one.printed;
+  printed = subst (λ (l : List ℕ). Gets r had.0 has.0 l) (append_assoc first (notes_text said) one.text) one.printed;
+  told =
+      subst (λ (any : Bool). Tells r had.1 has.1 any)
+      (or_assoc is_first (is_any_wrong said) (is_any_move_wrong one.moves)
+      ∙ ap (λ (any : Bool). is_first || any) (sym (said_wrong_then said one.moves))) one.told;
 }
 
 -- some were collected
-pub record Collected (A : Type 0) (f : Form) (had has : Option (List ℕ)) (old new : Driven) : Type 0 where
+pub record Collected (A : Type 0) (f : Form) (had has : Told) (old new : Driven) : Type 0 where
   pub moves : List (Move A)
   pub are : All IsCollected moves
   pub on : MovesOn (at old idle) moves [] (at new idle)
   pub text : List ℕ
   pub lines : IsTextOf f moves text
-  pub printed : Appends had has text
+  pub printed : Appends had.0 has.0 text
+  pub told : has.1 ≡ (had.1 || is_any_move_wrong moves)
 
-pub none_yet : {A : Type 0} (f : Form) (had : Option (List ℕ)) (driver : Driven) → Collected A f had had driver driver
+pub none_yet : {A : Type 0} (f : Form) (had : Told) (driver : Driven) → Collected A f had had driver driver
 none_yet f had driver = record {
   moves = [];
   are = All-nil IsCollected;
   on = no_move;
   text = [];
   lines = no_text;
-  printed = Appends-nil had;
+  printed = Appends-nil had.0;
+  told = sym (or_false had.1);
 }
 
 -- an answer and what is said behind it
@@ -572,11 +608,12 @@ answer_line : {A : Type 0} (f : Form) (call : ℕ) (answer : Answer A) (said : L
 answer_line f call answer said =
     next_text (collects call answer) (answer_text call answer) refl (said_moves said) (notes_text said) (text_said f said)
 
-pub one_more : {A : Type 0} (f : Form) (had got has : Option (List ℕ)) (old mid new : Driven) (call : ℕ)
+pub one_more : {A : Type 0} (f : Form) (had got has : Told) (old mid new : Driven) (call : ℕ)
     (answer : Answer A) (said : List (Note A)) → Collected A f had got old mid
     → Moves (at mid idle) (collects call answer) [] (at new idle)
-    → Appends got has (answer_text call answer ++ notes_text said) → Collected A f had has old new
-one_more f had got has old mid new call answer said one collected more = record {
+    → Appends got.0 has.0 (answer_text call answer ++ notes_text said) → has.1 ≡ (got.1 || is_any_wrong said)
+    → Collected A f had has old new
+one_more f had got has old mid new call answer said one collected more told = record {
   moves = one.moves ++ answer_moves call answer said;
   are =
       All-append IsCollected one.moves (answer_moves call answer said) one.are
@@ -588,12 +625,16 @@ one_more f had got has old mid new call answer said one collected more = record 
   lines =
       text_on f one.moves (answer_moves call answer said) one.text (answer_text call answer ++ notes_text said) one.lines
       (answer_line f call answer said);
-  printed = Appends-append had got has one.text (answer_text call answer ++ notes_text said) one.printed more;
+  printed = Appends-append had.0 got.0 has.0 one.text (answer_text call answer ++ notes_text said) one.printed more;
+  told =
+      (let r : Result (Unit {0}) Stop = Ok tt in
+      moves_tell r had.1 got.1 has.1 one.moves (answer_moves call answer said) one.told
+      (subst (λ (any : Bool). has.1 ≡ (got.1 || any)) (sym (said_wrong said)) told));
 }
 
 -- none waits any more
-pub all_collected : {A T : Type 0} (f : Form) (had has : Option (List ℕ)) (old mid new : Driven) (x : T)
-    → Collected A f had has old mid → new ≡ mid → IsSettled mid → Collects A f [] had has old new (Ok x)
+pub all_collected : {A T : Type 0} (f : Form) (had has : Told) (old mid new : Driven) (x : T)
+    → Collected A f had has old mid → new ≡ mid → IsSettled mid → Collects A f [] false had has old new (Ok x)
 all_collected f had has old mid new x one same none = record {
   moves = one.moves;
   are = one.are;
@@ -603,14 +644,15 @@ all_collected f had has old mid new x one same none = record {
   text = one.text;
   lines = one.lines;
   printed = one.printed;
+  told = one.told;
 }
 
 -- or one could not be printed
-pub some_collected : {A T : Type 0} (f : Form) (had got has : Option (List ℕ)) (old mid new : Driven) (call : ℕ)
+pub some_collected : {A T : Type 0} (f : Form) (had got has : Told) (old mid new : Driven) (call : ℕ)
     (answer : Answer A) (said : List (Note A)) (stop : Stop) → IsUnprinted stop → Collected A f had got old mid
     → Moves (at mid idle) (collects call answer) [] (at new idle)
-    → GetsAt stop got has (answer_text call answer ++ notes_text said)
-    → Collects A {T = T} f [] had has old new (Err stop)
+    → GetsAt stop got.0 has.0 (answer_text call answer ++ notes_text said)
+    → Collects A {T = T} f [] false had has old new (Err stop)
 some_collected {A} {T} f had got has old mid new call answer said stop own one collected more =
     let r : Result T Stop = Err stop in record {
       moves = one.moves ++ answer_moves call answer said;
@@ -626,7 +668,8 @@ some_collected {A} {T} f had got has old mid new call answer said stop own one c
       lines =
           text_on f one.moves (answer_moves call answer said) one.text (answer_text call answer ++ notes_text said) one.lines
           (answer_line f call answer said);
-      printed = gets_then r had got has one.text (answer_text call answer ++ notes_text said) one.printed more;
+      printed = gets_then r had.0 got.0 has.0 one.text (answer_text call answer ++ notes_text said) one.printed more;
+      told = tt;
     }
 
 filter_short : {X : Type 0} (p : X → Bool) (xs : List X) → length (filter p xs) ≤ length xs
@@ -655,7 +698,7 @@ fewer {X} (e ∷ m) call x first =
 
 -- What went over the device is driven.
 pub goes_drive : (A : Type 0) {D T : Type 0} (logs : D → D → List Transfer → Type 0) (f : Form) (d e : D)
-    (had has : Option (List ℕ)) (old last : Driven) (r : Result T Stop) (P : List (Move A) → Type 0) → at old idle ≡ old
+    (had has : Told) (old last : Driven) (r : Result T Stop) (P : List (Move A) → Type 0) → at old idle ≡ old
     → IsSettled old → Goes A logs f d e had has old last r P → (new : Driven) × DrivesOver logs d e old new
 goes_drive A logs f d e had has old last r P first settled goes = (
   at last goes.turn,
@@ -667,22 +710,32 @@ goes_drive A logs f d e had has old last r P first settled goes = (
   ),
 )
 
+-- The status of a run is that of its moves.
+pub status_is : {A : Type 0} (is_report_only told : Bool) (moves : List (Move A)) (r : Result (Unit {0}) Stop) (status : ℕ)
+    → Tells r false told (is_any_move_wrong moves) → OnOk r (status ≡ end_status is_report_only told)
+    → IfErr r (λ stop. IsStopStatus stop status) → IsStatusOf is_report_only moves r status
+status_is is_report_only told moves (Ok x) status tells ok err =
+    ok ∙ ap (λ (any : Bool). end_status is_report_only any) tells
+status_is is_report_only told moves (Err stop) status tells ok err = err
+
 -- A script was run whose lines are known.
 pub runs_script : (A : Type 0) {D : Type 0} (logs : D → D → List Transfer → Type 0) (d e : D)
-    (had got has : Option (List ℕ)) (f : Form) (asks : Bool) (script : List ℕ) (said given_lines : List DriveLine)
-    → given_lines ≡ said → Say f (lines_of script) said → (r : Result (Unit {0}) Stop) (status : ℕ) → IsStatusOf r status
-    → SaysStop A r status got has
-    → (last : Driven) × Goes A logs f d e had got (first_driven asks) last r (LinesMoveAs f r (all_lines f given_lines))
-    → RunsScript A logs d e had has f asks status script
-runs_script A logs d e had got has f asks script said given_lines same say r status is says (last, goes) = record {
-  said = said;
-  say = say;
-  ended = r;
-  is = is;
-  last = last;
-  got = got;
-  goes =
-      subst (λ (l : List DriveLine). Goes A logs f d e had got (first_driven asks) last r (LinesMoveAs f r (all_lines f l)))
-      same goes;
-  says = says;
-}
+    (had : Option (List ℕ)) (got : Told) (has : Option (List ℕ)) (f : Form) (asks is_report_only : Bool) (script : List ℕ)
+    (said given_lines : List DriveLine) → given_lines ≡ said → Say f (lines_of script) said → (r : Result (Unit {0}) Stop)
+    (status : ℕ) → OnOk r (status ≡ end_status is_report_only got.1) → IfErr r (λ stop. IsStopStatus stop status)
+    → SaysStop A r status got.0 has
+    → (last : Driven) × Goes A logs f d e (had, false) got (first_driven asks) last r (LinesMoveAs f r (all_lines f given_lines))
+    → RunsScript A logs d e had has f asks is_report_only status script
+runs_script A logs d e had got has f asks is_report_only script said given_lines same say r status ok err says (last, goes) =
+    let all =
+    subst (λ (l : List DriveLine). Goes A logs f d e (had, false) got (first_driven asks) last r (LinesMoveAs f r (all_lines f l)))
+    same goes in record {
+      said = said;
+      say = say;
+      ended = r;
+      last = last;
+      got = got;
+      goes = all;
+      is = status_is is_report_only got.1 all.moves r status all.told ok err;
+      says = says;
+    }

@@ -1,14 +1,15 @@
 -- The moves of lines, one line after another.
 use Rattle.std.proofs.Common.{◌≡◌, ◌⊎◌, ◌+◌, ◌<◌, ℕ, List, [], ◌∷◌, ◌++◌, length, take, drop, get_or, inl, inr, refl, sym, ap, subst, ◌∙◌, append-nil, append_assoc, take-append-drop}
-use Rattle.std.specs.Prelude.{All, Option, Result, Ok, Err}
+use Rattle.std.specs.Prelude.{All, Result, Ok, Err}
 use Rattle.std.proofs.lemmas.List.{take_more}
 use Rattle.std.proofs.lemmas.List.Elements.{All-append, All-cons, All-nil, All-same, All-weaker}
 use Rattle.fuse_device.specs.Transfers.{Transfer}
 use Rattle.fk_kernel.specs.declared.pick.Pick.{Pick}
 use Rattle.fk_drive.specs.Driving.{Driven}
 use Rattle.fw_drive.specs.DriveLines.{IsOfCalls}
+use Rattle.fw_drive.specs.Findings.{Told}
 use Rattle.fw_drive.specs.LineMoves.{Carries, FirstLinesMove, FirstThen, after_note, first_move, IsCarriedBy, IsCollected, IsMoveOf, IsSentBy, IsWritten, LinesMove, LinesMoveAs, MayFollow, Perhaps, all_lines, mount_line, mount_lines, next_line, no_line}
-use Rattle.fw_drive.specs.Moves.{Move, acts, sends, writes, collects, shows, notes}
+use Rattle.fw_drive.specs.Moves.{Move, sends, writes, collects, notes}
 use Rattle.fw_drive.specs.Notes.{Note}
 use Rattle.fw_drive.specs.Runs.{Goes}
 use Rattle.fw_drive.specs.declared.form.Form.{Form}
@@ -188,7 +189,7 @@ failed_line line made First is says moves (inr are) =
 
 -- a call made the moves of a line that is known
 pub said_line : (A : Type 0) {D T : Type 0} (logs : D → D → List Transfer → Type 0) (f : Form) (d : D)
-    (had has : Option (List ℕ)) (driver : Driven) (r : Result T Stop) (line made : DriveLine) → line ≡ made
+    (had has : Told) (driver : Driven) (r : Result T Stop) (line made : DriveLine) → line ≡ made
     → Goes A logs f d d had has driver driver r (FirstThen (IsMoveOf made) IsCollected)
     → Goes A logs f d d had has driver driver r (Perhaps r (FirstThen (IsMoveOf line) IsCollected))
 said_line A logs f d had has driver r line made is goes =

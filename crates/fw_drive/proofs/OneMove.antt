@@ -19,6 +19,7 @@ use Rattle.fk_drive.specs.declared.end.NotSent.{NotSent}
 use Rattle.fk_drive.specs.declared.end.NotSent.TheVariants.{Refused, Ended}
 use Rattle.fk_drive.specs.declared.writing.Written.{Written}
 use Rattle.fw_world.specs.declared.event.Outcome.TheVariants as outcome
+use Rattle.fw_drive.specs.Findings.{Tells, Told, is_any_wrong}
 use Rattle.fw_drive.specs.LineMoves.{FirstThen, IsCollected, IsSentBy, IsWritten, Perhaps}
 use Rattle.fw_drive.specs.Moves.{IsSettled, Move, Moves, sends, writes, collects}
 use Rattle.fw_drive.specs.Notes.{Note, notes_text}
@@ -72,11 +73,11 @@ Received A logs d e old new r = (log : List Transfer) × logs d e log
     × Moves {A = A} (at old idle) (writes r) log (at new idle)
 
 module _ (A : Type 0) {D : Type 0} (logs : D → D → List Transfer → Type 0) (f : Form) (d e : D) (pick : Pick)
-    (had has : Option (List ℕ)) (old mid new : Driven) where
+    (had has : Told) (old mid new : Driven) where
   -- and then answers were collected
   pub request_collects : {T : Type 0} (r : Result Request NotSent) (frame : Request) → r ≡ Ok frame
       → Sent A logs d e pick old mid r → (s : Result T Stop) → (before : List (Note A)) (line : List ℕ)
-      → IsRequestLine A f frame line → Collects A f (notes_text before ++ line) had has mid new s
+      → IsRequestLine A f frame line → Collects A f (notes_text before ++ line) (is_any_wrong before) had has mid new s
       → Goes A logs f d e had has old new s (Perhaps s (FirstThen (IsSentBy pick) IsCollected))
   request_collects r frame is sent s before line says more =
       let (fields, turn, log, over, moves) =
@@ -84,16 +85,17 @@ module _ (A : Type 0) {D : Type 0} (logs : D → D → List Transfer → Type 0)
       weaker A logs f d e had has old new s (FirstThen (IsSentBy pick) IsCollected)
       (Perhaps s (FirstThen (IsSentBy pick) IsCollected))
       (collects_behind A logs f d e had has old mid new turn before (sends pick fields (Ok frame)) line says log
-      (IsSentBy pick) refl refl over moves moves.1.1 s more) (perhaps s (FirstThen (IsSentBy pick) IsCollected))
+      (IsSentBy pick) refl refl refl over moves moves.1.1 s more) (perhaps s (FirstThen (IsSentBy pick) IsCollected))
 
 module _ (A : Type 0) {D : Type 0} (logs : D → D → List Transfer → Type 0) (f : Form) (d e : D) (pick : Pick)
-    (had has : Option (List ℕ)) (old new : Driven) where
+    (had has : Told) (old new : Driven) where
   -- the kernel refused to be read
   pub request_refused : {T : Type 0} (r : Result Request NotSent) (refusal : Refusal) → r ≡ Err (Refused refusal)
       → Sent A logs d e pick old new r → (s : Result T Stop) → IfErr s IsUnprinted → (before : List (Note A))
-      → Gets s had has (notes_text before ++ of_frame f (refusal_text A refusal))
+      → Gets s had.0 has.0 (notes_text before ++ of_frame f (refusal_text A refusal))
+      → Tells s had.1 has.1 (is_any_wrong before)
       → Goes A logs f d e had has old new s (Perhaps s (FirstThen (IsSentBy pick) IsCollected))
-  request_refused r refusal is sent s own before printed =
+  request_refused r refusal is sent s own before printed told =
       let (fields, turn, log, over, moves) =
       subst (λ (t : Result Request NotSent). Sent A logs d e pick old new t) is sent in
       weaker A logs f d e had has old new s (FirstThen (IsSentBy pick) IsCollected)
@@ -102,13 +104,13 @@ module _ (A : Type 0) {D : Type 0} (logs : D → D → List Transfer → Type 0)
       (of_frame f (refusal_text A refusal)) refl log (IsSentBy pick) IsCollected refl over moves s
       (one_went {A = A} s (sends pick fields (Err (Refused refusal))) (own_result s own) refl)
       (on_any s (turn ≡ idle) (ap (λ (t : Driven). t.turn) moves.1))
-      (λ settled. on_any s (IsSettled new) (ap (λ (t : Driven). t.kernel.vfs.answers) moves.1 ∙ settled)) printed)
+      (λ settled. on_any s (IsSettled new) (ap (λ (t : Driven). t.kernel.vfs.answers) moves.1 ∙ settled)) printed refl told)
       (perhaps s (FirstThen (IsSentBy pick) IsCollected))
 
   -- the run came to its end
   pub request_ended : {T : Type 0} (r : Result Request NotSent) (end : DriveEnd) → r ≡ Err (Ended end)
       → Sent A logs d e pick old new r → (stop : Stop) → (stop ≡ stop_of end) ⊎ IsUnprinted stop
-      → (before : List (Note A)) → GetsAt stop had has (notes_text before)
+      → (before : List (Note A)) → GetsAt stop had.0 has.0 (notes_text before)
       → Goes A {T = T} logs f d e had has old new (Err stop)
       (Perhaps {T = T} {E = Stop} (Err stop) (FirstThen (IsSentBy pick) IsCollected))
   request_ended {T} r end is sent stop why before printed =
@@ -118,23 +120,23 @@ module _ (A : Type 0) {D : Type 0} (logs : D → D → List Transfer → Type 0)
       (Perhaps {T = T} {E = Stop} (Err stop) (FirstThen (IsSentBy pick) IsCollected))
       (one_goes A logs f d e had has old new turn before (sends pick fields (Err (Ended end))) [] refl log (IsSentBy pick)
       IsCollected refl over moves (Err stop) (ended_at stop (sends pick fields (Err (Ended end))) [] end refl why) tt
-      (λ settled. tt) (subst (λ (l : List ℕ). GetsAt stop had has l) (sym (append-nil (notes_text before))) printed))
+      (λ settled. tt) (subst (λ (l : List ℕ). GetsAt stop had.0 has.0 l) (sym (append-nil (notes_text before))) printed) refl tt)
       (perhaps {T = T} (Err stop) (FirstThen (IsSentBy pick) IsCollected))
 
 -- ---- frames
 
 module _ (A : Type 0) {D : Type 0} (logs : D → D → List Transfer → Type 0) (f : Form) (d e : D)
-    (had has : Option (List ℕ)) (old mid new : Driven) where
+    (had has : Told) (old mid new : Driven) where
   -- what is printed of a frame, and answers that are collected behind it
   abbrev pub CollectsBehind : {T : Type 0} → Written A → Result T Stop → Type 0
   CollectsBehind written s = (before : List (Note A)) × (line : List ℕ) × IsWrittenLine f written line
-      × Collects A f (notes_text before ++ line) had has mid new s
+      × Collects A f (notes_text before ++ line) (is_any_wrong before) had has mid new s
 
   noted : {T : Type 0} (written : Written A) → Received A logs d e old mid (Ok (Ok written)) → (o : Option DriveEnd)
-      → written.end ≡ o → (s : Result T Stop) → IfSome o (λ end. (new ≡ mid) × EndsBehind f written end had has s)
+      → written.end ≡ o → (s : Result T Stop) → IfSome o (λ end. (new ≡ mid) × EndsBehind f written end had.0 has.0 s)
       → IfNone o (CollectsBehind written s) → Goes A logs f d e had has old new s (FirstThen IsWritten IsCollected)
   noted written (log, over, moves) None none s some (before, line, says, more) =
-      collects_behind A logs f d e had has old mid new idle before (writes (Ok (Ok written))) line says log IsWritten tt none
+      collects_behind A logs f d e had has old mid new idle before (writes (Ok (Ok written))) line says log IsWritten tt none refl
       over moves refl s more
   noted written (log, over, moves) (Some end) ended (Ok x) some more = absurd some.1.failed
   noted {T} written (log, over, moves) (Some end) ended (Err stop) some more =
@@ -144,12 +146,12 @@ module _ (A : Type 0) {D : Type 0} (logs : D → D → List Transfer → Type 0)
       (several A logs f d e had has old mid mid behind.before (writes (Ok (Ok written))) behind.line behind.is log IsWritten
       IsCollected tt over moves (said_moves behind.after) (said_collected behind.after) (said_on mid behind.after)
       (notes_text behind.after) (text_said f behind.after) (Err stop)
-      (ended_at stop (writes (Ok (Ok written))) behind.after end ended behind.stop) (λ settled. tt) behind.printed)
+      (ended_at stop (writes (Ok (Ok written))) behind.after end ended behind.stop) (λ settled. tt) behind.printed refl tt)
 
   -- a frame was written and noted, and answers were collected where the run goes on behind it
   pub frame_noted : {T : Type 0} (r : Result (Result (Written A) Refusal) DriveEnd) (written : Written A)
       → r ≡ Ok (Ok written) → Received A logs d e old mid r → (s : Result T Stop)
-      → IfSome written.end (λ end. (new ≡ mid) × EndsBehind f written end had has s)
+      → IfSome written.end (λ end. (new ≡ mid) × EndsBehind f written end had.0 has.0 s)
       → IfNone written.end (CollectsBehind written s)
       → Goes A logs f d e had has old new s (Perhaps s (FirstThen IsWritten IsCollected))
   frame_noted r written is received s some more =
@@ -158,13 +160,14 @@ module _ (A : Type 0) {D : Type 0} (logs : D → D → List Transfer → Type 0)
       (noted written goes written.end refl s some more) (perhaps s (FirstThen IsWritten IsCollected))
 
 module _ (A : Type 0) {D : Type 0} (logs : D → D → List Transfer → Type 0) (f : Form) (d e : D)
-    (had has : Option (List ℕ)) (old new : Driven) where
+    (had has : Told) (old new : Driven) where
   -- the kernel refused it
   pub frame_refused : {T : Type 0} (r : Result (Result (Written A) Refusal) DriveEnd) (refusal : Refusal)
       → r ≡ Ok (Err refusal) → Received A logs d e old new r → (s : Result T Stop) → IfErr s IsUnprinted
-      → (before : List (Note A)) → Gets s had has (notes_text before ++ of_frame f (refusal_text A refusal))
+      → (before : List (Note A)) → Gets s had.0 has.0 (notes_text before ++ of_frame f (refusal_text A refusal))
+      → Tells s had.1 has.1 (is_any_wrong before)
       → Goes A logs f d e had has old new s (Perhaps s (FirstThen IsWritten IsCollected))
-  frame_refused r refusal is received s own before printed =
+  frame_refused r refusal is received s own before printed told =
       let (log, over, moves) =
       subst (λ (t : Result (Result (Written A) Refusal) DriveEnd). Received A logs d e old new t) is received in
       weaker A logs f d e had has old new s (FirstThen IsWritten IsCollected) (Perhaps s (FirstThen IsWritten IsCollected))
@@ -173,13 +176,14 @@ module _ (A : Type 0) {D : Type 0} (logs : D → D → List Transfer → Type 0)
       (one_went {A = A} s (writes (Ok (Err refusal))) (own_result s own) refl)
       (on_any s (◌≡◌ {A = Turn} idle idle) refl)
       (λ settled. on_any s (IsSettled new)
-      (ap (λ (k : Kernel). k.vfs.answers) (receives_keep (at old idle) log (at new idle) moves.0) ∙ settled)) printed)
+      (ap (λ (k : Kernel). k.vfs.answers) (receives_keep (at old idle) log (at new idle) moves.0) ∙ settled)) printed refl
+      told)
       (perhaps s (FirstThen IsWritten IsCollected))
 
   -- the run came to its end
   pub frame_ended : {T : Type 0} (r : Result (Result (Written A) Refusal) DriveEnd) (end : DriveEnd) → r ≡ Err end
       → Received A logs d e old new r → (stop : Stop) → (stop ≡ stop_of end) ⊎ IsUnprinted stop
-      → (before : List (Note A)) → GetsAt stop had has (notes_text before)
+      → (before : List (Note A)) → GetsAt stop had.0 has.0 (notes_text before)
       → Goes A {T = T} logs f d e had has old new (Err stop)
       (Perhaps {T = T} {E = Stop} (Err stop) (FirstThen IsWritten IsCollected))
   frame_ended {T} r end is received stop why before printed =
@@ -189,20 +193,20 @@ module _ (A : Type 0) {D : Type 0} (logs : D → D → List Transfer → Type 0)
       (Perhaps {T = T} {E = Stop} (Err stop) (FirstThen IsWritten IsCollected))
       (one_goes A logs f d e had has old new idle before (writes (Err end)) [] refl log IsWritten IsCollected tt over moves
       (Err stop) (ended_at stop (writes (Err end)) [] end refl why) tt (λ settled. tt)
-      (subst (λ (l : List ℕ). GetsAt stop had has l) (sym (append-nil (notes_text before))) printed))
+      (subst (λ (l : List ℕ). GetsAt stop had.0 has.0 l) (sym (append-nil (notes_text before))) printed) refl tt)
       (perhaps {T = T} (Err stop) (FirstThen IsWritten IsCollected))
 
 -- why a run ends behind what was noted
 pub ends_behind_notes : {A : Type 0} (printed : Result (Unit {0}) Stop) (last stop : Stop) (end : DriveEnd)
-    (had has : Option (List ℕ)) → stop ≡ stop_of end → OnOk printed (last ≡ stop) → IfErr printed (λ s. last ≡ s)
+    (had has : Told) → stop ≡ stop_of end → OnOk printed (last ≡ stop) → IfErr printed (λ s. last ≡ s)
     → HasPrinted A printed had has
-    → ((last ≡ stop_of end) ⊎ IsUnprinted last) × (said : List (Note A)) × GetsAt last had has (notes_text said)
-ends_behind_notes (Ok _) last stop end had has is same _ (own, said, all) =
-    (inl (same ∙ is), said, gets_all_at last had has (notes_text said) all)
-ends_behind_notes (Err s) last stop end had has is _ same (own, said, some) = (
+    → ((last ≡ stop_of end) ⊎ IsUnprinted last) × (said : List (Note A)) × GetsAt last had.0 has.0 (notes_text said)
+ends_behind_notes (Ok _) last stop end had has is same _ (own, said, all, told) =
+    (inl (same ∙ is), said, gets_all_at last had.0 has.0 (notes_text said) all)
+ends_behind_notes (Err s) last stop end had has is _ same (own, said, some, told) = (
   inr (subst IsUnprinted (sym same) own),
   said,
-  subst (λ (t : Stop). GetsAt t had has (notes_text said)) (sym same) some,
+  subst (λ (t : Stop). GetsAt t had.0 has.0 (notes_text said)) (sym same) some,
 )
 
 -- ---- lines

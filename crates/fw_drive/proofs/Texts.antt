@@ -1,17 +1,18 @@
 -- What an output gets of the text of moves, and what is said between them.
-use Rattle.std.proofs.Common.{◌≡◌, ◌⊎◌, inl, inr, ℕ, List, [], ◌∷◌, ◌++◌, Option, Some, None, refl, sym, ap, subst, ◌∙◌, append-nil, append_assoc, codes, decimal}
-use Rattle.std.specs.Prelude.{All, IfErr, Result, Ok, Err, OnOk, flat_map, map}
-use Rattle.std.specs.Io.KnownBytes.{Appends, Keeps}
+use Rattle.std.proofs.Common.{◌≡◌, ◌||◌, ℕ, Bool, true, false, List, [], ◌∷◌, ◌++◌, Option, None, refl, sym, ap, subst, ◌∙◌, append-nil, append_assoc, codes, decimal}
+use Rattle.std.specs.Prelude.{All, IfErr, Result, Ok, Err, OnOk, map}
+use Rattle.std.specs.Io.KnownBytes.{Appends}
 use Rattle.std.proofs.lemmas.List.Elements.{All-cons, All-nil}
-use Rattle.fk_drive.specs.Driving.{Driven}
 use Rattle.fk_syscalls.specs.declared.call.Answer.{Answer}
 use Rattle.fw_script.specs.Outputs.{AppendsSome}
 use Rattle.fw_script.specs.Records.{answer_text, answer_words}
-use Rattle.fw_script.proofs.Writes.{Appends-Keeps, Appends-append, Appends-nil, some_all, some_first, some_none, some_then}
-use Rattle.fw_drive.specs.LineMoves.{FirstThen, IsCollected, after_note, first_move}
-use Rattle.fw_drive.specs.Moves.{GoOn, IsNote, Move, end_of, notes}
+use Rattle.fw_script.proofs.Writes.{Appends-append, Appends-nil, some_all, some_first, some_none}
+use Rattle.fw_drive.specs.Findings.{Tells, is_any_move_wrong, is_any_wrong, is_wrong, is_wrong_move}
+use Rattle.fw_drive.specs.LineMoves.{FirstThen, IsCollected, after_note}
+use Rattle.fw_drive.specs.Moves.{GoOn, Move, end_of, notes}
 use Rattle.fw_drive.specs.Notes.{Note, answer_said, differs, note_text, notes_text}
 use Rattle.fw_drive.specs.PrintingLaws as laws
+use Rattle.fw_drive.specs.Printing.{Says}
 use Rattle.fw_drive.specs.Printed.{Gets, GetsAt, IsTextOf, next_text, no_text}
 use Rattle.fw_drive.specs.Runs.{IsOwnStop, IsUnprinted}
 use Rattle.fw_drive.specs.declared.form.Form.{Form}
@@ -96,50 +97,112 @@ pub after_said : {A : Type 0} (F R : Move A → Type 0) (said : List (Note A)) (
 after_said F R [] moves are = are
 after_said F R (note ∷ said) moves are = after_note note (said_moves said ++ moves) (after_said F R said moves are)
 
+-- ---- what is told
+
+pub or_false : (b : Bool) → (b || false) ≡ b
+or_false = laws.or_false
+
+pub or_true : (b : Bool) → (b || true) ≡ true
+or_true = laws.or_true
+
+pub tells_then : {T : Type 0} (r : Result T Stop) (old mid new one two : Bool) → mid ≡ (old || one) → Tells r mid new two
+    → Tells r old new (one || two)
+tells_then = laws.tells_then
+
+-- nothing was told
+pub tells_nothing : {T : Type 0} (r : Result T Stop) (told : Bool) → Tells r told told false
+tells_nothing (Ok x) told = sym (or_false told)
+tells_nothing (Err s) told = tt
+
+-- notes that say no more
+pub tells_none : {A T : Type 0} (r : Result T Stop) (told : Bool) (said : List (Note A)) → is_any_wrong said ≡ false
+    → Tells r told told (is_any_wrong said)
+tells_none r told said none = subst (λ (any : Bool). Tells r told told any) (sym none) (tells_nothing r told)
+
+pub told_given : {U : Type 0} (r : Result U Stop) (old new is_said : Bool) → new ≡ (old || is_said) → Tells r old new is_said
+told_given (Ok x) old new is_said told = told
+told_given (Err s) old new is_said told = tt
+
+pub moves_wrong_on : {A : Type 0} (m n : List (Move A))
+    → is_any_move_wrong (m ++ n) ≡ (is_any_move_wrong m || is_any_move_wrong n)
+moves_wrong_on [] n = refl
+moves_wrong_on (move ∷ m) n =
+    ap (λ (any : Bool). is_wrong_move move || any) (moves_wrong_on m n)
+    ∙ sym (laws.or_assoc (is_wrong_move move) (is_any_move_wrong m) (is_any_move_wrong n))
+
+pub said_wrong : {A : Type 0} (said : List (Note A)) → is_any_move_wrong (said_moves said) ≡ is_any_wrong said
+said_wrong [] = refl
+said_wrong (note ∷ said) = ap (λ (any : Bool). is_wrong note || any) (said_wrong said)
+
+-- moves behind notes
+pub said_wrong_then : {A : Type 0} (said : List (Note A)) (m : List (Move A))
+    → is_any_move_wrong (said_moves said ++ m) ≡ (is_any_wrong said || is_any_move_wrong m)
+said_wrong_then said m =
+    moves_wrong_on (said_moves said) m ∙ ap (λ (any : Bool). any || is_any_move_wrong m) (said_wrong said)
+
+-- one behind notes, which says nothing of that
+pub one_wrong_then : {A : Type 0} (said : List (Note A)) (move : Move A) (m : List (Move A)) → is_wrong_move move ≡ false
+    → is_any_move_wrong (said_moves said ++ move ∷ m) ≡ (is_any_wrong said || is_any_move_wrong m)
+one_wrong_then said move m none =
+    said_wrong_then said (move ∷ m)
+    ∙ ap (λ (b : Bool). is_any_wrong said || (b || is_any_move_wrong m)) none
+
+pub moves_tell : {A T : Type 0} (r : Result T Stop) (old mid new : Bool) (m n : List (Move A))
+    → mid ≡ (old || is_any_move_wrong m) → Tells r mid new (is_any_move_wrong n) → Tells r old new (is_any_move_wrong (m ++ n))
+moves_tell r old mid new m n one two =
+    subst (λ (any : Bool). Tells r old new any) (sym (moves_wrong_on m n))
+    (tells_then r old mid new (is_any_move_wrong m) (is_any_move_wrong n) one two)
+
 -- ---- notes that are printed
 
--- notes were printed
-abbrev pub SaysAll : (A : Type 0) (had has : Option (List ℕ)) → Type 0
-SaysAll A had has = (said : List (Note A)) × Appends had has (notes_text said)
-
--- or a beginning of them
-abbrev pub Says : (A : Type 0) {T : Type 0} → Result T Stop → (had has : Option (List ℕ)) → Type 0
-Says A r had has = (said : List (Note A)) × Gets r had has (notes_text said)
-
-pub says_nothing : (A : Type 0) (had : Option (List ℕ)) → SaysAll A had had
-says_nothing A had = ([], Appends-nil had)
-
+-- a note was printed
 pub says_one : {A : Type 0} (note : Note A) (had has : Option (List ℕ)) → Appends had has (note_text note)
-    → SaysAll A had has
-says_one note had has all =
-    (note ∷ [], subst (λ (l : List ℕ). Appends had has l) (sym (append-nil (note_text note))) all)
+    → (is_found : Bool) → is_found ≡ is_wrong note
+    → (said : List (Note A)) × Appends had has (notes_text said) × (is_found ≡ is_any_wrong said)
+says_one note had has all is_found is = (
+  note ∷ [],
+  subst (λ (l : List ℕ). Appends had has l) (sym (append-nil (note_text note))) all,
+  is ∙ sym (or_false (is_wrong note)),
+)
+
+-- one that says nothing wrong
+pub says_right : {A : Type 0} (note : Note A) (had has : Option (List ℕ)) → Appends had has (note_text note)
+    → is_wrong note ≡ false → (said : List (Note A)) × Appends had has (notes_text said) × (is_any_wrong said ≡ false)
+says_right note had has all none =
+    let (said, printed, is) = says_one note had has all false (sym none) in (said, printed, sym is)
+
+-- one that says that the server was wrong
+pub says_wrong : {A : Type 0} (note : Note A) (had has : Option (List ℕ)) → Appends had has (note_text note)
+    → is_wrong note ≡ true → (told : Bool)
+    → (said : List (Note A)) × Appends had has (notes_text said) × (true ≡ (told || is_any_wrong said))
+says_wrong note had has all wrongs told = (
+  note ∷ [],
+  subst (λ (l : List ℕ). Appends had has l) (sym (append-nil (note_text note))) all,
+  sym (ap (λ (b : Bool). told || (b || false)) wrongs ∙ or_true told),
+)
 
 -- the output refused it
 pub says_part : {A : Type 0} (note : Note A) (had has : Option (List ℕ)) → AppendsSome had has (note_text note)
-    → (said : List (Note A)) × AppendsSome had has (notes_text said)
+    → (said : List (Note A)) × AppendsSome had has (notes_text said) × Unit {0}
 says_part note had has some =
-    (note ∷ [], subst (λ (l : List ℕ). AppendsSome had has l) (sym (append-nil (note_text note))) some)
+    (note ∷ [], subst (λ (l : List ℕ). AppendsSome had has l) (sym (append-nil (note_text note))) some, tt)
 
-pub says_then : (A : Type 0) {T : Type 0} (r : Result T Stop) (had mid has : Option (List ℕ)) → SaysAll A had mid
-    → Says A r mid has → Says A r had has
-says_then = laws.says_then
+-- and it says nothing wrong
+pub says_right_part : {A : Type 0} (note : Note A) (had has : Option (List ℕ)) → AppendsSome had has (note_text note)
+    → is_wrong note ≡ false → (said : List (Note A)) × AppendsSome had has (notes_text said) × (is_any_wrong said ≡ false)
+says_right_part note had has some none = (
+  note ∷ [],
+  subst (λ (l : List ℕ). AppendsSome had has l) (sym (append-nil (note_text note))) some,
+  or_false (is_wrong note) ∙ none,
+)
 
--- something was said, and then a line was printed
-pub says_line : (A : Type 0) (had mid has : Option (List ℕ)) (line : List ℕ) → SaysAll A had mid → Appends mid has line
-    → (said : List (Note A)) × Appends had has (notes_text said ++ line)
-says_line A had mid has line (said, one) two = (said, Appends-append had mid has (notes_text said) line one two)
-
--- or a beginning of the line
-pub says_some : (A : Type 0) (had mid has : Option (List ℕ)) (line : List ℕ) → SaysAll A had mid
-    → AppendsSome mid has line → (said : List (Note A)) × AppendsSome had has (notes_text said ++ line)
-says_some A had mid has line (said, one) two =
-    (said, some_then had mid has (notes_text said) line (notes_text said ++ line) refl one two)
-
--- or what was said could not be
-pub says_before : (A : Type 0) (stop : Stop) (had has : Option (List ℕ)) (line : List ℕ) → IsUnprinted stop
-    → (said : List (Note A)) × GetsAt stop had has (notes_text said)
-    → (said : List (Note A)) × GetsAt stop had has (notes_text said ++ line)
-says_before A stop had has line own (said, some) = (said, gets_more stop had has (notes_text said) line own some)
+-- notes that say nothing wrong, and then others
+pub right_then : (A : Type 0) {T : Type 0} (r : Result T Stop) (had mid has : Option (List ℕ)) (told tells : Bool)
+    → (said : List (Note A)) × Appends had mid (notes_text said) × (is_any_wrong said ≡ false)
+    → Says A r (mid, told) (has, tells) → Says A r (had, told) (has, tells)
+right_then A r had mid has told tells (said, all, none) more =
+    let q : Result (Unit {0}) Stop = Ok tt in
+    laws.says_then A r (had, told) (mid, told) (has, tells) (said, all, tells_none q told said none) more
 
 -- ---- lines of answers
 

@@ -1,5 +1,6 @@
 pub mod Acts
 pub mod DriveLines
+pub mod Findings
 pub mod Inputs
 pub mod Judging
 pub mod LineMoves

@@ -1,5 +1,5 @@
 -- Which moves the lines of a script make.
-use Rattle.std.specs.Prelude.{◌≡◌, ◌⊎◌, ◌++◌, ◌∷◌, [], ℕ, List, All, Result, Ok, Err}
+use Rattle.std.specs.Prelude.{◌≡◌, ◌⊎◌, ◌++◌, ◌∷◌, [], List, All, Result, Ok, Err}
 use Rattle.fuse_spec.specs.declared.Minor.TheVariants.{M31}
 use Rattle.fk_syscalls.specs.declared.call.Call.TheVariants as call
 use Rattle.fk_kernel.specs.declared.pick.Pick.{Pick}

@@ -13,7 +13,7 @@ use Rattle.fk_drive.specs.Sending.{SendsNext}
 use Rattle.fk_drive.specs.Writing.{WritesNext}
 use Rattle.fk_drive.specs.declared.end.DriveEnd.{DriveEnd}
 use Rattle.fk_drive.specs.declared.end.NotSent.{NotSent}
-use Rattle.fk_drive.specs.declared.end.NotSent.TheVariants.{Refused, Ended}
+use Rattle.fk_drive.specs.declared.end.NotSent.TheVariants.{Ended}
 use Rattle.fk_drive.specs.declared.writing.Written.{Written}
 use Rattle.fw_world.specs.Values.{counted_nodes}
 use Rattle.fw_world.specs.declared.event.Event.{Event}

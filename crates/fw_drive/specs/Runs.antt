@@ -1,5 +1,5 @@
 -- What a driver's calls are.
-use Rattle.std.specs.Prelude.{◌≡◌, ◌⊎◌, ◌++◌, ◌∷◌, [], ℕ, Bool, List, All, IfErr, Option, Result, Ok, Err, OnOk, Some}
+use Rattle.std.specs.Prelude.{◌≡◌, ◌⊎◌, ◌++◌, ◌∷◌, ◌||◌, [], ℕ, Bool, false, List, All, IfErr, Option, Result, Ok, Err, OnOk, Some}
 use Rattle.std.specs.Io.KnownBytes.{Appends}
 use Rattle.fuse_spec.specs.declared.Refusal.TheVariants as refusals
 use Rattle.fuse_device.specs.declared.device.DeviceEnd.TheVariants as device_ends
@@ -10,6 +10,7 @@ use Rattle.fk_drive.specs.declared.end.DriveEnd.TheVariants as drive_ends
 use Rattle.fk_drive.specs.declared.writing.Written.{Written}
 use Rattle.fw_script.specs.Outputs.{AppendsSome}
 use Rattle.fw_script.specs.Scripts.{lines_of}
+use Rattle.fw_drive.specs.Findings.{Tells, Told, finding_status, is_any_move_wrong}
 use Rattle.fw_drive.specs.Judging.{Say}
 use Rattle.fw_drive.specs.LineMoves.{IsCollected, LinesMoveAs, all_lines}
 use Rattle.fw_drive.specs.Moves.{GoOn, IsNote, IsSettled, Move, MovesOn, end_of}
@@ -61,9 +62,9 @@ EndsAs (Ok _) moves = GoOn moves
 EndsAs (Err stop) moves = StopsAt stop moves
 
 -- A call makes these moves: what went over the device is theirs, and what the output got. It begins and ends between
--- requests, with no answer that waits, but where it fails.
+-- requests, with no answer that waits, but where it fails. It is known whether a move says that the server was wrong.
 pub record Goes (A : Type 0) {D T : Type 0} (logs : D → D → List Transfer → Type 0) (f : Form) (before after : D)
-    (had has : Option (List ℕ)) (old new : Driven) (result : Result T Stop) (Are : List (Move A) → Type 0) : Type 0 where
+    (had has : Told) (old new : Driven) (result : Result T Stop) (Are : List (Move A) → Type 0) : Type 0 where
   pub moves : List (Move A)
   pub are : Are moves
   pub ends : EndsAs result moves
@@ -75,20 +76,22 @@ pub record Goes (A : Type 0) {D T : Type 0} (logs : D → D → List Transfer �
   pub on : IsSettled old → MovesOn (at old idle) moves log (at new turn)
   pub text : List ℕ
   pub lines : IsTextOf f moves text
-  pub printed : Gets result had has text
+  pub printed : Gets result had.0 has.0 text
+  pub told : Tells result had.1 has.1 (is_any_move_wrong moves)
 
 -- nothing goes over a device
 abbrev pub NothingOver : Unit {0} → Unit {0} → List Transfer → Type 0
 NothingOver before after log = log ≡ []
 
 -- A call makes these moves with no device.
-abbrev pub GoesAlone : (A : Type 0) {T : Type 0} → Form → (had has : Option (List ℕ)) → Driven → Driven
+abbrev pub GoesAlone : (A : Type 0) {T : Type 0} → Form → (had has : Told) → Driven → Driven
     → Result T Stop → (List (Move A) → Type 0) → Type 0
 GoesAlone A f had has old new result Are = Goes A NothingOver f tt tt had has old new result Are
 
--- Behind what was printed first the answers are collected that wait: all, or the first of them where that fails.
-pub record Collects (A : Type 0) {T : Type 0} (f : Form) (first : List ℕ) (had has : Option (List ℕ)) (old new : Driven)
-    (result : Result T Stop) : Type 0 where
+-- Behind what was printed first the answers are collected that wait: all, or the first of them where that fails. What was
+-- printed first may say that the server was wrong.
+pub record Collects (A : Type 0) {T : Type 0} (f : Form) (first : List ℕ) (is_first_wrong : Bool) (had has : Told)
+    (old new : Driven) (result : Result T Stop) : Type 0 where
   pub moves : List (Move A)
   pub are : All IsCollected moves
   pub own : IfErr result IsUnprinted
@@ -96,7 +99,8 @@ pub record Collects (A : Type 0) {T : Type 0} (f : Form) (first : List ℕ) (had
   pub on : MovesOn (at old idle) moves [] (at new idle)
   pub text : List ℕ
   pub lines : IsTextOf f moves text
-  pub printed : Gets result had has (first ++ text)
+  pub printed : Gets result had.0 has.0 (first ++ text)
+  pub told : Tells result had.1 has.1 (is_first_wrong || is_any_move_wrong moves)
 
 -- The run came to its end behind a frame that was written: it is printed, and what is said of it.
 pub record EndsBehind {A T : Type 0} (f : Form) (written : Written A) (end : DriveEnd) (had has : Option (List ℕ))
@@ -116,9 +120,13 @@ stop_status (stops.Refused refusals.NoMemory) = 3
 stop_status stops.OutputRefused = 5
 stop_status other = 4
 
-abbrev pub IsStatusOf : Result (Unit {0}) Stop → ℕ → Type 0
-IsStatusOf (Ok _) status = status ≡ 0
-IsStatusOf (Err stop) status = (status ≡ stop_status stop) ⊎ ((status ≡ 5) × (stop_status stop ≡ 4))
+abbrev pub IsStopStatus : Stop → ℕ → Type 0
+IsStopStatus stop status = (status ≡ stop_status stop) ⊎ ((status ≡ 5) × (stop_status stop ≡ 4))
+
+-- The exit status of a run with these moves.
+abbrev pub IsStatusOf : {A : Type 0} → (is_report_only : Bool) → List (Move A) → Result (Unit {0}) Stop → ℕ → Type 0
+IsStatusOf is_report_only moves (Ok _) status = status ≡ finding_status is_report_only moves
+IsStatusOf is_report_only moves (Err stop) status = IsStopStatus stop status
 
 -- The line that says it is printed last: at status 4 all of it.
 abbrev pub SaysStop : (A : Type 0) → Result (Unit {0}) Stop → ℕ → (had has : Option (List ℕ)) → Type 0
@@ -126,15 +134,15 @@ SaysStop A (Ok _) status had has = has ≡ had
 SaysStop A (Err stop) status had has =
     (status ≡ 4 → Appends had has (stop_line A stop)) × AppendsSome had has (stop_line A stop)
 
--- A script is run on a first kernel: its lines make their moves in their order, all of them where the status is 0. What
--- goes over the device is theirs, and so is what the output gets, with a line behind it where the run ended before.
+-- A script is run on a first kernel: its lines make their moves in their order, all of them where the status is 0 or 6.
+-- What goes over the device is theirs, and so is what the output gets, with a line behind it where the run ended before.
 pub record RunsScript (A : Type 0) {D : Type 0} (logs : D → D → List Transfer → Type 0) (before after : D)
-    (had has : Option (List ℕ)) (f : Form) (asks : Bool) (status : ℕ) (script : List ℕ) : Type 0 where
+    (had has : Option (List ℕ)) (f : Form) (asks is_report_only : Bool) (status : ℕ) (script : List ℕ) : Type 0 where
   pub said : List DriveLine
   pub say : Say f (lines_of script) said
   pub ended : Result (Unit {0}) Stop
-  pub is : IsStatusOf ended status
   pub last : Driven
-  pub got : Option (List ℕ)
-  pub goes : Goes A logs f before after had got (first_driven asks) last ended (LinesMoveAs f ended (all_lines f said))
-  pub says : SaysStop A ended status got has
+  pub got : Told
+  pub goes : Goes A logs f before after (had, false) got (first_driven asks) last ended (LinesMoveAs f ended (all_lines f said))
+  pub is : IsStatusOf is_report_only goes.moves ended status
+  pub says : SaysStop A ended status got.0 has

@@ -1,7 +1,8 @@
 //! The same calls in a world of this project's own.
 
-ghost use Rattle.std.specs.Prelude.{◌≡◌, ◌++◌, ℕ, IfErr, IfOk, List, codes};
+ghost use Rattle.std.specs.Prelude.{◌≡◌, ◌++◌, ℕ, IfErr, IfOk, List, codes, false};
 ghost use Rattle.fw_script.specs.Records.{answer_text};
+ghost use Rattle.fw_drive.specs.Findings.{is_any_wrong};
 ghost use Rattle.fw_drive.specs.Notes.{Note, notes_text};
 ghost use Rattle.fw_drive.specs.Printed.{Gets};
 ghost use Rattle.fw_drive.specs.Runs.{IsUnprinted};
@@ -230,7 +231,7 @@ impl<T: Tables> Beside<T> {
         }
     }
 
-    /// Prints that an answer differs from the one here, if it does.
+    /// Prints that an answer differs from the one here, if it does. Says whether it does.
     ///
     /// # Errors
     ///
@@ -240,16 +241,17 @@ impl<T: Tables> Beside<T> {
         call: u64,
         answer: Answer<T::Heap>,
         out: &mut W,
-    ) -> Result<(), Stop>
-        ensures printed { (said : List (Note T.Heap)) × Gets result (W.contents out.old) (W.contents out.new) (notes_text said) }
+    ) -> Result<bool, Stop>
+        ensures printed { (said : List (Note T.Heap)) × Gets result (W.contents out.old) (W.contents out.new) (notes_text said)
+            × IfOk result (λ differs. differs ≡ is_any_wrong said) }
         ensures own { IfErr result IsUnprinted }
     {
         let Some((_call, here)) = self.world.collect() else {
-            return Ok(());
+            return Ok(false);
         };
         self.answers = self.answers.saturating_add(1);
         match self.is_right(call, &answer, &here) {
-            Ok(true) => Ok(()),
+            Ok(true) => Ok(false),
             Ok(false) => {
                 self.differences = self.differences.saturating_add(1);
                 print_differing(self.alloc, call, answer, here, out)
@@ -264,7 +266,8 @@ impl<T: Tables> Beside<T> {
     ///
     /// The output refused.
     pub(crate) fn print_count<W: Write>(&self, out: &mut W) -> Result<(), Stop>
-        ensures printed { (said : List (Note T.Heap)) × Gets result (W.contents out.old) (W.contents out.new) (notes_text said) }
+        ensures printed { (said : List (Note T.Heap)) × Gets result (W.contents out.old) (W.contents out.new) (notes_text said)
+            × (is_any_wrong said ≡ false) }
         ensures own { IfErr result IsUnprinted }
     {
         match print_compared::<T::Heap, W>(out, self.answers, self.differences) {
@@ -286,15 +289,16 @@ fn line_of<A: Allocator + Copy>(alloc: A, call: u64, answer: Answer<A>) -> Resul
     }
 }
 
-/// Prints two answers to a call that differ.
+/// Prints two answers to a call that differ, and says that they do.
 fn print_differing<A: Allocator + Copy, W: Write>(
     alloc: A,
     call: u64,
     answer: Answer<A>,
     here: Answer<A>,
     out: &mut W,
-) -> Result<(), Stop>
-    ensures printed { (said : List (Note A)) × Gets result (W.contents out.old) (W.contents out.new) (notes_text said) }
+) -> Result<bool, Stop>
+    ensures printed { (said : List (Note A)) × Gets result (W.contents out.old) (W.contents out.new) (notes_text said)
+        × IfOk result (λ differs. differs ≡ is_any_wrong said) }
     ensures own { IfErr result IsUnprinted }
 {
     let answered = match line_of(alloc, call, answer) {
@@ -310,7 +314,7 @@ fn print_differing<A: Allocator + Copy, W: Write>(
         said_in(answered.as_slice()),
         said_in(answered_here.as_slice()),
     ) {
-        Ok(()) => Ok(()),
+        Ok(()) => Ok(true),
         Err(_refused) => Err(Stop::OutputRefused),
     }
 }

@@ -32,7 +32,8 @@ fn receive_toward<T: Tables, D: Device, W: Write>(
     unique: u64,
     out: &mut W,
 ) -> Result<bool, Stop>
-    ensures { Goes T.Heap D.logs form device.old device.new (W.contents out.old) (W.contents out.new)
+    ensures { Goes T.Heap D.logs form device.old device.new
+        (W.contents out.old, notes.old.is_wrong) (W.contents out.new, notes.new.is_wrong)
         driver.old driver.new result (All Carries) }
 {
     match receive(driver, device, notes, form, out) {
@@ -50,7 +51,8 @@ fn await_reply<T: Tables, D: Device, W: Write>(
     unique: u64,
     out: &mut W,
 ) -> Result<bool, Stop>
-    ensures { Goes T.Heap D.logs form device.old device.new (W.contents out.old) (W.contents out.new)
+    ensures { Goes T.Heap D.logs form device.old device.new
+        (W.contents out.old, notes.old.is_wrong) (W.contents out.new, notes.new.is_wrong)
         driver.old driver.new result (All Carries) }
 {
     for _frame in 0..u64::MAX {
@@ -84,7 +86,8 @@ fn carry_one<T: Tables, D: Device, W: Write>(
     out: &mut W,
 ) -> Result<bool, Stop>
     requires { IsCarriedBy pick }
-    ensures { Goes T.Heap D.logs form device.old device.new (W.contents out.old) (W.contents out.new)
+    ensures { Goes T.Heap D.logs form device.old device.new
+        (W.contents out.old, notes.old.is_wrong) (W.contents out.new, notes.new.is_wrong)
         driver.old driver.new result (All Carries) }
 {
     match send(driver, device, notes, form, pick, out) {
@@ -104,7 +107,8 @@ fn carry_all<T: Tables, D: Device, W: Write>(
     out: &mut W,
 ) -> Result<(), Stop>
     requires { IsCarriedBy pick }
-    ensures { Goes T.Heap D.logs form device.old device.new (W.contents out.old) (W.contents out.new)
+    ensures { Goes T.Heap D.logs form device.old device.new
+        (W.contents out.old, notes.old.is_wrong) (W.contents out.new, notes.new.is_wrong)
         driver.old driver.new result (All Carries) }
 {
     for _request in 0..u64::MAX {
@@ -125,7 +129,8 @@ pub(crate) fn carry<T: Tables, D: Device, W: Write>(
     form: Form,
     out: &mut W,
 ) -> Result<(), Stop>
-    ensures { Goes T.Heap D.logs form device.old device.new (W.contents out.old) (W.contents out.new)
+    ensures { Goes T.Heap D.logs form device.old device.new
+        (W.contents out.old, notes.old.is_wrong) (W.contents out.new, notes.new.is_wrong)
         driver.old driver.new result (All Carries) }
 {
     match carry_all(driver, device, notes, form, Pick::Pending(0), out) {
@@ -142,7 +147,8 @@ pub(crate) fn mount<T: Tables, D: Device, W: Write>(
     form: Form,
     out: &mut W,
 ) -> Result<(), Stop>
-    ensures { Goes T.Heap D.logs form device.old device.new (W.contents out.old) (W.contents out.new)
+    ensures { Goes T.Heap D.logs form device.old device.new
+        (W.contents out.old, notes.old.is_wrong) (W.contents out.new, notes.new.is_wrong)
         driver.old driver.new result
         (FirstThen (IsMoveOf mount_line) Carries) }
 {

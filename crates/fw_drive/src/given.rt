@@ -29,7 +29,8 @@ fn run_given_line<T: Tables, D: Device, W: Write>(
     line: &[u8],
     out: &mut W,
 ) -> Result<(), Halt>
-    ensures { RunsGiven T.Heap D.logs form device.old device.new (W.contents out.old) (W.contents out.new)
+    ensures { RunsGiven T.Heap D.logs form device.old device.new
+        (W.contents out.old, notes.old.is_wrong) (W.contents out.new, notes.new.is_wrong)
         driver.old driver.new [] number result (line.now ∷ []) }
 {
     match read_any(form, line) {
@@ -55,7 +56,8 @@ fn run_next<T: Tables, D: Device, S: LineSource<W>, W: Write>(
     out: &mut W,
 ) -> Result<bool, Halt>
     ensures { (lines : List (List ℕ)) × Gave S.gives result source.old source.new lines
-        × RunsGiven T.Heap D.logs form device.old device.new (W.contents out.old) (W.contents out.new)
+        × RunsGiven T.Heap D.logs form device.old device.new
+        (W.contents out.old, notes.old.is_wrong) (W.contents out.new, notes.new.is_wrong)
         driver.old driver.new [] number result lines
         × IfOk result (λ is_given. MatchBool is_given (length lines ≡ 1) ((lines ≡ []) × S.is_over source.new)) }
 {
@@ -83,7 +85,8 @@ fn run_given<T: Tables, D: Device, S: LineSource<W>, W: Write>(
     out: &mut W,
 ) -> Result<(), Halt>
     ensures { RunsFrom T.Heap D.logs S.gives S.is_over form device.old device.new source.old source.new
-        (W.contents out.old) (W.contents out.new) driver.old driver.new [] 1 result }
+        (W.contents out.old, notes.old.is_wrong) (W.contents out.new, notes.new.is_wrong)
+        driver.old driver.new [] 1 result }
 {
     let mut line = Vec::new(alloc);
     for number in 1..usize::MAX {
@@ -106,7 +109,8 @@ fn mount_first<T: Tables, D: Device, W: Write>(
     form: Form,
     out: &mut W,
 ) -> Result<(), Stop>
-    ensures { Goes T.Heap D.logs form device.old device.new (W.contents out.old) (W.contents out.new)
+    ensures { Goes T.Heap D.logs form device.old device.new
+        (W.contents out.old, notes.old.is_wrong) (W.contents out.new, notes.new.is_wrong)
         driver.old driver.new result
         (LinesMove form (mount_lines form)) }
 {
@@ -130,7 +134,8 @@ pub(crate) fn run_lines_of<T: Tables, D: Device, S: LineSource<W>, W: Write>(
     out: &mut W,
 ) -> Result<(), Halt>
     ensures { RunsFrom T.Heap D.logs S.gives S.is_over form device.old device.new source.old source.new
-        (W.contents out.old) (W.contents out.new) driver.old driver.new (mount_lines form) 1 result }
+        (W.contents out.old, notes.old.is_wrong) (W.contents out.new, notes.new.is_wrong)
+        driver.old driver.new (mount_lines form) 1 result }
 {
     match mount_first(driver, device, notes, form, out) {
         Ok(()) => run_given(alloc, driver, device, notes, form, source, out),

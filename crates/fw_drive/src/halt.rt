@@ -1,6 +1,7 @@
 //! Why lines that are given one at a time are run no more.
 
-ghost use Rattle.std.specs.Prelude.{◌≡◌, Err};
+ghost use Rattle.std.specs.Prelude.{◌≡◌, Bool, Err, List};
+ghost use Rattle.fw_drive.specs.Moves.{Move};
 ghost use Rattle.fw_drive.specs.Sources.{EndsRun};
 
 use crate::source::NoLine;
@@ -28,14 +29,17 @@ impl Halt {
         out: &mut W,
         faults: &mut F,
     ) -> u8
-        ensures { EndsRun A name.now (Err self) result (W.contents out.old) (W.contents out.new) (F.contents faults.old)
-            (F.contents faults.new) }
+        ensures { (is_report_only : Bool) (moves : List (Move A)) → EndsRun A name.now is_report_only moves (Err self) result
+            (W.contents out.old) (W.contents out.new) (F.contents faults.old) (F.contents faults.new) }
     {
         match self {
             Halt::BadLine { number, fault } => bad_line(number, fault, faults),
             Halt::NoLine(NoLine::CannotRead) => cannot_read(name, faults),
             Halt::NoLine(NoLine::NoMemory) => no_memory(faults),
             Halt::NoLine(NoLine::OutputRefused) => 5,
+            Halt::NoLine(NoLine::Refused(refusal)) => {
+                Stop::Refused(refusal).report::<A, W, F>(out, faults)
+            }
             Halt::Stopped(stop) => stop.report::<A, W, F>(out, faults),
         }
     }

@@ -1,11 +1,12 @@
 //! One move of a driven kernel, printed.
 
-ghost use Rattle.std.specs.Prelude.{◌≡◌, ◌++◌, [], ℕ, IfErr, IfNone, IfSome, List, OnOk, Option as OptionOf, codes};
+ghost use Rattle.std.specs.Prelude.{◌≡◌, ◌++◌, ◌||◌, [], ℕ, Bool as BoolOf, IfErr, IfNone, IfSome, List, OnOk, codes, false};
 ghost use Rattle.fuse_device.specs.Transfers.{Transfer};
 ghost use Rattle.fk_drive.specs.Driving.{Turn, idle};
 ghost use Rattle.fk_drive_frames.specs.declared.filling.FreeFields.{FreeFields as Fields};
 ghost use Rattle.fw_script.specs.Records.{nodes_text};
 ghost use Rattle.fw_world.specs.Values.{counted_nodes};
+ghost use Rattle.fw_drive.specs.Findings.{Tells, Told, is_any_wrong};
 ghost use Rattle.fw_drive.specs.LineMoves.{FirstThen, IsCollected, IsEvent, IsSentBy, IsWritten, Perhaps};
 ghost use Rattle.fw_drive.specs.Moves.{Moves, sends, writes};
 ghost use Rattle.fw_drive.specs.Notes.{Note, notes_text};
@@ -38,7 +39,8 @@ fn collect_answers<T: Tables, W: Write>(
     notes: &mut Notes<T>,
     out: &mut W,
 ) -> Result<(), Stop>
-    ensures { (f : FormOf) → Collects T.Heap f [] (W.contents out.old) (W.contents out.new) driver.old driver.new result }
+    ensures { (f : FormOf) → Collects T.Heap f [] false
+        (W.contents out.old, notes.old.is_wrong) (W.contents out.new, notes.new.is_wrong) driver.old driver.new result }
 {
     while let Some((call, answer)) = driver.collect() {
         match notes.note_answer(call, answer, out) {
@@ -56,7 +58,8 @@ pub(crate) fn act<T: Tables, W: Write>(
     event: &Event<'_>,
     out: &mut W,
 ) -> Result<(), Stop>
-    ensures { (f : FormOf) → GoesAlone T.Heap f (W.contents out.old) (W.contents out.new) driver.old driver.new result
+    ensures { (f : FormOf) → GoesAlone T.Heap f
+        (W.contents out.old, notes.old.is_wrong) (W.contents out.new, notes.new.is_wrong) driver.old driver.new result
         (FirstThen (IsEvent event.now) IsCollected) }
 {
     match driver.act(event) {
@@ -91,7 +94,8 @@ fn send_printing<T: Tables, D: Device, W: Write>(
 ) -> (Result<RequestFrame<T::Heap>, NotSent>, Result<(), Stop>)
     ensures moves { (fields : Fields) × (turn : Turn) × (log : List Transfer) × D.logs device.old device.new log
         × Moves {A = T.Heap} (at driver.old idle) (sends pick fields result.0) log (at driver.new turn) }
-    ensures printed { HasPrinted T.Heap result.1 (W.contents out.old) (W.contents out.new) }
+    ensures printed { HasPrinted T.Heap result.1
+        (W.contents out.old, notes.old.is_wrong) (W.contents out.new, notes.new.is_wrong) }
 {
     notes.printed = Ok(());
     let sent = driver.send(device, notes, out, pick);
@@ -108,9 +112,10 @@ fn note_request<T: Tables, W: Write>(
     printed: Result<(), Stop>,
     out: &mut W,
 ) -> Result<Moved, Stop>
-    ensures { (had : OptionOf (List ℕ)) → HasPrinted T.Heap printed had (W.contents out.old)
+    ensures { (had : Told) → HasPrinted T.Heap printed had (W.contents out.old, notes.old.is_wrong)
         → (before : List (Note T.Heap)) × (line : List ℕ) × IsRequestLine T.Heap form frame.now line
-        × Collects T.Heap form (notes_text before ++ line) had (W.contents out.new) driver.old driver.new result }
+        × Collects T.Heap form (notes_text before ++ line) (is_any_wrong before) had
+        (W.contents out.new, notes.new.is_wrong) driver.old driver.new result }
 {
     let (unique, opcode) = frame.head();
     let len = frame.bytes().len();
@@ -145,9 +150,9 @@ fn note_refusal<A: Allocator, W: Write>(
     printed: Result<(), Stop>,
     out: &mut W,
 ) -> Result<Moved, Stop>
-    ensures { (had : OptionOf (List ℕ)) → HasPrinted A printed had (W.contents out.old) → IfErr result IsUnprinted
-        × (before : List (Note A)) × Gets result had (W.contents out.new)
-        (notes_text before ++ of_frame form (refusal_text A refusal)) }
+    ensures { (had : Told) (told : BoolOf) → HasPrinted A printed had (W.contents out.old, told)
+        → IfErr result IsUnprinted × (before : List (Note A)) × Gets result had.0 (W.contents out.new)
+        (notes_text before ++ of_frame form (refusal_text A refusal)) × Tells result had.1 told (is_any_wrong before) }
 {
     match printed {
         Ok(()) => {}
@@ -179,7 +184,8 @@ pub(crate) fn send<T: Tables, D: Device, W: Write>(
     pick: Pick,
     out: &mut W,
 ) -> Result<Moved, Stop>
-    ensures { Goes T.Heap D.logs form device.old device.new (W.contents out.old) (W.contents out.new) driver.old driver.new
+    ensures { Goes T.Heap D.logs form device.old device.new
+        (W.contents out.old, notes.old.is_wrong) (W.contents out.new, notes.new.is_wrong) driver.old driver.new
         result (Perhaps result (FirstThen (IsSentBy pick) IsCollected)) }
 {
     if out.flush().is_err() {
@@ -216,7 +222,8 @@ fn receive_printing<T: Tables, D: Device, W: Write>(
 )
     ensures moves { (log : List Transfer) × D.logs device.old device.new log
         × Moves {A = T.Heap} (at driver.old idle) (writes result.0) log (at driver.new idle) }
-    ensures printed { HasPrinted T.Heap result.1 (W.contents out.old) (W.contents out.new) }
+    ensures printed { HasPrinted T.Heap result.1
+        (W.contents out.old, notes.old.is_wrong) (W.contents out.new, notes.new.is_wrong) }
 {
     notes.printed = Ok(());
     let received = driver.receive(device, notes, out);
@@ -231,9 +238,11 @@ fn print_reply<T: Tables, W: Write>(
     printed: Result<(), Stop>,
     out: &mut W,
 ) -> Result<(), Stop>
-    ensures { (had : OptionOf (List ℕ)) → HasPrinted T.Heap printed had (W.contents out.old) → IfErr result IsUnprinted
+    ensures { (had : Told) → HasPrinted T.Heap printed had (W.contents out.old, notes.old.is_wrong)
+        → IfErr result IsUnprinted
         × (before after : List (Note T.Heap)) × (line : List ℕ) × IsWrittenLine form written.now line
-        × Gets result had (W.contents out.new) (notes_text before ++ (line ++ notes_text after)) }
+        × Gets result had.0 (W.contents out.new) (notes_text before ++ (line ++ notes_text after))
+        × Tells result had.1 notes.new.is_wrong (is_any_wrong before || is_any_wrong after) }
 {
     let unique = shown_unique(written.frame.as_slice());
     let result = written.result;
@@ -257,12 +266,13 @@ fn note_reply<T: Tables, W: Write>(
     printed: Result<(), Stop>,
     out: &mut W,
 ) -> Result<Moved, Stop>
-    ensures some { (had : OptionOf (List ℕ)) → HasPrinted T.Heap printed had (W.contents out.old)
+    ensures some { (had : Told) → HasPrinted T.Heap printed had (W.contents out.old, notes.old.is_wrong)
         → IfSome written.now.end (λ end. (driver.new ≡ driver.old)
-        × EndsBehind form written.now end had (W.contents out.new) result) }
-    ensures none { (had : OptionOf (List ℕ)) → HasPrinted T.Heap printed had (W.contents out.old)
+        × EndsBehind form written.now end had.0 (W.contents out.new) result) }
+    ensures none { (had : Told) → HasPrinted T.Heap printed had (W.contents out.old, notes.old.is_wrong)
         → IfNone written.now.end ((before : List (Note T.Heap)) × (line : List ℕ) × IsWrittenLine form written.now line
-        × Collects T.Heap form (notes_text before ++ line) had (W.contents out.new) driver.old driver.new result) }
+        × Collects T.Heap form (notes_text before ++ line) (is_any_wrong before) had
+        (W.contents out.new, notes.new.is_wrong) driver.old driver.new result) }
 {
     if let Err(stop) = print_reply(notes, form, written, printed, out) {
         return Err(stop);
@@ -284,7 +294,8 @@ pub(crate) fn receive<T: Tables, D: Device, W: Write>(
     form: Form,
     out: &mut W,
 ) -> Result<Moved, Stop>
-    ensures { Goes T.Heap D.logs form device.old device.new (W.contents out.old) (W.contents out.new) driver.old driver.new
+    ensures { Goes T.Heap D.logs form device.old device.new
+        (W.contents out.old, notes.old.is_wrong) (W.contents out.new, notes.new.is_wrong) driver.old driver.new
         result (Perhaps result (FirstThen IsWritten IsCollected)) }
 {
     if out.flush().is_err() {

@@ -1,11 +1,12 @@
 //! What is kept and printed beside a driven kernel.
 
-ghost use Rattle.std.specs.Prelude.{◌≡◌, ◌++◌, IfErr, List};
+ghost use Rattle.std.specs.Prelude.{◌≡◌, ◌++◌, IfErr, IfOk, List, false};
 ghost use Rattle.fk_syscalls.specs.declared.call.Answer.{Answer as GivenAnswer};
 ghost use Rattle.fw_script.specs.Records.{answer_text};
+ghost use Rattle.fw_drive.specs.Findings.{Tells, is_any_wrong};
 ghost use Rattle.fw_drive.specs.Notes.{Note, notes_text};
 ghost use Rattle.fw_drive.specs.Printed.{Gets, outcome_text};
-ghost use Rattle.fw_drive.specs.Printing.{HasPrinted, PrintsOn};
+ghost use Rattle.fw_drive.specs.Printing.{HasPrinted, PrintsOn, Says};
 ghost use Rattle.fw_drive.specs.Runs.{IsUnprinted};
 
 use crate::beside::Beside;
@@ -29,6 +30,8 @@ pub(crate) struct Notes<T: Tables> {
     beside: Option<Beside<T>>,
     /// Whether what was noted of frames is printed, or why it is not.
     pub(crate) printed: Result<(), Stop>,
+    /// Whether it was printed that the server was wrong.
+    pub(crate) is_wrong: bool,
 }
 
 /// The minor that an agreement says, at byte 20 of its frame (`struct fuse_init_out`).
@@ -43,6 +46,7 @@ impl<T: Tables> Notes<T> {
     ///
     /// Out of memory.
     pub(crate) fn new(alloc: T::Heap, form: Form) -> Result<Self, Stop>
+        ensures new { IfOk result (λ notes. notes.is_wrong ≡ false) }
         ensures own { IfErr result IsUnprinted }
     {
         let beside = match form {
@@ -56,6 +60,7 @@ impl<T: Tables> Notes<T> {
             watch: Watch::new(alloc),
             beside,
             printed: Ok(()),
+            is_wrong: false,
         })
     }
 
@@ -65,6 +70,7 @@ impl<T: Tables> Notes<T> {
             watch,
             beside,
             printed: _,
+            is_wrong: _,
         } = self;
         drop(watch);
         if let Some(beside) = beside {
@@ -73,7 +79,9 @@ impl<T: Tables> Notes<T> {
     }
 
     /// Notes what the kernel counts and awaits anew after an event.
-    fn watch_outcome(&mut self, outcome: Outcome) -> Result<(), AllocError> {
+    fn watch_outcome(&mut self, outcome: Outcome) -> Result<(), AllocError>
+        ensures { self.new.is_wrong ≡ self.old.is_wrong }
+    {
         match outcome {
             Outcome::Mounted => self.watch.note_mount()?,
             Outcome::Aborted => self.watch.note_abort(),
@@ -84,7 +92,9 @@ impl<T: Tables> Notes<T> {
     }
 
     /// The same event happens in the world beside, if there is one, which refuses only where memory is out.
-    fn follow(&mut self, event: &Event<'_>, outcome: Outcome) -> Result<(), Refusal> {
+    fn follow(&mut self, event: &Event<'_>, outcome: Outcome) -> Result<(), Refusal>
+        ensures { self.new.is_wrong ≡ self.old.is_wrong }
+    {
         match &mut self.beside {
             Some(beside) => beside.follow(event, outcome),
             None => Ok(()),
@@ -99,6 +109,7 @@ impl<T: Tables> Notes<T> {
         out: &mut W,
     ) -> Result<(), Stop>
         ensures printed { Gets result (W.contents out.old) (W.contents out.new) (outcome_text T.Heap outcome) }
+        ensures told { self.new.is_wrong ≡ self.old.is_wrong }
         ensures own { IfErr result IsUnprinted }
     {
         if self.watch_outcome(outcome).is_err() {
@@ -120,11 +131,17 @@ impl<T: Tables> Notes<T> {
         answer: Answer<T::Heap>,
         out: &mut W,
     ) -> Result<(), Stop>
-        ensures printed { (said : List (Note T.Heap)) × Gets result (W.contents out.old) (W.contents out.new) (notes_text said) }
+        ensures printed { Says T.Heap result (W.contents out.old, self.old.is_wrong) (W.contents out.new, self.new.is_wrong) }
         ensures own { IfErr result IsUnprinted }
     {
         match &mut self.beside {
-            Some(beside) => beside.compare(call, answer, out),
+            Some(beside) => match beside.compare(call, answer, out) {
+                Ok(differs) => {
+                    self.is_wrong = self.is_wrong || differs;
+                    Ok(())
+                }
+                Err(stop) => Err(stop),
+            },
             None => Ok(()),
         }
     }
@@ -137,7 +154,7 @@ impl<T: Tables> Notes<T> {
         out: &mut W,
     ) -> Result<(), Stop>
         ensures printed { (said : List (Note T.Heap)) × Gets result (W.contents out.old) (W.contents out.new)
-            (answer_text call answer ++ notes_text said) }
+            (answer_text call answer ++ notes_text said) × Tells result self.old.is_wrong self.new.is_wrong (is_any_wrong said) }
         ensures own { IfErr result IsUnprinted }
     {
         let record = Record::Answered { call, answer };
@@ -151,23 +168,29 @@ impl<T: Tables> Notes<T> {
     }
 
     /// Notes a request that was sent.
-    pub(crate) fn note_sent(&mut self, frame: &RequestFrame<T::Heap>) -> Result<(), AllocError> {
+    pub(crate) fn note_sent(&mut self, frame: &RequestFrame<T::Heap>) -> Result<(), AllocError>
+        ensures { self.new.is_wrong ≡ self.old.is_wrong }
+    {
         let (unique, opcode) = frame.head();
         self.watch.note_sent(unique, opcode, frame.bytes())
     }
 
     /// Prints what the server did wrong, if it did.
     fn print_judged<W: Write>(
+        &mut self,
         judged: Result<Option<Fault>, AllocError>,
         out: &mut W,
     ) -> Result<(), Stop>
-        ensures printed { (said : List (Note T.Heap)) × Gets result (W.contents out.old) (W.contents out.new) (notes_text said) }
+        ensures printed { Says T.Heap result (W.contents out.old, self.old.is_wrong) (W.contents out.new, self.new.is_wrong) }
         ensures own { IfErr result IsUnprinted }
     {
         match judged {
             Ok(None) => Ok(()),
             Ok(Some(fault)) => match print_fault::<T::Heap, W>(out, fault) {
-                Ok(()) => Ok(()),
+                Ok(()) => {
+                    self.is_wrong = true;
+                    Ok(())
+                }
                 Err(_refused) => Err(Stop::OutputRefused),
             },
             Err(_) => Err(Stop::NoMemory),
@@ -176,7 +199,8 @@ impl<T: Tables> Notes<T> {
 
     /// Prints that an older agreement was handed on as one on 7.31, if one was.
     fn note_raised<W: Write>(written: &Written<T::Heap>, out: &mut W) -> Result<(), Stop>
-        ensures printed { (said : List (Note T.Heap)) × Gets result (W.contents out.old) (W.contents out.new) (notes_text said) }
+        ensures printed { (said : List (Note T.Heap)) × Gets result (W.contents out.old) (W.contents out.new) (notes_text said)
+            × (is_any_wrong said ≡ false) }
         ensures own { IfErr result IsUnprinted }
     {
         if !written.is_raised || written.result != WriteResult::Accepted {
@@ -197,13 +221,13 @@ impl<T: Tables> Notes<T> {
         written: &Written<T::Heap>,
         out: &mut W,
     ) -> Result<(), Stop>
-        ensures printed { (said : List (Note T.Heap)) × Gets result (W.contents out.old) (W.contents out.new) (notes_text said) }
+        ensures printed { Says T.Heap result (W.contents out.old, self.old.is_wrong) (W.contents out.new, self.new.is_wrong) }
         ensures own { IfErr result IsUnprinted }
     {
         match Self::note_raised(written, out) {
             Ok(()) => {
                 let judged = self.watch.judge(written);
-                Self::print_judged(judged, out)
+                self.print_judged(judged, out)
             }
             Err(stop) => Err(stop),
         }
@@ -211,7 +235,8 @@ impl<T: Tables> Notes<T> {
 
     /// Prints a notification.
     fn print_aside<W: Write>(noted: Noted, out: &mut W) -> Result<(), Stop>
-        ensures printed { (said : List (Note T.Heap)) × Gets result (W.contents out.old) (W.contents out.new) (notes_text said) }
+        ensures printed { (said : List (Note T.Heap)) × Gets result (W.contents out.old) (W.contents out.new) (notes_text said)
+            × (is_any_wrong said ≡ false) }
         ensures own { IfErr result IsUnprinted }
     {
         match noted {
@@ -227,13 +252,13 @@ impl<T: Tables> Notes<T> {
 
     /// Prints a notification, or what the server did wrong at OPENDIR or RELEASEDIR.
     fn print_one<W: Write>(&mut self, noted: Noted, out: &mut W) -> Result<(), Stop>
-        ensures printed { (said : List (Note T.Heap)) × Gets result (W.contents out.old) (W.contents out.new) (notes_text said) }
+        ensures printed { Says T.Heap result (W.contents out.old, self.old.is_wrong) (W.contents out.new, self.new.is_wrong) }
         ensures own { IfErr result IsUnprinted }
     {
         match Self::print_aside(noted, out) {
             Ok(()) => {
                 let judged = self.watch.judge_noted(noted);
-                Self::print_judged(judged, out)
+                self.print_judged(judged, out)
             }
             Err(stop) => Err(stop),
         }
@@ -241,7 +266,7 @@ impl<T: Tables> Notes<T> {
 
     /// Prints a notification, or what the server did wrong at OPENDIR or RELEASEDIR, and hands it on.
     fn print_noted<W: Write>(&mut self, noted: Noted, out: &mut W) -> Result<(), Stop>
-        ensures { HasPrinted T.Heap result (W.contents out.old) (W.contents out.new) }
+        ensures { HasPrinted T.Heap result (W.contents out.old, self.old.is_wrong) (W.contents out.new, self.new.is_wrong) }
     {
         match self.print_one(noted, out) {
             Ok(()) => flush(out),
@@ -251,7 +276,8 @@ impl<T: Tables> Notes<T> {
 
     /// Prints how the answers of the world beside compare, if there is one.
     pub(crate) fn print_count<W: Write>(&self, out: &mut W) -> Result<(), Stop>
-        ensures printed { (said : List (Note T.Heap)) × Gets result (W.contents out.old) (W.contents out.new) (notes_text said) }
+        ensures printed { (said : List (Note T.Heap)) × Gets result (W.contents out.old) (W.contents out.new) (notes_text said)
+            × (is_any_wrong said ≡ false) }
         ensures own { IfErr result IsUnprinted }
     {
         match &self.beside {
@@ -265,7 +291,8 @@ impl<T: Tables, W: Write> FrameNotes<W> for Notes<T> {
     ghost use Rattle.fw_drive.specs.PrintingLaws.{prints_nothing, prints_then};
 
     // They are printed as they come, until that fails. Which notes are printed of a frame is tested alone.
-    ghost notes = { λ old new had has noted. PrintsOn T.Heap old.printed new.printed (W.contents had) (W.contents has) };
+    ghost notes = { λ old new had has noted. PrintsOn T.Heap old.printed new.printed
+        (W.contents had, old.is_wrong) (W.contents has, new.is_wrong) };
 
     fn note(&mut self, noted: Noted, out: &mut W) {
         match self.printed {
@@ -274,8 +301,8 @@ impl<T: Tables, W: Write> FrameNotes<W> for Notes<T> {
         }
     }
 
-    ghost stays = { λ n o. prints_nothing T.Heap n.printed (W.contents o) };
+    ghost stays = { λ n o. prints_nothing T.Heap n.printed (W.contents o, n.is_wrong) };
 
     ghost goes_on = { λ first mid last had got has h k one two. prints_then T.Heap first.printed mid.printed last.printed
-        (W.contents had) (W.contents got) (W.contents has) one two };
+        (W.contents had, first.is_wrong) (W.contents got, mid.is_wrong) (W.contents has, last.is_wrong) one two };
 }

@@ -1,6 +1,6 @@
 //! The run of a script that drives a server.
 
-ghost use Rattle.std.specs.Prelude.{◌≡◌, ◌⊎◌, ◌++◌, ◌∷◌, [], ℕ, Contains, IfErr, IfOk, IfSome, OnOk, codes};
+ghost use Rattle.std.specs.Prelude.{◌≡◌, ◌⊎◌, ◌++◌, ◌∷◌, [], ℕ, Contains, IfErr, IfOk, IfSome, OnOk, codes, false};
 ghost use Rattle.fk_drive.specs.Driving.{Driven, DrivesOver, first_driven};
 ghost use Rattle.fw_script.specs.Outputs.{AppendsSome};
 ghost use Rattle.fw_script.specs.Stops.{unreadable};
@@ -15,7 +15,7 @@ use crate::line::DriveLine;
 use crate::lines::{first_fault, read_lines};
 use crate::notes::Notes;
 use crate::script::{print_end, run_script};
-use crate::stop::Stop;
+use crate::stop::{Stop, status_at_end};
 use fk_drive::FreeFields;
 use fuse_device::Device;
 use fw_script::{bad_line, cannot_read, no_memory};
@@ -33,6 +33,8 @@ pub struct Task<'a> {
     pub opens_directories: bool,
     /// What is said in fields that are free.
     pub free_fields: FreeFields,
+    /// Whether the exit status is 0 also where the server was wrong.
+    pub is_report_only: bool,
 }
 
 /// Runs a script whose lines are good, and prints what is known at its end.
@@ -45,7 +47,8 @@ fn run_driver<T: Tables, D: Device, W: Write>(
     lines: &[DriveLine<'_>],
     out: &mut W,
 ) -> Result<(), Stop>
-    ensures { Goes T.Heap D.logs form device.old device.new (W.contents out.old) (W.contents out.new) driver.old driver.new
+    ensures { Goes T.Heap D.logs form device.old device.new
+        (W.contents out.old, notes.old.is_wrong) (W.contents out.new, notes.new.is_wrong) driver.old driver.new
         result
         (LinesMoveAs form result (all_lines form lines.now)) }
 {
@@ -55,20 +58,21 @@ fn run_driver<T: Tables, D: Device, W: Write>(
     }
 }
 
-/// Runs a script whose lines are good on a new kernel.
+/// Runs a script whose lines are good on a new kernel. The second part says whether the server was wrong.
 fn run_good<T: Tables, D: Device, W: Write>(
     alloc: T::Heap,
     task: Task<'_>,
     device: &mut D,
     lines: &[DriveLine<'_>],
     out: &mut W,
-) -> Result<(), Stop>
-    ensures { (last : Driven) × Goes T.Heap D.logs task.entry.form device.old device.new (W.contents out.old)
-        (W.contents out.new) (first_driven task.entry.opens_directories) last result (LinesMoveAs task.entry.form result (all_lines task.entry.form lines.now)) }
+) -> (Result<(), Stop>, bool)
+    ensures { (last : Driven) × Goes T.Heap D.logs task.entry.form device.old device.new
+        (W.contents out.old, false) (W.contents out.new, result.1) (first_driven task.entry.opens_directories) last result.0
+        (LinesMoveAs task.entry.form result.0 (all_lines task.entry.form lines.now)) }
 {
     let mut notes = match Notes::<T>::new(alloc, task.form) {
         Ok(notes) => notes,
-        Err(stop) => return Err(stop),
+        Err(stop) => return (Err(stop), false),
     };
     let mut driver = Driver::<T>::new(alloc, task.opens_directories, task.free_fields);
     let ended = run_driver(
@@ -80,9 +84,10 @@ fn run_good<T: Tables, D: Device, W: Write>(
         lines,
         out,
     );
+    let is_wrong = notes.is_wrong;
     driver.end();
     notes.end();
-    ended
+    (ended, is_wrong)
 }
 
 /// The bytes of a script, or the exit status once it is said why they cannot be read.
@@ -149,26 +154,27 @@ fn run_text<A: Allocator + Copy, D: Device, W: Write, F: Write>(
     out: &mut W,
     faults: &mut F,
 ) -> u8
-    ensures statuses { Contains (0 ∷ 1 ∷ 3 ∷ 4 ∷ 5 ∷ []) result }
-    ensures judged { (result ≡ 0) ⊎ (result ≡ 4) ⊎ (result ≡ 5) → IsGoodDriveScript task.entry.form script.now }
+    ensures statuses { Contains (0 ∷ 1 ∷ 3 ∷ 4 ∷ 5 ∷ 6 ∷ []) result }
+    ensures judged { (result ≡ 0) ⊎ (result ≡ 4) ⊎ (result ≡ 5) ⊎ (result ≡ 6) → IsGoodDriveScript task.entry.form script.now }
     ensures unsent { IsGoodDriveScript task.entry.form script.now
         ⊎ ((device.new ≡ device.old) × (out.new ≡ out.old)) }
     ensures unrun { result ≡ 1 → device.new ≡ device.old }
     ensures silent { result ≡ 1 → out.new ≡ out.old }
     ensures fault { result ≡ 1 → SaysFirstFault task.entry.form script.now (F.contents faults.old) (F.contents faults.new) }
     ensures no_memory { result ≡ 3 → AppendsSome (F.contents faults.old) (F.contents faults.new) (codes "no memory\n") }
-    ensures no_fault { (result ≡ 0) ⊎ (result ≡ 4) ⊎ (result ≡ 5) → faults.new ≡ faults.old }
+    ensures no_fault { (result ≡ 0) ⊎ (result ≡ 4) ⊎ (result ≡ 5) ⊎ (result ≡ 6) → faults.new ≡ faults.old }
     ensures drives { (new : Driven) × DrivesOver D.logs device.old device.new (first_driven task.entry.opens_directories) new }
     ensures moves { RunsScript A D.logs device.old device.new (W.contents out.old) (W.contents out.new)
-        task.entry.form task.entry.opens_directories result script.now
+        task.entry.form task.entry.opens_directories task.entry.is_report_only result script.now
         ⊎ ((device.new ≡ device.old) × (out.new ≡ out.old) × ((result ≡ 1) ⊎ (result ≡ 3))) }
 {
     let lines = match read_lines(alloc, task.form, script) {
         Ok(lines) => lines,
         Err(bad) => return bad.say(faults),
     };
-    match run_good::<Maps<A>, D, W>(alloc, task, device, lines.as_slice(), out) {
-        Ok(()) => 0,
+    let (ended, is_wrong) = run_good::<Maps<A>, D, W>(alloc, task, device, lines.as_slice(), out);
+    match ended {
+        Ok(()) => status_at_end(task.is_report_only, is_wrong),
         Err(stop) => stop.report::<A, W, F>(out, faults),
     }
 }
@@ -177,7 +183,8 @@ fn run_text<A: Allocator + Copy, D: Device, W: Write, F: Write>(
 ///
 /// All lines are judged before the first is run. Gives the exit status: 0; 1 after `cannot read` with the script's name,
 /// or `line N:` and the fault of the first bad line, on `faults`; 3 after `no memory`; 4 after `no reply`, `server
-/// ended` or `device failed` on `out`; or 5 where `out` refuses.
+/// ended` or `device failed` on `out`; 5 where `out` refuses; or 6 where the whole script was run and it was printed that
+/// the server was wrong, unless the task says that this is only reported.
 pub fn run_drive<A: Allocator + Copy, D: Device, R: Read, W: Write, F: Write>(
     alloc: A,
     task: Task<'_>,
@@ -186,9 +193,9 @@ pub fn run_drive<A: Allocator + Copy, D: Device, R: Read, W: Write, F: Write>(
     out: &mut W,
     faults: &mut F,
 ) -> u8
-    ensures statuses { Contains (0 ∷ 1 ∷ 3 ∷ 4 ∷ 5 ∷ []) result }
+    ensures statuses { Contains (0 ∷ 1 ∷ 3 ∷ 4 ∷ 5 ∷ 6 ∷ []) result }
     // Nothing is sent and nothing printed of a script with a bad line.
-    ensures judged { (result ≡ 0) ⊎ (result ≡ 4) ⊎ (result ≡ 5) →
+    ensures judged { (result ≡ 0) ⊎ (result ≡ 4) ⊎ (result ≡ 5) ⊎ (result ≡ 6) →
         IfSome (R.remaining input.old) (IsGoodDriveScript task.entry.form) }
     ensures unsent { IfSome (R.remaining input.old) (IsGoodDriveScript task.entry.form)
         ⊎ ((device.new ≡ device.old) × (out.new ≡ out.old)) }
@@ -197,13 +204,13 @@ pub fn run_drive<A: Allocator + Copy, D: Device, R: Read, W: Write, F: Write>(
     ensures fault { result ≡ 1 → IsUnrun task.entry.form task.entry.name.now (R.remaining input.old)
         (F.contents faults.old) (F.contents faults.new) }
     ensures no_memory { result ≡ 3 → AppendsSome (F.contents faults.old) (F.contents faults.new) (codes "no memory\n") }
-    ensures no_fault { (result ≡ 0) ⊎ (result ≡ 4) ⊎ (result ≡ 5) → faults.new ≡ faults.old }
+    ensures no_fault { (result ≡ 0) ⊎ (result ≡ 4) ⊎ (result ≡ 5) ⊎ (result ≡ 6) → faults.new ≡ faults.old }
     ensures drives { (new : Driven) × DrivesOver D.logs device.old device.new (first_driven task.entry.opens_directories) new }
-    // The lines of the script are run, in their order, and none is left out at status 0. What is printed is the text of
-    // what they come to.
+    // The lines of the script are run, in their order, and none is left out at status 0 and 6. What is printed is the
+    // text of what they come to. It is 6 exactly where a line of it says that the server was wrong.
     ensures moves { IfSome (R.remaining input.old)
         (RunsScript A D.logs device.old device.new (W.contents out.old) (W.contents out.new) task.entry.form
-        task.entry.opens_directories result)
+        task.entry.opens_directories task.entry.is_report_only result)
         ⊎ ((device.new ≡ device.old) × (out.new ≡ out.old) × ((result ≡ 1) ⊎ (result ≡ 3))) }
 {
     match read_script(alloc, task, input, faults) {

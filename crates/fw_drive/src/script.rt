@@ -1,8 +1,9 @@
 //! The lines of a script, one after another.
 
-ghost use Rattle.std.specs.Prelude.{◌++◌, All, IfErr, List, codes};
+ghost use Rattle.std.specs.Prelude.{◌≡◌, ◌++◌, All, IfErr, List, codes, false};
 ghost use Rattle.fw_script.specs.Records.{nodes_text};
 ghost use Rattle.fw_world.specs.Values.{counted_nodes};
+ghost use Rattle.fw_drive.specs.Findings.{is_any_wrong};
 ghost use Rattle.fw_drive.specs.LineMoves.{FirstThen, IsCollected, IsMoveOf, LinesMoveAs, MayFollow, Perhaps, mount_lines};
 ghost use Rattle.fw_drive.specs.Notes.{Note, notes_text};
 ghost use Rattle.fw_drive.specs.Printed.{Gets};
@@ -30,7 +31,8 @@ fn begin_write<T: Tables, W: Write>(
     file: (u64, u64, &[u8]),
     out: &mut W,
 ) -> Result<(), Stop>
-    ensures { (f : FormOf) → GoesAlone T.Heap f (W.contents out.old) (W.contents out.new) driver.old driver.new result
+    ensures { (f : FormOf) → GoesAlone T.Heap f
+        (W.contents out.old, notes.old.is_wrong) (W.contents out.new, notes.new.is_wrong) driver.old driver.new result
         (Perhaps result (FirstThen (IsMoveOf (said.CallWrite file.entry.0 file.entry.1 file.entry.2)) IsCollected)) }
 {
     let (open_call, offset, hex) = file;
@@ -61,7 +63,8 @@ fn run_line<T: Tables, D: Device, W: Write>(
     line: DriveLine<'_>,
     out: &mut W,
 ) -> Result<(), Stop>
-    ensures { Goes T.Heap D.logs form device.old device.new (W.contents out.old) (W.contents out.new)
+    ensures { Goes T.Heap D.logs form device.old device.new
+        (W.contents out.old, notes.old.is_wrong) (W.contents out.new, notes.new.is_wrong)
         driver.old driver.new result
         (Perhaps result (FirstThen (IsMoveOf line.entry) IsCollected)) }
 {
@@ -96,7 +99,8 @@ fn carry_on<T: Tables, D: Device, W: Write>(
     form: Form,
     out: &mut W,
 ) -> Result<(), Stop>
-    ensures { Goes T.Heap D.logs form device.old device.new (W.contents out.old) (W.contents out.new)
+    ensures { Goes T.Heap D.logs form device.old device.new
+        (W.contents out.old, notes.old.is_wrong) (W.contents out.new, notes.new.is_wrong)
         driver.old driver.new result (All (MayFollow form)) }
 {
     if form.is_of_calls() {
@@ -116,7 +120,8 @@ fn run_carried<T: Tables, D: Device, W: Write>(
     line: DriveLine<'_>,
     out: &mut W,
 ) -> Result<(), Stop>
-    ensures { Goes T.Heap D.logs form device.old device.new (W.contents out.old) (W.contents out.new)
+    ensures { Goes T.Heap D.logs form device.old device.new
+        (W.contents out.old, notes.old.is_wrong) (W.contents out.new, notes.new.is_wrong)
         driver.old driver.new result
         (Perhaps result (FirstThen (IsMoveOf line.entry) (MayFollow form))) }
 {
@@ -136,7 +141,8 @@ pub(crate) fn do_line<T: Tables, D: Device, W: Write>(
     line: DriveLine<'_>,
     out: &mut W,
 ) -> Result<(), Stop>
-    ensures { Goes T.Heap D.logs form device.old device.new (W.contents out.old) (W.contents out.new)
+    ensures { Goes T.Heap D.logs form device.old device.new
+        (W.contents out.old, notes.old.is_wrong) (W.contents out.new, notes.new.is_wrong)
         driver.old driver.new result
         (Perhaps result (FirstThen (IsMoveOf line.entry) (MayFollow form))) }
 {
@@ -156,7 +162,8 @@ fn run_lines<T: Tables, D: Device, W: Write>(
     lines: &[DriveLine<'_>],
     out: &mut W,
 ) -> Result<(), Stop>
-    ensures { Goes T.Heap D.logs form device.old device.new (W.contents out.old) (W.contents out.new)
+    ensures { Goes T.Heap D.logs form device.old device.new
+        (W.contents out.old, notes.old.is_wrong) (W.contents out.new, notes.new.is_wrong)
         driver.old driver.new result
         (LinesMoveAs form result lines.now) }
 {
@@ -178,7 +185,8 @@ pub(crate) fn run_script<T: Tables, D: Device, W: Write>(
     lines: &[DriveLine<'_>],
     out: &mut W,
 ) -> Result<(), Stop>
-    ensures { Goes T.Heap D.logs form device.old device.new (W.contents out.old) (W.contents out.new)
+    ensures { Goes T.Heap D.logs form device.old device.new
+        (W.contents out.old, notes.old.is_wrong) (W.contents out.new, notes.new.is_wrong)
         driver.old driver.new result
         (LinesMoveAs form result (mount_lines form ++ lines.now)) }
 {
@@ -198,7 +206,8 @@ pub(crate) fn print_end<T: Tables, W: Write>(
     out: &mut W,
 ) -> Result<(), Stop>
     ensures printed { (said : List (Note T.Heap)) × Gets result (W.contents out.old) (W.contents out.new)
-        (nodes_text (codes "kernel") (counted_nodes driver.now.kernel.nodes) ++ notes_text said) }
+        (nodes_text (codes "kernel") (counted_nodes driver.now.kernel.nodes) ++ notes_text said)
+        × (is_any_wrong said ≡ false) }
     ensures own { IfErr result IsUnprinted }
 {
     match show(driver, out) {

@@ -3,6 +3,7 @@
 ghost use Rattle.std.specs.Prelude.{◌++◌, ◌∷◌, [], ℕ, IfOk, List, MatchBool};
 ghost use Rattle.std.specs.Io.KnownBytes.{Keeps as KeepsContents};
 
+use fuse_spec::Refusal;
 use std::alloc::Allocator;
 use std::io::Write;
 use thiserror::Error;
@@ -16,6 +17,9 @@ pub enum NoLine {
     NoMemory,
     #[error("the output refused")]
     OutputRefused,
+    /// A world that the source asks refuses what it cannot go on without.
+    #[error("refused")]
+    Refused(Refusal),
 }
 
 /// What the kernel has just then.

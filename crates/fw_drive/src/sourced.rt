@@ -1,6 +1,6 @@
 //! The run of lines that a source gives one at a time.
 
-ghost use Rattle.std.specs.Prelude.{◌≡◌, ◌⊎◌, ◌∷◌, [], Contains, codes};
+ghost use Rattle.std.specs.Prelude.{◌≡◌, ◌⊎◌, ◌∷◌, [], Contains, codes, false};
 ghost use Rattle.fk_drive.specs.Driving.{Driven, DrivesOver, first_driven};
 ghost use Rattle.fw_script.specs.Outputs.{AppendsSome};
 ghost use Rattle.fw_drive.specs.Sources.{RunsAll, RunsSource};
@@ -13,6 +13,7 @@ use crate::notes::Notes;
 use crate::run::Task;
 use crate::script::print_end;
 use crate::source::LineSource;
+use crate::stop::status_at_end;
 use fuse_device::Device;
 use fw_world::{Maps, Tables};
 use std::alloc::Allocator;
@@ -29,7 +30,7 @@ fn run_all<T: Tables, D: Device, S: LineSource<W>, W: Write>(
     out: &mut W,
 ) -> Result<(), Halt>
     ensures { RunsAll T.Heap D.logs S.gives S.is_over form device.old device.new source.old source.new
-        (W.contents out.old) (W.contents out.new) driver.old driver.new result }
+        (W.contents out.old, notes.old.is_wrong) (W.contents out.new, notes.new.is_wrong) driver.old driver.new result }
 {
     match run_lines_of(alloc, driver, device, notes, form, source, out) {
         Ok(()) => match print_end(driver, notes, out) {
@@ -40,21 +41,21 @@ fn run_all<T: Tables, D: Device, S: LineSource<W>, W: Write>(
     }
 }
 
-/// Does on a new kernel what the lines of a source say.
+/// Does on a new kernel what the lines of a source say. The second part says whether the server was wrong.
 fn run_new<T: Tables, D: Device, S: LineSource<W>, W: Write>(
     alloc: T::Heap,
     task: Task<'_>,
     device: &mut D,
     source: &mut S,
     out: &mut W,
-) -> Result<(), Halt>
+) -> (Result<(), Halt>, bool)
     ensures { (last : Driven) × RunsAll T.Heap D.logs S.gives S.is_over task.entry.form device.old device.new
-        source.old source.new (W.contents out.old) (W.contents out.new) (first_driven task.entry.opens_directories)
-        last result }
+        source.old source.new (W.contents out.old, false) (W.contents out.new, result.1)
+        (first_driven task.entry.opens_directories) last result.0 }
 {
     let mut notes = match Notes::<T>::new(alloc, task.form) {
         Ok(notes) => notes,
-        Err(stop) => return Err(Halt::Stopped(stop)),
+        Err(stop) => return (Err(Halt::Stopped(stop)), false),
     };
     let mut driver = Driver::<T>::new(alloc, task.opens_directories, task.free_fields);
     let ended = run_all(
@@ -66,9 +67,10 @@ fn run_new<T: Tables, D: Device, S: LineSource<W>, W: Write>(
         source,
         out,
     );
+    let is_wrong = notes.is_wrong;
     driver.end();
     notes.end();
-    ended
+    (ended, is_wrong)
 }
 
 /// Runs the lines that a source gives on a new kernel, whose server stands behind a device: each is judged, run, and what
@@ -76,7 +78,8 @@ fn run_new<T: Tables, D: Device, S: LineSource<W>, W: Write>(
 ///
 /// Gives the exit status: 0 where the source came to its end; 1 after `cannot read` with the task's name, or `line N:` and
 /// the fault of a bad line, on `faults`: the lines before it were run; 3 after `no memory`; 4 after `no reply`, `server
-/// ended` or `device failed` on `out`; or 5 where `out` refuses.
+/// ended` or `device failed` on `out`; 5 where `out` refuses; or 6 in place of 0 where it was printed that the server was
+/// wrong, unless the task says that this is only reported.
 pub fn run_source<A: Allocator + Copy, D: Device, S: LineSource<W>, W: Write, F: Write>(
     alloc: A,
     task: Task<'_>,
@@ -85,18 +88,20 @@ pub fn run_source<A: Allocator + Copy, D: Device, S: LineSource<W>, W: Write, F:
     out: &mut W,
     faults: &mut F,
 ) -> u8
-    ensures statuses { Contains (0 ∷ 1 ∷ 3 ∷ 4 ∷ 5 ∷ []) result }
+    ensures statuses { Contains (0 ∷ 1 ∷ 3 ∷ 4 ∷ 5 ∷ 6 ∷ []) result }
     ensures no_memory { result ≡ 3 → AppendsSome (F.contents faults.old) (F.contents faults.new) (codes "no memory\n") }
-    ensures no_fault { (result ≡ 0) ⊎ (result ≡ 4) ⊎ (result ≡ 5) → F.contents faults.new ≡ F.contents faults.old }
+    ensures no_fault { (result ≡ 0) ⊎ (result ≡ 4) ⊎ (result ≡ 5) ⊎ (result ≡ 6) →
+        F.contents faults.new ≡ F.contents faults.old }
     ensures drives { (new : Driven) × DrivesOver D.logs device.old device.new (first_driven task.entry.opens_directories) new }
     // The lines that the source gave are run, in their order, and none is left out. What is printed is the text of what
-    // they come to.
+    // they come to. The status is 6 exactly where all were run and a line of it says that the server was wrong.
     ensures runs { RunsSource A D.logs S.gives S.is_over task.entry.form task.entry.name.now task.entry.opens_directories
-        device.old device.new source.old source.new (W.contents out.old) (W.contents out.new) (F.contents faults.old)
-        (F.contents faults.new) result }
+        task.entry.is_report_only device.old device.new source.old source.new (W.contents out.old) (W.contents out.new)
+        (F.contents faults.old) (F.contents faults.new) result }
 {
-    match run_new::<Maps<A>, D, S, W>(alloc, task, device, source, out) {
-        Ok(()) => 0,
+    let (ended, is_wrong) = run_new::<Maps<A>, D, S, W>(alloc, task, device, source, out);
+    match ended {
+        Ok(()) => status_at_end(task.is_report_only, is_wrong),
         Err(halt) => halt.report::<A, W, F>(task.name, out, faults),
     }
 }

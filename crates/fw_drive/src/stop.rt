@@ -3,8 +3,9 @@
 ghost use Rattle.std.specs.Prelude.{◌≡◌, ◌⊎◌, Err, IfErr, OnErr, OnOk, codes};
 ghost use Rattle.std.specs.Io.KnownBytes.{Appends, Keeps as KeepsContents};
 ghost use Rattle.fw_script.specs.Outputs.{AppendsSome};
+ghost use Rattle.fw_drive.specs.Findings.{end_status};
 ghost use Rattle.fw_drive.specs.Printed.{stop_line};
-ghost use Rattle.fw_drive.specs.Runs.{IsStatusOf, IsUnprinted, SaysStop, stop_of, stop_status};
+ghost use Rattle.fw_drive.specs.Runs.{IsStopStatus, IsUnprinted, SaysStop, stop_of, stop_status};
 
 use crate::printing::print_refusal;
 use fk_drive::DriveEnd;
@@ -90,7 +91,7 @@ impl Stop {
 
     /// Says it, out of memory on `faults` and all else on the output, and gives the exit status.
     pub(crate) fn report<A: Allocator, W: Write, F: Write>(self, out: &mut W, faults: &mut F) -> u8
-        ensures status { IsStatusOf (Err self) result }
+        ensures status { IsStopStatus self result }
         ensures says { SaysStop A (Err self) result (W.contents out.old) (W.contents out.new) }
         ensures no_memory { result ≡ 3 → AppendsSome (F.contents faults.old) (F.contents faults.new) (codes "no memory\n") }
         ensures no_fault { (result ≡ 4) ⊎ (result ≡ 5) → faults.new ≡ faults.old }
@@ -107,6 +108,13 @@ impl Stop {
             },
         }
     }
+}
+
+/// The exit status of a run that came to its end.
+pub(crate) fn status_at_end(is_report_only: bool, is_wrong: bool) -> u8
+    ensures { result ≡ end_status is_report_only is_wrong }
+{
+    if is_wrong && !is_report_only { 6 } else { 0 }
 }
 
 /// Hands on what was printed.

@@ -1,7 +1,7 @@
-use Rattle.std.proofs.Common.{◌≡◌, ◌∙◌, List, ℕ, subst}
+use Rattle.std.proofs.Common.{◌∙◌, List, ℕ, refl, subst, true}
 use Rattle.std.specs.Io.KnownBytes.{Appends}
 use Rattle.fw_script.specs.Outputs.{AppendsSome}
-use Rattle.fw_drive.specs.Notes.{answer_said, differs, note_text}
+use Rattle.fw_drive.specs.Notes.{answer_said, differs}
 use Rattle.fw_drive.proofs.Texts.{answer_parts, difference_is, says_one, says_part}
 use Rattle.fw_drive.proofs.beside.print_differing.Goals as goal
 
@@ -14,7 +14,7 @@ returns-in-Ok-print_difference-clause-printed g c =
     says_one (differs c.args.call c.args.answer c.args.here) _ _
     (subst (λ (l : List ℕ). Appends (g.W.Write.contents c.args.out.now) (g.W.Write.contents c.print_difference.new.out) l)
     (difference_is c.args.call c.args.answer c.args.here c.said_in.result.now c.said_in-2.result.now words here)
-    c.in-Ok-print_difference.ensures.ok)
+    c.in-Ok-print_difference.ensures.ok) true refl
 
 pub returns-clause-printed : goal.returns-clause-printed
 returns-clause-printed g c =

@@ -6,5 +6,5 @@ use Rattle.fw_drive.proofs.carrying.carry_all.Given as goal
 -- requests so far
 abbrev pub invariant-loop-request : goal.invariant-loop-request
 invariant-loop-request g l =
-    Went g.row.T-Heap.Denot g.D.Device.logs l.form l.initial.device l.device (g.W.Write.contents l.initial.out)
-    (g.W.Write.contents l.out) l.initial.driver l.driver (All Carries)
+    Went g.row.T-Heap.Denot g.D.Device.logs l.form l.initial.device l.device (g.W.Write.contents l.initial.out, l.initial.notes.is_wrong)
+    (g.W.Write.contents l.out, l.notes.is_wrong) l.initial.driver l.driver (All Carries)

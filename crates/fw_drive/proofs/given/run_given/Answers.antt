@@ -1,9 +1,8 @@
-use Rattle.std.proofs.Common.{◌≡◌, [], ◌∷◌, ◌++◌, arith, refl, length, length-append}
+use Rattle.std.proofs.Common.{◌≡◌, [], ◌++◌, arith, refl, length, length-append}
 use Rattle.std.specs.Prelude.{Bool, Result, Ok, Err}
 use Rattle.fw_drive.specs.Judging.{no_more}
 use Rattle.fw_drive.specs.LineMoves.{LinesMove, no_line}
 use Rattle.fw_drive.specs.declared.halt.Halt.{Halt}
-use Rattle.fw_drive.specs.declared.halt.Halt.TheVariants as halts
 use Rattle.fw_drive.proofs.Following.{none_went}
 use Rattle.fw_drive.proofs.SourceRuns.{gave_then, given_err, runs_then}
 use Rattle.fw_drive.proofs.given.run_given.Goals as goal
@@ -17,7 +16,7 @@ loop-number-init g c = (
     [],
     no_more,
     none_went g.row.T-Heap.Denot g.D.Device.logs g.met.D.Device.stays c.args.form c.args.device.now
-        (g.W.Write.contents c.args.out.now) c.args.driver.now (LinesMove c.args.form []) no_line,
+        (g.W.Write.contents c.args.out.now, c.args.notes.now.is_wrong) c.args.driver.now (LinesMove c.args.form []) no_line,
   ),
 )
 
@@ -32,8 +31,8 @@ loop-number-preserved g c =
       g.met.S.LineSource.goes_on c.args.source.now c.loop-number.source c.run_next.new.source lines more gives gave,
       omega (arith, counted, one, size),
       runs_then g.row.T-Heap.Denot g.D.Device.logs g.met.D.Device.goes_on c.args.form r c.args.device.now
-          c.loop-number.device c.run_next.new.device (g.W.Write.contents c.args.out.now)
-          (g.W.Write.contents c.loop-number.out) (g.W.Write.contents c.run_next.new.out) c.args.driver.now
+          c.loop-number.device c.run_next.new.device (g.W.Write.contents c.args.out.now, c.args.notes.now.is_wrong)
+          (g.W.Write.contents c.loop-number.out, c.loop-number.notes.is_wrong) (g.W.Write.contents c.run_next.new.out, c.run_next.new.notes.is_wrong) c.args.driver.now
           c.loop-number.driver c.run_next.new.driver [] said c.loop-number.number 1 lines more counted say ran runs,
     )
 
@@ -49,8 +48,8 @@ returns-in-Ok-false g c =
       over = over;
       runs =
           runs_then g.row.T-Heap.Denot g.D.Device.logs g.met.D.Device.goes_on c.args.form r c.args.device.now
-          c.loop-number.device c.run_next.new.device (g.W.Write.contents c.args.out.now)
-          (g.W.Write.contents c.loop-number.out) (g.W.Write.contents c.run_next.new.out) c.args.driver.now
+          c.loop-number.device c.run_next.new.device (g.W.Write.contents c.args.out.now, c.args.notes.now.is_wrong)
+          (g.W.Write.contents c.loop-number.out, c.loop-number.notes.is_wrong) (g.W.Write.contents c.run_next.new.out, c.run_next.new.notes.is_wrong) c.args.driver.now
           c.loop-number.driver c.run_next.new.driver [] said c.loop-number.number 1 lines more counted say ran runs;
     }
 
@@ -66,11 +65,11 @@ returns-in-Err g c =
       over = tt;
       runs =
           runs_then g.row.T-Heap.Denot g.D.Device.logs g.met.D.Device.goes_on c.args.form r c.args.device.now
-          c.loop-number.device c.run_next.new.device (g.W.Write.contents c.args.out.now)
-          (g.W.Write.contents c.loop-number.out) (g.W.Write.contents c.run_next.new.out) c.args.driver.now
+          c.loop-number.device c.run_next.new.device (g.W.Write.contents c.args.out.now, c.args.notes.now.is_wrong)
+          (g.W.Write.contents c.loop-number.out, c.loop-number.notes.is_wrong) (g.W.Write.contents c.run_next.new.out, c.run_next.new.notes.is_wrong) c.args.driver.now
           c.loop-number.driver c.run_next.new.driver [] said c.loop-number.number 1 lines more counted say ran
           (given_err g.row.T-Heap.Denot g.D.Device.logs c.args.form Bool (Unit {0}) c.in-Err.halt c.loop-number.device
-          c.run_next.new.device (g.W.Write.contents c.loop-number.out) (g.W.Write.contents c.run_next.new.out)
+          c.run_next.new.device (g.W.Write.contents c.loop-number.out, c.loop-number.notes.is_wrong) (g.W.Write.contents c.run_next.new.out, c.run_next.new.notes.is_wrong)
           c.loop-number.driver c.run_next.new.driver [] c.loop-number.number more runs);
     }
 

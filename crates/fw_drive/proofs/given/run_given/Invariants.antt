@@ -9,5 +9,5 @@ abbrev pub invariant-loop-number : goal.invariant-loop-number
 invariant-loop-number g l = (lines : List (List ℕ)) × g.S.LineSource.gives l.initial.source l.source lines
     × (l.number ≡ 1 + length lines)
     × ((said : List DriveLine) × Say l.form lines said
-    × Ran g.row.T-Heap.Denot g.D.Device.logs l.form l.initial.device l.device (g.W.Write.contents l.initial.out)
-    (g.W.Write.contents l.out) l.initial.driver l.driver said)
+    × Ran g.row.T-Heap.Denot g.D.Device.logs l.form l.initial.device l.device (g.W.Write.contents l.initial.out, l.initial.notes.is_wrong)
+    (g.W.Write.contents l.out, l.notes.is_wrong) l.initial.driver l.driver said)

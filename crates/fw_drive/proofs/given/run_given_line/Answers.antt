@@ -10,7 +10,7 @@ returns-in-Ok g c = (
   c.in-Ok-Some.said ∷ [],
   says [] [] no_more c.args.line.now c.in-Ok-Some.said (rw c.in-Ok-Some.field-0-is at c.in-Ok-Some.ensures.says),
   ran_line g.row.T-Heap.Denot g.D.Device.logs c.args.form c.args.device.now c.do_line.new.device
-      (g.W.Write.contents c.args.out.now) (g.W.Write.contents c.do_line.new.out) c.args.driver.now c.do_line.new.driver
+      (g.W.Write.contents c.args.out.now, c.args.notes.now.is_wrong) (g.W.Write.contents c.do_line.new.out, c.do_line.new.notes.is_wrong) c.args.driver.now c.do_line.new.driver
       c.in-Ok-Some.said c.in-Ok.ensures,
 )
 
@@ -19,7 +19,7 @@ returns-in-Err-do_line g c = (
   c.in-Ok-Some.said ∷ [],
   says [] [] no_more c.args.line.now c.in-Ok-Some.said (rw c.in-Ok-Some.field-0-is at c.in-Ok-Some.ensures.says),
   stopped_at g.row.T-Heap.Denot g.D.Device.logs c.args.form c.args.device.now c.do_line.new.device
-      (g.W.Write.contents c.args.out.now) (g.W.Write.contents c.do_line.new.out) c.args.driver.now c.do_line.new.driver
+      (g.W.Write.contents c.args.out.now, c.args.notes.now.is_wrong) (g.W.Write.contents c.do_line.new.out, c.do_line.new.notes.is_wrong) c.args.driver.now c.do_line.new.driver
       c.in-Err-do_line.stop c.in-Ok-Some.said c.in-Err-do_line.ensures,
 )
 
@@ -28,7 +28,7 @@ returns-in-Ok-None g c = (
   [],
   passed_over [] [] no_more c.args.line.now (rw c.in-Ok-None.field-0-is at c.in-Ok-None.ensures.says),
   none_went g.row.T-Heap.Denot g.D.Device.logs g.met.D.Device.stays c.args.form c.args.device.now
-      (g.W.Write.contents c.args.out.now) c.args.driver.now (LinesMove c.args.form []) no_line,
+      (g.W.Write.contents c.args.out.now, c.args.notes.now.is_wrong) c.args.driver.now (LinesMove c.args.form []) no_line,
 )
 
 pub returns-in-Err : goal.returns-in-Err
@@ -42,6 +42,6 @@ returns-in-Err g c = (
     [],
     no_more,
     none_went g.row.T-Heap.Denot g.D.Device.logs g.met.D.Device.stays c.args.form c.args.device.now
-        (g.W.Write.contents c.args.out.now) c.args.driver.now (LinesMove c.args.form []) no_line,
+        (g.W.Write.contents c.args.out.now, c.args.notes.now.is_wrong) c.args.driver.now (LinesMove c.args.form []) no_line,
   ),
 )

@@ -1,10 +1,7 @@
 use Rattle.std.proofs.Common.{[], ◌∷◌, List, ℕ, refl, subst}
 use Rattle.std.specs.Prelude.{Result, Ok, Err, Bool, true}
-use Rattle.fw_drive.specs.Judging.{no_more}
-use Rattle.fw_drive.specs.LineMoves.{LinesMove, no_line}
 use Rattle.fw_drive.specs.Sources.{RunsGiven}
 use Rattle.fw_drive.specs.declared.halt.Halt.{Halt}
-use Rattle.fw_drive.proofs.Following.{none_went}
 use Rattle.fw_drive.proofs.SourceRuns.{gave, given_err, none_given, runs_kept}
 use Rattle.fw_drive.proofs.given.run_next.Goals as goal
 
@@ -14,11 +11,11 @@ returns-in-Ok g c =
       c.next_line.new.line.items ∷ [],
       rw c.in-Ok-true.field-0-test at c.in-Ok-true.ensures.given,
       runs_kept g.row.T-Heap.Denot g.D.Device.logs c.args.form r c.args.device.now c.run_given_line.new.device
-          (g.W.Write.contents c.args.out.now) (g.W.Write.contents c.next_line.new.out)
-          (g.W.Write.contents c.run_given_line.new.out) c.args.driver.now c.run_given_line.new.driver [] c.args.number _
+          (g.W.Write.contents c.args.out.now) (g.W.Write.contents c.next_line.new.out) c.args.notes.now.is_wrong
+          (g.W.Write.contents c.run_given_line.new.out, c.run_given_line.new.notes.is_wrong) c.args.driver.now c.run_given_line.new.driver [] c.args.number _
           c.in-Ok-true.ensures.silent
           (subst (λ (l : List ℕ). RunsGiven g.row.T-Heap.Denot g.D.Device.logs c.args.form c.args.device.now
-          c.run_given_line.new.device (g.W.Write.contents c.next_line.new.out) (g.W.Write.contents c.run_given_line.new.out)
+          c.run_given_line.new.device (g.W.Write.contents c.next_line.new.out, c.args.notes.now.is_wrong) (g.W.Write.contents c.run_given_line.new.out, c.run_given_line.new.notes.is_wrong)
           c.args.driver.now c.run_given_line.new.driver [] c.args.number r (l ∷ [])) c.as_slice-line.ensures.value
           c.in-Ok.ensures),
       refl,
@@ -32,14 +29,14 @@ returns-in-Err-run_given_line g c =
       gave g.S.LineSource.gives r c.args.source.now c.next_line.new.self (c.next_line.new.line.items ∷ [])
           (rw c.in-Ok-true.field-0-test at c.in-Ok-true.ensures.given),
       runs_kept g.row.T-Heap.Denot g.D.Device.logs c.args.form r c.args.device.now c.run_given_line.new.device
-          (g.W.Write.contents c.args.out.now) (g.W.Write.contents c.next_line.new.out)
-          (g.W.Write.contents c.run_given_line.new.out) c.args.driver.now c.run_given_line.new.driver [] c.args.number _
+          (g.W.Write.contents c.args.out.now) (g.W.Write.contents c.next_line.new.out) c.args.notes.now.is_wrong
+          (g.W.Write.contents c.run_given_line.new.out, c.run_given_line.new.notes.is_wrong) c.args.driver.now c.run_given_line.new.driver [] c.args.number _
           c.in-Ok-true.ensures.silent
           (given_err g.row.T-Heap.Denot g.D.Device.logs c.args.form (Unit {0}) Bool c.in-Err-run_given_line.halt c.args.device.now
-          c.run_given_line.new.device (g.W.Write.contents c.next_line.new.out) (g.W.Write.contents c.run_given_line.new.out)
+          c.run_given_line.new.device (g.W.Write.contents c.next_line.new.out, c.args.notes.now.is_wrong) (g.W.Write.contents c.run_given_line.new.out, c.run_given_line.new.notes.is_wrong)
           c.args.driver.now c.run_given_line.new.driver [] c.args.number _
           (subst (λ (l : List ℕ). RunsGiven g.row.T-Heap.Denot g.D.Device.logs c.args.form c.args.device.now
-          c.run_given_line.new.device (g.W.Write.contents c.next_line.new.out) (g.W.Write.contents c.run_given_line.new.out)
+          c.run_given_line.new.device (g.W.Write.contents c.next_line.new.out, c.args.notes.now.is_wrong) (g.W.Write.contents c.run_given_line.new.out, c.run_given_line.new.notes.is_wrong)
           c.args.driver.now c.run_given_line.new.driver [] c.args.number q (l ∷ []))
           c.as_slice-line.ensures.value c.in-Err-run_given_line.ensures)),
       tt,
@@ -52,7 +49,7 @@ returns-in-Ok-false g c =
       [],
       gives,
       none_given g.row.T-Heap.Denot g.D.Device.logs c.args.form g.met.D.Device.stays c.args.device.now
-          (g.W.Write.contents c.args.out.now) (g.W.Write.contents c.next_line.new.out) c.args.driver.now
+          (g.W.Write.contents c.args.out.now) (g.W.Write.contents c.next_line.new.out) c.args.notes.now.is_wrong c.args.driver.now
           c.in-Ok-false.ensures.silent,
       (refl, over),
     )
@@ -62,7 +59,7 @@ returns-in-Err g c = (
   [],
   (c.args.source.now, g.met.S.LineSource.stays c.args.source.now),
   none_given g.row.T-Heap.Denot g.D.Device.logs c.args.form g.met.D.Device.stays c.args.device.now
-      (g.W.Write.contents c.args.out.now) (g.W.Write.contents c.next_line.new.out) c.args.driver.now
+      (g.W.Write.contents c.args.out.now) (g.W.Write.contents c.next_line.new.out) c.args.notes.now.is_wrong c.args.driver.now
       c.in-Err.ensures.silent,
   tt,
 )

@@ -6,7 +6,7 @@ use Rattle.fw_drive.proofs.moves.collect_answers.Given as goal
 -- what was collected so far, and printed
 abbrev pub invariant-loop-call : goal.invariant-loop-call
 invariant-loop-call g l =
-    (f : Form) → Collected g.row.T-Heap.Denot f (g.W.Write.contents l.initial.out) (g.W.Write.contents l.out) l.initial.driver l.driver
+    (f : Form) → Collected g.row.T-Heap.Denot f (g.W.Write.contents l.initial.out, l.initial.notes.is_wrong) (g.W.Write.contents l.out, l.notes.is_wrong) l.initial.driver l.driver
 
 abbrev pub decreases-loop-call : goal.decreases-loop-call
 decreases-loop-call g l = length l.driver.kernel.vfs.answers

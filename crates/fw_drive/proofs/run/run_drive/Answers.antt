@@ -18,7 +18,7 @@ pub returns-in-Ok-clause-moves : goal.returns-in-Ok-clause-moves
 returns-in-Ok-clause-moves g c =
     let Are = RunsScript g.row.A.Denot g.D.Device.logs c.args.device.now c.run_text.new.device
     (g.W.Write.contents c.args.out.now) (g.W.Write.contents c.run_text.new.out) c.args.task.form
-    c.args.task.opens_directories c.run_text.result in
+    c.args.task.opens_directories c.args.task.is_report_only c.run_text.result in
     good_or Are (g.R.Read.remaining c.args.input.now) c.in-Ok.text.items c.as_slice.result.now _
     c.as_slice.ensures.value c.in-Ok.ensures.ok c.run_text.ensures.moves
 

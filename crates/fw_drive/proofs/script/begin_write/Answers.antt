@@ -14,7 +14,7 @@ use Rattle.fw_drive.proofs.script.begin_write.Goals as goal
 
 pub returns-then-not-is_hex_or_none : goal.returns-then-not-is_hex_or_none
 returns-then-not-is_hex_or_none g c f =
-    none_goes g.row.T-Heap.Denot NothingOver nothing_stays f tt (g.W.Write.contents c.args.out.now) c.args.driver.now _ tt _
+    none_goes g.row.T-Heap.Denot NothingOver nothing_stays f tt (g.W.Write.contents c.args.out.now, c.args.notes.now.is_wrong) c.args.driver.now _ tt _
     (inl refl)
 
 pub returns-in-Ok : goal.returns-in-Ok
@@ -26,7 +26,7 @@ returns-in-Ok g c f =
     ≡ spelled (lines.CallWrite c.args.file.0 c.args.file.1 c.args.file.2) =
     ap (λ (hex : List ℕ). codes "call" ∷ codes "write" ∷ decimal c.args.file.0 ∷ decimal c.args.file.1 ∷ hex ∷ [])
     (ap hex_or_none c.as_slice.ensures.value ∙ sym c.in-Ok.ensures) in
-    weaker g.row.T-Heap.Denot NothingOver f tt tt (g.W.Write.contents c.args.out.now) (g.W.Write.contents c.act.new.out)
+    weaker g.row.T-Heap.Denot NothingOver f tt tt (g.W.Write.contents c.args.out.now, c.args.notes.now.is_wrong) (g.W.Write.contents c.act.new.out, c.act.new.notes.is_wrong)
     c.args.driver.now c.act.new.driver r (FirstThen (IsEvent made) IsCollected)
     (Perhaps r (FirstThen Is IsCollected)) (c.act.ensures f)
     (λ m are. perhaps r (FirstThen Is IsCollected) m
@@ -34,5 +34,5 @@ returns-in-Ok g c f =
 
 pub returns : goal.returns
 returns g c f =
-    none_goes g.row.T-Heap.Denot NothingOver nothing_stays f tt (g.W.Write.contents c.args.out.now) c.args.driver.now _ tt _
+    none_goes g.row.T-Heap.Denot NothingOver nothing_stays f tt (g.W.Write.contents c.args.out.now, c.args.notes.now.is_wrong) c.args.driver.now _ tt _
     (inl refl)

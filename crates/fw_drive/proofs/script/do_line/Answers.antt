@@ -8,6 +8,6 @@ pub returns-in-Ok : goal.returns-in-Ok
 returns-in-Ok g c =
     let Are = FirstThen (IsMoveOf c.args.line) (MayFollow c.args.form) in
     handed_on g.row.T-Heap.Denot g.D.Device.logs c.args.form c.args.device.now c.run_carried.new.device
-    (g.W.Write.contents c.args.out.now) (g.W.Write.contents c.run_carried.new.out) (g.W.Write.contents c.flush.new.out)
+    (g.W.Write.contents c.args.out.now, c.args.notes.now.is_wrong) (g.W.Write.contents c.run_carried.new.out) (g.W.Write.contents c.flush.new.out) c.run_carried.new.notes.is_wrong
     c.args.driver.now c.run_carried.new.driver _ c.flush.result (own_result c.flush.result c.flush.ensures.own) Are
     (Perhaps c.flush.result Are) c.in-Ok.ensures c.flush.ensures.keeps (perhaps c.flush.result Are)

@@ -9,7 +9,7 @@ use Rattle.fw_drive.proofs.script.print_end.Goals as goal
 pub returns-in-Ok-print_count-clause-printed : goal.returns-in-Ok-print_count-clause-printed
 returns-in-Ok-print_count-clause-printed g c =
     let nodes = nodes_text (codes "kernel") (counted_nodes c.args.driver.now.kernel.nodes) in
-    let (said, all) = c.in-Ok-print_count.ensures.printed in
+    let (said, all, right) = c.in-Ok-print_count.ensures.printed in
     let had = g.W.Write.contents c.args.out.now in
     let shown = g.W.Write.contents c.show.new.out in
     let counted = g.W.Write.contents c.print_count.new.out in
@@ -18,13 +18,15 @@ returns-in-Ok-print_count-clause-printed g c =
       gets_all c.flush.result had has (nodes ++ notes_text said)
           (Appends-Keeps had counted has (nodes ++ notes_text said)
           (Appends-append had shown counted nodes (notes_text said) c.in-Ok.ensures.printed all) c.flush.ensures.keeps),
+      right,
     )
 
 pub returns-in-Err-print_count-clause-printed : goal.returns-in-Err-print_count-clause-printed
 returns-in-Err-print_count-clause-printed g c =
     let nodes = nodes_text (codes "kernel") (counted_nodes c.args.driver.now.kernel.nodes) in
-    let (said, some) = c.in-Err-print_count.ensures.printed in (
+    let (said, some, right) = c.in-Err-print_count.ensures.printed in (
       said,
       gets_then_at c.in-Err-print_count.stop (g.W.Write.contents c.args.out.now) (g.W.Write.contents c.show.new.out)
           (g.W.Write.contents c.print_count.new.out) nodes (notes_text said) c.in-Ok.ensures.printed some,
+      right,
     )

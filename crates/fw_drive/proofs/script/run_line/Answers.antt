@@ -1,5 +1,6 @@
-use Rattle.std.proofs.Common.{[], List, ℕ, append-nil, subst, sym}
+use Rattle.std.proofs.Common.{[], List, ℕ, append-nil, refl, subst, sym}
 use Rattle.std.specs.Prelude.{Ok, Result}
+use Rattle.fw_drive.specs.Findings.{Told}
 use Rattle.fw_drive.specs.LineMoves.{FirstThen, IsCollected, IsEvent, IsMoveOf, IsSentBy, IsWritten, Perhaps}
 use Rattle.fw_drive.specs.Printed.{Gets}
 use Rattle.fw_drive.specs.Runs.{GoesAlone, NothingOver}
@@ -17,8 +18,8 @@ pub returns-in-Event : goal.returns-in-Event
 returns-in-Event g c =
     let r = c.act.result in
     let Is = FirstThen (IsEvent c.in-Event.event) IsCollected in
-    let had = g.W.Write.contents c.args.out.now in
-    let has = g.W.Write.contents c.act.new.out in
+    let had : Told = (g.W.Write.contents c.args.out.now, c.args.notes.now.is_wrong) in
+    let has : Told = (g.W.Write.contents c.act.new.out, c.act.new.notes.is_wrong) in
     lifts g.row.T-Heap.Denot g.D.Device.logs g.met.D.Device.stays c.args.form c.args.device.now had has c.args.driver.now
     c.act.new.driver r (Perhaps r (FirstThen (IsMoveOf c.args.line) IsCollected))
     (weaker g.row.T-Heap.Denot NothingOver c.args.form tt tt had has c.args.driver.now c.act.new.driver r Is
@@ -29,8 +30,8 @@ pub returns-in-Open : goal.returns-in-Open
 returns-in-Open g c =
     let r = c.act-in-Open.result in
     let opened = event.Call (call.Open c.in-Open.path) in
-    let had = g.W.Write.contents c.args.out.now in
-    let has = g.W.Write.contents c.act-in-Open.new.out in
+    let had : Told = (g.W.Write.contents c.args.out.now, c.args.notes.now.is_wrong) in
+    let has : Told = (g.W.Write.contents c.act-in-Open.new.out, c.act-in-Open.new.notes.is_wrong) in
     lifts g.row.T-Heap.Denot g.D.Device.logs g.met.D.Device.stays c.args.form c.args.device.now had has c.args.driver.now
     c.act-in-Open.new.driver r (Perhaps r (FirstThen (IsMoveOf c.args.line) IsCollected))
     (kept_alone g.row.T-Heap.Denot c.args.form had has c.args.driver.now c.open_with.new.self c.act-in-Open.new.driver r
@@ -43,8 +44,8 @@ returns-in-Open g c =
 pub returns-in-CallWrite : goal.returns-in-CallWrite
 returns-in-CallWrite g c =
     let r = c.begin_write.result in
-    let had = g.W.Write.contents c.args.out.now in
-    let has = g.W.Write.contents c.begin_write.new.out in
+    let had : Told = (g.W.Write.contents c.args.out.now, c.args.notes.now.is_wrong) in
+    let has : Told = (g.W.Write.contents c.begin_write.new.out, c.begin_write.new.notes.is_wrong) in
     lifts g.row.T-Heap.Denot g.D.Device.logs g.met.D.Device.stays c.args.form c.args.device.now had has c.args.driver.now
     c.begin_write.new.driver r (Perhaps r (FirstThen (IsMoveOf c.args.line) IsCollected))
     (subst (λ (l : DriveLine). GoesAlone g.row.T-Heap.Denot c.args.form had has c.args.driver.now c.begin_write.new.driver r
@@ -54,14 +55,14 @@ pub returns-in-Ok : goal.returns-in-Ok
 returns-in-Ok g c =
     let r : Result (Unit {0}) Stop = Ok tt in
     given g.row.T-Heap.Denot g.D.Device.logs c.args.form c.args.device.now c.send.new.device
-    (g.W.Write.contents c.args.out.now) (g.W.Write.contents c.send.new.out) c.args.driver.now c.send.new.driver _ r tt
+    (g.W.Write.contents c.args.out.now, c.args.notes.now.is_wrong) (g.W.Write.contents c.send.new.out, c.send.new.notes.is_wrong) c.args.driver.now c.send.new.driver _ r tt
     (FirstThen (IsSentBy c.in-Read.pick) IsCollected) _ c.in-Ok.ensures
     (as_line_move r c.args.line (line.Read c.in-Read.pick) (IsSentBy c.in-Read.pick) c.in-Read.is (λ move is. is))
 
 pub returns-in-Err : goal.returns-in-Err
 returns-in-Err g c =
     failed g.row.T-Heap.Denot g.D.Device.logs c.args.form c.args.device.now c.send.new.device
-    (g.W.Write.contents c.args.out.now) (g.W.Write.contents c.send.new.out) c.args.driver.now c.send.new.driver c.in-Err.stop
+    (g.W.Write.contents c.args.out.now, c.args.notes.now.is_wrong) (g.W.Write.contents c.send.new.out, c.send.new.notes.is_wrong) c.args.driver.now c.send.new.driver c.in-Err.stop
     _ _ c.in-Err.ensures
     (failed_line c.args.line (line.Read c.in-Read.pick) (IsSentBy c.in-Read.pick) c.in-Read.is (λ move is. is))
 
@@ -69,14 +70,14 @@ pub returns-in-Ok-receive : goal.returns-in-Ok-receive
 returns-in-Ok-receive g c =
     let r : Result (Unit {0}) Stop = Ok tt in
     given g.row.T-Heap.Denot g.D.Device.logs c.args.form c.args.device.now c.receive.new.device
-    (g.W.Write.contents c.args.out.now) (g.W.Write.contents c.receive.new.out) c.args.driver.now c.receive.new.driver _ r tt
+    (g.W.Write.contents c.args.out.now, c.args.notes.now.is_wrong) (g.W.Write.contents c.receive.new.out, c.receive.new.notes.is_wrong) c.args.driver.now c.receive.new.driver _ r tt
     (FirstThen IsWritten IsCollected) _ c.in-Ok-receive.ensures
     (as_line_move r c.args.line line.Write IsWritten c.in-Write.is (λ move is. is))
 
 pub returns-in-Err-receive : goal.returns-in-Err-receive
 returns-in-Err-receive g c =
     failed g.row.T-Heap.Denot g.D.Device.logs c.args.form c.args.device.now c.receive.new.device
-    (g.W.Write.contents c.args.out.now) (g.W.Write.contents c.receive.new.out) c.args.driver.now c.receive.new.driver
+    (g.W.Write.contents c.args.out.now, c.args.notes.now.is_wrong) (g.W.Write.contents c.receive.new.out, c.receive.new.notes.is_wrong) c.args.driver.now c.receive.new.driver
     c.in-Err-receive.stop _ _ c.in-Err-receive.ensures
     (failed_line c.args.line line.Write IsWritten c.in-Write.is (λ move is. is))
 
@@ -84,8 +85,9 @@ pub returns-in-Show : goal.returns-in-Show
 returns-in-Show g c =
     let had = g.W.Write.contents c.args.out.now in
     let has = g.W.Write.contents c.show.new.out in
-    said_line g.row.T-Heap.Denot g.D.Device.logs c.args.form c.args.device.now had has c.args.driver.now c.show.result
-    c.args.line line.Show c.in-Show.is
-    (shows_nodes g.row.T-Heap.Denot g.D.Device.logs g.met.D.Device.stays c.args.form c.args.device.now had has
+    let told = c.args.notes.now.is_wrong in
+    said_line g.row.T-Heap.Denot g.D.Device.logs c.args.form c.args.device.now (had, told) (has, told) c.args.driver.now
+    c.show.result c.args.line line.Show c.in-Show.is
+    (shows_nodes g.row.T-Heap.Denot g.D.Device.logs g.met.D.Device.stays c.args.form c.args.device.now had has told
     c.args.driver.now c.show.result c.show.ensures.own IsCollected [] (said_collected [])
-    (subst (λ (l : List ℕ). Gets c.show.result had has l) (sym (append-nil _)) c.show.ensures.printed))
+    (subst (λ (l : List ℕ). Gets c.show.result had has l) (sym (append-nil _)) c.show.ensures.printed) refl)

@@ -1,9 +1,10 @@
+use Rattle.std.proofs.Common.{refl}
 use Rattle.fw_drive.specs.Notes.{notification}
-use Rattle.fw_drive.proofs.Texts.{says_one, says_part}
+use Rattle.fw_drive.proofs.Texts.{says_right, says_right_part}
 use Rattle.fw_drive.proofs.notes.Notes.print_aside.Goals as goal
 
 pub returns-in-Ok-clause-printed : goal.returns-in-Ok-clause-printed
-returns-in-Ok-clause-printed g c = says_one (notification c.in-SetAside-Notification.code c.in-SetAside-Notification.len) _ _ c.in-Ok.ensures.ok
+returns-in-Ok-clause-printed g c = says_right (notification c.in-SetAside-Notification.code c.in-SetAside-Notification.len) _ _ c.in-Ok.ensures.ok refl
 
 pub returns-in-Err-clause-printed : goal.returns-in-Err-clause-printed
-returns-in-Err-clause-printed g c = says_part (notification c.in-SetAside-Notification.code c.in-SetAside-Notification.len) _ _ c.in-Err.ensures.refused
+returns-in-Err-clause-printed g c = says_right_part (notification c.in-SetAside-Notification.code c.in-SetAside-Notification.len) _ _ c.in-Err.ensures.refused refl
